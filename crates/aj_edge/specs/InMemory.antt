@@ -48,12 +48,14 @@ read_fails s name = is_failing s.failing s.calls || is_none (bytes_of s.files na
 abbrev pub given_count : ℕ → ℕ → ℕ → List ℕ → ℕ
 given_count most room place file = min (min most room) (length (drop place file))
 
--- the folder after a read that failed
+-- the folder after one fault more of the file at a place, or of the names without a file
+abbrev pub after_fault_at : FolderInMemory → Option ℕ → FolderInMemory
+after_fault_at s (Some place) = record s { file_faults = slice_set s.file_faults place (next_count (slice_index s.file_faults place)) }
+after_fault_at s None = record s { missing_faults = next_count s.missing_faults }
+
+-- the folder after a read of a name that failed
 abbrev pub after_failed_read : FolderInMemory → List ℕ → FolderInMemory
-after_failed_read s name = count_at (place_of s.files name) where
-  count_at : Option ℕ → FolderInMemory
-  count_at (Some place) = record s { calls = next_count s.calls; file_faults = slice_set s.file_faults place (next_count (slice_index s.file_faults place)) }
-  count_at None = record s { calls = next_count s.calls; missing_faults = next_count s.missing_faults }
+after_failed_read s name = after_fault_at (record s { calls = next_count s.calls }) (place_of s.files name)
 
 -- a sink in memory: its bytes, its room, what a call may take, which calls fail, and what was counted so far
 pub record SinkInMemory : Type 0 where

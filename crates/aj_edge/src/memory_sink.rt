@@ -1,6 +1,7 @@
 //! A sink in memory, which fails at chosen calls.
-ghost use Rattle.std.specs.Prelude.{◌≡◌, ◌≤◌, ℕ, [], take, length, vec_len, vec_capacity, is_err, IfOk, OnErr};
-ghost use Rattle.aj_edge.specs.InMemory.{SinkInMemory, is_failing, write_fails, taken_count, after_write, after_failed_write};
+ghost use Rattle.std.specs.Prelude.{◌≡◌, ◌<◌, ◌≤◌, ◌+◌, ℕ, [], Some, take, length, is_err, IfOk, OnErr};
+ghost use Rattle.aj_edge.specs.Faults.{HasCause};
+ghost use Rattle.aj_edge.specs.InMemory.{is_failing, write_fails, taken_count, after_write, after_failed_write};
 
 use crate::{Failed, Sink};
 use std::alloc::{AllocError as NoMemory, Global};
@@ -45,6 +46,38 @@ impl MemSink {
         ensures { result.now ≡ self.now.bytes }
     {
         self.bytes.as_slice()
+    }
+}
+
+impl Sink for MemSink {
+    ghost written = { λ s. Some s.bytes };
+
+    ghost faults = { λ s. s.faults };
+
+    ghost calls = { λ s. s.calls };
+
+    fn write(&mut self, piece: &[u8]) -> Result<usize, Failed>
+        // It fails exactly at the calls that are to fail, and where its room is full and the piece is not empty.
+        ensures fails { is_err result ≡ write_fails self.old piece.now }
+        ensures failed { OnErr result (self.new ≡ after_failed_write self.old) }
+
+        // It takes as many bytes as it may.
+        ensures count { IfOk result (λ n. n ≡ taken_count self.old piece.now) }
+        ensures wrote { IfOk result (λ n. self.new ≡ after_write self.old (take n piece.now)) }
+
+        ensures some { IfOk result (λ n. 0 < length piece.now → 0 < n) }
+        ensures cause { HasCause self.old.faults self.new.faults result }
+    {
+        let left = self.room - self.bytes.len();
+        if is_failing(&self.failing, self.calls) || (!piece.is_empty() && left == 0) {
+            self.calls = self.calls.saturating_add(1);
+            self.faults = self.faults.saturating_add(1);
+            return Err(Failed);
+        }
+        let count = piece.len().min(self.most).min(left);
+        self.bytes.extend_from_slice(&piece[..count]).unwrap();
+        self.calls += 1;
+        Ok(count)
     }
 }
 
