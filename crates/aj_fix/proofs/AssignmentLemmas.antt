@@ -41,10 +41,10 @@ between_none met start = record { above = IsAbove-refl start; below = λ y close
 
 -- one rise more
 pub between_more : (met now : Assignment → ℕ → Bool) (start x next : Assignment) → now ≡ met → IsBetween met start x → IsAbove next x →
-  ((y : Assignment) → IsClosed now y → IsAbove y x → IsAbove y next) → IsBetween met start next
+    ((y : Assignment) → IsClosed now y → IsAbove y x → IsAbove y next) → IsBetween met start next
 between_more met now start x next same between rises under = record {
   above = IsAbove-trans next x start rises between.above;
-  below = λ y closed above. under y (subst (λ m. IsClosed m y) (sym same) closed) (between.below y closed above)
+  below = λ y closed above. under y (subst (λ m. IsClosed m y) (sym same) closed) (between.below y closed above);
 }
 
 -- what a sweep has shown when it has asked the cells before a place
@@ -69,33 +69,33 @@ met_now false e = absurd (cc)
 
 -- a cell that was not raised leaves the assignment, and its demand is met
 asked_kept : (met : Assignment → ℕ → Bool) (start x next : Assignment) (count cell : ℕ) (rose : Bool) (most left rest : ℕ) →
-  Asked met start x count cell rose most left → next ≡ x → rest ≡ left → IsTrue (met x cell) → Asked met start next count (cell + 1) rose most rest
+    Asked met start x count cell rose most left → next ≡ x → rest ≡ left → IsTrue (met x cell) → Asked met start next count (cell + 1) rose most rest
 asked_kept met start x next count cell rose most left rest asked kept room here = record {
   between = subst (λ z. IsBetween met start z) (sym kept) asked.between;
   cells = ap length kept ∙ asked.cells;
   asked = λ e. subst (λ z. (c : ℕ) → c < cell + 1 → IsTrue (met z c)) (sym kept) (below_more (λ c. IsTrue (met x c)) cell (asked.asked e) here);
-  room = omega (arith, asked.room, room)
+  room = omega (arith, asked.room, room);
 }
 
 -- a cell that was raised begins no row of cells whose demands are met
 asked_raised : (met : Assignment → ℕ → Bool) (start x next : Assignment) (count cell : ℕ) (rose : Bool) (most left rest : ℕ) →
-  Asked met start x count cell rose most left → IsAbove next x → ((y : Assignment) → IsClosed met y → IsAbove y x → IsAbove y next) → rest < left →
-  Asked met start next count (cell + 1) true most rest
+    Asked met start x count cell rose most left → IsAbove next x → ((y : Assignment) → IsClosed met y → IsAbove y x → IsAbove y next) → rest < left →
+    Asked met start next count (cell + 1) true most rest
 asked_raised met start x next count cell rose most left rest asked rises under falls = record {
   between = between_more met met start x next refl asked.between rises under;
   cells = length-above next x rises ∙ asked.cells;
   asked = λ e. absurd (cc);
-  room = omega (arith, asked.room, falls)
+  room = omega (arith, asked.room, falls);
 }
 
 -- one cell more was asked
 pub asked_more : (met : Assignment → ℕ → Bool) (start x next : Assignment) (count cell : ℕ) (rose raised : Bool) (most left rest : ℕ) →
-  Asked met start x count cell rose most left → Answer met x next cell raised left rest → Asked met start next count (cell + 1) (rose || raised) most rest
+    Asked met start x count cell rose most left → Answer met x next cell raised left rest → Asked met start next count (cell + 1) (rose || raised) most rest
 asked_more met start x next count cell true true most left rest asked answer =
-  asked_raised met start x next count cell true most left rest asked (answer.rises refl) (answer.under refl) (answer.room_falls refl)
+    asked_raised met start x next count cell true most left rest asked (answer.rises refl) (answer.under refl) (answer.room_falls refl)
 asked_more met start x next count cell false true most left rest asked answer =
-  asked_raised met start x next count cell false most left rest asked (answer.rises refl) (answer.under refl) (answer.room_falls refl)
+    asked_raised met start x next count cell false most left rest asked (answer.rises refl) (answer.under refl) (answer.room_falls refl)
 asked_more met start x next count cell true false most left rest asked answer =
-  asked_kept met start x next count cell true most left rest asked (answer.kept refl) (answer.kept_room refl) (met_now (met x cell) answer.exact)
+    asked_kept met start x next count cell true most left rest asked (answer.kept refl) (answer.kept_room refl) (met_now (met x cell) answer.exact)
 asked_more met start x next count cell false false most left rest asked answer =
-  asked_kept met start x next count cell false most left rest asked (answer.kept refl) (answer.kept_room refl) (met_now (met x cell) answer.exact)
+    asked_kept met start x next count cell false most left rest asked (answer.kept refl) (answer.kept_room refl) (met_now (met x cell) answer.exact)

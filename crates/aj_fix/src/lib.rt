@@ -4,3 +4,6 @@
 mod sweeps;
 
 pub use sweeps::{Rising, least};
+
+#[cfg(test)]
+mod tests;
