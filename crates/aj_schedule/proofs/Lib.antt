@@ -1,0 +1,5 @@
+-- The lemmas that several proofs share.
+mod NumberLemmas
+mod FrontLemmas
+mod ReadLemmas
+mod UniqueLemmas

@@ -1,0 +1,118 @@
+-- Digits at the front of a text, and the number that they write.
+use Rattle.std.proofs.Common.{◌≡◌, ◌≢◌, ℕ, ◌+◌, ◌-◌, ◌^◌, ◌<◌, ◌≤◌, ◌&&◌, Bool, true, false, not, nat_lt, nat_le, List, [], ◌∷◌, ◌++◌, length, take, drop, get_or, Option, Some, None, if◌then◌else◌, decimal, cond, ◌==◌, suc, zero, Result, Ok, Err, refl, sym, ◌∙◌, ap, subst, arith}
+use Rattle.std.proofs.lemmas.Fmt.{first_decimal, decimal_digit, decimal-digits_value, digits_value-decimal, decimal_nonempty, digits_decimal}
+use Rattle.std.proofs.lemmas.Str.Parse.{numerals_by_value, tells_all_ascii_digits, IsNumeralModel, parse_digits}
+use Rattle.std.proofs.lemmas.List.Sums.{take_while-cons}
+use Rattle.std.proofs.lemmas.List.Folds.{length-prefix_len}
+use Rattle.std.proofs.lemmas.Slice.Eq.{bytes_eq-Decides}
+use Rattle.std.proofs.lemmas.Bool.Decides.{nat_tests}
+use Rattle.std.proofs.lemmas.Grind.{common_steps}
+use Rattle.std.specs.Char.{is_ascii_digit}
+use Rattle.std.specs.List.{take_while, prefix_len}
+use Rattle.std.specs.Result.{OkIff, result_ok}
+use Rattle.std.specs.Str.{all_ascii_digits, bytes_eq}
+use Rattle.std.specs.Str.Parse.{digits_value}
+use Rattle.aj_schedule.specs.Faults.{writes_number, first_digits}
+
+-- std's words for digits and their value
+pub numerals : IsNumeralModel (λ ds. all_ascii_digits ds ≡ true) (digits_value 10)
+numerals = numerals_by_value (λ ds. all_ascii_digits ds ≡ true) tells_all_ascii_digits
+
+digits_first : (b : Bool) (byte : ℕ) (text : List ℕ) → is_ascii_digit byte ≡ b → all_ascii_digits (first_digits text) ≡ true → all_ascii_digits (cond b (byte ∷ first_digits text) []) ≡ true
+digits_first true byte text is rest = rw (is, rest) refl
+digits_first false byte text is rest = refl
+
+-- the first digits are digits
+pub digits_are : (text : List ℕ) → all_ascii_digits (first_digits text) ≡ true
+digits_are [] = refl
+digits_are (byte ∷ text) = rw (take_while-cons is_ascii_digit byte text) (digits_first (is_ascii_digit byte) byte text refl (digits_are text))
+
+-- the slice of their length is the digits themselves
+pub take-digits : (text : List ℕ) (n : ℕ) → n ≡ length (first_digits text) → take n text ≡ first_digits text
+take-digits text n e = ap (λ k. take k text) (e ∙ length-prefix_len is_ascii_digit text)
+
+pub and_both : (a b : Bool) → (a && b) ≡ true → (a ≡ true) × (b ≡ true)
+and_both true b e = (refl, e)
+and_both false b e = absurd (cc)
+
+pub and_true : (a b : Bool) → a ≡ true → b ≡ true → (a && b) ≡ true
+and_true a b p q = rw (p, q) refl
+
+pub false_unless : (b : Bool) → (b ≡ true → ⊥) → b ≡ false
+false_unless true h = absurd (h refl)
+false_unless false h = refl
+
+same_test : (a b : Bool) → (a ≡ true → b ≡ true) → (b ≡ true → a ≡ true) → a ≡ b
+same_test true true to from = refl
+same_test true false to from = sym (to refl)
+same_test false true to from = from refl
+same_test false false to from = refl
+
+less : (a b : ℕ) → nat_lt a b ≡ true → a < b
+less a b e = grind (arith, nat_tests)
+
+at_most : (a b : ℕ) → nat_le a b ≡ true → a ≤ b
+at_most a b e = grind (arith, nat_tests)
+
+is_less : (a b : ℕ) → a < b → nat_lt a b ≡ true
+is_less a b e = grind (arith, nat_tests)
+
+is_at_most : (a b : ℕ) → a ≤ b → nat_le a b ≡ true
+is_at_most a b e = grind (arith, nat_tests)
+
+same_number : (a b : ℕ) → (a == b) ≡ true → a ≡ b
+same_number a b e = grind (arith, nat_tests)
+
+-- what the test says
+pub number_is : (low end : ℕ) (digits : List ℕ) → writes_number low end digits ≡ true →
+  (decimal (digits_value 10 digits) ≡ digits) × (low ≤ digits_value 10 digits) × (digits_value 10 digits < end)
+number_is low end digits e =
+  let parts = and_both (bytes_eq (decimal (digits_value 10 digits)) digits) (nat_le low (digits_value 10 digits) && nat_lt (digits_value 10 digits) end) e in
+  let range = and_both (nat_le low (digits_value 10 digits)) (nat_lt (digits_value 10 digits) end) parts.1 in
+  ((bytes_eq-Decides (decimal (digits_value 10 digits)) digits).0 parts.0, at_most low (digits_value 10 digits) range.0, less (digits_value 10 digits) end range.1)
+
+pub is_number : (low end n : ℕ) (digits : List ℕ) → n ≡ digits_value 10 digits → decimal n ≡ digits → low ≤ n → n < end → writes_number low end digits ≡ true
+is_number low end n digits value same from to =
+  subst (λ m. (bytes_eq (decimal m) digits && (nat_le low m && nat_lt m end)) ≡ true) value
+    (and_true (bytes_eq (decimal n) digits) (nat_le low n && nat_lt n end) ((bytes_eq-Decides (decimal n) digits).1 same) (and_true (nat_le low n) (nat_lt n end) (is_at_most low n from) (is_less n end to)))
+
+no_leading_zero : (n : ℕ) (digits : List ℕ) → decimal n ≡ digits → n < 2 ^ 64 → 1 < length digits → get_or digits 0 0 ≡ 48 → ⊥
+no_leading_zero zero digits same small long first =
+  let one : length digits ≡ 1 = ap length (sym same ∙ decimal_digit 0 (omega arith)) in omega (arith, one, long)
+no_leading_zero (suc n) digits same small long first =
+  let high = first_decimal (suc n) (omega arith) small in
+  let there : get_or (decimal (suc n)) 0 0 ≡ get_or digits 0 0 = ap (λ ds. get_or ds 0 0) same in
+  omega (arith, high, there, first)
+
+-- a leading zero
+pub leading_zero : (digits : List ℕ) → (nat_lt 1 (length digits) && (get_or digits 0 0 == 48)) ≡ true → writes_number 0 (2 ^ 64) digits ≡ false
+leading_zero digits e =
+  let parts = and_both (nat_lt 1 (length digits)) (get_or digits 0 0 == 48) e in
+  false_unless (writes_number 0 (2 ^ 64) digits) (λ w. let n = number_is 0 (2 ^ 64) digits w in
+    no_leading_zero (digits_value 10 digits) digits n.0 n.2 (less 1 (length digits) parts.0) (same_number (get_or digits 0 0) 48 parts.1))
+
+one_digit : (digits : List ℕ) → (nat_lt 1 (length digits) && (get_or digits 0 0 == 48)) ≡ false → get_or digits 0 0 ≡ 48 → 0 < length digits → length digits ≡ 1
+one_digit digits e first some = grind (arith, nat_tests)
+
+-- no leading zero
+pub plain_number : (digits : List ℕ) → all_ascii_digits digits ≡ true → (nat_lt 1 (length digits) && (get_or digits 0 0 == 48)) ≡ false →
+  (nat_lt 0 (length digits) && nat_lt (digits_value 10 digits) (2 ^ 64)) ≡ writes_number 0 (2 ^ 64) digits
+plain_number digits are first = same_test (nat_lt 0 (length digits) && nat_lt (digits_value 10 digits) (2 ^ 64)) (writes_number 0 (2 ^ 64) digits)
+  (λ e. let parts = and_both (nat_lt 0 (length digits)) (nat_lt (digits_value 10 digits) (2 ^ 64)) e in
+    let some = less 0 (length digits) parts.0 in
+    let small = less (digits_value 10 digits) (2 ^ 64) parts.1 in
+    is_number 0 (2 ^ 64) (digits_value 10 digits) digits refl (decimal-digits_value numerals digits are some (λ zero. one_digit digits first zero some) small) (omega arith) small)
+  (λ w. let n = number_is 0 (2 ^ 64) digits w in
+    let some : 0 < length digits = subst (λ ds. 0 < length ds) n.0 (decimal_nonempty (digits_value 10 digits) n.2) in
+    and_true (nat_lt 0 (length digits)) (nat_lt (digits_value 10 digits) (2 ^ 64)) (is_less 0 (length digits) some) (is_less (digits_value 10 digits) (2 ^ 64) n.2))
+
+-- what `parse` found
+pub parsed : {E : Type 0} (r : Result ℕ E) (length value : ℕ) → OkIff r ((0 < length) × (value < 2 ^ 64)) value →
+  result_ok r ≡ (if nat_lt 0 length && nat_lt value (2 ^ 64) then Some value else None)
+parsed (Ok x) length value h =
+  let test : (nat_lt 0 length && nat_lt value (2 ^ 64)) ≡ true = and_true (nat_lt 0 length) (nat_lt value (2 ^ 64)) (is_less 0 length h.0.0) (is_less value (2 ^ 64) h.0.1) in
+  rw (test, h.1) refl
+parsed (Err e) length value h =
+  let test : (nat_lt 0 length && nat_lt value (2 ^ 64)) ≡ false = false_unless (nat_lt 0 length && nat_lt value (2 ^ 64)) (λ e.
+    let parts = and_both (nat_lt 0 length) (nat_lt value (2 ^ 64)) e in h (less 0 length parts.0, less value (2 ^ 64) parts.1)) in
+  rw test refl

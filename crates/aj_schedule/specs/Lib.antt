@@ -1,0 +1,4 @@
+-- The definitions that the contracts of reading and writing schedules cite.
+pub mod Text
+pub mod Faults
+pub mod Written
