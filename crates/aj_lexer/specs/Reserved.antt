@@ -14,4 +14,4 @@ reserved = codes "abstract" ∷ codes "assert" ∷ codes "boolean" ∷ codes "br
     ∷ codes "write_guarded_by" ∷ codes "System" ∷ codes "Thread" ∷ codes "Runnable" ∷ []
 
 abbrev pub is_reserved : List ℕ → Bool
-is_reserved word = list_any (bytes_eq word) reserved
+is_reserved word = list_any (λ other. bytes_eq other word) reserved

@@ -59,3 +59,14 @@ pub data FaultFrom : List ℕ → ℕ → LexFault → Type 0 where
 -- this is the first fault of the text
 abbrev pub FirstFault : List ℕ → LexFault → Type 0
 FirstFault text its = FaultFrom text 0 its
+
+-- the text is a piece with this meaning, and then the rest
+pub record IsCut (text : List ℕ) (at : ℕ) (means : Option TokenKind) (bytes rest : List ℕ) : Type 0 where
+  pub kind : Piece
+  pub longest : Longest text bytes rest kind
+  pub is_meant : meaning kind bytes at ≡ Ok means
+
+-- the tokens that a piece gives: one or none
+abbrev pub tokens_of : Option TokenKind → List ℕ → ℕ → List Token
+tokens_of None bytes at = []
+tokens_of (Some kind) bytes at = record { kind = kind; text = bytes; at = at } ∷ []

@@ -2,6 +2,7 @@
 #![tactic(auto)]
 
 mod faults;
+mod lexer;
 mod pieces;
 mod tokens;
 mod utf8;
