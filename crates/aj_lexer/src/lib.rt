@@ -2,11 +2,14 @@
 #![tactic(auto)]
 
 mod faults;
+mod laws;
 mod lexer;
 mod pieces;
 mod tokens;
 mod utf8;
 
 pub use faults::LexFault;
+pub use laws::token_laws;
+pub use lexer::lex;
 pub use tokens::{Text, Token, TokenKind};
 pub use utf8::{NotText, utf8_text};
