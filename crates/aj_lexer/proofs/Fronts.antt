@@ -13,7 +13,7 @@ use Rattle.aj_lexer.specs.Pieces.{is_piece, is_blank, is_letter, is_digit, is_wo
 use Rattle.aj_lexer.specs.Reading.{front_of, close_end, block_by, block_front, slash_front, sign_front, front}
 use Rattle.aj_lexer.specs.Tokens.{Longest, NoPiece}
 use Rattle.aj_lexer.proofs.Numbers.{both, number_digits}
-use Rattle.aj_lexer.proofs.Sorts.{either, kind_of, kind_is, is_mark, sign_facts, all_of, not_true}
+use Rattle.aj_lexer.proofs.Sorts.{either, kind_of, kind_is, is_mark, sign_facts, all_of, not_true, empty}
 use Rattle.aj_lexer.proofs.Closing.{close_none, closes_end, close_after, close_at, CloseAt}
 
 -- the first n bytes are the longest piece that begins the text, and a text may be cut there
@@ -214,7 +214,7 @@ block_edge cs n at u =
         (IsCharBoundary-after_ascii (47 ∷ 42 ∷ cs) (suc (suc at.index)) u (omega arith) l)
 
 open_is : (cs : List ℕ) → holds_close cs ≡ false → is_open_comment (47 ∷ 42 ∷ take (length cs) cs) ≡ true
-open_is cs h = rw (take_all cs, h) refl
+open_is cs h = let e : take (length cs) cs ≡ cs = grind (arith, common_steps) in rw (e, h) refl
 
 block_found : (cs : List ℕ) (n : ℕ) → close_end cs ≡ Some n → Found (47 ∷ 42 ∷ cs) Comment (suc (suc n))
 block_found cs n e =
@@ -234,16 +234,223 @@ open_found cs e = record {
   edge = λ u. IsCharBoundary-end (47 ∷ 42 ∷ cs)
 }
 
+no_more : (o : List ℕ) → length o ≤ 0 → o ≡ []
+no_more [] h = refl
+no_more (c ∷ o) h = absurd (omega arith)
+
+-- the sign `/` alone, where no comment begins
+slash_alone : (b : ℕ) (o : List ℕ) (its : Piece) → (b == 47) ≡ false → (b == 42) ≡ false → is_piece its (47 ∷ b ∷ o) ≡ true → ⊥
+slash_alone b o its x y is =
+    let k : kind_of (47 ∷ b ∷ o) ≡ Sign = rw (x, y) refl in
+    let i : its ≡ Sign = sym (kind_is its (47 ∷ b ∷ o) is) ∙ k in
+    let f = sign_facts 47 (b ∷ o) (subst (λ j. is_piece j (47 ∷ b ∷ o) ≡ true) i is) in
+    let e = f.slash refl in cc
+
+slash_bound : (d : ℕ) (cs : List ℕ) → (d == 47) ≡ false → (d == 42) ≡ false → (other after : List ℕ) (its : Piece) → 47 ∷ d ∷ cs ≡ other ++ after
+    → is_piece its other ≡ true → length other ≤ 1
+slash_bound d cs x y [] after its w is = omega arith
+slash_bound d cs x y (a ∷ []) after its w is = omega arith
+slash_bound d cs x y (a ∷ b ∷ o) after its w is =
+    let e : a ≡ 47 = cc in
+    let f : b ≡ d = cc in
+    absurd (slash_alone d o its x y (subst (λ z. is_piece its (z ∷ d ∷ o) ≡ true) e (subst (λ z. is_piece its (a ∷ z ∷ o) ≡ true) f is)))
+
+slash_sign : (d : ℕ) (cs : List ℕ) → (d == 47) ≡ false → (d == 42) ≡ false → Found (47 ∷ d ∷ cs) Sign 1
+slash_sign d cs x y = record {
+  within = omega arith;
+  is = refl;
+  longest = slash_bound d cs x y;
+  edge = edge_ascii (47 ∷ d ∷ cs) 1 (omega arith) refl
+}
+
+slash_end : Found (47 ∷ []) Sign 1
+slash_end = record {
+  within = omega arith;
+  is = refl;
+  longest = λ other after its w is. whole_longest (47 ∷ []) other after w;
+  edge = edge_ascii (47 ∷ []) 1 (omega arith) refl
+}
+
+two_more : (text : List ℕ) (kind : Piece) (n : ℕ) → Found text kind (suc (suc n)) → Found text kind (2 + n)
+two_more text kind n f = let e : suc (suc n) ≡ 2 + n = omega arith in subst (Found text kind) e f
+
+one_more : (text : List ℕ) (kind : Piece) (n : ℕ) → Found text kind (suc n) → Found text kind (1 + n)
+one_more text kind n f = let e : suc n ≡ 1 + n = omega arith in subst (Found text kind) e f
+
+block_by_end : (cs : List ℕ) (o : Option ℕ) → close_end cs ≡ o → Found (47 ∷ 42 ∷ cs) (block_by (length cs) o).kind (block_by (length cs) o).len
+block_by_end cs None e = two_more (47 ∷ 42 ∷ cs) OpenComment (length cs) (open_found cs e)
+block_by_end cs (Some n) e = two_more (47 ∷ 42 ∷ cs) Comment n (block_found cs n e)
+
+slash_by_star : (d : ℕ) (cs : List ℕ) (star : Bool) → (d == 47) ≡ false → (d == 42) ≡ star
+    → Found (47 ∷ d ∷ cs) (if star then block_front cs else front_of Sign 1).kind (if star then block_front cs else front_of Sign 1).len
+slash_by_star d cs true x y =
+    let e : d ≡ 42 = eqb-true d 42 y in
+    subst (λ z. Found (47 ∷ z ∷ cs) (block_front cs).kind (block_front cs).len) (sym e) (block_by_end cs (close_end cs) refl)
+slash_by_star d cs false x y = slash_sign d cs x y
+
+slash_by : (d : ℕ) (cs : List ℕ) (slash : Bool) → (d == 47) ≡ slash
+    → Found (47 ∷ d ∷ cs) (if slash then front_of Comment (2 + prefix_len is_in_line cs) else (if d == 42 then block_front cs else front_of Sign 1)).kind
+        (if slash then front_of Comment (2 + prefix_len is_in_line cs) else (if d == 42 then block_front cs else front_of Sign 1)).len
+slash_by d cs true x =
+    let e : d ≡ 47 = eqb-true d 47 x in
+    subst (λ z. Found (47 ∷ z ∷ cs) Comment (2 + prefix_len is_in_line cs)) (sym e) (two_more (47 ∷ 47 ∷ cs) Comment (prefix_len is_in_line cs) (line_found cs))
+slash_by d cs false x = slash_by_star d cs (d == 42) x refl
+
 slash_found : (cs : List ℕ) → Found (47 ∷ cs) (slash_front cs).kind (slash_front cs).len
-slash_found cs = ?
+slash_found [] = slash_end
+slash_found (d ∷ cs) = slash_by d cs (d == 47) refl
 
 -- Signs
 
+sign_ascii : (p : List ℕ) → is_sign p ≡ true → list_all is_ascii p ≡ true
+sign_ascii p h = all_of (list_all is_ascii) p signs refl h
+
+-- a byte that begins no word, number, blank or comment
+pub record Mark (c : ℕ) : Type 0 where
+  blank : is_blank c ≡ false
+  letter : is_letter c ≡ false
+  digit : is_digit c ≡ false
+  slash : (c == 47) ≡ false
+
+sign_only : (c : ℕ) → Mark c → (o : List ℕ) → kind_of (c ∷ o) ≡ Sign
+sign_only c m o = rw (m.blank, m.letter, m.digit, m.slash) refl
+
+two_found : (c d : ℕ) (cs : List ℕ) → Mark c → is_sign (c ∷ d ∷ []) ≡ true → Found (c ∷ d ∷ cs) Sign 2
+two_found c d cs m h = record {
+  within = omega arith;
+  is = h;
+  longest = longest_by c (d ∷ cs) Sign 1 (sign_only c m) (λ o after e is. (sign_facts c o is).short);
+  edge = edge_ascii (c ∷ d ∷ cs) 2 (omega arith) (sign_ascii (c ∷ d ∷ []) h)
+}
+
+-- no sign of two bytes begins the text
+abbrev NoTwo : ℕ → List ℕ → Type 0
+NoTwo c cs = (d : ℕ) (after : List ℕ) → cs ≡ d ∷ after → is_sign (c ∷ d ∷ []) ≡ true → ⊥
+
+sign_bound : (c : ℕ) (cs : List ℕ) → NoTwo c cs → (o after : List ℕ) → cs ≡ o ++ after → is_sign (c ∷ o) ≡ true → length o ≤ 0
+sign_bound c cs no_two [] after e is = omega arith
+sign_bound c cs no_two (d ∷ []) after e is = absurd (no_two d after e is)
+sign_bound c cs no_two (d ∷ f ∷ o) after e is = absurd (let s = (sign_facts c (d ∷ f ∷ o) is).short in omega arith)
+
+one_found : (c : ℕ) (cs : List ℕ) → Mark c → NoTwo c cs → is_sign (c ∷ []) ≡ true → Found (c ∷ cs) Sign 1
+one_found c cs m no_two h = record {
+  within = omega arith;
+  is = h;
+  longest = longest_by c cs Sign 0 (sign_only c m) (sign_bound c cs no_two);
+  edge = edge_ascii (c ∷ cs) 1 (omega arith) (sign_ascii (c ∷ []) h)
+}
+
+no_sign : (c : ℕ) (cs : List ℕ) → Mark c → NoTwo c cs → is_sign (c ∷ []) ≡ false → NoPiece (c ∷ cs)
+no_sign c cs m no_two h [] after its w is = empty its is
+no_sign c cs m no_two h (d ∷ o) after its w is =
+    let e : d ≡ c = cc in
+    let f : cs ≡ o ++ after = cc in
+    let here : is_piece its (c ∷ o) ≡ true = subst (λ x. is_piece its (x ∷ o) ≡ true) e is in
+    let i : its ≡ Sign = sym (kind_is its (c ∷ o) here) ∙ sign_only c m o in
+    let sign : is_sign (c ∷ o) ≡ true = subst (λ j. is_piece j (c ∷ o) ≡ true) i here in
+    let n : o ≡ [] = no_more o (sign_bound c cs no_two o after f sign) in
+    let one : is_sign (c ∷ []) ≡ true = subst (λ x. is_sign (c ∷ x) ≡ true) n sign in
+    cc
+
+none_two : (c : ℕ) → NoTwo c []
+none_two c d after e is = cc
+
+not_two : (c d : ℕ) (cs : List ℕ) → is_sign (c ∷ d ∷ []) ≡ false → NoTwo c (d ∷ cs)
+not_two c d cs h b after e is = let same : d ≡ b = cc in let two : is_sign (c ∷ d ∷ []) ≡ true = subst (λ x. is_sign (c ∷ x ∷ []) ≡ true) (sym same) is in cc
+
+by_tests : (a b two one : Bool) (o : Option Front) → a ≡ true → b ≡ true
+    → (if a && two then Some (front_of Sign 2) else (if b && one then Some (front_of Sign 1) else None)) ≡ o
+    → (if two then Some (front_of Sign 2) else (if one then Some (front_of Sign 1) else None)) ≡ o
+by_tests false b two one o i j e = absurd (cc)
+by_tests true false two one o i j e = absurd (cc)
+by_tests true true two one o i j e = e
+
+-- where two bytes stand, the code's tests are these
+sign_tests : (c d : ℕ) (cs : List ℕ) (o : Option Front) → sign_front (c ∷ d ∷ cs) ≡ o
+    → (if is_sign (c ∷ d ∷ []) then Some (front_of Sign 2) else (if is_sign (c ∷ []) then Some (front_of Sign 1) else None)) ≡ o
+sign_tests c d cs o e =
+    let l : nat_lt 1 (length (c ∷ d ∷ cs)) ≡ true = grind (arith, nat_tests) in
+    let m : nat_lt 0 (length (c ∷ d ∷ cs)) ≡ true = grind (arith, nat_tests) in
+    by_tests (nat_lt 1 (length (c ∷ d ∷ cs))) (nat_lt 0 (length (c ∷ d ∷ cs))) (is_sign (c ∷ d ∷ [])) (is_sign (c ∷ [])) o l m e
+
+-- what the code finds, by its two tests
+one_by : (c : ℕ) (cs : List ℕ) (f : Front) (one : Bool) → Mark c → NoTwo c cs → is_sign (c ∷ []) ≡ one
+    → (if one then Some (front_of Sign 1) else None) ≡ Some f → Found (c ∷ cs) f.kind f.len
+one_by c cs f true m no_two h e = let g : front_of Sign 1 ≡ f = cc in subst (λ x. Found (c ∷ cs) x.kind x.len) g (one_found c cs m no_two h)
+one_by c cs f false m no_two h e = absurd (cc)
+
+two_by : (c d : ℕ) (cs : List ℕ) (f : Front) (two : Bool) → Mark c → is_sign (c ∷ d ∷ []) ≡ two
+    → (if two then Some (front_of Sign 2) else (if is_sign (c ∷ []) then Some (front_of Sign 1) else None)) ≡ Some f → Found (c ∷ d ∷ cs) f.kind f.len
+two_by c d cs f true m h e = let g : front_of Sign 2 ≡ f = cc in subst (λ x. Found (c ∷ d ∷ cs) x.kind x.len) g (two_found c d cs m h)
+two_by c d cs f false m h e = one_by c (d ∷ cs) f (is_sign (c ∷ [])) m (not_two c d cs h) refl e
+
+sign_found : (c : ℕ) (cs : List ℕ) (f : Front) → Mark c → sign_front (c ∷ cs) ≡ Some f → Found (c ∷ cs) f.kind f.len
+sign_found c [] f m e = one_by c [] f (is_sign (c ∷ [])) m (none_two c) refl e
+sign_found c (d ∷ cs) f m e = two_by c d cs f (is_sign (c ∷ d ∷ [])) m refl (sign_tests c d cs (Some f) e)
+
+none_one_by : (c : ℕ) (cs : List ℕ) (one : Bool) → Mark c → NoTwo c cs → is_sign (c ∷ []) ≡ one
+    → (if one then Some (front_of Sign 1) else None) ≡ None → NoPiece (c ∷ cs)
+none_one_by c cs true m no_two h e = absurd (cc)
+none_one_by c cs false m no_two h e = no_sign c cs m no_two h
+
+none_two_by : (c d : ℕ) (cs : List ℕ) (two : Bool) → Mark c → is_sign (c ∷ d ∷ []) ≡ two
+    → (if two then Some (front_of Sign 2) else (if is_sign (c ∷ []) then Some (front_of Sign 1) else None)) ≡ None → NoPiece (c ∷ d ∷ cs)
+none_two_by c d cs true m h e = absurd (cc)
+none_two_by c d cs false m h e = none_one_by c (d ∷ cs) (is_sign (c ∷ [])) m (not_two c d cs h) refl e
+
+no_sign_found : (c : ℕ) (cs : List ℕ) → Mark c → sign_front (c ∷ cs) ≡ None → NoPiece (c ∷ cs)
+no_sign_found c [] m e = none_one_by c [] (is_sign (c ∷ [])) m (none_two c) refl e
+no_sign_found c (d ∷ cs) m e = none_two_by c d cs (is_sign (c ∷ d ∷ [])) m refl (sign_tests c d cs None e)
+
+-- The whole, by the class of the first byte
+
+-- what stands for a front, and for none
+abbrev Tells : ℕ → List ℕ → Option Front → Type 0
+Tells c cs None = NoPiece (c ∷ cs)
+Tells c cs (Some f) = Found (c ∷ cs) f.kind f.len
+
+sign_tells : (c : ℕ) (cs : List ℕ) (o : Option Front) → Mark c → sign_front (c ∷ cs) ≡ o → Tells c cs o
+sign_tells c cs None m e = no_sign_found c cs m e
+sign_tells c cs (Some f) m e = sign_found c cs f m e
+
+slash_tells : (c : ℕ) (cs : List ℕ) (b : Bool) → is_blank c ≡ false → is_letter c ≡ false → is_digit c ≡ false → (c == 47) ≡ b
+    → Tells c cs (if b then Some (slash_front cs) else sign_front (c ∷ cs))
+slash_tells c cs true i j k e =
+    let s : c ≡ 47 = eqb-true c 47 e in
+    subst (λ z. Found (z ∷ cs) (slash_front cs).kind (slash_front cs).len) (sym s) (slash_found cs)
+slash_tells c cs false i j k e = sign_tells c cs (sign_front (c ∷ cs)) (record { blank = i; letter = j; digit = k; slash = e }) refl
+
+digit_tells : (c : ℕ) (cs : List ℕ) (b : Bool) → is_blank c ≡ false → is_letter c ≡ false → (c == 48) ≡ false → is_digit c ≡ b
+    → Tells c cs (if b then Some (front_of Number (1 + prefix_len is_digit cs)) else (if c == 47 then Some (slash_front cs) else sign_front (c ∷ cs)))
+digit_tells c cs true i j z e = one_more (c ∷ cs) Number (prefix_len is_digit cs) (number_found c cs i j z e)
+digit_tells c cs false i j z e = slash_tells c cs (c == 47) i j e refl
+
+zero_tells : (c : ℕ) (cs : List ℕ) (b : Bool) → is_blank c ≡ false → is_letter c ≡ false → (c == 48) ≡ b
+    → Tells c cs (if b then Some (front_of Number 1) else (if is_digit c then Some (front_of Number (1 + prefix_len is_digit cs))
+        else (if c == 47 then Some (slash_front cs) else sign_front (c ∷ cs))))
+zero_tells c cs true i j e = let z : c ≡ 48 = eqb-true c 48 e in subst (λ x. Found (x ∷ cs) Number 1) (sym z) (zero_found cs)
+zero_tells c cs false i j e = digit_tells c cs (is_digit c) i j e refl
+
+letter_tells : (c : ℕ) (cs : List ℕ) (b : Bool) → is_blank c ≡ false → is_letter c ≡ b
+    → Tells c cs (if b then Some (front_of Word (1 + prefix_len is_word_byte cs)) else (if c == 48 then Some (front_of Number 1)
+        else (if is_digit c then Some (front_of Number (1 + prefix_len is_digit cs)) else (if c == 47 then Some (slash_front cs) else sign_front (c ∷ cs)))))
+letter_tells c cs true i e = one_more (c ∷ cs) Word (prefix_len is_word_byte cs) (word_found c cs i e)
+letter_tells c cs false i e = zero_tells c cs (c == 48) i e refl
+
+blank_tells : (c : ℕ) (cs : List ℕ) (b : Bool) → is_blank c ≡ b
+    → Tells c cs (if b then Some (front_of Blanks (1 + prefix_len is_blank cs)) else (if is_letter c then Some (front_of Word (1 + prefix_len is_word_byte cs))
+        else (if c == 48 then Some (front_of Number 1) else (if is_digit c then Some (front_of Number (1 + prefix_len is_digit cs))
+        else (if c == 47 then Some (slash_front cs) else sign_front (c ∷ cs))))))
+blank_tells c cs true e = one_more (c ∷ cs) Blanks (prefix_len is_blank cs) (blanks_found c cs e)
+blank_tells c cs false e = letter_tells c cs (is_letter c) e refl
+
 pub found : (text : List ℕ) (f : Front) → front text ≡ Some f → Found text f.kind f.len
-found text f e = ?
+found [] f e = absurd (cc)
+found (c ∷ cs) f e = subst (Tells c cs) e (blank_tells c cs (is_blank c) refl)
 
 pub found_none : (text : List ℕ) → 0 < length text → front text ≡ None → NoPiece text
-found_none text some e = ?
+found_none [] some e = absurd (omega arith)
+found_none (c ∷ cs) some e = subst (Tells c cs) e (blank_tells c cs (is_blank c) refl)
 
 pub found_longest : (text : List ℕ) (f : Front) → front text ≡ Some f → Longest text (take f.len text) (drop f.len text) f.kind
 found_longest text f e =

@@ -129,3 +129,12 @@ kind_is Sign (c ∷ o) h = let f = sign_facts c o h in rw (f.blank, f.letter, f.
 
 pub one_kind : (j k : Piece) (p : List ℕ) → is_piece j p ≡ true → is_piece k p ≡ true → j ≡ k
 one_kind j k p a b = sym (kind_is j p a) ∙ kind_is k p b
+
+-- no bytes are no piece
+pub empty : (j : Piece) → is_piece j [] ≡ true → ⊥
+empty Blanks h = cc
+empty Comment h = cc
+empty OpenComment h = cc
+empty Word h = cc
+empty Number h = cc
+empty Sign h = cc

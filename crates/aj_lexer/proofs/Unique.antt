@@ -9,7 +9,7 @@ use Rattle.aj_lexer.specs.declared.faults.LexFault.{LexFault}
 use Rattle.aj_lexer.specs.declared.faults.LexFault.TheVariants as fault
 use Rattle.aj_lexer.specs.Pieces.{is_piece}
 use Rattle.aj_lexer.specs.Tokens.{Tokens, FirstFault, Longest, NoPiece, meaning, TokensFrom, at_end, a_gap, a_token, FaultFrom, no_piece, a_bad_piece, after_a_piece}
-use Rattle.aj_lexer.proofs.Sorts.{one_kind}
+use Rattle.aj_lexer.proofs.Sorts.{one_kind, empty}
 
 split_same : (a b c d : List ℕ) → a ++ b ≡ c ++ d → length a ≡ length c → (a ≡ c) × (b ≡ d)
 split_same a b c d e l =
@@ -25,14 +25,6 @@ one_piece text a b c d j k x y =
 -- so it means the same, and the same bytes follow it
 one_meaning : (text a b c d : List ℕ) (j k : Piece) (at : ℕ) → Longest text a b j → Longest text c d k → meaning j a at ≡ meaning k c at
 one_meaning text a b c d j k at x y = let s = one_piece text a b c d j k x y in ap₂ (λ i p. meaning i p at) s.2 s.0
-
-empty : (j : Piece) → is_piece j [] ≡ true → ⊥
-empty Blanks h = cc
-empty Comment h = cc
-empty OpenComment h = cc
-empty Word h = cc
-empty Number h = cc
-empty Sign h = cc
 
 no_empty : (b : List ℕ) (a : List ℕ) (j : Piece) → Longest [] a b j → ⊥
 no_empty b [] j x = empty j x.is
