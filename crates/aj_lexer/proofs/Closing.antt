@@ -1,5 +1,5 @@
 -- Where the first `*/` of a text ends.
-use Rattle.std.proofs.Common.{◌≡◌, ℕ, suc, zero, ◌+◌, ◌<◌, ◌≤◌, ◌==◌, ◌&&◌, ◌||◌, Bool, true, false, cond, List, [], ◌∷◌, ◌++◌, length, drop, take, ◌-◌, get_or, Some, None, Option, option_map, IfSome, if◌then◌else◌, refl, ap, arith, drop-cons, rules, sym, ◌∙◌, add-one, one-add, subst, eqb-true}
+use Rattle.std.proofs.Common.{◌≡◌, ℕ, suc, zero, ◌+◌, ◌<◌, ◌≤◌, ◌==◌, ◌&&◌, ◌||◌, Bool, true, false, List, [], ◌∷◌, ◌++◌, length, drop, take, ◌-◌, get_or, Some, None, Option, option_map, if◌then◌else◌, refl, ap, arith, drop-cons, sym, ◌∙◌, add-one, one-add, subst, eqb-true}
 use Rattle.std.proofs.lemmas.Grind.{common_steps}
 use Rattle.aj_lexer.specs.Pieces.{starts_close, closes, holds_close}
 use Rattle.aj_lexer.proofs.Numbers.{both}

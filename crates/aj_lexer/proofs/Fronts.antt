@@ -1,19 +1,18 @@
 -- The front that is found is the longest piece that begins the text.
-use Rattle.std.proofs.Common.{◌≡◌, ℕ, suc, zero, ◌+◌, ◌<◌, ◌≤◌, ◌==◌, ◌&&◌, ◌||◌, nat_lt, not, Bool, true, false, cond, List, [], ◌∷◌, ◌++◌, ◌⊎◌, inl, inr, length, take, drop, get_or, bytes_eq, Some, None, Option, if◌then◌else◌, refl, ap, sym, ◌∙◌, subst, arith, eqb-true, one-add, take_all, length-append, eq-or-lt_of_le, IsUtf8, IsAscii, IsCharBoundary, take-append-drop}
+use Rattle.std.proofs.Common.{◌≡◌, ℕ, suc, zero, ◌+◌, ◌<◌, ◌≤◌, ◌==◌, ◌&&◌, ◌||◌, nat_lt, Bool, true, false, cond, List, [], ◌∷◌, ◌++◌, inl, inr, length, take, drop, get_or, Some, None, Option, if◌then◌else◌, refl, ap, sym, ◌∙◌, subst, arith, eqb-true, one-add, length-append, eq-or-lt_of_le, IsUtf8, IsCharBoundary, take-append-drop}
 use Rattle.std.proofs.lemmas.Bool.Decides.{nat_tests}
 use Rattle.std.proofs.lemmas.Grind.{common_steps}
 use Rattle.std.proofs.lemmas.List.Sums.{prefix_len-le-length, prefix_len_stops}
 use Rattle.std.proofs.lemmas.Str.{IsCharBoundary-from_take, IsUtf8-from_ascii, IsCharBoundary-end, IsCharBoundary-before_ascii, IsCharBoundary-after_ascii}
-use Rattle.std.proofs.lemmas.Slice.Eq.{bytes_eq-Decides}
-use Rattle.std.specs.List.{prefix_len, list_all, list_any}
+use Rattle.std.specs.List.{prefix_len, list_all}
 use Rattle.aj_lexer.specs.declared.pieces.Piece.{Piece}
 use Rattle.aj_lexer.specs.declared.pieces.Piece.TheVariants.{Blanks, Comment, OpenComment, Word, Number, Sign}
 use Rattle.aj_lexer.specs.declared.pieces.Front.{Front}
-use Rattle.aj_lexer.specs.Pieces.{is_piece, is_blank, is_letter, is_digit, is_word_byte, is_in_line, is_sign, is_open_comment, signs, closes, holds_close, starts_close}
+use Rattle.aj_lexer.specs.Pieces.{is_piece, is_blank, is_letter, is_digit, is_word_byte, is_in_line, is_sign, is_open_comment, signs, closes, holds_close}
 use Rattle.aj_lexer.specs.Reading.{front_of, close_end, block_by, block_front, slash_front, sign_front, front}
 use Rattle.aj_lexer.specs.Tokens.{Longest, NoPiece}
 use Rattle.aj_lexer.proofs.Numbers.{both, number_digits}
-use Rattle.aj_lexer.proofs.Sorts.{either, kind_of, kind_is, is_mark, sign_facts, all_of, not_true, empty}
+use Rattle.aj_lexer.proofs.Sorts.{kind_of, kind_is, sign_facts, all_of, not_true, empty}
 use Rattle.aj_lexer.proofs.Closing.{close_none, closes_end, close_after, close_at, CloseAt}
 
 -- the first n bytes are the longest piece that begins the text, and a text may be cut there
@@ -98,7 +97,7 @@ blanks_found c cs h =
       within = w;
       is = rw h (run_all is_blank cs);
       longest = longest_by c cs Blanks (prefix_len is_blank cs) (λ o. rw h refl) (λ o after e is. run_bound is_blank cs o after e (both (is_blank c) (list_all is_blank o) is).1);
-      edge = edge_ascii (c ∷ cs) (suc (prefix_len is_blank cs)) w (ascii_run is_blank c cs blank_ascii (blank_ascii c h))
+      edge = edge_ascii (c ∷ cs) (suc (prefix_len is_blank cs)) w (ascii_run is_blank c cs blank_ascii (blank_ascii c h));
     }
 
 word_found : (c : ℕ) (cs : List ℕ) → is_blank c ≡ false → is_letter c ≡ true → Found (c ∷ cs) Word (suc (prefix_len is_word_byte cs))
@@ -108,7 +107,7 @@ word_found c cs b h =
       within = w;
       is = rw h (run_all is_word_byte cs);
       longest = longest_by c cs Word (prefix_len is_word_byte cs) (λ o. rw (b, h) refl) (λ o after e is. run_bound is_word_byte cs o after e (both (is_letter c) (list_all is_word_byte o) is).1);
-      edge = edge_ascii (c ∷ cs) (suc (prefix_len is_word_byte cs)) w (ascii_run is_word_byte c cs word_ascii (letter_ascii c h))
+      edge = edge_ascii (c ∷ cs) (suc (prefix_len is_word_byte cs)) w (ascii_run is_word_byte c cs word_ascii (letter_ascii c h));
     }
 
 number_found : (c : ℕ) (cs : List ℕ) → is_blank c ≡ false → is_letter c ≡ false → (c == 48) ≡ false → is_digit c ≡ true
@@ -119,7 +118,7 @@ number_found c cs b l z h =
       within = w;
       is = rw (z, h) (run_all is_digit cs);
       longest = longest_by c cs Number (prefix_len is_digit cs) (λ o. rw (b, l, h) refl) (λ o after e is. run_bound is_digit cs o after e (number_digits c o (c == 48) refl is).1);
-      edge = edge_ascii (c ∷ cs) (suc (prefix_len is_digit cs)) w (ascii_run is_digit c cs digit_ascii (digit_ascii c h))
+      edge = edge_ascii (c ∷ cs) (suc (prefix_len is_digit cs)) w (ascii_run is_digit c cs digit_ascii (digit_ascii c h));
     }
 
 zero_alone : (o : List ℕ) → is_piece Number (48 ∷ o) ≡ true → length o ≤ 0
@@ -131,7 +130,7 @@ zero_found cs = record {
   within = omega arith;
   is = refl;
   longest = longest_by 48 cs Number 0 (λ o. refl) (λ o after e is. zero_alone o is);
-  edge = edge_ascii (48 ∷ cs) 1 (omega arith) refl
+  edge = edge_ascii (48 ∷ cs) 1 (omega arith) refl;
 }
 
 -- Comments, and the sign `/`
@@ -151,7 +150,7 @@ line_end_ascii c h = grind (arith, nat_tests)
 
 line_edge : (cs : List ℕ) → IsCharBoundary (47 ∷ 47 ∷ cs) (suc (suc (prefix_len is_in_line cs)))
 line_edge cs = elim (eq-or-lt_of_le (prefix_len-le-length is_in_line cs)) [
-  inl e ↦ subst (λ n. IsCharBoundary (47 ∷ 47 ∷ cs) (suc (suc n))) (sym e) (IsCharBoundary-end (47 ∷ 47 ∷ cs))
+  | inl e ↦ subst (λ n. IsCharBoundary (47 ∷ 47 ∷ cs) (suc (suc n))) (sym e) (IsCharBoundary-end (47 ∷ 47 ∷ cs))
   | inr l ↦ IsCharBoundary-before_ascii (47 ∷ 47 ∷ cs) (suc (suc (prefix_len is_in_line cs))) (omega arith)
       (line_end_ascii (get_or cs (prefix_len is_in_line cs) 0) (prefix_len_stops is_in_line cs 0 l))
 ]
@@ -175,7 +174,7 @@ line_found cs = record {
   within = omega (arith, prefix_len-le-length is_in_line cs);
   is = rw (run_all is_in_line cs) refl;
   longest = line_bound cs;
-  edge = λ u. line_edge cs
+  edge = λ u. line_edge cs;
 }
 
 block_of : (o : List ℕ) → is_piece Comment (47 ∷ 42 ∷ o) ≡ true → closes o ≡ true
@@ -211,7 +210,7 @@ block_edge cs n at u =
     let i = at.ends in
     let l : get_or (47 ∷ 42 ∷ cs) (suc (suc at.index)) 0 < 128 = let e = at.last in omega arith in
     subst (IsCharBoundary (47 ∷ 42 ∷ cs)) (let p : suc (suc at.index) + 1 ≡ suc (suc n) = omega arith in p)
-        (IsCharBoundary-after_ascii (47 ∷ 42 ∷ cs) (suc (suc at.index)) u (omega arith) l)
+    (IsCharBoundary-after_ascii (47 ∷ 42 ∷ cs) (suc (suc at.index)) u (omega arith) l)
 
 open_is : (cs : List ℕ) → holds_close cs ≡ false → is_open_comment (47 ∷ 42 ∷ take (length cs) cs) ≡ true
 open_is cs h = let e : take (length cs) cs ≡ cs = grind (arith, common_steps) in rw (e, h) refl
@@ -223,7 +222,7 @@ block_found cs n e =
       within = omega (arith, at.within);
       is = at.closed;
       longest = block_bound cs n e;
-      edge = λ u. block_edge cs n at u
+      edge = λ u. block_edge cs n at u;
     }
 
 open_found : (cs : List ℕ) → close_end cs ≡ None → Found (47 ∷ 42 ∷ cs) OpenComment (suc (suc (length cs)))
@@ -231,7 +230,7 @@ open_found cs e = record {
   within = omega arith;
   is = open_is cs (close_none cs e);
   longest = λ other after its w is. whole_longest (47 ∷ 42 ∷ cs) other after w;
-  edge = λ u. IsCharBoundary-end (47 ∷ 42 ∷ cs)
+  edge = λ u. IsCharBoundary-end (47 ∷ 42 ∷ cs);
 }
 
 no_more : (o : List ℕ) → length o ≤ 0 → o ≡ []
@@ -260,7 +259,7 @@ slash_sign d cs x y = record {
   within = omega arith;
   is = refl;
   longest = slash_bound d cs x y;
-  edge = edge_ascii (47 ∷ d ∷ cs) 1 (omega arith) refl
+  edge = edge_ascii (47 ∷ d ∷ cs) 1 (omega arith) refl;
 }
 
 slash_end : Found (47 ∷ []) Sign 1
@@ -268,7 +267,7 @@ slash_end = record {
   within = omega arith;
   is = refl;
   longest = λ other after its w is. whole_longest (47 ∷ []) other after w;
-  edge = edge_ascii (47 ∷ []) 1 (omega arith) refl
+  edge = edge_ascii (47 ∷ []) 1 (omega arith) refl;
 }
 
 two_more : (text : List ℕ) (kind : Piece) (n : ℕ) → Found text kind (suc (suc n)) → Found text kind (2 + n)
@@ -290,7 +289,7 @@ slash_by_star d cs false x y = slash_sign d cs x y
 
 slash_by : (d : ℕ) (cs : List ℕ) (slash : Bool) → (d == 47) ≡ slash
     → Found (47 ∷ d ∷ cs) (if slash then front_of Comment (2 + prefix_len is_in_line cs) else (if d == 42 then block_front cs else front_of Sign 1)).kind
-        (if slash then front_of Comment (2 + prefix_len is_in_line cs) else (if d == 42 then block_front cs else front_of Sign 1)).len
+    (if slash then front_of Comment (2 + prefix_len is_in_line cs) else (if d == 42 then block_front cs else front_of Sign 1)).len
 slash_by d cs true x =
     let e : d ≡ 47 = eqb-true d 47 x in
     subst (λ z. Found (47 ∷ z ∷ cs) Comment (2 + prefix_len is_in_line cs)) (sym e) (two_more (47 ∷ 47 ∷ cs) Comment (prefix_len is_in_line cs) (line_found cs))
@@ -320,7 +319,7 @@ two_found c d cs m h = record {
   within = omega arith;
   is = h;
   longest = longest_by c (d ∷ cs) Sign 1 (sign_only c m) (λ o after e is. (sign_facts c o is).short);
-  edge = edge_ascii (c ∷ d ∷ cs) 2 (omega arith) (sign_ascii (c ∷ d ∷ []) h)
+  edge = edge_ascii (c ∷ d ∷ cs) 2 (omega arith) (sign_ascii (c ∷ d ∷ []) h);
 }
 
 -- no sign of two bytes begins the text
@@ -337,7 +336,7 @@ one_found c cs m no_two h = record {
   within = omega arith;
   is = h;
   longest = longest_by c cs Sign 0 (sign_only c m) (sign_bound c cs no_two);
-  edge = edge_ascii (c ∷ cs) 1 (omega arith) (sign_ascii (c ∷ []) h)
+  edge = edge_ascii (c ∷ cs) 1 (omega arith) (sign_ascii (c ∷ []) h);
 }
 
 no_sign : (c : ℕ) (cs : List ℕ) → Mark c → NoTwo c cs → is_sign (c ∷ []) ≡ false → NoPiece (c ∷ cs)
@@ -427,20 +426,20 @@ digit_tells c cs false i j z e = slash_tells c cs (c == 47) i j e refl
 
 zero_tells : (c : ℕ) (cs : List ℕ) (b : Bool) → is_blank c ≡ false → is_letter c ≡ false → (c == 48) ≡ b
     → Tells c cs (if b then Some (front_of Number 1) else (if is_digit c then Some (front_of Number (1 + prefix_len is_digit cs))
-        else (if c == 47 then Some (slash_front cs) else sign_front (c ∷ cs))))
+    else (if c == 47 then Some (slash_front cs) else sign_front (c ∷ cs))))
 zero_tells c cs true i j e = let z : c ≡ 48 = eqb-true c 48 e in subst (λ x. Found (x ∷ cs) Number 1) (sym z) (zero_found cs)
 zero_tells c cs false i j e = digit_tells c cs (is_digit c) i j e refl
 
 letter_tells : (c : ℕ) (cs : List ℕ) (b : Bool) → is_blank c ≡ false → is_letter c ≡ b
     → Tells c cs (if b then Some (front_of Word (1 + prefix_len is_word_byte cs)) else (if c == 48 then Some (front_of Number 1)
-        else (if is_digit c then Some (front_of Number (1 + prefix_len is_digit cs)) else (if c == 47 then Some (slash_front cs) else sign_front (c ∷ cs)))))
+    else (if is_digit c then Some (front_of Number (1 + prefix_len is_digit cs)) else (if c == 47 then Some (slash_front cs) else sign_front (c ∷ cs)))))
 letter_tells c cs true i e = one_more (c ∷ cs) Word (prefix_len is_word_byte cs) (word_found c cs i e)
 letter_tells c cs false i e = zero_tells c cs (c == 48) i e refl
 
 blank_tells : (c : ℕ) (cs : List ℕ) (b : Bool) → is_blank c ≡ b
     → Tells c cs (if b then Some (front_of Blanks (1 + prefix_len is_blank cs)) else (if is_letter c then Some (front_of Word (1 + prefix_len is_word_byte cs))
-        else (if c == 48 then Some (front_of Number 1) else (if is_digit c then Some (front_of Number (1 + prefix_len is_digit cs))
-        else (if c == 47 then Some (slash_front cs) else sign_front (c ∷ cs))))))
+    else (if c == 48 then Some (front_of Number 1) else (if is_digit c then Some (front_of Number (1 + prefix_len is_digit cs))
+    else (if c == 47 then Some (slash_front cs) else sign_front (c ∷ cs))))))
 blank_tells c cs true e = one_more (c ∷ cs) Blanks (prefix_len is_blank cs) (blanks_found c cs e)
 blank_tells c cs false e = letter_tells c cs (is_letter c) e refl
 
@@ -459,7 +458,7 @@ found_longest text f e =
     record {
       whole = sym (take-append-drop f.len text);
       is = x.is;
-      longest = λ other after its whole is. subst (λ n. length other ≤ n) (sym size) (x.longest other after its whole is)
+      longest = λ other after its whole is. subst (λ n. length other ≤ n) (sym size) (x.longest other after its whole is);
     }
 
 pub found_split : (text a b : List ℕ) (f : Front) → front text ≡ Some f → a ≡ take f.len text → b ≡ drop f.len text → Longest text a b f.kind

@@ -1,5 +1,5 @@
 -- The tokens of a text are slices of it in order, with blanks and comments between them.
-use Rattle.std.proofs.Common.{◌≡◌, ℕ, suc, zero, ◌+◌, ◌<◌, ◌≤◌, Bool, true, false, nat_lt, List, [], ◌∷◌, ◌++◌, length, take, drop, All, Option, Some, None, Result, Ok, Err, if◌then◌else◌, refl, ap, ap₂, sym, ◌∙◌, subst, arith, append_assoc, length-append, add_assoc}
+use Rattle.std.proofs.Common.{◌≡◌, ℕ, ◌+◌, ◌<◌, ◌≤◌, Bool, true, false, nat_lt, List, [], ◌∷◌, ◌++◌, length, take, drop, All, Some, None, Ok, Err, if◌then◌else◌, ap, ap₂, sym, ◌∙◌, subst, arith, append_assoc, length-append}
 use Rattle.std.proofs.lemmas.List.Elements.{All-cons}
 use Rattle.std.proofs.Math.Seq.{drop-append_seam, take-append_seam}
 use Rattle.std.specs.Str.Parse.{digits_value}
@@ -11,7 +11,7 @@ use Rattle.aj_lexer.specs.declared.tokens.TokenKind.TheVariants as token
 use Rattle.aj_lexer.specs.declared.faults.LexFault.{LexFault}
 use Rattle.aj_lexer.specs.declared.faults.LexFault.TheVariants as fault
 use Rattle.aj_lexer.specs.Pieces.{is_piece}
-use Rattle.aj_lexer.specs.Tokens.{Longest, meaning, word_kind, TokensFrom, at_end, a_gap, a_token, FaultFrom, no_piece, a_bad_piece, after_a_piece, Gap, no_gap, after_blanks, after_comment, LaidFrom, IsSlice, Ascend}
+use Rattle.aj_lexer.specs.Tokens.{meaning, word_kind, TokensFrom, at_end, a_gap, a_token, FaultFrom, no_piece, a_bad_piece, after_a_piece, Gap, no_gap, after_blanks, after_comment, LaidFrom, IsSlice, Ascend}
 
 word_means : (long : Bool) (kind : TokenKind) (its : LexFault) → (if long then Err its else Ok (Some kind)) ≡ Ok None → ⊥
 word_means true kind its h = cc
@@ -29,9 +29,14 @@ gap_more Sign bytes rest at is m g = absurd (cc)
 laid_more : (kind : Piece) (text bytes rest : List ℕ) (at : ℕ) (ts : List Token) → text ≡ bytes ++ rest → is_piece kind bytes ≡ true
     → meaning kind bytes at ≡ Ok None → LaidFrom rest (at + length bytes) ts → LaidFrom text at ts
 laid_more kind text bytes rest at [] w is m h = subst Gap (sym w) (gap_more kind bytes rest at is m h)
-laid_more kind text bytes rest at (t ∷ ts) w is m (gap, after, g, e, p, h) =
-    (bytes ++ gap, after, gap_more kind bytes gap at is m g, w ∙ ap (λ r. bytes ++ r) e ∙ sym (append_assoc bytes gap (t.text ++ after)),
-        omega (arith, p, length-append bytes gap), h)
+laid_more kind text bytes rest at (t ∷ ts) w is m (gap, after, g, e, p, h) = (
+  bytes ++ gap,
+  after,
+  gap_more kind bytes gap at is m g,
+  w ∙ ap (λ r. bytes ++ r) e ∙ sym (append_assoc bytes gap (t.text ++ after)),
+  omega (arith, p, length-append bytes gap),
+  h,
+)
 
 pub laid_from : {text : List ℕ} {at : ℕ} {ts : List Token} → TokensFrom text at ts → LaidFrom text at ts
 laid_from at_end = no_gap
@@ -55,7 +60,7 @@ slices_from text whole before at (t ∷ ts) w l (gap, rest, g, e, p, h) =
     let after : whole ≡ ((before ++ gap) ++ t.text) ++ rest = here ∙ sym (append_assoc (before ++ gap) t.text rest) in
     let next : t.at + length t.text ≡ length ((before ++ gap) ++ t.text) = omega (arith, place, length-append (before ++ gap) t.text) in
     All-cons (IsSlice whole) t ts (slice_here whole (before ++ gap) t.text rest t.at here place)
-        (slices_from rest whole ((before ++ gap) ++ t.text) (t.at + length t.text) ts after next h)
+    (slices_from rest whole ((before ++ gap) ++ t.text) (t.at + length t.text) ts after next h)
 
 nonempty : (kind : Piece) (bytes : List ℕ) → is_piece kind bytes ≡ true → 0 < length bytes
 nonempty Blanks [] h = absurd (cc)

@@ -1,9 +1,10 @@
 -- One piece after another.
-use Rattle.std.proofs.Common.{◌≡◌, ℕ, ◌+◌, ◌<◌, ◌≤◌, ◌==◌, Bool, true, false, List, [], ◌∷◌, ◌++◌, length, Option, Some, None, Ok, Err, refl, ap, sym, ◌∙◌, subst, arith, append_assoc, append-nil, add_assoc, IsUtf8, length-append, eqb-true}
+use Rattle.std.proofs.Common.{◌≡◌, ℕ, ◌+◌, ◌==◌, true, List, [], ◌∷◌, ◌++◌, length, Option, Some, None, refl, ap, sym, ◌∙◌, subst, arith, append_assoc, append-nil, IsUtf8, length-append, eqb-true}
 use Rattle.aj_lexer.specs.declared.tokens.Token.{Token}
 use Rattle.aj_lexer.specs.declared.tokens.TokenKind.{TokenKind}
 use Rattle.aj_lexer.specs.declared.faults.LexFault.{LexFault}
-use Rattle.aj_lexer.specs.Tokens.{TokensFrom, at_end, a_gap, a_token, FaultFrom, after_a_piece, IsCut, tokens_of}
+use Rattle.aj_lexer.specs.Tokens.{TokensFrom, at_end, a_gap, a_token, FaultFrom, after_a_piece}
+use Rattle.aj_lexer.specs.Reading.{IsCut, tokens_of}
 
 -- the tokens so far, with those of the rest, are those of the text, and a fault of the rest is that of the text
 pub record LexedTo (text rest : List ℕ) (at : ℕ) (so_far : List Token) : Type 0 where
@@ -28,7 +29,7 @@ lexed_more text rest left bytes at means so_far now so cut u e = record {
   utf8 = u;
   tokens = λ ts h. subst (TokensFrom text 0) (sym (append_assoc so_far (tokens_of means bytes at) ts) ∙ ap (λ xs. xs ++ ts) (sym e))
       (so.tokens (tokens_of means bytes at ++ ts) (one_more rest bytes left at means ts cut h));
-  fault = λ its h. so.fault its (after_a_piece cut.kind means cut.longest cut.is_meant h)
+  fault = λ its h. so.fault its (after_a_piece cut.kind means cut.longest cut.is_meant h);
 }
 
 pub lexed_all : (text rest : List ℕ) (at : ℕ) (so_far : List Token) → LexedTo text rest at so_far → rest ≡ [] → TokensFrom text 0 so_far

@@ -1,5 +1,5 @@
 -- A number of the source is what `parse` reads as one.
-use Rattle.std.proofs.Common.{◌≡◌, ℕ, ◌<◌, ◌≤◌, ◌==◌, ◌&&◌, Bool, true, false, cond, List, [], ◌∷◌, length, if◌then◌else◌, refl, arith, eqb-true, rules, ap, sym, subst, ◌^◌, nat_lt, Some, None, Err, Result}
+use Rattle.std.proofs.Common.{◌≡◌, ℕ, ◌<◌, ◌==◌, ◌&&◌, Bool, true, false, List, [], ◌∷◌, length, if◌then◌else◌, refl, arith, eqb-true, ap, sym, subst, ◌^◌, nat_lt, Some, None, Err, Result}
 use Rattle.std.proofs.lemmas.Bool.Decides.{nat_tests}
 use Rattle.std.specs.List.{list_all}
 use Rattle.std.specs.Char.{digit_value}

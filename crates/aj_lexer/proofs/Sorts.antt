@@ -1,5 +1,5 @@
 -- What the pieces of each kind begin with, so that no text is a piece of two kinds.
-use Rattle.std.proofs.Common.{◌≡◌, ℕ, suc, zero, ◌+◌, ◌<◌, ◌≤◌, ◌==◌, ◌&&◌, ◌||◌, not, nat_le, Bool, true, false, List, [], ◌∷◌, ◌++◌, ◌⊎◌, inl, inr, length, bytes_eq, if◌then◌else◌, refl, ap, sym, ◌∙◌, subst, arith, eqb-true}
+use Rattle.std.proofs.Common.{◌≡◌, ℕ, ◌≤◌, ◌==◌, ◌&&◌, ◌||◌, not, nat_le, Bool, true, false, List, [], ◌∷◌, ◌⊎◌, inl, inr, length, bytes_eq, if◌then◌else◌, refl, sym, ◌∙◌, subst, arith, eqb-true}
 use Rattle.std.proofs.lemmas.Bool.Decides.{nat_tests}
 use Rattle.std.proofs.lemmas.Slice.Eq.{bytes_eq-Decides}
 use Rattle.std.specs.List.{list_all, list_any}
@@ -26,7 +26,7 @@ all_of test p [] a h = absurd (cc)
 all_of test p (x ∷ xs) a h =
     let b = both (test x) (list_all test xs) a in
     elim (either (bytes_eq p x) (list_any (bytes_eq p) xs) h) [
-      inl e ↦ subst (λ y. test y ≡ true) (sym ((bytes_eq-Decides p x).0 e)) b.0
+      | inl e ↦ subst (λ y. test y ≡ true) (sym ((bytes_eq-Decides p x).0 e)) b.0
       | inr r ↦ all_of test p xs b.1 r
     ]
 
@@ -61,7 +61,7 @@ sign_facts c o h =
       letter = not_true (is_letter c) n.1;
       digit = not_true (is_digit c) m.1;
       short = grind (arith, nat_tests);
-      slash = λ e. none_left o (subst (λ b. (if b then length o == 0 else true) ≡ true) e s)
+      slash = λ e. none_left o (subst (λ b. (if b then length o == 0 else true) ≡ true) e s);
     }
 
 closed_by : (here later holds one : Bool) → (if here then one else later) ≡ true → (later ≡ true → holds ≡ true) → (here || holds) ≡ true

@@ -1,5 +1,5 @@
 -- The tokens of a source, and its first fault: a whole text is cut from the left into slices, each the longest piece that begins there.
-use Rattle.std.specs.Prelude.{◌≡◌, ℕ, ◌+◌, ◌<◌, ◌≤◌, true, nat_lt, List, [], ◌∷◌, ◌++◌, length, take, drop, All, Option, Some, None, Result, Ok, Err, if◌then◌else◌}
+use Rattle.std.specs.Prelude.{◌≡◌, ℕ, ◌+◌, ◌<◌, ◌≤◌, true, nat_lt, List, [], ◌∷◌, ◌++◌, length, take, drop, Option, Some, None, Result, Ok, Err, if◌then◌else◌}
 use Rattle.std.specs.Str.Parse.{digits_value}
 use Rattle.aj_lexer.specs.declared.pieces.Piece.{Piece}
 use Rattle.aj_lexer.specs.declared.pieces.Piece.TheVariants as piece
@@ -79,14 +79,3 @@ IsSlice text t = (t.at + length t.text ≤ length text) × (take (length t.text)
 abbrev pub Ascend : ℕ → List Token → Type 0
 Ascend from [] = Unit {0}
 Ascend from (t ∷ ts) = (from ≤ t.at) × (0 < length t.text) × Ascend (t.at + length t.text) ts
-
--- the text is a piece with this meaning, and then the rest
-pub record IsCut (text : List ℕ) (at : ℕ) (means : Option TokenKind) (bytes rest : List ℕ) : Type 0 where
-  pub kind : Piece
-  pub longest : Longest text bytes rest kind
-  pub is_meant : meaning kind bytes at ≡ Ok means
-
--- the tokens that a piece gives: one or none
-abbrev pub tokens_of : Option TokenKind → List ℕ → ℕ → List Token
-tokens_of None bytes at = []
-tokens_of (Some kind) bytes at = record { kind = kind; text = bytes; at = at } ∷ []

@@ -14,5 +14,4 @@ pub fn token_laws()
     ensures laid { (text : List ℕ) (ts : List Token) → Tokens text ts → LaidFrom text 0 ts }
     ensures slices { (text : List ℕ) (ts : List Token) → Tokens text ts → All (IsSlice text) ts }
     ensures ascend { (text : List ℕ) (ts : List Token) → Tokens text ts → Ascend 0 ts }
-{
-}
+{}

@@ -6,14 +6,13 @@ ghost use Rattle.aj_lexer.specs.declared.tokens.Token.{Token};
 ghost use Rattle.aj_lexer.specs.declared.faults.LexFault.{LexFault};
 ghost use Rattle.aj_lexer.specs.Pieces.{is_piece, is_number};
 ghost use Rattle.aj_lexer.specs.Reserved.{is_reserved};
-ghost use Rattle.aj_lexer.specs.Tokens.{word_kind, meaning, Tokens, FirstFault, FaultFrom, Longest, IsCut, tokens_of};
-ghost use Rattle.aj_lexer.specs.Reading.{front as find};
-
-use std::alloc::{AllocError as NoMemory, Global};
+ghost use Rattle.aj_lexer.specs.Tokens.{word_kind, meaning, Tokens, FirstFault, FaultFrom, Longest};
+ghost use Rattle.aj_lexer.specs.Reading.{front as find, IsCut, tokens_of};
 
 use crate::faults::LexFault;
 use crate::pieces::{Front, Piece, find_front};
 use crate::tokens::{Text, Token, TokenKind};
+use std::alloc::{AllocError as NoMemory, Global};
 
 /// The greatest number that a source may write.
 const GREATEST_LITERAL: u32 = 2_147_483_648;
@@ -22,11 +21,66 @@ const GREATEST_LITERAL: u32 = 2_147_483_648;
 const LONGEST_WORD: usize = 64;
 
 const RESERVED: [&str; 60] = [
-    "abstract", "assert", "boolean", "break", "byte", "case", "catch", "char", "class", "const", "continue", "default", "do", "double", "else",
-    "enum", "extends", "final", "finally", "float", "for", "goto", "if", "implements", "import", "instanceof", "int", "interface", "long",
-    "native", "new", "package", "private", "protected", "public", "return", "short", "static", "strictfp", "super", "switch", "synchronized",
-    "this", "throw", "throws", "transient", "try", "void", "volatile", "while", "true", "false", "null", "atomic", "guarded_by", "requires",
-    "write_guarded_by", "System", "Thread", "Runnable",
+    "abstract",
+    "assert",
+    "boolean",
+    "break",
+    "byte",
+    "case",
+    "catch",
+    "char",
+    "class",
+    "const",
+    "continue",
+    "default",
+    "do",
+    "double",
+    "else",
+    "enum",
+    "extends",
+    "final",
+    "finally",
+    "float",
+    "for",
+    "goto",
+    "if",
+    "implements",
+    "import",
+    "instanceof",
+    "int",
+    "interface",
+    "long",
+    "native",
+    "new",
+    "package",
+    "private",
+    "protected",
+    "public",
+    "return",
+    "short",
+    "static",
+    "strictfp",
+    "super",
+    "switch",
+    "synchronized",
+    "this",
+    "throw",
+    "throws",
+    "transient",
+    "try",
+    "void",
+    "volatile",
+    "while",
+    "true",
+    "false",
+    "null",
+    "atomic",
+    "guarded_by",
+    "requires",
+    "write_guarded_by",
+    "System",
+    "Thread",
+    "Runnable",
 ];
 
 fn is_reserved(word: &str) -> bool
@@ -49,7 +103,11 @@ fn literal(digits: &str) -> Option<u32>
 fn word_kind(word: &str) -> TokenKind
     ensures { result ≡ word_kind word.now }
 {
-    if is_reserved(word) { TokenKind::Word } else { TokenKind::Name }
+    if is_reserved(word) {
+        TokenKind::Word
+    } else {
+        TokenKind::Name
+    }
 }
 
 /// What a piece at an offset means: no token, a token of some kind, or a fault.
@@ -138,9 +196,9 @@ fn cut_all(alloc: Global, text: &str) -> Result<Vec<Token>, LexFault>
 pub fn lex(alloc: Global, text: &str) -> Result<Vec<Token>, LexFault>
     requires { length text.now ≤ 262144 }
     ensures tokens { IfOk result (λ found. Tokens text.now found.items) }
-    ensures every_token { (ts : List Token) → Tokens text.now ts → MatchResult result (λ found. found.items ≡ ts) (λ e. e ≡ LexFault.NoMemory) }
+    ensures tokens_given { (ts : List Token) → Tokens text.now ts → MatchResult result (λ found. found.items ≡ ts) (λ e. e ≡ LexFault.NoMemory) }
     ensures fault { IfErr result (λ e. (e ≡ LexFault.NoMemory) ⊎ FirstFault text.now e) }
-    ensures every_fault { (its : LexFault) → FirstFault text.now its → MatchResult result (λ _. ⊥) (λ e. (e ≡ LexFault.NoMemory) ⊎ (e ≡ its)) }
+    ensures fault_told { (its : LexFault) → FirstFault text.now its → MatchResult result (λ _. ⊥) (λ e. (e ≡ LexFault.NoMemory) ⊎ (e ≡ its)) }
 {
     cut_all(alloc, text)
 }
