@@ -54,7 +54,7 @@ one_by true later n e = let p : 2 ≡ n = cc in omega arith
 one_by false None n e = absurd (cc)
 one_by false (Some m) n e = let p : 1 + m ≡ n = cc in omega arith
 
-neither : (a b : Bool) → (a || b) ≡ false → (a ≡ false) × (b ≡ false)
+pub neither : (a b : Bool) → (a || b) ≡ false → (a ≡ false) × (b ≡ false)
 neither true b h = absurd (cc)
 neither false b h = (refl, h)
 

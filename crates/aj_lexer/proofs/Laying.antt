@@ -62,7 +62,7 @@ slices_from text whole before at (t ∷ ts) w l (gap, rest, g, e, p, h) =
     All-cons (IsSlice whole) t ts (slice_here whole (before ++ gap) t.text rest t.at here place)
     (slices_from rest whole ((before ++ gap) ++ t.text) (t.at + length t.text) ts after next h)
 
-nonempty : (kind : Piece) (bytes : List ℕ) → is_piece kind bytes ≡ true → 0 < length bytes
+pub nonempty : (kind : Piece) (bytes : List ℕ) → is_piece kind bytes ≡ true → 0 < length bytes
 nonempty Blanks [] h = absurd (cc)
 nonempty Comment [] h = absurd (cc)
 nonempty OpenComment [] h = absurd (cc)

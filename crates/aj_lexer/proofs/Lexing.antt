@@ -17,7 +17,7 @@ pub lexed_none : (text : List ℕ) → IsUtf8 text → LexedTo text text 0 []
 lexed_none text u = record { place = omega arith; utf8 = u; tokens = λ ts h. h; fault = λ its h. h }
 
 -- the tokens of a text are those of its first piece and those of the rest
-one_more : (text bytes rest : List ℕ) (at : ℕ) (means : Option TokenKind) (ts : List Token) → IsCut text at means bytes rest
+pub one_more : (text bytes rest : List ℕ) (at : ℕ) (means : Option TokenKind) (ts : List Token) → IsCut text at means bytes rest
     → TokensFrom rest (at + length bytes) ts → TokensFrom text at (tokens_of means bytes at ++ ts)
 one_more text bytes rest at None ts cut h = a_gap cut.kind cut.longest cut.is_meant h
 one_more text bytes rest at (Some its) ts cut h = a_token cut.kind its cut.longest cut.is_meant h

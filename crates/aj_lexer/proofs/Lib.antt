@@ -5,3 +5,5 @@ pub mod Lexing
 pub mod Sorts
 pub mod Unique
 pub mod Laying
+pub mod Total
+pub mod Written

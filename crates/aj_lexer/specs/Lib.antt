@@ -3,3 +3,4 @@ pub mod Places
 pub mod Reading
 pub mod Reserved
 pub mod Tokens
+pub mod Written

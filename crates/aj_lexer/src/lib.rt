@@ -12,7 +12,7 @@ mod tokens;
 mod utf8;
 
 pub use faults::LexFault;
-pub use laws::token_laws;
+pub use laws::{token_laws, writing_laws};
 pub use lexer::lex;
 pub use places::{Place, place_of};
 pub use tokens::{Text, Token, TokenKind};
