@@ -2,7 +2,7 @@
 
 ghost use Rattle.std.specs.Prelude.{◌≤◌, length};
 
-use crate::{lex, place_of, utf8_text};
+use crate::{Text, Token, TokenKind, lex, place_of, utf8_text};
 use std::alloc::Global;
 use std::fmt::{self, Write};
 use std::process::Abort;
@@ -93,6 +93,8 @@ fn tells_each_fault(rt: HostRuntime) {
 fn finds_places(rt: HostRuntime) {
     let place = place_of("ab\r\nc\n", 4);
     assert_eq!(rt; (place.line, place.column), (2, 1));
+    let shown = format!(in rt.alloc(); "{place}").expect(&rt, "memory is left");
+    assert_eq!(rt; shown.as_str(), "2:1");
     let end = place_of("ab\r\nc\n", 6);
     assert_eq!(rt; (end.line, end.column), (3, 1));
     let first = place_of("ab", 2);
@@ -100,4 +102,18 @@ fn finds_places(rt: HostRuntime) {
     let text = utf8_text(b"class \x80");
     assert!(rt; text.is_err_and(|fault| fault.at == 6));
     assert!(rt; utf8_text("é".as_bytes()).is_ok());
+}
+
+#[test]
+fn copies_tokens(rt: HostRuntime) {
+    let alloc = rt.alloc();
+    let text = Text::new(alloc, "Main").expect(&rt, "memory is left");
+    let token = Token {
+        kind: TokenKind::Name,
+        text,
+        at: 7,
+    };
+    let copied = token.copy(alloc).expect(&rt, "memory is left");
+    assert!(rt; copied == token);
+    assert!(rt; copied.text.is("Main"));
 }
