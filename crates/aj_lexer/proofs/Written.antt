@@ -1,14 +1,21 @@
 -- Pieces that are written one after another are cut off there again.
-use Rattle.std.proofs.Common.{◌≡◌, ℕ, suc, ◌+◌, ◌==◌, ◌&&◌, ◌||◌, nat_lt, bytes_eq, Bool, true, false, List, [], ◌∷◌, ◌++◌, length, take, drop, Some, None, if◌then◌else◌, refl, ap, ap₂, sym, ◌∙◌, subst, arith, eqb-true, one-add}
+use Rattle.std.proofs.Common.{◌≡◌, ℕ, suc, ◌+◌, ◌≤◌, ◌==◌, ◌&&◌, ◌||◌, nat_lt, bytes_eq, Bool, true, false, List, [], ◌∷◌, ◌++◌, length, take, drop, Some, None, Ok, Err, All, if◌then◌else◌, refl, ap, ap₂, sym, ◌∙◌, subst, arith, eqb-true, one-add}
 use Rattle.std.proofs.Math.Seq.{drop-append_seam, take-append_seam}
 use Rattle.std.proofs.lemmas.Bool.Decides.{nat_tests}
 use Rattle.std.specs.List.{prefix_len, list_all}
 use Rattle.aj_lexer.specs.declared.pieces.Piece.{Piece}
-use Rattle.aj_lexer.specs.declared.pieces.Piece.TheVariants.{Blanks, Word, Number, Sign}
-use Rattle.aj_lexer.specs.Pieces.{is_blanks, is_word, is_number, is_blank, is_letter, is_digit, is_word_byte, is_sign}
+use Rattle.aj_lexer.specs.declared.pieces.Piece.TheVariants.{Blanks, Comment, OpenComment, Word, Number, Sign}
+use Rattle.aj_lexer.specs.Pieces.{is_piece, is_blanks, is_word, is_number, is_blank, is_letter, is_digit, is_word_byte, is_sign}
 use Rattle.aj_lexer.specs.Reading.{front_of, slash_front, sign_front, front}
-use Rattle.aj_lexer.specs.Tokens.{Longest}
-use Rattle.aj_lexer.specs.Written.{stops, sign_goes_on}
+use Rattle.aj_lexer.specs.declared.tokens.Token.{Token}
+use Rattle.aj_lexer.specs.declared.tokens.TokenKind.{TokenKind}
+use Rattle.aj_lexer.specs.declared.tokens.TokenKind.TheVariants as token
+use Rattle.aj_lexer.specs.declared.faults.LexFault.TheVariants as fault
+use Rattle.aj_lexer.specs.Reserved.{is_reserved}
+use Rattle.std.specs.Str.Parse.{digits_value}
+use Rattle.std.proofs.lemmas.List.Elements.{All-cons}
+use Rattle.aj_lexer.specs.Tokens.{Longest, meaning, word_kind, TokensFrom, at_end, a_gap, a_token, IsOfKind}
+use Rattle.aj_lexer.specs.Written.{stops, sign_goes_on, may_follow}
 use Rattle.aj_lexer.proofs.Numbers.{both}
 use Rattle.aj_lexer.proofs.Sorts.{sign_facts, not_true}
 use Rattle.aj_lexer.proofs.Fronts.{found_split}
@@ -105,3 +112,60 @@ written_sign [] rest h g = absurd (cc)
 written_sign (c ∷ []) rest h g = written (c ∷ []) rest Sign 1 (one_by c rest (c == 47) refl h g) refl
 written_sign (c ∷ d ∷ []) rest h g = written (c ∷ d ∷ []) rest Sign 2 (two_by c d rest (c == 47) refl h) refl
 written_sign (c ∷ d ∷ f ∷ o) rest h g = absurd (let s = (sign_facts c (d ∷ f ∷ o) h).short in omega arith)
+
+word_means : (bytes : List ℕ) (at : ℕ) (reserved : Bool) → length bytes ≤ 64 → is_reserved bytes ≡ reserved
+    → meaning Word bytes at ≡ Ok (Some (if reserved then token.Word else token.Name))
+word_means bytes at reserved l r = let s : nat_lt 64 (length bytes) ≡ false = grind (arith, nat_tests) in rw (s, r) refl
+
+number_means : (bytes : List ℕ) (at n : ℕ) → n ≤ 2147483648 → digits_value 10 bytes ≡ n → meaning Number bytes at ≡ Ok (Some (token.Number n))
+number_means bytes at n l e =
+    let s : nat_lt 2147483648 (digits_value 10 bytes) ≡ false = grind (arith, nat_tests) in rw s (ap (λ v. Ok (Some (token.Number v))) e)
+
+-- a token that is written first is the first token
+pub written_token : (kind : TokenKind) (bytes rest : List ℕ) (at : ℕ) (ts : List Token) → IsOfKind kind bytes → may_follow kind bytes rest ≡ true
+    → TokensFrom rest (at + length bytes) ts → TokensFrom (bytes ++ rest) at (record { kind = kind; text = bytes; at = at } ∷ ts)
+written_token token.Name bytes rest at ts (w, l, r) f h = a_token Word token.Name (written_word bytes rest w f) (word_means bytes at false l r) h
+written_token token.Word bytes rest at ts (w, l, r) f h = a_token Word token.Word (written_word bytes rest w f) (word_means bytes at true l r) h
+written_token (token.Number n) bytes rest at ts (w, l, e) f h = a_token Number (token.Number n) (written_number bytes rest w f) (number_means bytes at n l e) h
+written_token token.Sign bytes rest at ts w f h = a_token Sign token.Sign (written_sign bytes rest w (not_true (sign_goes_on bytes rest) f)) refl h
+
+pub written_gap : (bytes rest : List ℕ) (at : ℕ) (ts : List Token) → is_blanks bytes ≡ true → stops is_blank rest ≡ true
+    → TokensFrom rest (at + length bytes) ts → TokensFrom (bytes ++ rest) at ts
+written_gap bytes rest at ts w f h = a_gap Blanks (written_blanks bytes rest w f) refl h
+
+-- what the tokens of a text are
+
+reserved_kind : (bytes : List ℕ) (reserved : Bool) (its : TokenKind) → is_reserved bytes ≡ reserved → is_word bytes ≡ true → length bytes ≤ 64
+    → (if reserved then token.Word else token.Name) ≡ its → IsOfKind its bytes
+reserved_kind bytes true its r w l e = subst (λ k. IsOfKind k bytes) e (w, l, r)
+reserved_kind bytes false its r w l e = subst (λ k. IsOfKind k bytes) e (w, l, r)
+
+word_by : (bytes : List ℕ) (at : ℕ) (its : TokenKind) (long : Bool) → nat_lt 64 (length bytes) ≡ long → is_word bytes ≡ true
+    → (if long then Err (fault.NameTooLong at) else Ok (Some (word_kind bytes))) ≡ Ok (Some its) → IsOfKind its bytes
+word_by bytes at its true s w e = absurd (cc)
+word_by bytes at its false s w e =
+    let l : length bytes ≤ 64 = grind (arith, nat_tests) in
+    let k : word_kind bytes ≡ its = cc in
+    reserved_kind bytes (is_reserved bytes) its refl w l k
+
+number_by_value : (bytes : List ℕ) (at : ℕ) (its : TokenKind) (large : Bool) → nat_lt 2147483648 (digits_value 10 bytes) ≡ large → is_number bytes ≡ true
+    → (if large then Err (fault.LiteralTooLarge at) else Ok (Some (token.Number (digits_value 10 bytes)))) ≡ Ok (Some its) → IsOfKind its bytes
+number_by_value bytes at its true s w e = absurd (cc)
+number_by_value bytes at its false s w e =
+    let l : digits_value 10 bytes ≤ 2147483648 = grind (arith, nat_tests) in
+    let k : token.Number (digits_value 10 bytes) ≡ its = cc in
+    subst (λ k. IsOfKind k bytes) k (w, l, refl)
+
+of_kind : (kind : Piece) (bytes : List ℕ) (at : ℕ) (its : TokenKind) → is_piece kind bytes ≡ true → meaning kind bytes at ≡ Ok (Some its) → IsOfKind its bytes
+of_kind Blanks bytes at its is m = absurd (cc)
+of_kind Comment bytes at its is m = absurd (cc)
+of_kind OpenComment bytes at its is m = absurd (cc)
+of_kind Word bytes at its is m = word_by bytes at its (nat_lt 64 (length bytes)) refl is m
+of_kind Number bytes at its is m = number_by_value bytes at its (nat_lt 2147483648 (digits_value 10 bytes)) refl is m
+of_kind Sign bytes at its is m = let k : token.Sign ≡ its = cc in subst (λ k. IsOfKind k bytes) k is
+
+pub kinds_from : {text : List ℕ} {at : ℕ} {ts : List Token} → TokensFrom text at ts → All (λ t. IsOfKind t.kind t.text) ts
+kinds_from at_end = λ k d below. absurd (omega arith)
+kinds_from (a_gap kind x m r) = kinds_from r
+kinds_from (a_token {bytes = bytes} {at = at} {ts = ts} kind its x m r) =
+    All-cons (λ t. IsOfKind t.kind t.text) (record { kind = its; text = bytes; at = at }) ts (of_kind kind bytes at its x.is m) (kinds_from r)

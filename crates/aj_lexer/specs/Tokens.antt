@@ -1,5 +1,5 @@
 -- The tokens of a source, and its first fault: a whole text is cut from the left into slices, each the longest piece that begins there.
-use Rattle.std.specs.Prelude.{◌≡◌, ℕ, ◌+◌, ◌<◌, ◌≤◌, true, nat_lt, List, [], ◌∷◌, ◌++◌, length, take, drop, Option, Some, None, Result, Ok, Err, if◌then◌else◌}
+use Rattle.std.specs.Prelude.{◌≡◌, ℕ, ◌+◌, ◌<◌, ◌≤◌, true, false, nat_lt, List, [], ◌∷◌, ◌++◌, length, take, drop, Option, Some, None, Result, Ok, Err, if◌then◌else◌}
 use Rattle.std.specs.Str.Parse.{digits_value}
 use Rattle.aj_lexer.specs.declared.pieces.Piece.{Piece}
 use Rattle.aj_lexer.specs.declared.pieces.Piece.TheVariants as piece
@@ -8,7 +8,7 @@ use Rattle.aj_lexer.specs.declared.tokens.TokenKind.{TokenKind}
 use Rattle.aj_lexer.specs.declared.tokens.TokenKind.TheVariants as token
 use Rattle.aj_lexer.specs.declared.faults.LexFault.{LexFault}
 use Rattle.aj_lexer.specs.declared.faults.LexFault.TheVariants as fault
-use Rattle.aj_lexer.specs.Pieces.{is_piece}
+use Rattle.aj_lexer.specs.Pieces.{is_piece, is_word, is_number, is_sign}
 use Rattle.aj_lexer.specs.Reserved.{is_reserved}
 
 -- the text is the piece and then the rest, and no longer piece begins the text
@@ -79,3 +79,10 @@ IsSlice text t = (t.at + length t.text ≤ length text) × (take (length t.text)
 abbrev pub Ascend : ℕ → List Token → Type 0
 Ascend from [] = Unit {0}
 Ascend from (t ∷ ts) = (from ≤ t.at) × (0 < length t.text) × Ascend (t.at + length t.text) ts
+
+-- the bytes are the text of a token of this kind
+abbrev pub IsOfKind : TokenKind → List ℕ → Type 0
+IsOfKind token.Name bytes = (is_word bytes ≡ true) × (length bytes ≤ 64) × (is_reserved bytes ≡ false)
+IsOfKind token.Word bytes = (is_word bytes ≡ true) × (length bytes ≤ 64) × (is_reserved bytes ≡ true)
+IsOfKind (token.Number n) bytes = (is_number bytes ≡ true) × (n ≤ 2147483648) × (digits_value 10 bytes ≡ n)
+IsOfKind token.Sign bytes = is_sign bytes ≡ true

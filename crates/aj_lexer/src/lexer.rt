@@ -191,7 +191,8 @@ fn cut_all(alloc: Global, text: &str) -> Result<Vec<Token>, LexFault>
     Ok(tokens)
 }
 
-/// The tokens of a source, or its first fault. Blanks and comments give no token.
+/// The tokens of a source, or its first fault. As in Java's lexical grammar, the longest piece is cut off each time.
+/// Offsets count bytes from 0. Blanks and comments give no token.
 /// Takes memory for the tokens alone, and time linear in the source.
 pub fn lex(alloc: Global, text: &str) -> Result<Vec<Token>, LexFault>
     requires { length text.now ≤ 262144 }

@@ -2,6 +2,7 @@ use Rattle.std.proofs.Common.{refl, []}
 use Rattle.aj_lexer.proofs.Unique.{one_list, one_fault, never_both}
 use Rattle.aj_lexer.proofs.Laying.{laid_from, slices_from, ascend_from, no_memory_fault}
 use Rattle.aj_lexer.proofs.Total.{told}
+use Rattle.aj_lexer.proofs.Written.{kinds_from}
 use Rattle.aj_lexer.proofs.laws.token_laws.Goals as goal
 
 pub returns-clause-one_list : goal.returns-clause-one_list
@@ -27,3 +28,6 @@ returns-clause-ascend c = λ text ts h. ascend_from h
 
 pub returns-clause-told : goal.returns-clause-told
 returns-clause-told c = told
+
+pub returns-clause-kinds : goal.returns-clause-kinds
+returns-clause-kinds c = λ text ts h. kinds_from h
