@@ -46,7 +46,7 @@ fn call_two(f: Pair, x: Basic, y: Basic) -> Basic
 }
 
 // A test, or the one tree where both branches are equal.
-fn node_tree(alloc: Global, p: &Path, a: Tree, b: Tree) -> Result<Tree, NoMemory>
+fn node(alloc: Global, p: &Path, a: Tree, b: Tree) -> Result<Tree, NoMemory>
     ensures { IfOk result (λ t. cond_of t ≡ node p.now (cond_of a) (cond_of b)) }
 {
     if same_tree(&a, &b) {
@@ -61,46 +61,32 @@ pub(crate) fn each_tree(alloc: Global, f: Single, t: &Tree) -> Result<Tree, NoMe
 {
     match t {
         Tree::Leaf(x) => Ok(Tree::Leaf(call_one(f, *x))),
-        Tree::Test(p, a, b) => {
-            let held = each_tree(alloc, f, a)?;
-            let free = each_tree(alloc, f, b)?;
-            node_tree(alloc, p, held, free)
-        }
+        Tree::Test(p, a, b) => node(alloc, p, each_tree(alloc, f, a)?, each_tree(alloc, f, b)?),
     }
 }
 
 // The leaves of two trees joined by a call, the smaller path first.
-pub(crate) fn both_trees(alloc: Global, f: Pair, t: &Tree, u: &Tree) -> Result<Tree, NoMemory>
+pub(crate) fn both(alloc: Global, f: Pair, t: &Tree, u: &Tree) -> Result<Tree, NoMemory>
     ensures { IfOk result (λ r. cond_of r ≡ both_leaves (pair_of f) (cond_of t.now) (cond_of u.now)) }
 {
     match (t, u) {
         (Tree::Leaf(x), Tree::Leaf(y)) => Ok(Tree::Leaf(call_two(f, *x, *y))),
-        (Tree::Leaf(_), Tree::Test(q, c, d)) => {
-            let held = both_trees(alloc, f, t, c)?;
-            let free = both_trees(alloc, f, t, d)?;
-            node_tree(alloc, q, held, free)
-        }
-        (Tree::Test(p, a, b), Tree::Leaf(_)) => {
-            let held = both_trees(alloc, f, a, u)?;
-            let free = both_trees(alloc, f, b, u)?;
-            node_tree(alloc, p, held, free)
-        }
+        (Tree::Leaf(_), Tree::Test(q, c, d)) => node(
+            alloc,
+            q,
+            both(alloc, f, t, c)?,
+            both(alloc, f, t, d)?,
+        ),
+        (Tree::Test(p, a, b), Tree::Leaf(_)) => node(
+            alloc,
+            p,
+            both(alloc, f, a, u)?,
+            both(alloc, f, b, u)?,
+        ),
         (Tree::Test(p, a, b), Tree::Test(q, c, d)) => match order(p, q) {
-            Ordering::Less => {
-                let held = both_trees(alloc, f, a, u)?;
-                let free = both_trees(alloc, f, b, u)?;
-                node_tree(alloc, p, held, free)
-            }
-            Ordering::Equal => {
-                let held = both_trees(alloc, f, a, c)?;
-                let free = both_trees(alloc, f, b, d)?;
-                node_tree(alloc, p, held, free)
-            }
-            Ordering::Greater => {
-                let held = both_trees(alloc, f, t, c)?;
-                let free = both_trees(alloc, f, t, d)?;
-                node_tree(alloc, q, held, free)
-            }
+            Ordering::Less => node(alloc, p, both(alloc, f, a, u)?, both(alloc, f, b, u)?),
+            Ordering::Equal => node(alloc, p, both(alloc, f, a, c)?, both(alloc, f, b, d)?),
+            Ordering::Greater => node(alloc, q, both(alloc, f, t, c)?, both(alloc, f, t, d)?),
         },
     }
 }
@@ -109,9 +95,7 @@ pub(crate) fn both_trees(alloc: Global, f: Pair, t: &Tree, u: &Tree) -> Result<T
 fn lifted(alloc: Global, p: &Path, t: &Tree) -> Result<Tree, NoMemory>
     ensures { IfOk result (λ r. cond_of r ≡ node p.now (cond_of t.now) (each_leaf lift_of (cond_of t.now))) }
 {
-    let held = t.copy(alloc)?;
-    let free = each_tree(alloc, Single::Lift, t)?;
-    node_tree(alloc, p, held, free)
+    node(alloc, p, t.copy(alloc)?, each_tree(alloc, Single::Lift, t)?)
 }
 
 // A synchronized part on the path.
@@ -123,11 +107,7 @@ pub(crate) fn sync_in(alloc: Global, p: &Path, t: &Tree) -> Result<Tree, NoMemor
         Tree::Test(q, a, b) => match order(p, q) {
             Ordering::Less => lifted(alloc, p, t),
             Ordering::Equal => lifted(alloc, p, a),
-            Ordering::Greater => {
-                let held = sync_in(alloc, p, a)?;
-                let free = sync_in(alloc, p, b)?;
-                node_tree(alloc, q, held, free)
-            }
+            Ordering::Greater => node(alloc, q, sync_in(alloc, p, a)?, sync_in(alloc, p, b)?),
         },
     }
 }
@@ -136,13 +116,11 @@ pub(crate) fn sync_in(alloc: Global, p: &Path, t: &Tree) -> Result<Tree, NoMemor
 fn chosen(alloc: Global, p: &Path, t: &Tree, u: &Tree) -> Result<Tree, NoMemory>
     ensures { IfOk result (λ r. cond_of r ≡ node p.now (cond_of t.now) (cond_of u.now)) }
 {
-    let held = t.copy(alloc)?;
-    let free = u.copy(alloc)?;
-    node_tree(alloc, p, held, free)
+    node(alloc, p, t.copy(alloc)?, u.copy(alloc)?)
 }
 
 // The first tree where the path is held, else the second.
-pub(crate) fn hold_in(alloc: Global, p: &Path, t: &Tree, u: &Tree) -> Result<Tree, NoMemory>
+pub(crate) fn hold(alloc: Global, p: &Path, t: &Tree, u: &Tree) -> Result<Tree, NoMemory>
     ensures { IfOk result (λ r. cond_of r ≡ hold p.now (cond_of t.now) (cond_of u.now)) }
 {
     match (t, u) {
@@ -150,48 +128,28 @@ pub(crate) fn hold_in(alloc: Global, p: &Path, t: &Tree, u: &Tree) -> Result<Tre
         (Tree::Leaf(_), Tree::Test(r, c, d)) => match order(p, r) {
             Ordering::Less => chosen(alloc, p, t, u),
             Ordering::Equal => chosen(alloc, p, t, d),
-            Ordering::Greater => {
-                let held = hold_in(alloc, p, t, c)?;
-                let free = hold_in(alloc, p, t, d)?;
-                node_tree(alloc, r, held, free)
-            }
+            Ordering::Greater => node(alloc, r, hold(alloc, p, t, c)?, hold(alloc, p, t, d)?),
         },
         (Tree::Test(q, a, b), Tree::Leaf(_)) => match order(p, q) {
             Ordering::Less => chosen(alloc, p, t, u),
             Ordering::Equal => chosen(alloc, p, a, u),
-            Ordering::Greater => {
-                let held = hold_in(alloc, p, a, u)?;
-                let free = hold_in(alloc, p, b, u)?;
-                node_tree(alloc, q, held, free)
-            }
+            Ordering::Greater => node(alloc, q, hold(alloc, p, a, u)?, hold(alloc, p, b, u)?),
         },
         (Tree::Test(q, a, b), Tree::Test(r, c, d)) => match order(q, r) {
             Ordering::Less => match order(p, q) {
                 Ordering::Less => chosen(alloc, p, t, u),
                 Ordering::Equal => chosen(alloc, p, a, u),
-                Ordering::Greater => {
-                    let held = hold_in(alloc, p, a, u)?;
-                    let free = hold_in(alloc, p, b, u)?;
-                    node_tree(alloc, q, held, free)
-                }
+                Ordering::Greater => node(alloc, q, hold(alloc, p, a, u)?, hold(alloc, p, b, u)?),
             },
             Ordering::Equal => match order(p, q) {
                 Ordering::Less => chosen(alloc, p, t, u),
                 Ordering::Equal => chosen(alloc, p, a, d),
-                Ordering::Greater => {
-                    let held = hold_in(alloc, p, a, c)?;
-                    let free = hold_in(alloc, p, b, d)?;
-                    node_tree(alloc, q, held, free)
-                }
+                Ordering::Greater => node(alloc, q, hold(alloc, p, a, c)?, hold(alloc, p, b, d)?),
             },
             Ordering::Greater => match order(p, r) {
                 Ordering::Less => chosen(alloc, p, t, u),
                 Ordering::Equal => chosen(alloc, p, t, d),
-                Ordering::Greater => {
-                    let held = hold_in(alloc, p, t, c)?;
-                    let free = hold_in(alloc, p, t, d)?;
-                    node_tree(alloc, r, held, free)
-                }
+                Ordering::Greater => node(alloc, r, hold(alloc, p, t, c)?, hold(alloc, p, t, d)?),
             },
         },
     }
@@ -219,7 +177,7 @@ fn hold_partners_in(
         Some((pair, rest)) => {
             let others = hold_partners_in(alloc, rest, q, t, u)?;
             match &pair.1 {
-                Some(partner) if pair.0.same(q) => hold_in(alloc, partner, t, &others),
+                Some(partner) if pair.0.same(q) => hold(alloc, partner, t, &others),
                 _ => Ok(others),
             }
         }
@@ -242,7 +200,7 @@ pub(crate) fn rename_in(
             if names(pairs, q) {
                 return hold_partners_in(alloc, pairs, q, &held, &free);
             }
-            hold_in(alloc, q, &held, &free)
+            hold(alloc, q, &held, &free)
         }
     }
 }

@@ -2,9 +2,7 @@
 ghost use Rattle.std.specs.Prelude.{◌≡◌};
 ghost use Rattle.aj_cond.specs.Conditions.{cond_of, value_of, IsCanonical};
 
-use crate::operations::{
-    Pair, Single, at_in, below_in, both_trees, each_tree, hold_in, rename_in, sync_in,
-};
+use crate::operations::{Pair, Single, at_in, below_in, both, each_tree, hold, rename_in, sync_in};
 use crate::tree::Tree;
 use aj_algebra::{Algebra, Basic};
 use aj_paths::{Path, Renaming};
@@ -32,15 +30,15 @@ impl Algebra for Trees {
     }
 
     fn held_or(&mut self, alloc: Global, p: &Path, a: &Tree, b: &Tree) -> Result<Tree, NoMemory> {
-        hold_in(alloc, p, a, b)
+        hold(alloc, p, a, b)
     }
 
     fn seq(&mut self, alloc: Global, a: &Tree, b: &Tree) -> Result<Tree, NoMemory> {
-        both_trees(alloc, Pair::Seq, a, b)
+        both(alloc, Pair::Seq, a, b)
     }
 
     fn join(&mut self, alloc: Global, a: &Tree, b: &Tree) -> Result<Tree, NoMemory> {
-        both_trees(alloc, Pair::Join, a, b)
+        both(alloc, Pair::Join, a, b)
     }
 
     fn star(&mut self, alloc: Global, a: &Tree) -> Result<Tree, NoMemory> {
