@@ -26,6 +26,7 @@ mod tests {
         let mover = trees.leaf(alloc, Basic::Mover)?;
         let atomic = trees.leaf(alloc, Basic::Atomic)?;
         let locked = trees.held_or(alloc, &this, &mover, &atomic)?;
+        assert!(rt; trees.below(&locked, &atomic) && !trees.below(&atomic, &locked));
         let cases = [
             (locked.copy(alloc)?, "(0 mover atomic)"),
             (trees.sync(alloc, &this, &constant)?, "(0 const atomic)"),
@@ -39,7 +40,6 @@ mod tests {
             assert_eq!(rt; tree_text(alloc, tree)?.as_str(), *text);
         }
         assert!(rt; cases[1].0.same(&cases[2].0));
-        assert!(rt; trees.below(&locked, &atomic) && !trees.below(&atomic, &locked));
         Ok(())
     }
 
@@ -53,6 +53,11 @@ mod tests {
         let error = trees.leaf(alloc, Basic::Error)?;
         let guarded = trees.held_or(alloc, &lock, &mover, &error)?;
         let locked = trees.sync(alloc, &this, &mover)?;
+        assert_eq!(rt;
+            trees.at(&guarded, &[this.copy(), lock.copy()]),
+            Basic::Mover
+        );
+        assert_eq!(rt; trees.at(&guarded, &[this.copy()]), Basic::Error);
         let kept = Renaming {
             pairs: vec![in alloc; (lock.copy(), Some(this.copy()))]?,
         };
@@ -76,8 +81,6 @@ mod tests {
         for (tree, text) in &cases {
             assert_eq!(rt; tree_text(alloc, tree)?.as_str(), *text);
         }
-        assert_eq!(rt; trees.at(&guarded, &[lock]), Basic::Mover);
-        assert_eq!(rt; trees.at(&guarded, &[this]), Basic::Error);
         Ok(())
     }
 }
