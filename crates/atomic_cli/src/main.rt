@@ -1,0 +1,6 @@
+//! The program `atomic`.
+#![tactic(auto)]
+
+mod small;
+
+fn main(_rt: HostRuntime) {}
