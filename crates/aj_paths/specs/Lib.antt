@@ -1,0 +1,3 @@
+-- What the contracts of lock paths cite.
+pub mod Paths
+pub mod Renamings
