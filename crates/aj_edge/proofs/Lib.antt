@@ -1,0 +1,3 @@
+-- The lemmas that several proofs share.
+mod PieceLemmas
+mod FileLemmas

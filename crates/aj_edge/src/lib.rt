@@ -1,0 +1,19 @@
+//! Reading files whole and writing bytes out, over folders and sinks that may fail, and give or take few bytes a call.
+//!
+//! A folder may tell the bytes of its files and a sink the bytes that it holds: contracts speak of those. `MemFolder` and
+//! `MemSink` tell them; `FileFolder` and `OutSink`, over real files and standard output, tell none.
+#![tactic(auto)]
+
+mod adapters;
+mod folders;
+mod memory_folder;
+mod memory_sink;
+mod sinks;
+mod transfer;
+
+pub use adapters::{FileFolder, OutSink};
+pub use folders::{Failed, Folder};
+pub use memory_folder::MemFolder;
+pub use memory_sink::MemSink;
+pub use sinks::Sink;
+pub use transfer::{Fault, ReadEnd, read_file, write_all};
