@@ -1,0 +1,4 @@
+pub mod Closing
+pub mod Numbers
+pub mod Fronts
+pub mod Lexing

@@ -1,0 +1,1 @@
+use Rattle.aj_lexer.proofs.Fronts.{found_longest}
