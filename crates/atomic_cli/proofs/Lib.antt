@@ -3,4 +3,8 @@ pub mod ViewLemmas
 pub mod Options
 pub mod Statements
 pub mod Repeat
+pub mod Basics
+pub mod Tables
+pub mod FirstBroken
+pub mod Distinct
 pub mod Members

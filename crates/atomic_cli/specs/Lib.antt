@@ -3,3 +3,7 @@ pub mod Small
 pub mod Views
 pub mod Reading
 pub mod Gives
+pub mod Rules
+pub mod Lines
+pub mod Answer
+pub mod Tables

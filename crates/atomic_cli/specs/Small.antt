@@ -109,23 +109,37 @@ pub record IsClass (shapes : List Shape) (p : Program) : Type 0 where
   pub fields : fields_of members ≡ p.fields
   pub methods : methods_of members ≡ p.methods
 
--- the names differ from each other
+-- each name differs from those before it
+abbrev pub differ_from : List (List ℕ) → List (List ℕ) → Bool
+differ_from before [] = true
+differ_from before (x ∷ xs) = not (list_any (bytes_eq x) before) && differ_from (x ∷ before) xs
+
 abbrev pub are_distinct : List (List ℕ) → Bool
-are_distinct [] = true
-are_distinct (x ∷ xs) = not (list_any (bytes_eq x) xs) && are_distinct xs
+are_distinct names = differ_from [] names
 
 abbrev pub is_main : MethodData → Bool
-is_main m = bytes_eq (codes "main") m.name && not m.requires_this
+is_main m = bytes_eq m.name (codes "main") && not m.requires_this
 
-abbrev pub field_names : Program → List (List ℕ)
-field_names p = map (λ f. f.name) p.fields
+abbrev pub field_names : List FieldData → List (List ℕ)
+field_names = map (λ f. f.name)
 
-abbrev pub is_well_formed_body : List (List ℕ) → Stmts → Bool
-is_well_formed_body names body = stmts_assign names body && nat_le (1 + stmts_height body) 64
+abbrev pub method_names : List MethodData → List (List ℕ)
+method_names = map (λ m. m.name)
+
+-- each number of the body fits an int, and each assigned name is a field
+abbrev pub assigns_fields : List FieldData → MethodData → Bool
+assigns_fields fields m = stmts_assign (field_names fields) m.body
+
+-- field names differ, method names differ, there are at most 32 fields, there is a `main`, and bodies assign to fields
+abbrev pub meets_conditions : Program → Bool
+meets_conditions p =
+    are_distinct (field_names p.fields) && (are_distinct (method_names p.methods) && (nat_le (length p.fields) 32
+    && (list_any is_main p.methods && list_all (assigns_fields p.fields) p.methods)))
+
+-- a body is at most 64 high
+abbrev pub is_low : MethodData → Bool
+is_low m = nat_le (1 + stmts_height m.body) 64
 
 pub record IsWellFormed (p : Program) : Type 0 where
-  pub fields_differ : are_distinct (field_names p) ≡ true
-  pub methods_differ : are_distinct (map (λ m. m.name) p.methods) ≡ true
-  pub few_fields : length p.fields ≤ 32
-  pub has_main : list_any is_main p.methods ≡ true
-  pub bodies : list_all (λ m. is_well_formed_body (field_names p) m.body) p.methods ≡ true
+  pub conditions : meets_conditions p ≡ true
+  pub low_bodies : list_all is_low p.methods ≡ true
