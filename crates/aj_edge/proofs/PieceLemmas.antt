@@ -1,5 +1,5 @@
 -- Pieces put one after another: what was written so far grows, and what was read so far is a front of the file.
-use Rattle.std.proofs.Common.{◌≡◌, ℕ, ◌+◌, ◌-◌, ◌≤◌, ◌<◌, List, [], ◌∷◌, ◌++◌, length, take, drop, Option, Some, None, IfSome, arith, subst, sym, ◌∙◌, ap, append_assoc, length-append, refl}
+use Rattle.std.proofs.Common.{◌≡◌, ℕ, ◌+◌, ◌-◌, ◌≤◌, List, ◌++◌, length, take, drop, Option, Some, None, IfSome, arith, subst, ◌∙◌, ap, append_assoc}
 use Rattle.std.proofs.Math.Seq.{take-add}
 use Rattle.std.proofs.lemmas.Grind.{common_steps}
 use Rattle.std.specs.Io.KnownBytes.{Appends}
@@ -11,13 +11,13 @@ take-rest n xs = grind (arith, common_steps)
 
 -- what was appended grows by a front of the rest
 pub appends_more : (old mid new : Option (List ℕ)) (bytes : List ℕ) (w n : ℕ) →
-  Appends old mid (take w bytes) → Appends mid new (take n (take (length bytes - w) (drop w bytes))) → Appends old new (take (w + n) bytes)
+    Appends old mid (take w bytes) → Appends mid new (take n (take (length bytes - w) (drop w bytes))) → Appends old new (take (w + n) bytes)
 appends_more None mid new bytes w n e f = tt
 appends_more (Some a) None new bytes w n e f = absurd e
 appends_more (Some a) (Some b) None bytes w n e f = absurd f
 appends_more (Some a) (Some b) (Some c) bytes w n e f =
-  let g : c ≡ b ++ take n (drop w bytes) = rw (take-rest w bytes) at f in
-  rw (take-add w n bytes) (cc (append_assoc a (take w bytes) (take n (drop w bytes))))
+    let g : c ≡ b ++ take n (drop w bytes) = rw (take-rest w bytes) at f in
+    rw (take-add w n bytes) (cc (append_assoc a (take w bytes) (take n (drop w bytes))))
 
 -- the length after one chunk more
 pub length_more : (bytes more chunk : List ℕ) (n : ℕ) → more ≡ bytes ++ take n chunk → n ≤ length chunk → length more ≡ length bytes + n
@@ -25,16 +25,16 @@ length_more bytes more chunk n is within = ap length is ∙ grind (arith, common
 
 -- a front of the file grows by the file's bytes that stand behind it
 pub front_more_of : (file bytes more chunk : List ℕ) (place n : ℕ) →
-  place ≡ length bytes → more ≡ bytes ++ take n chunk → bytes ≡ take (length bytes) file → GivesFrom place n chunk file → n ≤ length chunk →
-  more ≡ take (length more) file
+    place ≡ length bytes → more ≡ bytes ++ take n chunk → bytes ≡ take (length bytes) file → GivesFrom place n chunk file → n ≤ length chunk →
+    more ≡ take (length more) file
 front_more_of file bytes more chunk place n at is front given within =
-  let count : length more ≡ length bytes + n = length_more bytes more chunk n is within in
-  let behind : take n chunk ≡ take n (drop (length bytes) file) = subst (λ p. take n chunk ≡ take n (drop p file)) at given.bytes in
-  rw (count, take-add (length bytes) n file) (cc)
+    let count : length more ≡ length bytes + n = length_more bytes more chunk n is within in
+    let behind : take n chunk ≡ take n (drop (length bytes) file) = subst (λ p. take n chunk ≡ take n (drop p file)) at given.bytes in
+    rw (count, take-add (length bytes) n file) (cc)
 
 pub front_more : (old now : Option (List ℕ)) (bytes more chunk : List ℕ) (place n : ℕ) → now ≡ old →
-  place ≡ length bytes → more ≡ bytes ++ take n chunk → IfSome old (λ file. bytes ≡ take (length bytes) file) → IfSome now (GivesFrom place n chunk) → n ≤ length chunk →
-  IfSome old (λ file. more ≡ take (length more) file)
+    place ≡ length bytes → more ≡ bytes ++ take n chunk → IfSome old (λ file. bytes ≡ take (length bytes) file) → IfSome now (GivesFrom place n chunk) → n ≤ length chunk →
+    IfSome old (λ file. more ≡ take (length more) file)
 front_more None now bytes more chunk place n same at is front given within = tt
 front_more (Some file) now bytes more chunk place n same at is front given within =
-  front_more_of file bytes more chunk place n at is front (subst (λ o. IfSome o (GivesFrom place n chunk)) same given) within
+    front_more_of file bytes more chunk place n at is front (subst (λ o. IfSome o (GivesFrom place n chunk)) same given) within

@@ -1,5 +1,5 @@
 -- A folder and a sink that are kept in memory, and how a call changes them.
-use Rattle.std.specs.Prelude.{ℕ, ◌+◌, ◌-◌, ◌^◌, ◌==◌, ◌||◌, ◌&&◌, Bool, List, [], ◌++◌, Option, Some, None, String, Vec, length, take, drop, min, map, find, position, is_none, nat_lt, nat_eq, slice_index, slice_set, string_bytes}
+use Rattle.std.specs.Prelude.{ℕ, ◌+◌, ◌-◌, ◌^◌, ◌==◌, ◌||◌, ◌&&◌, Bool, List, ◌++◌, Option, Some, None, String, Vec, length, drop, min, map, find, position, is_none, nat_lt, slice_index, slice_set, string_bytes}
 use Rattle.std.specs.Global.{Global}
 use Rattle.std.specs.Option.{option_map, option_map_or}
 use Rattle.std.specs.List.{list_any}
@@ -50,7 +50,8 @@ given_count most room place file = min (min most room) (length (drop place file)
 
 -- the folder after one fault more of the file at a place, or of the names without a file
 abbrev pub after_fault_at : FolderInMemory → Option ℕ → FolderInMemory
-after_fault_at s (Some place) = record s { file_faults = slice_set s.file_faults place (next_count (slice_index s.file_faults place)) }
+after_fault_at s (Some place) =
+    record s { file_faults = slice_set s.file_faults place (next_count (slice_index s.file_faults place)) }
 after_fault_at s None = record s { missing_faults = next_count s.missing_faults }
 
 -- the folder after a read of a name that failed

@@ -3,10 +3,10 @@ ghost use Rattle.std.specs.Prelude.{◌≡◌, ◌≤◌, None, length, IfOk};
 
 use crate::{Failed, Folder, Sink};
 use std::fs::File;
+use std::io;
 use std::io::{Print, Read, Seek, SeekFrom, Write};
 use std::marker::Model;
 use std::rt::Files;
-use std::io;
 
 /// The files of the system. It tells no bytes, and keeps one count of faults for all names.
 #[derive(Drop)]

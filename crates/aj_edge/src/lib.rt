@@ -17,3 +17,6 @@ pub use memory_folder::MemFolder;
 pub use memory_sink::MemSink;
 pub use sinks::Sink;
 pub use transfer::{Fault, ReadEnd, read_file, write_all};
+
+#[cfg(test)]
+mod tests;

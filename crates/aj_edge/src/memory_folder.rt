@@ -27,8 +27,14 @@ impl Model for MemFolder {
 
     ghost Value = { FolderInMemory };
 
-    ghost view = { λ s. record { files = stored_files s.files.items; most = s.most; failing = s.failing.items; calls = s.calls;
-        file_faults = s.file_faults.items; missing_faults = s.missing_faults } };
+    ghost view = { λ s. record {
+      files = stored_files s.files.items;
+      most = s.most;
+      failing = s.failing.items;
+      calls = s.calls;
+      file_faults = s.file_faults.items;
+      missing_faults = s.missing_faults;
+    } };
 
     ghost invariant = { λ s. (0 < s.most) × (length s.file_faults.items ≡ length s.files.items) };
 }
@@ -36,14 +42,31 @@ impl Model for MemFolder {
 impl MemFolder {
     /// A folder of these names and contents that gives at most `most` bytes a call. The calls whose numbers, counted
     /// from 1, stand in `fail` fail. A read of a name without a file fails too.
-    pub fn new(alloc: Global, files: Vec<(String, Vec<u8>)>, most: usize, fail: Vec<u64>) -> Result<MemFolder, NoMemory>
+    pub fn new(
+        alloc: Global,
+        files: Vec<(String, Vec<u8>)>,
+        most: usize,
+        fail: Vec<u64>,
+    ) -> Result<MemFolder, NoMemory>
         requires { 1 ≤ most }
         ensures { IfOk result (λ folder. folder ≡ record {
-            files = stored_files files.items; most = most; failing = fail.items; calls = 0;
-            file_faults = replicate (length files.items) 0; missing_faults = 0 }) }
+          files = stored_files files.items;
+          most = most;
+          failing = fail.items;
+          calls = 0;
+          file_faults = replicate (length files.items) 0;
+          missing_faults = 0;
+        }) }
     {
         let file_faults = vec![in alloc; 0; files.len()]?;
-        Ok(MemFolder { files, most, failing: fail, calls: 0, file_faults, missing_faults: 0 })
+        Ok(MemFolder {
+            files,
+            most,
+            failing: fail,
+            calls: 0,
+            file_faults,
+            missing_faults: 0,
+        })
     }
 }
 
@@ -72,14 +95,7 @@ fn find_file<'f>(files: &'f [(String, Vec<u8>)], name: &str) -> Option<(usize, &
 fn first_named(files: &[(String, Vec<u8>)], name: &str) -> Option<usize>
     ensures { result ≡ position (λ f. bytes_eq (string_bytes f.0) name.now) files.now }
 {
-    files.iter().position(|file| is_named(file, name))
-}
-
-/// Whether a file has a name.
-fn is_named(file: &(String, Vec<u8>), name: &str) -> bool
-    ensures { result ≡ bytes_eq (string_bytes file.now.0) name.now }
-{
-    file.0.as_str() == name
+    files.iter().position(|file| file.0.as_str() == name)
 }
 
 /// One fault more of the file at a place.
@@ -120,7 +136,8 @@ impl Folder for MemFolder {
         ensures read { OnOk result (self.new ≡ record self.old { calls = self.old.calls + 1 }) }
 
         // It gives as many bytes as it may, and leaves the rest of the buffer as it was.
-        ensures count { IfOk result (λ n. IfSome (bytes_of self.old.files name.now) (λ file. n ≡ given_count self.old.most (length into.old) at file)) }
+        ensures count { IfOk result (λ n. IfSome (bytes_of self.old.files name.now) (λ file.
+            n ≡ given_count self.old.most (length into.old) at file)) }
         ensures bytes { IfOk result (λ n. IfSome (bytes_of self.old.files name.now) (GivesFrom at n into.new)) }
         ensures rest { IfOk result (λ n. drop n into.new ≡ drop n into.old) }
         ensures untouched { OnErr result (into.new ≡ into.old) }

@@ -24,7 +24,14 @@ impl Model for MemSink {
 
     ghost Value = { SinkInMemory };
 
-    ghost view = { λ s. record { bytes = s.bytes.items; room = s.room; most = s.most; failing = s.failing.items; calls = s.calls; faults = s.faults } };
+    ghost view = { λ s. record {
+      bytes = s.bytes.items;
+      room = s.room;
+      most = s.most;
+      failing = s.failing.items;
+      calls = s.calls;
+      faults = s.faults;
+    } };
 
     ghost invariant = { λ s. (0 < s.most) × (vec_len s.bytes ≤ s.room) × (s.room ≤ vec_capacity s.bytes) };
 }
@@ -35,10 +42,23 @@ impl MemSink {
     pub fn new(alloc: Global, most: usize, fail: Vec<u64>, room: usize) -> Result<MemSink, NoMemory>
         requires { 1 ≤ most }
         ensures { IfOk result (λ sink. sink ≡ record {
-            bytes = []; room = room; most = most; failing = fail.items; calls = 0; faults = 0 }) }
+          bytes = [];
+          room = room;
+          most = most;
+          failing = fail.items;
+          calls = 0;
+          faults = 0;
+        }) }
     {
         let bytes = Vec::with_capacity(alloc, room)?;
-        Ok(MemSink { bytes, room, most, failing: fail, calls: 0, faults: 0 })
+        Ok(MemSink {
+            bytes,
+            room,
+            most,
+            failing: fail,
+            calls: 0,
+            faults: 0,
+        })
     }
 
     /// The bytes written so far.

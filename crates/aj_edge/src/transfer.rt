@@ -37,13 +37,20 @@ impl From<AllocError> for ReadEnd {
 const CHUNK: usize = 4096;
 
 /// Reads the file `name` whole, where it has at most `limit` bytes.
-pub fn read_file<F: Folder>(alloc: Global, folder: &mut F, name: &str, limit: u32) -> Result<Vec<u8>, ReadEnd>
+pub fn read_file<F: Folder>(
+    alloc: Global,
+    folder: &mut F,
+    name: &str,
+    limit: u32,
+) -> Result<Vec<u8>, ReadEnd>
     ensures whole { IfOk result (λ bytes. IfSome (F.told folder.old name.now) (λ file. bytes.items ≡ file)) }
     ensures within { IfOk result (λ bytes. length bytes.items ≤ limit) }
-    ensures too_large { IsErrOf result ReadEnd.TooLarge → IfSome (F.told folder.old name.now) (λ file. limit < length file) }
+    ensures too_large { IsErrOf result ReadEnd.TooLarge →
+        IfSome (F.told folder.old name.now) (λ file. limit < length file) }
 
     // Only a fault changes a count: that of this name rose, or stands at its last value.
-    ensures fault { IsErrOf result ReadEnd.Fault → Rose (F.faults folder.old name.now) (F.faults folder.new name.now) }
+    ensures fault { IsErrOf result ReadEnd.Fault →
+        Rose (F.faults folder.old name.now) (F.faults folder.new name.now) }
     ensures calm { OnOk result ((other : List ℕ) → F.faults folder.new other ≡ F.faults folder.old other) }
     ensures calm_end { IfErr result (λ end. end ≢ ReadEnd.Fault →
         (other : List ℕ) → F.faults folder.new other ≡ F.faults folder.old other) }

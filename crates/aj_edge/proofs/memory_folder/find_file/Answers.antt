@@ -1,7 +1,7 @@
 -- What stands at the place of the name.
-use Rattle.std.proofs.Common.{◌≡◌, ℕ, Some, String, Vec, ◌∙◌, ap, sym}
+use Rattle.std.proofs.Common.{ℕ, Some, String, Vec, ◌∙◌, ap, sym}
 use Rattle.std.specs.Global.{Global}
-use Rattle.aj_edge.specs.InMemory.{stored_files, place_of}
+use Rattle.aj_edge.specs.InMemory.{stored_files}
 use Rattle.aj_edge.proofs.FileLemmas.{bytes_of-stored, bytes_of-None}
 use Rattle.aj_edge.proofs.memory_folder.find_file.Goals as goal
 
@@ -10,4 +10,4 @@ returns-in_default-clause-no_bytes c = bytes_of-None (stored_files c.args.files.
 
 pub returns-clause-bytes : goal.returns-clause-bytes
 returns-clause-bytes c =
-  bytes_of-stored c.args.files.now c.args.name.now c.in-Some.place c.index-files-place.result (sym c.in-Some.ensures) c.index-files-place.is ∙ ap (λ (f : String Global × Vec ℕ Global). Some f.1.items) c.index-files-place.is ∙ ap Some (sym c.as_slice.ensures.value)
+    bytes_of-stored c.args.files.now c.args.name.now c.in-Some.place c.index-files-place.result (sym c.in-Some.ensures) c.index-files-place.is ∙ ap (λ (f : String Global × Vec ℕ Global). Some f.1.items) c.index-files-place.is ∙ ap Some (sym c.as_slice.ensures.value)

@@ -7,4 +7,4 @@ use Rattle.aj_edge.proofs.memory_folder.place_of.Goals as goal
 
 pub returns : goal.returns
 returns c =
-  c.first_named.ensures ∙ sym (position-map (λ f. record { name = string_bytes f.0; bytes = f.1.items }) (λ (f : StoredFile). bytes_eq f.name c.args.name.now) c.args.files.now)
+    c.first_named.ensures ∙ sym (position-map (λ f. record { name = string_bytes f.0; bytes = f.1.items }) (λ (f : StoredFile). bytes_eq f.name c.args.name.now) c.args.files.now)

@@ -7,7 +7,7 @@ invariant-chunks g l = record {
   told : (other : List ℕ) → g.F.Folder.told l.folder other ≡ g.F.Folder.told l.initial.folder other;
   calm : (other : List ℕ) → g.F.Folder.faults l.folder other ≡ g.F.Folder.faults l.initial.folder other;
   counted : g.F.Folder.calls l.folder ≤ g.F.Folder.calls l.initial.folder + length l.bytes.items;
-  bounded : g.F.Folder.calls l.folder ≤ g.F.Folder.calls l.initial.folder + (l.limit + 1)
+  bounded : g.F.Folder.calls l.folder ≤ g.F.Folder.calls l.initial.folder + (l.limit + 1);
 }
 
 abbrev pub decreases-chunks : goal.decreases-chunks

@@ -1,5 +1,5 @@
 -- One piece more was appended.
-use Rattle.std.proofs.Common.{◌≡◌, ◌+◌, ◌≤◌, arith, ◌∙◌}
+use Rattle.std.proofs.Common.{arith, ◌∙◌}
 use Rattle.aj_edge.proofs.PieceLemmas.{appends_more}
 use Rattle.aj_edge.proofs.transfer.write_all.Goals as goal
 
@@ -8,5 +8,5 @@ pieces-preserved g c = record {
   within = omega (arith, c.in-Ok.ensures.bound);
   grew = appends_more (g.K.Sink.written c.args.sink.now) (g.K.Sink.written c.pieces.sink) (g.K.Sink.written c.write.new.self) c.args.bytes.now c.pieces.written c.in-Ok.n c.pieces.invariant.grew c.in-Ok.ensures.appends;
   calm = c.in-Ok.ensures.calm ∙ c.pieces.invariant.calm;
-  counted = omega (arith, c.in-Ok.ensures.counted, c.in-Ok.ensures.some, c.in-Ok.ensures.bound)
+  counted = omega (arith, c.in-Ok.ensures.counted, c.in-Ok.ensures.some, c.in-Ok.ensures.bound);
 }

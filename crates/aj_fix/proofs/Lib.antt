@@ -1,0 +1,3 @@
+-- The lemmas that several proofs share.
+mod AssignmentLemmas
+mod ReachLemmas

@@ -1,0 +1,2 @@
+-- The definitions that the contracts of the least fixpoint cite.
+pub mod Assignments
