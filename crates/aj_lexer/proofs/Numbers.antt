@@ -1,15 +1,15 @@
 -- A number of the source is what `parse` reads as one.
-use Rattle.std.proofs.Common.{◌≡◌, ℕ, ◌<◌, ◌≤◌, ◌==◌, ◌&&◌, Bool, true, false, cond, List, [], ◌∷◌, length, if◌then◌else◌, refl, arith, eqb-true, rules, ap, sym, subst, ◌^◌, nat_lt, Some, None, Err, Result}
+use Rattle.std.proofs.Common.{◌≡◌, ℕ, ◌<◌, ◌==◌, ◌&&◌, Bool, true, false, List, [], ◌∷◌, length, if◌then◌else◌, refl, arith, eqb-true, ap, sym, subst, ◌^◌, nat_lt, Some, None, Err, Result}
 use Rattle.std.proofs.lemmas.Bool.Decides.{nat_tests}
 use Rattle.std.specs.List.{list_all}
 use Rattle.std.specs.Char.{digit_value}
 use Rattle.std.specs.Str.Parse.{IsNumeral, AllDigits, without_leading_plus, ParsesUnsigned, digits_value}
 use Rattle.aj_lexer.specs.Pieces.{is_number, is_digit}
 
-digit_is : (c : ℕ) → is_digit c ≡ true → digit_value c < 10
+pub digit_is : (c : ℕ) → is_digit c ≡ true → digit_value c < 10
 digit_is c h = grind (arith, nat_tests)
 
-both : (a b : Bool) → (a && b) ≡ true → (a ≡ true) × (b ≡ true)
+pub both : (a b : Bool) → (a && b) ≡ true → (a ≡ true) × (b ≡ true)
 both true b h = (refl, h)
 both false b h = absurd (cc)
 
@@ -22,7 +22,7 @@ none_left [] h = refl
 none_left (c ∷ cs) h = absurd (let e : length (c ∷ cs) ≡ 0 = eqb-true (length (c ∷ cs)) 0 h in omega arith)
 
 -- each byte of a number is a digit
-number_digits : (c : ℕ) (cs : List ℕ) (zero : Bool) → (c == 48) ≡ zero → (if zero then length cs == 0 else (is_digit c && list_all is_digit cs)) ≡ true
+pub number_digits : (c : ℕ) (cs : List ℕ) (zero : Bool) → (c == 48) ≡ zero → (if zero then length cs == 0 else (is_digit c && list_all is_digit cs)) ≡ true
     → (is_digit c ≡ true) × (list_all is_digit cs ≡ true)
 number_digits c cs true e h = let z : c ≡ 48 = eqb-true c 48 e in (ap is_digit z, none_left cs h)
 number_digits c cs false e h = both (is_digit c) (list_all is_digit cs) h

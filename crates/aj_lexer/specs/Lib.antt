@@ -1,4 +1,5 @@
 pub mod Pieces
+pub mod Places
 pub mod Reading
 pub mod Reserved
 pub mod Tokens

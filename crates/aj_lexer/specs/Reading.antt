@@ -1,10 +1,13 @@
--- The piece at the start of a text, found by its first bytes.
-use Rattle.std.specs.Prelude.{ℕ, suc, Bool, ◌&&◌, ◌+◌, ◌==◌, nat_lt, List, [], ◌∷◌, length, take, Option, Some, None, option_map, if◌then◌else◌}
+-- What the lexer finds at the start of a text, by its first bytes. No public contract cites this file.
+use Rattle.std.specs.Prelude.{◌≡◌, ℕ, ◌&&◌, ◌+◌, ◌==◌, nat_lt, List, [], ◌∷◌, length, take, Option, Some, None, Ok, option_map, if◌then◌else◌}
 use Rattle.std.specs.List.{prefix_len}
 use Rattle.aj_lexer.specs.declared.pieces.Piece.{Piece}
 use Rattle.aj_lexer.specs.declared.pieces.Piece.TheVariants.{Blanks, Comment, OpenComment, Word, Number, Sign}
 use Rattle.aj_lexer.specs.declared.pieces.Front.{Front}
+use Rattle.aj_lexer.specs.declared.tokens.Token.{Token}
+use Rattle.aj_lexer.specs.declared.tokens.TokenKind.{TokenKind}
 use Rattle.aj_lexer.specs.Pieces.{is_blank, is_letter, is_digit, is_word_byte, is_in_line, is_sign, starts_close}
+use Rattle.aj_lexer.specs.Tokens.{Longest, meaning}
 
 abbrev pub front_of : Piece → ℕ → Front
 front_of kind len = record { kind = kind; len = len }
@@ -50,3 +53,14 @@ front (c ∷ cs) =
     else (if c == 47
     then Some (slash_front cs)
     else sign_front (c ∷ cs)))))
+
+-- the text is a piece with this meaning, and then the rest
+pub record IsCut (text : List ℕ) (at : ℕ) (means : Option TokenKind) (bytes rest : List ℕ) : Type 0 where
+  pub kind : Piece
+  pub longest : Longest text bytes rest kind
+  pub is_meant : meaning kind bytes at ≡ Ok means
+
+-- the tokens that a piece gives: one or none
+abbrev pub tokens_of : Option TokenKind → List ℕ → ℕ → List Token
+tokens_of None bytes at = []
+tokens_of (Some kind) bytes at = record { kind = kind; text = bytes; at = at } ∷ []

@@ -1,5 +1,5 @@
 -- The tokens of a source, and its first fault: a whole text is cut from the left into slices, each the longest piece that begins there.
-use Rattle.std.specs.Prelude.{◌≡◌, ℕ, ◌+◌, ◌<◌, ◌≤◌, true, nat_lt, List, [], ◌∷◌, ◌++◌, length, Option, Some, None, Result, Ok, Err, if◌then◌else◌}
+use Rattle.std.specs.Prelude.{◌≡◌, ℕ, ◌+◌, ◌<◌, ◌≤◌, true, nat_lt, List, [], ◌∷◌, ◌++◌, length, take, drop, Option, Some, None, Result, Ok, Err, if◌then◌else◌}
 use Rattle.std.specs.Str.Parse.{digits_value}
 use Rattle.aj_lexer.specs.declared.pieces.Piece.{Piece}
 use Rattle.aj_lexer.specs.declared.pieces.Piece.TheVariants as piece
@@ -60,13 +60,22 @@ pub data FaultFrom : List ℕ → ℕ → LexFault → Type 0 where
 abbrev pub FirstFault : List ℕ → LexFault → Type 0
 FirstFault text its = FaultFrom text 0 its
 
--- the text is a piece with this meaning, and then the rest
-pub record IsCut (text : List ℕ) (at : ℕ) (means : Option TokenKind) (bytes rest : List ℕ) : Type 0 where
-  pub kind : Piece
-  pub longest : Longest text bytes rest kind
-  pub is_meant : meaning kind bytes at ≡ Ok means
+-- blanks and comments, or nothing
+pub data Gap : List ℕ → Type 0 where
+  no_gap : Gap []
+  after_blanks : (bytes rest : List ℕ) → is_piece piece.Blanks bytes ≡ true → Gap rest → Gap (bytes ++ rest)
+  after_comment : (bytes rest : List ℕ) → is_piece piece.Comment bytes ≡ true → Gap rest → Gap (bytes ++ rest)
 
--- the tokens that a piece gives: one or none
-abbrev pub tokens_of : Option TokenKind → List ℕ → ℕ → List Token
-tokens_of None bytes at = []
-tokens_of (Some kind) bytes at = record { kind = kind; text = bytes; at = at } ∷ []
+-- from an offset on, the text is these tokens in turn, each at its offset, with gaps before, between and after them
+abbrev pub LaidFrom : List ℕ → ℕ → List Token → Type 0
+LaidFrom text at [] = Gap text
+LaidFrom text at (t ∷ ts) = (gap rest : List ℕ) × Gap gap × (text ≡ gap ++ (t.text ++ rest)) × (t.at ≡ at + length gap) × LaidFrom rest (t.at + length t.text) ts
+
+-- the token's text is the slice of the source at its offset
+abbrev pub IsSlice : List ℕ → Token → Type 0
+IsSlice text t = (t.at + length t.text ≤ length text) × (take (length t.text) (drop t.at text) ≡ t.text)
+
+-- each token begins where the one before it ends, or later
+abbrev pub Ascend : ℕ → List Token → Type 0
+Ascend from [] = Unit {0}
+Ascend from (t ∷ ts) = (from ≤ t.at) × (0 < length t.text) × Ascend (t.at + length t.text) ts

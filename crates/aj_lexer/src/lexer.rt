@@ -1,20 +1,18 @@
 //! Cuts a source into its tokens.
 
-ghost use Rattle.std.specs.Prelude.{◌≡◌, ◌+◌, ◌<◌, ◌≤◌, ◌++◌, ◌⊎◌, true, List, length, nat_lt, Option, Some, None, Ok, IfOk, IfErr, IfSome, IsErrOf, MatchResult, OnOk, take, drop, if◌then◌else◌};
+ghost use Rattle.std.specs.Prelude.{◌≡◌, ◌+◌, ◌<◌, ◌≤◌, ◌++◌, ◌⊎◌, true, List, length, nat_lt, Option, Some, None, Ok, IfOk, IfErr, IfSome, IsErrOf, MatchResult, OnOk, IsUtf8, take, drop, if◌then◌else◌};
 ghost use Rattle.std.specs.Str.Parse.{digits_value};
 ghost use Rattle.aj_lexer.specs.declared.tokens.Token.{Token};
 ghost use Rattle.aj_lexer.specs.declared.faults.LexFault.{LexFault};
 ghost use Rattle.aj_lexer.specs.Pieces.{is_piece, is_number};
 ghost use Rattle.aj_lexer.specs.Reserved.{is_reserved};
-ghost use Rattle.aj_lexer.specs.Tokens.{word_kind, meaning, Tokens, FirstFault, FaultFrom, Longest, IsCut, tokens_of};
-ghost use Rattle.aj_lexer.specs.declared.faults.LexFault.TheVariants.{NoMemory as OutOfMemory};
-ghost use Rattle.aj_lexer.specs.Reading.{front as find};
-
-use std::alloc::{AllocError as NoMemory, Global};
+ghost use Rattle.aj_lexer.specs.Tokens.{word_kind, meaning, Tokens, FirstFault, FaultFrom, Longest};
+ghost use Rattle.aj_lexer.specs.Reading.{front as find, IsCut, tokens_of};
 
 use crate::faults::LexFault;
 use crate::pieces::{Front, Piece, find_front};
 use crate::tokens::{Text, Token, TokenKind};
+use std::alloc::{AllocError as NoMemory, Global};
 
 /// The greatest number that a source may write.
 const GREATEST_LITERAL: u32 = 2_147_483_648;
@@ -23,11 +21,66 @@ const GREATEST_LITERAL: u32 = 2_147_483_648;
 const LONGEST_WORD: usize = 64;
 
 const RESERVED: [&str; 60] = [
-    "abstract", "assert", "boolean", "break", "byte", "case", "catch", "char", "class", "const", "continue", "default", "do", "double", "else",
-    "enum", "extends", "final", "finally", "float", "for", "goto", "if", "implements", "import", "instanceof", "int", "interface", "long",
-    "native", "new", "package", "private", "protected", "public", "return", "short", "static", "strictfp", "super", "switch", "synchronized",
-    "this", "throw", "throws", "transient", "try", "void", "volatile", "while", "true", "false", "null", "atomic", "guarded_by", "requires",
-    "write_guarded_by", "System", "Thread", "Runnable",
+    "abstract",
+    "assert",
+    "boolean",
+    "break",
+    "byte",
+    "case",
+    "catch",
+    "char",
+    "class",
+    "const",
+    "continue",
+    "default",
+    "do",
+    "double",
+    "else",
+    "enum",
+    "extends",
+    "final",
+    "finally",
+    "float",
+    "for",
+    "goto",
+    "if",
+    "implements",
+    "import",
+    "instanceof",
+    "int",
+    "interface",
+    "long",
+    "native",
+    "new",
+    "package",
+    "private",
+    "protected",
+    "public",
+    "return",
+    "short",
+    "static",
+    "strictfp",
+    "super",
+    "switch",
+    "synchronized",
+    "this",
+    "throw",
+    "throws",
+    "transient",
+    "try",
+    "void",
+    "volatile",
+    "while",
+    "true",
+    "false",
+    "null",
+    "atomic",
+    "guarded_by",
+    "requires",
+    "write_guarded_by",
+    "System",
+    "Thread",
+    "Runnable",
 ];
 
 fn is_reserved(word: &str) -> bool
@@ -50,7 +103,11 @@ fn literal(digits: &str) -> Option<u32>
 fn word_kind(word: &str) -> TokenKind
     ensures { result ≡ word_kind word.now }
 {
-    if is_reserved(word) { TokenKind::Word } else { TokenKind::Name }
+    if is_reserved(word) {
+        TokenKind::Word
+    } else {
+        TokenKind::Name
+    }
 }
 
 /// What a piece at an offset means: no token, a token of some kind, or a fault.
@@ -94,6 +151,7 @@ fn first_cut(text: &str, at: u32) -> Result<Cut<'_>, LexFault>
     requires some { 0 < length text.now }
     requires small { length text.now ≤ 262144 }
     ensures cut { IfOk result (λ c. IsCut text.now at c.token c.piece.now c.rest.now) }
+    ensures text { IfOk result (λ c. IsUtf8 c.rest.now) }
     ensures fault { IfErr result (FaultFrom text.now at) }
 {
     let Some(front) = find_front(text.as_bytes()) else {
@@ -119,7 +177,7 @@ fn keep(alloc: Global, tokens: &mut Vec<Token>, cut: &Cut<'_>, at: u32) -> Resul
 fn cut_all(alloc: Global, text: &str) -> Result<Vec<Token>, LexFault>
     requires { length text.now ≤ 262144 }
     ensures tokens { IfOk result (λ ts. Tokens text.now ts.items) }
-    ensures fault { IfErr result (λ e. (e ≡ OutOfMemory) ⊎ FirstFault text.now e) }
+    ensures fault { IfErr result (λ e. (e ≡ LexFault.NoMemory) ⊎ FirstFault text.now e) }
 {
     let mut tokens = Vec::new(alloc);
     let mut rest = text;
@@ -131,4 +189,16 @@ fn cut_all(alloc: Global, text: &str) -> Result<Vec<Token>, LexFault>
         rest = cut.rest;
     }
     Ok(tokens)
+}
+
+/// The tokens of a source, or its first fault. Blanks and comments give no token.
+/// Takes memory for the tokens alone, and time linear in the source.
+pub fn lex(alloc: Global, text: &str) -> Result<Vec<Token>, LexFault>
+    requires { length text.now ≤ 262144 }
+    ensures tokens { IfOk result (λ found. Tokens text.now found.items) }
+    ensures tokens_given { (ts : List Token) → Tokens text.now ts → MatchResult result (λ found. found.items ≡ ts) (λ e. e ≡ LexFault.NoMemory) }
+    ensures fault { IfErr result (λ e. (e ≡ LexFault.NoMemory) ⊎ FirstFault text.now e) }
+    ensures fault_told { (its : LexFault) → FirstFault text.now its → MatchResult result (λ _. ⊥) (λ e. (e ≡ LexFault.NoMemory) ⊎ (e ≡ its)) }
+{
+    cut_all(alloc, text)
 }

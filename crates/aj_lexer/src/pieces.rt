@@ -86,7 +86,8 @@ fn is_sign(text: &[u8]) -> bool
     ensures { result ≡ is_sign text.now }
 {
     match text {
-        b"(" | b")" | b"{" | b"}" | b";" | b"," | b"." | b"=" | b"==" | b"!=" | b"<" | b"<=" => true,
+        b"(" | b")" | b"{" | b"}" | b";" | b"," | b"." | b"=" | b"==" | b"!=" | b"<" | b"<=" =>
+            true,
         b">" | b">=" | b"+" | b"-" | b"--" | b"*" | b"/" | b"%" | b"!" | b"&&" | b"||" => true,
         _ => false,
     }
@@ -120,8 +121,14 @@ fn block_front(text: &[u8]) -> Front
     ensures { result ≡ block_front text.now }
 {
     match close_end(text) {
-        Some(end) => Front { kind: Piece::Comment, len: 2 + end },
-        None => Front { kind: Piece::OpenComment, len: 2 + text.len() },
+        Some(end) => Front {
+            kind: Piece::Comment,
+            len: 2 + end,
+        },
+        None => Front {
+            kind: Piece::OpenComment,
+            len: 2 + text.len(),
+        },
     }
 }
 
@@ -131,9 +138,15 @@ fn slash_front(text: &[u8]) -> Front
     ensures { result ≡ slash_front text.now }
 {
     match text {
-        [b'/', rest @ ..] => Front { kind: Piece::Comment, len: 2 + rest_of_line(rest) },
+        [b'/', rest @ ..] => Front {
+            kind: Piece::Comment,
+            len: 2 + rest_of_line(rest),
+        },
         [b'*', rest @ ..] => block_front(rest),
-        _ => Front { kind: Piece::Sign, len: 1 },
+        _ => Front {
+            kind: Piece::Sign,
+            len: 1,
+        },
     }
 }
 
@@ -141,9 +154,15 @@ fn sign_front(text: &[u8]) -> Option<Front>
     ensures { result ≡ sign_front text.now }
 {
     if 1 < text.len() && is_sign(&text[..2]) {
-        Some(Front { kind: Piece::Sign, len: 2 })
+        Some(Front {
+            kind: Piece::Sign,
+            len: 2,
+        })
     } else if !text.is_empty() && is_sign(&text[..1]) {
-        Some(Front { kind: Piece::Sign, len: 1 })
+        Some(Front {
+            kind: Piece::Sign,
+            len: 1,
+        })
     } else {
         None
     }
@@ -156,13 +175,25 @@ pub fn find_front(text: &[u8]) -> Option<Front>
 {
     let (first, rest) = text.split_first()?;
     if is_blank(*first) {
-        Some(Front { kind: Piece::Blanks, len: 1 + blanks(rest) })
+        Some(Front {
+            kind: Piece::Blanks,
+            len: 1 + blanks(rest),
+        })
     } else if is_letter(*first) {
-        Some(Front { kind: Piece::Word, len: 1 + word_bytes(rest) })
+        Some(Front {
+            kind: Piece::Word,
+            len: 1 + word_bytes(rest),
+        })
     } else if *first == b'0' {
-        Some(Front { kind: Piece::Number, len: 1 })
+        Some(Front {
+            kind: Piece::Number,
+            len: 1,
+        })
     } else if is_digit(*first) {
-        Some(Front { kind: Piece::Number, len: 1 + digits(rest) })
+        Some(Front {
+            kind: Piece::Number,
+            len: 1 + digits(rest),
+        })
     } else if *first == b'/' {
         Some(slash_front(rest))
     } else {

@@ -21,6 +21,8 @@ pub fn utf8_text(bytes: &[u8]) -> Result<&str, NotText>
 {
     match str::from_utf8(bytes) {
         Ok(text) => Ok(text),
-        Err(error) => Err(NotText { at: error.valid_up_to() as u32 }),
+        Err(error) => Err(NotText {
+            at: error.valid_up_to() as u32,
+        }),
     }
 }
