@@ -1,5 +1,5 @@
 // The five basic atomicities and their operations.
-ghost use Rattle.std.specs.Prelude.{◌≡◌};
+ghost use Rattle.std.specs.Prelude.{◌≡◌, Some};
 ghost use Rattle.aj_algebra.specs.Basics.{rank_of, seq_of, join_of, star_of, lift_of, below_of, name_of};
 
 use std::fmt;
@@ -92,6 +92,8 @@ impl Basic {
 }
 
 impl fmt::Display for Basic {
+    ghost output = { λ b. Some (name_of b) };
+
     fn fmt<W: fmt::Write>(&self, f: &mut fmt::Formatter<W>) -> fmt::Result {
         f.write_str(self.name())
     }

@@ -1,0 +1,11 @@
+-- Lemmas on conditional atomicities.
+pub mod PathLemmas
+pub mod CondLemmas
+pub mod SameValues
+pub mod NodeLemmas
+pub mod LeafLemmas
+pub mod HoldLemmas
+pub mod RenameLemmas
+pub mod SyncLemmas
+pub mod BelowLemmas
+pub mod AlgebraLemmas
