@@ -7,4 +7,9 @@ pub mod Basics
 pub mod Tables
 pub mod FirstBroken
 pub mod Distinct
+pub mod Reports
+pub mod Classes
+pub mod Answers
+pub mod Words
+pub mod Runs
 pub mod Members

@@ -15,23 +15,25 @@ AreLow (MethodM m ∷ ms) = (stmts_height m.body ≤ 63) × AreLow ms
 
 optional_sound : (text : List ℕ) (xs : List Shape) (y : Bool × List Shape) → optional text xs ≡ Some y → xs ≡ when y.0 (WordOf text ∷ []) ++ y.1
 optional_sound text xs y e =
-    elim (starts (is_word text) xs) as (λ b. (if b then and_so (word text xs) (λ a. Some (true, a)) else Some (false, xs)) ≡ Some y → xs ≡ when y.0 (WordOf text ∷ []) ++ y.1)
-      [ true ↦ λ g. (let k = chain (word text xs) (λ a. Some (true, a)) y g in
-                     let w = word_is text xs k.0 k.1 in
-                     let p : (true, k.0) ≡ y = cc (k.2) in
-                     subst (λ v. xs ≡ when v.0 (WordOf text ∷ []) ++ v.1) p w)
-      | false ↦ λ g. (let p : (false, xs) ≡ y = cc in subst (λ v. xs ≡ when v.0 (WordOf text ∷ []) ++ v.1) p refl) ] e
+    elim (starts (is_word text) xs) as (λ b. (if b then and_so (word text xs) (λ a. Some (true, a)) else Some (false, xs)) ≡ Some y → xs ≡ when y.0 (WordOf text ∷ []) ++ y.1) [
+      | true ↦ λ g. (let k = chain (word text xs) (λ a. Some (true, a)) y g in
+          let w = word_is text xs k.0 k.1 in
+          let p : (true, k.0) ≡ y = cc (k.2) in
+          subst (λ v. xs ≡ when v.0 (WordOf text ∷ []) ++ v.1) p w)
+      | false ↦ λ g. (let p : (false, xs) ≡ y = cc in subst (λ v. xs ≡ when v.0 (WordOf text ∷ []) ++ v.1) p refl)
+    ] e
 
 optional_this_sound : (text : List ℕ) (xs : List Shape) (y : Bool × List Shape) → optional_this text xs ≡ Some y → xs ≡ when y.0 (WordOf text ∷ WordOf (codes "this") ∷ []) ++ y.1
 optional_this_sound text xs y e =
-    elim (starts (is_word text) xs) as (λ b. (if b then and_so (and_so (word text xs) (word (codes "this"))) (λ a. Some (true, a)) else Some (false, xs)) ≡ Some y → xs ≡ when y.0 (WordOf text ∷ WordOf (codes "this") ∷ []) ++ y.1)
-      [ true ↦ λ g. (let k = chain (and_so (word text xs) (word (codes "this"))) (λ a. Some (true, a)) y g in
-                     let j = chain (word text xs) (word (codes "this")) k.0 k.1 in
-                     let w = word_is text xs j.0 j.1 in
-                     let v = word_is (codes "this") j.0 k.0 j.2 in
-                     let p : (true, k.0) ≡ y = cc (k.2) in
-                     subst (λ z. xs ≡ when z.0 (WordOf text ∷ WordOf (codes "this") ∷ []) ++ z.1) p (w ∙ ap (λ z. WordOf text ∷ z) v))
-      | false ↦ λ g. (let p : (false, xs) ≡ y = cc in subst (λ z. xs ≡ when z.0 (WordOf text ∷ WordOf (codes "this") ∷ []) ++ z.1) p refl) ] e
+    elim (starts (is_word text) xs) as (λ b. (if b then and_so (and_so (word text xs) (word (codes "this"))) (λ a. Some (true, a)) else Some (false, xs)) ≡ Some y → xs ≡ when y.0 (WordOf text ∷ WordOf (codes "this") ∷ []) ++ y.1) [
+      | true ↦ λ g. (let k = chain (and_so (word text xs) (word (codes "this"))) (λ a. Some (true, a)) y g in
+          let j = chain (word text xs) (word (codes "this")) k.0 k.1 in
+          let w = word_is text xs j.0 j.1 in
+          let v = word_is (codes "this") j.0 k.0 j.2 in
+          let p : (true, k.0) ≡ y = cc (k.2) in
+          subst (λ z. xs ≡ when z.0 (WordOf text ∷ WordOf (codes "this") ∷ []) ++ z.1) p (w ∙ ap (λ z. WordOf text ∷ z) v))
+      | false ↦ λ g. (let p : (false, xs) ≡ y = cc in subst (λ z. xs ≡ when z.0 (WordOf text ∷ WordOf (codes "this") ∷ []) ++ z.1) p refl)
+    ] e
 
 field_sound : (xs : List Shape) (y : FieldData × List Shape) → field xs ≡ Some y → xs ≡ field_shapes y.0 ++ y.1
 field_sound xs y e =
@@ -48,12 +50,12 @@ field_sound xs y e =
     let guard = when c.0.0 (WordOf (codes "guarded_by") ∷ WordOf (codes "this") ∷ []) in
     let tail : guard ++ (SignOf (codes ";") ∷ d.0) ≡ (guard ++ (SignOf (codes ";") ∷ [])) ++ d.0 = sym (append_assoc guard (SignOf (codes ";") ∷ []) d.0) in
     subst (λ v. xs ≡ field_shapes v.0 ++ v.1) ey
-      (ea ∙ ap (λ v. WordOf (codes "int") ∷ v) (eb ∙ ap (λ v. NameOf b.0.0 ∷ v) (ec ∙ ap (λ v. guard ++ v) ed ∙ tail)))
+    (ea ∙ ap (λ v. WordOf (codes "int") ∷ v) (eb ∙ ap (λ v. NameOf b.0.0 ∷ v) (ec ∙ ap (λ v. guard ++ v) ed ∙ tail)))
 
 -- the shapes of a method whose parts are given one by one
 parts : (note : List Shape) (name : List ℕ) (needs body rest : List Shape)
     → note ++ (WordOf (codes "void") ∷ NameOf name ∷ SignOf (codes "(") ∷ SignOf (codes ")") ∷ needs ++ (SignOf (codes "{") ∷ body ++ (SignOf (codes "}") ∷ rest)))
-      ≡ (note ++ (WordOf (codes "void") ∷ NameOf name ∷ SignOf (codes "(") ∷ SignOf (codes ")") ∷ needs ++ (SignOf (codes "{") ∷ body ++ (SignOf (codes "}") ∷ [])))) ++ rest
+    ≡ (note ++ (WordOf (codes "void") ∷ NameOf name ∷ SignOf (codes "(") ∷ SignOf (codes ")") ∷ needs ++ (SignOf (codes "{") ∷ body ++ (SignOf (codes "}") ∷ [])))) ++ rest
 parts note name needs body rest =
     let inner : SignOf (codes "{") ∷ body ++ (SignOf (codes "}") ∷ rest) ≡ (SignOf (codes "{") ∷ body ++ (SignOf (codes "}") ∷ [])) ++ rest = ap (λ v. SignOf (codes "{") ∷ v) (sym (append_assoc body (SignOf (codes "}") ∷ []) rest)) in
     let middle : needs ++ (SignOf (codes "{") ∷ body ++ (SignOf (codes "}") ∷ rest)) ≡ (needs ++ (SignOf (codes "{") ∷ body ++ (SignOf (codes "}") ∷ []))) ++ rest = ap (λ v. needs ++ v) inner ∙ sym (append_assoc needs (SignOf (codes "{") ∷ body ++ (SignOf (codes "}") ∷ [])) rest) in
@@ -81,8 +83,8 @@ method_sound xs y e =
     let note = when a.0.0 (WordOf (codes "atomic") ∷ []) in
     let needs = when g.0.0 (WordOf (codes "requires") ∷ WordOf (codes "this") ∷ []) in
     let whole : xs ≡ method_shapes m ++ h.0.1 =
-        ea ∙ ap (λ v. note ++ v) (eb ∙ ap (λ v. WordOf (codes "void") ∷ v) (ec ∙ ap (λ v. NameOf c.0.0 ∷ v) (ed ∙ ap (λ v. SignOf (codes "(") ∷ v) (ef ∙ ap (λ v. SignOf (codes ")") ∷ v) (eg ∙ ap (λ v. needs ++ v) eh.0)))))
-        ∙ parts note c.0.0 needs (stmts_shapes (statements h.0.0)) h.0.1 in
+    ea ∙ ap (λ v. note ++ v) (eb ∙ ap (λ v. WordOf (codes "void") ∷ v) (ec ∙ ap (λ v. NameOf c.0.0 ∷ v) (ed ∙ ap (λ v. SignOf (codes "(") ∷ v) (ef ∙ ap (λ v. SignOf (codes ")") ∷ v) (eg ∙ ap (λ v. needs ++ v) eh.0)))))
+    ∙ parts note c.0.0 needs (stmts_shapes (statements h.0.0)) h.0.1 in
     (subst (λ v. xs ≡ method_shapes v.0 ++ v.1) ey whole, subst (λ v. stmts_height v.0.body ≤ 63) ey (omega (arith, eh.1)))
 
 -- the members that the shapes begin with, behind those that were found
@@ -127,24 +129,26 @@ members_method found xs m y e low rest = record {
 member_sound : (found : Program) (xs : List Shape) (z y : Program × List Shape) → member found xs ≡ Some z → SoundMembers z.0 z.1 y → SoundMembers found xs y
 member_sound found xs z y e rest =
     elim (starts (is_word (codes "int")) xs) as (λ b. (if b
-        then and_so (field xs) (λ y. Some (record { fields = found.fields ++ y.0 ∷ []; methods = found.methods }, y.1))
-        else and_so (method xs) (λ y. Some (record { fields = found.fields; methods = found.methods ++ y.0 ∷ [] }, y.1))) ≡ Some z → SoundMembers found xs y)
-      [ true ↦ λ g. (let k = chain (field xs) _ z g in
-                     let p : (record { fields = found.fields ++ k.0.0 ∷ []; methods = found.methods }, k.0.1) ≡ z = cc (k.2) in
-                     members_field found xs k.0 y (field_sound xs k.0 k.1) (subst (λ v. SoundMembers v.0 v.1 y) (sym p) rest))
+    then and_so (field xs) (λ y. Some (record { fields = found.fields ++ y.0 ∷ []; methods = found.methods }, y.1))
+    else and_so (method xs) (λ y. Some (record { fields = found.fields; methods = found.methods ++ y.0 ∷ [] }, y.1))) ≡ Some z → SoundMembers found xs y) [
+      | true ↦ λ g. (let k = chain (field xs) _ z g in
+          let p : (record { fields = found.fields ++ k.0.0 ∷ []; methods = found.methods }, k.0.1) ≡ z = cc (k.2) in
+          members_field found xs k.0 y (field_sound xs k.0 k.1) (subst (λ v. SoundMembers v.0 v.1 y) (sym p) rest))
       | false ↦ λ g. (let k = chain (method xs) _ z g in
-                      let p : (record { fields = found.fields; methods = found.methods ++ k.0.0 ∷ [] }, k.0.1) ≡ z = cc (k.2) in
-                      let s = method_sound xs k.0 k.1 in
-                      members_method found xs k.0 y s.0 s.1 (subst (λ v. SoundMembers v.0 v.1 y) (sym p) rest)) ] e
+          let p : (record { fields = found.fields; methods = found.methods ++ k.0.0 ∷ [] }, k.0.1) ≡ z = cc (k.2) in
+          let s = method_sound xs k.0 k.1 in
+          members_method found xs k.0 y s.0 s.1 (subst (λ v. SoundMembers v.0 v.1 y) (sym p) rest))
+    ] e
 
 iterate_sound : (n : ℕ) (found : Program) (xs : List Shape) (y : Program × List Shape) → iterate begins_member member n found xs ≡ Some y → SoundMembers found xs y
 iterate_sound zero found xs y e = members_none found xs y e
 iterate_sound (suc n) found [] y e = members_none found [] y e
 iterate_sound (suc n) found (x ∷ xs) y e =
-    elim (begins_member x) as (λ b. (if b then and_so (member found (x ∷ xs)) (λ z. iterate begins_member member n z.0 z.1) else Some (found, x ∷ xs)) ≡ Some y → SoundMembers found (x ∷ xs) y)
-      [ true ↦ λ g. (let k = chain (member found (x ∷ xs)) (λ z. iterate begins_member member n z.0 z.1) y g in
-                     member_sound found (x ∷ xs) k.0 y k.1 (iterate_sound n k.0.0 k.0.1 y k.2))
-      | false ↦ λ g. members_none found (x ∷ xs) y g ] e
+    elim (begins_member x) as (λ b. (if b then and_so (member found (x ∷ xs)) (λ z. iterate begins_member member n z.0 z.1) else Some (found, x ∷ xs)) ≡ Some y → SoundMembers found (x ∷ xs) y) [
+      | true ↦ λ g. (let k = chain (member found (x ∷ xs)) (λ z. iterate begins_member member n z.0 z.1) y g in
+          member_sound found (x ∷ xs) k.0 y k.1 (iterate_sound n k.0.0 k.0.1 y k.2))
+      | false ↦ λ g. members_none found (x ∷ xs) y g
+    ] e
 
 -- a class that is read has these tokens, and no body is too high
 pub record SoundClass (xs : List Shape) (p : Program) : Type 0 where
@@ -187,8 +191,8 @@ field_complete name false more = refl
 
 method_from_block : (name : List ℕ) (annotated requires_this : Bool) (body : Stmts) (more : List Shape)
     → method (method_shapes (record { name = name; annotated = annotated; requires_this = requires_this; body = body }) ++ more)
-      ≡ and_so (block_with (statement_at room_of_body) (SignOf (codes "{") ∷ (stmts_shapes body ++ (SignOf (codes "}") ∷ [])) ++ more))
-          (λ read. Some (record { name = name; annotated = annotated; requires_this = requires_this; body = statements read.0 }, read.1))
+    ≡ and_so (block_with (statement_at room_of_body) (SignOf (codes "{") ∷ (stmts_shapes body ++ (SignOf (codes "}") ∷ [])) ++ more))
+    (λ read. Some (record { name = name; annotated = annotated; requires_this = requires_this; body = statements read.0 }, read.1))
 method_from_block name true true body more = refl
 method_from_block name true false body more = refl
 method_from_block name false true body more = refl
@@ -254,7 +258,7 @@ member_turns (suc n) found m more b len =
     let further : Option (Program × List Shape) → Option (Program × List Shape) = λ o. and_so o (λ z. iterate begins_member member n z.0 z.1) in
     let whole : member found (b.head ∷ (b.tail ++ more)) ≡ Some (with_member found m, more) = subst (λ v. member found (v ++ more) ≡ Some (with_member found m, more)) b.shapes (b.reads found more) in
     let turn : iterate begins_member member (suc n) found (b.head ∷ (b.tail ++ more)) ≡ iterate begins_member member n (with_member found m) more =
-        ap (λ t. if t then and_so (member found (b.head ∷ (b.tail ++ more))) (λ z. iterate begins_member member n z.0 z.1) else Some (found, b.head ∷ (b.tail ++ more))) b.goes ∙ ap further whole in
+    ap (λ t. if t then and_so (member found (b.head ∷ (b.tail ++ more))) (λ z. iterate begins_member member n z.0 z.1) else Some (found, b.head ∷ (b.tail ++ more))) b.goes ∙ ap further whole in
     let e = ap (λ v. length (v ++ more)) b.shapes in
     let both = length-append b.tail more in
     (n, omega (arith, e, both), subst (λ v. iterate begins_member member (suc n) found (v ++ more) ≡ iterate begins_member member n (with_member found m) more) (sym b.shapes) turn)

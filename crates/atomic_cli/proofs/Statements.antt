@@ -51,11 +51,11 @@ module _ (one : List Shape → Option (Stmt × List Shape)) (h : ℕ) (sound : S
   iterate_sound (suc n) found [] y e = sound_none h found [] y e
   iterate_sound (suc n) found (x ∷ xs) y e =
       let turn : and_so (add_one one found (x ∷ xs)) (λ z. iterate goes_on (add_one one) n z.0 z.1) ≡ Some y → SoundList h found (x ∷ xs) y =
-          λ g. (let k = chain (add_one one found (x ∷ xs)) (λ z. iterate goes_on (add_one one) n z.0 z.1) y g in
-                let s = add_one_sound found (x ∷ xs) k.0 k.1 in
-                sound_more h found (x ∷ xs) s.0 y s.1 s.2 (iterate_sound n _ _ y (subst (λ z. iterate goes_on (add_one one) n z.0 z.1 ≡ Some y) s.3 k.2))) in
+      λ g. (let k = chain (add_one one found (x ∷ xs)) (λ z. iterate goes_on (add_one one) n z.0 z.1) y g in
+      let s = add_one_sound found (x ∷ xs) k.0 k.1 in
+      sound_more h found (x ∷ xs) s.0 y s.1 s.2 (iterate_sound n _ _ y (subst (λ z. iterate goes_on (add_one one) n z.0 z.1 ≡ Some y) s.3 k.2))) in
       elim (goes_on x) as (λ b. (if b then and_so (add_one one found (x ∷ xs)) (λ z. iterate goes_on (add_one one) n z.0 z.1) else Some (found, x ∷ xs)) ≡ Some y → SoundList h found (x ∷ xs) y)
-        [ true ↦ turn | false ↦ λ g. sound_none h found (x ∷ xs) y g ] e
+      [ true ↦ turn | false ↦ λ g. sound_none h found (x ∷ xs) y g ] e
 
   pub statements_sound : (xs : List Shape) (y : List Stmt × List Shape) → statements_with one xs ≡ Some y → (xs ≡ stmts_shapes (statements y.0) ++ y.1) × (stmts_height (statements y.0) ≤ h)
   statements_sound xs y e =
@@ -72,10 +72,11 @@ module _ (one : List Shape → Option (Stmt × List Shape)) (h : ℕ) (sound : S
       let ea = sign_is (codes "{") xs a.0 a.1 in
       let eb = statements_sound a.0 b.0 b.1 in
       let ec = sign_is (codes "}") b.0.1 c.0 c.1 in
-      let ey : (b.0.0, c.0) ≡ y = cc (c.2) in
-      (subst (λ v. xs ≡ SignOf (codes "{") ∷ stmts_shapes (statements v.0) ++ (SignOf (codes "}") ∷ v.1)) ey
-          (ea ∙ ap (λ v. SignOf (codes "{") ∷ v) (eb.0 ∙ ap (λ v. stmts_shapes (statements b.0.0) ++ v) ec)),
-       subst (λ v. stmts_height (statements v.0) ≤ h) ey eb.1)
+      let ey : (b.0.0, c.0) ≡ y = cc (c.2) in (
+        subst (λ v. xs ≡ SignOf (codes "{") ∷ stmts_shapes (statements v.0) ++ (SignOf (codes "}") ∷ v.1)) ey
+            (ea ∙ ap (λ v. SignOf (codes "{") ∷ v) (eb.0 ∙ ap (λ v. stmts_shapes (statements b.0.0) ++ v) ec)),
+        subst (λ v. stmts_height (statements v.0) ≤ h) ey eb.1,
+      )
 
   pub synchronized_sound : (xs : List Shape) (y : Stmt × List Shape) → synchronized_with one xs ≡ Some y → (xs ≡ stmt_shapes y.0 ++ y.1) × (stmt_height y.0 ≤ 2 + h)
   synchronized_sound xs y e =
@@ -92,7 +93,7 @@ module _ (one : List Shape → Option (Stmt × List Shape)) (h : ℕ) (sound : S
       let ey : (SynchronizedS (statements f.0.0), f.0.1) ≡ y = cc (f.2) in
       let tail : stmts_shapes (statements f.0.0) ++ (SignOf (codes "}") ∷ f.0.1) ≡ (stmts_shapes (statements f.0.0) ++ (SignOf (codes "}") ∷ [])) ++ f.0.1 = sym (append_assoc (stmts_shapes (statements f.0.0)) (SignOf (codes "}") ∷ []) f.0.1) in
       let whole : xs ≡ stmt_shapes (SynchronizedS (statements f.0.0)) ++ f.0.1 =
-          ea ∙ ap (λ v. WordOf (codes "synchronized") ∷ v) (eb ∙ ap (λ v. SignOf (codes "(") ∷ v) (ec ∙ ap (λ v. WordOf (codes "this") ∷ v) (ed ∙ ap (λ v. SignOf (codes ")") ∷ v) (ef.0 ∙ ap (λ v. SignOf (codes "{") ∷ v) tail)))) in
+      ea ∙ ap (λ v. WordOf (codes "synchronized") ∷ v) (eb ∙ ap (λ v. SignOf (codes "(") ∷ v) (ec ∙ ap (λ v. WordOf (codes "this") ∷ v) (ed ∙ ap (λ v. SignOf (codes ")") ∷ v) (ef.0 ∙ ap (λ v. SignOf (codes "{") ∷ v) tail)))) in
       let low : stmt_height (SynchronizedS (statements f.0.0)) ≤ 2 + h = omega (arith, ef.1) in
       (subst (λ v. xs ≡ stmt_shapes v.0 ++ v.1) ey whole, subst (λ v. stmt_height v.0 ≤ 2 + h) ey low)
 
@@ -112,7 +113,7 @@ assignment_sound h xs y e =
     let eg = sign_is (codes ";") f.0.1 g.0 g.1 in
     let ey : (AssignS c.0.0 f.0.0, g.0) ≡ y = cc (g.2) in
     let whole : xs ≡ stmt_shapes (AssignS c.0.0 f.0.0) ++ g.0 =
-        ea ∙ ap (λ v. WordOf (codes "this") ∷ v) (eb ∙ ap (λ v. SignOf (codes ".") ∷ v) (ec ∙ ap (λ v. NameOf c.0.0 ∷ v) (ed ∙ ap (λ v. SignOf (codes "=") ∷ v) (ef ∙ ap (λ v. NumberOf f.0.0 ∷ v) eg)))) in
+    ea ∙ ap (λ v. WordOf (codes "this") ∷ v) (eb ∙ ap (λ v. SignOf (codes ".") ∷ v) (ec ∙ ap (λ v. NameOf c.0.0 ∷ v) (ed ∙ ap (λ v. SignOf (codes "=") ∷ v) (ef ∙ ap (λ v. NumberOf f.0.0 ∷ v) eg)))) in
     let low : stmt_height (AssignS c.0.0 f.0.0) ≤ 2 + h = omega arith in
     (subst (λ v. xs ≡ stmt_shapes v.0 ++ v.1) ey whole, subst (λ v. stmt_height v.0 ≤ 2 + h) ey low)
 
@@ -122,8 +123,8 @@ statement_sound zero xs y e = absurd (cc)
 statement_sound (suc room) xs y e =
     let twice : 2 + 2 * room ≡ 2 * suc room = omega arith in
     let both : (xs ≡ stmt_shapes y.0 ++ y.1) × (stmt_height y.0 ≤ 2 + 2 * room) =
-        elim (starts (is_word (codes "this")) xs) as (λ b. (if b then assignment xs else synchronized_with (statement_at room) xs) ≡ Some y → (xs ≡ stmt_shapes y.0 ++ y.1) × (stmt_height y.0 ≤ 2 + 2 * room))
-          [ true ↦ λ g. assignment_sound (2 * room) xs y g | false ↦ λ g. synchronized_sound (statement_at room) (2 * room) (statement_sound room) xs y g ] e in
+    elim (starts (is_word (codes "this")) xs) as (λ b. (if b then assignment xs else synchronized_with (statement_at room) xs) ≡ Some y → (xs ≡ stmt_shapes y.0 ++ y.1) × (stmt_height y.0 ≤ 2 + 2 * room))
+    [ true ↦ λ g. assignment_sound (2 * room) xs y g | false ↦ λ g. synchronized_sound (statement_at room) (2 * room) (statement_sound room) xs y g ] e in
     (both.0, subst (λ n. stmt_height y.0 ≤ n) twice both.1)
 
 -- The other direction.

@@ -27,14 +27,16 @@ pub record IsSmall (file : List ℕ) (p : Program) : Type 0 where
 abbrev pub IsNotSmall : List ℕ → Type 0
 IsNotSmall file = (p : Program) → IsSmall file p → ⊥
 
+-- the status and the text that belong to a small source: the first broken bound, or the least tables
+pub data Verdict (p : Program) : ℕ → List ℕ → Type 0 where
+  refused : {method : List ℕ} {declared found : Basic} → (IsAccepted p → ⊥) → IsFirstBroken p method declared found → Verdict p 2 (broken_line method declared found)
+  accepted : {text : List ℕ} → IsAccepted p → IsReport p.fields p.methods text → Verdict p 0 text
+
 -- the status and the text that belong to a file
 pub data Answer (name file : List ℕ) : ℕ → List ℕ → Type 0 where
   too_large : 262144 < length file → Answer name file 10 (too_large_line name)
   not_built : length file ≤ 262144 → IsNotSmall file → Answer name file 1 not_built_line
-  refused : {method : List ℕ} {declared found : Basic} → length file ≤ 262144 → (p : Program) → IsSmall file p → (IsAccepted p → ⊥)
-      → IsFirstBroken p method declared found → Answer name file 2 (broken_line method declared found)
-  accepted : {text : List ℕ} → length file ≤ 262144 → (p : Program) → IsSmall file p → IsAccepted p
-      → IsReport p.fields p.methods text → Answer name file 0 text
+  judged : {status : ℕ} {text : List ℕ} → length file ≤ 262144 → (p : Program) → IsSmall file p → Verdict p status text → Answer name file status text
 
 -- the answers that come before a status, or in its place: a file that can't be read, a sink that fails, want of memory
 abbrev pub Yields : ℕ → Type 0

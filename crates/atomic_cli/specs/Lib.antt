@@ -7,3 +7,5 @@ pub mod Rules
 pub mod Lines
 pub mod Answer
 pub mod Tables
+pub mod Sources
+pub mod Said

@@ -168,4 +168,3 @@ class_main xs =
     and_so (repeat begins_member member no_member c) (λ members.
     and_so (sign (codes "}") members.1) (λ d.
     at_end members.0 d)))))
-

@@ -5,13 +5,10 @@ ghost use Rattle.std.specs.List.{list_any, list_all};
 ghost use Rattle.atomic_cli.specs.Small as small;
 ghost use Rattle.atomic_cli.specs.Views.{stmt_of, field_of, method_of, program_of};
 
-use std::alloc::AllocError as NoMemory;
-use std::alloc::Global;
-use std::collections::BTreeSet;
-
-use aj_lexer::Text;
-
 use crate::small::tree::{Field, Method, Program, Stmt};
+use aj_lexer::Text;
+use std::alloc::{AllocError as NoMemory, Global};
+use std::collections::BTreeSet;
 
 /// The greatest number that an int holds.
 const GREATEST: u32 = 2147483647;

@@ -8,12 +8,9 @@ ghost use Rattle.atomic_cli.specs.Gives.{Gives};
 ghost use Rattle.atomic_cli.specs.Reading as reading;
 ghost use Rattle.atomic_cli.specs.declared.small.read.Stop.TheVariants as stops;
 
-use std::alloc::AllocError as NoMemory;
-use std::alloc::{AllocFailed, Global};
-
-use aj_lexer::{Text, Token, TokenKind};
-
 use crate::small::tree::{Field, Method, Program, Stmt};
+use aj_lexer::{Text, Token, TokenKind};
+use std::alloc::{AllocError as NoMemory, AllocFailed, Global};
 
 /// Why no small source was read.
 #[derive(Drop)]
@@ -168,7 +165,11 @@ fn goes_on(tokens: &[Token]) -> bool
 }
 
 #[cycle(statement)]
-fn statements<'a>(alloc: Global, tokens: &'a [Token], room: u32) -> Result<(Vec<Stmt>, &'a [Token]), Stop>
+fn statements<'a>(
+    alloc: Global,
+    tokens: &'a [Token],
+    room: u32,
+) -> Result<(Vec<Stmt>, &'a [Token]), Stop>
     ensures reads { Gives (λ y. (map stmt_of y.0.items, map shape_of y.1.now)) result (reading.statements_with (reading.statement_at room) (map shape_of tokens.now)) }
     ensures shorter { IfOk result (λ y. length y.1.now ≤ length tokens.now) }
 {
@@ -184,7 +185,12 @@ fn statements<'a>(alloc: Global, tokens: &'a [Token], room: u32) -> Result<(Vec<
 
 /// One more statement behind those that were found.
 #[cycle(statement)]
-fn one_more<'a>(alloc: Global, mut found: Vec<Stmt>, tokens: &'a [Token], room: u32) -> Result<(Vec<Stmt>, &'a [Token]), Stop>
+fn one_more<'a>(
+    alloc: Global,
+    mut found: Vec<Stmt>,
+    tokens: &'a [Token],
+    room: u32,
+) -> Result<(Vec<Stmt>, &'a [Token]), Stop>
     ensures reads { Gives (λ y. (map stmt_of y.0.items, map shape_of y.1.now)) result (reading.add_one (reading.statement_at room) (map stmt_of found.items) (map shape_of tokens.now)) }
     ensures shorter { IfOk result (λ y. length y.1.now < length tokens.now) }
 {
@@ -194,7 +200,11 @@ fn one_more<'a>(alloc: Global, mut found: Vec<Stmt>, tokens: &'a [Token], room: 
 }
 
 #[cycle(statement)]
-fn block<'a>(alloc: Global, tokens: &'a [Token], room: u32) -> Result<(Vec<Stmt>, &'a [Token]), Stop>
+fn block<'a>(
+    alloc: Global,
+    tokens: &'a [Token],
+    room: u32,
+) -> Result<(Vec<Stmt>, &'a [Token]), Stop>
     ensures reads { Gives (λ y. (map stmt_of y.0.items, map shape_of y.1.now)) result (reading.block_with (reading.statement_at room) (map shape_of tokens.now)) }
     ensures shorter { IfOk result (λ y. length y.1.now < length tokens.now) }
 {
@@ -211,7 +221,11 @@ fn make_synchronized(body: Vec<Stmt>) -> Stmt
 }
 
 #[cycle(statement)]
-fn synchronized<'a>(alloc: Global, tokens: &'a [Token], room: u32) -> Result<(Stmt, &'a [Token]), Stop>
+fn synchronized<'a>(
+    alloc: Global,
+    tokens: &'a [Token],
+    room: u32,
+) -> Result<(Stmt, &'a [Token]), Stop>
     ensures reads { Gives (λ y. (stmt_of y.0, map shape_of y.1.now)) result (reading.synchronized_with (reading.statement_at room) (map shape_of tokens.now)) }
     ensures shorter { IfOk result (λ y. length y.1.now < length tokens.now) }
 {
@@ -250,7 +264,12 @@ fn method<'a>(alloc: Global, tokens: &'a [Token]) -> Result<(Method, &'a [Token]
     let rest = sign(rest, ")")?;
     let (requires_this, rest) = optional_this(rest, "requires")?;
     let (body, rest) = block(alloc, rest, ROOM)?;
-    let method = Method { name, annotated, requires_this, body };
+    let method = Method {
+        name,
+        annotated,
+        requires_this,
+        body,
+    };
     Ok((method, rest))
 }
 
@@ -259,7 +278,9 @@ fn begins_member(tokens: &[Token]) -> bool
 {
     match tokens.split_first() {
         Some((token, _)) => match token.kind {
-            TokenKind::Word => token.text.is("int") || token.text.is("atomic") || token.text.is("void"),
+            TokenKind::Word => token.text.is("int")
+                || token.text.is("atomic")
+                || token.text.is("void"),
             _ => false,
         },
         None => false,
@@ -267,7 +288,11 @@ fn begins_member(tokens: &[Token]) -> bool
 }
 
 /// One more member of the class.
-fn member<'a>(alloc: Global, mut program: Program, tokens: &'a [Token]) -> Result<(Program, &'a [Token]), Stop>
+fn member<'a>(
+    alloc: Global,
+    mut program: Program,
+    tokens: &'a [Token],
+) -> Result<(Program, &'a [Token]), Stop>
     ensures reads { Gives (λ y. (program_of y.0, map shape_of y.1.now)) result (reading.member (program_of program) (map shape_of tokens.now)) }
     ensures shorter { IfOk result (λ y. length y.1.now < length tokens.now) }
 {

@@ -7,10 +7,9 @@ ghost use Rattle.atomic_cli.specs.Views.{stmt_of, field_of, method_of, program_o
 ghost use Rattle.atomic_cli.specs.Rules as rules;
 ghost use Rattle.atomic_cli.specs.Tables.{table_of, AllKeep};
 
+use crate::small::tree::{Field, Method, Program, Stmt};
 use aj_algebra::Basic;
 use aj_lexer::Text;
-
-use crate::small::tree::{Field, Method, Program, Stmt};
 
 /// The basics of a method where `this` is held and where it isn't.
 #[derive(Clone, Copy)]
@@ -20,6 +19,7 @@ pub struct Table {
 }
 
 /// A method whose bound its least table breaks.
+#[derive(Drop)]
 pub struct Broken<'a> {
     pub method: &'a Text,
     pub declared: Basic,
@@ -99,13 +99,21 @@ fn unheld_effect(fields: &[Field], method: &Method, held: Basic) -> Basic
 fn bound(method: &Method) -> Basic
     ensures { result ≡ rules.bound_of (method_of method.now) }
 {
-    if method.annotated { Basic::Atomic } else { Basic::Cmpd }
+    if method.annotated {
+        Basic::Atomic
+    } else {
+        Basic::Cmpd
+    }
 }
 
 fn found(method: &Method, table: Table) -> Basic
     ensures { result ≡ rules.found_of (method_of method.now) (table_of table) }
 {
-    if method.requires_this { table.held } else { table.unheld }
+    if method.requires_this {
+        table.held
+    } else {
+        table.unheld
+    }
 }
 
 /// The first method, in source order, whose bound its least table breaks.
@@ -118,7 +126,11 @@ pub fn first_broken(program: &Program) -> Option<Broken<'_>>
         let declared = bound(method);
         let found = found(method, least_table(fields, method));
         if !found.below(declared) {
-            return Some(Broken { method: &method.name, declared, found });
+            return Some(Broken {
+                method: &method.name,
+                declared,
+                found,
+            });
         }
     }
     None

@@ -11,5 +11,5 @@ loop-name-preserved c =
     let x = get_or c.args.names.now c.loop-name.name-index no_name in
     let front = ap (map text) (drop_from c.args.names.now c.loop-name.name-index no_name c.loop-name-test.true) in
     seen_more names x (map text (drop (c.loop-name.name-index + 1) c.args.names.now)) c.loop-name.seen c.insert.new.self c.in_ok-insert.field-0
-      (subst (λ rest. HasSeen names rest c.loop-name.seen) front c.loop-name.invariant)
-      c.in_ok-insert.ensures.added c.if-not-branch.false c.in_ok-insert.ensures.updates
+    (subst (λ rest. HasSeen names rest c.loop-name.seen) front c.loop-name.invariant)
+    c.in_ok-insert.ensures.added c.if-not-branch.false c.in_ok-insert.ensures.updates

@@ -15,4 +15,3 @@ statements-statements-preserved t c =
 pub statements-returns-clause-reads : goal.statements-returns-clause-reads
 statements-returns-clause-reads t c =
     statements_done c.args.room c.args.tokens.now c.statements.rest.now (map stmt_of c.statements.found.items) c.statements.invariant (sym c.goes_on.ensures ∙ c.statements-test.false)
-

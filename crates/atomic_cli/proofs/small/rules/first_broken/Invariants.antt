@@ -7,5 +7,5 @@ abbrev pub invariant-loop-method : goal.invariant-loop-method
 invariant-loop-method l = record {
   kept : KeptBefore (map field_of l.program.fields.items) (map method_of l.program.methods.items) (map method_of (drop l.method-index l.program.methods.items));
   items : l.method-items ≡ l.program.methods.items;
-  fields : l.fields ≡ l.program.fields.items
+  fields : l.fields ≡ l.program.fields.items;
 }

@@ -10,4 +10,4 @@ returns c =
     let fields = map field_of c.args.fields.now in
     let held = c.body_effect-held.ensures ∙ ap (λ items. rules.stmts_effect fields (small.statements (map stmt_of items)) true) c.as_slice.ensures.value in
     least_table fields (method_of c.args.method.now) c.body_effect-held.result c.unheld_effect-unheld.result held
-      (c.unheld_effect-unheld.ensures ∙ ap (λ v. if c.args.method.now.requires_this then v else rules.stmts_effect fields (method_of c.args.method.now).body false) held)
+    (c.unheld_effect-unheld.ensures ∙ ap (λ v. if c.args.method.now.requires_this then v else rules.stmts_effect fields (method_of c.args.method.now).body false) held)
