@@ -21,13 +21,17 @@ access false held = Atomic
 access true false = Error
 access true true = Mover
 
+-- a `synchronized (this)` whose body has this effect where `this` is held: lifted where it isn't held yet
+abbrev pub synchronized_effect : Basic → Bool → Basic
+synchronized_effect inside true = inside
+synchronized_effect inside false = lift_of inside
+
 -- The effect. Receiver and number of an assignment are const, so the access is all that counts.
 module _ (fields : List FieldData) where
   abbrev mutual
     pub stmt_effect : Stmt → Bool → Basic
     stmt_effect (AssignS name value) held = access (is_guarded fields name) held
-    stmt_effect (SynchronizedS body) true = stmts_effect body true
-    stmt_effect (SynchronizedS body) false = lift_of (stmts_effect body true)
+    stmt_effect (SynchronizedS body) held = synchronized_effect (stmts_effect body true) held
 
     pub stmts_effect : Stmts → Bool → Basic
     stmts_effect no_more held = Const

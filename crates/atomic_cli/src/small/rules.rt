@@ -53,6 +53,13 @@ fn access(guarded: bool, held: bool) -> Basic
     }
 }
 
+/// The effect of a `synchronized (this)` whose body has this effect where `this` is held.
+fn synchronized_effect(inside: Basic, held: bool) -> Basic
+    ensures { result ≡ rules.synchronized_effect inside held }
+{
+    if held { inside } else { inside.lift() }
+}
+
 #[cycle(effect)]
 fn stmt_effect(fields: &[Field], stmt: &Stmt, held: bool) -> Basic
     ensures { result ≡ rules.stmt_effect (map field_of fields.now) (stmt_of stmt.now) held }
@@ -61,7 +68,7 @@ fn stmt_effect(fields: &[Field], stmt: &Stmt, held: bool) -> Basic
         Stmt::Assign { field, .. } => access(is_guarded(fields, field), held),
         Stmt::Synchronized { body } => {
             let inside = body_effect(fields, body.as_slice(), true);
-            if held { inside } else { inside.lift() }
+            synchronized_effect(inside, held)
         }
     }
 }
