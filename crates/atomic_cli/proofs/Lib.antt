@@ -1,0 +1,15 @@
+pub mod Rooms
+pub mod ViewLemmas
+pub mod Options
+pub mod Statements
+pub mod Repeat
+pub mod Basics
+pub mod Tables
+pub mod FirstBroken
+pub mod Distinct
+pub mod Reports
+pub mod Classes
+pub mod Answers
+pub mod Words
+pub mod Runs
+pub mod Members

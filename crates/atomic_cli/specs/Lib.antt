@@ -1,0 +1,11 @@
+pub mod Shape
+pub mod Small
+pub mod Views
+pub mod Reading
+pub mod Gives
+pub mod Rules
+pub mod Lines
+pub mod Answer
+pub mod Tables
+pub mod Sources
+pub mod Said
