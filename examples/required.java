@@ -1,0 +1,8 @@
+class Main {
+    int v guarded_by this;
+    void main() {
+    }
+    void set() requires this {
+        this.v = 1;
+    }
+}
