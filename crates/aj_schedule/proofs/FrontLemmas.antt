@@ -1,13 +1,12 @@
 -- What stands at the front of a text: a blank, a comment, an entry, or the fault of an entry.
-use Rattle.std.proofs.Common.{◌≡◌, ◌≢◌, ℕ, ◌+◌, ◌-◌, ◌^◌, ◌<◌, ◌≤◌, ◌&&◌, ◌==◌, Bool, true, false, not, IsTrue, List, [], ◌∷◌, ◌++◌, length, take, drop, get_or, Option, Some, None, if◌then◌else◌, decimal, cond, suc, zero, refl, sym, ◌∙◌, ap, subst, arith, add-one}
+use Rattle.std.proofs.Common.{◌≡◌, ℕ, ◌+◌, ◌-◌, ◌^◌, ◌<◌, ◌≤◌, ◌==◌, Bool, true, false, not, List, [], ◌∷◌, ◌++◌, length, take, drop, get_or, Option, Some, None, if◌then◌else◌, decimal, cond, suc, refl, sym, ◌∙◌, ap, subst, arith}
 use Rattle.std.proofs.Math.Seq.{take-add}
 use Rattle.std.proofs.lemmas.Grind.{common_steps}
-use Rattle.std.proofs.lemmas.Bool.Decides.{nat_tests}
-use Rattle.std.specs.List.{prefix_len, take_while, list_all}
+use Rattle.std.specs.List.{prefix_len, list_all}
 use Rattle.std.specs.Option.{option_map}
 use Rattle.std.specs.Str.Parse.{digits_value}
-use Rattle.aj_schedule.specs.Text.{Piece, blank, comment, single, group, spelled, is_blank, ends_entry, ends_comment, IsPiece, BeginsWith, BeginsWithCount, count_of}
-use Rattle.aj_schedule.specs.Faults.{writes_number, first_digits, after_digits, begins_count, count_fault, entry_fault, form_fault}
+use Rattle.aj_schedule.specs.Text.{blank, comment, single, group, is_blank, ends_entry, ends_comment, BeginsWith, BeginsWithCount}
+use Rattle.aj_schedule.specs.Faults.{writes_number, first_digits, after_digits, begins_count, count_fault, form_fault}
 use Rattle.aj_schedule.proofs.NumberLemmas.{take-digits, number_is}
 
 -- the rest of a list, as a slice to its end

@@ -1,8 +1,8 @@
 -- Pieces read one after another.
-use Rattle.std.proofs.Common.{◌≡◌, ℕ, ◌+◌, ◌-◌, ◌^◌, ◌<◌, ◌≤◌, List, [], ◌∷◌, ◌++◌, length, take, drop, Option, Some, None, unwrap_or, replicate, refl, sym, ◌∙◌, ap, subst, arith, append_assoc}
+use Rattle.std.proofs.Common.{◌≡◌, ℕ, ◌+◌, ◌<◌, ◌≤◌, List, [], ◌∷◌, ◌++◌, length, drop, Option, Some, None, unwrap_or, replicate, refl, sym, ◌∙◌, ap, subst, arith, append_assoc}
 use Rattle.std.proofs.lemmas.List.{take-append-drop, append-nil}
 use Rattle.std.proofs.lemmas.Grind.{common_steps}
-use Rattle.aj_schedule.specs.Text.{Piece, blank, comment, single, group, spelled, IsPiece, BeginsWith, count_of, thread_of, entry_of, joined, ArePieces, total, steps, Begins, IsSchedule}
+use Rattle.aj_schedule.specs.Text.{Piece, spelled, IsPiece, BeginsWith, count_of, thread_of, entry_of, joined, ArePieces, total, steps, Begins, IsSchedule}
 use Rattle.aj_schedule.specs.Faults.{form_fault, HasFormFault, HasLengthFault}
 
 -- what was read before a place

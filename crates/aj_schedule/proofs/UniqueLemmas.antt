@@ -1,5 +1,5 @@
 -- A text is cut into pieces in one way at most, and has one end: it is read, or has one first fault.
-use Rattle.std.proofs.Common.{◌≡◌, ℕ, ◌+◌, ◌-◌, ◌^◌, ◌<◌, ◌≤◌, ◌==◌, ◌&&◌, ◌||◌, Bool, true, false, not, IsTrue, List, [], ◌∷◌, ◌++◌, length, take, drop, Option, Some, None, if◌then◌else◌, decimal, cond, suc, zero, refl, sym, ◌∙◌, ap, subst, arith, append_assoc, ◌⊎◌, inl, inr, Vec, Result, Ok, Err, MatchResult}
+use Rattle.std.proofs.Common.{◌≡◌, ℕ, ◌+◌, ◌^◌, ◌<◌, ◌≤◌, ◌==◌, ◌||◌, Bool, true, false, not, List, [], ◌∷◌, ◌++◌, length, drop, Option, Some, None, if◌then◌else◌, decimal, cond, refl, sym, ◌∙◌, ap, subst, arith, append_assoc, ◌⊎◌, inl, inr, Vec, Result, Ok, Err, MatchResult}
 use Rattle.std.specs.Global.{Global}
 use Rattle.std.proofs.lemmas.Fmt.{digits_decimal, digits_value-decimal, decimal_nonempty}
 use Rattle.std.proofs.lemmas.List.{append_cancel_left}
@@ -7,12 +7,12 @@ use Rattle.std.proofs.lemmas.List.Sums.{take_while-cons}
 use Rattle.std.proofs.lemmas.Grind.{common_steps}
 use Rattle.std.proofs.lemmas.Bool.Decides.{nat_tests}
 use Rattle.std.specs.Char.{is_ascii_digit}
-use Rattle.std.specs.List.{prefix_len, take_while, list_all}
+use Rattle.std.specs.List.{take_while, list_all}
 use Rattle.std.specs.Option.{option_map}
 use Rattle.std.specs.Str.{all_ascii_digits}
 use Rattle.std.specs.Str.Parse.{digits_value}
 use Rattle.aj_schedule.specs.Text.{Piece, blank, comment, single, group, spelled, is_blank, ends_entry, ends_comment, IsPiece, count_of, joined, ArePieces, total, steps, Begins, IsSchedule}
-use Rattle.aj_schedule.specs.Faults.{writes_number, first_digits, after_digits, begins_count, count_fault, entry_fault, form_fault, HasFormFault, HasLengthFault, IsAnswer}
+use Rattle.aj_schedule.specs.Faults.{writes_number, first_digits, after_digits, begins_count, count_fault, form_fault, HasFormFault, HasLengthFault, IsAnswer}
 use Rattle.aj_schedule.specs.declared.reader.SchedFault.{SchedFault}
 use Rattle.aj_schedule.specs.declared.reader.SchedFault.TheVariants as faults
 use Rattle.aj_schedule.proofs.NumberLemmas.{numerals, is_number, and_both}

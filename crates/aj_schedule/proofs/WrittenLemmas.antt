@@ -1,10 +1,8 @@
 -- The maximal groups of a schedule, written and read back.
-use Rattle.std.proofs.Common.{◌≡◌, ℕ, ◌+◌, ◌-◌, ◌^◌, ◌<◌, ◌≤◌, ◌==◌, Bool, true, false, IsTrue, List, [], ◌∷◌, ◌++◌, length, map, take, drop, None, slice_get, get_or, replicate, if◌then◌else◌, decimal, cond, suc, zero, refl, sym, ◌∙◌, ap, subst, arith, append_assoc, add-one}
-use Rattle.std.proofs.lemmas.List.{append-nil}
-use Rattle.std.proofs.lemmas.Grind.{common_steps}
+use Rattle.std.proofs.Common.{◌≡◌, ℕ, ◌+◌, ◌^◌, ◌<◌, ◌≤◌, ◌==◌, Bool, true, false, List, [], ◌∷◌, ◌++◌, length, map, drop, None, slice_get, get_or, replicate, if◌then◌else◌, cond, suc, refl, sym, ◌∙◌, ap, arith, append_assoc, add-one}
 use Rattle.std.proofs.lemmas.Bool.Decides.{nat_tests}
 use Rattle.std.specs.List.{prefix_len, join_with_byte}
-use Rattle.aj_schedule.specs.Text.{Piece, blank, single, group, spelled, ends_entry, IsPiece, count_of, thread_of, joined, ArePieces, total, steps, Begins, IsSchedule}
+use Rattle.aj_schedule.specs.Text.{Piece, blank, single, group, spelled, ends_entry, IsPiece, count_of, thread_of, joined, ArePieces, total, steps, IsSchedule}
 use Rattle.aj_schedule.specs.Written.{with_step, groups_of, group_text, written}
 
 same_number : (a b : ℕ) → (a == b) ≡ true → a ≡ b

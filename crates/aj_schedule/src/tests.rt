@@ -65,6 +65,7 @@ fn faults_are_told_at_their_byte(rt: HostRuntime) -> Result<(), Fail> {
         ("x 0*200001", SchedFault::Form(0)),
     ];
     for (text, fault) in faults {
+        assert!(rt; text.len() < 100);
         match read_schedule(rt.alloc(), text.as_bytes()) {
             Ok(_) => assert!(rt; false, "{text}"),
             Err(found) => assert_eq!(rt; found, fault, "{text}"),

@@ -1,8 +1,8 @@
 -- The digits at the front write a number, or they don't.
-use Rattle.std.proofs.Common.{◌≡◌, ◌∙◌, ◌^◌, ℕ, Option, Some, None, Bool, true, false, refl, sym, ap, subst, if◌then◌else◌, take, nat_lt, ◌&&◌, ◌==◌, length, get_or}
+use Rattle.std.proofs.Common.{◌≡◌, ◌∙◌, ◌^◌, Some, None, true, false, refl, sym, ap, subst, if◌then◌else◌, nat_lt, ◌&&◌, ◌==◌, length, get_or}
 use Rattle.std.specs.Str.{all_ascii_digits}
 use Rattle.std.specs.Str.Parse.{digits_value}
-use Rattle.aj_schedule.specs.Faults.{first_digits, writes_number}
+use Rattle.aj_schedule.specs.Faults.{first_digits}
 use Rattle.aj_schedule.proofs.NumberLemmas.{leading_zero, plain_number, take-digits, digits_are}
 use Rattle.aj_schedule.proofs.numbers.first_number.Goals as goal
 

@@ -1,5 +1,5 @@
 -- The number at the front is the count.
-use Rattle.std.proofs.Common.{◌≡◌, ◌∙◌, sym}
+use Rattle.std.proofs.Common.{◌∙◌, sym}
 use Rattle.aj_schedule.proofs.FrontLemmas.{count_front}
 use Rattle.aj_schedule.proofs.reader.read_count.Goals as goal
 

@@ -1,5 +1,5 @@
 -- An entry at the front, with its count or without, and the fault of a count.
-use Rattle.std.proofs.Common.{◌≡◌, ◌∙◌, ◌+◌, ◌-◌, Some, sym, subst, length, take, drop}
+use Rattle.std.proofs.Common.{◌≡◌, ◌∙◌, Some, sym, subst, drop}
 use Rattle.aj_schedule.specs.Text.{BeginsWithCount}
 use Rattle.aj_schedule.specs.Faults.{count_fault}
 use Rattle.aj_schedule.proofs.FrontLemmas.{single_front, group_front, count_behind, star_rest, star_tail}

@@ -1,5 +1,5 @@
 -- One piece more: a gap, or an entry with which the schedule is short enough or too long.
-use Rattle.std.proofs.Common.{◌≡◌, ◌<◌, ◌≤◌, ◌+◌, ◌++◌, ◌∙◌, ℕ, List, ap, subst, arith, length, replicate, unwrap_or}
+use Rattle.std.proofs.Common.{◌≡◌, ◌<◌, ◌≤◌, ◌+◌, ◌++◌, ◌∙◌, ap, subst, arith, length, replicate, unwrap_or}
 use Rattle.aj_schedule.specs.Text.{BeginsWith, entry_of}
 use Rattle.aj_schedule.proofs.FrontLemmas.{take-rest}
 use Rattle.aj_schedule.proofs.ReadLemmas.{so_far_gap, so_far_entry, so_far_within, so_far_long}

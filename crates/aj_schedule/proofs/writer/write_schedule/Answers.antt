@@ -1,5 +1,5 @@
 -- One group more is written, and at the end the line reads back.
-use Rattle.std.proofs.Common.{◌≡◌, ◌≤◌, ◌++◌, ◌-◌, ◌∷◌, [], ℕ, List, ◌∙◌, ap, sym, arith, length, take, drop, string_bytes}
+use Rattle.std.proofs.Common.{◌≡◌, ◌++◌, ◌-◌, ◌∙◌, ap, sym, arith, length, take, drop, string_bytes}
 use Rattle.std.proofs.lemmas.Grind.{common_steps}
 use Rattle.aj_schedule.specs.Written.{written}
 use Rattle.aj_schedule.proofs.FrontLemmas.{take-rest}
