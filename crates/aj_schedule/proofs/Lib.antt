@@ -3,3 +3,4 @@ mod NumberLemmas
 mod FrontLemmas
 mod ReadLemmas
 mod UniqueLemmas
+mod WrittenLemmas

@@ -1,14 +1,12 @@
 -- Digits at the front of a text, and the number that they write.
-use Rattle.std.proofs.Common.{◌≡◌, ◌≢◌, ℕ, ◌+◌, ◌-◌, ◌^◌, ◌<◌, ◌≤◌, ◌&&◌, Bool, true, false, not, nat_lt, nat_le, List, [], ◌∷◌, ◌++◌, length, take, drop, get_or, Option, Some, None, if◌then◌else◌, decimal, cond, ◌==◌, suc, zero, Result, Ok, Err, refl, sym, ◌∙◌, ap, subst, arith}
-use Rattle.std.proofs.lemmas.Fmt.{first_decimal, decimal_digit, decimal-digits_value, digits_value-decimal, decimal_nonempty, digits_decimal}
-use Rattle.std.proofs.lemmas.Str.Parse.{numerals_by_value, tells_all_ascii_digits, IsNumeralModel, parse_digits}
+use Rattle.std.proofs.Common.{◌≡◌, ℕ, ◌^◌, ◌<◌, ◌≤◌, ◌&&◌, Bool, true, false, nat_lt, nat_le, List, [], ◌∷◌, length, take, get_or, Some, None, if◌then◌else◌, decimal, cond, ◌==◌, suc, zero, Result, Ok, Err, refl, sym, ◌∙◌, ap, subst, arith}
+use Rattle.std.proofs.lemmas.Fmt.{first_decimal, decimal_digit, decimal-digits_value, decimal_nonempty}
+use Rattle.std.proofs.lemmas.Str.Parse.{numerals_by_value, tells_all_ascii_digits, IsNumeralModel}
 use Rattle.std.proofs.lemmas.List.Sums.{take_while-cons}
 use Rattle.std.proofs.lemmas.List.Folds.{length-prefix_len}
 use Rattle.std.proofs.lemmas.Slice.Eq.{bytes_eq-Decides}
 use Rattle.std.proofs.lemmas.Bool.Decides.{nat_tests}
-use Rattle.std.proofs.lemmas.Grind.{common_steps}
 use Rattle.std.specs.Char.{is_ascii_digit}
-use Rattle.std.specs.List.{take_while, prefix_len}
 use Rattle.std.specs.Result.{OkIff, result_ok}
 use Rattle.std.specs.Str.{all_ascii_digits, bytes_eq}
 use Rattle.std.specs.Str.Parse.{digits_value}
@@ -65,30 +63,30 @@ same_number a b e = grind (arith, nat_tests)
 
 -- what the test says
 pub number_is : (low end : ℕ) (digits : List ℕ) → writes_number low end digits ≡ true →
-  (decimal (digits_value 10 digits) ≡ digits) × (low ≤ digits_value 10 digits) × (digits_value 10 digits < end)
+    (decimal (digits_value 10 digits) ≡ digits) × (low ≤ digits_value 10 digits) × (digits_value 10 digits < end)
 number_is low end digits e =
-  let parts = and_both (bytes_eq (decimal (digits_value 10 digits)) digits) (nat_le low (digits_value 10 digits) && nat_lt (digits_value 10 digits) end) e in
-  let range = and_both (nat_le low (digits_value 10 digits)) (nat_lt (digits_value 10 digits) end) parts.1 in
-  ((bytes_eq-Decides (decimal (digits_value 10 digits)) digits).0 parts.0, at_most low (digits_value 10 digits) range.0, less (digits_value 10 digits) end range.1)
+    let parts = and_both (bytes_eq (decimal (digits_value 10 digits)) digits) (nat_le low (digits_value 10 digits) && nat_lt (digits_value 10 digits) end) e in
+    let range = and_both (nat_le low (digits_value 10 digits)) (nat_lt (digits_value 10 digits) end) parts.1 in
+    ((bytes_eq-Decides (decimal (digits_value 10 digits)) digits).0 parts.0, at_most low (digits_value 10 digits) range.0, less (digits_value 10 digits) end range.1)
 
 pub is_number : (low end n : ℕ) (digits : List ℕ) → n ≡ digits_value 10 digits → decimal n ≡ digits → low ≤ n → n < end → writes_number low end digits ≡ true
 is_number low end n digits value same from to =
-  subst (λ m. (bytes_eq (decimal m) digits && (nat_le low m && nat_lt m end)) ≡ true) value
+    subst (λ m. (bytes_eq (decimal m) digits && (nat_le low m && nat_lt m end)) ≡ true) value
     (and_true (bytes_eq (decimal n) digits) (nat_le low n && nat_lt n end) ((bytes_eq-Decides (decimal n) digits).1 same) (and_true (nat_le low n) (nat_lt n end) (is_at_most low n from) (is_less n end to)))
 
 no_leading_zero : (n : ℕ) (digits : List ℕ) → decimal n ≡ digits → n < 2 ^ 64 → 1 < length digits → get_or digits 0 0 ≡ 48 → ⊥
 no_leading_zero zero digits same small long first =
-  let one : length digits ≡ 1 = ap length (sym same ∙ decimal_digit 0 (omega arith)) in omega (arith, one, long)
+    let one : length digits ≡ 1 = ap length (sym same ∙ decimal_digit 0 (omega arith)) in omega (arith, one, long)
 no_leading_zero (suc n) digits same small long first =
-  let high = first_decimal (suc n) (omega arith) small in
-  let there : get_or (decimal (suc n)) 0 0 ≡ get_or digits 0 0 = ap (λ ds. get_or ds 0 0) same in
-  omega (arith, high, there, first)
+    let high = first_decimal (suc n) (omega arith) small in
+    let there : get_or (decimal (suc n)) 0 0 ≡ get_or digits 0 0 = ap (λ ds. get_or ds 0 0) same in
+    omega (arith, high, there, first)
 
 -- a leading zero
 pub leading_zero : (digits : List ℕ) → (nat_lt 1 (length digits) && (get_or digits 0 0 == 48)) ≡ true → writes_number 0 (2 ^ 64) digits ≡ false
 leading_zero digits e =
-  let parts = and_both (nat_lt 1 (length digits)) (get_or digits 0 0 == 48) e in
-  false_unless (writes_number 0 (2 ^ 64) digits) (λ w. let n = number_is 0 (2 ^ 64) digits w in
+    let parts = and_both (nat_lt 1 (length digits)) (get_or digits 0 0 == 48) e in
+    false_unless (writes_number 0 (2 ^ 64) digits) (λ w. let n = number_is 0 (2 ^ 64) digits w in
     no_leading_zero (digits_value 10 digits) digits n.0 n.2 (less 1 (length digits) parts.0) (same_number (get_or digits 0 0) 48 parts.1))
 
 one_digit : (digits : List ℕ) → (nat_lt 1 (length digits) && (get_or digits 0 0 == 48)) ≡ false → get_or digits 0 0 ≡ 48 → 0 < length digits → length digits ≡ 1
@@ -96,23 +94,23 @@ one_digit digits e first some = grind (arith, nat_tests)
 
 -- no leading zero
 pub plain_number : (digits : List ℕ) → all_ascii_digits digits ≡ true → (nat_lt 1 (length digits) && (get_or digits 0 0 == 48)) ≡ false →
-  (nat_lt 0 (length digits) && nat_lt (digits_value 10 digits) (2 ^ 64)) ≡ writes_number 0 (2 ^ 64) digits
+    (nat_lt 0 (length digits) && nat_lt (digits_value 10 digits) (2 ^ 64)) ≡ writes_number 0 (2 ^ 64) digits
 plain_number digits are first = same_test (nat_lt 0 (length digits) && nat_lt (digits_value 10 digits) (2 ^ 64)) (writes_number 0 (2 ^ 64) digits)
-  (λ e. let parts = and_both (nat_lt 0 (length digits)) (nat_lt (digits_value 10 digits) (2 ^ 64)) e in
+    (λ e. let parts = and_both (nat_lt 0 (length digits)) (nat_lt (digits_value 10 digits) (2 ^ 64)) e in
     let some = less 0 (length digits) parts.0 in
     let small = less (digits_value 10 digits) (2 ^ 64) parts.1 in
     is_number 0 (2 ^ 64) (digits_value 10 digits) digits refl (decimal-digits_value numerals digits are some (λ zero. one_digit digits first zero some) small) (omega arith) small)
-  (λ w. let n = number_is 0 (2 ^ 64) digits w in
+    (λ w. let n = number_is 0 (2 ^ 64) digits w in
     let some : 0 < length digits = subst (λ ds. 0 < length ds) n.0 (decimal_nonempty (digits_value 10 digits) n.2) in
     and_true (nat_lt 0 (length digits)) (nat_lt (digits_value 10 digits) (2 ^ 64)) (is_less 0 (length digits) some) (is_less (digits_value 10 digits) (2 ^ 64) n.2))
 
 -- what `parse` found
 pub parsed : {E : Type 0} (r : Result ℕ E) (length value : ℕ) → OkIff r ((0 < length) × (value < 2 ^ 64)) value →
-  result_ok r ≡ (if nat_lt 0 length && nat_lt value (2 ^ 64) then Some value else None)
+    result_ok r ≡ (if nat_lt 0 length && nat_lt value (2 ^ 64) then Some value else None)
 parsed (Ok x) length value h =
-  let test : (nat_lt 0 length && nat_lt value (2 ^ 64)) ≡ true = and_true (nat_lt 0 length) (nat_lt value (2 ^ 64)) (is_less 0 length h.0.0) (is_less value (2 ^ 64) h.0.1) in
-  rw (test, h.1) refl
+    let test : (nat_lt 0 length && nat_lt value (2 ^ 64)) ≡ true = and_true (nat_lt 0 length) (nat_lt value (2 ^ 64)) (is_less 0 length h.0.0) (is_less value (2 ^ 64) h.0.1) in
+    rw (test, h.1) refl
 parsed (Err e) length value h =
-  let test : (nat_lt 0 length && nat_lt value (2 ^ 64)) ≡ false = false_unless (nat_lt 0 length && nat_lt value (2 ^ 64)) (λ e.
+    let test : (nat_lt 0 length && nat_lt value (2 ^ 64)) ≡ false = false_unless (nat_lt 0 length && nat_lt value (2 ^ 64)) (λ e.
     let parts = and_both (nat_lt 0 length) (nat_lt value (2 ^ 64)) e in h (less 0 length parts.0, less value (2 ^ 64) parts.1)) in
-  rw test refl
+    rw test refl

@@ -1,8 +1,8 @@
 -- Pieces read one after another.
-use Rattle.std.proofs.Common.{◌≡◌, ℕ, ◌+◌, ◌-◌, ◌^◌, ◌<◌, ◌≤◌, List, [], ◌∷◌, ◌++◌, length, take, drop, Option, Some, None, unwrap_or, replicate, refl, sym, ◌∙◌, ap, subst, arith, append_assoc}
+use Rattle.std.proofs.Common.{◌≡◌, ℕ, ◌+◌, ◌<◌, ◌≤◌, List, [], ◌∷◌, ◌++◌, length, drop, Option, Some, None, unwrap_or, replicate, refl, sym, ◌∙◌, ap, subst, arith, append_assoc}
 use Rattle.std.proofs.lemmas.List.{take-append-drop, append-nil}
 use Rattle.std.proofs.lemmas.Grind.{common_steps}
-use Rattle.aj_schedule.specs.Text.{Piece, blank, comment, single, group, spelled, IsPiece, BeginsWith, count_of, thread_of, entry_of, joined, ArePieces, total, steps, Begins, IsSchedule}
+use Rattle.aj_schedule.specs.Text.{Piece, spelled, IsPiece, BeginsWith, count_of, thread_of, entry_of, joined, ArePieces, total, steps, Begins, IsSchedule}
 use Rattle.aj_schedule.specs.Faults.{form_fault, HasFormFault, HasLengthFault}
 
 -- what was read before a place
@@ -20,7 +20,7 @@ joined-push (p ∷ pieces) piece rest = ap (λ t. spelled p ++ t) (joined-push p
 ArePieces-push : (pieces : List Piece) (piece : Piece) (rest : List ℕ) → ArePieces pieces (spelled piece ++ rest) → IsPiece piece rest → ArePieces (pieces ++ piece ∷ []) rest
 ArePieces-push [] piece rest before here = (here, tt)
 ArePieces-push (p ∷ pieces) piece rest before here =
-  (subst (IsPiece p) (sym (joined-push pieces piece rest)) before.0, ArePieces-push pieces piece rest before.1 here)
+    (subst (IsPiece p) (sym (joined-push pieces piece rest)) before.0, ArePieces-push pieces piece rest before.1 here)
 
 total-push : (pieces : List Piece) (piece : Piece) → total (pieces ++ piece ∷ []) ≡ total pieces + count_of piece
 total-push [] piece = omega arith
@@ -29,7 +29,7 @@ total-push (p ∷ pieces) piece = omega (arith, total-push pieces piece)
 steps-push : (pieces : List Piece) (piece : Piece) → steps (pieces ++ piece ∷ []) ≡ steps pieces ++ replicate (count_of piece) (thread_of piece)
 steps-push [] piece = append-nil (replicate (count_of piece) (thread_of piece))
 steps-push (p ∷ pieces) piece =
-  ap (λ t. replicate (count_of p) (thread_of p) ++ t) (steps-push pieces piece) ∙ sym (append_assoc (replicate (count_of p) (thread_of p)) (steps pieces) (replicate (count_of piece) (thread_of piece)))
+    ap (λ t. replicate (count_of p) (thread_of p) ++ t) (steps-push pieces piece) ∙ sym (append_assoc (replicate (count_of p) (thread_of p)) (steps pieces) (replicate (count_of piece) (thread_of piece)))
 
 length-joined : (pieces : List Piece) (rest : List ℕ) → length (joined pieces rest) ≡ length (joined pieces []) + length rest
 length-joined [] rest = omega arith
@@ -57,32 +57,32 @@ so_far_none text = record { pieces = []; begins = record { whole = refl; pieces_
 
 -- one piece more
 pub so_far_more : (text schedule next : List ℕ) (at size : ℕ) (piece : Piece) → SoFar text at schedule → BeginsWith (drop at text) piece size →
-  length schedule + count_of piece ≤ 200000 → next ≡ schedule ++ replicate (count_of piece) (thread_of piece) → SoFar text (at + size) next
+    length schedule + count_of piece ≤ 200000 → next ≡ schedule ++ replicate (count_of piece) (thread_of piece) → SoFar text (at + size) next
 so_far_more text schedule next at size piece before front fits is =
-  let rest : drop size (drop at text) ≡ drop (at + size) text = drop-drop size at text in
-  let split : drop at text ≡ spelled piece ++ drop (at + size) text = front_split (drop at text) piece size front ∙ ap (λ t. spelled piece ++ t) rest in
-  let pieces = before.pieces ++ piece ∷ [] in
-  let count : length schedule ≡ total before.pieces = ap length before.steps_are ∙ length-steps before.pieces in
-  let ends : length (joined pieces []) ≡ at + size =
+    let rest : drop size (drop at text) ≡ drop (at + size) text = drop-drop size at text in
+    let split : drop at text ≡ spelled piece ++ drop (at + size) text = front_split (drop at text) piece size front ∙ ap (λ t. spelled piece ++ t) rest in
+    let pieces = before.pieces ++ piece ∷ [] in
+    let count : length schedule ≡ total before.pieces = ap length before.steps_are ∙ length-steps before.pieces in
+    let ends : length (joined pieces []) ≡ at + size =
     ap length (joined-push before.pieces piece []) ∙ ap (λ t. length (joined before.pieces t)) (append-nil (spelled piece)) ∙ length-joined before.pieces (spelled piece)
-      ∙ omega (arith, before.at_is, length-spelled (drop at text) piece size front) in
-  record {
-    pieces = pieces;
-    begins = record {
-      whole = before.begins.whole ∙ ap (joined before.pieces) split ∙ sym (joined-push before.pieces piece (drop (at + size) text));
-      pieces_are = ArePieces-push before.pieces piece (drop (at + size) text) (subst (ArePieces before.pieces) split before.begins.pieces_are) (subst (IsPiece piece) rest front.piece_is);
-      within = omega (arith, total-push before.pieces piece, count, fits)
-    };
-    at_is = sym ends;
-    steps_are = is ∙ ap (λ t. t ++ replicate (count_of piece) (thread_of piece)) before.steps_are ∙ sym (steps-push before.pieces piece);
-    within = grind (arith, common_steps, front.within, before.within)
-  }
+    ∙ omega (arith, before.at_is, length-spelled (drop at text) piece size front) in
+    record {
+      pieces = pieces;
+      begins = record {
+        whole = before.begins.whole ∙ ap (joined before.pieces) split ∙ sym (joined-push before.pieces piece (drop (at + size) text));
+        pieces_are = ArePieces-push before.pieces piece (drop (at + size) text) (subst (ArePieces before.pieces) split before.begins.pieces_are) (subst (IsPiece piece) rest front.piece_is);
+        within = omega (arith, total-push before.pieces piece, count, fits);
+      };
+      at_is = sym ends;
+      steps_are = is ∙ ap (λ t. t ++ replicate (count_of piece) (thread_of piece)) before.steps_are ∙ sym (steps-push before.pieces piece);
+      within = grind (arith, common_steps, front.within, before.within);
+    }
 
 -- a piece that gives no step
 pub so_far_gap : (text schedule : List ℕ) (at size : ℕ) (piece : Piece) → SoFar text at schedule → BeginsWith (drop at text) piece size → count_of piece ≡ 0 → SoFar text (at + size) schedule
 so_far_gap text schedule at size piece before front none =
-  let count : length schedule ≡ total before.pieces = ap length before.steps_are ∙ length-steps before.pieces in
-  so_far_more text schedule schedule at size piece before front (omega (arith, none, count, before.begins.within)) (sym (append-nil schedule) ∙ ap (λ n. schedule ++ replicate n (thread_of piece)) (sym none))
+    let count : length schedule ≡ total before.pieces = ap length before.steps_are ∙ length-steps before.pieces in
+    so_far_more text schedule schedule at size piece before front (omega (arith, none, count, before.begins.within)) (sym (append-nil schedule) ∙ ap (λ n. schedule ++ replicate n (thread_of piece)) (sym none))
 
 count_of-entry : (thread : ℕ) (count : Option ℕ) → count_of (entry_of thread count) ≡ unwrap_or count 1
 count_of-entry thread None = refl
@@ -94,9 +94,9 @@ thread_of-entry thread (Some n) = refl
 
 -- an entry
 pub so_far_entry : (text schedule next : List ℕ) (at size thread : ℕ) (count : Option ℕ) → SoFar text at schedule → BeginsWith (drop at text) (entry_of thread count) size →
-  length schedule + unwrap_or count 1 ≤ 200000 → next ≡ schedule ++ replicate (unwrap_or count 1) thread → SoFar text (at + size) next
+    length schedule + unwrap_or count 1 ≤ 200000 → next ≡ schedule ++ replicate (unwrap_or count 1) thread → SoFar text (at + size) next
 so_far_entry text schedule next at size thread count before front fits is =
-  so_far_more text schedule next at size (entry_of thread count) before front (omega (arith, count_of-entry thread count, fits))
+    so_far_more text schedule next at size (entry_of thread count) before front (omega (arith, count_of-entry thread count, fits))
     (is ∙ ap (λ n. schedule ++ replicate n thread) (sym (count_of-entry thread count)) ∙ ap (λ t. schedule ++ replicate (count_of (entry_of thread count)) t) (sym (thread_of-entry thread count)))
 
 -- how many steps there are so far
@@ -107,19 +107,27 @@ pub so_far_all : (text schedule : List ℕ) (at : ℕ) → SoFar text at schedul
 so_far_all text schedule at before past = record {
   pieces = before.pieces;
   begins = subst (Begins text before.pieces) (drop-past at text past) before.begins;
-  steps_are = before.steps_are
+  steps_are = before.steps_are;
 }
 
 pub so_far_form : (text schedule : List ℕ) (at offset : ℕ) → SoFar text at schedule → form_fault (drop at text) ≡ Some offset → HasFormFault text (at + offset)
 so_far_form text schedule at offset before fault = record {
-  pieces = before.pieces; rest = drop at text; offset = offset; begins = before.begins; fault = fault; place_is = ap (λ n. n + offset) before.at_is }
+  pieces = before.pieces;
+  rest = drop at text;
+  offset = offset;
+  begins = before.begins;
+  fault = fault;
+  place_is = ap (λ n. n + offset) before.at_is;
+}
 
 pub so_far_long : (text schedule : List ℕ) (at size thread : ℕ) (count : Option ℕ) → SoFar text at schedule → BeginsWith (drop at text) (entry_of thread count) size →
-  200000 < length schedule + unwrap_or count 1 → HasLengthFault text at
+    200000 < length schedule + unwrap_or count 1 → HasLengthFault text at
 so_far_long text schedule at size thread count before front past = record {
-  pieces = before.pieces; entry = entry_of thread count; rest = drop size (drop at text);
+  pieces = before.pieces;
+  entry = entry_of thread count;
+  rest = drop size (drop at text);
   begins = subst (Begins text before.pieces) (front_split (drop at text) (entry_of thread count) size front) before.begins;
   entry_is = front.piece_is;
   past = omega (arith, past, count_of-entry thread count, ap length before.steps_are, length-steps before.pieces);
-  place_is = before.at_is
+  place_is = before.at_is;
 }

@@ -31,17 +31,17 @@ begins_count (byte ∷ rest) = byte == 42
 -- is missing, and else at the first byte behind it that ends no entry
 abbrev pub count_fault : List ℕ → Option ℕ
 count_fault text =
-  if not (writes_number 1 (2 ^ 64) (first_digits text)) then Some 0
-  else (if ends_entry (after_digits text) then None else Some (length (first_digits text)))
+    if not (writes_number 1 (2 ^ 64) (first_digits text)) then Some 0
+    else (if ends_entry (after_digits text) then None else Some (length (first_digits text)))
 
 -- the place of the fault of an entry that begins the text: at the first digit of a thread that is out of range or has a leading
 -- zero, at the first byte where no thread begins, at the first byte behind it that goes on in no entry, or in its count
 abbrev pub entry_fault : List ℕ → Option ℕ
 entry_fault text =
-  if not (writes_number 0 (2 ^ 32) (first_digits text)) then Some 0
-  else (if ends_entry (after_digits text) then None
-  else (if begins_count (after_digits text) then option_map (λ n. (length (first_digits text) + 1) + n) (count_fault (drop 1 (after_digits text)))
-  else Some (length (first_digits text))))
+    if not (writes_number 0 (2 ^ 32) (first_digits text)) then Some 0
+    else (if ends_entry (after_digits text) then None
+    else (if begins_count (after_digits text) then option_map (λ n. (length (first_digits text) + 1) + n) (count_fault (drop 1 (after_digits text)))
+    else Some (length (first_digits text))))
 
 -- the place of the fault at the front of the text, where neither a blank nor a comment nor the end stands there
 abbrev pub form_fault : List ℕ → Option ℕ

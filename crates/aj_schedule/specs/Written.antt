@@ -5,7 +5,7 @@ use Rattle.std.specs.List.{join_with_byte}
 -- groups of a thread and how often it steps in a row, after one step more in front
 abbrev pub with_step : ℕ → List (ℕ × ℕ) → List (ℕ × ℕ)
 with_step thread [] = (thread, 1) ∷ []
-with_step thread (group ∷ groups) = if thread == group.0 then (thread, group.1 + 1) ∷ groups else (thread, 1) ∷ (group ∷ groups)
+with_step thread (group ∷ groups) = if group.0 == thread then (thread, group.1 + 1) ∷ groups else (thread, 1) ∷ (group ∷ groups)
 
 -- the maximal groups of equal neighbours
 abbrev pub groups_of : List ℕ → List (ℕ × ℕ)

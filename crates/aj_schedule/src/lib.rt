@@ -10,3 +10,6 @@ mod writer;
 
 pub use reader::{SchedFault, read_schedule};
 pub use writer::write_schedule;
+
+#[cfg(test)]
+mod tests;

@@ -21,9 +21,15 @@ fn first_number(text: &[u8]) -> Number
     let length = digits_length(text);
     let digits = &text[..length];
     if has_leading_zero(digits) {
-        return Number { length, value: None };
+        return Number {
+            length,
+            value: None,
+        };
     }
-    Number { length, value: number_of(digits) }
+    Number {
+        length,
+        value: number_of(digits),
+    }
 }
 
 /// The same, where the number is from `low` to `high`.
@@ -34,7 +40,10 @@ pub(crate) fn number_within(text: &[u8], low: u64, high: u64) -> Number
         then Some (digits_value 10 (first_digits text.now)) else None) }
 {
     let Number { length, value } = first_number(text);
-    let none = Number { length, value: None };
+    let none = Number {
+        length,
+        value: None,
+    };
     let Some(number) = value else {
         return none;
     };
@@ -44,7 +53,10 @@ pub(crate) fn number_within(text: &[u8], low: u64, high: u64) -> Number
     if number > high {
         return none;
     }
-    Number { length, value: Some(number) }
+    Number {
+        length,
+        value: Some(number),
+    }
 }
 
 /// Whether digits begin with a 0 that is not the only one.

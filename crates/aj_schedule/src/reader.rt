@@ -143,7 +143,11 @@ fn read_entry(text: &[u8]) -> Result<Entry, usize>
     };
     let rest = &text[number.length..];
     if ends_entry(rest) {
-        return Ok(Entry { thread: thread as u32, count: None, length: number.length });
+        return Ok(Entry {
+            thread: thread as u32,
+            count: None,
+            length: number.length,
+        });
     }
     if rest[0] != b'*' {
         return Err(number.length);

@@ -1,5 +1,5 @@
 -- Digits are text, and `parse` reads them.
-use Rattle.std.proofs.Common.{◌≡◌, ◌∙◌, ◌^◌, ◌<◌, ℕ, true, sym, ap, subst, length}
+use Rattle.std.proofs.Common.{◌≡◌, ◌∙◌, ◌^◌, ◌<◌, true, sym, subst, length}
 use Rattle.std.proofs.lemmas.Fmt.{IsAscii-from_digits}
 use Rattle.std.proofs.lemmas.Str.{IsUtf8-from_ascii}
 use Rattle.std.proofs.lemmas.Str.Parse.{parse_digits}
@@ -14,7 +14,7 @@ returns-in_default c = absurd (c.in_default.ensures.cases.0 (IsUtf8-from_ascii c
 
 pub returns : goal.returns
 returns c =
-  let same = c.in-Ok.ensures.cases.0 in
-  let read = parse_digits numerals 64 c.in-Ok.text.now c.parse.result c.parse.ensures.value.0 (subst (λ t. all_ascii_digits t ≡ true) (sym same) c.requires) in
-  c.ok.ensures.value ∙ parsed c.parse.result (length c.args.digits.now) (digits_value 10 c.args.digits.now)
+    let same = c.in-Ok.ensures.cases.0 in
+    let read = parse_digits numerals 64 c.in-Ok.text.now c.parse.result c.parse.ensures.value.0 (subst (λ t. all_ascii_digits t ≡ true) (sym same) c.requires) in
+    c.ok.ensures.value ∙ parsed c.parse.result (length c.args.digits.now) (digits_value 10 c.args.digits.now)
     (subst (λ t. OkIff c.parse.result ((0 < length t) × (digits_value 10 t < 2 ^ 64)) (digits_value 10 t)) same read)

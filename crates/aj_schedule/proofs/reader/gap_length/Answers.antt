@@ -1,5 +1,5 @@
 -- A blank or a comment stands at the front.
-use Rattle.std.proofs.Common.{◌≡◌, ◌∙◌, ◌-◌, sym, refl, get_or, take, drop}
+use Rattle.std.proofs.Common.{◌∙◌, ◌-◌, sym, refl, get_or, take, drop}
 use Rattle.aj_schedule.specs.Text.{blank, comment}
 use Rattle.aj_schedule.proofs.FrontLemmas.{blank_front, comment_front}
 use Rattle.aj_schedule.proofs.reader.gap_length.Goals as goal
