@@ -1,0 +1,15 @@
+// The core program: what elaboration makes of a source, in numbers. Types, lent parts, and lock expressions.
+#![tactic(auto)]
+
+pub mod examples;
+mod laws;
+mod lock;
+mod program;
+mod tree;
+mod types;
+
+pub use laws::lists_as_plain_data;
+pub use lock::path_of;
+pub use program::{CoreClass, CoreField, CoreMethod, CoreProgram};
+pub use tree::{CoreExpr, CoreStmt};
+pub use types::{CoreOp, CoreType, UnaryOp};
