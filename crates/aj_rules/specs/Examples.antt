@@ -1,0 +1,1 @@
+-- Example assignments and bodies.

@@ -1,0 +1,11 @@
+// The rules of atomicity: relevant paths, guards, renamings, effects and accepted programs.
+// After Flanagan and Qadeer (2003), taken at one set of held locks at a time; the tables are this checker's own.
+#![tactic(auto)]
+
+mod guard;
+mod renaming;
+mod sets;
+
+pub use guard::{Guard, guard_at};
+pub use renaming::renaming_at;
+pub use sets::RelevantSets;
