@@ -1,0 +1,6 @@
+-- What the contracts of the machine cite.
+pub mod Step
+pub mod Waiting
+pub mod Run
+pub mod Words
+pub mod Units
