@@ -1,12 +1,12 @@
 -- The example programs are typed: each fact by computation.
-use Rattle.std.proofs.Common.{◌≡◌, ◌<◌, ◌≤◌, length, Bool, ℕ, zero, suc, ◌+◌, List, [], ◌∷◌, Some, None, true, false, refl, sym, ap, subst, arith, rules, ◌∙◌}
+use Rattle.std.proofs.Common.{◌≡◌, ◌<◌, ◌≤◌, length, Bool, ℕ, zero, suc, ◌+◌, List, [], ◌∷◌, Some, None, true, false, refl, sym, ap, subst, arith}
 use Rattle.std.specs.Prelude.{slice_get, Option, unwrap_or, is_some, T}
 use Rattle.aj_paths.specs.Paths.{path_order}
 use Rattle.std.specs.List.Sorted.{IsStrictlySortedBy}
 use Rattle.aj_core.specs.declared.types.CoreType.TheVariants as type
-use Rattle.aj_core.specs.Core.{Program, Class, Field, Method, Stmt, BlockS}
-use Rattle.aj_core.specs.Types.{int_type, boolean_type, class_type, Variable}
-use Rattle.aj_core.specs.Typed.{IsTyped, IsTypedClass, IsTypedField, IsTypedMethod, IsLock, IsEntry, IsTypedStmt, declared_in, stmt_height, stmt_nodes}
+use Rattle.aj_core.specs.Core.{Program, Class, Stmt}
+use Rattle.aj_core.specs.Types.{Variable}
+use Rattle.aj_core.specs.Typed.{IsTyped, IsTypedClass, IsTypedField, IsTypedMethod, IsLock, IsTypedStmt, declared_in, stmt_height, stmt_nodes}
 use Rattle.aj_core.specs.Examples.{this_path, plain_method, inc_body, run_body, start_worker, guarded_main, counter, nested, returns_locked, divides_by_zero}
 
 no_truth : false ≡ true → ⊥
@@ -31,15 +31,19 @@ each P xs all k x is = subst (λ m. P m x) (omega arith) (each_at P 0 xs all k x
 
 -- a product of three facts, and so on, as a list of them is
 counter_classes : EachFrom (IsTypedClass counter) 0 counter.classes
-counter_classes =
-    (record { fields = refl; finals = refl; run = tt; few = omega arith },
-    (record { fields = refl; finals = refl; run = record { method = _; is = refl; of_class = refl; no_parameters = refl; no_result = refl; no_locks = refl }; few = omega arith },
-    (record { fields = refl; finals = refl; run = tt; few = omega arith }, tt)))
+counter_classes = (
+  record { fields = refl; finals = refl; run = tt; few = omega arith },
+  (
+    record { fields = refl; finals = refl; run = record { method = _; is = refl; of_class = refl; no_parameters = refl; no_result = refl; no_locks = refl }; few = omega arith },
+    (record { fields = refl; finals = refl; run = tt; few = omega arith }, tt),
+  ),
+)
 
 counter_fields : EachFrom (IsTypedField counter) 0 counter.fields
-counter_fields =
-    (record { class = _; of_class = refl; index = refl; ty = tt; guard = record { root_class = 0; root = refl; fields = tt; short = omega arith }; unguarded = λ e. absurd (no_truth e) },
-    (record { class = _; of_class = refl; index = refl; ty = omega arith; guard = tt; unguarded = λ e. refl }, tt))
+counter_fields = (
+  record { class = _; of_class = refl; index = refl; ty = tt; guard = record { root_class = 0; root = refl; fields = tt; short = omega arith }; unguarded = λ e. absurd (no_truth e) },
+  (record { class = _; of_class = refl; index = refl; ty = omega arith; guard = tt; unguarded = λ e. refl }, tt),
+)
 
 this_lock : (c : ℕ) (P : Program) (scope : List Variable) → IsLock P c scope this_path
 this_lock c P scope = record { root_class = c; root = refl; fields = tt; short = omega arith }
@@ -69,22 +73,28 @@ worker_is_typed : IsTypedStmt counter 2 None start_worker (record { slot = 1; is
 worker_is_typed = (1, (_, refl, ((_, ((0, omega arith, refl), refl), refl), tt), refl), (_, refl, refl))
 
 counter_methods : EachFrom (λ m. IsTypedMethod counter) 0 counter.methods
-counter_methods =
-    (plain_typed counter 0 48 true inc_body (omega arith) refl ((this_lock 0 counter [], ((_, refl, refl, refl, (_, (_, _, (_, refl, refl, refl), refl, refl), refl)), tt)), tt) (omega arith),
-    (plain_typed counter 1 187 false run_body (omega arith) refl ((_, (_, refl, (_, refl, refl, refl), tt, refl), refl, refl), tt) (omega arith),
-    (record {
-      class = omega arith;
-      params = λ k d h. absurd (omega arith);
-      result = tt;
-      locks = λ k d h. absurd (omega arith);
-      ascending = none_ascend;
-      slots = refl;
-      body = ((refl, omega arith, (_, (_, refl, tt, refl), refl)), (worker_is_typed, (worker_is_typed, tt)));
-      returns = λ e. absurd (no_truth e);
-      low = omega arith;
-      few_params = omega arith;
-      few_locals = omega arith;
-    }, tt)))
+counter_methods = (
+  plain_typed counter 0 48 true inc_body (omega arith) refl ((this_lock 0 counter [], ((_, refl, refl, refl, (_, (_, _, (_, refl, refl, refl), refl, refl), refl)), tt)), tt) (omega arith),
+  (
+    plain_typed counter 1 187 false run_body (omega arith) refl ((_, (_, refl, (_, refl, refl, refl), tt, refl), refl, refl), tt) (omega arith),
+    (
+      record {
+        class = omega arith;
+        params = λ k d h. absurd (omega arith);
+        result = tt;
+        locks = λ k d h. absurd (omega arith);
+        ascending = none_ascend;
+        slots = refl;
+        body = ((refl, omega arith, (_, (_, refl, tt, refl), refl)), (worker_is_typed, (worker_is_typed, tt)));
+        returns = λ e. absurd (no_truth e);
+        low = omega arith;
+        few_params = omega arith;
+        few_locals = omega arith;
+      },
+      tt,
+    ),
+  ),
+)
 
 abbrev finals_of : Option Class → List ℕ
 finals_of None = []

@@ -1,10 +1,10 @@
 -- Example programs, as elaboration gives them.
-use Rattle.std.specs.Prelude.{ℕ, pos, Bool, true, false, List, [], ◌∷◌, Option, Some, None}
+use Rattle.std.specs.Prelude.{ℕ, pos, Bool, true, false, [], ◌∷◌, Some, None}
 use Rattle.aj_paths.specs.Paths.{PathData}
-use Rattle.aj_core.specs.declared.types.CoreOp.TheVariants.{Add, Div, Mul}
+use Rattle.aj_core.specs.declared.types.CoreOp.TheVariants.{Add, Div}
 use Rattle.aj_core.specs.declared.types.CoreType.TheVariants as type
-use Rattle.aj_core.specs.Core.{Program, Class, Field, Method, Expr, Exprs, IntE, ThisE, VarE, NegE, BinaryE, GetE, CallE, NewE, no_exprs, and_expr}
-use Rattle.aj_core.specs.Core.{Stmt, Stmts, BlockS, LocalS, SetFieldS, DoS, SyncS, ReturnS, PrintS, StartS, no_stmts, and_stmt}
+use Rattle.aj_core.specs.Core.{Program, Method, IntE, ThisE, VarE, BinaryE, GetE, CallE, NewE, no_exprs, and_expr}
+use Rattle.aj_core.specs.Core.{Stmt, BlockS, LocalS, SetFieldS, DoS, SyncS, ReturnS, PrintS, StartS, no_stmts, and_stmt}
 use Rattle.aj_core.specs.Locks.{slot_path}
 
 -- the path `this`

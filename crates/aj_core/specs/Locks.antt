@@ -1,5 +1,5 @@
 -- Lock expressions: `this`, a final parameter or a final local, followed by final fields, where the whole has a class type.
-use Rattle.std.specs.Prelude.{ℕ, Bool, true, false, ◌&&◌, List, [], ◌∷◌, Option, Some, None, slice_get, if◌then◌else◌}
+use Rattle.std.specs.Prelude.{ℕ, Bool, true, false, ◌&&◌, [], ◌∷◌, Option, Some, None, slice_get, if◌then◌else◌}
 use Rattle.aj_paths.specs.Paths.{PathData, extended_some}
 use Rattle.aj_core.specs.declared.types.CoreType.{CoreType}
 use Rattle.aj_core.specs.declared.types.CoreType.TheVariants.{Int, Boolean, Class}

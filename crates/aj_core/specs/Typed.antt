@@ -1,12 +1,12 @@
 -- Typed core programs: what elaboration gives, said of the core program's own parts.
-use Rattle.std.specs.Prelude.{◌≡◌, ◌≢◌, ℕ, zero, suc, ◌+◌, ◌<◌, ◌≤◌, Bool, true, false, not, ◌&&◌, ◌||◌, ◌==◌, List, [], ◌∷◌, length, filter, Option, Some, None, IfSome, IsSome, All, Contains, max, slice_get, sum_by, if◌then◌else◌}
+use Rattle.std.specs.Prelude.{◌≡◌, ℕ, zero, suc, ◌+◌, ◌<◌, ◌≤◌, Bool, true, false, not, ◌&&◌, ◌||◌, ◌==◌, List, [], ◌∷◌, length, filter, Option, Some, None, IfSome, IsSome, All, Contains, max, slice_get, sum_by, if◌then◌else◌}
 use Rattle.std.specs.List.Sorted.{IsStrictlySortedBy}
 use Rattle.aj_paths.specs.Paths.{PathData, path_order, most_fields}
 use Rattle.aj_core.specs.declared.types.CoreType.{CoreType}
 use Rattle.aj_core.specs.declared.types.CoreType.TheVariants as type
-use Rattle.aj_core.specs.Core.{Program, Class, Field, Method, Expr, Exprs, IntE, TruthE, NullE, ThisE, VarE, NotE, NegE, BinaryE, AndE, OrE, GetE, CallE, NewE, no_exprs, and_expr}
+use Rattle.aj_core.specs.Core.{Program, Class, Field, Method, Expr, Exprs, TruthE, NotE, NegE, BinaryE, AndE, OrE, GetE, CallE, NewE, no_exprs, and_expr}
 use Rattle.aj_core.specs.Core.{Stmt, Stmts, EmptyS, BlockS, LocalS, SetVarS, SetFieldS, DoS, IfS, WhileS, SyncS, ReturnS, PrintS, StartS, no_stmts, and_stmt}
-use Rattle.aj_core.specs.Types.{NodeType, ValueT, VoidT, int_type, boolean_type, class_type, Variable, HasType, HasFit}
+use Rattle.aj_core.specs.Types.{NodeType, VoidT, int_type, boolean_type, class_type, Variable, HasType, HasFit}
 
 -- Limits.
 abbrev pub most_height : ℕ

@@ -3,11 +3,10 @@ ghost use Rattle.std.specs.Prelude.{◌≡◌, slice_get};
 ghost use Rattle.aj_core.specs.Views.{program_of, expr_of};
 ghost use Rattle.aj_core.specs.Locks.{path_of, get_path, leads_on};
 
-use aj_paths::{FieldId, Path, extend};
-
 use crate::program::CoreProgram;
 use crate::tree::CoreExpr;
 use crate::types::CoreType;
+use aj_paths::{FieldId, Path, extend};
 
 /// The path of a lock expression; `None` exactly where the expression is none.
 pub fn path_of(program: &CoreProgram, e: &CoreExpr) -> Option<Path>
@@ -15,7 +14,11 @@ pub fn path_of(program: &CoreProgram, e: &CoreExpr) -> Option<Path>
 {
     match e {
         CoreExpr::This => Some(Path::of_root(0)),
-        CoreExpr::Var { slot, is_final: true, ty: CoreType::Class(_) } => Some(Path::of_root(*slot)),
+        CoreExpr::Var {
+            slot,
+            is_final: true,
+            ty: CoreType::Class(_),
+        } => Some(Path::of_root(*slot)),
         CoreExpr::Get(receiver, field) => get_path(program, *field, path_of(program, receiver)),
         _ => None,
     }

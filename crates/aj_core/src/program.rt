@@ -2,10 +2,9 @@
 ghost use Rattle.std.specs.Prelude.{◌≡◌, map};
 ghost use Rattle.aj_core.specs.Views.{program_of, class_of, field_of, method_of};
 
-use aj_paths::{ClassId, FieldId, MethodId, Path};
-
 use crate::tree::CoreStmt;
 use crate::types::CoreType;
+use aj_paths::{ClassId, FieldId, MethodId, Path};
 
 /// A program in numbers. Ids count from 0 in source order over the whole program.
 /// The object that stands at the start is of `main_class`, the class `Main`.

@@ -1,7 +1,6 @@
 // Expressions and statements of the core program.
-use aj_paths::{ClassId, FieldId, MethodId, Path};
-
 use crate::types::{CoreOp, CoreType};
+use aj_paths::{ClassId, FieldId, MethodId, Path};
 
 /// An expression. A variable carries the finality and type of its slot.
 #[derive(Drop)]
@@ -10,7 +9,11 @@ pub enum CoreExpr {
     Truth(bool),
     Null,
     This,
-    Var { slot: u16, is_final: bool, ty: CoreType },
+    Var {
+        slot: u16,
+        is_final: bool,
+        ty: CoreType,
+    },
     Not(Box<CoreExpr>),
     Neg(Box<CoreExpr>),
     Binary(CoreOp, Box<CoreExpr>, Box<CoreExpr>),
@@ -26,7 +29,12 @@ pub enum CoreExpr {
 pub enum CoreStmt {
     Empty,
     Block(Vec<CoreStmt>),
-    Local { slot: u16, is_final: bool, ty: CoreType, value: Box<CoreExpr> },
+    Local {
+        slot: u16,
+        is_final: bool,
+        ty: CoreType,
+        value: Box<CoreExpr>,
+    },
     SetVar(u16, Box<CoreExpr>),
     SetField(Box<CoreExpr>, FieldId, Box<CoreExpr>),
     Do(Box<CoreExpr>, bool),

@@ -1,1 +1,5 @@
 -- Lemmas on the machine.
+pub mod StepCases
+pub mod RunLemmas
+pub mod WordLemmas
+pub mod PlainRuns

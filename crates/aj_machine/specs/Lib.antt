@@ -4,3 +4,4 @@ pub mod Waiting
 pub mod Run
 pub mod Words
 pub mod Units
+pub mod Examples

@@ -1,8 +1,6 @@
 -- One step: the action of one thread, its kind, and what it changes.
-use Rattle.std.specs.Prelude.{ℕ, zero, suc, ◌+◌, ◌-◌, ℤ, Bool, true, false, not, ◌==◌, nat_lt, List, [], ◌∷◌, ◌++◌, length, Option, Some, None, is_some, option_and_then, slice_get, slice_set, if◌then◌else◌}
+use Rattle.std.specs.Prelude.{ℕ, ◌+◌, ◌-◌, ℤ, Bool, true, false, ◌==◌, nat_lt, List, [], ◌∷◌, ◌++◌, length, Option, Some, None, is_some, option_and_then, slice_get, slice_set, if◌then◌else◌}
 use Rattle.std.specs.FinMap as map
-use Rattle.aj_core.specs.declared.types.UnaryOp.{UnaryOp}
-use Rattle.aj_core.specs.declared.types.CoreOp.{CoreOp}
 use Rattle.aj_paths.specs.Paths.{PathData}
 use Rattle.aj_core.specs.Core.{Program, Class, Field, Method, Expr, Stmt, WhileS}
 use Rattle.aj_state.specs.declared.value.Address.{Address}

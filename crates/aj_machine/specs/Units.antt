@@ -2,7 +2,7 @@
 use Rattle.std.specs.Prelude.{ℕ, ◌+◌, Bool, true, false, ◌==◌, nat_le, List, [], ◌∷◌, ◌++◌, map, if◌then◌else◌}
 use Rattle.aj_core.specs.Core.{Program}
 use Rattle.aj_state.specs.declared.value.StepKind.{StepKind}
-use Rattle.aj_state.specs.declared.value.StepKind.TheVariants.{Both, Right, Left, Other, Bare}
+use Rattle.aj_state.specs.declared.value.StepKind.TheVariants.{Left, Other}
 use Rattle.aj_state.specs.States.{State, initial}
 use Rattle.aj_machine.specs.Step.{Outcome, Moves, outcome, moved}
 use Rattle.aj_machine.specs.Run.{inside}

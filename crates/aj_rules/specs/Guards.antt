@@ -1,5 +1,5 @@
 -- The guard of an access, as it is known there.
-use Rattle.std.specs.Prelude.{ℕ, Bool, Option, Some, None, slice_get, if◌then◌else◌}
+use Rattle.std.specs.Prelude.{ℕ, Option, Some, None, slice_get, if◌then◌else◌}
 use Rattle.aj_paths.specs.Paths.{PathData, extended_some}
 use Rattle.aj_core.specs.Core.{Program, Field}
 use Rattle.aj_rules.specs.declared.guard.Guard.{Guard}

@@ -19,10 +19,8 @@ pub enum Guard {
 
 /// The guard of an access to a field of this receiver.
 pub fn guard_at(program: &CoreProgram, receiver: &CoreExpr, field: FieldId) -> Guard
-    ensures {
-        let P = program_of program.now in
-        result ≡ guard_of P field (path_of P (expr_of receiver.now))
-    }
+    ensures { let P = program_of program.now in
+        result ≡ guard_of P field (path_of P (expr_of receiver.now)) }
 {
     let Some(accessed) = program.fields().get(field.0 as usize) else {
         return Guard::Unnamed;

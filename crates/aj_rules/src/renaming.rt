@@ -6,11 +6,10 @@ ghost use Rattle.aj_core.specs.Views.{program_of, expr_of, exprs_from};
 ghost use Rattle.aj_rules.specs.Mentions.{paths_of};
 ghost use Rattle.aj_rules.specs.Near.{rel_of};
 
+use crate::sets::RelevantSets;
 use aj_core::{CoreExpr, CoreProgram, path_of};
 use aj_paths::{MethodId, Path, Renaming, under_call};
 use std::alloc::{AllocError as NoMemory, Global};
-
-use crate::sets::RelevantSets;
 
 /// Each relevant path of the callee with its name at a call on this receiver with these arguments.
 pub fn renaming_at(
@@ -31,13 +30,20 @@ pub fn renaming_at(
     let arg_paths = paths_of(alloc, program, args)?;
     let mut pairs = Vec::new(alloc);
     for path in sets.rel(callee) {
-        pairs.push((path.copy(), under_call(path, receiver_path.as_ref(), arg_paths.as_slice())))?;
+        pairs.push((
+            path.copy(),
+            under_call(path, receiver_path.as_ref(), arg_paths.as_slice()),
+        ))?;
     }
     Ok(Renaming { pairs })
 }
 
 /// The path of each argument, or none.
-fn paths_of(alloc: Global, program: &CoreProgram, args: &[CoreExpr]) -> Result<Vec<Option<Path>>, NoMemory>
+fn paths_of(
+    alloc: Global,
+    program: &CoreProgram,
+    args: &[CoreExpr],
+) -> Result<Vec<Option<Path>>, NoMemory>
     ensures { IfOk result (λ paths. paths.items ≡ paths_of (program_of program.now) (exprs_from args.now)) }
 {
     let mut paths = Vec::new(alloc);

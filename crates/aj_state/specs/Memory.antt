@@ -1,12 +1,12 @@
 -- What all threads share: the heap of objects and the table of held locks.
-use Rattle.std.specs.Prelude.{ℕ, Bool, true, false, ◌==◌, List, [], ◌∷◌, Option, Some, None, slice_get, slice_set, count_by, if◌then◌else◌}
+use Rattle.std.specs.Prelude.{ℕ, ◌==◌, List, [], ◌∷◌, Option, Some, None, slice_get, slice_set, count_by, if◌then◌else◌}
 use Rattle.std.specs.declared.cmp.Ordering.{Ordering}
 use Rattle.std.specs.Ordering.{nat_cmp, ordering_then}
 use Rattle.std.specs.FinMap as map
 use Rattle.aj_core.specs.Core.{Program, Field}
 use Rattle.aj_state.specs.declared.value.Address.{Address}
 use Rattle.aj_state.specs.declared.value.Value.{Value}
-use Rattle.aj_state.specs.declared.value.Value.TheVariants.{Null, Ref}
+use Rattle.aj_state.specs.declared.value.Value.TheVariants.{Null}
 use Rattle.aj_state.specs.Values.{default_value, top, under}
 
 -- the order of addresses: by thread, then by count

@@ -1,6 +1,5 @@
 -- What a frame has still to do, and how its first item is opened until it is an action.
-use Rattle.std.specs.Prelude.{ℕ, true, false, pos, List, [], ◌∷◌, Option, Some, None}
-use Rattle.aj_paths.specs.Paths.{PathData}
+use Rattle.std.specs.Prelude.{ℕ, true, false, List, [], ◌∷◌, Option, Some, None}
 use Rattle.aj_core.specs.declared.types.CoreOp.{CoreOp}
 use Rattle.aj_core.specs.declared.types.UnaryOp.{UnaryOp}
 use Rattle.aj_core.specs.declared.types.UnaryOp.TheVariants.{Not, Neg}
