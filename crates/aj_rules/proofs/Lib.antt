@@ -1,1 +1,5 @@
 -- Lemmas on the rules.
+pub mod BasicLemmas
+pub mod SetLemmas
+pub mod Falling
+pub mod NearOnly

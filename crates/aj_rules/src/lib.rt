@@ -3,9 +3,11 @@
 #![tactic(auto)]
 
 mod guard;
+mod laws;
 mod renaming;
 mod sets;
 
 pub use guard::{Guard, guard_at};
+pub use laws::{more_held_paths_fall, only_near_paths_count};
 pub use renaming::renaming_at;
 pub use sets::RelevantSets;
