@@ -3,3 +3,4 @@ pub mod BasicLemmas
 pub mod SetLemmas
 pub mod Falling
 pub mod NearOnly
+pub mod EffectExamples

@@ -52,7 +52,7 @@ module _ (P : Program) (rel : ℕ → List PathData) (A : Assignment) (N : PathD
   covers_rest x xs c = covers_part (x ∷ xs) xs (λ y has. contains_later x y xs has) c
 
   -- two sets that agree on these paths
-  Agree : Held → Held → Type 0
+  abbrev Agree : Held → Held → Type 0
   Agree H K = (q : PathData) → N q → H q ≡ K q
 
   access_same : (g : Guard) (H K : Held) → ((p : PathData) → g ≡ Named p → H p ≡ K p) → access_effect g H ≡ access_effect g K
@@ -77,24 +77,20 @@ module _ (P : Program) (rel : ℕ → List PathData) (A : Assignment) (N : PathD
   equal_numbers a b e = grind (arith, nat_tests)
 
   under_same : (xs : List Mention) (e : Expr) (m : ℕ) (args : Exprs) (H K : Held) → Covers xs → Contains xs (Calls e m args) → (Agree H K) → held_under (rel m) (path_of P e) (paths_of P args) H ≡ held_under (rel m) (path_of P e) (paths_of P args) K
-  unfolding Agree
   under_same xs e m args H K c has same = λ i q. and_same (has_path (rel m) q) _ _
       (λ relevant. holds_same (under_call (path_of P e) (paths_of P args) q) H K (λ p is. same p (c.calls e m args q p has relevant is))) i
 
   -- a call at a set that its callee begins with
-  call_with : ℕ → Held → Basic
+  abbrev call_with : ℕ → Held → Basic
   call_with m S = if list_all S (required_paths (slice_get P.methods m)) then A m S else Error
 
   call_same : (xs : List Mention) (e : Expr) (m : ℕ) (args : Exprs) (H K : Held) → Covers xs → Contains xs (Calls e m args) → Agree H K → call_of P rel A m (path_of P e) (paths_of P args) H ≡ call_of P rel A m (path_of P e) (paths_of P args) K
-  unfolding call_with
   call_same xs e m args H K c has same = ap (call_with m) (under_same xs e m args H K c has same)
 
   with_same : (p : PathData) (H K : Held) → Agree H K → Agree (with_path p H) (with_path p K)
-  unfolding Agree
   with_same p H K same q near = ap (λ b. path_eq p q || b) (same q near)
 
   local_same : (xs : List Mention) (x : ℕ) (e : Expr) (o : Option PathData) → path_of P e ≡ o → (H K : Held) → Covers xs → Contains xs (Names x e) → Agree H K → Agree (after_local H x o) (after_local K x o)
-  unfolding Agree
   local_same xs x e None is H K c has same q near = if_same (q.root == x) false (H q) false (K q) (λ _. refl) (same q near)
   local_same xs x e (Some start) is H K c has same q near = if_same (q.root == x) _ (H q) _ (K q)
       (λ rooted. holds_same (extended start q.fields) H K (λ p fits. same p (c.names x e start q p has is near (equal_numbers _ _ rooted) fits)))
@@ -119,7 +115,6 @@ module _ (P : Program) (rel : ℕ → List PathData) (A : Assignment) (N : PathD
   seq_same e f = λ i. seq_of (e i) (f i)
 
   guard_same : (xs : List Mention) (e : Expr) (f : ℕ) (H K : Held) → Covers xs → Contains xs (Accesses e f) → Agree H K → access_effect (guard_of P f (path_of P e)) H ≡ access_effect (guard_of P f (path_of P e)) K
-  unfolding Agree
   guard_same xs e f H K c has same = access_same (guard_of P f (path_of P e)) H K (λ p is. same p (c.guards e f p has is))
 
   mutual
@@ -149,7 +144,6 @@ module _ (P : Program) (rel : ℕ → List PathData) (A : Assignment) (N : PathD
 
   mutual
     stmt_same : (s : Stmt) (H K : Held) → Covers (mentions s) → Agree H K → effect P rel A s H ≡ effect P rel A s K
-    unfolding Agree
     stmt_same EmptyS H K c same = refl
     stmt_same (BlockS ss) H K c same = block_same ss H K c same
     stmt_same (LocalS x true ty e) H K c same = seq_same (expr_same e H K (covers_rest (Names x e) (expr_mentions e) c) same) refl
@@ -193,8 +187,8 @@ module _ (P : Program) (sets : List MethodPaths) (relevant : AreRelevant P sets)
   rel_is m None is q has = absurd cc
   rel_is m (Some paths) is q has = ((relevant.each m paths is).rel q).0 has
 
-  near_covers : (m : ℕ) (method : Method) → slice_get P.methods m ≡ Some method → Covers P (rel_of sets) (λ H S. Const) (Near P m) (mentions method.body)
-  near_covers m method is = record {
+  near_covers : (A : Assignment) (m : ℕ) (method : Method) → slice_get P.methods m ≡ Some method → Covers P (rel_of sets) A (Near P m) (mentions method.body)
+  near_covers A m method is = record {
     guards = λ e f p has guard. guarded e f (method, is, has) guard;
     locks = λ p has. locked (method, is, has);
     calls = λ e callee args q p has in_rel under. let r = rel_is callee _ refl q in_rel in called e callee args q (method, is, has) r.0 r.1 under;
@@ -202,7 +196,7 @@ module _ (P : Program) (sets : List MethodPaths) (relevant : AreRelevant P sets)
   }
 
   pub near_only_in : (A : Assignment) (m : ℕ) (method : Method) → slice_get P.methods m ≡ Some method → (H K : Held) → ((q : PathData) → Near P m q → H q ≡ K q) → effect P (rel_of sets) A method.body H ≡ effect P (rel_of sets) A method.body K
-  near_only_in A m method is H K same = stmt_same P (rel_of sets) A (Near P m) method.body H K (near_covers m method is) same
+  near_only_in A m method is H K same = stmt_same P (rel_of sets) A (Near P m) method.body H K (near_covers A m method is) same
 
 pub near_only : (P : Program) (sets : List MethodPaths) (A : Assignment) → AreRelevant P sets → (m : ℕ) (method : Method) → slice_get P.methods m ≡ Some method → (H K : Held) → ((q : PathData) → Near P m q → H q ≡ K q) → effect P (rel_of sets) A method.body H ≡ effect P (rel_of sets) A method.body K
 near_only P sets A relevant m method is H K same = near_only_in P sets relevant A m method is H K same

@@ -2,6 +2,7 @@
 // After Flanagan and Qadeer (2003), taken at one set of held locks at a time; the tables are this checker's own.
 #![tactic(auto)]
 
+pub mod examples;
 mod guard;
 mod laws;
 mod renaming;
