@@ -45,20 +45,20 @@ below_lift = each (λ a. below_of a (lift_of a)) refl
 pub below_chain : (a b c : Basic) → AtMost a b → AtMost b c → AtMost a c
 below_chain a b c h k =
     follows _ _ (follows _ _ (each (λ c. implies (below_of a b) (implies (below_of b c) (below_of a c)))
-      (each (λ b. every (λ c. implies (below_of a b) (implies (below_of b c) (below_of a c))))
-        (each (λ a. every (λ b. every (λ c. implies (below_of a b) (implies (below_of b c) (below_of a c))))) refl a) b) c) h) k
+    (each (λ b. every (λ c. implies (below_of a b) (implies (below_of b c) (below_of a c))))
+    (each (λ a. every (λ b. every (λ c. implies (below_of a b) (implies (below_of b c) (below_of a c))))) refl a) b) c) h) k
 
 seq_first : (a b c : Basic) → AtMost a b → AtMost (seq_of a c) (seq_of b c)
 seq_first a b c h =
     follows _ _ (each (λ c. implies (below_of a b) (below_of (seq_of a c) (seq_of b c)))
-      (each (λ b. every (λ c. implies (below_of a b) (below_of (seq_of a c) (seq_of b c))))
-        (each (λ a. every (λ b. every (λ c. implies (below_of a b) (below_of (seq_of a c) (seq_of b c))))) refl a) b) c) h
+    (each (λ b. every (λ c. implies (below_of a b) (below_of (seq_of a c) (seq_of b c))))
+    (each (λ a. every (λ b. every (λ c. implies (below_of a b) (below_of (seq_of a c) (seq_of b c))))) refl a) b) c) h
 
 seq_second : (a b c : Basic) → AtMost a b → AtMost (seq_of c a) (seq_of c b)
 seq_second a b c h =
     follows _ _ (each (λ c. implies (below_of a b) (below_of (seq_of c a) (seq_of c b)))
-      (each (λ b. every (λ c. implies (below_of a b) (below_of (seq_of c a) (seq_of c b))))
-        (each (λ a. every (λ b. every (λ c. implies (below_of a b) (below_of (seq_of c a) (seq_of c b))))) refl a) b) c) h
+    (each (λ b. every (λ c. implies (below_of a b) (below_of (seq_of c a) (seq_of c b))))
+    (each (λ a. every (λ b. every (λ c. implies (below_of a b) (below_of (seq_of c a) (seq_of c b))))) refl a) b) c) h
 
 pub seq_mono : (a b c d : Basic) → AtMost a b → AtMost c d → AtMost (seq_of a c) (seq_of b d)
 seq_mono a b c d h k = below_chain _ _ _ (seq_first a b c h) (seq_second c d b k)
@@ -66,14 +66,14 @@ seq_mono a b c d h k = below_chain _ _ _ (seq_first a b c h) (seq_second c d b k
 join_first : (a b c : Basic) → AtMost a b → AtMost (join_of a c) (join_of b c)
 join_first a b c h =
     follows _ _ (each (λ c. implies (below_of a b) (below_of (join_of a c) (join_of b c)))
-      (each (λ b. every (λ c. implies (below_of a b) (below_of (join_of a c) (join_of b c))))
-        (each (λ a. every (λ b. every (λ c. implies (below_of a b) (below_of (join_of a c) (join_of b c))))) refl a) b) c) h
+    (each (λ b. every (λ c. implies (below_of a b) (below_of (join_of a c) (join_of b c))))
+    (each (λ a. every (λ b. every (λ c. implies (below_of a b) (below_of (join_of a c) (join_of b c))))) refl a) b) c) h
 
 join_second : (a b c : Basic) → AtMost a b → AtMost (join_of c a) (join_of c b)
 join_second a b c h =
     follows _ _ (each (λ c. implies (below_of a b) (below_of (join_of c a) (join_of c b)))
-      (each (λ b. every (λ c. implies (below_of a b) (below_of (join_of c a) (join_of c b))))
-        (each (λ a. every (λ b. every (λ c. implies (below_of a b) (below_of (join_of c a) (join_of c b))))) refl a) b) c) h
+    (each (λ b. every (λ c. implies (below_of a b) (below_of (join_of c a) (join_of c b))))
+    (each (λ a. every (λ b. every (λ c. implies (below_of a b) (below_of (join_of c a) (join_of c b))))) refl a) b) c) h
 
 pub join_mono : (a b c d : Basic) → AtMost a b → AtMost c d → AtMost (join_of a c) (join_of b d)
 join_mono a b c d h k = below_chain _ _ _ (join_first a b c h) (join_second c d b k)
@@ -81,9 +81,9 @@ join_mono a b c d h k = below_chain _ _ _ (join_first a b c h) (join_second c d 
 pub star_mono : (a b : Basic) → AtMost a b → AtMost (star_of a) (star_of b)
 star_mono a b h =
     follows _ _ (each (λ b. implies (below_of a b) (below_of (star_of a) (star_of b)))
-      (each (λ a. every (λ b. implies (below_of a b) (below_of (star_of a) (star_of b)))) refl a) b) h
+    (each (λ a. every (λ b. implies (below_of a b) (below_of (star_of a) (star_of b)))) refl a) b) h
 
 pub lift_mono : (a b : Basic) → AtMost a b → AtMost (lift_of a) (lift_of b)
 lift_mono a b h =
     follows _ _ (each (λ b. implies (below_of a b) (below_of (lift_of a) (lift_of b)))
-      (each (λ a. every (λ b. implies (below_of a b) (below_of (lift_of a) (lift_of b)))) refl a) b) h
+    (each (λ a. every (λ b. implies (below_of a b) (below_of (lift_of a) (lift_of b)))) refl a) b) h

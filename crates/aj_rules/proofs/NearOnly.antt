@@ -134,8 +134,8 @@ module _ (P : Program) (rel : ℕ → List PathData) (A : Assignment) (N : PathD
     expr_same (CallE e m args) H K c same =
         let rest = covers_rest (Calls e m args) (expr_mentions e ++ exprs_mentions args) c in
         seq_same (expr_same e H K (covers_left (expr_mentions e) (exprs_mentions args) rest) same)
-          (seq_same (exprs_same args H K (covers_right (expr_mentions e) (exprs_mentions args) rest) same)
-            (call_same _ e m args H K c (contains_here (Calls e m args) (expr_mentions e ++ exprs_mentions args)) same))
+        (seq_same (exprs_same args H K (covers_right (expr_mentions e) (exprs_mentions args) rest) same)
+        (call_same _ e m args H K c (contains_here (Calls e m args) (expr_mentions e ++ exprs_mentions args)) same))
     expr_same (NewE x args) H K c same = seq_same (exprs_same args H K c same) refl
 
     exprs_same : (es : Exprs) (H K : Held) → Covers (exprs_mentions es) → Agree H K → exprs_effect P rel A es H ≡ exprs_effect P rel A es K
@@ -152,8 +152,8 @@ module _ (P : Program) (rel : ℕ → List PathData) (A : Assignment) (N : PathD
     stmt_same (SetFieldS e f g) H K c same =
         let rest = covers_rest (Accesses e f) (expr_mentions e ++ expr_mentions g) c in
         seq_same (expr_same e H K (covers_left (expr_mentions e) (expr_mentions g) rest) same)
-          (seq_same (expr_same g H K (covers_right (expr_mentions e) (expr_mentions g) rest) same)
-            (guard_same _ e f H K c (contains_here (Accesses e f) (expr_mentions e ++ expr_mentions g)) same))
+        (seq_same (expr_same g H K (covers_right (expr_mentions e) (expr_mentions g) rest) same)
+        (guard_same _ e f H K c (contains_here (Accesses e f) (expr_mentions e ++ expr_mentions g)) same))
     stmt_same (DoS e drops) H K c same = expr_same e H K c same
     stmt_same (IfS b s t) H K c same =
         let parts = covers_right (expr_mentions b) (mentions s ++ mentions t) c in

@@ -7,15 +7,15 @@ use std::marker::Model;
 
 /// The paths of one method, ascending.
 #[derive(Drop)]
-struct PathsOfMethod {
-    rel: Vec<Path>,
-    loc: Vec<Path>,
+pub(crate) struct PathsOfMethod {
+    pub(crate) rel: Vec<Path>,
+    pub(crate) loc: Vec<Path>,
 }
 
 /// For each method its relevant paths, rooted at `this` or a parameter, and those near it that are rooted at its locals.
 #[derive(Drop)]
 pub struct RelevantSets {
-    methods: Vec<PathsOfMethod>,
+    pub(crate) methods: Vec<PathsOfMethod>,
 }
 
 impl Model for RelevantSets {
