@@ -10,19 +10,12 @@ use Rattle.std.proofs.lemmas.Cmp.{on_total, then_total}
 use Rattle.std.proofs.lemmas.Map.Lookups.{CmpEqualImpliesEq, exact_pairs, exact_unsigned}
 use Rattle.aj_core.specs.Core.{Program}
 use Rattle.aj_state.specs.declared.value.Address.{Address}
-use Rattle.aj_state.specs.Memory.{address_cmp, Object, Hold, with_value}
+use Rattle.aj_state.specs.Memory.{address_cmp, Object, Hold, with_value, with_object, with_lock}
+use Rattle.aj_state.proofs.Addresses.{address_total, address_exact}
 use Rattle.aj_state.specs.States.{Thread, Ready, State, initial, new_object, main_address}
-use Rattle.aj_machine.specs.Step.{Shared, Change, Nothing, FieldIs, ObjectIs, LockIs, Prints, Starts, Move, Outcome, Moves, Absent, IsDone, HadFaulted, Waits, turn, seen_by, outcome, changed, moved, with_object, with_lock, state_after}
+use Rattle.aj_machine.specs.Step.{Shared, Change, Nothing, FieldIs, ObjectIs, LockIs, Prints, Starts, Move, Outcome, Moves, Absent, IsDone, HadFaulted, Waits, turn, seen_by, outcome, changed, moved, state_after}
 use Rattle.aj_machine.specs.Run.{run_from, run, inside, is_inside_some}
 use Rattle.aj_machine.specs.Units.{Entry, entry_then, entries_from, entries}
-
--- Addresses.
-
-pub address_total : IsTotalOrder address_cmp
-address_total = then_total (on_total (λ a. a.thread) nat_cmp_total) (on_total (λ a. a.count) nat_cmp_total)
-
-pub address_exact : CmpEqualImpliesEq address_cmp
-address_exact a b h = ap (λ (p : ℕ × ℕ). record { thread = p.0; count = p.1 }) (exact_pairs nat_cmp nat_cmp exact_unsigned exact_unsigned (a.thread, a.count) (b.thread, b.count) h)
 
 -- Maps made from sorted entries.
 

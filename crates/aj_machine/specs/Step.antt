@@ -11,7 +11,7 @@ use Rattle.aj_state.specs.declared.value.Fault.TheVariants as fault
 use Rattle.aj_state.specs.declared.value.StepKind.{StepKind}
 use Rattle.aj_state.specs.declared.value.StepKind.TheVariants.{Both, Right, Left, Other, Bare}
 use Rattle.aj_state.specs.Values.{top, under, taken, dropped, as_int, as_truth, address_of, unary_value, binary_value}
-use Rattle.aj_state.specs.Memory.{Object, Hold, Heap, Locks, made_by, field_value, with_value}
+use Rattle.aj_state.specs.Memory.{Object, Hold, Heap, Locks, made_by, field_value, with_field, with_lock}
 use Rattle.aj_state.specs.Work as W
 use Rattle.aj_state.specs.Work.{Action, Item, Ex, St, Act, Next, unfolded}
 use Rattle.aj_state.specs.States.{Frame, Thread, Ready, Running, Done, Faulted, State, new_frame, new_object}
@@ -312,20 +312,10 @@ seen_by t q = record { object_at = map.get q.heap; lock_at = map.get q.locks; ma
 abbrev pub outcome : Program → State → ℕ → Outcome
 outcome P q t = turn P (seen_by t q) t (slice_get q.threads t)
 
--- the heap with another value of one field
-abbrev pub with_object : Address → Option Object → (Object → Object) → Heap → Heap
-with_object a None change heap = heap
-with_object a (Some o) change heap = map.insert heap a (change o)
-
--- the locks with this one held so, or free
-abbrev pub with_lock : Address → Option Hold → Locks → Locks
-with_lock a None locks = map.remove locks a
-with_lock a (Some hold) locks = map.insert locks a hold
-
 -- the state with a change
 abbrev pub changed : Change → State → State
 changed Nothing q = q
-changed (FieldIs a index v) q = record q { heap = with_object a (map.get q.heap a) (with_value index v) q.heap }
+changed (FieldIs a index v) q = record q { heap = with_field a index v q.heap }
 changed (ObjectIs a o) q = record q { heap = map.insert q.heap a o }
 changed (LockIs a hold) q = record q { locks = with_lock a hold q.locks }
 changed (Prints n) q = record q { output = q.output ++ n ∷ [] }

@@ -1,1 +1,3 @@
 -- Lemmas on the machine's state.
+pub mod Addresses
+pub mod MemoryLemmas

@@ -41,9 +41,27 @@ field_value None f = None
 field_value (Some o) None = None
 field_value (Some o) (Some f) = if o.class == f.class then slice_get o.values f.index else None
 
+-- the value of a field of the object at an address; none where there is no such object or field, or its class lacks the field
+abbrev pub value_in : Program → Heap → Address → ℕ → Option Value
+value_in P heap a f = field_value (map.get heap a) (slice_get P.fields f)
+
 -- the object with another value of the field at this index
 abbrev pub with_value : ℕ → Value → Object → Object
 with_value index v o = record o { values = slice_set o.values index v }
+
+-- the heap with the object at an address changed, where there is one
+abbrev pub with_object : Address → Option Object → (Object → Object) → Heap → Heap
+with_object a None change heap = heap
+with_object a (Some o) change heap = map.insert heap a (change o)
+
+-- the heap with another value of the field at this index of the object at an address
+abbrev pub with_field : Address → ℕ → Value → Heap → Heap
+with_field a index v heap = with_object a (map.get heap a) (with_value index v) heap
+
+-- the locks with the one of an address held so, or free
+abbrev pub with_lock : Address → Option Hold → Locks → Locks
+with_lock a None locks = map.remove locks a
+with_lock a (Some hold) locks = map.insert locks a hold
 
 -- the value of a field of a new object: the next argument for a final one, else 0, false or null
 abbrev pub new_value : Option Field → Value → Value
