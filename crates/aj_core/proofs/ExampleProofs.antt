@@ -6,7 +6,8 @@ use Rattle.std.specs.List.Sorted.{IsStrictlySortedBy}
 use Rattle.aj_core.specs.declared.types.CoreType.TheVariants as type
 use Rattle.aj_core.specs.Core.{Program, Class, Stmt}
 use Rattle.aj_core.specs.Types.{Variable}
-use Rattle.aj_core.specs.Typed.{IsTyped, IsTypedClass, IsTypedField, IsTypedMethod, IsLock, IsTypedStmt, declared_in, stmt_height, stmt_nodes}
+use Rattle.aj_core.specs.Typed.{IsTyped, IsTypedClass, IsTypedField, IsTypedMethod, IsLock, IsTypedStmt, declared_in}
+use Rattle.aj_core.specs.Sizes.{stmt_height, stmt_nodes}
 use Rattle.aj_core.specs.Examples.{this_path, plain_method, inc_body, run_body, start_worker, guarded_main, counter, nested, returns_locked, divides_by_zero}
 
 no_truth : false ≡ true → ⊥

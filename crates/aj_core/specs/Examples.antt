@@ -53,6 +53,7 @@ start_worker = StartS (NewE 1 (and_expr (VarE 1 true (type.Class 0)) no_exprs))
 abbrev pub main_body : Stmt
 main_body = BlockS (and_stmt (LocalS 1 true (type.Class 0) (NewE 0 no_exprs)) (and_stmt start_worker (and_stmt start_worker no_stmts)))
 
+-- the program
 abbrev pub counter : Program
 counter = record {
   classes = record { fields = 0 ∷ []; finals = []; run = None } ∷ record { fields = 1 ∷ []; finals = 1 ∷ []; run = Some 1 } ∷ record { fields = []; finals = []; run = None } ∷ [];

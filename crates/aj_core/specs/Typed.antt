@@ -1,26 +1,32 @@
 -- Typed core programs: what elaboration gives, said of the core program's own parts.
-use Rattle.std.specs.Prelude.{◌≡◌, ℕ, zero, suc, ◌+◌, ◌<◌, ◌≤◌, Bool, true, false, not, ◌&&◌, ◌||◌, ◌==◌, List, [], ◌∷◌, length, filter, Option, Some, None, IfSome, IsSome, All, Contains, max, slice_get, sum_by, if◌then◌else◌}
+use Rattle.std.specs.Prelude.{◌≡◌, ℕ, zero, suc, ◌+◌, ◌<◌, ◌≤◌, Bool, true, false, not, ◌&&◌, ◌||◌, ◌==◌, List, [], ◌∷◌, length, filter, Option, Some, None, IfSome, IsSome, All, Contains, slice_get, sum_by, if◌then◌else◌}
 use Rattle.std.specs.List.Sorted.{IsStrictlySortedBy}
 use Rattle.aj_paths.specs.Paths.{PathData, path_order, most_fields}
 use Rattle.aj_core.specs.declared.types.CoreType.{CoreType}
 use Rattle.aj_core.specs.declared.types.CoreType.TheVariants as type
-use Rattle.aj_core.specs.Core.{Program, Class, Field, Method, Expr, Exprs, TruthE, NotE, NegE, BinaryE, AndE, OrE, GetE, CallE, NewE, no_exprs, and_expr}
+use Rattle.aj_core.specs.Core.{Program, Class, Field, Method, Expr, TruthE, CallE, NewE}
 use Rattle.aj_core.specs.Core.{Stmt, Stmts, EmptyS, BlockS, LocalS, SetVarS, SetFieldS, DoS, IfS, WhileS, SyncS, ReturnS, PrintS, StartS, no_stmts, and_stmt}
+use Rattle.aj_core.specs.Sizes.{stmt_height, stmt_nodes}
 use Rattle.aj_core.specs.Types.{NodeType, VoidT, int_type, boolean_type, class_type, Variable, HasType, HasFit}
 
 -- Limits.
+-- the greatest height of a body
 abbrev pub most_height : ℕ
 most_height = 64
 
+-- the most fields of a class
 abbrev pub most_class_fields : ℕ
 most_class_fields = 32
 
+-- the most parameters of a method
 abbrev pub most_parameters : ℕ
 most_parameters = 16
 
+-- the most declared locals of a method
 abbrev pub most_locals : ℕ
 most_locals = 64
 
+-- the most classes, fields, methods and nodes together
 abbrev pub most_nodes : ℕ
 most_nodes = 262144
 
@@ -147,101 +153,18 @@ abbrev mutual
   completes_each no_stmts = true
   completes_each (and_stmt s ss) = completes s && completes_each ss
 
--- Height and size.
-
-abbrev mutual
-  -- the height of an expression: 1 more than that of its highest part, and 1 where it has none
-  pub height_of : Expr → ℕ
-  height_of (NotE e) = 1 + height_of e
-  height_of (NegE e) = 1 + height_of e
-  height_of (BinaryE op a b) = 1 + max (height_of a) (height_of b)
-  height_of (AndE a b) = 1 + max (height_of a) (height_of b)
-  height_of (OrE a b) = 1 + max (height_of a) (height_of b)
-  height_of (GetE e f) = 1 + height_of e
-  height_of (CallE e m args) = 1 + max (height_of e) (highest_of args)
-  height_of (NewE c args) = 1 + highest_of args
-  height_of _ = 1
-
-  pub highest_of : Exprs → ℕ
-  highest_of no_exprs = 0
-  highest_of (and_expr e es) = max (height_of e) (highest_of es)
-
-abbrev mutual
-  -- how many nodes an expression has
-  pub nodes_of : Expr → ℕ
-  nodes_of (NotE e) = 1 + nodes_of e
-  nodes_of (NegE e) = 1 + nodes_of e
-  nodes_of (BinaryE op a b) = 1 + (nodes_of a + nodes_of b)
-  nodes_of (AndE a b) = 1 + (nodes_of a + nodes_of b)
-  nodes_of (OrE a b) = 1 + (nodes_of a + nodes_of b)
-  nodes_of (GetE e f) = 1 + nodes_of e
-  nodes_of (CallE e m args) = 1 + (nodes_of e + nodes_of_each args)
-  nodes_of (NewE c args) = 1 + nodes_of_each args
-  nodes_of _ = 1
-
-  pub nodes_of_each : Exprs → ℕ
-  nodes_of_each no_exprs = 0
-  nodes_of_each (and_expr e es) = nodes_of e + nodes_of_each es
-
-abbrev pub value_height : Option Expr → ℕ
-value_height None = 0
-value_height (Some e) = height_of e
-
-abbrev pub value_nodes : Option Expr → ℕ
-value_nodes None = 0
-value_nodes (Some e) = nodes_of e
-
-abbrev mutual
-  -- the height of a statement
-  pub stmt_height : Stmt → ℕ
-  stmt_height EmptyS = 1
-  stmt_height (BlockS ss) = 1 + highest_stmt ss
-  stmt_height (LocalS x is_final ty e) = 1 + height_of e
-  stmt_height (SetVarS x e) = 1 + height_of e
-  stmt_height (SetFieldS e f g) = 1 + max (height_of e) (height_of g)
-  stmt_height (DoS e drops) = 1 + height_of e
-  stmt_height (IfS c s t) = 1 + max (height_of c) (max (stmt_height s) (stmt_height t))
-  stmt_height (WhileS c s) = 1 + max (height_of c) (stmt_height s)
-  stmt_height (SyncS p s) = 1 + stmt_height s
-  stmt_height (ReturnS e) = 1 + value_height e
-  stmt_height (PrintS e) = 1 + height_of e
-  stmt_height (StartS e) = 1 + height_of e
-
-  pub highest_stmt : Stmts → ℕ
-  highest_stmt no_stmts = 0
-  highest_stmt (and_stmt s ss) = max (stmt_height s) (highest_stmt ss)
-
-abbrev mutual
-  -- how many nodes a statement has
-  pub stmt_nodes : Stmt → ℕ
-  stmt_nodes EmptyS = 1
-  stmt_nodes (BlockS ss) = 1 + stmt_nodes_each ss
-  stmt_nodes (LocalS x is_final ty e) = 1 + nodes_of e
-  stmt_nodes (SetVarS x e) = 1 + nodes_of e
-  stmt_nodes (SetFieldS e f g) = 1 + (nodes_of e + nodes_of g)
-  stmt_nodes (DoS e drops) = 1 + nodes_of e
-  stmt_nodes (IfS c s t) = 1 + (nodes_of c + (stmt_nodes s + stmt_nodes t))
-  stmt_nodes (WhileS c s) = 1 + (nodes_of c + stmt_nodes s)
-  stmt_nodes (SyncS p s) = 1 + stmt_nodes s
-  stmt_nodes (ReturnS e) = 1 + value_nodes e
-  stmt_nodes (PrintS e) = 1 + nodes_of e
-  stmt_nodes (StartS e) = 1 + nodes_of e
-
-  pub stmt_nodes_each : Stmts → ℕ
-  stmt_nodes_each no_stmts = 0
-  stmt_nodes_each (and_stmt s ss) = stmt_nodes s + stmt_nodes_each ss
+-- Classes, fields, methods and programs.
 
 -- classes, fields, methods and nodes together
 abbrev pub size_of : Program → ℕ
 size_of P = length P.classes + length P.fields + length P.methods + sum_by (λ m. stmt_nodes m.body) P.methods
-
--- Classes, fields, methods and programs.
 
 -- the ids of a class's fields in order, where the list of fields begins at this id
 abbrev pub fields_from : ℕ → ℕ → List Field → List ℕ
 fields_from c n [] = []
 fields_from c n (f ∷ fs) = if f.class == c then n ∷ fields_from c (n + 1) fs else fields_from c (n + 1) fs
 
+-- whether there is a field, and it is final
 abbrev pub is_final_at : Option Field → Bool
 is_final_at None = false
 is_final_at (Some f) = f.is_final
@@ -255,12 +178,14 @@ pub record IsEntry (P : Program) (class m : ℕ) : Type 0 where
   pub no_result : method.result ≡ None
   pub no_locks : method.requires_ ≡ []
 
+-- a class: its fields are those of the class in order, its final fields are the final ones among them, and `run` is an entry of it
 pub record IsTypedClass (P : Program) (c : ℕ) (class : Class) : Type 0 where
   pub fields : class.fields ≡ fields_from c 0 P.fields
   pub finals : class.finals ≡ filter (λ f. is_final_at (slice_get P.fields f)) class.fields
   pub run : IfSome class.run (IsEntry P c)
   pub few : length class.fields ≤ most_class_fields
 
+-- a field: it stands in its class at its index, its guard is rooted at `this`, and a final field has none
 pub record IsTypedField (P : Program) (f : ℕ) (field : Field) : Type 0 where
   pub class : Class
   pub of_class : slice_get P.classes field.class ≡ Some class
@@ -269,6 +194,7 @@ pub record IsTypedField (P : Program) (f : ℕ) (field : Field) : Type 0 where
   pub guard : IfSome field.guard (IsLock P field.class [])
   pub unguarded : field.is_final ≡ true → field.guard ≡ None
 
+-- a method: its required locks ascend, its slots are `this`, its parameters and its locals, its body is typed, and one with a result can't complete
 pub record IsTypedMethod (P : Program) (method : Method) : Type 0 where
   pub class : method.class < length P.classes
   pub params : All (λ p. IsType P p.1) method.params
@@ -282,6 +208,7 @@ pub record IsTypedMethod (P : Program) (method : Method) : Type 0 where
   pub few_params : length method.params ≤ most_parameters
   pub few_locals : declared_in method.body ≤ most_locals
 
+-- a typed core program
 pub record IsTyped (P : Program) : Type 0 where
   pub classes : (c : ℕ) (class : Class) → slice_get P.classes c ≡ Some class → IsTypedClass P c class
   pub fields : (f : ℕ) (field : Field) → slice_get P.fields f ≡ Some field → IsTypedField P f field

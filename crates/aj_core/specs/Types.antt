@@ -14,12 +14,15 @@ pub data NodeType : Type 0 where
   NullT : NodeType
   VoidT : NodeType
 
+-- the type of an int
 abbrev pub int_type : NodeType
 int_type = ValueT type.Int
 
+-- the type of a boolean
 abbrev pub boolean_type : NodeType
 boolean_type = ValueT type.Boolean
 
+-- the type of an object of a class
 abbrev pub class_type : ℕ → NodeType
 class_type c = ValueT (type.Class c)
 
@@ -72,6 +75,7 @@ pub record Variable : Type 0 where
   pub is_final : Bool
   pub ty : CoreType
 
+-- the type of a field, where there is one
 abbrev pub field_type : Option Field → Option CoreType
 field_type None = None
 field_type (Some f) = Some f.ty

@@ -4,10 +4,8 @@ use Rattle.std.specs.Prelude.{Option, slice_get, slice_set, map, option_map, opt
 use Rattle.std.specs.FinMap as M
 use Rattle.std.specs.FinMap.{FinMap, find, put, is_sorted, from_sorted, get-from_sorted, entries-from_sorted, entries-insert, same_entries_map, get-remove, same_map, empty_of_len, len-entries}
 use Rattle.std.specs.FinMap.Entries.{is_sorted-put, is_sorted-where_key, where_key, find-where_key}
-use Rattle.std.specs.Cmp.{IsTotalOrder, nat_cmp_total, eq_by_cmp_equiv}
-use Rattle.std.specs.Ordering.{nat_cmp, eq_by_cmp}
-use Rattle.std.proofs.lemmas.Cmp.{on_total, then_total}
-use Rattle.std.proofs.lemmas.Map.Lookups.{CmpEqualImpliesEq, exact_pairs, exact_unsigned}
+use Rattle.std.specs.Cmp.{eq_by_cmp_equiv}
+use Rattle.std.specs.Ordering.{eq_by_cmp}
 use Rattle.aj_core.specs.Core.{Program}
 use Rattle.aj_state.specs.declared.value.Address.{Address}
 use Rattle.aj_state.specs.Memory.{address_cmp, Object, Hold, with_value, with_object, with_lock}

@@ -28,6 +28,7 @@ main_frame operands work = record { method = 0; slots = Ref main_address ∷ [];
 abbrev pub main_lock : ℕ → List (Address × Hold)
 main_lock n = (main_address, record { holder = 0; count = n }) ∷ []
 
+-- the release of the lock of that object
 abbrev pub release : Item
 release = Act (Release main_address)
 
@@ -43,9 +44,11 @@ nested_after_eleven = main_state (Int (pos 7)) [] Done
 abbrev pub returning_after_six : State
 returning_after_six = main_state (Int (pos 0)) (main_lock 1) (Running (main_frame [] (Act Ret ∷ release ∷ Act Ret ∷ []) ∷ []))
 
+-- and both
 abbrev pub returning_after_seven : State
 returning_after_seven = main_state (Int (pos 0)) [] (Running (main_frame [] (Act Ret ∷ Act Ret ∷ []) ∷ []))
 
+-- and returned
 abbrev pub returned : State
 returned = main_state (Int (pos 0)) [] Done
 
@@ -67,6 +70,7 @@ interleaved = replicate 10 0 ++ replicate 4 1 ++ replicate 4 2 ++ replicate 2 1 
 abbrev pub one_after_the_other : List ℕ
 one_after_the_other = replicate 10 0 ++ replicate 3 1 ++ replicate 3 2 ++ replicate 11 1 ++ replicate 11 2 ++ 1 ∷ 2 ∷ []
 
+-- a worker at an address of the first thread, over the cell 0:1
 abbrev pub worker_at : ℕ → Address × Object
 worker_at n = (record { thread = 0; count = n }, record { class = 1; values = Ref (record { thread = 0; count = 1 }) ∷ [] })
 

@@ -43,6 +43,7 @@ frames_of (Faulted kind frames) = frames
 abbrev pub is_inside : Program → Thread → Bool
 is_inside P thread = list_any (λ f. is_annotated (slice_get P.methods f.method)) (frames_of thread)
 
+-- the same of a thread that may be absent
 abbrev pub is_inside_some : Program → Option Thread → Bool
 is_inside_some P None = false
 is_inside_some P (Some thread) = is_inside P thread

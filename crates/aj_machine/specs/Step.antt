@@ -11,7 +11,7 @@ use Rattle.aj_state.specs.declared.value.Fault.TheVariants as fault
 use Rattle.aj_state.specs.declared.value.StepKind.{StepKind}
 use Rattle.aj_state.specs.declared.value.StepKind.TheVariants.{Both, Right, Left, Other, Bare}
 use Rattle.aj_state.specs.Values.{top, under, taken, dropped, as_int, as_truth, address_of, unary_value, binary_value}
-use Rattle.aj_state.specs.Memory.{Object, Hold, Heap, Locks, made_by, field_value, with_field, with_lock}
+use Rattle.aj_state.specs.Memory.{Object, Hold, made_by, field_value, with_field, with_lock}
 use Rattle.aj_state.specs.Work as W
 use Rattle.aj_state.specs.Work.{Action, Item, Ex, St, Act, Next, unfolded}
 use Rattle.aj_state.specs.States.{Frame, Thread, Ready, Running, Done, Faulted, State, new_frame, new_object}
@@ -57,9 +57,11 @@ pub record Shared : Type 0 where
 
 -- Faulting where something isn't there as in a typed program keeps the step total on every state.
 
+-- how many final fields a class has
 abbrev pub class_finals : Class → ℕ
 class_finals c = length c.finals
 
+-- a field's place in its objects
 abbrev pub index_of : Option Field → ℕ
 index_of None = 0
 index_of (Some f) = f.index
@@ -74,6 +76,7 @@ abbrev pub run_of_class : Option Class → Option ℕ
 run_of_class None = None
 run_of_class (Some c) = c.run
 
+-- the method `run` of the class of an object, where both are there
 abbrev pub run_of : Program → Option Object → Option ℕ
 run_of P None = None
 run_of P (Some o) = run_of_class (slice_get P.classes o.class)
@@ -121,6 +124,7 @@ module _ (P : Program) (see : Shared) (t : ℕ) where
   holds_object None = false
   holds_object (Some a) = holds t (see.lock_at a)
 
+  -- the address that a value refers to, where there is a value
   abbrev pub some_address : Option Value → Option Address
   some_address None = None
   some_address (Some v) = address_of v
@@ -130,6 +134,7 @@ module _ (P : Program) (see : Shared) (t : ℕ) where
   mutable_kind a None = Other
   mutable_kind a (Some guard) = if holds_object (some_address (followed (value.Ref a) guard.fields)) then Both else Bare
 
+  -- of an access to a field: Both for a final one
   abbrev pub access_kind : Address → Option Field → StepKind
   access_kind a None = Both
   access_kind a (Some f) = if f.is_final then Both else mutable_kind a f.guard
@@ -148,14 +153,17 @@ module _ (P : Program) (see : Shared) (t : ℕ) where
     abbrev pub gives : List Value → Value → Outcome
     gives operands v = goes_on Both (v ∷ operands) rest Nothing
 
+    -- reads a slot
     abbrev pub load : Option Value → Outcome
     load None = faults fault.Null
     load (Some v) = gives f.operands v
 
+    -- writes a slot
     abbrev pub store : ℕ → Option Value → Outcome
     store x None = faults fault.Null
     store x (Some old) = Moves (record { kind = Both; thread = Running (record f { slots = slice_set f.slots x (top f.operands); operands = under f.operands; work = rest } ∷ below); change = Nothing })
 
+    -- the result of an operator; none is a zero divisor
     abbrev pub binary : Option Value → Outcome
     binary None = faults fault.Zero
     binary (Some v) = gives (under (under f.operands)) v
@@ -165,14 +173,17 @@ module _ (P : Program) (see : Shared) (t : ℕ) where
     and_then e true = goes_on Both (under f.operands) (Ex e ∷ rest) Nothing
     and_then e false = gives (under f.operands) (value.Truth false)
 
+    -- the same for `||`
     abbrev pub or_else : Expr → Bool → Outcome
     or_else e true = gives (under f.operands) (value.Truth true)
     or_else e false = goes_on Both (under f.operands) (Ex e ∷ rest) Nothing
 
+    -- goes on with one of two statements
     abbrev pub choose : Stmt → Stmt → Bool → Outcome
     choose s u true = goes_on Both (under f.operands) (St s ∷ rest) Nothing
     choose s u false = goes_on Both (under f.operands) (St u ∷ rest) Nothing
 
+    -- goes on with the body and then the loop again, or leaves it
     abbrev pub loop : Expr → Stmt → Bool → Outcome
     loop c s true = goes_on Both (under f.operands) (St s ∷ St (WhileS c s) ∷ rest) Nothing
     loop c s false = goes_on Both (under f.operands) rest Nothing
@@ -182,6 +193,7 @@ module _ (P : Program) (see : Shared) (t : ℕ) where
     get_value a field None = faults fault.Null
     get_value a field (Some v) = goes_on (access_kind a field) (v ∷ under f.operands) rest Nothing
 
+    -- reads a field of what the operand refers to
     abbrev pub get : ℕ → Option Address → Outcome
     get x None = faults fault.Null
     get x (Some a) = get_value a (slice_get P.fields x) (value_at a x)
@@ -191,6 +203,7 @@ module _ (P : Program) (see : Shared) (t : ℕ) where
     put_value a field None = faults fault.Null
     put_value a field (Some old) = goes_on (access_kind a field) (under (under f.operands)) rest (FieldIs a (index_of field) (top f.operands))
 
+    -- writes a field of what the operand under the value refers to
     abbrev pub put : ℕ → Option Address → Outcome
     put x None = faults fault.Null
     put x (Some a) = put_value a (slice_get P.fields x) (value_at a x)
@@ -199,6 +212,7 @@ module _ (P : Program) (see : Shared) (t : ℕ) where
     abbrev pub new_address : Address
     new_address = record { thread = t; count = see.made }
 
+    -- makes an object of a class from the arguments for its final fields
     abbrev pub new : ℕ → Option Class → Outcome
     new c None = faults fault.Null
     new c (Some class) = goes_on Both (value.Ref new_address ∷ dropped (class_finals class) f.operands) rest
@@ -214,10 +228,12 @@ module _ (P : Program) (see : Shared) (t : ℕ) where
       change = Nothing;
     })
 
+    -- calls a method on what the receiver refers to
     abbrev pub call_on : ℕ → Method → Option Address → Outcome
     call_on m method None = faults fault.Null
     call_on m method (Some a) = enter m method a (nat_lt (length (f ∷ below)) most_frames)
 
+    -- calls a method, where it is there
     abbrev pub call : ℕ → Option Method → Outcome
     call m None = faults fault.Null
     call m (Some method) = call_on m method (address_of (top (dropped (length method.params) f.operands)))
@@ -226,22 +242,27 @@ module _ (P : Program) (see : Shared) (t : ℕ) where
     abbrev pub takes : StepKind → Stmt → Address → Hold → Outcome
     takes kind s a hold = goes_on kind (under f.operands) (St s ∷ Act (W.Release a) ∷ rest) (LockIs a (Some hold))
 
+    -- takes a lock again that this thread holds; waits for one that another thread holds
     abbrev pub take_held : Stmt → Address → Hold → Bool → Outcome
     take_held s a hold true = takes Both s a (taken_again hold)
     take_held s a hold false = Waits a hold.holder
 
+    -- takes a lock that is free or held
     abbrev pub take : Stmt → Address → Option Hold → Outcome
     take s a None = takes Right s a (record { holder = t; count = 1 })
     take s a (Some hold) = take_held s a hold (hold.holder == t)
 
+    -- takes the lock of what the operand refers to
     abbrev pub acquire : Stmt → Option Address → Outcome
     acquire s None = faults fault.Null
     acquire s (Some a) = take s a (see.lock_at a)
 
+    -- gives back a lock that this thread holds
     abbrev pub release_held : Address → Hold → Bool → Outcome
     release_held a hold false = faults fault.Null
     release_held a hold true = goes_on (release_kind (given_back hold)) f.operands rest (LockIs a (given_back hold))
 
+    -- gives back a lock
     abbrev pub release : Address → Option Hold → Outcome
     release a None = faults fault.Null
     release a (Some hold) = release_held a hold (hold.holder == t)
@@ -255,10 +276,12 @@ module _ (P : Program) (see : Shared) (t : ℕ) where
       change = Nothing;
     })
 
+    -- starts a thread on an object
     abbrev pub start_run : Address → Option ℕ → Outcome
     start_run a None = faults fault.Null
     start_run a (Some m) = goes_on Other (under f.operands) rest (Starts a m)
 
+    -- starts a thread on what the operand refers to
     abbrev pub start : Option Address → Outcome
     start None = faults fault.Null
     start (Some a) = start_run a (run_of P (see.object_at a))
@@ -325,6 +348,7 @@ changed (Starts a m) q = record q { threads = q.threads ++ Ready a m ∷ [] }
 abbrev pub moved : ℕ → Move → State → State
 moved t move q = changed move.change (record q { threads = slice_set q.threads t move.thread })
 
+-- the state after an outcome, where it is a step
 abbrev pub state_after : State → ℕ → Outcome → Option State
 state_after q t (Moves move) = Some (moved t move q)
 state_after q t _ = None
@@ -333,6 +357,7 @@ state_after q t _ = None
 abbrev pub step : Program → State → ℕ → Option State
 step P q t = state_after q t (outcome P q t)
 
+-- the kind of an outcome, where it is a step
 abbrev pub kind_in : Outcome → Option StepKind
 kind_in (Moves move) = Some move.kind
 kind_in _ = None

@@ -25,6 +25,7 @@ abbrev pub entries_from : Program → State → ℕ → List ℕ → List Entry
 entries_from P q place [] = []
 entries_from P q place (t ∷ s) = entry_then P q place t (outcome P q t) (λ next. entries_from P next (place + 1) s)
 
+-- the entries of a schedule from the start
 abbrev pub entries : Program → List ℕ → List Entry
 entries P s = entries_from P (initial P) 0 s
 

@@ -16,6 +16,7 @@ moves_left Left = true
 moves_left Both = true
 moves_left _ = false
 
+-- Other
 abbrev pub is_other : StepKind → Bool
 is_other Other = true
 is_other _ = false

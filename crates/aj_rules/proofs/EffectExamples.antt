@@ -2,7 +2,7 @@
 use Rattle.std.proofs.Common.{◌≡◌, Bool, true, false, refl}
 use Rattle.std.specs.Prelude.{if◌then◌else◌}
 use Rattle.aj_algebra.specs.declared.basic.Basic.TheVariants.{Mover, Atomic, Cmpd, Const, Error}
-use Rattle.aj_algebra.specs.Basics.{seq_of, lift_of}
+use Rattle.aj_algebra.specs.Basics.{seq_of}
 use Rattle.aj_rules.specs.Effect.{sync_effect}
 
 pub inc_at : (held : Bool) → seq_of (sync_effect held (seq_of (seq_of Const (seq_of (seq_of (seq_of Const (if held then Mover else Error)) Const) (if held then Mover else Error))) Const) Mover) Const ≡ (if held then Mover else Atomic)

@@ -1,11 +1,9 @@
 -- More held paths never give a greater effect.
-use Rattle.std.proofs.Common.{◌≡◌, ℕ, Bool, true, false, List, Some, None, refl, sym, ap, subst, ◌∙◌}
+use Rattle.std.proofs.Common.{◌≡◌, ℕ, Bool, true, false, List, Some, None, refl}
 use Rattle.std.specs.Prelude.{Option, slice_get, if◌then◌else◌}
-use Rattle.std.specs.List.{list_all}
 use Rattle.aj_paths.specs.Paths.{PathData}
 use Rattle.aj_algebra.specs.declared.basic.Basic.{Basic}
-use Rattle.aj_algebra.specs.declared.basic.Basic.TheVariants.{Const, Mover, Atomic, Cmpd, Error}
-use Rattle.aj_algebra.specs.Basics.{seq_of, join_of, star_of, lift_of}
+use Rattle.aj_algebra.specs.declared.basic.Basic.TheVariants.{Mover, Error}
 use Rattle.aj_algebra.specs.HeldPaths.{Held, has_path, with_path}
 use Rattle.aj_core.specs.Core.{Program, Expr, Exprs, IntE, TruthE, NullE, ThisE, VarE, NotE, NegE, BinaryE, AndE, OrE, GetE, CallE, NewE, no_exprs, and_expr}
 use Rattle.aj_core.specs.Core.{Stmt, Stmts, EmptyS, BlockS, LocalS, SetVarS, SetFieldS, DoS, IfS, WhileS, SyncS, ReturnS, PrintS, StartS, no_stmts, and_stmt}
@@ -14,7 +12,7 @@ use Rattle.aj_rules.specs.declared.guard.Guard.{Guard}
 use Rattle.aj_rules.specs.declared.guard.Guard.TheVariants.{Final, Free, Named, Unnamed}
 use Rattle.aj_rules.specs.Guards.{guard_of}
 use Rattle.aj_rules.specs.Mentions.{paths_of}
-use Rattle.aj_rules.specs.Effect.{Assignment, required_paths, access_effect, access_of, held_under, sync_effect, after_stmt, call_of, expr_effect, exprs_effect, effect, block_effect}
+use Rattle.aj_rules.specs.Effect.{Assignment, required_paths, access_effect, sync_effect, call_of, expr_effect, exprs_effect, effect, block_effect}
 use Rattle.aj_rules.specs.Rules.{IsPart, AtMost, IsFalling}
 use Rattle.aj_rules.proofs.BasicLemmas.{below_itself, below_error, below_lift, below_chain, seq_mono, join_mono, star_mono, lift_mono}
 use Rattle.aj_rules.proofs.SetLemmas.{first, all_part, under_part, with_part, after_part, with_path_part}

@@ -1,5 +1,5 @@
 -- The effect of a body depends only on the paths near its method.
-use Rattle.std.proofs.Common.{◌≡◌, ℕ, suc, Bool, true, false, List, [], ◌∷◌, ◌++◌, Some, None, refl, sym, ap, subst, ◌∙◌, ◌&&◌, ◌||◌, ◌==◌, ◌<◌, arith}
+use Rattle.std.proofs.Common.{◌≡◌, ℕ, suc, Bool, true, false, List, ◌∷◌, ◌++◌, Some, None, refl, sym, ap, subst, ◌&&◌, ◌||◌, ◌==◌, arith}
 use Rattle.std.specs.Prelude.{Option, Contains, slice_get, if◌then◌else◌}
 use Rattle.std.specs.List.{list_all}
 use Rattle.std.proofs.lemmas.Bool.Decides.{nat_tests}
@@ -7,9 +7,9 @@ use Rattle.std.proofs.lemmas.List.Elements.{Contains-append_left, Contains-appen
 use Rattle.aj_paths.specs.Paths.{PathData, path_eq, extended}
 use Rattle.aj_paths.specs.Renamings.{under_call}
 use Rattle.aj_algebra.specs.declared.basic.Basic.{Basic}
-use Rattle.aj_algebra.specs.declared.basic.Basic.TheVariants.{Const, Mover, Atomic, Cmpd, Error}
-use Rattle.aj_algebra.specs.Basics.{seq_of, join_of, star_of, lift_of}
-use Rattle.aj_algebra.specs.HeldPaths.{Held, has_path, with_path, without_root, holds_at}
+use Rattle.aj_algebra.specs.declared.basic.Basic.TheVariants.{Mover, Error}
+use Rattle.aj_algebra.specs.Basics.{seq_of, join_of, star_of}
+use Rattle.aj_algebra.specs.HeldPaths.{Held, has_path, with_path, holds_at}
 use Rattle.aj_core.specs.Core.{Program, Method, Expr, Exprs, IntE, TruthE, NullE, ThisE, VarE, NotE, NegE, BinaryE, AndE, OrE, GetE, CallE, NewE, no_exprs, and_expr}
 use Rattle.aj_core.specs.Core.{Stmt, Stmts, EmptyS, BlockS, LocalS, SetVarS, SetFieldS, DoS, IfS, WhileS, SyncS, ReturnS, PrintS, StartS, no_stmts, and_stmt}
 use Rattle.aj_core.specs.Locks.{path_of}

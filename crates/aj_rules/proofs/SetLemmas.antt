@@ -1,11 +1,11 @@
 -- Sets of held paths, part by part.
-use Rattle.std.proofs.Common.{◌≡◌, ℕ, Bool, true, false, List, [], ◌∷◌, Some, None, refl, sym, ap, subst, ◌∙◌, ◌&&◌, ◌||◌, ◌==◌}
+use Rattle.std.proofs.Common.{◌≡◌, ℕ, Bool, true, false, List, [], ◌∷◌, Some, None, refl, sym, ap, ◌∙◌, ◌&&◌, ◌||◌, ◌==◌}
 use Rattle.std.specs.Prelude.{Option, if◌then◌else◌}
 use Rattle.std.specs.List.{list_all}
 use Rattle.aj_paths.specs.Paths.{PathData, path_eq, extended}
 use Rattle.aj_paths.specs.Renamings.{under_call}
 use Rattle.aj_paths.proofs.PathOrder.{eq_is}
-use Rattle.aj_algebra.specs.HeldPaths.{Held, has_path, with_path, without_root, holds_at}
+use Rattle.aj_algebra.specs.HeldPaths.{Held, has_path, with_path, holds_at}
 use Rattle.aj_core.specs.Core.{Program, Stmt, EmptyS, BlockS, LocalS, SetVarS, SetFieldS, DoS, IfS, WhileS, SyncS, ReturnS, PrintS, StartS}
 use Rattle.aj_core.specs.Locks.{path_of}
 use Rattle.aj_rules.specs.Effect.{held_under, after_local, after_stmt}

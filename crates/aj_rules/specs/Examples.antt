@@ -1,5 +1,5 @@
 -- An example assignment: that of the counter program of `aj_core`.
-use Rattle.std.specs.Prelude.{ℕ, zero, suc, false, List, [], ◌∷◌, if◌then◌else◌}
+use Rattle.std.specs.Prelude.{zero, suc, false, List, [], ◌∷◌, if◌then◌else◌}
 use Rattle.aj_paths.specs.Paths.{PathData}
 use Rattle.aj_algebra.specs.declared.basic.Basic.TheVariants.{Mover, Atomic, Cmpd}
 use Rattle.aj_core.specs.Core.{Stmt, BlockS, DoS, CallE, ThisE, no_exprs, and_stmt, no_stmts}

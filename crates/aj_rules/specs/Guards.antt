@@ -20,5 +20,6 @@ abbrev pub field_guard : Option Field → Option PathData → Guard
 field_guard None receiver = Unnamed
 field_guard (Some f) receiver = if f.is_final then Final else mutable_guard f.guard receiver
 
+-- the guard of a field by its id
 abbrev pub guard_of : Program → ℕ → Option PathData → Guard
 guard_of P f receiver = field_guard (slice_get P.fields f) receiver

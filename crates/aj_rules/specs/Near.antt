@@ -65,10 +65,12 @@ pub record AreRelevant (P : Program) (sets : List MethodPaths) : Type 0 where
   pub count : length sets ≡ length P.methods
   pub each : (m : ℕ) (paths : MethodPaths) → slice_get sets m ≡ Some paths → ArePathsOf P m paths
 
+-- the relevant paths of a method, where it is there
 abbrev pub rel_paths : Option MethodPaths → List PathData
 rel_paths None = []
 rel_paths (Some paths) = paths.rel
 
+-- the local paths of a method, where it is there
 abbrev pub loc_paths : Option MethodPaths → List PathData
 loc_paths None = []
 loc_paths (Some paths) = paths.loc

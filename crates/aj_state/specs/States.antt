@@ -23,6 +23,7 @@ pub data ThreadOf (F : Type 0) : Type 0 where
   Done : ThreadOf F
   Faulted : Fault → List F → ThreadOf F
 
+-- a thread of the machine that runs work lists
 abbrev pub Thread : Type 0
 Thread = ThreadOf Frame
 
@@ -50,6 +51,7 @@ new_frame m method this arguments = record {
 abbrev pub main_address : Address
 main_address = record { thread = 0; count = 0 }
 
+-- the fields of a class, where it is there
 abbrev pub fields_of : Option Class → List ℕ
 fields_of None = []
 fields_of (Some c) = c.fields

@@ -57,6 +57,7 @@ address_of _ = None
 
 -- Operators.
 
+-- whether two addresses are the same
 abbrev pub address_eq : Address → Address → Bool
 address_eq a b = a.thread == b.thread && a.count == b.count
 

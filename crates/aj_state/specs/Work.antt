@@ -122,6 +122,7 @@ abbrev pub settled : Next → Next
 settled (Ret, more) = open_return (first_release more) more
 settled (a, more) = (a, more)
 
+-- the same where there is an action
 abbrev pub settled_some : Option Next → Option Next
 settled_some None = None
 settled_some (Some next) = Some (settled next)
