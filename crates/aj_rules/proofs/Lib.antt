@@ -4,3 +4,4 @@ pub mod SetLemmas
 pub mod Falling
 pub mod NearOnly
 pub mod EffectExamples
+pub mod AcceptedExample
