@@ -8,7 +8,7 @@ use Rattle.std.specs.Cmp.{eq_by_cmp_equiv}
 use Rattle.std.specs.Ordering.{eq_by_cmp}
 use Rattle.aj_core.specs.Core.{Program}
 use Rattle.aj_state.specs.declared.value.Address.{Address}
-use Rattle.aj_state.specs.Memory.{address_cmp, Object, Hold, with_value, with_object, with_lock}
+use Rattle.aj_state.specs.Memory.{address_cmp, Object, Hold, made_by, with_value, with_object, with_lock}
 use Rattle.aj_state.proofs.Addresses.{address_total, address_exact}
 use Rattle.aj_state.specs.States.{Thread, Ready, State, initial, new_object, main_address}
 use Rattle.aj_machine.specs.Step.{Shared, Change, Nothing, FieldIs, ObjectIs, LockIs, Prints, Starts, Move, Outcome, Moves, Absent, IsDone, HadFaulted, Waits, turn, seen_by, outcome, changed, moved, state_after}
@@ -40,6 +40,10 @@ module _ {X : Type 0} where
   remove-from_sorted es a rising = same_map address_total address_exact _ _ (λ q.
       get-remove address_total _ a q ∙ ap (cond (eq_by_cmp address_cmp q a) None) (get-from_sorted address_cmp es q rising)
       ∙ sym (get-from_sorted address_cmp _ q (is_sorted-where_key address_cmp _ es rising) ∙ find-without es a q))
+
+-- in an empty heap no thread made an object
+pub made_by-empty : (t : ℕ) → made_by t M.empty ≡ 0
+made_by-empty t = ap (made_by t) empty-from_sorted ∙ ap (λ (es : List (Address × Object)). count_by (λ a. a.thread == t) (map (λ e. e.0) es)) (entries-from_sorted address_cmp [] tt)
 
 -- Plain states.
 

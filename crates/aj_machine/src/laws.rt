@@ -5,9 +5,10 @@ ghost use Rattle.aj_core.specs.Core.{Program};
 ghost use Rattle.aj_state.specs.declared.value.Address.{Address};
 ghost use Rattle.aj_state.specs.declared.value.Fault.{Fault};
 ghost use Rattle.aj_state.specs.declared.value.StepKind.{StepKind};
+ghost use Rattle.aj_state.specs.Memory.{IsNumbered};
 ghost use Rattle.aj_state.specs.States.{State, Frame, Done, Faulted};
 ghost use Rattle.aj_machine.specs.Step.{Absent, IsDone, HadFaulted, Waits, outcome, step, kind_of};
-ghost use Rattle.aj_machine.specs.Run.{run_from};
+ghost use Rattle.aj_machine.specs.Run.{run, run_from};
 ghost use Rattle.aj_machine.specs.Waiting.{WaitsFor};
 ghost use Rattle.aj_machine.specs.Words.{IsReducible, IsReduciblePrefix, is_reducible};
 
@@ -26,10 +27,12 @@ pub fn step_laws()
     ensures kind { (P : Program) (q : State) (t : ℕ) → (kind_of P q t ≡ None) ↔ (step P q t ≡ None) }
 {}
 
-/// A run of two schedules, one after the other, is the run of both.
+/// A run of two schedules, one after the other, is the run of both; and in each state that a schedule runs to,
+/// each thread's objects are numbered from 0, so its next address is free.
 pub fn run_laws()
     ensures append { (P : Program) (q : State) (s r : List ℕ) →
         run_from P q (s ++ r) ≡ option_and_then (λ next. run_from P next r) (run_from P q s) }
+    ensures numbered { (P : Program) (s : List ℕ) (q : State) → run P s ≡ Some q → IsNumbered q.heap }
 {}
 
 /// The test for reducible words is exact, and what can be made reducible is so.

@@ -1,25 +1,24 @@
 -- The counter program is accepted: its relevant paths, and an admissible assignment.
-use Rattle.std.proofs.Common.{◌≡◌, ◌↔◌, ℕ, zero, suc, Bool, true, false, List, [], ◌∷◌, Some, None, refl, sym, ap, subst, ◌∙◌, ◌<◌, ◌≤◌, arith, ◌||◌}
-use Rattle.std.specs.Prelude.{Option, Contains, slice_get, length, if◌then◌else◌}
+use Rattle.std.proofs.Common.{◌≡◌, ℕ, zero, suc, Bool, true, false, List, [], ◌∷◌, Some, refl, sym, ap, subst, ◌∙◌, ◌≤◌, arith, ◌||◌}
+use Rattle.std.specs.Prelude.{Contains, length, if◌then◌else◌}
 use Rattle.std.specs.List.Sorted.{IsStrictlySortedBy}
-use Rattle.std.specs.List.{AllByRecursion}
-use Rattle.aj_paths.specs.Paths.{PathData, path_eq, path_order, extended}
+use Rattle.aj_paths.specs.Paths.{PathData, path_order}
 use Rattle.aj_paths.specs.Renamings.{under_call}
 use Rattle.aj_paths.proofs.PathOrder.{eq_is, eq_itself}
-use Rattle.aj_algebra.specs.HeldPaths.{Held, has_path}
-use Rattle.aj_algebra.specs.declared.basic.Basic.TheVariants.{Mover, Atomic, Cmpd, Error}
+use Rattle.aj_algebra.specs.HeldPaths.{has_path}
+use Rattle.aj_algebra.specs.declared.basic.Basic.TheVariants.{Mover, Atomic}
 use Rattle.aj_core.specs.Core.{Program, Method, Expr, Exprs, ThisE, no_exprs}
 use Rattle.aj_core.specs.Locks.{path_of}
 use Rattle.aj_core.specs.Examples.{counter, this_path, inc_body, run_body, main_body}
 use Rattle.aj_core.proofs.ExampleProofs.{EachFrom, each}
-use Rattle.aj_rules.specs.declared.guard.Guard.TheVariants.{Final, Free, Named, Unnamed}
+use Rattle.aj_rules.specs.declared.guard.Guard.TheVariants.{Final, Named}
 use Rattle.aj_rules.specs.Guards.{guard_of}
 use Rattle.aj_rules.specs.Mentions.{Mention, Accesses, Calls, Locks, Names, mentions, paths_of}
-use Rattle.aj_rules.specs.Near.{Mentions, Requires, IsOuter, IsInner, Near, required, locked, guarded, called, named, IsRel, IsLoc, MethodPaths, ArePathsOf, AreRelevant, AreFew, rel_of, loc_of}
+use Rattle.aj_rules.specs.Near.{Mentions, Requires, Near, required, locked, guarded, called, named, IsRel, IsLoc, ArePathsOf, rel_of, loc_of}
 use Rattle.aj_rules.specs.Effect.{effect}
-use Rattle.aj_rules.specs.Rules.{IsPart, AtMost, IsFalling, IsClosed, HoldsBound, IsAdmissible, IsAccepted}
+use Rattle.aj_rules.specs.Rules.{AtMost, IsFalling, IsClosed, HoldsBound, IsAccepted}
 use Rattle.aj_rules.specs.Examples.{counter_paths, counter_levels, cell_path}
-use Rattle.aj_rules.proofs.BasicLemmas.{below_itself, below_error}
+use Rattle.aj_rules.proofs.BasicLemmas.{below_itself}
 use Rattle.aj_rules.proofs.EffectExamples.{inc_at, run_at}
 
 -- the facts of all elements
@@ -36,8 +35,8 @@ at_element Q (y ∷ ys) all x (suc k, below, is) = at_element Q ys all.1 x (k, o
 on_mentions : (Q : ℕ → Mention → Type 0) → AllOf (Q 0) (mentions inc_body) → AllOf (Q 1) (mentions run_body) → AllOf (Q 2) (mentions main_body) → (m : ℕ) (x : Mention) → Mentions counter m x → Q m x
 on_mentions Q inc run main m x (method, is, has) =
     each (λ n (method : Method). (x : Mention) → Contains (mentions method.body) x → Q n x) counter.methods
-      (at_element (Q 0) (mentions inc_body) inc, (at_element (Q 1) (mentions run_body) run, (at_element (Q 2) (mentions main_body) main, tt)))
-      m method is x has
+    (at_element (Q 0) (mentions inc_body) inc, (at_element (Q 1) (mentions run_body) run, (at_element (Q 2) (mentions main_body) main, tt)))
+    m method is x has
 
 -- the paths that may be near each method
 abbrev Allowed : ℕ → PathData → Type 0
@@ -48,8 +47,8 @@ Allowed (suc (suc m)) p = ⊥
 required_allowed : (m : ℕ) (p : PathData) → Requires counter m p → Allowed m p
 required_allowed m p (method, is, has) =
     each (λ n (method : Method). (p : PathData) → Contains method.requires_ p → Allowed n p) counter.methods
-      ((λ q (k, below, e). absurd (omega arith)), ((λ q (k, below, e). absurd (omega arith)), ((λ q (k, below, e). absurd (omega arith)), tt)))
-      m method is p has
+    ((λ q (k, below, e). absurd (omega arith)), ((λ q (k, below, e). absurd (omega arith)), ((λ q (k, below, e). absurd (omega arith)), tt)))
+    m method is p has
 
 abbrev LocksAllowed : ℕ → Mention → Type 0
 LocksAllowed m x = (p : PathData) → x ≡ Locks p → Allowed m p
@@ -84,9 +83,9 @@ run_call e callee args q p is allowed under =
     let same_args : no_exprs ≡ args = cc in
     let q_is : this_path ≡ q = subst (λ m. Allowed m q) (sym same_callee) allowed in
     let both : Some cell_path ≡ Some p =
-        ap (λ x. under_call (path_of counter x) (paths_of counter no_exprs) this_path) same_e
-        ∙ ap (λ x. under_call (path_of counter e) (paths_of counter x) this_path) same_args
-        ∙ ap (λ x. under_call (path_of counter e) (paths_of counter args) x) q_is ∙ under in
+    ap (λ x. under_call (path_of counter x) (paths_of counter no_exprs) this_path) same_e
+    ∙ ap (λ x. under_call (path_of counter e) (paths_of counter x) this_path) same_args
+    ∙ ap (λ x. under_call (path_of counter e) (paths_of counter args) x) q_is ∙ under in
     cc
 
 pub near_allowed : (m : ℕ) (p : PathData) → Near counter m p → Allowed m p
@@ -146,25 +145,31 @@ nothing_near : (m : ℕ) (p : PathData) → IsRel counter (suc (suc m)) p → fa
 nothing_near m p (near, outer) = absurd (near_allowed (suc (suc m)) p near)
 
 counter_paths_are : EachFrom (ArePathsOf counter) 0 counter_paths
-counter_paths_are =
-    (record {
-      rel = λ p. ((λ has. subst (IsRel counter 0) (only_path this_path p has) (near_this, (_, refl, omega arith))), (λ r. has_itself this_path p (near_allowed 0 p r.0)));
-      loc = λ p. ((λ has. absurd cc), no_local 0 p);
-      rel_ascends = one_ascends _;
-      loc_ascends = none_ascend;
-    },
-    (record {
+counter_paths_are = (
+  record {
+    rel = λ p. ((λ has. subst (IsRel counter 0) (only_path this_path p has) (near_this, (_, refl, omega arith))), (λ r. has_itself this_path p (near_allowed 0 p r.0)));
+    loc = λ p. ((λ has. absurd cc), no_local 0 p);
+    rel_ascends = one_ascends _;
+    loc_ascends = none_ascend;
+  },
+  (
+    record {
       rel = λ p. ((λ has. subst (IsRel counter 1) (only_path cell_path p has) (near_cell, (_, refl, omega arith))), (λ r. has_itself cell_path p (near_allowed 1 p r.0)));
       loc = λ p. ((λ has. absurd cc), no_local 1 p);
       rel_ascends = one_ascends _;
       loc_ascends = none_ascend;
     },
-    (record {
-      rel = λ p. ((λ has. absurd cc), nothing_near 0 p);
-      loc = λ p. ((λ has. absurd cc), no_local 2 p);
-      rel_ascends = none_ascend;
-      loc_ascends = none_ascend;
-    }, tt)))
+    (
+      record {
+        rel = λ p. ((λ has. absurd cc), nothing_near 0 p);
+        loc = λ p. ((λ has. absurd cc), no_local 2 p);
+        rel_ascends = none_ascend;
+        loc_ascends = none_ascend;
+      },
+      tt,
+    ),
+  ),
+)
 
 few_rel : (m : ℕ) → length (rel_of counter_paths m) ≤ 8
 few_rel zero = omega arith
@@ -191,10 +196,11 @@ levels_fall (suc (suc m)) H K within part = refl
 
 levels_close : IsClosed counter (rel_of counter_paths) counter_levels
 levels_close m method is H within locks =
-    each (λ n (method : Method). AtMost (effect counter (rel_of counter_paths) counter_levels method.body H) (counter_levels n H)) counter.methods
-      (subst (λ b. AtMost b (counter_levels 0 H)) (sym (inc_at (H this_path))) (below_itself _),
-      (subst (λ b. AtMost b (counter_levels 1 H)) (sym (run_at (H cell_path))) (below_itself _), (refl, tt)))
-      m method is
+    each (λ n (method : Method). AtMost (effect counter (rel_of counter_paths) counter_levels method.body H) (counter_levels n H)) counter.methods (
+      subst (λ b. AtMost b (counter_levels 0 H)) (sym (inc_at (H this_path))) (below_itself _),
+      (subst (λ b. AtMost b (counter_levels 1 H)) (sym (run_at (H cell_path))) (below_itself _), (refl, tt)),
+    )
+    m method is
 
 pub counter_accepted : IsAccepted counter
 counter_accepted = record {

@@ -1,5 +1,5 @@
 -- What all threads share: the heap of objects and the table of held locks.
-use Rattle.std.specs.Prelude.{ℕ, ◌==◌, List, [], ◌∷◌, Option, Some, None, slice_get, slice_set, count_by, if◌then◌else◌}
+use Rattle.std.specs.Prelude.{◌≡◌, ℕ, nat_lt, is_some, ◌==◌, List, [], ◌∷◌, Option, Some, None, slice_get, slice_set, count_by, if◌then◌else◌}
 use Rattle.std.specs.declared.cmp.Ordering.{Ordering}
 use Rattle.std.specs.Ordering.{nat_cmp, ordering_then}
 use Rattle.std.specs.FinMap as map
@@ -34,6 +34,14 @@ Locks = map.FinMap address_cmp Hold
 -- how many objects a thread made
 abbrev pub made_by : ℕ → Heap → ℕ
 made_by t heap = count_by (λ a. a.thread == t) (map.keys heap)
+
+-- the address of a thread's next object
+abbrev pub next_address : ℕ → Heap → Address
+next_address t heap = record { thread = t; count = made_by t heap }
+
+-- each thread's objects have the counts from 0 up to how many it made
+abbrev pub IsNumbered : Heap → Type 0
+IsNumbered heap = (t n : ℕ) → is_some (map.get heap (record { thread = t; count = n })) ≡ nat_lt n (made_by t heap)
 
 -- the value of a field of an object; none where there is no such object or field, or the object's class lacks the field
 abbrev pub field_value : Option Object → Option Field → Option Value

@@ -7,7 +7,7 @@ ghost use Rattle.aj_core.specs.Core.{Program, Field};
 ghost use Rattle.aj_state.specs.declared.value.Address.{Address};
 ghost use Rattle.aj_state.specs.declared.value.Value.{Value};
 ghost use Rattle.aj_state.specs.Values.{taken};
-ghost use Rattle.aj_state.specs.Memory.{Heap, Object, address_cmp, value_in, with_field};
+ghost use Rattle.aj_state.specs.Memory.{Heap, Object, address_cmp, value_in, with_field, next_address, IsNumbered};
 
 /// The order of addresses is total, and only equal ones tie.
 pub fn address_laws()
@@ -32,4 +32,11 @@ pub fn memory_laws()
         value_in P (with_field a index v heap) b f ≡ value_in P heap b f }
     ensures new_object { (P : Program) (heap : Heap) (a b : Address) (o : Object) (f : ℕ) → b ≢ a →
         value_in P (map.insert heap a o) b f ≡ value_in P heap b f }
+{}
+
+/// A new object at its thread's next address, and a written field, leave the objects numbered.
+pub fn numbering_laws()
+    ensures new { (heap : Heap) (t : ℕ) (o : Object) → IsNumbered heap → IsNumbered (map.insert heap (next_address t heap) o) }
+    ensures written { (heap : Heap) (a : Address) (index : ℕ) (v : Value) → IsNumbered heap → IsNumbered (with_field a index v heap) }
+    ensures free { (heap : Heap) (t : ℕ) → IsNumbered heap → map.get heap (next_address t heap) ≡ None }
 {}

@@ -6,5 +6,5 @@ pub mod examples;
 mod laws;
 mod value;
 
-pub use laws::{address_laws, memory_laws, operand_laws};
+pub use laws::{address_laws, memory_laws, numbering_laws, operand_laws};
 pub use value::{Address, Fault, StepKind, ThreadState, Value};
