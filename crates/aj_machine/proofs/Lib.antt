@@ -3,3 +3,4 @@ pub mod StepCases
 pub mod RunLemmas
 pub mod WordLemmas
 pub mod PlainRuns
+pub mod UnitLemmas

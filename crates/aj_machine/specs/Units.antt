@@ -1,5 +1,5 @@
 -- Units of a run, their commit places, and the order in which they are written.
-use Rattle.std.specs.Prelude.{ℕ, ◌+◌, Bool, true, false, ◌==◌, nat_le, List, [], ◌∷◌, ◌++◌, map, if◌then◌else◌}
+use Rattle.std.specs.Prelude.{ℕ, ◌+◌, Bool, true, false, not, ◌==◌, nat_le, List, [], ◌∷◌, ◌++◌, map, if◌then◌else◌}
 use Rattle.aj_core.specs.Core.{Program}
 use Rattle.aj_state.specs.declared.value.StepKind.{StepKind}
 use Rattle.aj_state.specs.declared.value.StepKind.TheVariants.{Left, Other}
@@ -45,6 +45,21 @@ added e (u ∷ us) = if is_of_thread e.thread u then (e ∷ u) ∷ us else u ∷
 abbrev pub units : List Entry → List (List Entry)
 units [] = []
 units (e ∷ es) = if e.inside then added e (units es) else (e ∷ []) ∷ units es
+
+-- the kinds of a unit's steps, in order
+abbrev pub word_of : List Entry → List StepKind
+word_of u = map (λ e. e.kind) u
+
+-- whether a unit is an atomic call: its thread stands inside one after its first entry
+abbrev pub is_call : List Entry → Bool
+is_call [] = false
+is_call (e ∷ u) = e.inside
+
+-- whether a unit is whole: its thread doesn't stand inside after its last entry
+abbrev pub is_whole : List Entry → Bool
+is_whole [] = true
+is_whole (e ∷ []) = not e.inside
+is_whole (e ∷ f ∷ u) = is_whole (f ∷ u)
 
 -- Left or Other
 abbrev pub is_commit : StepKind → Bool

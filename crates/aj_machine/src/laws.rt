@@ -8,7 +8,8 @@ ghost use Rattle.aj_state.specs.declared.value.StepKind.{StepKind};
 ghost use Rattle.aj_state.specs.Memory.{IsNumbered};
 ghost use Rattle.aj_state.specs.States.{State, Frame, Done, Faulted};
 ghost use Rattle.aj_machine.specs.Step.{Absent, IsDone, HadFaulted, Waits, outcome, step, kind_of};
-ghost use Rattle.aj_machine.specs.Run.{run, run_from};
+ghost use Rattle.aj_machine.specs.Run.{run, run_from, Runs, IsRearrangement};
+ghost use Rattle.aj_machine.specs.Units.{written_order};
 ghost use Rattle.aj_machine.specs.Waiting.{WaitsFor};
 ghost use Rattle.aj_machine.specs.Words.{IsReducible, IsReduciblePrefix, is_reducible};
 
@@ -39,4 +40,9 @@ pub fn run_laws()
 pub fn word_laws()
     ensures test { (word : List StepKind) → (is_reducible word ≡ true) ↔ IsReducible word }
     ensures prefix { (word : List StepKind) → IsReduciblePrefix word ↔ IsReducible word }
+{}
+
+/// The written order of a schedule that runs is a rearrangement of it.
+pub fn unit_laws()
+    ensures { (P : Program) (s : List ℕ) → Runs P s → IsRearrangement s (written_order P s) }
 {}
