@@ -4,3 +4,4 @@ pub mod RunLemmas
 pub mod WordLemmas
 pub mod PlainRuns
 pub mod UnitLemmas
+pub mod KeptLemmas

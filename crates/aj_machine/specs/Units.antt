@@ -1,5 +1,5 @@
 -- Units of a run, their commit places, and the order in which they are written.
-use Rattle.std.specs.Prelude.{ℕ, ◌+◌, Bool, true, false, not, ◌==◌, nat_le, List, [], ◌∷◌, ◌++◌, map, if◌then◌else◌}
+use Rattle.std.specs.Prelude.{ℕ, ◌+◌, Bool, true, false, not, ◌&&◌, ◌||◌, ◌==◌, nat_le, List, [], ◌∷◌, ◌++◌, map, if◌then◌else◌}
 use Rattle.aj_core.specs.Core.{Program}
 use Rattle.aj_state.specs.declared.value.StepKind.{StepKind}
 use Rattle.aj_state.specs.declared.value.StepKind.TheVariants.{Left, Other}
@@ -28,6 +28,12 @@ entries_from P q place (t ∷ s) = entry_then P q place t (outcome P q t) (λ ne
 -- the entries of a schedule from the start
 abbrev pub entries : Program → List ℕ → List Entry
 entries P s = entries_from P (initial P) 0 s
+
+-- whether an entry after which its thread stands inside is always followed by one of the same thread, or by none
+abbrev pub are_kept : List Entry → Bool
+are_kept [] = true
+are_kept (e ∷ []) = true
+are_kept (e ∷ f ∷ es) = (not e.inside || (f.thread == e.thread)) && are_kept (f ∷ es)
 
 -- A unit is an outermost atomic call, or one step outside such calls: the list of its entries in order.
 

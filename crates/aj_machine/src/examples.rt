@@ -4,7 +4,7 @@ ghost use Rattle.aj_core.specs.Examples.{counter, nested, returns_locked, divide
 ghost use Rattle.aj_state.specs.declared.value.Fault.TheVariants.{Zero};
 ghost use Rattle.aj_state.specs.declared.value.StepKind.TheVariants.{Both, Right, Left, Other};
 ghost use Rattle.aj_machine.specs.Step.{HadFaulted, outcome};
-ghost use Rattle.aj_machine.specs.Run.{run};
+ghost use Rattle.aj_machine.specs.Run.{run, IsUninterrupted};
 ghost use Rattle.aj_machine.specs.Units.{entries, units, in_order, commit_place, written_order};
 ghost use Rattle.aj_machine.specs.Examples.{nested_after_five, nested_after_eleven, returning_after_six, returning_after_seven, returned, faulted_by_zero, one_worker, interleaved, one_after_the_other, counted_to_two};
 
@@ -44,6 +44,8 @@ pub fn units_of_two_workers()
     ensures commit_places { map commit_place (in_order (units (entries counter interleaved))) ≡
         0 ∷ 1 ∷ 2 ∷ 3 ∷ 4 ∷ 5 ∷ 6 ∷ 7 ∷ 8 ∷ 9 ∷ 10 ∷ 11 ∷ 12 ∷ 14 ∷ 15 ∷ 16 ∷ 27 ∷ 36 ∷ 38 ∷ 39 ∷ [] }
     ensures written { written_order counter interleaved ≡ one_after_the_other }
+    ensures uninterrupted { IsUninterrupted counter one_after_the_other }
+    ensures interrupted { ¬ (IsUninterrupted counter interleaved) }
     ensures runs { run counter interleaved ≡ Some counted_to_two }
     ensures runs_written { run counter one_after_the_other ≡ Some counted_to_two }
 {}

@@ -8,8 +8,8 @@ ghost use Rattle.aj_state.specs.declared.value.StepKind.{StepKind};
 ghost use Rattle.aj_state.specs.Memory.{IsNumbered};
 ghost use Rattle.aj_state.specs.States.{State, Frame, Done, Faulted};
 ghost use Rattle.aj_machine.specs.Step.{Absent, IsDone, HadFaulted, Waits, outcome, step, kind_of};
-ghost use Rattle.aj_machine.specs.Run.{run, run_from, Runs, IsRearrangement};
-ghost use Rattle.aj_machine.specs.Units.{written_order};
+ghost use Rattle.aj_machine.specs.Run.{run, run_from, Runs, IsUninterrupted, IsRearrangement};
+ghost use Rattle.aj_machine.specs.Units.{entries, are_kept, written_order};
 ghost use Rattle.aj_machine.specs.Waiting.{WaitsFor};
 ghost use Rattle.aj_machine.specs.Words.{IsReducible, IsReduciblePrefix, is_reducible};
 
@@ -42,7 +42,9 @@ pub fn word_laws()
     ensures prefix { (word : List StepKind) → IsReduciblePrefix word ↔ IsReducible word }
 {}
 
-/// The written order of a schedule that runs is a rearrangement of it.
+/// A schedule that runs is uninterrupted exactly where the test on its entries says so, and its written order is
+/// a rearrangement of it.
 pub fn unit_laws()
-    ensures { (P : Program) (s : List ℕ) → Runs P s → IsRearrangement s (written_order P s) }
+    ensures uninterrupted { (P : Program) (s : List ℕ) → Runs P s → (are_kept (entries P s) ≡ true) ↔ IsUninterrupted P s }
+    ensures rearrangement { (P : Program) (s : List ℕ) → Runs P s → IsRearrangement s (written_order P s) }
 {}

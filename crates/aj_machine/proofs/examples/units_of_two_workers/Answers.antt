@@ -3,6 +3,10 @@ use Rattle.aj_core.specs.Examples.{counter}
 use Rattle.aj_machine.specs.Units.{Entry, units, in_order, commit_place, schedule_of}
 use Rattle.aj_machine.specs.Examples.{interleaved, one_after_the_other}
 use Rattle.aj_machine.proofs.PlainRuns.{run_is, entries_is}
+use Rattle.aj_machine.proofs.KeptLemmas.{kept_uninterrupted, uninterrupted_kept}
+use Rattle.std.proofs.Common.{◌≡◌, ◌∙◌, refl, sym, subst, true, false}
+use Rattle.std.specs.Prelude.{IsSome}
+use Rattle.aj_machine.specs.Units.{are_kept}
 use Rattle.std.proofs.Common.{List}
 use Rattle.aj_machine.proofs.examples.units_of_two_workers.Goals as goal
 
@@ -20,3 +24,11 @@ returns-clause-runs c = run_is counter interleaved
 
 pub returns-clause-runs_written : goal.returns-clause-runs_written
 returns-clause-runs_written c = run_is counter one_after_the_other
+
+pub returns-clause-uninterrupted : goal.returns-clause-uninterrupted
+returns-clause-uninterrupted c = kept_uninterrupted counter one_after_the_other (subst IsSome (sym (run_is counter one_after_the_other)) refl) (ap are_kept (entries_is counter one_after_the_other))
+
+pub returns-clause-interrupted : goal.returns-clause-interrupted
+returns-clause-interrupted c un =
+    let test : false ≡ true = sym (ap are_kept (entries_is counter interleaved)) ∙ uninterrupted_kept counter interleaved un in
+    absurd cc
