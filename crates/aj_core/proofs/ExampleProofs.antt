@@ -1,0 +1,134 @@
+-- The example programs are typed: each fact by computation.
+use Rattle.std.proofs.Common.{◌≡◌, ◌<◌, ◌≤◌, length, Bool, ℕ, zero, suc, ◌+◌, List, [], ◌∷◌, Some, None, true, false, refl, sym, ap, subst, arith}
+use Rattle.std.specs.Prelude.{slice_get, Option, unwrap_or, is_some, T}
+use Rattle.aj_paths.specs.Paths.{path_order}
+use Rattle.std.specs.List.Sorted.{IsStrictlySortedBy}
+use Rattle.aj_core.specs.declared.types.CoreType.TheVariants as type
+use Rattle.aj_core.specs.Core.{Program, Class, Stmt}
+use Rattle.aj_core.specs.Types.{Variable}
+use Rattle.aj_core.specs.Typed.{IsTyped, IsTypedClass, IsTypedField, IsTypedMethod, IsLock, IsTypedStmt, declared_in}
+use Rattle.aj_core.specs.Sizes.{stmt_height, stmt_nodes}
+use Rattle.aj_core.specs.Examples.{this_path, plain_method, inc_body, run_body, start_worker, guarded_main, counter, nested, returns_locked, divides_by_zero}
+
+no_truth : false ≡ true → ⊥
+no_truth e = subst T (sym e) tt
+
+-- P holds of each element with its place, where the first has this place
+abbrev pub EachFrom : {A : Type 0} → (ℕ → A → Type 0) → ℕ → List A → Type 0
+EachFrom P n [] = Unit {0}
+EachFrom P n (x ∷ xs) = P n x × EachFrom P (suc n) xs
+
+no_element : {A : Type 0} {x : A} → None ≡ Some x → ⊥
+no_element e = subst (λ o. T (is_some o)) (sym e) tt
+
+each_at : {A : Type 0} (P : ℕ → A → Type 0) (n : ℕ) (xs : List A) → EachFrom P n xs → (k : ℕ) (x : A) → slice_get xs k ≡ Some x → P (n + k) x
+each_at P n [] all k x is = absurd (no_element is)
+each_at P n (y ∷ ys) all zero x is = subst (λ m. P m x) (omega arith) (subst (P n) (ap (λ o. unwrap_or o y) is) all.0)
+each_at P n (y ∷ ys) all (suc k) x is = subst (λ m. P m x) (omega arith) (each_at P (suc n) ys all.1 k x is)
+
+-- the same, counted from 0
+pub each : {A : Type 0} (P : ℕ → A → Type 0) (xs : List A) → EachFrom P 0 xs → (k : ℕ) (x : A) → slice_get xs k ≡ Some x → P k x
+each P xs all k x is = subst (λ m. P m x) (omega arith) (each_at P 0 xs all k x is)
+
+-- a product of three facts, and so on, as a list of them is
+counter_classes : EachFrom (IsTypedClass counter) 0 counter.classes
+counter_classes = (
+  record { fields = refl; finals = refl; run = tt; few = omega arith },
+  (
+    record { fields = refl; finals = refl; run = record { method = _; is = refl; of_class = refl; no_parameters = refl; no_result = refl; no_locks = refl }; few = omega arith },
+    (record { fields = refl; finals = refl; run = tt; few = omega arith }, tt),
+  ),
+)
+
+counter_fields : EachFrom (IsTypedField counter) 0 counter.fields
+counter_fields = (
+  record { class = _; of_class = refl; index = refl; ty = tt; guard = record { root_class = 0; root = refl; fields = tt; short = omega arith }; unguarded = λ e. absurd (no_truth e) },
+  (record { class = _; of_class = refl; index = refl; ty = omega arith; guard = tt; unguarded = λ e. refl }, tt),
+)
+
+this_lock : (c : ℕ) (P : Program) (scope : List Variable) → IsLock P c scope this_path
+this_lock c P scope = record { root_class = c; root = refl; fields = tt; short = omega arith }
+
+none_ascend : IsStrictlySortedBy path_order []
+unfolding IsStrictlySortedBy
+none_ascend = tt
+
+-- a method without parameters, result and required locks is typed where its body is
+plain_typed : (P : Program) (class place_at : ℕ) (annotated : Bool) (body : Stmt) → class < length P.classes → declared_in body ≡ 0 → IsTypedStmt P class None body [] 1 → stmt_height body ≤ 64 → IsTypedMethod P (plain_method class place_at annotated body)
+plain_typed P class place_at annotated body there no_locals typed low = record {
+  class = there;
+  params = λ k d h. absurd (omega arith);
+  result = tt;
+  locks = λ k d h. absurd (omega arith);
+  ascending = none_ascend;
+  slots = sym (ap (λ n. 1 + n) no_locals);
+  body = typed;
+  returns = λ e. absurd (no_truth e);
+  low = low;
+  few_params = omega arith;
+  few_locals = subst (λ n. n ≤ 64) (sym no_locals) (omega arith);
+}
+
+-- of the worker's argument: the local `c` of `main`
+worker_is_typed : IsTypedStmt counter 2 None start_worker (record { slot = 1; is_final = true; ty = type.Class 0 } ∷ []) 2
+worker_is_typed = (1, (_, refl, ((_, ((0, omega arith, refl), refl), refl), tt), refl), (_, refl, refl))
+
+counter_methods : EachFrom (λ m. IsTypedMethod counter) 0 counter.methods
+counter_methods = (
+  plain_typed counter 0 48 true inc_body (omega arith) refl ((this_lock 0 counter [], ((_, refl, refl, refl, (_, (_, _, (_, refl, refl, refl), refl, refl), refl)), tt)), tt) (omega arith),
+  (
+    plain_typed counter 1 187 false run_body (omega arith) refl ((_, (_, refl, (_, refl, refl, refl), tt, refl), refl, refl), tt) (omega arith),
+    (
+      record {
+        class = omega arith;
+        params = λ k d h. absurd (omega arith);
+        result = tt;
+        locks = λ k d h. absurd (omega arith);
+        ascending = none_ascend;
+        slots = refl;
+        body = ((refl, omega arith, (_, (_, refl, tt, refl), refl)), (worker_is_typed, (worker_is_typed, tt)));
+        returns = λ e. absurd (no_truth e);
+        low = omega arith;
+        few_params = omega arith;
+        few_locals = omega arith;
+      },
+      tt,
+    ),
+  ),
+)
+
+abbrev finals_of : Option Class → List ℕ
+finals_of None = []
+finals_of (Some c) = c.finals
+
+pub counter_is_typed : IsTyped counter
+counter_is_typed = record {
+  classes = each (IsTypedClass counter) counter.classes counter_classes;
+  fields = each (IsTypedField counter) counter.fields counter_fields;
+  methods = each (λ m. IsTypedMethod counter) counter.methods counter_methods;
+  main = record { method = _; is = refl; of_class = refl; no_parameters = refl; no_result = refl; no_locks = refl };
+  no_finals = λ class is. ap (λ o. finals_of o) (sym is);
+  size = omega arith;
+}
+
+-- a `main` over a guarded field is typed where its body is
+guarded_main_is_typed : (place_at : ℕ) (annotated : Bool) (body : Stmt) → declared_in body ≡ 0 → IsTypedStmt (guarded_main place_at annotated body) 0 None body [] 1 → stmt_height body ≤ 64 → stmt_nodes body ≤ 1000 → IsTyped (guarded_main place_at annotated body)
+guarded_main_is_typed place_at annotated body no_locals typed low small =
+    let P = guarded_main place_at annotated body in
+    record {
+      classes = each (IsTypedClass P) P.classes (record { fields = refl; finals = refl; run = tt; few = omega arith }, tt);
+      fields = each (IsTypedField P) P.fields (record { class = _; of_class = refl; index = refl; ty = tt; guard = this_lock 0 P []; unguarded = λ e. absurd (no_truth e) }, tt);
+      methods = each (λ m. IsTypedMethod P) P.methods (plain_typed P 0 place_at annotated body (omega arith) no_locals typed low, tt);
+      main = record { method = _; is = refl; of_class = refl; no_parameters = refl; no_result = refl; no_locks = refl };
+      no_finals = λ class is. ap (λ o. finals_of o) (sym is);
+      size = omega arith;
+    }
+
+pub nested_is_typed : IsTyped nested
+nested_is_typed = guarded_main_is_typed _ _ _ refl ((this_lock 0 _ [], ((this_lock 0 _ [], ((_, refl, refl, refl, (_, refl, refl)), tt)), tt)), tt) (omega arith) (omega arith)
+
+pub returns_locked_is_typed : IsTyped returns_locked
+returns_locked_is_typed = guarded_main_is_typed _ _ _ refl ((this_lock 0 _ [], ((this_lock 0 _ [], (tt, tt)), tt)), tt) (omega arith) (omega arith)
+
+pub divides_by_zero_is_typed : IsTyped divides_by_zero
+divides_by_zero_is_typed = guarded_main_is_typed _ _ _ refl ((_, _, refl, refl, refl), tt) (omega arith) (omega arith)

@@ -1,0 +1,3 @@
+-- Lemmas on the core program.
+pub mod ViewLemmas
+pub mod ExampleProofs

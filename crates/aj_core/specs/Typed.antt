@@ -1,0 +1,218 @@
+-- Typed core programs: what elaboration gives, said of the core program's own parts.
+use Rattle.std.specs.Prelude.{◌≡◌, ℕ, zero, suc, ◌+◌, ◌<◌, ◌≤◌, Bool, true, false, not, ◌&&◌, ◌||◌, ◌==◌, List, [], ◌∷◌, length, filter, Option, Some, None, IfSome, IsSome, All, Contains, slice_get, sum_by, if◌then◌else◌}
+use Rattle.std.specs.List.Sorted.{IsStrictlySortedBy}
+use Rattle.aj_paths.specs.Paths.{PathData, path_order, most_fields}
+use Rattle.aj_core.specs.declared.types.CoreType.{CoreType}
+use Rattle.aj_core.specs.declared.types.CoreType.TheVariants as type
+use Rattle.aj_core.specs.Core.{Program, Class, Field, Method, Expr, TruthE, CallE, NewE}
+use Rattle.aj_core.specs.Core.{Stmt, Stmts, EmptyS, BlockS, LocalS, SetVarS, SetFieldS, DoS, IfS, WhileS, SyncS, ReturnS, PrintS, StartS, no_stmts, and_stmt}
+use Rattle.aj_core.specs.Sizes.{stmt_height, stmt_nodes}
+use Rattle.aj_core.specs.Types.{NodeType, VoidT, int_type, boolean_type, class_type, Variable, HasType, HasFit}
+
+-- Limits.
+-- the greatest height of a body
+abbrev pub most_height : ℕ
+most_height = 64
+
+-- the most fields of a class
+abbrev pub most_class_fields : ℕ
+most_class_fields = 32
+
+-- the most parameters of a method
+abbrev pub most_parameters : ℕ
+most_parameters = 16
+
+-- the most declared locals of a method
+abbrev pub most_locals : ℕ
+most_locals = 64
+
+-- the most classes, fields, methods and nodes together
+abbrev pub most_nodes : ℕ
+most_nodes = 262144
+
+-- a type of the program: its class, if it is one, is there
+abbrev pub IsType : Program → CoreType → Type 0
+IsType P type.Int = Unit {0}
+IsType P type.Boolean = Unit {0}
+IsType P (type.Class c) = c < length P.classes
+
+-- Lock paths.
+
+-- the slot is `this`, or a final variable in scope, and it has this class
+abbrev pub IsRoot : ℕ → List Variable → ℕ → ℕ → Type 0
+IsRoot class scope zero c = c ≡ class
+IsRoot class scope (suc x) c = Contains scope (record { slot = suc x; is_final = true; ty = type.Class c })
+
+-- from an object of this class each field is there, is final, and leads to an object again
+abbrev pub LeadsOn : Program → ℕ → List ℕ → Type 0
+LeadsOn P c [] = Unit {0}
+LeadsOn P c (f ∷ fs) = (field : Field) × (d : ℕ) × (slice_get P.fields f ≡ Some field) × (field.class ≡ c) × (field.is_final ≡ true) × (field.ty ≡ type.Class d) × LeadsOn P d fs
+
+-- the path is one of a lock expression, for the class of `this` and the variables in scope
+pub record IsLock (P : Program) (class : ℕ) (scope : List Variable) (p : PathData) : Type 0 where
+  pub root_class : ℕ
+  pub root : IsRoot class scope p.root root_class
+  pub fields : LeadsOn P root_class p.fields
+  pub short : length p.fields ≤ most_fields
+
+-- Slots.
+
+-- a method's parameters as variables, the first of them in this slot
+abbrev pub parameters_from : ℕ → List (Bool × CoreType) → List Variable
+parameters_from x [] = []
+parameters_from x (p ∷ ps) = record { slot = x; is_final = p.0; ty = p.1 } ∷ parameters_from (x + 1) ps
+
+-- slot 0 is `this`, the parameters follow
+abbrev pub parameters : Method → List Variable
+parameters m = parameters_from 1 m.params
+
+-- the variables in scope after a statement, where they were these before it
+abbrev pub scope_after : Stmt → List Variable → List Variable
+scope_after (LocalS x is_final ty e) scope = record { slot = x; is_final = is_final; ty = ty } ∷ scope
+scope_after _ scope = scope
+
+abbrev mutual
+  -- how many locals a statement declares
+  pub declared_in : Stmt → ℕ
+  declared_in (BlockS ss) = declared_in_each ss
+  declared_in (LocalS x is_final ty e) = 1
+  declared_in (IfS c s t) = declared_in s + declared_in t
+  declared_in (WhileS c s) = declared_in s
+  declared_in (SyncS p s) = declared_in s
+  declared_in _ = 0
+
+  pub declared_in_each : Stmts → ℕ
+  declared_in_each no_stmts = 0
+  declared_in_each (and_stmt s ss) = declared_in s + declared_in_each ss
+
+-- Statements.
+
+-- what may stand as a statement of its own
+abbrev pub is_call_or_new : Expr → Bool
+is_call_or_new (CallE e m args) = true
+is_call_or_new (NewE c args) = true
+is_call_or_new _ = false
+
+-- whether a node gives a value
+abbrev pub gives_value : NodeType → Bool
+gives_value VoidT = false
+gives_value _ = true
+
+-- the class says `implements Runnable`
+abbrev pub IsRunnable : Program → ℕ → Type 0
+IsRunnable P c = (class : Class) × (slice_get P.classes c ≡ Some class) × IsSome class.run
+
+-- in a method of this class and with this result or none
+module _ (P : Program) (class : ℕ) (result : Option CoreType) where
+  -- a value that fits the result, or no value and no result
+  abbrev pub IsResult : List Variable → Option Expr → Option CoreType → Type 0
+  IsResult scope None None = Unit {0}
+  IsResult scope None (Some t) = ⊥
+  IsResult scope (Some e) None = ⊥
+  IsResult scope (Some e) (Some t) = HasFit P class scope e t
+
+  abbrev mutual
+    -- the rules of statements, for the variables in scope and the next free slot
+    pub IsTypedStmt : Stmt → List Variable → ℕ → Type 0
+    IsTypedStmt EmptyS scope next = Unit {0}
+    IsTypedStmt (BlockS ss) scope next = AreTypedStmts ss scope next
+    IsTypedStmt (LocalS x is_final ty e) scope next = (x ≡ next) × IsType P ty × HasFit P class scope e ty
+    IsTypedStmt (SetVarS x e) scope next = (ty : CoreType) × Contains scope (record { slot = x; is_final = false; ty = ty }) × HasFit P class scope e ty
+    IsTypedStmt (SetFieldS e f g) scope next = (field : Field) × (slice_get P.fields f ≡ Some field) × (field.is_final ≡ false) × HasType P class scope e (class_type field.class) × HasFit P class scope g field.ty
+    IsTypedStmt (DoS e drops) scope next = (T : NodeType) × HasType P class scope e T × (is_call_or_new e ≡ true) × (drops ≡ gives_value T)
+    IsTypedStmt (IfS c s t) scope next = HasType P class scope c boolean_type × IsTypedStmt s scope next × IsTypedStmt t scope (next + declared_in s)
+    IsTypedStmt (WhileS c s) scope next = HasType P class scope c boolean_type × IsTypedStmt s scope next
+    IsTypedStmt (SyncS p s) scope next = IsLock P class scope p × IsTypedStmt s scope next
+    IsTypedStmt (ReturnS e) scope next = IsResult scope e result
+    IsTypedStmt (PrintS e) scope next = HasType P class scope e int_type
+    IsTypedStmt (StartS e) scope next = (c : ℕ) × HasType P class scope e (class_type c) × IsRunnable P c
+
+    -- the statements of a block, one after the other
+    pub AreTypedStmts : Stmts → List Variable → ℕ → Type 0
+    AreTypedStmts no_stmts scope next = Unit {0}
+    AreTypedStmts (and_stmt s ss) scope next = IsTypedStmt s scope next × AreTypedStmts ss (scope_after s scope) (next + declared_in s)
+
+-- Whether a body can complete.
+
+-- whether a condition is the literal `true`
+abbrev pub is_true_literal : Expr → Bool
+is_true_literal (TruthE b) = b
+is_true_literal _ = false
+
+abbrev mutual
+  -- whether what stands after a statement can be reached
+  pub completes : Stmt → Bool
+  completes (BlockS ss) = completes_each ss
+  completes (IfS c s t) = completes s || completes t
+  completes (WhileS c s) = not (is_true_literal c)
+  completes (SyncS p s) = completes s
+  completes (ReturnS e) = false
+  completes _ = true
+
+  pub completes_each : Stmts → Bool
+  completes_each no_stmts = true
+  completes_each (and_stmt s ss) = completes s && completes_each ss
+
+-- Classes, fields, methods and programs.
+
+-- classes, fields, methods and nodes together
+abbrev pub size_of : Program → ℕ
+size_of P = length P.classes + length P.fields + length P.methods + sum_by (λ m. stmt_nodes m.body) P.methods
+
+-- the ids of a class's fields in order, where the list of fields begins at this id
+abbrev pub fields_from : ℕ → ℕ → List Field → List ℕ
+fields_from c n [] = []
+fields_from c n (f ∷ fs) = if f.class == c then n ∷ fields_from c (n + 1) fs else fields_from c (n + 1) fs
+
+-- whether there is a field, and it is final
+abbrev pub is_final_at : Option Field → Bool
+is_final_at None = false
+is_final_at (Some f) = f.is_final
+
+-- a method of the class, without parameters, result and required locks
+pub record IsEntry (P : Program) (class m : ℕ) : Type 0 where
+  pub method : Method
+  pub is : slice_get P.methods m ≡ Some method
+  pub of_class : method.class ≡ class
+  pub no_parameters : method.params ≡ []
+  pub no_result : method.result ≡ None
+  pub no_locks : method.requires_ ≡ []
+
+-- a class: its fields are those of the class in order, its final fields are the final ones among them, and `run` is an entry of it
+pub record IsTypedClass (P : Program) (c : ℕ) (class : Class) : Type 0 where
+  pub fields : class.fields ≡ fields_from c 0 P.fields
+  pub finals : class.finals ≡ filter (λ f. is_final_at (slice_get P.fields f)) class.fields
+  pub run : IfSome class.run (IsEntry P c)
+  pub few : length class.fields ≤ most_class_fields
+
+-- a field: it stands in its class at its index, its guard is rooted at `this`, and a final field has none
+pub record IsTypedField (P : Program) (f : ℕ) (field : Field) : Type 0 where
+  pub class : Class
+  pub of_class : slice_get P.classes field.class ≡ Some class
+  pub index : slice_get class.fields field.index ≡ Some f
+  pub ty : IsType P field.ty
+  pub guard : IfSome field.guard (IsLock P field.class [])
+  pub unguarded : field.is_final ≡ true → field.guard ≡ None
+
+-- a method: its required locks ascend, its slots are `this`, its parameters and its locals, its body is typed, and one with a result can't complete
+pub record IsTypedMethod (P : Program) (method : Method) : Type 0 where
+  pub class : method.class < length P.classes
+  pub params : All (λ p. IsType P p.1) method.params
+  pub result : IfSome method.result (IsType P)
+  pub locks : All (IsLock P method.class (parameters method)) method.requires_
+  pub ascending : IsStrictlySortedBy path_order method.requires_
+  pub slots : method.slots ≡ 1 + length method.params + declared_in method.body
+  pub body : IsTypedStmt P method.class method.result method.body (parameters method) (1 + length method.params)
+  pub returns : IsSome method.result → completes method.body ≡ false
+  pub low : stmt_height method.body ≤ most_height
+  pub few_params : length method.params ≤ most_parameters
+  pub few_locals : declared_in method.body ≤ most_locals
+
+-- a typed core program
+pub record IsTyped (P : Program) : Type 0 where
+  pub classes : (c : ℕ) (class : Class) → slice_get P.classes c ≡ Some class → IsTypedClass P c class
+  pub fields : (f : ℕ) (field : Field) → slice_get P.fields f ≡ Some field → IsTypedField P f field
+  pub methods : (m : ℕ) (method : Method) → slice_get P.methods m ≡ Some method → IsTypedMethod P method
+  pub main : IsEntry P P.main_class P.main
+  pub no_finals : (class : Class) → slice_get P.classes P.main_class ≡ Some class → class.finals ≡ []
+  pub size : size_of P ≤ most_nodes

@@ -1,0 +1,119 @@
+-- Types of expressions: the rule of each node, read on the core program.
+use Rattle.std.specs.Prelude.{◌≡◌, ℕ, Bool, true, false, ◌||◌, ◌==◌, List, [], ◌∷◌, map, Option, Some, None, slice_get, Contains}
+use Rattle.std.specs.List.{filter_map}
+use Rattle.aj_core.specs.declared.types.CoreOp.{CoreOp}
+use Rattle.aj_core.specs.declared.types.CoreOp.TheVariants.{Eq, Ne, Lt, Le, Gt, Ge, Add, Sub, Mul, Div, Rem}
+use Rattle.aj_core.specs.declared.types.CoreType.{CoreType}
+use Rattle.aj_core.specs.declared.types.CoreType.TheVariants as type
+use Rattle.aj_core.specs.Core.{Program, Class, Field, Method, Expr, Exprs, IntE, TruthE, NullE, ThisE, VarE, NotE, NegE, BinaryE, AndE, OrE, GetE, CallE, NewE, no_exprs, and_expr}
+use Rattle.aj_core.specs.Locks.{is_class}
+
+-- the type of a node: that of a value, that of `null`, or none for a call without a result
+pub data NodeType : Type 0 where
+  ValueT : CoreType → NodeType
+  NullT : NodeType
+  VoidT : NodeType
+
+-- the type of an int
+abbrev pub int_type : NodeType
+int_type = ValueT type.Int
+
+-- the type of a boolean
+abbrev pub boolean_type : NodeType
+boolean_type = ValueT type.Boolean
+
+-- the type of an object of a class
+abbrev pub class_type : ℕ → NodeType
+class_type c = ValueT (type.Class c)
+
+-- what a call gives of a method with this result or none
+abbrev pub result_type : Option CoreType → NodeType
+result_type None = VoidT
+result_type (Some t) = ValueT t
+
+-- whether two types are the same
+abbrev pub type_eq : CoreType → CoreType → Bool
+type_eq type.Int type.Int = true
+type_eq type.Boolean type.Boolean = true
+type_eq (type.Class c) (type.Class d) = c == d
+type_eq _ _ = false
+
+-- whether a type fits another: they are the same and not void, or it is that of `null` and the other a class
+abbrev pub fits : NodeType → NodeType → Bool
+fits (ValueT t) (ValueT u) = type_eq t u
+fits NullT NullT = true
+fits NullT (ValueT u) = is_class u
+fits _ _ = false
+
+-- the type of an operator on two ints, or none where they aren't
+abbrev pub of_ints : NodeType → NodeType → NodeType → Option NodeType
+of_ints result (ValueT type.Int) (ValueT type.Int) = Some result
+of_ints result _ _ = None
+
+-- the type of a comparison, where one part's type fits the other's
+abbrev pub of_equals : Bool → Option NodeType
+of_equals true = Some boolean_type
+of_equals false = None
+
+-- the type that an operator gives for the types of its parts, where there is a rule
+abbrev pub binary_type : CoreOp → NodeType → NodeType → Option NodeType
+binary_type Add = of_ints int_type
+binary_type Sub = of_ints int_type
+binary_type Mul = of_ints int_type
+binary_type Div = of_ints int_type
+binary_type Rem = of_ints int_type
+binary_type Lt = of_ints boolean_type
+binary_type Le = of_ints boolean_type
+binary_type Gt = of_ints boolean_type
+binary_type Ge = of_ints boolean_type
+binary_type Eq = λ a b. of_equals (fits a b || fits b a)
+binary_type Ne = λ a b. of_equals (fits a b || fits b a)
+
+-- a parameter or local that is in scope: its slot, whether it is final, and its type
+pub record Variable : Type 0 where
+  pub slot : ℕ
+  pub is_final : Bool
+  pub ty : CoreType
+
+-- the type of a field, where there is one
+abbrev pub field_type : Option Field → Option CoreType
+field_type None = None
+field_type (Some f) = Some f.ty
+
+-- the types of some fields, in order
+abbrev pub field_types : Program → List ℕ → List CoreType
+field_types P = filter_map (λ f. field_type (slice_get P.fields f))
+
+-- the types of a method's parameters, in order
+abbrev pub parameter_types : Method → List CoreType
+parameter_types m = map (λ p. p.1) m.params
+
+-- in a program, for the class of `this` and the variables in scope
+module _ (P : Program) (class : ℕ) (scope : List Variable) where
+  abbrev mutual
+    -- the rules of expressions: this one is typed, and has this type
+    pub HasType : Expr → NodeType → Type 0
+    HasType (IntE n) T = T ≡ int_type
+    HasType (TruthE b) T = T ≡ boolean_type
+    HasType NullE T = T ≡ NullT
+    HasType ThisE T = T ≡ class_type class
+    HasType (VarE x is_final ty) T = Contains scope (record { slot = x; is_final = is_final; ty = ty }) × (T ≡ ValueT ty)
+    HasType (NotE e) T = HasType e boolean_type × (T ≡ boolean_type)
+    HasType (NegE e) T = HasType e int_type × (T ≡ int_type)
+    HasType (BinaryE op a b) T = (A : NodeType) × (B : NodeType) × HasType a A × HasType b B × (binary_type op A B ≡ Some T)
+    HasType (AndE a b) T = HasType a boolean_type × HasType b boolean_type × (T ≡ boolean_type)
+    HasType (OrE a b) T = HasType a boolean_type × HasType b boolean_type × (T ≡ boolean_type)
+    HasType (GetE e f) T = (field : Field) × (slice_get P.fields f ≡ Some field) × HasType e (class_type field.class) × (T ≡ ValueT field.ty)
+    HasType (CallE e m args) T = (method : Method) × (slice_get P.methods m ≡ Some method) × HasType e (class_type method.class) × FitEach args (parameter_types method) × (T ≡ result_type method.result)
+    HasType (NewE c args) T = (made : Class) × (slice_get P.classes c ≡ Some made) × FitEach args (field_types P made.finals) × (T ≡ class_type c)
+
+    -- as many arguments as types, each of which fits its type
+    pub FitEach : Exprs → List CoreType → Type 0
+    FitEach no_exprs [] = Unit {0}
+    FitEach no_exprs (t ∷ ts) = ⊥
+    FitEach (and_expr e es) [] = ⊥
+    FitEach (and_expr e es) (t ∷ ts) = ((T : NodeType) × HasType e T × (fits T (ValueT t) ≡ true)) × FitEach es ts
+
+  -- an expression is typed, and its type fits this one
+  abbrev pub HasFit : Expr → CoreType → Type 0
+  HasFit e t = (T : NodeType) × HasType e T × (fits T (ValueT t) ≡ true)

@@ -1,0 +1,15 @@
+// Example programs are typed.
+ghost use Rattle.std.specs.Prelude.{◌≡◌, Some, None, pos, false, []};
+ghost use Rattle.aj_core.specs.declared.types.CoreType.TheVariants as type;
+ghost use Rattle.aj_core.specs.Core.{GetE, ThisE, IntE, VarE};
+ghost use Rattle.aj_core.specs.Locks.{path_of, slot_path};
+ghost use Rattle.aj_core.specs.Typed.{IsTyped};
+ghost use Rattle.aj_core.specs.Examples.{counter, nested, returns_locked, divides_by_zero};
+
+/// The example programs that other crates run and judge are typed.
+pub fn examples_are_typed()
+    ensures counter { IsTyped counter }
+    ensures nested { IsTyped nested }
+    ensures returns_locked { IsTyped returns_locked }
+    ensures divides_by_zero { IsTyped divides_by_zero }
+{}

@@ -1,0 +1,16 @@
+// Laws of the definitions.
+ghost use Rattle.std.specs.Prelude.{◌≡◌, ℕ, Vec, Box};
+ghost use Rattle.std.specs.declared.alloc.Global.{Global};
+ghost use Rattle.aj_core.specs.declared.tree.CoreExpr.{CoreExpr, Call, New};
+ghost use Rattle.aj_core.specs.declared.tree.CoreStmt.{CoreStmt, Block};
+ghost use Rattle.aj_core.specs.Core.{CallE, NewE, BlockS};
+ghost use Rattle.aj_core.specs.Views.{expr_of, exprs_from, stmt_of, stmts_from};
+ghost use Rattle.aj_core.specs.Typed.{IsTyped};
+
+/// A `Vec` of parts is the list of these parts as plain data.
+pub fn lists_as_plain_data()
+    ensures call { (e : Box CoreExpr Global) (m : ℕ) (args : Vec CoreExpr Global) →
+        expr_of (Call e m args) ≡ CallE (expr_of e.value) m (exprs_from args.items) }
+    ensures new { (c : ℕ) (args : Vec CoreExpr Global) → expr_of (New c args) ≡ NewE c (exprs_from args.items) }
+    ensures block { (body : Vec CoreStmt Global) → stmt_of (Block body) ≡ BlockS (stmts_from body.items) }
+{}

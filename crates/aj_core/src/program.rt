@@ -1,0 +1,74 @@
+// Programs, classes, fields and methods, with the calls that lend their parts.
+ghost use Rattle.std.specs.Prelude.{◌≡◌, map};
+ghost use Rattle.aj_core.specs.Views.{program_of, class_of, field_of, method_of};
+
+use crate::tree::CoreStmt;
+use crate::types::CoreType;
+use aj_paths::{ClassId, FieldId, MethodId, Path};
+
+/// A program in numbers. Ids count from 0 in source order over the whole program.
+/// The object that stands at the start is of `main_class`, the class `Main`.
+#[derive(Drop)]
+pub struct CoreProgram {
+    pub classes: Vec<CoreClass>,
+    pub fields: Vec<CoreField>,
+    pub methods: Vec<CoreMethod>,
+    pub main_class: ClassId,
+    pub main: MethodId,
+}
+
+/// A class: its fields in order, the final ones among them, and the method `run` where the class says
+/// `implements Runnable`.
+#[derive(Drop)]
+pub struct CoreClass {
+    pub fields: Vec<FieldId>,
+    pub finals: Vec<FieldId>,
+    pub run: Option<MethodId>,
+}
+
+/// A field. `index` is its place among the fields of its class; a guard's path has the root 0.
+#[derive(Drop)]
+pub struct CoreField {
+    pub class: ClassId,
+    pub index: u16,
+    pub is_final: bool,
+    pub ty: CoreType,
+    pub guard: Option<Path>,
+}
+
+/// A method. `place_at` is the byte offset of its name in the source, `requires_` its required locks in
+/// ascending order, `params` the finality and type of each parameter, and `slots` the number of its slots.
+#[derive(Drop)]
+pub struct CoreMethod {
+    pub class: ClassId,
+    pub place_at: u32,
+    pub annotated: bool,
+    pub requires_: Vec<Path>,
+    pub params: Vec<(bool, CoreType)>,
+    pub result: Option<CoreType>,
+    pub slots: u16,
+    pub body: CoreStmt,
+}
+
+impl CoreProgram {
+    /// The classes, by their ids.
+    pub fn classes(&self) -> &[CoreClass]
+        ensures { map class_of result.now ≡ (program_of self.now).classes }
+    {
+        self.classes.as_slice()
+    }
+
+    /// The fields of all classes, by their ids.
+    pub fn fields(&self) -> &[CoreField]
+        ensures { map field_of result.now ≡ (program_of self.now).fields }
+    {
+        self.fields.as_slice()
+    }
+
+    /// The methods of all classes, by their ids.
+    pub fn methods(&self) -> &[CoreMethod]
+        ensures { map method_of result.now ≡ (program_of self.now).methods }
+    {
+        self.methods.as_slice()
+    }
+}

@@ -1,0 +1,47 @@
+-- Reducible words of kinds, after Lipton (1975).
+use Rattle.std.specs.Prelude.{◌≡◌, ◌≤◌, Bool, true, false, List, [], ◌∷◌, ◌++◌, length}
+use Rattle.std.specs.List.{list_all}
+use Rattle.aj_state.specs.declared.value.StepKind.{StepKind}
+use Rattle.aj_state.specs.declared.value.StepKind.TheVariants.{Both, Right, Left, Other, Bare}
+
+-- Right or Both
+abbrev pub moves_right : StepKind → Bool
+moves_right Right = true
+moves_right Both = true
+moves_right _ = false
+
+-- Left or Both
+abbrev pub moves_left : StepKind → Bool
+moves_left Left = true
+moves_left Both = true
+moves_left _ = false
+
+-- Other
+abbrev pub is_other : StepKind → Bool
+is_other Other = true
+is_other _ = false
+
+-- Right or Both any number of times, at most one Other, then Left or Both any number of times
+pub record IsReducible (word : List StepKind) : Type 0 where
+  pub before : List StepKind
+  pub middle : List StepKind
+  pub after : List StepKind
+  pub is : word ≡ before ++ (middle ++ after)
+  pub before_right : list_all moves_right before ≡ true
+  pub middle_one : length middle ≤ 1
+  pub middle_other : list_all is_other middle ≡ true
+  pub after_left : list_all moves_left after ≡ true
+
+-- the word can be made reducible by more kinds at its end
+pub record IsReduciblePrefix (word : List StepKind) : Type 0 where
+  pub rest : List StepKind
+  pub whole : IsReducible (word ++ rest)
+
+-- a test for reducible words, read from the left: nothing but Left and Both comes after the first Left or Other
+abbrev pub is_reducible : List StepKind → Bool
+is_reducible [] = true
+is_reducible (Both ∷ ks) = is_reducible ks
+is_reducible (Right ∷ ks) = is_reducible ks
+is_reducible (Left ∷ ks) = list_all moves_left ks
+is_reducible (Other ∷ ks) = list_all moves_left ks
+is_reducible (Bare ∷ ks) = false

@@ -1,0 +1,86 @@
+-- More held paths never give a greater effect.
+use Rattle.std.proofs.Common.{◌≡◌, ℕ, Bool, true, false, List, Some, None, refl}
+use Rattle.std.specs.Prelude.{Option, slice_get, if◌then◌else◌}
+use Rattle.aj_paths.specs.Paths.{PathData}
+use Rattle.aj_algebra.specs.declared.basic.Basic.{Basic}
+use Rattle.aj_algebra.specs.declared.basic.Basic.TheVariants.{Mover, Error}
+use Rattle.aj_algebra.specs.HeldPaths.{Held, has_path, with_path}
+use Rattle.aj_core.specs.Core.{Program, Expr, Exprs, IntE, TruthE, NullE, ThisE, VarE, NotE, NegE, BinaryE, AndE, OrE, GetE, CallE, NewE, no_exprs, and_expr}
+use Rattle.aj_core.specs.Core.{Stmt, Stmts, EmptyS, BlockS, LocalS, SetVarS, SetFieldS, DoS, IfS, WhileS, SyncS, ReturnS, PrintS, StartS, no_stmts, and_stmt}
+use Rattle.aj_core.specs.Locks.{path_of}
+use Rattle.aj_rules.specs.declared.guard.Guard.{Guard}
+use Rattle.aj_rules.specs.declared.guard.Guard.TheVariants.{Final, Free, Named, Unnamed}
+use Rattle.aj_rules.specs.Guards.{guard_of}
+use Rattle.aj_rules.specs.Mentions.{paths_of}
+use Rattle.aj_rules.specs.Effect.{Assignment, required_paths, access_effect, sync_effect, call_of, expr_effect, exprs_effect, effect, block_effect}
+use Rattle.aj_rules.specs.Rules.{IsPart, AtMost, IsFalling}
+use Rattle.aj_rules.proofs.BasicLemmas.{below_itself, below_error, below_lift, below_chain, seq_mono, join_mono, star_mono, lift_mono}
+use Rattle.aj_rules.proofs.SetLemmas.{first, all_part, under_part, with_part, after_part, with_path_part}
+
+-- a choice that falls where the test holds oftener
+choice_falls : (h k : Bool) (low high : Basic) → (h ≡ true → k ≡ true) → AtMost low high → AtMost (if k then low else Error) (if h then high else Error)
+choice_falls true true low high part falls = falls
+choice_falls true false low high part falls = absurd (let e : false ≡ true = part refl in cc)
+choice_falls false true low high part falls = below_error low
+choice_falls false false low high part falls = refl
+
+access_falls : (g : Guard) (H K : Held) → IsPart H K → AtMost (access_effect g K) (access_effect g H)
+access_falls Final H K part = refl
+access_falls Free H K part = refl
+access_falls (Named p) H K part = choice_falls (H p) (K p) Mover Mover (part p) refl
+access_falls Unnamed H K part = refl
+
+-- a synchronized part: its body at the two sets, and with the lock
+sync_falls : (h k : Bool) (heldH heldK takenH takenK : Basic) → (h ≡ true → k ≡ true) → AtMost heldK heldH → (k ≡ true → AtMost heldK takenH) → AtMost takenK takenH → AtMost (sync_effect k heldK takenK) (sync_effect h heldH takenH)
+sync_falls true true heldH heldK takenH takenK part held mixed taken = held
+sync_falls true false heldH heldK takenH takenK part held mixed taken = absurd (let e : false ≡ true = part refl in cc)
+sync_falls false true heldH heldK takenH takenK part held mixed taken = below_chain _ _ _ (mixed refl) (below_lift takenH)
+sync_falls false false heldH heldK takenH takenK part held mixed taken = lift_mono _ _ taken
+
+module _ (P : Program) (rel : ℕ → List PathData) (A : Assignment) (falling : IsFalling rel A) where
+  call_falls : (m : ℕ) (o : Option PathData) (args : List (Option PathData)) (H K : Held) → IsPart H K → AtMost (call_of P rel A m o args K) (call_of P rel A m o args H)
+  call_falls m o args H K part = choice_falls _ _ _ _
+      (all_part _ _ (under_part H K part (rel m) o args) (required_paths (slice_get P.methods m)))
+      (falling m _ _ (λ q e. first (has_path (rel m) q) _ e) (under_part H K part (rel m) o args))
+
+  mutual
+    pub expr_falls : (e : Expr) (H K : Held) → IsPart H K → AtMost (expr_effect P rel A e K) (expr_effect P rel A e H)
+    expr_falls (IntE n) H K part = refl
+    expr_falls (TruthE b) H K part = refl
+    expr_falls NullE H K part = refl
+    expr_falls ThisE H K part = refl
+    expr_falls (VarE x is_final ty) H K part = below_itself _
+    expr_falls (NotE e) H K part = expr_falls e H K part
+    expr_falls (NegE e) H K part = expr_falls e H K part
+    expr_falls (BinaryE op a b) H K part = seq_mono _ _ _ _ (expr_falls a H K part) (expr_falls b H K part)
+    expr_falls (AndE a b) H K part = seq_mono _ _ _ _ (expr_falls a H K part) (expr_falls b H K part)
+    expr_falls (OrE a b) H K part = seq_mono _ _ _ _ (expr_falls a H K part) (expr_falls b H K part)
+    expr_falls (GetE e f) H K part = seq_mono _ _ _ _ (expr_falls e H K part) (access_falls (guard_of P f (path_of P e)) H K part)
+    expr_falls (CallE e m args) H K part = seq_mono _ _ _ _ (expr_falls e H K part) (seq_mono _ _ _ _ (exprs_fall args H K part) (call_falls m (path_of P e) (paths_of P args) H K part))
+    expr_falls (NewE c args) H K part = seq_mono _ _ _ _ (exprs_fall args H K part) refl
+
+    exprs_fall : (es : Exprs) (H K : Held) → IsPart H K → AtMost (exprs_effect P rel A es K) (exprs_effect P rel A es H)
+    exprs_fall no_exprs H K part = refl
+    exprs_fall (and_expr e es) H K part = seq_mono _ _ _ _ (expr_falls e H K part) (exprs_fall es H K part)
+
+  mutual
+    pub stmt_falls : (s : Stmt) (H K : Held) → IsPart H K → AtMost (effect P rel A s K) (effect P rel A s H)
+    stmt_falls EmptyS H K part = refl
+    stmt_falls (BlockS ss) H K part = block_falls ss H K part
+    stmt_falls (LocalS x is_final ty e) H K part = seq_mono _ _ _ _ (expr_falls e H K part) refl
+    stmt_falls (SetVarS x e) H K part = seq_mono _ _ _ _ (expr_falls e H K part) refl
+    stmt_falls (SetFieldS e f g) H K part = seq_mono _ _ _ _ (expr_falls e H K part) (seq_mono _ _ _ _ (expr_falls g H K part) (access_falls (guard_of P f (path_of P e)) H K part))
+    stmt_falls (DoS e drops) H K part = expr_falls e H K part
+    stmt_falls (IfS c s t) H K part = seq_mono _ _ _ _ (expr_falls c H K part) (join_mono _ _ _ _ (stmt_falls s H K part) (stmt_falls t H K part))
+    stmt_falls (WhileS c s) H K part = seq_mono _ _ _ _ (expr_falls c H K part) (star_mono _ _ (seq_mono _ _ _ _ (stmt_falls s H K part) (expr_falls c H K part)))
+    stmt_falls (SyncS p s) H K part = sync_falls (H p) (K p) _ _ _ _ (part p) (stmt_falls s H K part)
+        (λ has. stmt_falls s (with_path p H) K (with_path_part H K part p has))
+        (stmt_falls s (with_path p H) (with_path p K) (with_part H K part p))
+    stmt_falls (ReturnS None) H K part = refl
+    stmt_falls (ReturnS (Some e)) H K part = expr_falls e H K part
+    stmt_falls (PrintS e) H K part = seq_mono _ _ _ _ (expr_falls e H K part) refl
+    stmt_falls (StartS e) H K part = seq_mono _ _ _ _ (expr_falls e H K part) refl
+
+    block_falls : (ss : Stmts) (H K : Held) → IsPart H K → AtMost (block_effect P rel A ss K) (block_effect P rel A ss H)
+    block_falls no_stmts H K part = refl
+    block_falls (and_stmt s ss) H K part = seq_mono _ _ _ _ (stmt_falls s H K part) (block_falls ss _ _ (after_part H K part P s))

@@ -1,0 +1,7 @@
+-- What the contracts of the rules cite.
+pub mod Mentions
+pub mod Guards
+pub mod Near
+pub mod Effect
+pub mod Rules
+pub mod Examples

@@ -1,0 +1,49 @@
+-- The rules of atomicity: assignments that are closed and keep every bound, and accepted programs.
+use Rattle.std.specs.Prelude.{◌≡◌, ℕ, Bool, true, List, Some, slice_get, if◌then◌else◌}
+use Rattle.aj_paths.specs.Paths.{PathData}
+use Rattle.aj_algebra.specs.declared.basic.Basic.{Basic}
+use Rattle.aj_algebra.specs.declared.basic.Basic.TheVariants.{Atomic, Cmpd}
+use Rattle.aj_algebra.specs.Basics.{below_of}
+use Rattle.aj_algebra.specs.HeldPaths.{Held, has_path}
+use Rattle.aj_core.specs.Core.{Program, Method}
+use Rattle.aj_rules.specs.Near.{MethodPaths, AreRelevant, AreFew, rel_of}
+use Rattle.aj_rules.specs.Effect.{Assignment, effect}
+
+-- each path of the first set is in the second
+abbrev pub IsPart : Held → Held → Type 0
+IsPart H K = (q : PathData) → H q ≡ true → K q ≡ true
+
+-- the first basic is at most the second
+abbrev pub AtMost : Basic → Basic → Type 0
+AtMost a b = below_of a b ≡ true
+
+-- more held paths never give a greater basic
+abbrev pub IsFalling : (rel : ℕ → List PathData) → Assignment → Type 0
+IsFalling rel A = (m : ℕ) (H K : Held) → IsPart K (has_path (rel m)) → IsPart H K → AtMost (A m K) (A m H)
+
+-- at each part of a method's relevant paths that has its required paths, the effect of its body is at most what is assigned
+abbrev pub IsClosed : Program → (rel : ℕ → List PathData) → Assignment → Type 0
+IsClosed P rel A = (m : ℕ) (method : Method) → slice_get P.methods m ≡ Some method →
+    (H : Held) → IsPart H (has_path (rel m)) → IsPart (has_path method.requires_) H → AtMost (effect P rel A method.body H) (A m H)
+
+-- the greatest basic that a method may have at its required paths
+abbrev pub declared_bound : (annotated : Bool) → Basic
+declared_bound annotated = if annotated then Atomic else Cmpd
+
+-- what is assigned to a method at its required paths is at most its bound
+abbrev pub HoldsBound : Assignment → ℕ → Method → Type 0
+HoldsBound A m method = AtMost (A m (has_path method.requires_)) (declared_bound method.annotated)
+
+-- a falling assignment that is closed and keeps every bound
+pub record IsAdmissible (P : Program) (rel : ℕ → List PathData) (A : Assignment) : Type 0 where
+  pub falling : IsFalling rel A
+  pub closed : IsClosed P rel A
+  pub bounds : (m : ℕ) (method : Method) → slice_get P.methods m ≡ Some method → HoldsBound A m method
+
+-- a core program is accepted: it is well-formed, and some assignment is admissible
+pub record IsAccepted (P : Program) : Type 0 where
+  pub sets : List MethodPaths
+  pub relevant : AreRelevant P sets
+  pub few : AreFew sets
+  pub assignment : Assignment
+  pub admissible : IsAdmissible P (rel_of sets) assignment

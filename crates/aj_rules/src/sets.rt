@@ -1,0 +1,50 @@
+// The relevant paths of all methods.
+ghost use Rattle.std.specs.Prelude.{◌≡◌};
+ghost use Rattle.aj_rules.specs.Near.{rel_of, loc_of};
+
+use aj_paths::{MethodId, Path};
+use std::marker::Model;
+
+/// The paths of one method, ascending.
+#[derive(Drop)]
+pub(crate) struct PathsOfMethod {
+    pub(crate) rel: Vec<Path>,
+    pub(crate) loc: Vec<Path>,
+}
+
+/// For each method its relevant paths, rooted at `this` or a parameter, and those near it that are rooted at its locals.
+#[derive(Drop)]
+pub struct RelevantSets {
+    pub(crate) methods: Vec<PathsOfMethod>,
+}
+
+impl Model for RelevantSets {
+    ghost use Rattle.std.specs.Prelude.{List, map};
+    ghost use Rattle.aj_rules.specs.Near.{MethodPaths};
+
+    ghost Value = { List MethodPaths };
+
+    ghost view = { λ s. map (λ m. record { rel = m.rel.items; loc = m.loc.items }) s.methods.items };
+}
+
+impl RelevantSets {
+    /// The relevant paths of a method, ascending; none where there is no such method.
+    pub fn rel(&self, m: MethodId) -> &[Path]
+        ensures { result.now ≡ rel_of self.now m }
+    {
+        match self.methods.get(m.0 as usize) {
+            Some(paths) => paths.rel.as_slice(),
+            None => &[],
+        }
+    }
+
+    /// The paths near a method that are rooted at its locals, ascending; none where there is no such method.
+    pub fn loc(&self, m: MethodId) -> &[Path]
+        ensures { result.now ≡ loc_of self.now m }
+    {
+        match self.methods.get(m.0 as usize) {
+            Some(paths) => paths.loc.as_slice(),
+            None => &[],
+        }
+    }
+}
