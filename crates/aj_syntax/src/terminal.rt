@@ -1,5 +1,10 @@
 //! The tokens that the grammar names.
 
+ghost use Rattle.std.specs.Prelude.{◌≡◌};
+ghost use Rattle.aj_syntax.specs.Tokens.{is, kind_of, same_kind, spelling};
+
+use aj_lexer::{Token, TokenKind};
+
 
 
 /// A token that the grammar names: a reserved word, a sign, or one of three names.
@@ -54,9 +59,6 @@ pub enum Terminal {
     AndAnd,
     OrOr,
 }
-
-ghost use Rattle.std.specs.Prelude.{◌≡◌};
-ghost use Rattle.aj_syntax.specs.Tokens.{spelling, is, token};
 
 impl Terminal {
     /// The text of the terminal.
@@ -114,4 +116,53 @@ impl Terminal {
             Terminal::OrOr => "||",
         }
     }
+
+    fn kind(self) -> TokenKind
+        ensures { result ≡ kind_of self }
+    {
+        match self {
+            Terminal::Out | Terminal::Println | Terminal::Start => TokenKind::Name,
+            Terminal::OpenParen
+            | Terminal::CloseParen
+            | Terminal::OpenBrace
+            | Terminal::CloseBrace
+            | Terminal::Semicolon
+            | Terminal::Comma
+            | Terminal::Dot
+            | Terminal::Assign
+            | Terminal::EqualTo
+            | Terminal::NotEqual
+            | Terminal::Less
+            | Terminal::LessEqual
+            | Terminal::Greater
+            | Terminal::GreaterEqual
+            | Terminal::Plus
+            | Terminal::Minus
+            | Terminal::Star
+            | Terminal::Slash
+            | Terminal::Percent
+            | Terminal::Bang
+            | Terminal::AndAnd
+            | Terminal::OrOr => TokenKind::Sign,
+            _ => TokenKind::Word,
+        }
+    }
+
+    /// Whether a token is this terminal's.
+    pub fn matches(self, token: &Token) -> bool
+        ensures { result ≡ is self token.now }
+    {
+        is_same_kind(token.kind, self.kind()) && token.text.is(self.text())
+    }
+}
+
+fn is_same_kind(one: TokenKind, other: TokenKind) -> bool
+    ensures { result ≡ same_kind one other }
+{
+    matches!(
+        (one, other),
+        (TokenKind::Name, TokenKind::Name)
+            | (TokenKind::Word, TokenKind::Word)
+            | (TokenKind::Sign, TokenKind::Sign)
+    )
 }

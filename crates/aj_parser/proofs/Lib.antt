@@ -1,0 +1,4 @@
+pub mod Loops
+pub mod Right
+pub mod Parts
+pub mod LoopLaw
