@@ -1,4 +1,6 @@
-pub mod Loops
-pub mod Right
-pub mod Parts
+pub mod Expressions
 pub mod LoopLaw
+pub mod Lists
+pub mod Loops
+pub mod Parts
+pub mod Right

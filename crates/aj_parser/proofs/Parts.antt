@@ -82,7 +82,7 @@ when_true false a c h = cc
 pub right_take : (t : Terminal) (ts : List Token) → Right (take_one t) (One (λ x d. x ≡ token t d)) Any ts
 right_take t = right_first (λ x d. x ≡ token t d) (token t 0, 0, refl) (λ x d e. let w = when_true (is t x) x.at d e in is_token t x w.0 ∙ ap (λ z. token t z) w.1)
 
-name_if_is : (k : TokenKind) (text : List ℕ) (at : ℕ) (n : Name) → name_if k text at ≡ Some n → record { kind = k; text = text; at = at } ≡ name_token n
+pub name_if_is : (k : TokenKind) (text : List ℕ) (at : ℕ) (n : Name) → name_if k text at ≡ Some n → record { kind = k; text = text; at = at } ≡ name_token n
 name_if_is K.Name text at n h = cc
 name_if_is K.Word text at n h = cc
 name_if_is (K.Number m) text at n h = cc
@@ -160,12 +160,11 @@ right_choice true f g = f refl
 right_choice false f g = g refl
 
 -- too deep, where some completion goes through the next token
-pub Through_next : {B : Type 0} → (List Token → B → Type 0) → List Token → Type 0
+abbrev pub Through_next : {B : Type 0} → (List Token → B → Type 0) → List Token → Type 0
 Through_next {B} L ts = (more : List Token) × (b : B) × L more b × Goes F.TooDeep ts more
 
 pub right_deep : {B : Type 0} {L : List Token → B → Type 0} {Post : B → List Token → Type 0} {ts : List Token}
     → Through_next L ts → Right (λ ts. Err (F.TooDeep, ts)) L Post ts
-unfolding Through_next
 right_deep some = record { at = record { front = []; whole = refl; more = some.0; tree = some.1; spelled = some.2; goes = some.3; again = λ w m. refl } }
 
 pub right_allow : {B : Type 0} (b : Bool) {p : List Token → Res B} {L : List Token → B → Type 0} {Post : B → List Token → Type 0} {ts : List Token}

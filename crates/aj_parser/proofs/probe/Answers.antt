@@ -1,2 +1,2 @@
-use Rattle.aj_parser.proofs.Parts.{right_if}
-use Rattle.aj_parser.proofs.LoopLaw.{loop_more}
+use Rattle.aj_parser.proofs.Lists.{right_several}
+use Rattle.aj_parser.proofs.Expressions.{right_chain_at}
