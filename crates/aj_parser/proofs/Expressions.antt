@@ -152,11 +152,11 @@ right_field {B} {k} {L} {Post2} {ts} some law =
 
 -- the first tokens of expressions
 
-or_else : {P : Type 0} (a b : Bool) → (a ≡ true → P) → (b ≡ true → P) → a || b ≡ true → P
+pub or_else : {P : Type 0} (a b : Bool) → (a ≡ true → P) → (b ≡ true → P) → a || b ≡ true → P
 or_else true b f g h = f refl
 or_else false b f g h = g h
 
-is_some_cases : {A : Type 0} {P : Type 0} (o : Option A) → is_some o ≡ true → ((a : A) → o ≡ Some a → P) → P
+pub is_some_cases : {A : Type 0} {P : Type 0} (o : Option A) → is_some o ≡ true → ((a : A) → o ≡ Some a → P) → P
 is_some_cases (Some a) h f = f a refl
 is_some_cases None h f = cc
 
@@ -182,11 +182,11 @@ leaf_some x h =
     (λ e. ([], ThisE x.at, ap (λ z. z ∷ []) (is_token T.This x e), refl, refl)) h)
     (λ h. is_some_cases (a_name x) h (λ n e. ([], VarE n, ap (λ z. z ∷ []) (name_if_is x.kind x.text x.at n e), refl, refl))) h
 
-paren_some : (x : Token) → is T.OpenParen x ≡ true → Completes x
+pub paren_some : (x : Token) → is T.OpenParen x ≡ true → Completes x
 paren_some x e = (name_token x_name ∷ token T.CloseParen 0 ∷ [], ParenE (VarE x_name) x.at,
     (name_token x_name ∷ [], 0, refl, ap (λ z. z ∷ name_token x_name ∷ token T.CloseParen 0 ∷ []) (is_token T.OpenParen x e)), refl, refl)
 
-new_some : (x : Token) → is T.New x ≡ true → Completes x
+pub new_some : (x : Token) → is T.New x ≡ true → Completes x
 new_some x e = (name_token x_name ∷ token T.OpenParen 0 ∷ token T.CloseParen 0 ∷ [], NewE x_name no_exprs x.at,
     ([], 0, 0, refl, ap (λ z. z ∷ name_token x_name ∷ token T.OpenParen 0 ∷ token T.CloseParen 0 ∷ []) (is_token T.New x e)), refl, refl)
 
@@ -225,11 +225,11 @@ Below h inner = (k : ℕ) → k ≤ 6 → (ts : List Token) → Right (inner k) 
 abbrev pub All_below : ℕ → List ExprTree → Type 0
 All_below h es = heights (exprs_from es) < h
 
-more_below : (h : ℕ) (so : List ExprTree) (e : ExprTree) (r : List Token) → height e < h → All_below h so → All_below h (so ++ (e ∷ []))
+pub more_below : (h : ℕ) (so : List ExprTree) (e : ExprTree) (r : List Token) → height e < h → All_below h so → All_below h (so ++ (e ∷ []))
 more_below h [] e r a b = omega (arith, a, b)
 more_below h (x ∷ so) e r a b = let k : heights (exprs_from so) < h = omega (arith, b) in let i = more_below h so e r a k in omega (arith, b, i)
 
-level_long : (zs : List Token) (e : ExprTree) → Level 6 zs e → 0 < length zs
+pub level_long : (zs : List Token) (e : ExprTree) → Level 6 zs e → 0 < length zs
 level_long zs e l = spelled_long e zs l.0
 
 module _ (h : ℕ) (some : 0 < h) (inner : ℕ → List Token → Res ExprTree) (law : Below h inner) where

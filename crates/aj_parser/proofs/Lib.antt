@@ -4,3 +4,4 @@ pub mod Lists
 pub mod Loops
 pub mod Parts
 pub mod Right
+pub mod Statements

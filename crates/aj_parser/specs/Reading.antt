@@ -10,7 +10,7 @@ use Rattle.aj_syntax.specs.declared.tree.Op.TheVariants as O
 use Rattle.aj_syntax.specs.declared.tree.Param.{Param}
 use Rattle.aj_syntax.specs.declared.tree.TypeName.{TypeName}
 use Rattle.aj_syntax.specs.declared.tree.TypeName.TheVariants as Y
-use Rattle.aj_syntax.specs.Grammar.{level, offset, is_call}
+use Rattle.aj_syntax.specs.Grammar.{level, is_call}
 use Rattle.aj_syntax.specs.Heights.{height}
 use Rattle.aj_syntax.specs.Tokens.{is}
 use Rattle.aj_syntax.specs.Trees.{LockTree, ExprTree, ExprTrees, NumberE, LeastE, TruthE, NullE, ThisE, VarE, ParenE, NotE, NegE, BinaryE, GetE, CallE, NewE, no_exprs, more_exprs, StmtTree, StmtTrees, EmptyS, BlockS, LocalS, SetVarS, SetFieldS, DoS, IfS, IfElseS, WhileS, SyncS, ReturnS, PrintS, StartS, no_stmts, more_stmts, MethodTree, MemberTree, FieldM, CtorM, MethodM, ClassTree, ProgramTree}
@@ -177,6 +177,22 @@ below h = chain_at (h - 1)
 
 -- statements
 
+-- the offset of an expression's first token
+abbrev pub first_at : ExprTree → ℕ
+first_at (NumberE n at) = at
+first_at (LeastE at) = at
+first_at (TruthE b at) = at
+first_at (NullE at) = at
+first_at (ThisE at) = at
+first_at (VarE n) = n.at
+first_at (ParenE e at) = at
+first_at (NotE e at) = at
+first_at (NegE e at) = at
+first_at (BinaryE o e f at) = first_at e
+first_at (GetE e n) = first_at e
+first_at (CallE e n args) = first_at e
+first_at (NewE n args at) = at
+
 abbrev pub begins_local : Token → Bool
 begins_local x = is T.Final x || is T.Int x || is T.Boolean x
 
@@ -223,17 +239,15 @@ module _ (h : ℕ) where
   unfoldable pub local_rest : Bool → TypeName → ℕ → List Token → Res StmtTree
   local_rest fin ty at ts = first a_name ts >>= λ n ts. assign (λ v d. LocalS fin ty n v at) ts
 
-  unfoldable pub local_from : ℕ → List Token → Res StmtTree
-  local_from at ts = type_name ts >>= λ t ts. local_rest false t at ts
-
   unfoldable pub local_statement : List Token → Res StmtTree
   local_statement ts =
       if starts (is T.Final) ts then (take_one T.Final ts >>= λ d ts. type_name ts >>= λ t ts. local_rest true t d ts)
-      else local_from (offset ts) ts
+      else if starts (is T.Int) ts then (take_one T.Int ts >>= λ d ts. local_rest false Y.Int d ts)
+      else (take_one T.Boolean ts >>= λ d ts. local_rest false Y.Boolean d ts)
 
-  unfoldable pub call_end : ℕ → ExprTree → List Token → Res StmtTree
-  call_end at p ts =
-      if starts (is T.Semicolon) ts then allow (nat_lt (height p) h) ts (take_one T.Semicolon ts >>= λ c ts. Ok (DoS p at, ts))
+  unfoldable pub call_end : ExprTree → List Token → Res StmtTree
+  call_end p ts =
+      if starts (is T.Semicolon) ts then allow (nat_lt (height p) h) ts (take_one T.Semicolon ts >>= λ c ts. Ok (DoS p (first_at p), ts))
       else Err (F.Unexpected, ts)
 
   -- what stands before a `=`
@@ -252,25 +266,22 @@ module _ (h : ℕ) where
   target (CallE e n args) ts = Err (F.Unexpected, ts)
   target (NewE n args at) ts = Err (F.Unexpected, ts)
 
-  unfoldable pub finish : ℕ → ExprTree → List Token → Res StmtTree
-  finish at p ts = if is_call p then call_end at p ts else target p ts
+  unfoldable pub finish : ExprTree → List Token → Res StmtTree
+  finish p ts = if is_call p then call_end p ts else target p ts
 
-  unfoldable pub finish_from : ℕ → ExprTree → List Token → Res StmtTree
-  finish_from at e ts = dots h (below h) e ts >>= λ p ts. finish at p ts
+  unfoldable pub finish_from : ExprTree → List Token → Res StmtTree
+  finish_from e ts = dots h (below h) e ts >>= λ p ts. finish p ts
 
   unfoldable pub new_statement : List Token → Res StmtTree
   new_statement ts = take_one T.New ts >>= λ d ts.
-      if starts (is T.Thread) ts then start_rest d ts else (new_rest h (below h) d ts >>= λ e ts. finish_from d e ts)
+      if starts (is T.Thread) ts then start_rest d ts else (new_rest h (below h) d ts >>= λ e ts. finish_from e ts)
 
   unfoldable pub name_statement : Bool → List Token → Res StmtTree
   name_statement in_block ts = first a_name ts >>= λ n ts.
-      if starts (λ x. in_block && is_name x) ts then local_rest false (Y.Class n) n.at ts else finish_from n.at (VarE n) ts
-
-  unfoldable pub expression_from : ℕ → List Token → Res StmtTree
-  expression_from at ts = primary h (below h) ts >>= λ e ts. finish_from at e ts
+      if starts (λ x. in_block && is_name x) ts then local_rest false (Y.Class n) n.at ts else finish_from (VarE n) ts
 
   unfoldable pub expression_statement : List Token → Res StmtTree
-  expression_statement ts = expression_from (offset ts) ts
+  expression_statement ts = primary h (below h) ts >>= λ e ts. finish_from e ts
 
   -- the statements without parts of their own kind
   unfoldable pub plain_statement : Bool → List Token → Res StmtTree

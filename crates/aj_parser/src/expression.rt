@@ -99,6 +99,7 @@ fn make_new(class: Name, arguments: Vec<Expr>, at: u32) -> Expr
 
 /// One argument more, behind its comma.
 #[cycle(expression)]
+#[tactic(auto, using(crate::proofs::Loops::take_shorter, crate::proofs::Loops::chain_shorter, crate::proofs::Loops::heights_pushed))]
 fn next_argument<'a>(
     alloc: Global,
     so_far: Arguments<'a>,
@@ -126,7 +127,7 @@ fn next_argument<'a>(
 
 /// Arguments up to the closing parenthesis.
 #[cycle(expression)]
-#[tactic(auto, unfolding(crate::specs::Reading::arguments))]
+#[tactic(auto, unfolding(crate::specs::Reading::arguments), using(crate::proofs::Loops::argument_more, crate::proofs::Loops::argument_done))]
 fn argument_list<'a>(alloc: Global, tokens: &'a [Token], high: u32) -> Result<Arguments<'a>, Stop<'a>>
     requires high { high ≤ 64 }
     requires positive { 0 < high }
@@ -286,6 +287,7 @@ fn member_rest<'a>(
 #[tactic(auto, unfolding(crate::specs::Reading::member_step))]
 fn member<'a>(alloc: Global, receiver: Parsed<'a>, high: u32) -> Result<Parsed<'a>, Stop<'a>>
     requires high { high ≤ 64 }
+    requires positive { 0 < high }
     requires height { receiver.height ≡ height_of (expr_of receiver.tree) }
     ensures tree { Gives (λ x. (expr_of x.tree, x.rest.now)) result (member_step_at high (below high) (expr_of receiver.entry.tree) receiver.entry.rest.now) }
     ensures height { IfOk result (λ x. x.height ≡ height_of (expr_of x.tree)) }
@@ -304,6 +306,7 @@ fn member<'a>(alloc: Global, receiver: Parsed<'a>, high: u32) -> Result<Parsed<'
 #[tactic(auto, unfolding(crate::specs::Reading::dots), using(crate::proofs::Loops::member_more, crate::proofs::Loops::member_done))]
 pub fn dots<'a>(alloc: Global, front: Parsed<'a>, high: u32) -> Result<Parsed<'a>, Stop<'a>>
     requires high { high ≤ 64 }
+    requires positive { 0 < high }
     requires height { front.height ≡ height_of (expr_of front.tree) }
     requires limit { front.height ≤ high }
     ensures tree { Gives (λ x. (expr_of x.tree, x.rest.now)) result (dots_at high (below high) (expr_of front.entry.tree) front.entry.rest.now) }
@@ -392,6 +395,7 @@ fn operation<'a>(
     levels: u32,
 ) -> Result<Parsed<'a>, Stop<'a>>
     requires high { high ≤ 64 }
+    requires positive { 0 < high }
     requires levels { levels < 6 }
     requires height { left.height ≡ height_of (expr_of left.tree) }
     ensures tree { Gives (λ x. (expr_of x.tree, x.rest.now)) result (op_step high (below high) levels (expr_of left.entry.tree) left.entry.rest.now) }
@@ -415,7 +419,7 @@ fn operation<'a>(
 
 /// Operands with operators of the first levels between them.
 #[cycle(expression)]
-#[tactic(auto, using(crate::proofs::Loops::operation_more, crate::proofs::Loops::operation_done, crate::proofs::Loops::chain_none, crate::proofs::Loops::chain_more))]
+#[tactic(auto, using(crate::proofs::Loops::operation_more, crate::proofs::Loops::operation_done, crate::proofs::Loops::chain_none, crate::proofs::Loops::chain_next))]
 fn operations<'a>(
     alloc: Global,
     tokens: &'a [Token],

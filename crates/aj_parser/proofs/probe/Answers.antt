@@ -1,2 +1,2 @@
-use Rattle.aj_parser.proofs.Lists.{right_several}
-use Rattle.aj_parser.proofs.Expressions.{right_chain_at}
+use Rattle.aj_parser.proofs.Loops.{chain_shorter}
+use Rattle.aj_parser.proofs.Statements.{right_plain, right_statement}
