@@ -2,6 +2,8 @@ pub mod Expressions
 pub mod LoopLaw
 pub mod Lists
 pub mod Loops
+pub mod Members
 pub mod Parts
 pub mod Right
+pub mod StatementLoops
 pub mod Statements

@@ -89,7 +89,7 @@ first_shorter test (x ∷ xs) a r h = got_shorter (test x) x xs a r h
 pub take_shorter : (t : Terminal) (ts : List Token) (d : ℕ) (r : List Token) → take_one t ts ≡ Ok (d, r) → length r < length ts
 take_shorter t ts d r h = first_shorter (at_of t) ts d r h
 
-right_shorter : {A : Type 0} (p : List Token → Res A) (L : List Token → A → Type 0) (Post : A → List Token → Type 0) (ts : List Token) (a : A) (r : List Token)
+pub right_shorter : {A : Type 0} (p : List Token → Res A) (L : List Token → A → Type 0) (Post : A → List Token → Type 0) (ts : List Token) (a : A) (r : List Token)
     → ((zs : List Token) (b : A) → L zs b → 0 < length zs) → (s : Res A) → RightAt p L Post ts s → s ≡ Ok (a, r) → length r < length ts
 right_shorter p L Post ts a r long (Ok y) g e =
     let i : y.1 ≡ r = ap (λ v. v.1) (ok_same y (a, r) e) in omega (arith, ap length g.whole, length-append g.front y.1, long g.front y.0 g.spelled, ap length i)

@@ -18,7 +18,7 @@ use Rattle.aj_parser.proofs.Loops.{below_law}
 use Rattle.aj_parser.proofs.Parts.{One, Through_next, right_first, right_one, right_tok, right_name, right_a_name, right_take, right_done, right_if, right_choice, right_allow, right_beyond, x_name, is_token, name_if_is, right_fail}
 use Rattle.aj_parser.proofs.Right.{Right, Any, Some_of, Goes, right_seq, right_along, right_weaker}
 use Rattle.aj_parser.specs.Combine.{Res, ◌>>=◌, starts, first, take_one, several, beyond, allow}
-use Rattle.aj_parser.specs.Reading.{a_name, is_name, is_leaf, field_name, lock, type_name, below, first_at, begins_local, begins_statement, goes_on, braces, expression, condition, return_statement, print_statement, start_rest, assign, local_rest, local_statement, call_end, target, finish, finish_from, new_statement, name_statement, expression_statement, plain_statement, else_part, if_statement, while_statement, sync_statement, block_statement, statement_with, statement_at, block_at, dots, primary, new_rest}
+use Rattle.aj_parser.specs.Reading.{a_name, is_name, is_leaf, field_name, lock, type_name, below, first_at, begins_local, begins_statement, goes_on, braces, expression, condition, return_statement, print_statement, start_rest, assign, assigned, local_rest, local_statement, call_end, target, finish, finish_from, new_statement, name_statement, expression_statement, plain_statement, else_part, if_statement, while_statement, sync_statement, block_statement, statement_with, statement_at, block_at, dots, primary, new_rest}
 use Rattle.aj_parser.specs.declared.stop.Fault.TheVariants as F
 
 x_tokens : List Token
@@ -38,10 +38,10 @@ right_type ts =
 
 -- locks
 
-abbrev FieldL : List Token → Name → Type 0
+abbrev pub FieldL : List Token → Name → Type 0
 FieldL zs n = (d : ℕ) × (zs ≡ token T.Dot d ∷ name_token n ∷ [])
 
-field_long : (zs : List Token) (n : Name) → FieldL zs n → 0 < length zs
+pub field_long : (zs : List Token) (n : Name) → FieldL zs n → 0 < length zs
 field_long zs n f = let k : 0 < length (token T.Dot f.0 ∷ name_token n ∷ []) = omega arith in subst (λ z. 0 < length z) (sym f.1) k
 
 fields_law : (ts : List Token) → Right (several (is T.Dot) field_name) (λ zs ns. SpellsFields ns zs) Any ts
@@ -64,7 +64,7 @@ right_lock ts =
 pub this_lock : LockTree
 this_lock = record { root = None; fields = []; at = 0 }
 
-this_lock_is : SpellsLock this_lock (token T.This 0 ∷ [])
+pub this_lock_is : SpellsLock this_lock (token T.This 0 ∷ [])
 unfolding this_lock
 this_lock_is = (token T.This 0, [], refl, refl, refl)
 
@@ -143,15 +143,26 @@ module _ (h : ℕ) (some : 0 < h) where
       (λ e r q. right_weaker (λ ys b m zs c. subst (λ z. L z b) (cond_list c.0 c.1 c.2 ys zs c.4) (m c.0 c.1 c.2 c.3)) (λ b s p. p) (law e r q))
 
   -- `= expr ;`
+  abbrev AssignedL : List Token → (ExprTree × ℕ) → Type 0
+  AssignedL zs v = (c : ℕ) × (ys : List Token) × Spells v.0 ys × (zs ≡ token T.Assign v.1 ∷ ys ++ (token T.Semicolon c ∷ []))
+
+  assigned_law : (ts : List Token) → Right (assigned h) AssignedL (λ v r. height v.0 < h) ts
+  unfolding assigned x_tokens
+  assigned_law ts =
+      right_tok T.Assign (λ d. (name_token x_name ∷ token T.Semicolon 0 ∷ [], (VarE x_name, d), (0, x_tokens, refl, refl))) (λ d r.
+      right_seq (expression_law r) (λ v. (token T.Semicolon 0 ∷ [], (v, d), λ ys l. (0, ys, l.0, refl))) (λ v r q.
+      right_tok T.Semicolon (λ c. ([], (v, d), λ ys l. (c, ys, l.0, refl))) (λ c r. right_done (λ ys l. (c, ys, l.0, refl)) q)))
+
   pub right_assign : (make : ExprTree → ℕ → StmtTree) {L : List Token → StmtTree → Type 0} {Post2 : StmtTree → List Token → Type 0} (ts : List Token)
       → ((v : ExprTree) (d c : ℕ) (ys : List Token) → Spells v ys → L (token T.Assign d ∷ ys ++ (token T.Semicolon c ∷ [])) (make v d))
       → ((v : ExprTree) (d : ℕ) (r : List Token) → height v < h → Post2 (make v d) r)
       → Right (assign h make) L Post2 ts
-  unfolding assign x_tokens
-  right_assign make ts conv post =
-      right_tok T.Assign (λ d. (name_token x_name ∷ token T.Semicolon 0 ∷ [], make (VarE x_name) d, conv (VarE x_name) d 0 x_tokens refl)) (λ d r.
-      right_seq (expression_law r) (λ v. (token T.Semicolon 0 ∷ [], make v d, λ ys l. conv v d 0 ys l.0)) (λ v r q.
-      right_tok T.Semicolon (λ c. ([], make v d, λ ys l. conv v d c ys l.0)) (λ c r. right_done (λ ys l. conv v d c ys l.0) (post v d r q))))
+  unfolding assign
+  right_assign make {L} ts conv post =
+      right_seq (assigned_law ts) (λ v. ([], make v.0 v.1, λ zs a. given v zs a)) (λ v r q. right_done (λ zs a. given v zs a) (post v.0 v.1 r q))
+    where
+      given : (v : ExprTree × ℕ) (zs : List Token) → AssignedL zs v → L (zs ++ []) (make v.0 v.1)
+      given v zs a = subst (λ z. L z (make v.0 v.1)) (sym (append-nil zs ∙ a.3)) (conv v.0 v.1 a.0 a.1 a.2)
 
   right_return : (ts : List Token) → Right (return_statement h) Plain (Ends h) ts
   unfolding return_statement

@@ -233,8 +233,12 @@ module _ (h : ℕ) where
       take_one T.Thread ts >>= λ t ts. condition ts >>= λ v ts. take_one T.Dot ts >>= λ d ts. take_one T.Start ts >>= λ s ts.
       take_one T.OpenParen ts >>= λ o ts. take_one T.CloseParen ts >>= λ c ts. take_one T.Semicolon ts >>= λ e ts. Ok (StartS v at, ts)
 
+  -- `= expr ;`, with the offset of the `=`
+  unfoldable pub assigned : List Token → Res (ExprTree × ℕ)
+  assigned ts = take_one T.Assign ts >>= λ d ts. expression ts >>= λ v ts. take_one T.Semicolon ts >>= λ c ts. Ok ((v, d), ts)
+
   unfoldable pub assign : (ExprTree → ℕ → StmtTree) → List Token → Res StmtTree
-  assign make ts = take_one T.Assign ts >>= λ d ts. expression ts >>= λ v ts. take_one T.Semicolon ts >>= λ c ts. Ok (make v d, ts)
+  assign make ts = assigned ts >>= λ v ts. Ok (make v.0 v.1, ts)
 
   unfoldable pub local_rest : Bool → TypeName → ℕ → List Token → Res StmtTree
   local_rest fin ty at ts = first a_name ts >>= λ n ts. assign (λ v d. LocalS fin ty n v at) ts
