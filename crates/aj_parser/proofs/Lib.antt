@@ -2,6 +2,7 @@ pub mod Expressions
 pub mod LoopLaw
 pub mod Lists
 pub mod Loops
+pub mod MemberLoops
 pub mod Members
 pub mod Parts
 pub mod Right

@@ -19,7 +19,7 @@ use Rattle.aj_parser.proofs.Parts.{One, right_one, right_tok, right_name, right_
 use Rattle.aj_parser.proofs.Right.{Right, Any, Some_of, right_seq, right_along, right_weaker}
 use Rattle.aj_parser.proofs.Statements.{TypeToken, right_type, right_lock, this_lock, this_lock_is as this_is, BlockL, BlockLow, right_block}
 use Rattle.aj_parser.specs.Combine.{Res, ◌>>=◌, starts, first, take_one, flag, several, separated}
-use Rattle.aj_parser.specs.Reading.{a_name, is_name, lock, type_name, goes_on, block_at, param, params, required, method_rest, set, ctor_rest, guard, field_rest, typed_rest, final_field, result_type, plain_method, named_member, bare_member, member, runnable, class_at, program}
+use Rattle.aj_parser.specs.Reading.{a_name, is_name, lock, type_name, goes_on, block_at, param, param_list, params, required, method_rest, set, ctor_rest, guard, field_rest, typed_rest, final_field, result_type, plain_method, named_member, bare_member, member, runnable, class_at, program}
 
 -- a terminal that may stand, and then
 flag_optional : (t : Terminal) (f : Bool) (zs : List Token) → IsFlag t f zs → IsOptional t zs
@@ -50,7 +50,7 @@ unfolding make_param
 param_is true f ty n fs x p q = (fs, x, and_false f, flag_optional T.Final f fs p, q, refl)
 param_is false f ty n fs x p q = (fs, x, subst (λ z. IsFlag T.Final z fs) (sym (and_true f)) p, q, refl)
 
-right_param : (of_ctor : Bool) (ts : List Token) → Right (param of_ctor) (ParamL of_ctor) Any ts
+pub right_param : (of_ctor : Bool) (ts : List Token) → Right (param of_ctor) (ParamL of_ctor) Any ts
 unfolding param make_param
 right_param of_ctor ts =
     right_seq (right_flag T.Final ts) (λ f. (token T.Int 0 ∷ name_token x_name ∷ [], make_param of_ctor f Y.Int x_name, λ fs p. param_is of_ctor f Y.Int x_name fs (token T.Int 0) p refl)) (λ f r _.
@@ -58,7 +58,7 @@ right_param of_ctor ts =
     right_name (λ n. ([], make_param of_ctor f ty n, λ x q fs p. param_is of_ctor f ty n fs x p q)) (λ n r.
     right_done (λ x q fs p. param_is of_ctor f ty n fs x p q) tt)))
 
-param_example : (of_ctor : Bool) → Some_of (ParamL of_ctor)
+pub param_example : (of_ctor : Bool) → Some_of (ParamL of_ctor)
 param_example true = (token T.Int 0 ∷ name_token x_name ∷ [], record { is_final = false; ty = Y.Int; name = x_name }, ([], token T.Int 0, refl, inl refl, refl, refl))
 param_example false = (token T.Int 0 ∷ name_token x_name ∷ [], record { is_final = false; ty = Y.Int; name = x_name }, ([], token T.Int 0, refl, refl, refl))
 
@@ -78,7 +78,8 @@ FollowingParams of_ctor ps zs = Follows (λ p zs. ParamL of_ctor zs p) ps zs
 abbrev pub ParamsL : Bool → List Param → List Token → Type 0
 ParamsL of_ctor ps zs = Separates (λ p zs. ParamL of_ctor zs p) ps zs
 
-params_inside : (of_ctor : Bool) (ts : List Token) → Right (λ ts. if starts (is T.CloseParen) ts then Ok ([], ts) else separated (param of_ctor) ts) (λ zs ps. ParamsL of_ctor ps zs) Any ts
+params_inside : (of_ctor : Bool) (ts : List Token) → Right (param_list of_ctor) (λ zs ps. ParamsL of_ctor ps zs) Any ts
+unfolding param_list
 params_inside of_ctor ts =
     right_if (λ e. right_done refl tt)
     (λ e. right_weaker (λ zs b m. m) (λ b r q. tt)
@@ -171,7 +172,7 @@ method_some atomic returns n =
 
 -- constructors
 
-right_set : (ts : List Token) → Right set (λ zs p. SpellsSet p zs) Any ts
+pub right_set : (ts : List Token) → Right set (λ zs p. SpellsSet p zs) Any ts
 unfolding set
 right_set ts =
     right_tok T.This (λ t. (token T.Dot 0 ∷ name_token x_name ∷ token T.Assign 0 ∷ name_token x_name ∷ token T.Semicolon 0 ∷ [], (x_name, x_name), (t, 0, 0, 0, refl))) (λ t r.
@@ -180,10 +181,10 @@ right_set ts =
     right_name (λ p. (token T.Semicolon 0 ∷ [], (f, p), λ d. (t, d, e, 0, refl))) (λ p r.
     right_tok T.Semicolon (λ c. ([], (f, p), λ d. (t, d, e, c, refl))) (λ c r. right_done (λ d. (t, d, e, c, refl)) tt)))))
 
-set_example : Some_of (λ zs p. SpellsSet p zs)
+pub set_example : Some_of (λ zs p. SpellsSet p zs)
 set_example = (token T.This 0 ∷ token T.Dot 0 ∷ name_token x_name ∷ token T.Assign 0 ∷ name_token x_name ∷ token T.Semicolon 0 ∷ [], (x_name, x_name), (0, 0, 0, 0, refl))
 
-set_long : (zs : List Token) (p : Name × Name) → SpellsSet p zs → 0 < length zs
+pub set_long : (zs : List Token) (p : Name × Name) → SpellsSet p zs → 0 < length zs
 set_long zs p q = long_is zs _ q.4 (omega arith)
 
 sets_law : (ts : List Token) → Right (several goes_on set) (λ zs ss. Repeats SpellsSet ss zs) Any ts

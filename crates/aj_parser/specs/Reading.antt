@@ -344,10 +344,12 @@ param of_ctor ts =
     Ok (flag T.Final ts) >>= λ f ts. type_name ts >>= λ t ts. first a_name ts >>= λ n ts.
     Ok (record { is_final = f && not of_ctor; ty = t; name = n }, ts)
 
+unfoldable pub param_list : Bool → List Token → Res (List Param)
+param_list of_ctor ts = if starts (is T.CloseParen) ts then Ok ([], ts) else separated (param of_ctor) ts
+
 unfoldable pub params : Bool → List Token → Res (List Param)
 params of_ctor ts =
-    take_one T.OpenParen ts >>= λ o ts.
-    (if starts (is T.CloseParen) ts then Ok ([], ts) else separated (param of_ctor) ts) >>= λ ps ts.
+    take_one T.OpenParen ts >>= λ o ts. param_list of_ctor ts >>= λ ps ts.
     take_one T.CloseParen ts >>= λ c ts. Ok (ps, ts)
 
 unfoldable pub required : List Token → Res (List LockTree)

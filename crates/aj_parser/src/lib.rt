@@ -5,6 +5,7 @@ ghost use Rattle.aj_parser.specs.Reading.{program};
 ghost use Rattle.aj_parser.specs.Answer.{Gives};
 
 mod expression;
+mod member;
 mod statement;
 mod stop;
 mod tokens;
