@@ -1,3 +1,4 @@
+pub mod Complete
 pub mod Expressions
 pub mod LoopLaw
 pub mod Lists

@@ -1,6 +1,6 @@
 //! Statements and blocks. `high` is the height that is still allowed, and bounds the depth of the recursion.
 
-ghost use Rattle.std.specs.Prelude.{◌≡◌, ℕ, ◌+◌, ◌-◌, ◌<◌, ◌≤◌, map, length, IfOk};
+ghost use Rattle.std.specs.Prelude.{◌≡◌, ℕ, ◌+◌, ◌-◌, ◌<◌, ◌≤◌, map, length, true, IfOk};
 ghost use Rattle.aj_syntax.specs.Grammar.{is_call};
 ghost use Rattle.aj_syntax.specs.Heights.{height as height_of};
 ghost use Rattle.aj_syntax.specs.Tokens.{is};
