@@ -1,4 +1,5 @@
 pub mod Complete
+pub mod CompleteStatements
 pub mod Expressions
 pub mod LoopLaw
 pub mod Lists
