@@ -19,7 +19,7 @@ use Rattle.aj_parser.proofs.LoopLaw.{loop_done, loop_more}
 use Rattle.aj_parser.proofs.Loops.{member_done}
 use Rattle.aj_parser.proofs.StatementLoops.{field_more, field_done, statement_more, statement_done, statement_zero, statement_positive, block_zero, block_positive, block_statement_is}
 use Rattle.aj_parser.proofs.Statements.{first_is}
-use Rattle.aj_parser.specs.Combine.{Res, ◌>>=◌, starts, first, take_one, loop, several, item_step, beyond, allow}
+use Rattle.aj_parser.specs.Combine.{Res, ◌>>=◌, starts, first, when, take_one, loop, several, item_step, beyond, allow}
 use Rattle.aj_parser.specs.Reading.{a_name, is_name, is_leaf, is_number, leaf, field_name, lock, type_name, below, first_at, begins_local, begins_statement, goes_on, braces, expression, condition, return_statement, print_statement, start_rest, assign, assigned, local_rest, local_statement, call_end, target, finish, finish_from, new_statement, name_statement, expression_statement, plain_statement, else_part, if_statement, while_statement, sync_statement, block_statement, statement_with, statement_at, block_at, dots, primary, new_rest, postfix, parenthesised}
 use Rattle.aj_parser.specs.declared.stop.Fault.TheVariants as F
 
@@ -158,3 +158,241 @@ module _ (h : ℕ) (some : 0 < h) where
       at_list (plain_statement h true) (ap (λ z. z ++ f) s.9 ∙ append_assoc s.0 (s.2 ∷ end1) f ∙ ap (λ z. s.0 ++ (s.2 ∷ name_token n ∷ token T.Assign s.3 ∷ z)) (append_assoc s.1 (token T.Semicolon s.4 ∷ []) f))
       (local_read fin ty at n v s.0 s.1 f s.2 s.3 s.4 s.5 s.6 s.7 (s.8 ∙ ap offset s.9 ∙ offset_same s.0 end1 s.2))
   read_local fin ty n v at zs f s false l = absurd (let k = l refl in cc)
+
+  -- statements that begin with a postfix
+
+  bind_assoc : {A B C : Type 0} (r : Res A) (f : A → List Token → Res B) (g : B → List Token → Res C) → ((r >>= f) >>= g) ≡ (r >>= λ a ts. f a ts >>= g)
+  bind_assoc (Ok y) f g = refl
+  bind_assoc (Err e) f g = refl
+
+  and_false : (b c : Bool) → c ≡ false → b && c ≡ false
+  and_false true c e = e
+  and_false false c e = refl
+
+  starts_and : (b : Bool) (test : Token → Bool) (ts : List Token) → starts test ts ≡ false → starts (λ x. b && test x) ts ≡ false
+  starts_and b test [] e = refl
+  starts_and b test (x ∷ xs) e = and_false b (test x) e
+
+  plain_other : (b : Bool) (x : Token) (xs : List Token) → is T.Semicolon x ≡ false → is T.Return x ≡ false → is T.System x ≡ false → is T.New x ≡ false
+      → is_name x ≡ false → begins_local x ≡ false → plain_statement h b (x ∷ xs) ≡ (postfix h (below h) (x ∷ xs) >>= finish h)
+  unfolding plain_statement expression_statement finish_from postfix
+  plain_other b x xs e1 e2 e3 e4 e5 e6 =
+      if_false (is T.Semicolon x) _ _ e1 ∙ if_false (is T.Return x) _ _ e2 ∙ if_false (is T.System x) _ _ e3 ∙ if_false (is T.New x) _ _ e4
+      ∙ if_false (is_name x) _ _ e5 ∙ if_false (b && begins_local x) _ _ (and_false b (begins_local x) e6)
+      ∙ sym (bind_assoc (primary h (below h) (x ∷ xs)) (dots h (below h)) (finish h))
+
+  as_postfix : (p : ExprTree) (b : Bool) (zs f : List Token) → Spells p zs → is_postfix p ≡ true → starts is_name f ≡ false
+      → plain_statement h b (zs ++ f) ≡ (postfix h (below h) (zs ++ f) >>= finish h)
+  unfolding plain_statement name_statement new_statement finish_from postfix primary leaf
+  as_postfix (NumberE n at) b zs f s p c = subst (λ z. plain_statement h b (z ++ f) ≡ (postfix h (below h) (z ++ f) >>= finish h)) (sym s.2) (plain_other b (number_token n s.0 at) f refl refl refl refl refl refl)
+  as_postfix (LeastE at) b zs f s p c = cc
+  as_postfix (TruthE true at) b zs f s p c = subst (λ z. plain_statement h b (z ++ f) ≡ (postfix h (below h) (z ++ f) >>= finish h)) (sym s) (plain_other b (token T.True at) f refl refl refl refl refl refl)
+  as_postfix (TruthE false at) b zs f s p c = subst (λ z. plain_statement h b (z ++ f) ≡ (postfix h (below h) (z ++ f) >>= finish h)) (sym s) (plain_other b (token T.False at) f refl refl refl refl refl refl)
+  as_postfix (NullE at) b zs f s p c = subst (λ z. plain_statement h b (z ++ f) ≡ (postfix h (below h) (z ++ f) >>= finish h)) (sym s) (plain_other b (token T.Null at) f refl refl refl refl refl refl)
+  as_postfix (ThisE at) b zs f s p c = subst (λ z. plain_statement h b (z ++ f) ≡ (postfix h (below h) (z ++ f) >>= finish h)) (sym s) (plain_other b (token T.This at) f refl refl refl refl refl refl)
+  as_postfix (VarE n) b zs f s p c = subst (λ z. plain_statement h b (z ++ f) ≡ (postfix h (below h) (z ++ f) >>= finish h)) (sym s) (if_false (starts (λ x. b && is_name x) f) _ _ (starts_and b is_name f c))
+  as_postfix (ParenE e at) b zs f s p c = subst (λ z. plain_statement h b (z ++ f) ≡ (postfix h (below h) (z ++ f) >>= finish h)) (sym s.3)
+      (plain_other b (token T.OpenParen at) ((s.0 ++ (token T.CloseParen s.1 ∷ [])) ++ f) refl refl refl refl refl refl)
+  as_postfix (NotE e at) b zs f s p c = cc
+  as_postfix (NegE e at) b zs f s p c = cc
+  as_postfix (BinaryE o e g at) b zs f s p c = cc
+  as_postfix (GetE e n) b zs f s p c =
+      let t = token T.Dot s.1 ∷ name_token n ∷ [] in
+      subst (λ z. plain_statement h b z ≡ (postfix h (below h) z >>= finish h)) (sym (ap (λ z. z ++ f) s.4 ∙ append_assoc s.0 t f))
+      (as_postfix e b s.0 (t ++ f) s.2 s.3 refl)
+  as_postfix (CallE e n args) b zs f s p c =
+      let t = token T.Dot s.2 ∷ name_token n ∷ token T.OpenParen s.3 ∷ s.1 ++ (token T.CloseParen s.4 ∷ []) in
+      subst (λ z. plain_statement h b z ≡ (postfix h (below h) z >>= finish h)) (sym (ap (λ z. z ++ f) s.8 ∙ append_assoc s.0 t f))
+      (as_postfix e b s.0 (t ++ f) s.5 s.6 refl)
+  as_postfix (NewE n args at) b zs f s p c = subst (λ z. plain_statement h b (z ++ f) ≡ (postfix h (below h) (z ++ f) >>= finish h)) (sym s.4)
+      (sym (bind_assoc (new_rest h (below h) at (name_token n ∷ token T.OpenParen s.1 ∷ (s.0 ++ (token T.CloseParen s.2 ∷ [])) ++ f)) (dots h (below h)) (finish h)))
+
+  post_read : {low : Type 0} {r : Res StmtTree} (p : ExprTree) (b : Bool) (zs f : List Token) → Spells p zs → is_postfix p ≡ true → starts is_name f ≡ false
+      → starts (is T.OpenParen) f ≡ false → starts (is T.Dot) f ≡ false → (low → height p ≤ h) → Same low (finish h p f) r → Same low (plain_statement h b (zs ++ f)) r
+  unfolding dots
+  post_read {low} p b zs f s i no_name no_paren no_dot l g =
+      same_along (as_postfix p b zs f s i no_name)
+      (same_bind {low2 = low} (finish h) l (λ q. q) (same_then ((reads p).postfix i h some zs f s no_paren) (member_done h p f no_dot)) g)
+
+  read_set_var : (n : Name) (v : ExprTree) (at : ℕ) (zs f : List Token) → SpellsStmt (SetVarS n v at) zs → PlainRead (SetVarS n v at) zs f
+  unfolding finish
+  read_set_var n v at zs f s b l =
+      let t = token T.Assign at ∷ s.0 ++ (token T.Semicolon s.1 ∷ f) in
+      at_list (plain_statement h b) (ap (λ z. z ++ f) s.3 ∙ ap (λ z. name_token n ∷ token T.Assign at ∷ z) (append_assoc s.0 (token T.Semicolon s.1 ∷ []) f))
+      (post_read (VarE n) b (name_token n ∷ []) t refl refl refl refl refl (λ q. omega (arith, some))
+        (same_weaker (λ q. omega (arith, q)) (assign_read (SetVarS n) v s.0 f at s.1 s.2)))
+
+  read_set_field : (e : ExprTree) (n : Name) (v : ExprTree) (at : ℕ) (zs f : List Token) → SpellsStmt (SetFieldS e n v at) zs → PlainRead (SetFieldS e n v at) zs f
+  unfolding finish
+  read_set_field e n v at zs f s b l =
+      let t = token T.Assign at ∷ s.1 ++ (token T.Semicolon s.3 ∷ f) in
+      let front = token T.Dot s.2 ∷ name_token n ∷ [] in
+      at_list (plain_statement h b)
+      (ap (λ z. z ++ f) s.7 ∙ append_assoc s.0 (token T.Dot s.2 ∷ name_token n ∷ token T.Assign at ∷ s.1 ++ (token T.Semicolon s.3 ∷ [])) f
+        ∙ ap (λ z. s.0 ++ (token T.Dot s.2 ∷ name_token n ∷ token T.Assign at ∷ z)) (append_assoc s.1 (token T.Semicolon s.3 ∷ []) f)
+        ∙ sym (append_assoc s.0 front t))
+      (post_read (GetE e n) b (s.0 ++ front) t (s.0, s.2, s.4, s.5, refl) refl refl refl refl (λ q. omega (arith, q))
+        (same_weaker (λ q. omega (arith, q)) (assign_read (SetFieldS e n) v s.1 f at s.3 s.6)))
+
+  call_postfix : (e : ExprTree) → is_call e ≡ true → is_postfix e ≡ true
+  call_postfix (NumberE n at) c = cc
+  call_postfix (LeastE at) c = cc
+  call_postfix (TruthE b at) c = cc
+  call_postfix (NullE at) c = cc
+  call_postfix (ThisE at) c = cc
+  call_postfix (VarE n) c = cc
+  call_postfix (ParenE e at) c = cc
+  call_postfix (NotE e at) c = cc
+  call_postfix (NegE e at) c = cc
+  call_postfix (BinaryE o e f at) c = cc
+  call_postfix (GetE e n) c = cc
+  call_postfix (CallE e n args) c = refl
+  call_postfix (NewE n args at) c = refl
+
+  offset_left : (xs ys : List Token) → 0 < length xs → offset (xs ++ ys) ≡ offset xs
+  offset_left [] ys p = absurd (omega (arith, p))
+  offset_left (x ∷ xs) ys p = refl
+
+  read_do : (e : ExprTree) (at : ℕ) (zs f : List Token) → SpellsStmt (DoS e at) zs → PlainRead (DoS e at) zs f
+  unfolding finish call_end
+  read_do e at zs f s b l =
+      let end1 = token T.Semicolon s.1 in
+      let place : first_at e ≡ at = first_is e s.0 s.2 ∙ sym (offset_left s.0 (end1 ∷ []) (spelled_long e s.0 s.2)) ∙ sym (ap offset s.5) ∙ sym s.4 in
+      at_list (plain_statement h b) (ap (λ z. z ++ f) s.5 ∙ append_assoc s.0 (end1 ∷ []) f)
+      (post_read e b s.0 (end1 ∷ f) s.2 (call_postfix e s.3) refl refl refl (λ q. omega (arith, q))
+        (same_along (if_true (is_call e) (call_end h e (end1 ∷ f)) (target h e (end1 ∷ f)) s.3)
+          (same_allow (nat_lt (height e) h) (end1 ∷ f) (λ i q. let k : h ≤ height e = ltb-false (height e) h i in omega (arith, k, q)) (λ i. same (ap (λ z. Ok (DoS e z, f)) place)))))
+
+-- the first tokens of statements
+
+abbrev pub is_plain : StmtTree → Bool
+is_plain (EmptyS at) = true
+is_plain (BlockS ss at) = false
+is_plain (LocalS fin ty n e at) = true
+is_plain (SetVarS n e at) = true
+is_plain (SetFieldS e n f at) = true
+is_plain (DoS e at) = true
+is_plain (IfS e s at) = false
+is_plain (IfElseS e s t at) = false
+is_plain (WhileS e s at) = false
+is_plain (SyncS l ss at) = false
+is_plain (ReturnS e at) = true
+is_plain (PrintS e at) = true
+is_plain (StartS e at) = true
+
+first_of : (test : Token → Bool) (zs ts f : List Token) (v : Bool) → zs ≡ ts → starts test (ts ++ f) ≡ v → starts test (zs ++ f) ≡ v
+first_of test zs ts f v e h = ap (λ z. starts test (z ++ f)) e ∙ h
+
+is_call_postfix : (e : ExprTree) → is_call e ≡ true → is_postfix e ≡ true
+is_call_postfix (NumberE n at) c = cc
+is_call_postfix (LeastE at) c = cc
+is_call_postfix (TruthE b at) c = cc
+is_call_postfix (NullE at) c = cc
+is_call_postfix (ThisE at) c = cc
+is_call_postfix (VarE n) c = cc
+is_call_postfix (ParenE e at) c = cc
+is_call_postfix (NotE e at) c = cc
+is_call_postfix (NegE e at) c = cc
+is_call_postfix (BinaryE o e f at) c = cc
+is_call_postfix (GetE e n) c = cc
+is_call_postfix (CallE e n args) c = refl
+is_call_postfix (NewE n args at) c = refl
+
+-- a test that answers alike at each token that may begin a plain statement
+module _ (test : Token → Bool) (v allowed : Bool)
+    (number : (n : ℕ) (text : List ℕ) (at : ℕ) → n < 2147483648 → test (number_token n text at) ≡ v)
+    (name : (n : Name) → test (name_token n) ≡ v)
+    (yes : (d : ℕ) → test (token T.True d) ≡ v) (no : (d : ℕ) → test (token T.False d) ≡ v)
+    (null : (d : ℕ) → test (token T.Null d) ≡ v) (this : (d : ℕ) → test (token T.This d) ≡ v)
+    (paren : (d : ℕ) → test (token T.OpenParen d) ≡ v) (new : (d : ℕ) → test (token T.New d) ≡ v)
+    (semicolon : (d : ℕ) → test (token T.Semicolon d) ≡ v) (return : (d : ℕ) → test (token T.Return d) ≡ v) (system : (d : ℕ) → test (token T.System d) ≡ v)
+    (final : (d : ℕ) → allowed ≡ true → test (token T.Final d) ≡ v) (int : (d : ℕ) → allowed ≡ true → test (token T.Int d) ≡ v) (boolean : (d : ℕ) → allowed ≡ true → test (token T.Boolean d) ≡ v) where
+  local_first : (fin : Bool) (ty : TypeName) (fs : List Token) (x : Token) (ys : List Token) → allowed ≡ true → IsFlag T.Final fin fs → IsType ty x → starts test (fs ++ (x ∷ ys)) ≡ v
+  local_first true ty fs x ys a p i = ap (λ z. starts test (z ++ (x ∷ ys))) p.1 ∙ final p.0 a
+  local_first false Y.Int fs x ys a p i = ap (λ z. starts test (z ++ (x ∷ ys))) p ∙ ap test i ∙ int x.at a
+  local_first false Y.Boolean fs x ys a p i = ap (λ z. starts test (z ++ (x ∷ ys))) p ∙ ap test i ∙ boolean x.at a
+  local_first false (Y.Class n) fs x ys a p i = ap (λ z. starts test (z ++ (x ∷ ys))) p ∙ ap test i ∙ name n
+
+  pub plain_first : (s : StmtTree) (zs f : List Token) → SpellsStmt s zs → is_plain s ≡ true → (is_local s ≡ true → allowed ≡ true) → starts test (zs ++ f) ≡ v
+  plain_first (EmptyS at) zs f s p l = first_of test zs _ f v s (semicolon at)
+  plain_first (BlockS ss at) zs f s p l = cc
+  plain_first (LocalS fin ty n e at) zs f s p l =
+      let t = name_token n ∷ token T.Assign s.3 ∷ s.1 ++ (token T.Semicolon s.4 ∷ []) in
+      ap (λ z. starts test (z ++ f)) s.9 ∙ ap (starts test) (append_assoc s.0 (s.2 ∷ t) f) ∙ local_first fin ty s.0 s.2 (t ++ f) (l refl) s.5 s.6
+  plain_first (SetVarS n e at) zs f s p l = first_of test zs _ f v s.3 (name n)
+  plain_first (SetFieldS e n g at) zs f s p l =
+      let t = token T.Dot s.2 ∷ name_token n ∷ token T.Assign at ∷ s.1 ++ (token T.Semicolon s.3 ∷ []) in
+      ap (λ z. starts test (z ++ f)) s.7 ∙ ap (starts test) (append_assoc s.0 t f) ∙ postfix_first test v number name yes no null this paren new e s.0 (t ++ f) s.4 s.5
+  plain_first (DoS e at) zs f s p l =
+      let t = token T.Semicolon s.1 ∷ [] in
+      ap (λ z. starts test (z ++ f)) s.5 ∙ ap (starts test) (append_assoc s.0 t f) ∙ postfix_first test v number name yes no null this paren new e s.0 (t ++ f) s.2 (is_call_postfix e s.3)
+  plain_first (IfS e s at) zs f q p l = cc
+  plain_first (IfElseS e s t at) zs f q p l = cc
+  plain_first (WhileS e s at) zs f q p l = cc
+  plain_first (SyncS k ss at) zs f s p l = cc
+  plain_first (ReturnS None at) zs f s p l = first_of test zs _ f v s.1 (return at)
+  plain_first (ReturnS (Some e) at) zs f s p l = first_of test zs _ f v s.3 (return at)
+  plain_first (PrintS e at) zs f s p l = first_of test zs _ f v s.9 (system at)
+  plain_first (StartS e at) zs f s p l = first_of test zs _ f v s.10 (new at)
+
+  module _ (brace : (d : ℕ) → test (token T.OpenBrace d) ≡ v) (iff : (d : ℕ) → test (token T.If d) ≡ v) (while : (d : ℕ) → test (token T.While d) ≡ v)
+      (sync : (d : ℕ) → test (token T.Synchronized d) ≡ v) where
+    pub stmt_first : (s : StmtTree) (zs f : List Token) → SpellsStmt s zs → (is_local s ≡ true → allowed ≡ true) → starts test (zs ++ f) ≡ v
+    stmt_first (EmptyS at) zs f s l = plain_first (EmptyS at) zs f s refl l
+    stmt_first (BlockS ss at) zs f s l = first_of test zs _ f v s.3 (brace at)
+    stmt_first (LocalS fin ty n e at) zs f s l = plain_first (LocalS fin ty n e at) zs f s refl l
+    stmt_first (SetVarS n e at) zs f s l = plain_first (SetVarS n e at) zs f s refl l
+    stmt_first (SetFieldS e n g at) zs f s l = plain_first (SetFieldS e n g at) zs f s refl l
+    stmt_first (DoS e at) zs f s l = plain_first (DoS e at) zs f s refl l
+    stmt_first (IfS e s at) zs f q l = first_of test zs _ f v q.7 (iff at)
+    stmt_first (IfElseS e s t at) zs f q l = first_of test zs _ f v q.12 (iff at)
+    stmt_first (WhileS e s at) zs f q l = first_of test zs _ f v q.7 (while at)
+    stmt_first (SyncS k ss at) zs f s l = first_of test zs _ f v s.8 (sync at)
+    stmt_first (ReturnS e at) zs f s l = plain_first (ReturnS e at) zs f s refl l
+    stmt_first (PrintS e at) zs f s l = plain_first (PrintS e at) zs f s refl l
+    stmt_first (StartS e at) zs f s l = plain_first (StartS e at) zs f s refl l
+
+-- a terminal that begins no plain statement
+Other : Terminal → Type 0
+Other t = (s : StmtTree) (zs f : List Token) → SpellsStmt s zs → is_plain s ≡ true → starts (is t) (zs ++ f) ≡ false
+
+no_brace : Other T.OpenBrace
+unfolding Other
+no_brace s zs f p q = plain_first (is T.OpenBrace) false true (λ n text at h. refl) (λ n. refl) (λ d. refl) (λ d. refl) (λ d. refl) (λ d. refl) (λ d. refl) (λ d. refl) (λ d. refl) (λ d. refl) (λ d. refl) (λ d a. refl) (λ d a. refl) (λ d a. refl) s zs f p q (λ l. refl)
+
+no_if : Other T.If
+unfolding Other
+no_if s zs f p q = plain_first (is T.If) false true (λ n text at h. refl) (λ n. refl) (λ d. refl) (λ d. refl) (λ d. refl) (λ d. refl) (λ d. refl) (λ d. refl) (λ d. refl) (λ d. refl) (λ d. refl) (λ d a. refl) (λ d a. refl) (λ d a. refl) s zs f p q (λ l. refl)
+
+no_while : Other T.While
+unfolding Other
+no_while s zs f p q = plain_first (is T.While) false true (λ n text at h. refl) (λ n. refl) (λ d. refl) (λ d. refl) (λ d. refl) (λ d. refl) (λ d. refl) (λ d. refl) (λ d. refl) (λ d. refl) (λ d. refl) (λ d a. refl) (λ d a. refl) (λ d a. refl) s zs f p q (λ l. refl)
+
+no_sync : Other T.Synchronized
+unfolding Other
+no_sync s zs f p q = plain_first (is T.Synchronized) false true (λ n text at h. refl) (λ n. refl) (λ d. refl) (λ d. refl) (λ d. refl) (λ d. refl) (λ d. refl) (λ d. refl) (λ d. refl) (λ d. refl) (λ d. refl) (λ d a. refl) (λ d a. refl) (λ d a. refl) s zs f p q (λ l. refl)
+
+no_else : (s : StmtTree) (zs f : List Token) → SpellsStmt s zs → starts (is T.Else) (zs ++ f) ≡ false
+no_else s zs f p = stmt_first (is T.Else) false true (λ n text at h. refl) (λ n. refl) (λ d. refl) (λ d. refl) (λ d. refl) (λ d. refl) (λ d. refl) (λ d. refl) (λ d. refl) (λ d. refl) (λ d. refl) (λ d a. refl) (λ d a. refl) (λ d a. refl) (λ d. refl) (λ d. refl) (λ d. refl) (λ d. refl) s zs f p (λ l. refl)
+
+stmt_goes_on : (s : StmtTree) (zs f : List Token) → SpellsStmt s zs → starts goes_on (zs ++ f) ≡ true
+stmt_goes_on s zs f p = stmt_first goes_on true true (λ n text at h. refl) (λ n. refl) (λ d. refl) (λ d. refl) (λ d. refl) (λ d. refl) (λ d. refl) (λ d. refl) (λ d. refl) (λ d. refl) (λ d. refl) (λ d a. refl) (λ d a. refl) (λ d a. refl) (λ d. refl) (λ d. refl) (λ d. refl) (λ d. refl) s zs f p (λ l. refl)
+
+or_true : (a b : Bool) → a ≡ true → a || b ≡ true
+or_true true b h = refl
+or_true false b h = cc
+
+begins_number : (b : Bool) (n : ℕ) (text : List ℕ) (at : ℕ) → n < 2147483648 → begins_statement b (number_token n text at) ≡ true
+unfolding begins_statement
+begins_number b n text at h =
+    let g : Bool → Option (ℕ × ℕ) = λ c. when c (n, at) in
+    ap (λ c. (is_some (g c) || false || false || false || false || false) || (b && false)) (lt-ltb n 2147483648 h)
+
+and_self : (b c : Bool) → b ≡ true → c ≡ true → b && c ≡ true
+and_self true c e f = f
+and_self false c e f = cc
+
+stmt_begins : (b : Bool) (s : StmtTree) (zs f : List Token) → SpellsStmt s zs → (is_local s ≡ true → b ≡ true) → starts (begins_statement b) (zs ++ f) ≡ true
+unfolding begins_statement
+stmt_begins b = stmt_first (begins_statement b) true b (begins_number b) (λ n. refl) (λ d. refl) (λ d. refl) (λ d. refl) (λ d. refl) (λ d. refl) (λ d. refl) (λ d. refl) (λ d. refl) (λ d. refl)
+    (λ d a. and_self b true a refl) (λ d a. and_self b true a refl) (λ d a. and_self b true a refl) (λ d. refl) (λ d. refl) (λ d. refl) (λ d. refl)
