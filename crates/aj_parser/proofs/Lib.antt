@@ -1,5 +1,6 @@
 pub mod Complete
 pub mod CompleteStatements
+pub mod CompleteMembers
 pub mod Expressions
 pub mod LoopLaw
 pub mod Lists

@@ -16,7 +16,7 @@ use Rattle.aj_parser.proofs.Statements.{right_lock, this_lock, this_lock_is}
 use Rattle.aj_parser.specs.Combine.{Res, ◌>>=◌, starts, loop, comma_step, item_step}
 use Rattle.aj_parser.specs.Reading.{param, lock, set, goes_on, member, class_at}
 
-param_takes : (of_ctor : Bool) → Takes (is T.Comma) (comma_step (param of_ctor))
+pub param_takes : (of_ctor : Bool) → Takes (is T.Comma) (comma_step (param of_ctor))
 param_takes of_ctor = separated_takes (param of_ctor) (ParamL of_ctor) Any (param_example of_ctor) (param_long of_ctor) (λ ps. Unit {0}) (λ so a r p q. tt)
     (right_param of_ctor) (λ ps ys. Unit {0}) tt (λ a rest d xs ys p q. tt) (λ ps ys. Unit {0}) (λ a rest xs ys p q. tt)
 
@@ -30,7 +30,7 @@ param_done of_ctor ps ts g = loop_done (is T.Comma) (comma_step (param of_ctor))
 pub param_shorter : (of_ctor : Bool) (ts : List Token) (p : Param) (r : List Token) → param of_ctor ts ≡ Ok (p, r) → length r < length ts
 param_shorter of_ctor ts p r e = right_shorter (param of_ctor) (ParamL of_ctor) Any ts p r (param_long of_ctor) (param of_ctor ts) (right_param of_ctor ts).at e
 
-lock_takes : Takes (is T.Comma) (comma_step lock)
+pub lock_takes : Takes (is T.Comma) (comma_step lock)
 lock_takes = separated_takes lock (λ zs l. SpellsLock l zs) Any (token T.This 0 ∷ [], this_lock, this_lock_is) lock_long (λ ps. Unit {0}) (λ so a r p q. tt)
     right_lock (λ ps ys. Unit {0}) tt (λ a rest d xs ys p q. tt) (λ ps ys. Unit {0}) (λ a rest xs ys p q. tt)
 
@@ -44,7 +44,7 @@ lock_done ls ts g = loop_done (is T.Comma) (comma_step lock) ls ts g
 pub lock_shorter : (ts : List Token) (l : LockTree) (r : List Token) → lock ts ≡ Ok (l, r) → length r < length ts
 lock_shorter ts l r e = right_shorter lock (λ zs l. SpellsLock l zs) Any ts l r lock_long (lock ts) (right_lock ts).at e
 
-set_takes : Takes goes_on (item_step set)
+pub set_takes : Takes goes_on (item_step set)
 set_takes = several_takes set (λ zs p. SpellsSet p zs) Any set_example set_long (λ ps. Unit {0}) (λ so a r p q. tt)
     goes_on (λ x xs g. right_set (x ∷ xs)) (λ ns ts. Unit {0}) tt (λ n rest xs ys f q. tt)
 
@@ -57,7 +57,7 @@ set_done ss ts g = loop_done goes_on (item_step set) ss ts g
 pub set_shorter : (ts : List Token) (p : Name × Name) (r : List Token) → set ts ≡ Ok (p, r) → length r < length ts
 set_shorter ts p r e = right_shorter set (λ zs p. SpellsSet p zs) Any ts p r set_long (set ts) (right_set ts).at e
 
-member_takes : Takes goes_on (item_step member)
+pub member_takes : Takes goes_on (item_step member)
 member_takes = several_takes member (λ zs m. SpellsMember m zs) LowMember member_example member_long (λ ps. Unit {0}) (λ so a r p q. tt)
     goes_on (λ x xs g. right_member (x ∷ xs)) (λ ns ts. Unit {0}) tt (λ n rest xs ys f q. tt)
 
@@ -70,7 +70,7 @@ member_done ms ts g = loop_done goes_on (item_step member) ms ts g
 pub member_shorter : (ts : List Token) (m : MemberTree) (r : List Token) → member ts ≡ Ok (m, r) → length r < length ts
 member_shorter ts m r e = right_shorter member (λ zs m. SpellsMember m zs) LowMember ts m r member_long (member ts) (right_member ts).at e
 
-class_takes : Takes (λ x. true) (item_step class_at)
+pub class_takes : Takes (λ x. true) (item_step class_at)
 class_takes = several_takes class_at (λ zs c. SpellsClass c zs) LowClass class_example class_long (λ ps. Unit {0}) (λ so a r p q. tt)
     (λ x. true) (λ x xs g. right_class (x ∷ xs)) (λ ns ts. Unit {0}) tt (λ n rest xs ys f q. tt)
 
