@@ -11,3 +11,4 @@ pub mod Parts
 pub mod Right
 pub mod StatementLoops
 pub mod Statements
+pub mod Whole

@@ -5,3 +5,4 @@ use Rattle.aj_parser.proofs.Members.{right_program}
 use Rattle.aj_parser.proofs.MemberLoops.{class_done}
 use Rattle.aj_parser.proofs.CompleteStatements.{lock_read, stmt_reads}
 use Rattle.aj_parser.proofs.CompleteMembers.{program_read}
+use Rattle.aj_parser.proofs.Whole.{deep_right}
