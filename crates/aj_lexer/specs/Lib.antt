@@ -1,0 +1,6 @@
+pub mod Pieces
+pub mod Places
+pub mod Reading
+pub mod Reserved
+pub mod Tokens
+pub mod Written

@@ -1,6 +1,19 @@
 //! The tokens of a source, cut from the left by longest match.
 #![tactic(auto)]
 
+mod faults;
+mod laws;
+mod lexer;
+mod pieces;
+mod places;
+#[cfg(test)]
+mod tests;
 mod tokens;
+mod utf8;
 
+pub use faults::LexFault;
+pub use laws::{token_laws, writing_laws};
+pub use lexer::lex;
+pub use places::{Place, place_of};
 pub use tokens::{Text, Token, TokenKind};
+pub use utf8::{NotText, utf8_text};

@@ -1,6 +1,8 @@
 //! Tokens, and the owned texts that they hold.
 
 ghost use Rattle.std.specs.Prelude.{◌≡◌, ℕ, List, length, bytes_eq, string_bytes, IfOk, ◌==◌};
+ghost use Rattle.std.specs.Cmp.{partial_equiv_from_equiv};
+ghost use Rattle.std.specs.Cmp.Lexicographic.{nat_list_eq_equiv};
 
 use std::alloc::{AllocError as NoMemory, Global};
 use std::marker::Model;
@@ -60,6 +62,20 @@ impl Text {
     }
 }
 
+impl PartialEq for Text {
+    ghost eq = { bytes_eq };
+
+    ghost laws = { partial_equiv_from_equiv nat_list_eq_equiv };
+
+    fn eq(&self, other: &Text) -> bool {
+        self.as_str() == other.as_str()
+    }
+}
+
+impl Eq for Text {
+    ghost laws = { nat_list_eq_equiv };
+}
+
 /// What a token is.
 #[derive(Clone, Copy, Debug, PartialEq, Eq)]
 pub enum TokenKind {
@@ -74,7 +90,7 @@ pub enum TokenKind {
 }
 
 /// A token of a source. `at` is the offset of its first byte, from 0.
-#[derive(Debug, Drop)]
+#[derive(Debug, Drop, PartialEq, Eq)]
 pub struct Token {
     pub kind: TokenKind,
     pub text: Text,

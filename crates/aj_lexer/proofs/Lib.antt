@@ -1,0 +1,9 @@
+pub mod Closing
+pub mod Numbers
+pub mod Fronts
+pub mod Lexing
+pub mod Sorts
+pub mod Unique
+pub mod Laying
+pub mod Total
+pub mod Written
