@@ -1,13 +1,16 @@
 //! The parser: recursive descent with one token of preview, whose depth the limit of height bounds.
 #![tactic(auto)]
 
-ghost use Rattle.aj_parser.specs.Reading.{program};
-ghost use Rattle.aj_parser.specs.Answer.{Gives};
-
 mod expression;
+mod faults;
 mod member;
+mod parser;
 mod statement;
 mod stop;
 mod tokens;
 
-fn probe() {}
+#[cfg(test)]
+mod tests;
+
+pub use faults::ParseFault;
+pub use parser::parse;
