@@ -231,9 +231,10 @@ when_false false a h = refl
 
 sign_calm : (o : Op) (d k : ℕ) (f : List Token) → k < level o → Calm k (token (sign_of o) d ∷ f)
 sign_calm o d k f h = record {
-  dot = sign_dot o d; open_paren = sign_paren o d;
-  ops = λ j l. let n : level o ≢ j = omega (arith, h, l) in ap (λ z. is_some (op_at j z d)) (sign_op o d) ∙ when_false (level o == j) (o, d) (ne_eqb (level o) j n)
-  }
+  dot = sign_dot o d;
+  open_paren = sign_paren o d;
+  ops = λ j l. let n : level o ≢ j = omega (arith, h, l) in ap (λ z. is_some (op_at j z d)) (sign_op o d) ∙ when_false (level o == j) (o, d) (ne_eqb (level o) j n);
+}
 
 sign_first : (o : Op) (d : ℕ) (f : List Token) → first (an_op (level o)) (token (sign_of o) d ∷ f) ≡ Ok ((o, d), f)
 sign_first o d f =
@@ -285,7 +286,7 @@ climb : (e : ExprTree) → UnaryRead e → ((k : ℕ) → loose e ≡ suc k → 
 unfolding chain_with
 climb e u own zero small h some xs f s l c =
     elim (loose e == 1) as (λ b. loose e == 1 ≡ b → Same (height e ≤ h) (chain_with h (below h) 1 (xs ++ f)) (loop (is_op 1) (op_step h (below h) 0) e f)) [
-      true ↦ λ i. own 0 (eqb-true (loose e) 1 i) h some xs f s l c
+      | true ↦ λ i. own 0 (eqb-true (loose e) 1 i) h some xs f s l c
       | false ↦ λ i. let z : loose e ≡ 0 = omega (arith, l, eqb_not (loose e) 1 i) in
           same_bind (loop (is_op 1) (op_step h (below h) 0)) (λ q. q) (λ q. q) (u z h some xs f s c) (same refl)
     ] refl
@@ -294,7 +295,7 @@ climb e u own zero small h some xs f s l c =
     eqb_not a b i j = let k = eq-eqb a b j in cc
 climb e u own (suc k) small h some xs f s l c =
     elim (loose e == suc (suc k)) as (λ b. loose e == suc (suc k) ≡ b → Same (height e ≤ h) (chain_with h (below h) (suc (suc k)) (xs ++ f)) (loop (is_op (suc (suc k))) (op_step h (below h) (suc k)) e f)) [
-      true ↦ λ i. own (suc k) (eqb-true (loose e) (suc (suc k)) i) h some xs f s l c
+      | true ↦ λ i. own (suc k) (eqb-true (loose e) (suc (suc k)) i) h some xs f s l c
       | false ↦ λ i. let z : loose e ≤ suc k = omega (arith, l, eqb_not (loose e) (suc (suc k)) i) in
           let lower = climb e u own k (omega (arith, small)) h some xs f s z (calm_less (suc k) k f (omega arith) c) in
           same_bind (loop (is_op (suc (suc k))) (op_step h (below h) (suc k))) (λ q. q) (λ q. q)
@@ -313,7 +314,7 @@ reads_at e r (suc h) zero small xs f l c = same_along (chain_positive (suc h) 0 
 reads_at e r (suc h) (suc k) small xs f l c =
     same_along (chain_positive (suc h) (suc k) (omega arith) (xs ++ f))
     (same_then (r.op k (omega (arith, small)) (suc h) (omega arith) xs f l.0 l.1 (calm_less (suc k) k f (omega arith) c))
-      (loop_done (is_op (suc k)) (op_step (suc h) (below (suc h)) k) e f (c.ops (suc k) (omega arith))))
+    (loop_done (is_op (suc k)) (op_step (suc h) (below (suc h)) k) e f (c.ops (suc k) (omega arith))))
 
 -- a part, read below a node of height h
 pub reads_below : (e : ExprTree) → Reads e → (h k : ℕ) → 0 < h → k ≤ 6 → (xs f : List Token) → Level k xs e → Calm k f → Same (height e < h) (below h k (xs ++ f)) (Ok (e, f))
@@ -405,9 +406,9 @@ read_paren e at r p h some xs f s c =
     let close = token T.CloseParen s.1 in
     at_list (postfix h (below h)) (ap (λ z. z ++ f) s.3 ∙ ap (λ z. token T.OpenParen at ∷ z) (append_assoc s.0 (close ∷ []) f))
     (same_bind (dots h (below h)) (λ q. q) (λ q. q)
-      (same_bind {low2 = height (ParenE e at) ≤ h} (λ e ts. take_one T.CloseParen ts >>= λ c ts. Ok (ParenE e at, ts)) (λ q. omega (arith, q)) (λ q. q)
-        (reads_any e r h some s.0 (close ∷ f) s.2 (calm_close 6 s.1 f)) (same refl))
-      (same refl))
+    (same_bind {low2 = height (ParenE e at) ≤ h} (λ e ts. take_one T.CloseParen ts >>= λ c ts. Ok (ParenE e at, ts)) (λ q. omega (arith, q)) (λ q. q)
+    (reads_any e r h some s.0 (close ∷ f) s.2 (calm_close 6 s.1 f)) (same refl))
+    (same refl))
 
 -- arguments
 
@@ -421,9 +422,12 @@ MoreRead es = (h : ℕ) → 0 < h → (so : List ExprTree) (ys f : List Token) (
     → (more : List ExprTree) × (exprs_from more ≡ es) × Same (heights es < h) (loop (is T.Comma) (comma_step (below h 6)) so (ys ++ (token T.CloseParen c ∷ f))) (Ok (so ++ more, token T.CloseParen c ∷ f))
 
 more_none : MoreRead no_exprs
-more_none h some so ys f c s =
-    ([], refl, at_list (loop (is T.Comma) (comma_step (below h 6)) so) (ap (λ z. z ++ (token T.CloseParen c ∷ f)) s)
-      (same (loop_done (is T.Comma) (comma_step (below h 6)) so (token T.CloseParen c ∷ f) refl ∙ ap (λ z. Ok (z, token T.CloseParen c ∷ f)) (sym (append-nil so)))))
+more_none h some so ys f c s = (
+  [],
+  refl,
+  at_list (loop (is T.Comma) (comma_step (below h 6)) so) (ap (λ z. z ++ (token T.CloseParen c ∷ f)) s)
+      (same (loop_done (is T.Comma) (comma_step (below h 6)) so (token T.CloseParen c ∷ f) refl ∙ ap (λ z. Ok (z, token T.CloseParen c ∷ f)) (sym (append-nil so)))),
+)
 
 -- what follows an argument is calm
 more_calm : (es : ExprTrees) (ys f : List Token) (c : ℕ) → SpellsMoreArgs es ys → Calm 6 (ys ++ (token T.CloseParen c ∷ f))
@@ -434,15 +438,17 @@ more_some : (e : ExprTree) (es : ExprTrees) → Reads e → MoreRead es → More
 more_some e es r m h some so ys f c s =
     let end1 = token T.CloseParen c ∷ f in
     let rest = m h some (so ++ (e ∷ [])) s.1 f c s.4 in
-    let go = loop (is T.Comma) (comma_step (below h 6)) in
-    (e ∷ rest.0, ap (more_exprs e) rest.1,
+    let go = loop (is T.Comma) (comma_step (below h 6)) in (
+      e ∷ rest.0,
+      ap (more_exprs e) rest.1,
       at_list (go so) (ap (λ z. z ++ end1) s.5 ∙ ap (λ z. token T.Comma s.2 ∷ z) (append_assoc s.0 s.1 end1))
-      (same_along (loop_more (is T.Comma) (comma_step (below h 6)) (argument_takes h some) so (token T.Comma s.2 ∷ s.0 ++ (s.1 ++ end1)) refl)
-        (same_then
+          (same_along (loop_more (is T.Comma) (comma_step (below h 6)) (argument_takes h some) so (token T.Comma s.2 ∷ s.0 ++ (s.1 ++ end1)) refl)
+          (same_then
           (same_bind {low2 = heights es < h} go (λ q. q) (λ q. omega (arith, q))
-            (same_bind {low2 = heights (more_exprs e es) < h} (λ x ts. Ok (so ++ (x ∷ []), ts)) (λ q. omega (arith, q)) (λ q. q) (reads_any e r h some s.0 (s.1 ++ end1) s.3 (more_calm es s.1 f c s.4)) (same refl))
-            rest.2)
-          (ap (λ z. Ok (z, end1)) (shift so e rest.0)))))
+          (same_bind {low2 = heights (more_exprs e es) < h} (λ x ts. Ok (so ++ (x ∷ []), ts)) (λ q. omega (arith, q)) (λ q. q) (reads_any e r h some s.0 (s.1 ++ end1) s.3 (more_calm es s.1 f c s.4)) (same refl))
+          rest.2)
+          (ap (λ z. Ok (z, end1)) (shift so e rest.0)))),
+    )
 
 args_none : ArgsRead no_exprs
 unfolding arguments ArgsRead
@@ -456,10 +462,10 @@ args_some e es r m h some ys f c s =
     let p : List Token → Res ExprTrees = λ ts. arguments h (below h) ts >>= λ es ts. Ok (exprs_from es, ts) in
     at_list p (ap (λ z. z ++ end1) s.4 ∙ append_assoc s.0 s.1 end1)
     (same_bind {low2 = heights (more_exprs e es) < h} (λ es ts. Ok (exprs_from es, ts)) (λ q. q) (λ q. q)
-      (same_along (if_false (starts (is T.CloseParen) (s.0 ++ (s.1 ++ end1))) _ _ (no_close e s.0 (s.1 ++ end1) s.2))
-        (same_bind {low2 = heights es < h} (λ x ts. loop (is T.Comma) (comma_step (below h 6)) (x ∷ []) ts) (λ q. omega (arith, q)) (λ q. omega (arith, q))
-          (reads_any e r h some s.0 (s.1 ++ end1) s.2 (more_calm es s.1 f c s.3)) rest.2))
-      (same (ap (λ z. Ok (more_exprs e z, end1)) rest.1)))
+    (same_along (if_false (starts (is T.CloseParen) (s.0 ++ (s.1 ++ end1))) _ _ (no_close e s.0 (s.1 ++ end1) s.2))
+    (same_bind {low2 = heights es < h} (λ x ts. loop (is T.Comma) (comma_step (below h 6)) (x ∷ []) ts) (λ q. omega (arith, q)) (λ q. omega (arith, q))
+    (reads_any e r h some s.0 (s.1 ++ end1) s.2 (more_calm es s.1 f c s.3)) rest.2))
+    (same (ap (λ z. Ok (more_exprs e z, end1)) rest.1)))
 
 -- arguments in parentheses
 pub call_read : (es : ExprTrees) → ArgsRead es → (h : ℕ) → 0 < h → (ys f : List Token) (o c : ℕ) → SpellsArgs es ys
@@ -472,6 +478,7 @@ call_read es r h some ys f o c s =
     close : (es : List ExprTree) (r : Res ℕ) → ((r >>= λ c ts. Ok (es, ts)) >>= λ es ts. Ok (exprs_from es, ts)) ≡ (r >>= λ c ts. Ok (exprs_from es, ts))
     close es (Ok y) = refl
     close es (Err e) = refl
+
     turn : (r : Res (List ExprTree)) → ((r >>= λ es ts. take_one T.CloseParen ts >>= λ c ts. Ok (es, ts)) >>= λ es ts. Ok (exprs_from es, ts))
         ≡ ((r >>= λ es ts. Ok (exprs_from es, ts)) >>= λ x ts. take_one T.CloseParen ts >>= λ c ts. Ok (x, ts))
     turn (Ok y) = close y.0 (take_one T.CloseParen y.1)
@@ -505,10 +512,10 @@ read_get e n r p h some xs f s c =
     let t = token T.Dot s.1 ∷ name_token n ∷ f in
     at_list (postfix h (below h)) (ap (λ z. z ++ f) s.4 ∙ append_assoc s.0 (token T.Dot s.1 ∷ name_token n ∷ []) f)
     (same_trans {low2 = height (GetE e n) ≤ h} (λ q. omega (arith, q)) (λ q. q) (r.postfix s.3 h some s.0 t s.2 refl)
-      (same_along (member_more h some e t refl)
-        (same_bind {low2 = height (GetE e n) ≤ h} (loop (is T.Dot) (member_step h (below h))) (λ q. q) (λ q. q)
-          (same_allow (nat_lt (height e) h) t (λ i q. not_lower (height e) h i q) (λ i. same (if_false (starts (is T.OpenParen) f) _ _ c)))
-          (same refl))))
+    (same_along (member_more h some e t refl)
+    (same_bind {low2 = height (GetE e n) ≤ h} (loop (is T.Dot) (member_step h (below h))) (λ q. q) (λ q. q)
+    (same_allow (nat_lt (height e) h) t (λ i q. not_lower (height e) h i q) (λ i. same (if_false (starts (is T.OpenParen) f) _ _ c)))
+    (same refl))))
 
 read_call : (e : ExprTree) (n : Name) (es : ExprTrees) → Reads e → ArgsRead es → PostfixRead (CallE e n es)
 unfolding dots member_step member_rest field_name
@@ -517,29 +524,29 @@ read_call e n es r a p h some xs f s c =
     let u = token T.OpenParen s.3 ∷ s.1 ++ (close ∷ f) in
     let t = token T.Dot s.2 ∷ name_token n ∷ u in
     at_list (postfix h (below h)) (ap (λ z. z ++ f) s.8 ∙ append_assoc s.0 (token T.Dot s.2 ∷ name_token n ∷ token T.OpenParen s.3 ∷ s.1 ++ (close ∷ [])) f
-      ∙ ap (λ z. s.0 ++ (token T.Dot s.2 ∷ name_token n ∷ token T.OpenParen s.3 ∷ z)) (append_assoc s.1 (close ∷ []) f))
+    ∙ ap (λ z. s.0 ++ (token T.Dot s.2 ∷ name_token n ∷ token T.OpenParen s.3 ∷ z)) (append_assoc s.1 (close ∷ []) f))
     (same_trans {low2 = height (CallE e n es) ≤ h} (λ q. omega (arith, q)) (λ q. q) (r.postfix s.6 h some s.0 t s.5 refl)
-      (same_along (member_more h some e t refl)
-        (same_bind {low2 = height (CallE e n es) ≤ h} (loop (is T.Dot) (member_step h (below h))) (λ q. q) (λ q. q)
-          (same_allow (nat_lt (height e) h) t (λ i q. let k : 1 + height e ≤ h = omega (arith, q) in not_lower (height e) h i k)
-            (λ i. same_along (through (CallE e n) (call_arguments h (below h) u))
-              (same_bind {low2 = height (CallE e n es) ≤ h} (λ x ts. Ok (CallE e n x, ts)) (λ q. omega (arith, q)) (λ q. q) (call_read es a h some s.1 f s.3 s.4 s.7) (same refl))))
-          (same refl))))
+    (same_along (member_more h some e t refl)
+    (same_bind {low2 = height (CallE e n es) ≤ h} (loop (is T.Dot) (member_step h (below h))) (λ q. q) (λ q. q)
+    (same_allow (nat_lt (height e) h) t (λ i q. let k : 1 + height e ≤ h = omega (arith, q) in not_lower (height e) h i k)
+    (λ i. same_along (through (CallE e n) (call_arguments h (below h) u))
+    (same_bind {low2 = height (CallE e n es) ≤ h} (λ x ts. Ok (CallE e n x, ts)) (λ q. omega (arith, q)) (λ q. q) (call_read es a h some s.1 f s.3 s.4 s.7) (same refl))))
+    (same refl))))
 
 read_not : (e : ExprTree) (at : ℕ) → Reads e → UnaryRead (NotE e at)
 unfolding unary
 read_not e at r l h some xs f s c =
     at_list (unary h (below h)) (ap (λ z. z ++ f) s.3)
     (same_bind {low2 = height (NotE e at) ≤ h} (λ e ts. Ok (NotE e at, ts)) (λ q. omega (arith, q)) (λ q. q)
-      (reads_below e r h 0 some (omega arith) s.0 f (s.1, omega (arith, s.2)) c) (same refl))
+    (reads_below e r h 0 some (omega arith) s.0 f (s.1, omega (arith, s.2)) c) (same refl))
 
 read_neg : (e : ExprTree) (at : ℕ) → Reads e → UnaryRead (NegE e at)
 unfolding unary negated
 read_neg e at r l h some xs f s c =
     at_list (unary h (below h)) (ap (λ z. z ++ f) s.3)
     (same_along (if_false (starts is_least (s.0 ++ f)) _ _ (no_least e s.0 f s.1))
-      (same_bind {low2 = height (NegE e at) ≤ h} (λ e ts. Ok (NegE e at, ts)) (λ q. omega (arith, q)) (λ q. q)
-        (reads_below e r h 0 some (omega arith) s.0 f (s.1, omega (arith, s.2)) c) (same refl)))
+    (same_bind {low2 = height (NegE e at) ≤ h} (λ e ts. Ok (NegE e at, ts)) (λ q. omega (arith, q)) (λ q. q)
+    (reads_below e r h 0 some (omega arith) s.0 f (s.1, omega (arith, s.2)) c) (same refl)))
 
 read_least : (at : ℕ) → UnaryRead (LeastE at)
 unfolding unary negated
@@ -568,14 +575,14 @@ read_binary o e g at r q k small own h some xs f s l c =
     let go = loop (is_op (suc k)) (op_step h (below h) k) in
     at_list (chain_with h (below h) (suc k)) (ap (λ z. z ++ f) s.6 ∙ append_assoc s.0 (sign ∷ s.1) f)
     (same_trans {low2 = height (BinaryE o e g at) ≤ h} (λ q. omega (arith, q)) (λ q. q)
-      (r.op k small h some s.0 t s.2 (omega (arith, s.4, own)) (sign_calm o at k (s.1 ++ f) (omega (arith, own))))
-      (same_along (loop_more (is_op (suc k)) (op_step h (below h) k) (op_takes h some (below h) (below_law h some) k small) e t (subst (λ z. starts (is_op z) t ≡ true) own (sign_is o at (s.1 ++ f))))
-        (same_bind {low2 = height (BinaryE o e g at) ≤ h} go (λ q. q) (λ q. q)
-          (same_allow (nat_lt (height e) h) t (λ i q. let k : 1 + height e ≤ h = omega (arith, q) in not_lower (height e) h i k)
-            (λ i. same_along (ap (λ r. r >>= λ o ts. below h k ts >>= λ f ts. Ok (BinaryE o.0 e f o.1, ts)) (subst (λ z. first (an_op z) t ≡ Ok ((o, at), s.1 ++ f)) own (sign_first o at (s.1 ++ f))))
-              (same_bind {low2 = height (BinaryE o e g at) ≤ h} (λ f ts. Ok (BinaryE o e f at, ts)) (λ q. omega (arith, q)) (λ q. q)
-                (reads_below g q h k some (omega (arith, small)) s.1 f (s.3, omega (arith, s.5, own)) c) (same refl))))
-          (same refl))))
+    (r.op k small h some s.0 t s.2 (omega (arith, s.4, own)) (sign_calm o at k (s.1 ++ f) (omega (arith, own))))
+    (same_along (loop_more (is_op (suc k)) (op_step h (below h) k) (op_takes h some (below h) (below_law h some) k small) e t (subst (λ z. starts (is_op z) t ≡ true) own (sign_is o at (s.1 ++ f))))
+    (same_bind {low2 = height (BinaryE o e g at) ≤ h} go (λ q. q) (λ q. q)
+    (same_allow (nat_lt (height e) h) t (λ i q. let k : 1 + height e ≤ h = omega (arith, q) in not_lower (height e) h i k)
+    (λ i. same_along (ap (λ r. r >>= λ o ts. below h k ts >>= λ f ts. Ok (BinaryE o.0 e f o.1, ts)) (subst (λ z. first (an_op z) t ≡ Ok ((o, at), s.1 ++ f)) own (sign_first o at (s.1 ++ f))))
+    (same_bind {low2 = height (BinaryE o e g at) ≤ h} (λ f ts. Ok (BinaryE o e f at, ts)) (λ q. omega (arith, q)) (λ q. q)
+    (reads_below g q h k some (omega (arith, small)) s.1 f (s.3, omega (arith, s.5, own)) c) (same refl))))
+    (same refl))))
 
 reads_binary : (o : Op) (e g : ExprTree) (at : ℕ) → Reads e → Reads g → Reads (BinaryE o e g at)
 reads_binary o e g at r q =
@@ -583,7 +590,7 @@ reads_binary o e g at r q =
     record {
       postfix = λ p. cc;
       unary = u;
-      op = λ k small. climb (BinaryE o e g at) u (λ j i. read_binary o e g at r q j (let m = any_level (BinaryE o e g at) in omega (arith, m, i)) i) k small
+      op = λ k small. climb (BinaryE o e g at) u (λ j i. read_binary o e g at r q j (let m = any_level (BinaryE o e g at) in omega (arith, m, i)) i) k small;
     }
 
 mutual

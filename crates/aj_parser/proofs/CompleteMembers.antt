@@ -153,16 +153,16 @@ required_read (l ∷ ls) zs f b s =
 method_read : (atomic : Bool) (returns : Option TypeName) (n : Name) (ps : List Param) (ls : List LockTree) (body : StmtTrees) (xs rs ys f : List Token) (o c b e : ℕ)
     → Params false ps xs → SpellsRequires ls rs → SpellsStmts body ys
     → Same (1 + stmt_heights body ≤ 64) (method_rest atomic returns n (token T.OpenParen o ∷ xs ++ (token T.CloseParen c ∷ rs ++ (token T.OpenBrace b ∷ ys ++ (token T.CloseBrace e ∷ f)))))
-      (Ok (MethodM record { atomic = atomic; returns = returns; name = n; params = ps; locks = ls; body = body; end = e }, f))
+    (Ok (MethodM record { atomic = atomic; returns = returns; name = n; params = ps; locks = ls; body = body; end = e }, f))
 unfolding method_rest
 method_read atomic returns n ps ls body xs rs ys f o c b e p q s =
     let t = token T.OpenBrace b ∷ ys ++ (token T.CloseBrace e ∷ f) in
     let whole = block_read body (items_read body) 64 ys f b e s in
     let make : List Param → List LockTree → StmtTrees → ℕ → MemberTree = λ ps ls body e. MethodM record { atomic = atomic; returns = returns; name = n; params = ps; locks = ls; body = body; end = e } in
     same_along (ap (λ r. r >>= λ ps ts. required ts >>= λ ls ts. block_at 64 ts >>= λ b ts. Ok (make ps ls (stmts_from b.1) b.2, ts)) (params_read false ps xs (rs ++ t) o c p)
-      ∙ ap (λ r. r >>= λ ls ts. block_at 64 ts >>= λ b ts. Ok (make ps ls (stmts_from b.1) b.2, ts)) (required_read ls rs (ys ++ (token T.CloseBrace e ∷ f)) b q))
+    ∙ ap (λ r. r >>= λ ls ts. block_at 64 ts >>= λ b ts. Ok (make ps ls (stmts_from b.1) b.2, ts)) (required_read ls rs (ys ++ (token T.CloseBrace e ∷ f)) b q))
     (same_bind {low2 = 1 + stmt_heights body ≤ 64} (λ b ts. Ok (make ps ls (stmts_from b.1) b.2, ts)) (λ q. q) (λ q. q) whole.2
-      (same (ap (λ z. Ok (make ps ls z e, f)) whole.1)))
+    (same (ap (λ z. Ok (make ps ls z e, f)) whole.1)))
 
 -- parts one after another
 module _ {A : Type 0} (item : List Token → Res A) (P : A → List Token → Type 0) (go : Token → Bool) (takes : Takes go (item_step item))
@@ -175,11 +175,11 @@ module _ {A : Type 0} (item : List Token → Res A) (P : A → List Token → Ty
   repeats_read (a ∷ rest) so zs f s e =
       at_list (loop go (item_step item) so) (ap (λ z. z ++ f) s.4 ∙ append_assoc s.0 s.1 f)
       (same_along (loop_more go (item_step item) takes so (s.0 ++ (s.1 ++ f)) (begins a s.0 (s.1 ++ f) s.2))
-        (same_then
-          (same_bind {low2 = lows rest} (loop go (item_step item)) (λ q. q) (λ q. tail a rest q)
-            (same_bind {low2 = lows (a ∷ rest)} (λ x ts. Ok (so ++ (x ∷ []), ts)) (λ q. head a rest q) (λ q. q) (read a s.0 (s.1 ++ f) s.2) (same refl))
-            (repeats_read rest (so ++ (a ∷ [])) s.1 f s.3 e))
-          (ap (λ z. Ok (z, f)) (shift so a rest))))
+      (same_then
+      (same_bind {low2 = lows rest} (loop go (item_step item)) (λ q. q) (λ q. tail a rest q)
+      (same_bind {low2 = lows (a ∷ rest)} (λ x ts. Ok (so ++ (x ∷ []), ts)) (λ q. head a rest q) (λ q. q) (read a s.0 (s.1 ++ f) s.2) (same refl))
+      (repeats_read rest (so ++ (a ∷ [])) s.1 f s.3 e))
+      (ap (λ z. Ok (z, f)) (shift so a rest))))
 
 set_read : (p : Name × Name) (zs f : List Token) → SpellsSet p zs → set (zs ++ f) ≡ Ok (p, f)
 unfolding set field_name
@@ -217,16 +217,16 @@ read_final : (ty : TypeName) (n : Name) → BareRead (FieldM true ty n None)
 unfolding bare_member final_field
 read_final ty n zs f s =
     same (ap (λ z. bare_member (z ++ f)) s.4
-      ∙ ap (λ r. r >>= λ t ts. first a_name ts >>= λ n ts. take_one T.Semicolon ts >>= λ c ts. Ok (FieldM true t n None, ts)) (type_read ty s.0 (name_token n ∷ token T.Semicolon s.2 ∷ f) s.3))
+    ∙ ap (λ r. r >>= λ t ts. first a_name ts >>= λ n ts. take_one T.Semicolon ts >>= λ c ts. Ok (FieldM true t n None, ts)) (type_read ty s.0 (name_token n ∷ token T.Semicolon s.2 ∷ f) s.3))
 
 read_field : (ty : TypeName) (n : Name) (g : Option LockTree) → BareRead (FieldM false ty n g)
 unfolding typed_rest field_rest
 read_field ty n g zs f s =
     let end1 = token T.Semicolon s.2 ∷ f in
     same (ap (λ z. bare_member (z ++ f)) s.5 ∙ ap (λ z. bare_member (s.0 ∷ name_token n ∷ z)) (append_assoc s.1 (token T.Semicolon s.2 ∷ []) f)
-      ∙ typed_member ty s.0 (name_token n ∷ s.1 ++ end1) s.3 refl
-      ∙ if_false (starts (is T.OpenParen) (s.1 ++ end1)) _ _ (guard_first g s.1 f s.2 s.4)
-      ∙ ap (λ r. r >>= λ g ts. take_one T.Semicolon ts >>= λ c ts. Ok (FieldM false ty n g, ts)) (guard_read g s.1 f s.2 s.4))
+    ∙ typed_member ty s.0 (name_token n ∷ s.1 ++ end1) s.3 refl
+    ∙ if_false (starts (is T.OpenParen) (s.1 ++ end1)) _ _ (guard_first g s.1 f s.2 s.4)
+    ∙ ap (λ r. r >>= λ g ts. take_one T.Semicolon ts >>= λ c ts. Ok (FieldM false ty n g, ts)) (guard_read g s.1 f s.2 s.4))
 
 read_ctor : (n : Name) (ps : List Param) (ss : List (Name × Name)) → BareRead (CtorM n ps ss)
 unfolding bare_member named_member ctor_rest
@@ -234,9 +234,9 @@ read_ctor n ps ss zs f s =
     let t = token T.OpenBrace s.4 ∷ s.1 ++ (token T.CloseBrace s.5 ∷ f) in
     at_list bare_member
     (ap (λ z. z ++ f) s.8 ∙ ap (λ z. name_token n ∷ token T.OpenParen s.2 ∷ z) (append_assoc s.0 (token T.CloseParen s.3 ∷ token T.OpenBrace s.4 ∷ s.1 ++ (token T.CloseBrace s.5 ∷ [])) f)
-      ∙ ap (λ z. name_token n ∷ token T.OpenParen s.2 ∷ s.0 ++ (token T.CloseParen s.3 ∷ token T.OpenBrace s.4 ∷ z)) (append_assoc s.1 (token T.CloseBrace s.5 ∷ []) f))
+    ∙ ap (λ z. name_token n ∷ token T.OpenParen s.2 ∷ s.0 ++ (token T.CloseParen s.3 ∷ token T.OpenBrace s.4 ∷ z)) (append_assoc s.1 (token T.CloseBrace s.5 ∷ []) f))
     (same_along (ap (λ r. r >>= λ ps ts. take_one T.OpenBrace ts >>= λ b ts. several goes_on set ts >>= λ ss ts. take_one T.CloseBrace ts >>= λ c ts. Ok (CtorM n ps ss, ts)) (params_read true ps s.0 t s.2 s.3 s.6))
-      (same_bind {low2 = Unit {0}} (λ ss ts. take_one T.CloseBrace ts >>= λ c ts. Ok (CtorM n ps ss, ts)) (λ q. tt) (λ q. tt) (sets_read ss s.1 f s.5 s.7) (same refl)))
+    (same_bind {low2 = Unit {0}} (λ ss ts. take_one T.CloseBrace ts >>= λ c ts. Ok (CtorM n ps ss, ts)) (λ q. tt) (λ q. tt) (sets_read ss s.1 f s.5 s.7) (same refl)))
 
 result_read : (r : Option TypeName) (x : Token) (f : List Token) → IsResultType r x → result_type (x ∷ f) ≡ Ok (r, f)
 unfolding result_type
@@ -266,10 +266,10 @@ read_method m zs f s =
     let rest = token T.OpenBrace s.7 ∷ s.3 ++ (close ∷ []) in
     at_list bare_member
     (ap (λ z. z ++ f) s.13 ∙ append_assoc s.0 (s.4 ∷ name_token m.name ∷ token T.OpenParen s.5 ∷ s.1 ++ (token T.CloseParen s.6 ∷ s.2 ++ rest)) f
-      ∙ ap (λ z. s.0 ++ (s.4 ∷ name_token m.name ∷ token T.OpenParen s.5 ∷ z)) (append_assoc s.1 (token T.CloseParen s.6 ∷ s.2 ++ rest) f
-        ∙ ap (λ z. s.1 ++ (token T.CloseParen s.6 ∷ z)) (append_assoc s.2 rest f ∙ ap (λ z. s.2 ++ (token T.OpenBrace s.7 ∷ z)) (append_assoc s.3 (close ∷ []) f))))
+    ∙ ap (λ z. s.0 ++ (s.4 ∷ name_token m.name ∷ token T.OpenParen s.5 ∷ z)) (append_assoc s.1 (token T.CloseParen s.6 ∷ s.2 ++ rest) f
+    ∙ ap (λ z. s.1 ++ (token T.CloseParen s.6 ∷ z)) (append_assoc s.2 rest f ∙ ap (λ z. s.2 ++ (token T.OpenBrace s.7 ∷ z)) (append_assoc s.3 (close ∷ []) f))))
     (same_along (method_front m.atomic m.returns s.0 s.4 m.name s.5 (s.1 ++ (token T.CloseParen s.6 ∷ s.2 ++ (token T.OpenBrace s.7 ∷ s.3 ++ (close ∷ f)))) s.8 s.9)
-      (method_read m.atomic m.returns m.name m.params m.locks m.body s.1 s.2 s.3 f s.5 s.6 s.7 m.end s.10 s.11 s.12))
+    (method_read m.atomic m.returns m.name m.params m.locks m.body s.1 s.2 s.3 f s.5 s.6 s.7 m.end s.10 s.11 s.12))
 
 bare_read : (m : MemberTree) → BareRead m
 bare_read (FieldM true ty n None) = read_final ty n
@@ -354,10 +354,10 @@ class_read c zs f s =
     let o = optional_read T.Public (λ d. refl) s.0 u s.6 refl in
     at_list class_at
     (ap (λ z. z ++ f) s.9 ∙ append_assoc s.0 (token T.Class s.3 ∷ name_token c.name ∷ s.1 ++ (token T.OpenBrace s.4 ∷ s.2 ++ (close ∷ []))) f
-      ∙ ap (λ z. s.0 ++ (token T.Class s.3 ∷ name_token c.name ∷ z)) (append_assoc s.1 (token T.OpenBrace s.4 ∷ s.2 ++ (close ∷ [])) f ∙ ap (λ z. s.1 ++ (token T.OpenBrace s.4 ∷ z)) (append_assoc s.2 (close ∷ []) f)))
+    ∙ ap (λ z. s.0 ++ (token T.Class s.3 ∷ name_token c.name ∷ z)) (append_assoc s.1 (token T.OpenBrace s.4 ∷ s.2 ++ (close ∷ [])) f ∙ ap (λ z. s.1 ++ (token T.OpenBrace s.4 ∷ z)) (append_assoc s.2 (close ∷ []) f)))
     (same_along (class_is (s.0 ++ u) ∙ ap class_tail o.1
-        ∙ ap (λ r. r >>= λ r ts. take_one T.OpenBrace ts >>= λ b ts. several goes_on member ts >>= λ ms ts. take_one T.CloseBrace ts >>= λ e ts. Ok (make_class c.name r ms, ts)) (runnable_read c.runnable s.1 t s.4 s.7))
-      (same_bind {low2 = highest_member c.members ≤ 64} (λ ms ts. take_one T.CloseBrace ts >>= λ e ts. Ok (make_class c.name c.runnable ms, ts)) (λ q. q) (λ q. q) (members_read c.members s.2 f s.5 s.8) (same refl)))
+    ∙ ap (λ r. r >>= λ r ts. take_one T.OpenBrace ts >>= λ b ts. several goes_on member ts >>= λ ms ts. take_one T.CloseBrace ts >>= λ e ts. Ok (make_class c.name r ms, ts)) (runnable_read c.runnable s.1 t s.4 s.7))
+    (same_bind {low2 = highest_member c.members ≤ 64} (λ ms ts. take_one T.CloseBrace ts >>= λ e ts. Ok (make_class c.name c.runnable ms, ts)) (λ q. q) (λ q. q) (members_read c.members s.2 f s.5 s.8) (same refl)))
 
 any_first : (zs f : List Token) → 0 < length zs → starts (λ x. true) (zs ++ f) ≡ true
 any_first [] f h = absurd (omega (arith, h))
@@ -369,4 +369,4 @@ unfolding program
 program_read t ts s =
     at_list program (sym (append-nil ts))
     (repeats_read class_at SpellsClass (λ x. true) class_takes (λ c. highest_member c.members ≤ 64) (λ t. highest_body t ≤ 64) (λ a r q. omega (arith, q)) (λ a r q. omega (arith, q))
-      (λ c xs f p. any_first xs f (class_long xs c p)) class_read t [] ts [] s refl)
+    (λ c xs f p. any_first xs f (class_long xs c p)) class_read t [] ts [] s refl)

@@ -80,7 +80,7 @@ module _ (h : ℕ) (some : 0 < h) where
   assign_read make v ys f d c s =
       same_bind {low2 = height v < h} (λ v ts. Ok (make v.0 v.1, ts)) (λ q. q) (λ q. q)
       (same_bind {low2 = height v < h} (λ v ts. take_one T.Semicolon ts >>= λ c ts. Ok ((v, d), ts)) (λ q. q) (λ q. q)
-        (reads_any v (reads v) h some ys (token T.Semicolon c ∷ f) s (calm_semicolon 6 c f)) (same refl))
+      (reads_any v (reads v) h some ys (token T.Semicolon c ∷ f) s (calm_semicolon 6 c f)) (same refl))
       (same refl)
 
   abbrev PlainRead : StmtTree → List Token → List Token → Type 0
@@ -97,8 +97,8 @@ module _ (h : ℕ) (some : 0 < h) where
       let end1 = token T.Semicolon s.1 in
       at_list (plain_statement h b) (ap (λ z. z ++ f) s.3 ∙ ap (λ z. token T.Return at ∷ z) (append_assoc s.0 (end1 ∷ []) f))
       (same_along (if_false (starts (is T.Semicolon) (s.0 ++ (end1 ∷ f))) _ _ (no_semicolon e s.0 (end1 ∷ f) s.2))
-        (same_bind {low2 = stmt_height (ReturnS (Some e) at) ≤ h} (λ e ts. take_one T.Semicolon ts >>= λ c ts. Ok (ReturnS (Some e) at, ts)) (λ q. omega (arith, q)) (λ q. q)
-          (reads_any e (reads e) h some s.0 (end1 ∷ f) s.2 (calm_semicolon 6 s.1 f)) (same refl)))
+      (same_bind {low2 = stmt_height (ReturnS (Some e) at) ≤ h} (λ e ts. take_one T.Semicolon ts >>= λ c ts. Ok (ReturnS (Some e) at, ts)) (λ q. omega (arith, q)) (λ q. q)
+      (reads_any e (reads e) h some s.0 (end1 ∷ f) s.2 (calm_semicolon 6 s.1 f)) (same refl)))
 
   read_print : (e : ExprTree) (at : ℕ) (zs f : List Token) → SpellsStmt (PrintS e at) zs → PlainRead (PrintS e at) zs f
   unfolding plain_statement print_statement
@@ -107,7 +107,7 @@ module _ (h : ℕ) (some : 0 < h) where
       let end1 = token T.Semicolon s.7 in
       at_list (plain_statement h b) (ap (λ z. z ++ f) s.9 ∙ ap (λ z. token T.System at ∷ token T.Dot s.1 ∷ token T.Out s.2 ∷ token T.Dot s.3 ∷ token T.Println s.4 ∷ token T.OpenParen s.5 ∷ z) (append_assoc s.0 (close ∷ end1 ∷ []) f))
       (same_bind {low2 = stmt_height (PrintS e at) ≤ h} (λ v ts. take_one T.Semicolon ts >>= λ c ts. Ok (PrintS v at, ts)) (λ q. omega (arith, q)) (λ q. q)
-        (condition_read e s.0 (end1 ∷ f) s.5 s.6 s.8) (same refl))
+      (condition_read e s.0 (end1 ∷ f) s.5 s.6 s.8) (same refl))
 
   read_start : (e : ExprTree) (at : ℕ) (zs f : List Token) → SpellsStmt (StartS e at) zs → PlainRead (StartS e at) zs f
   unfolding plain_statement new_statement start_rest
@@ -115,7 +115,7 @@ module _ (h : ℕ) (some : 0 < h) where
       let end1 = token T.Dot s.4 ∷ token T.Start s.5 ∷ token T.OpenParen s.6 ∷ token T.CloseParen s.7 ∷ token T.Semicolon s.8 ∷ [] in
       at_list (plain_statement h b) (ap (λ z. z ++ f) s.10 ∙ ap (λ z. token T.New at ∷ token T.Thread s.1 ∷ token T.OpenParen s.2 ∷ z) (append_assoc s.0 (token T.CloseParen s.3 ∷ end1) f))
       (same_bind {low2 = stmt_height (StartS e at) ≤ h} (λ v ts. take_one T.Dot ts >>= λ d ts. take_one T.Start ts >>= λ s ts. take_one T.OpenParen ts >>= λ o ts. take_one T.CloseParen ts >>= λ c ts. take_one T.Semicolon ts >>= λ e ts. Ok (StartS v at, ts))
-        (λ q. omega (arith, q)) (λ q. q) (condition_read e s.0 (end1 ++ f) s.2 s.3 s.9) (same refl))
+      (λ q. omega (arith, q)) (λ q. q) (condition_read e s.0 (end1 ++ f) s.2 s.3 s.9) (same refl))
 
   local_rest_read : (fin : Bool) (ty : TypeName) (at : ℕ) (n : Name) (v : ExprTree) (ys f : List Token) (d c : ℕ) → Spells v ys
       → Same (stmt_height (LocalS fin ty n v at) ≤ h) (local_rest h fin ty at (name_token n ∷ token T.Assign d ∷ ys ++ (token T.Semicolon c ∷ f))) (Ok (LocalS fin ty n v at, f))
@@ -131,7 +131,7 @@ module _ (h : ℕ) (some : 0 < h) where
       let same_at : p.0 ≡ at = sym (a ∙ ap (λ z. offset (z ++ (x ∷ []))) p.1) in
       at_list (plain_statement h true) (ap (λ z. z ++ (x ∷ end1)) p.1)
       (same_along (ap (λ r. r >>= λ t ts. local_rest h true t p.0 ts) (type_read ty x end1 i))
-        (subst (λ z. Same (stmt_height (LocalS true ty n v at) ≤ h) (local_rest h true ty z end1) (Ok (LocalS true ty n v at, f))) (sym same_at) (local_rest_read true ty at n v ys f d c s)))
+      (subst (λ z. Same (stmt_height (LocalS true ty n v at) ≤ h) (local_rest h true ty z end1) (Ok (LocalS true ty n v at, f))) (sym same_at) (local_rest_read true ty at n v ys f d c s)))
   local_read false Y.Int at n v fs ys f x d c p i s a =
       let end1 = name_token n ∷ token T.Assign d ∷ ys ++ (token T.Semicolon c ∷ f) in
       let same_at : x.at ≡ at = sym (a ∙ ap (λ z. offset (z ++ (x ∷ []))) p) in
@@ -220,7 +220,7 @@ module _ (h : ℕ) (some : 0 < h) where
       let t = token T.Assign at ∷ s.0 ++ (token T.Semicolon s.1 ∷ f) in
       at_list (plain_statement h b) (ap (λ z. z ++ f) s.3 ∙ ap (λ z. name_token n ∷ token T.Assign at ∷ z) (append_assoc s.0 (token T.Semicolon s.1 ∷ []) f))
       (post_read (VarE n) b (name_token n ∷ []) t refl refl refl refl refl (λ q. omega (arith, some))
-        (same_weaker (λ q. omega (arith, q)) (assign_read (SetVarS n) v s.0 f at s.1 s.2)))
+      (same_weaker (λ q. omega (arith, q)) (assign_read (SetVarS n) v s.0 f at s.1 s.2)))
 
   read_set_field : (e : ExprTree) (n : Name) (v : ExprTree) (at : ℕ) (zs f : List Token) → SpellsStmt (SetFieldS e n v at) zs → PlainRead (SetFieldS e n v at) zs f
   unfolding finish
@@ -229,10 +229,10 @@ module _ (h : ℕ) (some : 0 < h) where
       let front = token T.Dot s.2 ∷ name_token n ∷ [] in
       at_list (plain_statement h b)
       (ap (λ z. z ++ f) s.7 ∙ append_assoc s.0 (token T.Dot s.2 ∷ name_token n ∷ token T.Assign at ∷ s.1 ++ (token T.Semicolon s.3 ∷ [])) f
-        ∙ ap (λ z. s.0 ++ (token T.Dot s.2 ∷ name_token n ∷ token T.Assign at ∷ z)) (append_assoc s.1 (token T.Semicolon s.3 ∷ []) f)
-        ∙ sym (append_assoc s.0 front t))
+      ∙ ap (λ z. s.0 ++ (token T.Dot s.2 ∷ name_token n ∷ token T.Assign at ∷ z)) (append_assoc s.1 (token T.Semicolon s.3 ∷ []) f)
+      ∙ sym (append_assoc s.0 front t))
       (post_read (GetE e n) b (s.0 ++ front) t (s.0, s.2, s.4, s.5, refl) refl refl refl refl (λ q. omega (arith, q))
-        (same_weaker (λ q. omega (arith, q)) (assign_read (SetFieldS e n) v s.1 f at s.3 s.6)))
+      (same_weaker (λ q. omega (arith, q)) (assign_read (SetFieldS e n) v s.1 f at s.3 s.6)))
 
   call_postfix : (e : ExprTree) → is_call e ≡ true → is_postfix e ≡ true
   call_postfix (NumberE n at) c = cc
@@ -260,8 +260,8 @@ module _ (h : ℕ) (some : 0 < h) where
       let place : first_at e ≡ at = first_is e s.0 s.2 ∙ sym (offset_left s.0 (end1 ∷ []) (spelled_long e s.0 s.2)) ∙ sym (ap offset s.5) ∙ sym s.4 in
       at_list (plain_statement h b) (ap (λ z. z ++ f) s.5 ∙ append_assoc s.0 (end1 ∷ []) f)
       (post_read e b s.0 (end1 ∷ f) s.2 (call_postfix e s.3) refl refl refl (λ q. omega (arith, q))
-        (same_along (if_true (is_call e) (call_end h e (end1 ∷ f)) (target h e (end1 ∷ f)) s.3)
-          (same_allow (nat_lt (height e) h) (end1 ∷ f) (λ i q. let k : h ≤ height e = ltb-false (height e) h i in omega (arith, k, q)) (λ i. same (ap (λ z. Ok (DoS e z, f)) place)))))
+      (same_along (if_true (is_call e) (call_end h e (end1 ∷ f)) (target h e (end1 ∷ f)) s.3)
+      (same_allow (nat_lt (height e) h) (end1 ∷ f) (λ i q. let k : h ≤ height e = ltb-false (height e) h i in omega (arith, k, q)) (λ i. same (ap (λ z. Ok (DoS e z, f)) place)))))
 
 -- the first tokens of statements
 
@@ -444,7 +444,7 @@ from_plain : (s : StmtTree) → is_plain s ≡ true → ((h : ℕ) (some : 0 < h
 unfolding Other
 from_plain s i r =
     from_with s (λ h some b zs f p l o.
-      same_along (skip h b (zs ++ f) (no_brace s zs f p i) (no_if s zs f p i) (no_while s zs f p i) (no_sync s zs f p i)) (r h some zs f p b l))
+    same_along (skip h b (zs ++ f) (no_brace s zs f p i) (no_if s zs f p i) (no_while s zs f p i) (no_sync s zs f p i)) (r h some zs f p b l))
 
 -- the items of a block, behind those so far
 abbrev pub ItemsRead : StmtTrees → Type 0
@@ -453,9 +453,12 @@ ItemsRead ss = (h : ℕ) (so : List StmtTree) (zs f : List Token) (c : ℕ) → 
     × Same (stmt_heights ss ≤ h) (loop goes_on (item_step (statement_at h true)) so (zs ++ (token T.CloseBrace c ∷ f))) (Ok (so ++ more, token T.CloseBrace c ∷ f))
 
 items_none : ItemsRead no_stmts
-items_none h so zs f c s =
-    ([], refl, at_list (loop goes_on (item_step (statement_at h true)) so) (ap (λ z. z ++ (token T.CloseBrace c ∷ f)) s)
-      (same (statement_done h so (token T.CloseBrace c ∷ f) refl ∙ ap (λ z. Ok (z, token T.CloseBrace c ∷ f)) (sym (append-nil so)))))
+items_none h so zs f c s = (
+  [],
+  refl,
+  at_list (loop goes_on (item_step (statement_at h true)) so) (ap (λ z. z ++ (token T.CloseBrace c ∷ f)) s)
+      (same (statement_done h so (token T.CloseBrace c ∷ f) refl ∙ ap (λ z. Ok (z, token T.CloseBrace c ∷ f)) (sym (append-nil so)))),
+)
 
 items_no_else : (ss : StmtTrees) (zs f : List Token) (c : ℕ) → SpellsStmts ss zs → starts (is T.Else) (zs ++ (token T.CloseBrace c ∷ f)) ≡ false
 items_no_else no_stmts zs f c s = ap (λ z. starts (is T.Else) (z ++ (token T.CloseBrace c ∷ f))) s
@@ -467,16 +470,18 @@ items_some : (s : StmtTree) (ss : StmtTrees) → StmtRead s → ItemsRead ss →
 items_some s ss r m h so zs f c p =
     let end1 = token T.CloseBrace c ∷ f in
     let rest = m h (so ++ (s ∷ [])) p.1 f c p.3 in
-    let go = loop goes_on (item_step (statement_at h true)) in
-    (s ∷ rest.0, ap (more_stmts s) rest.1,
+    let go = loop goes_on (item_step (statement_at h true)) in (
+      s ∷ rest.0,
+      ap (more_stmts s) rest.1,
       at_list (go so) (ap (λ z. z ++ end1) p.4 ∙ append_assoc p.0 p.1 end1)
-      (same_along (statement_more h so (p.0 ++ (p.1 ++ end1)) (stmt_goes_on s p.0 (p.1 ++ end1) p.2))
-        (same_then
+          (same_along (statement_more h so (p.0 ++ (p.1 ++ end1)) (stmt_goes_on s p.0 (p.1 ++ end1) p.2))
+          (same_then
           (same_bind {low2 = stmt_heights ss ≤ h} go (λ q. q) (λ q. omega (arith, q))
-            (same_bind {low2 = stmt_heights (more_stmts s ss) ≤ h} (λ x ts. Ok (so ++ (x ∷ []), ts)) (λ q. omega (arith, q)) (λ q. q)
-              (r h true p.0 (p.1 ++ end1) p.2 (λ e. cc) (λ o. items_no_else ss p.1 f c p.3)) (same refl))
-            rest.2)
-          (ap (λ z. Ok (z, end1)) (shift so s rest.0)))))
+          (same_bind {low2 = stmt_heights (more_stmts s ss) ≤ h} (λ x ts. Ok (so ++ (x ∷ []), ts)) (λ q. omega (arith, q)) (λ q. q)
+          (r h true p.0 (p.1 ++ end1) p.2 (λ e. cc) (λ o. items_no_else ss p.1 f c p.3)) (same refl))
+          rest.2)
+          (ap (λ z. Ok (z, end1)) (shift so s rest.0)))),
+    )
 
 -- a block
 braces_read : (ss : StmtTrees) → ItemsRead ss → (h : ℕ) (zs f : List Token) (b c : ℕ) → SpellsStmts ss zs
@@ -484,9 +489,11 @@ braces_read : (ss : StmtTrees) → ItemsRead ss → (h : ℕ) (zs f : List Token
     × Same (stmt_heights ss ≤ h) (braces (statement_at h true) (token T.OpenBrace b ∷ zs ++ (token T.CloseBrace c ∷ f))) (Ok ((b, more, c), f))
 unfolding braces
 braces_read ss r h zs f b c s =
-    let items = r h [] zs f c s in
-    (items.0, items.1,
-      same_bind {low2 = stmt_heights ss ≤ h} (λ ss ts. take_one T.CloseBrace ts >>= λ c ts. Ok ((b, ss, c), ts)) (λ q. q) (λ q. q) items.2 (same refl))
+    let items = r h [] zs f c s in (
+      items.0,
+      items.1,
+      same_bind {low2 = stmt_heights ss ≤ h} (λ ss ts. take_one T.CloseBrace ts >>= λ c ts. Ok ((b, ss, c), ts)) (λ q. q) (λ q. q) items.2 (same refl),
+    )
 
 pub block_read : (ss : StmtTrees) → ItemsRead ss → (h : ℕ) (zs f : List Token) (b c : ℕ) → SpellsStmts ss zs
     → (more : List StmtTree) × (stmts_from more ≡ ss)
@@ -506,7 +513,7 @@ read_block ss at r h some b zs f s l o =
     let whole = braces_read ss r (h - 1) s.0 f at s.1 s.2 in
     at_list (statement_with h (statement_at (h - 1)) (block_at (h - 1)) b) (ap (λ z. z ++ f) s.3 ∙ ap (λ z. token T.OpenBrace at ∷ z) (append_assoc s.0 (close ∷ []) f))
     (same_bind {low2 = stmt_height (BlockS ss at) ≤ h} (λ b ts. Ok (BlockS (stmts_from b.1) b.0, ts)) (λ q. omega (arith, q)) (λ q. q) whole.2
-      (same (ap (λ z. Ok (BlockS z at, f)) whole.1)))
+    (same (ap (λ z. Ok (BlockS z at, f)) whole.1)))
 
 read_sync : (k : LockTree) (ss : StmtTrees) (at : ℕ) → ItemsRead ss → WithRead (SyncS k ss at)
 unfolding statement_with sync_statement
@@ -516,10 +523,10 @@ read_sync k ss at r h some b zs f s l o =
     let whole = block_read ss r (h - 1) s.1 f s.4 s.5 s.7 in
     at_list (statement_with h (statement_at (h - 1)) (block_at (h - 1)) b)
     (ap (λ z. z ++ f) s.8 ∙ ap (λ z. token T.Synchronized at ∷ token T.OpenParen s.2 ∷ z) (append_assoc s.0 (token T.CloseParen s.3 ∷ token T.OpenBrace s.4 ∷ s.1 ++ (close ∷ [])) f)
-      ∙ ap (λ z. token T.Synchronized at ∷ token T.OpenParen s.2 ∷ s.0 ++ (token T.CloseParen s.3 ∷ token T.OpenBrace s.4 ∷ z)) (append_assoc s.1 (close ∷ []) f))
+    ∙ ap (λ z. token T.Synchronized at ∷ token T.OpenParen s.2 ∷ s.0 ++ (token T.CloseParen s.3 ∷ token T.OpenBrace s.4 ∷ z)) (append_assoc s.1 (close ∷ []) f))
     (same_along (ap (λ r. r >>= λ l ts. take_one T.CloseParen ts >>= λ c ts. block_at (h - 1) ts >>= λ b ts. Ok (SyncS l (stmts_from b.1) at, ts)) (lock_read k s.0 (token T.CloseParen s.3 ∷ t) s.6 refl))
-      (same_bind {low2 = stmt_height (SyncS k ss at) ≤ h} (λ b ts. Ok (SyncS k (stmts_from b.1) at, ts)) (λ q. omega (arith, q)) (λ q. q) whole.2
-        (same (ap (λ z. Ok (SyncS k z at, f)) whole.1))))
+    (same_bind {low2 = stmt_height (SyncS k ss at) ≤ h} (λ b ts. Ok (SyncS k (stmts_from b.1) at, ts)) (λ q. omega (arith, q)) (λ q. q) whole.2
+    (same (ap (λ z. Ok (SyncS k z at, f)) whole.1))))
 
 read_if : (e : ExprTree) (t : StmtTree) (at : ℕ) → StmtRead t → WithRead (IfS e t at)
 unfolding statement_with if_statement else_part
@@ -528,10 +535,10 @@ read_if e t at r h some b zs f s l o =
     at_list (statement_with h (statement_at (h - 1)) (block_at (h - 1)) b)
     (ap (λ z. z ++ f) s.7 ∙ ap (λ z. token T.If at ∷ token T.OpenParen s.2 ∷ z) (append_assoc s.0 (token T.CloseParen s.3 ∷ s.1) f))
     (same_bind {low2 = stmt_height (IfS e t at) ≤ h} (λ e ts. statement_at (h - 1) false ts >>= λ s ts. else_part h (statement_at (h - 1)) (block_at (h - 1)) at e s ts) (λ q. omega (arith, q)) (λ q. q)
-      (condition_read h some e s.0 (s.1 ++ f) s.2 s.3 s.4)
-      (same_bind {low2 = stmt_height (IfS e t at) ≤ h} (λ s ts. else_part h (statement_at (h - 1)) (block_at (h - 1)) at e s ts) (λ q. omega (arith, q)) (λ q. q)
-        (r (h - 1) false s.1 f s.5 (λ _. s.6) (λ _. o refl))
-        (same (if_false (starts (is T.Else) f) _ _ (o refl)))))
+    (condition_read h some e s.0 (s.1 ++ f) s.2 s.3 s.4)
+    (same_bind {low2 = stmt_height (IfS e t at) ≤ h} (λ s ts. else_part h (statement_at (h - 1)) (block_at (h - 1)) at e s ts) (λ q. omega (arith, q)) (λ q. q)
+    (r (h - 1) false s.1 f s.5 (λ _. s.6) (λ _. o refl))
+    (same (if_false (starts (is T.Else) f) _ _ (o refl)))))
 
 read_if_else : (e : ExprTree) (t u : StmtTree) (at : ℕ) → StmtRead t → StmtRead u → WithRead (IfElseS e t u at)
 unfolding statement_with if_statement else_part
@@ -539,13 +546,13 @@ read_if_else e t u at r q h some b zs f s l o =
     let end1 = token T.Else s.5 ∷ s.2 ++ f in
     at_list (statement_with h (statement_at (h - 1)) (block_at (h - 1)) b)
     (ap (λ z. z ++ f) s.12 ∙ ap (λ z. token T.If at ∷ token T.OpenParen s.3 ∷ z) (append_assoc s.0 (token T.CloseParen s.4 ∷ s.1 ++ (token T.Else s.5 ∷ s.2)) f)
-      ∙ ap (λ z. token T.If at ∷ token T.OpenParen s.3 ∷ s.0 ++ (token T.CloseParen s.4 ∷ z)) (append_assoc s.1 (token T.Else s.5 ∷ s.2) f))
+    ∙ ap (λ z. token T.If at ∷ token T.OpenParen s.3 ∷ s.0 ++ (token T.CloseParen s.4 ∷ z)) (append_assoc s.1 (token T.Else s.5 ∷ s.2) f))
     (same_bind {low2 = stmt_height (IfElseS e t u at) ≤ h} (λ e ts. statement_at (h - 1) false ts >>= λ s ts. else_part h (statement_at (h - 1)) (block_at (h - 1)) at e s ts) (λ q. omega (arith, q)) (λ q. q)
-      (condition_read h some e s.0 (s.1 ++ end1) s.3 s.4 s.6)
-      (same_bind {low2 = stmt_height (IfElseS e t u at) ≤ h} (λ s ts. else_part h (statement_at (h - 1)) (block_at (h - 1)) at e s ts) (λ q. omega (arith, q)) (λ q. q)
-        (r (h - 1) false s.1 end1 s.7 (λ _. s.9) (λ i. let k = s.11 in cc))
-        (same_bind {low2 = stmt_height (IfElseS e t u at) ≤ h} (λ u ts. Ok (IfElseS e t u at, ts)) (λ q. omega (arith, q)) (λ q. q)
-          (q (h - 1) false s.2 f s.8 (λ _. s.10) o) (same refl))))
+    (condition_read h some e s.0 (s.1 ++ end1) s.3 s.4 s.6)
+    (same_bind {low2 = stmt_height (IfElseS e t u at) ≤ h} (λ s ts. else_part h (statement_at (h - 1)) (block_at (h - 1)) at e s ts) (λ q. omega (arith, q)) (λ q. q)
+    (r (h - 1) false s.1 end1 s.7 (λ _. s.9) (λ i. let k = s.11 in cc))
+    (same_bind {low2 = stmt_height (IfElseS e t u at) ≤ h} (λ u ts. Ok (IfElseS e t u at, ts)) (λ q. omega (arith, q)) (λ q. q)
+    (q (h - 1) false s.2 f s.8 (λ _. s.10) o) (same refl))))
 
 read_while : (e : ExprTree) (t : StmtTree) (at : ℕ) → StmtRead t → WithRead (WhileS e t at)
 unfolding statement_with while_statement
@@ -553,9 +560,9 @@ read_while e t at r h some b zs f s l o =
     at_list (statement_with h (statement_at (h - 1)) (block_at (h - 1)) b)
     (ap (λ z. z ++ f) s.7 ∙ ap (λ z. token T.While at ∷ token T.OpenParen s.2 ∷ z) (append_assoc s.0 (token T.CloseParen s.3 ∷ s.1) f))
     (same_bind {low2 = stmt_height (WhileS e t at) ≤ h} (λ e ts. statement_at (h - 1) false ts >>= λ s ts. Ok (WhileS e s at, ts)) (λ q. omega (arith, q)) (λ q. q)
-      (condition_read h some e s.0 (s.1 ++ f) s.2 s.3 s.4)
-      (same_bind {low2 = stmt_height (WhileS e t at) ≤ h} (λ s ts. Ok (WhileS e s at, ts)) (λ q. omega (arith, q)) (λ q. q)
-        (r (h - 1) false s.1 f s.5 (λ _. s.6) o) (same refl)))
+    (condition_read h some e s.0 (s.1 ++ f) s.2 s.3 s.4)
+    (same_bind {low2 = stmt_height (WhileS e t at) ≤ h} (λ s ts. Ok (WhileS e s at, ts)) (λ q. omega (arith, q)) (λ q. q)
+    (r (h - 1) false s.1 f s.5 (λ _. s.6) o) (same refl)))
 
 mutual
   pub stmt_reads : (s : StmtTree) → StmtRead s

@@ -174,8 +174,8 @@ leaf_some x h =
     or_else (is_number x || is T.True x || is T.False x) (is T.Null x) (λ h.
     or_else (is_number x || is T.True x) (is T.False x) (λ h.
     or_else (is_number x) (is T.True x) (λ h.
-      is_some_cases (a_number x) h (λ n e. let k = number_is x.kind x.text x.at n e in
-        ([], NumberE n.0 n.1, (k.0, k.1, ap (λ z. z ∷ []) k.2), refl, refl)))
+    is_some_cases (a_number x) h (λ n e. let k = number_is x.kind x.text x.at n e in
+    ([], NumberE n.0 n.1, (k.0, k.1, ap (λ z. z ∷ []) k.2), refl, refl)))
     (λ e. ([], TruthE true x.at, ap (λ z. z ∷ []) (is_token T.True x e), refl, refl)) h)
     (λ e. ([], TruthE false x.at, ap (λ z. z ∷ []) (is_token T.False x e), refl, refl)) h)
     (λ e. ([], NullE x.at, ap (λ z. z ∷ []) (is_token T.Null x e), refl, refl)) h)
@@ -183,12 +183,22 @@ leaf_some x h =
     (λ h. is_some_cases (a_name x) h (λ n e. ([], VarE n, ap (λ z. z ∷ []) (name_if_is x.kind x.text x.at n e), refl, refl))) h
 
 pub paren_some : (x : Token) → is T.OpenParen x ≡ true → Completes x
-paren_some x e = (name_token x_name ∷ token T.CloseParen 0 ∷ [], ParenE (VarE x_name) x.at,
-    (name_token x_name ∷ [], 0, refl, ap (λ z. z ∷ name_token x_name ∷ token T.CloseParen 0 ∷ []) (is_token T.OpenParen x e)), refl, refl)
+paren_some x e = (
+  name_token x_name ∷ token T.CloseParen 0 ∷ [],
+  ParenE (VarE x_name) x.at,
+  (name_token x_name ∷ [], 0, refl, ap (λ z. z ∷ name_token x_name ∷ token T.CloseParen 0 ∷ []) (is_token T.OpenParen x e)),
+  refl,
+  refl,
+)
 
 pub new_some : (x : Token) → is T.New x ≡ true → Completes x
-new_some x e = (name_token x_name ∷ token T.OpenParen 0 ∷ token T.CloseParen 0 ∷ [], NewE x_name no_exprs x.at,
-    ([], 0, 0, refl, ap (λ z. z ∷ name_token x_name ∷ token T.OpenParen 0 ∷ token T.CloseParen 0 ∷ []) (is_token T.New x e)), refl, refl)
+new_some x e = (
+  name_token x_name ∷ token T.OpenParen 0 ∷ token T.CloseParen 0 ∷ [],
+  NewE x_name no_exprs x.at,
+  ([], 0, 0, refl, ap (λ z. z ∷ name_token x_name ∷ token T.OpenParen 0 ∷ token T.CloseParen 0 ∷ []) (is_token T.New x e)),
+  refl,
+  refl,
+)
 
 drop_postfix : (x : Token) → Completes x → CompletesAny x
 drop_postfix x c = (c.0, c.1, c.2, c.3)
@@ -210,7 +220,7 @@ pub right_leaf : (ts : List Token) → Right leaf Postfix (λ e r. height e ≡ 
 unfolding leaf
 right_leaf ts =
     right_if (λ h. right_one (right_number ts) (λ n. ([], NumberE n.0 n.1, λ x c. ((c.0, c.1, ap (λ z. z ∷ []) c.2), refl)))
-      (λ n r. right_done (λ x c. ((c.0, c.1, ap (λ z. z ∷ []) c.2), refl)) refl)) (λ h.
+    (λ n r. right_done (λ x c. ((c.0, c.1, ap (λ z. z ∷ []) c.2), refl)) refl)) (λ h.
     right_if (λ h. right_tok T.True (λ d. ([], TruthE true d, (refl, refl))) (λ d r. right_done (refl, refl) refl)) (λ h.
     right_if (λ h. right_tok T.False (λ d. ([], TruthE false d, (refl, refl))) (λ d r. right_done (refl, refl) refl)) (λ h.
     right_if (λ h. right_tok T.Null (λ d. ([], NullE d, (refl, refl))) (λ d r. right_done (refl, refl) refl)) (λ h.
@@ -233,14 +243,13 @@ pub level_long : (zs : List Token) (e : ExprTree) → Level 6 zs e → 0 < lengt
 level_long zs e l = spelled_long e zs l.0
 
 module _ (h : ℕ) (some : 0 < h) (inner : ℕ → List Token → Res ExprTree) (law : Below h inner) where
-
   pub right_arguments : (ts : List Token) → Right (arguments h inner) (λ zs es. SpellsArgs (exprs_from es) zs) (λ es r. All_below h es) ts
   unfolding arguments
   right_arguments ts =
       right_if (λ e. right_done refl some)
       (λ e. right_separated (inner 6) (Level 6) (λ e r. height e < h) (name_token x_name ∷ [], VarE x_name, x_is) level_long (All_below h) (more_below h)
-        (law 6 (omega arith)) (λ es ys. SpellsMoreArgs (exprs_from es) ys) refl (λ a rest d xs ys p q. (xs, ys, d, p.0, q, refl))
-        (λ es zs. SpellsArgs (exprs_from es) zs) (λ a rest xs ys p q. (xs, ys, p.0, q, refl)) some ts)
+      (law 6 (omega arith)) (λ es ys. SpellsMoreArgs (exprs_from es) ys) refl (λ a rest d xs ys p q. (xs, ys, d, p.0, q, refl))
+      (λ es zs. SpellsArgs (exprs_from es) zs) (λ a rest xs ys p q. (xs, ys, p.0, q, refl)) some ts)
 
   abbrev pub CallArgs : List Token → List ExprTree → Type 0
   CallArgs zs es = (o c : ℕ) × (ys : List Token) × SpellsArgs (exprs_from es) ys × (zs ≡ token T.OpenParen o ∷ ys ++ (token T.CloseParen c ∷ []))
@@ -295,7 +304,7 @@ module _ (h : ℕ) (some : 0 < h) (inner : ℕ → List Token → Res ExprTree) 
   unfolding member_rest
   right_member_rest e n low ts =
       right_if (λ i. right_seq (right_call_arguments ts) (λ es. ([], CallE e n (exprs_from es), λ zs a d. call_adds e n es d zs a))
-        (λ es r q. right_done (λ zs a d. call_adds e n es d zs a) (omega (arith, q, low))))
+      (λ es r q. right_done (λ zs a d. call_adds e n es d zs a) (omega (arith, q, low))))
       (λ i. right_done (λ d. get_adds e n d) (omega (arith, low)))
 
   abbrev pub Step : ExprTree → List Token → ExprTree → Type 0
@@ -308,7 +317,7 @@ module _ (h : ℕ) (some : 0 < h) (inner : ℕ → List Token → Res ExprTree) 
       right_allow (nat_lt (height e) h)
       (x ∷ name_token x_name ∷ [], GetE e x_name, (λ ys l. ((ys, x.at, l.0, l.1, ap (λ z. ys ++ (z ∷ name_token x_name ∷ [])) (is_token T.Dot x g)), refl), omega arith), refl)
       (λ low. right_field (λ n. ([], GetE e n, λ d. (get_adds e n d, omega arith)))
-        (λ n r. right_weaker (λ zs b m d. (m d, omega arith)) (λ b r q k. q) (right_member_rest e n (ltb-true (height e) h low) r)))
+      (λ n r. right_weaker (λ zs b m d. (m d, omega arith)) (λ b r q k. q) (right_member_rest e n (ltb-true (height e) h low) r)))
 
   nil_adds : (e : ExprTree) → Adds e [] e
   nil_adds e xs l = subst (λ z. Postfix z e) (sym (append-nil xs)) l
@@ -333,9 +342,9 @@ module _ (h : ℕ) (some : 0 < h) (inner : ℕ → List Token → Res ExprTree) 
   unfolding negated
   right_negated at ts =
       right_if (λ e. right_one (right_least ts) (λ d. ([], LeastE at, λ x c. ((c.0, d, ap (λ z. token T.Minus at ∷ z ∷ []) c.1), omega arith)))
-        (λ d r. right_done (λ x c. ((c.0, d, ap (λ z. token T.Minus at ∷ z ∷ []) c.1), omega arith)) (omega (arith, some))))
+      (λ d r. right_done (λ x c. ((c.0, d, ap (λ z. token T.Minus at ∷ z ∷ []) c.1), omega arith)) (omega (arith, some))))
       (λ e. right_seq (law 0 (omega arith) ts) (λ e. ([], NegE e at, λ xs l. (neg_is e at xs l, omega arith)))
-        (λ e r q. right_done (λ xs l. (neg_is e at xs l, omega arith)) (omega (arith, q))))
+      (λ e r q. right_done (λ xs l. (neg_is e at xs l, omega arith)) (omega (arith, q))))
     where
       neg_is : (e : ExprTree) (at : ℕ) (xs : List Token) → Level 0 xs e → Spells (NegE e at) (token T.Minus at ∷ xs ++ [])
       neg_is e at xs l = (xs, l.0, omega (arith, l.1), ap (λ z. token T.Minus at ∷ z) (append-nil xs))
@@ -362,8 +371,8 @@ module _ (h : ℕ) (some : 0 < h) (inner : ℕ → List Token → Res ExprTree) 
   unfolding unary
   right_unary ts =
       right_if (λ e. right_tok T.Bang (λ d. (name_token x_name ∷ [], NotE (VarE x_name) d, ((name_token x_name ∷ [], refl, refl, refl), omega arith))) (λ d r.
-        right_seq (law 0 (omega arith) r) (λ e. ([], NotE e d, λ xs l. (not_is e d xs l, omega arith)))
-        (λ e r q. right_done (λ xs l. (not_is e d xs l, omega arith)) (omega (arith, q))))) (λ e.
+      right_seq (law 0 (omega arith) r) (λ e. ([], NotE e d, λ xs l. (not_is e d xs l, omega arith)))
+      (λ e r q. right_done (λ xs l. (not_is e d xs l, omega arith)) (omega (arith, q))))) (λ e.
       right_if (λ e. right_tok T.Minus (λ d. (name_token x_name ∷ [], NegE (VarE x_name) d, ((name_token x_name ∷ [], refl, refl, refl), omega arith))) (λ d r. right_negated d r)) (λ e.
       right_weaker (λ zs b l. (l.0, postfix_level b l.1)) (λ b r q. q) (right_postfix ts)))
 
@@ -376,14 +385,29 @@ module _ (h : ℕ) (some : 0 < h) (inner : ℕ → List Token → Res ExprTree) 
 
   binary_is : (k : ℕ) (e f : ExprTree) (o : Op × ℕ) (x : Token) (ys : List Token) → OpToken (suc k) x o → Level k ys f
       → OpStep k e (x ∷ ys ++ []) (BinaryE o.0 e f o.1)
-  binary_is k e f o x ys t l =
-      (λ xs m. ((xs, ys, m.0, l.0, omega (arith, m.1, t.0), omega (arith, l.1, t.0),
-        ap (λ z. xs ++ (x ∷ z)) (append-nil ys) ∙ ap (λ z. xs ++ (z ∷ ys)) t.1), omega (arith, t.0)), omega arith)
+  binary_is k e f o x ys t l = (
+    λ xs m. (
+      (
+        xs,
+        ys,
+        m.0,
+        l.0,
+        omega (arith, m.1, t.0),
+        omega (arith, l.1, t.0),
+        ap (λ z. xs ++ (x ∷ z)) (append-nil ys) ∙ ap (λ z. xs ++ (z ∷ ys)) t.1,
+      ),
+      omega (arith, t.0),
+    ),
+    omega arith,
+  )
 
   op_through : (k : ℕ) (e : ExprTree) (x : Token) (p : Option (Op × ℕ)) → an_op (suc k) x ≡ p → is_some p ≡ true
       → (more : List Token) × (b : ExprTree) × OpStep k e (x ∷ more) b
-  op_through k e x (Some o) is g = (name_token x_name ∷ [], BinaryE o.0 e (VarE x_name) o.1,
-      binary_is k e (VarE x_name) o x (name_token x_name ∷ []) (op_token (suc k) x (op_of x) o refl is) (refl, omega arith))
+  op_through k e x (Some o) is g = (
+    name_token x_name ∷ [],
+    BinaryE o.0 e (VarE x_name) o.1,
+    binary_is k e (VarE x_name) o x (name_token x_name ∷ []) (op_token (suc k) x (op_of x) o refl is) (refl, omega arith),
+  )
   op_through k e x None is g = cc
 
   pub right_op_step : (k : ℕ) → k < 6 → (e : ExprTree) (x : Token) (xs : List Token) → is_op (suc k) x ≡ true
@@ -393,9 +417,9 @@ module _ (h : ℕ) (some : 0 < h) (inner : ℕ → List Token → Res ExprTree) 
       let t = op_through k e x (an_op (suc k) x) refl g in
       right_allow (nat_lt (height e) h) (x ∷ t.0, t.1, t.2, refl)
       (λ low. right_one (right_op k small (x ∷ xs))
-        (λ o. (name_token x_name ∷ [], BinaryE o.0 e (VarE x_name) o.1, λ x t. binary_is k e (VarE x_name) o x (name_token x_name ∷ []) t (refl, omega arith)))
-        (λ o r. right_seq (law k (omega (arith, small)) r) (λ f. ([], BinaryE o.0 e f o.1, λ ys l x t. binary_is k e f o x ys t l))
-          (λ f r q. right_done (λ ys l x t. binary_is k e f o x ys t l) (λ _. let a = ltb-true (height e) h low in omega (arith, q, a)))))
+      (λ o. (name_token x_name ∷ [], BinaryE o.0 e (VarE x_name) o.1, λ x t. binary_is k e (VarE x_name) o x (name_token x_name ∷ []) t (refl, omega arith)))
+      (λ o r. right_seq (law k (omega (arith, small)) r) (λ f. ([], BinaryE o.0 e f o.1, λ ys l x t. binary_is k e f o x ys t l))
+      (λ f r q. right_done (λ ys l x t. binary_is k e f o x ys t l) (λ _. let a = ltb-true (height e) h low in omega (arith, q, a)))))
 
   nil_operates : (k : ℕ) (e : ExprTree) → Operates k e [] e
   nil_operates k e xs l = subst (λ z. Level (suc k) z e) (sym (append-nil xs)) l
@@ -413,7 +437,7 @@ module _ (h : ℕ) (some : 0 < h) (inner : ℕ → List Token → Res ExprTree) 
       let low : k < 6 = omega (arith, small) in
       right_seq (right_chain k (omega (arith, small)) ts) (λ e. ([], e, λ xs l. nil_operates k e xs (l.0, omega (arith, l.1)))) (λ e r q.
       right_weaker (λ zs b m xs l. m xs (l.0, omega (arith, l.1))) (λ b r j. j.0 q)
-        (right_loop (is_op (suc k)) (op_step h inner k) (OpStep k) (Operates k) (λ e. height e ≤ h) (right_op_step k low) (λ e zs b s. s.1) (nil_operates k) (cons_operates k) e r))
+      (right_loop (is_op (suc k)) (op_step h inner k) (OpStep k) (Operates k) (λ e. height e ≤ h) (right_op_step k low) (λ e zs b s. s.1) (nil_operates k) (cons_operates k) e r))
 
 pub right_chain_at : (h : ℕ) (k : ℕ) → k ≤ 6 → (ts : List Token) → Right (chain_at h k) (Level k) (λ e r. height e ≤ h) ts
 unfolding chain_at

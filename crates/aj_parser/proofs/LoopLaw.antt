@@ -35,7 +35,7 @@ fuel go step takes (suc n) (suc m) a [] h k = refl
 fuel go step takes (suc n) (suc m) a (x ∷ xs) h k =
     choice_same (go x) (step a (x ∷ xs) >>= iterate go step n) (step a (x ∷ xs) >>= iterate go step m) (Ok (a, x ∷ xs))
     (λ g. next_same (iterate go step n) (iterate go step m) (length xs) (λ b r l. fuel go step takes n m b r (omega (arith, h, l)) (omega (arith, k, l)))
-      (step a (x ∷ xs)) (takes a x xs g))
+    (step a (x ∷ xs)) (takes a x xs g))
 
 pub loop_end : {A : Type 0} (go : Token → Bool) (step : A → List Token → Res A) (a : A) → loop go step a [] ≡ Ok (a, [])
 unfolding loop
@@ -62,7 +62,7 @@ loop_more go step takes a [] h = cc
 loop_more go step takes a (x ∷ xs) h =
     if_true (go x) (step a (x ∷ xs) >>= iterate go step (length xs)) (Ok (a, x ∷ xs)) h
     ∙ next_same (iterate go step (length xs)) (loop go step) (length xs) (λ b r l. fuel go step takes (length xs) (length r) b r l (omega arith))
-      (step a (x ∷ xs)) (takes a x xs h)
+    (step a (x ∷ xs)) (takes a x xs h)
 
 length_is : (xs f r : List Token) (x : Token) → 0 < length f → x ∷ xs ≡ f ++ r → length r ≤ length xs
 length_is xs f r x h e = omega (arith, length-append f r, ap length e)
@@ -79,7 +79,6 @@ module _ {A : Type 0} (go : Token → Bool) (step : A → List Token → Res A) 
     (pos : (a : A) (zs : List Token) (b : A) → S a zs b → 0 < length zs)
     (nil : (a : A) → M a [] a)
     (cons : (a b c : A) (xs ys : List Token) → S a xs b → M b ys c → M a (xs ++ ys) c) where
-
   pub loop_takes : Takes go step
   loop_takes a x xs g = takes_at (step a) (S a) (λ b r. Q a → Q b) x xs (pos a) (step a (x ∷ xs)) (law a x xs g).at
 
@@ -109,7 +108,7 @@ module _ {A : Type 0} (go : Token → Bool) (step : A → List Token → Res A) 
   loop_law (suc n) a (x ∷ xs) h true e =
       right_along (λ w m. loop_more go step loop_takes a w (starts_meets go (x ∷ xs) w m ∙ e))
       (right_seq_at (law a x xs e) (some a)
-        (λ b r is q. later a b r q (loop_law n b r (let k : Leaves (length xs) (Ok (b, r)) = subst (λ z. Leaves (length xs) z) is (loop_takes a x xs e) in omega (arith, h, k)) (starts go r) refl)))
+      (λ b r is q. later a b r q (loop_law n b r (let k : Leaves (length xs) (Ok (b, r)) = subst (λ z. Leaves (length xs) z) is (loop_takes a x xs e) in omega (arith, h, k)) (starts go r) refl)))
 
   pub right_loop : (a : A) (ts : List Token) → Right (loop go step a) (M a) (λ b r. (Q a → Q b) × (starts go r ≡ false)) ts
   unfolding Law After

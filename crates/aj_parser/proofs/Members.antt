@@ -83,9 +83,9 @@ unfolding param_list
 params_inside of_ctor ts =
     right_if (λ e. right_done refl tt)
     (λ e. right_weaker (λ zs b m. m) (λ b r q. tt)
-      (right_separated (param of_ctor) (ParamL of_ctor) Any (param_example of_ctor) (param_long of_ctor) (λ ps. Unit {0}) (λ so a r p q. tt)
-        (right_param of_ctor) (FollowingParams of_ctor) refl (λ a rest d xs ys p q. (xs, ys, d, p, q, refl))
-        (ParamsL of_ctor) (λ a rest xs ys p q. (xs, ys, p, q, refl)) tt ts))
+    (right_separated (param of_ctor) (ParamL of_ctor) Any (param_example of_ctor) (param_long of_ctor) (λ ps. Unit {0}) (λ so a r p q. tt)
+    (right_param of_ctor) (FollowingParams of_ctor) refl (λ a rest d xs ys p q. (xs, ys, d, p, q, refl))
+    (ParamsL of_ctor) (λ a rest xs ys p q. (xs, ys, p, q, refl)) tt ts))
 
 -- parameters in parentheses, and then
 abbrev ParamsIn : Bool → List Token → List Param → Type 0
@@ -121,10 +121,10 @@ unfolding required
 right_required ts =
     right_if
     (λ e. right_tok T.Requires (λ d. (token T.This 0 ∷ [], this_lock ∷ [], (token T.This 0 ∷ [], d, (token T.This 0 ∷ [], [], this_is, refl, refl), refl))) (λ d r.
-      right_weaker (λ zs ls m. m) (λ b r q. tt)
-      (right_separated lock (λ zs l. SpellsLock l zs) Any (token T.This 0 ∷ [], this_lock, this_is) lock_long (λ ls. Unit {0}) (λ so a r p q. tt)
-        right_lock (λ ls zs. Follows SpellsLock ls zs) refl (λ a rest d xs ys p q. (xs, ys, d, p, q, refl))
-        (λ ls zs. SpellsRequires ls (token T.Requires d ∷ zs)) (λ a rest xs ys p q. (xs ++ ys, d, (xs, ys, p, q, refl), refl)) tt r)))
+    right_weaker (λ zs ls m. m) (λ b r q. tt)
+    (right_separated lock (λ zs l. SpellsLock l zs) Any (token T.This 0 ∷ [], this_lock, this_is) lock_long (λ ls. Unit {0}) (λ so a r p q. tt)
+    right_lock (λ ls zs. Follows SpellsLock ls zs) refl (λ a rest d xs ys p q. (xs, ys, d, p, q, refl))
+    (λ ls zs. SpellsRequires ls (token T.Requires d ∷ zs)) (λ a rest xs ys p q. (xs ++ ys, d, (xs, ys, p, q, refl), refl)) tt r)))
     (λ e. right_done refl tt)
 
 -- methods
@@ -144,9 +144,22 @@ method_is : (atomic : Bool) (returns : Option TypeName) (n : Name) (ps : List Pa
     (zs rs xs : List Token) (o c : ℕ) → BlockL zs b → SpellsRequires ls rs → ParamsL false ps xs
     → MethodRest atomic returns n (token T.OpenParen o ∷ xs ++ (token T.CloseParen c ∷ rs ++ (zs ++ []))) (make_method atomic returns n ps ls (stmts_from b.1) b.2)
 unfolding make_method
-method_is atomic returns n ps ls b zs rs xs o c p q r fs x s t =
-    (fs, xs, rs, p.0, x, o, c, b.0, s, t, r, q, p.1,
-      ap (λ z. fs ++ (x ∷ name_token n ∷ token T.OpenParen o ∷ xs ++ (token T.CloseParen c ∷ rs ++ z))) (append-nil zs ∙ p.2))
+method_is atomic returns n ps ls b zs rs xs o c p q r fs x s t = (
+  fs,
+  xs,
+  rs,
+  p.0,
+  x,
+  o,
+  c,
+  b.0,
+  s,
+  t,
+  r,
+  q,
+  p.1,
+  ap (λ z. fs ++ (x ∷ name_token n ∷ token T.OpenParen o ∷ xs ++ (token T.CloseParen c ∷ rs ++ z))) (append-nil zs ∙ p.2),
+)
 
 empty_block : BlockL (token T.OpenBrace 0 ∷ token T.CloseBrace 0 ∷ []) (0, [], 0)
 empty_block = ([], refl, refl)
@@ -166,9 +179,11 @@ right_method_rest atomic returns n ts =
 
 method_some : (atomic : Bool) (returns : Option TypeName) (n : Name) → Some_of (MethodRest atomic returns n)
 unfolding make_method
-method_some atomic returns n =
-    (token T.OpenParen 0 ∷ token T.CloseParen 0 ∷ token T.OpenBrace 0 ∷ token T.CloseBrace 0 ∷ [], make_method atomic returns n [] [] no_stmts 0,
-      method_is atomic returns n [] [] (0, [], 0) (token T.OpenBrace 0 ∷ token T.CloseBrace 0 ∷ []) [] [] 0 0 empty_block refl refl)
+method_some atomic returns n = (
+  token T.OpenParen 0 ∷ token T.CloseParen 0 ∷ token T.OpenBrace 0 ∷ token T.CloseBrace 0 ∷ [],
+  make_method atomic returns n [] [] no_stmts 0,
+  method_is atomic returns n [] [] (0, [], 0) (token T.OpenBrace 0 ∷ token T.CloseBrace 0 ∷ []) [] [] 0 0 empty_block refl refl,
+)
 
 -- constructors
 
@@ -191,7 +206,7 @@ sets_law : (ts : List Token) → Right (several goes_on set) (λ zs ss. Repeats 
 sets_law ts =
     right_weaker (λ zs b m. m) (λ b r q. tt)
     (right_several set (λ zs p. SpellsSet p zs) Any set_example set_long (λ ss. Unit {0}) (λ so a r p q. tt)
-      goes_on (λ x xs g. right_set (x ∷ xs)) (λ ss zs. Repeats SpellsSet ss zs) refl (λ a rest xs ys p q. (xs, ys, p, q, refl)) tt ts)
+    goes_on (λ x xs g. right_set (x ∷ xs)) (λ ss zs. Repeats SpellsSet ss zs) refl (λ a rest xs ys p q. (xs, ys, p, q, refl)) tt ts)
 
 right_ctor_rest : (n : Name) (ts : List Token) → Right (ctor_rest n) (λ ys m. SpellsBare m (name_token n ∷ ys)) LowMember ts
 unfolding ctor_rest
@@ -208,8 +223,8 @@ right_guard : (ts : List Token) → Right guard (λ zs g. SpellsGuard g zs) Any 
 unfolding guard
 right_guard ts =
     right_if (λ e. right_tok T.GuardedBy (λ d. (token T.This 0 ∷ [], Some this_lock, (token T.This 0 ∷ [], d, this_is, refl))) (λ d r.
-      right_seq (right_lock r) (λ l. ([], Some l, λ xs p. (xs, d, p, ap (λ z. token T.GuardedBy d ∷ z) (append-nil xs)))) (λ l r _.
-      right_done (λ xs p. (xs, d, p, ap (λ z. token T.GuardedBy d ∷ z) (append-nil xs))) tt)))
+    right_seq (right_lock r) (λ l. ([], Some l, λ xs p. (xs, d, p, ap (λ z. token T.GuardedBy d ∷ z) (append-nil xs)))) (λ l r _.
+    right_done (λ xs p. (xs, d, p, ap (λ z. token T.GuardedBy d ∷ z) (append-nil xs))) tt)))
     (λ e. right_done refl tt)
 
 right_field_rest : (ty : TypeName) (n : Name) (ts : List Token) → Right (field_rest ty n) (λ ys m. (x : Token) → IsType ty x → SpellsBare m (x ∷ name_token n ∷ ys)) LowMember ts
@@ -269,7 +284,7 @@ unfolding bare_member
 right_bare_member ts =
     right_if (λ e. right_final_field ts) (λ e.
     right_if (λ e. right_tok T.Atomic (λ d. let s = method_some true None x_name in (token T.Void 0 ∷ name_token x_name ∷ s.0, s.1, s.2 (token T.Atomic d ∷ []) (token T.Void 0) (d, refl) refl)) (λ d r.
-      right_weaker (λ ys m k. k (token T.Atomic d ∷ []) (d, refl)) (λ m r k. k) (right_plain_method true r))) (λ e.
+    right_weaker (λ ys m k. k (token T.Atomic d ∷ []) (d, refl)) (λ m r k. k) (right_plain_method true r))) (λ e.
     right_if (λ e. right_weaker (λ ys m k. k [] refl) (λ m r k. k) (right_plain_method false ts)) (λ e.
     right_if (λ e. right_named_member ts) (λ e.
     right_one (right_type ts) field_some (λ ty r. right_typed_rest ty r)))))
@@ -291,8 +306,11 @@ pub member_long : (zs : List Token) (m : MemberTree) → SpellsMember m zs → 0
 member_long zs m p = long_is zs _ p.4 (let k = bare_long m p.1 p.3 in omega (arith, length-append p.0 p.1, k))
 
 pub member_example : Some_of (λ zs m. SpellsMember m zs)
-member_example = (token T.Int 0 ∷ name_token x_name ∷ token T.Semicolon 0 ∷ [], FieldM false Y.Int x_name None,
-    ([], token T.Int 0 ∷ name_token x_name ∷ token T.Semicolon 0 ∷ [], inl refl, (token T.Int 0, [], 0, refl, refl, refl), refl))
+member_example = (
+  token T.Int 0 ∷ name_token x_name ∷ token T.Semicolon 0 ∷ [],
+  FieldM false Y.Int x_name None,
+  ([], token T.Int 0 ∷ name_token x_name ∷ token T.Semicolon 0 ∷ [], inl refl, (token T.Int 0, [], 0, refl, refl, refl), refl),
+)
 
 more_members : (so : List MemberTree) (m : MemberTree) → body_height m ≤ 64 → highest_member so ≤ 64 → highest_member (so ++ (m ∷ [])) ≤ 64
 more_members [] m a b = omega (arith, a)
@@ -302,13 +320,13 @@ members_law : (ts : List Token) → Right (several goes_on member) (λ zs ms. Re
 members_law ts =
     right_weaker (λ zs b m. m) (λ b r q. q.0)
     (right_several member (λ zs m. SpellsMember m zs) LowMember member_example member_long (λ ms. highest_member ms ≤ 64) (λ so m r a b. more_members so m a b)
-      goes_on (λ x xs g. right_member (x ∷ xs)) (λ ms zs. Repeats SpellsMember ms zs) refl (λ a rest xs ys p q. (xs, ys, p, q, refl)) (omega arith) ts)
+    goes_on (λ x xs g. right_member (x ∷ xs)) (λ ms zs. Repeats SpellsMember ms zs) refl (λ a rest xs ys p q. (xs, ys, p, q, refl)) (omega arith) ts)
 
 right_runnable : (ts : List Token) → Right runnable (λ zs r. SpellsRunnable r zs) Any ts
 unfolding runnable
 right_runnable ts =
     right_if (λ e. right_tok T.Implements (λ d. (token T.Runnable 0 ∷ [], true, (d, 0, refl))) (λ d r.
-      right_tok T.Runnable (λ e. ([], true, (d, e, refl))) (λ e r. right_done (d, e, refl) tt)))
+    right_tok T.Runnable (λ e. ([], true, (d, e, refl))) (λ e r. right_done (d, e, refl) tt)))
     (λ e. right_done refl tt)
 
 make_class : Name → Bool → List MemberTree → ClassTree

@@ -27,23 +27,38 @@ Example {A} C = (x : Token) × (a : A) × C x a
 first_at : {A : Type 0} (test : Token → Option A) (C : Token → A → Type 0) → Example C → (x : Token) (xs : List Token)
     → (o : Option A) → test x ≡ o → ((a : A) → o ≡ Some a → C x a) → RightAt (first test) (One C) Any (x ∷ xs) (got o x xs)
 first_at test C some x xs (Some a) e sound = record {
-  front = x ∷ []; whole = refl; spelled = (x, sound a refl, refl); after = tt;
-  again = λ w m. ap (λ z. got z x w) e
-  }
+  front = x ∷ [];
+  whole = refl;
+  spelled = (x, sound a refl, refl);
+  after = tt;
+  again = λ w m. ap (λ z. got z x w) e;
+}
 first_at {A} test C some x xs None e sound = record {
-  front = []; whole = refl; more = some.0 ∷ []; tree = some.1; spelled = (some.0, some.2, refl); goes = tt;
-  again = again
-  } where
-    again : (w : List Token) → Meets (x ∷ xs) w → first test w ≡ Err (F.Unexpected, w)
-    again [] m = absurd m
-    again (y ∷ w) m = ap (λ z. got (test z) z w) (sym m) ∙ ap (λ z. got z x w) e ∙ ap (λ z. Err (F.Unexpected, z ∷ w)) m
+  front = [];
+  whole = refl;
+  more = some.0 ∷ [];
+  tree = some.1;
+  spelled = (some.0, some.2, refl);
+  goes = tt;
+  again = again;
+} where
+  again : (w : List Token) → Meets (x ∷ xs) w → first test w ≡ Err (F.Unexpected, w)
+  again [] m = absurd m
+  again (y ∷ w) m = ap (λ z. got (test z) z w) (sym m) ∙ ap (λ z. got z x w) e ∙ ap (λ z. Err (F.Unexpected, z ∷ w)) m
 
 pub right_first : {A : Type 0} {test : Token → Option A} (C : Token → A → Type 0) → Example C → ((x : Token) (a : A) → test x ≡ Some a → C x a)
     → (ts : List Token) → Right (first test) (One C) Any ts
-right_first {A} {test} C some sound [] = record { at = record {
-  front = []; whole = refl; more = some.0 ∷ []; tree = some.1; spelled = (some.0, some.2, refl); goes = tt;
-  again = λ w m. let P : List Token → Type 0 = λ z. first test z ≡ Err (F.Unexpected, z) in subst P (sym m) refl
-  } }
+right_first {A} {test} C some sound [] = record {
+  at = record {
+    front = [];
+    whole = refl;
+    more = some.0 ∷ [];
+    tree = some.1;
+    spelled = (some.0, some.2, refl);
+    goes = tt;
+    again = λ w m. let P : List Token → Type 0 = λ z. first test z ≡ Err (F.Unexpected, z) in subst P (sym m) refl;
+  };
+}
 right_first {A} {test} C some sound (x ∷ xs) = record { at = first_at test C some x xs (test x) refl (λ a e. sound x a e) }
 
 and_true : (a b : Bool) → a && b ≡ true → (a ≡ true) × (b ≡ true)
@@ -148,7 +163,7 @@ pub right_if : {B : Type 0} {test : Token → Bool} {p q : List Token → Res B}
     → Right (λ ts. if starts test ts then p ts else q ts) L Post ts
 right_if {B} {test} {p} {q} {L} {Post} {ts} f g =
     elim (starts test ts) as (λ b. starts test ts ≡ b → Right (λ ts. if starts test ts then p ts else q ts) L Post ts) [
-      true ↦ λ e. right_along (λ w m. ap (λ b. if b then p w else q w) (starts_meets test ts w m ∙ e)) (f e)
+      | true ↦ λ e. right_along (λ w m. ap (λ b. if b then p w else q w) (starts_meets test ts w m ∙ e)) (f e)
       | false ↦ λ e. right_along (λ w m. ap (λ b. if b then p w else q w) (starts_meets test ts w m ∙ e)) (g e)
     ] refl
 

@@ -65,13 +65,21 @@ goes_append F.TooDeep (x ∷ xs) (y ∷ more) ys g = g
 along_at : {A : Type 0} (p q : List Token → Res A) (L : List Token → A → Type 0) (Post : A → List Token → Type 0) (ts : List Token) (r : Res A)
     → ((w : List Token) → Meets ts w → q w ≡ p w) → RightAt p L Post ts r → RightAt q L Post ts r
 along_at p q L Post ts (Ok y) same g = record {
-  front = g.front; whole = g.whole; spelled = g.spelled; after = g.after;
-  again = λ w m. same (g.front ++ w) (subst (λ z. Meets z (g.front ++ w)) (sym g.whole) (meets_append g.front y.1 w m)) ∙ g.again w m
-  }
+  front = g.front;
+  whole = g.whole;
+  spelled = g.spelled;
+  after = g.after;
+  again = λ w m. same (g.front ++ w) (subst (λ z. Meets z (g.front ++ w)) (sym g.whole) (meets_append g.front y.1 w m)) ∙ g.again w m;
+}
 along_at p q L Post ts (Err e) same g = record {
-  front = g.front; whole = g.whole; more = g.more; tree = g.tree; spelled = g.spelled; goes = g.goes;
-  again = λ w m. same (g.front ++ w) (subst (λ z. Meets z (g.front ++ w)) (sym g.whole) (meets_append g.front e.1 w m)) ∙ g.again w m
-  }
+  front = g.front;
+  whole = g.whole;
+  more = g.more;
+  tree = g.tree;
+  spelled = g.spelled;
+  goes = g.goes;
+  again = λ w m. same (g.front ++ w) (subst (λ z. Meets z (g.front ++ w)) (sym g.whole) (meets_append g.front e.1 w m)) ∙ g.again w m;
+}
 
 meets_self : (ts : List Token) → Meets ts ts
 meets_self [] = refl
@@ -85,11 +93,21 @@ right_along {A} {p} {q} {L} {Post} {ts} same g =
 weaker_at : {A : Type 0} (p : List Token → Res A) (L M : List Token → A → Type 0) (Post Post2 : A → List Token → Type 0) (ts : List Token) (r : Res A)
     → ((zs : List Token) (b : A) → L zs b → M zs b) → ((b : A) (s : List Token) → Post b s → Post2 b s) → RightAt p L Post ts r → RightAt p M Post2 ts r
 weaker_at p L M Post Post2 ts (Ok y) f g a = record {
-  front = a.front; whole = a.whole; spelled = f a.front y.0 a.spelled; after = g y.0 y.1 a.after; again = a.again
-  }
+  front = a.front;
+  whole = a.whole;
+  spelled = f a.front y.0 a.spelled;
+  after = g y.0 y.1 a.after;
+  again = a.again;
+}
 weaker_at p L M Post Post2 ts (Err e) f g a = record {
-  front = a.front; whole = a.whole; more = a.more; tree = a.tree; spelled = f (a.front ++ a.more) a.tree a.spelled; goes = a.goes; again = a.again
-  }
+  front = a.front;
+  whole = a.whole;
+  more = a.more;
+  tree = a.tree;
+  spelled = f (a.front ++ a.more) a.tree a.spelled;
+  goes = a.goes;
+  again = a.again;
+}
 
 pub right_weaker : {A : Type 0} {p : List Token → Res A} {L M : List Token → A → Type 0} {Post Post2 : A → List Token → Type 0} {ts : List Token}
     → ((zs : List Token) (b : A) → L zs b → M zs b) → ((b : A) (s : List Token) → Post b s → Post2 b s) → Right p L Post ts → Right p M Post2 ts
@@ -109,9 +127,9 @@ seq_ok p k Le Post L Post2 ts a r g (Ok y) h =
       spelled = h.spelled g.front g.spelled;
       after = h.after;
       again = λ w m.
-        let e1 : (g.front ++ h.front) ++ w ≡ g.front ++ (h.front ++ w) = append_assoc g.front h.front w in
-        let m1 : Meets r (h.front ++ w) = subst (λ z. Meets z (h.front ++ w)) (sym h.whole) (meets_append h.front y.1 w m) in
-        ap (λ z. p z >>= k) e1 ∙ ap (λ z. z >>= k) (g.again (h.front ++ w) m1) ∙ h.again w m
+          let e1 : (g.front ++ h.front) ++ w ≡ g.front ++ (h.front ++ w) = append_assoc g.front h.front w in
+          let m1 : Meets r (h.front ++ w) = subst (λ z. Meets z (h.front ++ w)) (sym h.whole) (meets_append h.front y.1 w m) in
+          ap (λ z. p z >>= k) e1 ∙ ap (λ z. z >>= k) (g.again (h.front ++ w) m1) ∙ h.again w m;
     }
 seq_ok p k Le Post L Post2 ts a r g (Err e) h =
     let assoc = append_assoc g.front h.front e.1 in
@@ -123,9 +141,9 @@ seq_ok p k Le Post L Post2 ts a r g (Err e) h =
       spelled = subst (λ z. L z h.tree) (sym (append_assoc g.front h.front h.more)) (h.spelled g.front g.spelled);
       goes = h.goes;
       again = λ w m.
-        let e1 : (g.front ++ h.front) ++ w ≡ g.front ++ (h.front ++ w) = append_assoc g.front h.front w in
-        let m1 : Meets r (h.front ++ w) = subst (λ z. Meets z (h.front ++ w)) (sym h.whole) (meets_append h.front e.1 w m) in
-        ap (λ z. p z >>= k) e1 ∙ ap (λ z. z >>= k) (g.again (h.front ++ w) m1) ∙ h.again w m
+          let e1 : (g.front ++ h.front) ++ w ≡ g.front ++ (h.front ++ w) = append_assoc g.front h.front w in
+          let m1 : Meets r (h.front ++ w) = subst (λ z. Meets z (h.front ++ w)) (sym h.whole) (meets_append h.front e.1 w m) in
+          ap (λ z. p z >>= k) e1 ∙ ap (λ z. z >>= k) (g.again (h.front ++ w) m1) ∙ h.again w m;
     }
 
 seq_at : {A B : Type 0} (p : List Token → Res A) (k : A → List Token → Res B) (Le : List Token → A → Type 0) (Post : A → List Token → Type 0)
@@ -144,7 +162,7 @@ seq_at p k Le Post L Post2 ts some law (Err e) is g =
       tree = c.1;
       spelled = subst (λ z. L z c.1) (append_assoc g.front g.more c.0) (c.2 (g.front ++ g.more) g.spelled);
       goes = goes_append e.0 e.1 g.more c.0 g.goes;
-      again = λ w m. ap (λ z. z >>= k) (g.again w m)
+      again = λ w m. ap (λ z. z >>= k) (g.again w m);
     }
 
 pub right_seq_at : {A B : Type 0} {p : List Token → Res A} {k : A → List Token → Res B} {Le : List Token → A → Type 0} {Post : A → List Token → Type 0}

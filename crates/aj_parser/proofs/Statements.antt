@@ -48,18 +48,18 @@ fields_law : (ts : List Token) → Right (several (is T.Dot) field_name) (λ zs 
 fields_law ts =
     right_weaker (λ zs b m. m) (λ b r q. tt)
     (right_several field_name FieldL Any (token T.Dot 0 ∷ name_token x_name ∷ [], x_name, (0, refl)) field_long (λ ns. Unit {0}) (λ so a r p q. tt)
-      (is T.Dot) (λ x xs g. field_law (x ∷ xs)) SpellsFields refl (λ n rest xs ys f q. (ys, f.0, q, ap (λ z. z ++ ys) f.1)) tt ts)
+    (is T.Dot) (λ x xs g. field_law (x ∷ xs)) SpellsFields refl (λ n rest xs ys f q. (ys, f.0, q, ap (λ z. z ++ ys) f.1)) tt ts)
 
 pub right_lock : (ts : List Token) → Right lock (λ zs l. SpellsLock l zs) Any ts
 unfolding lock
 right_lock ts =
     right_if
     (λ e. right_tok T.This (λ d. ([], record { root = None; fields = []; at = d }, (token T.This d, [], refl, refl, refl))) (λ d r.
-      right_seq (fields_law r) (λ ns. ([], record { root = None; fields = ns; at = d }, λ xs f. (token T.This d, xs, refl, f, ap (λ z. token T.This d ∷ z) (append-nil xs)))) (λ ns r q.
-      right_done (λ xs f. (token T.This d, xs, refl, f, ap (λ z. token T.This d ∷ z) (append-nil xs))) tt)))
+    right_seq (fields_law r) (λ ns. ([], record { root = None; fields = ns; at = d }, λ xs f. (token T.This d, xs, refl, f, ap (λ z. token T.This d ∷ z) (append-nil xs)))) (λ ns r q.
+    right_done (λ xs f. (token T.This d, xs, refl, f, ap (λ z. token T.This d ∷ z) (append-nil xs))) tt)))
     (λ e. right_name (λ n. ([], record { root = Some n; fields = []; at = n.at }, (name_token n, [], (refl, refl), refl, refl))) (λ n r.
-      right_seq (fields_law r) (λ ns. ([], record { root = Some n; fields = ns; at = n.at }, λ xs f. (name_token n, xs, (refl, refl), f, ap (λ z. name_token n ∷ z) (append-nil xs)))) (λ ns r q.
-      right_done (λ xs f. (name_token n, xs, (refl, refl), f, ap (λ z. name_token n ∷ z) (append-nil xs))) tt)))
+    right_seq (fields_law r) (λ ns. ([], record { root = Some n; fields = ns; at = n.at }, λ xs f. (name_token n, xs, (refl, refl), f, ap (λ z. name_token n ∷ z) (append-nil xs)))) (λ ns r q.
+    right_done (λ xs f. (name_token n, xs, (refl, refl), f, ap (λ z. name_token n ∷ z) (append-nil xs))) tt)))
 
 pub this_lock : LockTree
 this_lock = record { root = None; fields = []; at = 0 }
@@ -135,7 +135,7 @@ module _ (h : ℕ) (some : 0 < h) where
   pub right_condition : {B : Type 0} {k : ExprTree → List Token → Res B} {L : List Token → B → Type 0} {Post2 : B → List Token → Type 0} {ts : List Token}
       → ((e : ExprTree) → Some_of (λ ys b. (o c : ℕ) (xs : List Token) → Spells e xs → L (token T.OpenParen o ∷ xs ++ (token T.CloseParen c ∷ ys)) b))
       → ((e : ExprTree) (r : List Token) → height e < h
-          → Right (k e) (λ ys b. (o c : ℕ) (xs : List Token) → Spells e xs → L (token T.OpenParen o ∷ xs ++ (token T.CloseParen c ∷ ys)) b) Post2 r)
+      → Right (k e) (λ ys b. (o c : ℕ) (xs : List Token) → Spells e xs → L (token T.OpenParen o ∷ xs ++ (token T.CloseParen c ∷ ys)) b) Post2 r)
       → Right (λ ts. condition h ts >>= k) L Post2 ts
   right_condition {B} {k} {L} {Post2} {ts} more law =
       right_seq (condition_law ts)
@@ -189,10 +189,16 @@ module _ (h : ℕ) (some : 0 < h) where
   right_start_rest : (at : ℕ) (ts : List Token) → Right (start_rest h at) (λ ys s. Plain (token T.New at ∷ ys) s) (Ends h) ts
   unfolding start_rest x_tokens
   right_start_rest at ts =
-      right_tok T.Thread (λ t. (token T.OpenParen 0 ∷ name_token x_name ∷ token T.CloseParen 0 ∷ token T.Dot 0 ∷ token T.Start 0 ∷ token T.OpenParen 0 ∷ token T.CloseParen 0 ∷ token T.Semicolon 0 ∷ [],
-        StartS (VarE x_name) at, ((x_tokens, t, 0, 0, 0, 0, 0, 0, 0, refl, refl), refl, refl))) (λ t r.
-      right_condition (λ v. (token T.Dot 0 ∷ token T.Start 0 ∷ token T.OpenParen 0 ∷ token T.CloseParen 0 ∷ token T.Semicolon 0 ∷ [], StartS v at,
-        λ o c xs l. ((xs, t, o, c, 0, 0, 0, 0, 0, l, refl), refl, refl))) (λ v r q.
+      right_tok T.Thread (λ t. (
+        token T.OpenParen 0 ∷ name_token x_name ∷ token T.CloseParen 0 ∷ token T.Dot 0 ∷ token T.Start 0 ∷ token T.OpenParen 0 ∷ token T.CloseParen 0 ∷ token T.Semicolon 0 ∷ [],
+        StartS (VarE x_name) at,
+        ((x_tokens, t, 0, 0, 0, 0, 0, 0, 0, refl, refl), refl, refl),
+      )) (λ t r.
+      right_condition (λ v. (
+        token T.Dot 0 ∷ token T.Start 0 ∷ token T.OpenParen 0 ∷ token T.CloseParen 0 ∷ token T.Semicolon 0 ∷ [],
+        StartS v at,
+        λ o c xs l. ((xs, t, o, c, 0, 0, 0, 0, 0, l, refl), refl, refl),
+      )) (λ v r q.
       right_tok T.Dot (λ d. (token T.Start 0 ∷ token T.OpenParen 0 ∷ token T.CloseParen 0 ∷ token T.Semicolon 0 ∷ [], StartS v at, λ o c xs l. ((xs, t, o, c, d, 0, 0, 0, 0, l, refl), refl, refl))) (λ d r.
       right_tok T.Start (λ s. (token T.OpenParen 0 ∷ token T.CloseParen 0 ∷ token T.Semicolon 0 ∷ [], StartS v at, λ o c xs l. ((xs, t, o, c, d, s, 0, 0, 0, l, refl), refl, refl))) (λ s r.
       right_tok T.OpenParen (λ p. (token T.CloseParen 0 ∷ token T.Semicolon 0 ∷ [], StartS v at, λ o c xs l. ((xs, t, o, c, d, s, p, 0, 0, l, refl), refl, refl))) (λ p r.
@@ -217,12 +223,12 @@ module _ (h : ℕ) (some : 0 < h) where
   right_local ts =
       let end1 = name_token x_name ∷ token T.Assign 0 ∷ name_token x_name ∷ token T.Semicolon 0 ∷ [] in
       right_if (λ e. right_tok T.Final (λ d. (token T.Int 0 ∷ end1, LocalS true Y.Int x_name (VarE x_name) d, ((token T.Final d ∷ [], x_tokens, token T.Int 0, 0, 0, (d, refl), refl, refl, refl, refl), refl))) (λ d r.
-        right_one (right_type r) (λ ty. (end1, LocalS true ty x_name (VarE x_name) d, λ x i. ((token T.Final d ∷ [], x_tokens, x, 0, 0, (d, refl), i, refl, refl, refl), refl))) (λ ty r.
-        right_local_rest true ty d r (λ n v a c ys l x i. ((token T.Final d ∷ [], ys, x, a, c, (d, refl), i, l, refl, refl), refl))))) (λ e.
+      right_one (right_type r) (λ ty. (end1, LocalS true ty x_name (VarE x_name) d, λ x i. ((token T.Final d ∷ [], x_tokens, x, 0, 0, (d, refl), i, refl, refl, refl), refl))) (λ ty r.
+      right_local_rest true ty d r (λ n v a c ys l x i. ((token T.Final d ∷ [], ys, x, a, c, (d, refl), i, l, refl, refl), refl))))) (λ e.
       right_if (λ e. right_tok T.Int (λ d. (end1, LocalS false Y.Int x_name (VarE x_name) d, (([], x_tokens, token T.Int d, 0, 0, refl, refl, refl, refl, refl), refl))) (λ d r.
-        right_local_rest false Y.Int d r (λ n v a c ys l. (([], ys, token T.Int d, a, c, refl, refl, l, refl, refl), refl)))) (λ e.
+      right_local_rest false Y.Int d r (λ n v a c ys l. (([], ys, token T.Int d, a, c, refl, refl, l, refl, refl), refl)))) (λ e.
       right_tok T.Boolean (λ d. (end1, LocalS false Y.Boolean x_name (VarE x_name) d, (([], x_tokens, token T.Boolean d, 0, 0, refl, refl, refl, refl, refl), refl))) (λ d r.
-        right_local_rest false Y.Boolean d r (λ n v a c ys l. (([], ys, token T.Boolean d, a, c, refl, refl, l, refl, refl), refl)))))
+      right_local_rest false Y.Boolean d r (λ n v a c ys l. (([], ys, token T.Boolean d, a, c, refl, refl, l, refl, refl), refl)))))
 
   -- what stands behind a postfix
   abbrev Closes : ExprTree → List Token → StmtTree → Type 0
@@ -230,8 +236,11 @@ module _ (h : ℕ) (some : 0 < h) where
 
   closes_some : (p : ExprTree) → Some_of (Closes p)
   unfolding x_tokens
-  closes_some p = (token T.Dot 0 ∷ name_token x_name ∷ token T.Assign 0 ∷ name_token x_name ∷ token T.Semicolon 0 ∷ [], SetFieldS p x_name (VarE x_name) 0,
-      λ xs l. ((xs, x_tokens, 0, 0, l.0, l.1, refl, refl), refl, refl))
+  closes_some p = (
+    token T.Dot 0 ∷ name_token x_name ∷ token T.Assign 0 ∷ name_token x_name ∷ token T.Semicolon 0 ∷ [],
+    SetFieldS p x_name (VarE x_name) 0,
+    λ xs l. ((xs, x_tokens, 0, 0, l.0, l.1, refl, refl), refl, refl),
+  )
 
   do_is : (p : ExprTree) (c : ℕ) → is_call p ≡ true → Closes p (token T.Semicolon c ∷ []) (DoS p (first_at p))
   do_is p c call xs l = ((xs, c, l.0, call, first_is p xs l.0 ∙ sym (offset_append xs (token T.Semicolon c ∷ []) (spelled_long p xs l.0)), refl), refl, refl)
@@ -240,7 +249,7 @@ module _ (h : ℕ) (some : 0 < h) where
   unfolding call_end
   right_call_end p call ts =
       right_if (λ e. right_allow (nat_lt (height p) h) (semicolon_next ts e)
-        (λ low. right_tok T.Semicolon (λ c. ([], DoS p (first_at p), do_is p c call)) (λ c r. right_done (do_is p c call) (let a = ltb-true (height p) h low in omega (arith, a), false_ends (DoS p (first_at p)) r refl))))
+      (λ low. right_tok T.Semicolon (λ c. ([], DoS p (first_at p), do_is p c call)) (λ c r. right_done (do_is p c call) (let a = ltb-true (height p) h low in omega (arith, a), false_ends (DoS p (first_at p)) r refl))))
       (λ e. right_fail (closes_some p))
     where
       semicolon_next : (ts : List Token) → starts (is T.Semicolon) ts ≡ true → Through_next (Closes p) ts
@@ -289,8 +298,11 @@ module _ (h : ℕ) (some : 0 < h) where
       (λ p r q. right_weaker (λ ys s c xs a. adds_closes e p xs ys s a c) (λ s r k. k) (right_finish p (q.0 low) r))
 
   new_do : (d : ℕ) → Some_of (λ ys s. Plain (token T.New d ∷ ys) s)
-  new_do d = (name_token x_name ∷ token T.OpenParen 0 ∷ token T.CloseParen 0 ∷ token T.Semicolon 0 ∷ [], DoS (NewE x_name no_exprs d) d,
-      ((token T.New d ∷ name_token x_name ∷ token T.OpenParen 0 ∷ token T.CloseParen 0 ∷ [], 0, ([], 0, 0, refl, refl), refl, refl, refl), refl, refl))
+  new_do d = (
+    name_token x_name ∷ token T.OpenParen 0 ∷ token T.CloseParen 0 ∷ token T.Semicolon 0 ∷ [],
+    DoS (NewE x_name no_exprs d) d,
+    ((token T.New d ∷ name_token x_name ∷ token T.OpenParen 0 ∷ token T.CloseParen 0 ∷ [], 0, ([], 0, 0, refl, refl), refl, refl, refl), refl, refl),
+  )
 
   right_new : (ts : List Token) → Right (new_statement h) Plain (Ends h) ts
   unfolding new_statement
@@ -316,7 +328,7 @@ module _ (h : ℕ) (some : 0 < h) where
   right_named in_block ts =
       right_name (λ n. let c = closes_some (VarE n) in (c.0, c.1, plain_stmt in_block (name_token n ∷ c.0) c.1 (c.2 (name_token n ∷ []) (refl, refl)))) (λ n r.
       right_if (λ e. right_local_rest false (Y.Class n) n.at r (λ m v d c ys l. local_stmt in_block (in_block_first in_block is_name r e) (name_token n ∷ name_token m ∷ token T.Assign d ∷ ys ++ (token T.Semicolon c ∷ [])) (LocalS false (Y.Class n) m v n.at)
-        (([], ys, name_token n, d, c, refl, refl, l, refl, refl), refl))) (λ e.
+      (([], ys, name_token n, d, c, refl, refl, l, refl, refl), refl))) (λ e.
       right_weaker (λ ys s c. plain_stmt in_block (name_token n ∷ ys) s (c (name_token n ∷ []) (refl, refl))) (λ s r k. k) (right_finish_from (VarE n) (omega (arith, some)) r)))
 
   right_expression_statement : (ts : List Token) → Right (expression_statement h) Plain (Ends h) ts
@@ -386,11 +398,11 @@ statement_some in_block x h =
     (λ e. terminal_some in_block T.If x e if_rest (λ d. IfS (VarE x_name) (EmptyS 0) d) (λ d. (name_token x_name ∷ [], token T.Semicolon 0 ∷ [], 0, 0, refl, refl, refl, refl)) (λ d. refl)) h)
     (λ e. terminal_some in_block T.While x e if_rest (λ d. WhileS (VarE x_name) (EmptyS 0) d) (λ d. (name_token x_name ∷ [], token T.Semicolon 0 ∷ [], 0, 0, refl, refl, refl, refl)) (λ d. refl)) h)
     (λ e. terminal_some in_block T.Synchronized x e (token T.OpenParen 0 ∷ token T.This 0 ∷ token T.CloseParen 0 ∷ token T.OpenBrace 0 ∷ token T.CloseBrace 0 ∷ []) (λ d. SyncS this_lock no_stmts d)
-      (λ d. (token T.This 0 ∷ [], [], 0, 0, 0, 0, this_lock_is, refl, refl)) (λ d. refl)) h)
+    (λ d. (token T.This 0 ∷ [], [], 0, 0, 0, 0, this_lock_is, refl, refl)) (λ d. refl)) h)
     (λ e. terminal_some in_block T.Return x e (token T.Semicolon 0 ∷ []) (λ d. ReturnS None d) (λ d. (0, refl)) (λ d. refl)) h)
     (λ e. terminal_some in_block T.System x e
-      (token T.Dot 0 ∷ token T.Out 0 ∷ token T.Dot 0 ∷ token T.Println 0 ∷ token T.OpenParen 0 ∷ name_token x_name ∷ token T.CloseParen 0 ∷ token T.Semicolon 0 ∷ [])
-      (λ d. PrintS (VarE x_name) d) (λ d. (name_token x_name ∷ [], 0, 0, 0, 0, 0, 0, 0, refl, refl)) (λ d. refl)) h)
+    (token T.Dot 0 ∷ token T.Out 0 ∷ token T.Dot 0 ∷ token T.Println 0 ∷ token T.OpenParen 0 ∷ name_token x_name ∷ token T.CloseParen 0 ∷ token T.Semicolon 0 ∷ [])
+    (λ d. PrintS (VarE x_name) d) (λ d. (name_token x_name ∷ [], 0, 0, 0, 0, 0, 0, 0, refl, refl)) (λ d. refl)) h)
     (λ e. postfix_some in_block x (new_some x e)) h)
     (λ e. postfix_some in_block x (paren_some x e)) h)
     (λ e. postfix_some in_block x (leaf_some x e)) h)
@@ -442,7 +454,7 @@ module _ (h : ℕ) (some : 0 < h) (item : List Token → Res StmtTree) (law : It
   items_law ts =
       right_weaker (λ zs b m. m) (λ ss r q. q.0)
       (right_several item (StmtL true) (λ s r. stmt_height s < h) (token T.Semicolon 0 ∷ [], EmptyS 0, (refl, λ e. refl)) stmt_l_long (Low h) (λ so s r q l. more_low h so s q l)
-        goes_on (λ x xs g. law (x ∷ xs)) (λ ss zs. SpellsStmts (stmts_from ss) zs) refl (λ s rest xs ys p q. (xs, ys, p.0, q, refl)) some ts)
+      goes_on (λ x xs g. law (x ∷ xs)) (λ ss zs. SpellsStmts (stmts_from ss) zs) refl (λ s rest xs ys p q. (xs, ys, p.0, q, refl)) some ts)
 
   pub right_braces : (ts : List Token) → Right (braces item) BlockL (λ b r. Low h b.1) ts
   unfolding braces
@@ -457,7 +469,6 @@ not_open s r f e = elim (open_if s) as (λ b. open_if s ≡ b → open_if s ≡ 
 module _ (h : ℕ) (some : 0 < h) (inner : Bool → List Token → Res StmtTree) (block : List Token → Res (ℕ × List StmtTree × ℕ))
     (law : (in_block : Bool) (ts : List Token) → Right (inner in_block) (StmtL in_block) (λ s r. (stmt_height s < h) × (open_if s ≡ true → starts (is T.Else) r ≡ false)) ts)
     (blocks : (ts : List Token) → Right block BlockL (λ b r. 1 + stmt_heights (stmts_from b.1) < h) ts) where
-
   -- what stands behind the condition and the first branch
   abbrev Branched : ℕ → ExprTree → StmtTree → List Token → StmtTree → Type 0
   Branched d e s ys b = (o c : ℕ) (xs zs : List Token) → Spells e xs → SpellsStmt s zs → is_local s ≡ false
@@ -476,9 +487,9 @@ module _ (h : ℕ) (some : 0 < h) (inner : Bool → List Token → Res StmtTree)
   unfolding else_part
   right_else_part d e s low1 low2 ts dangling =
       right_if (λ i. let no_open = not_open s ts dangling i in
-        right_tok T.Else (λ k. (token T.Semicolon 0 ∷ [], IfElseS e s (EmptyS 0) d, else_is d k e s (EmptyS 0) no_open (token T.Semicolon 0 ∷ []) refl refl)) (λ k r.
-        right_seq (law false r) (λ t. ([], IfElseS e s t d, λ ws p. else_is d k e s t no_open ws p.0 (p.1 refl))) (λ t r q.
-        right_done (λ ws p. else_is d k e s t no_open ws p.0 (p.1 refl)) (let a = q.0 in omega (arith, low1, low2, a), q.1))))
+      right_tok T.Else (λ k. (token T.Semicolon 0 ∷ [], IfElseS e s (EmptyS 0) d, else_is d k e s (EmptyS 0) no_open (token T.Semicolon 0 ∷ []) refl refl)) (λ k r.
+      right_seq (law false r) (λ t. ([], IfElseS e s t d, λ ws p. else_is d k e s t no_open ws p.0 (p.1 refl))) (λ t r q.
+      right_done (λ ws p. else_is d k e s t no_open ws p.0 (p.1 refl)) (let a = q.0 in omega (arith, low1, low2, a), q.1))))
       (λ i. right_done (if_is d e s) (omega (arith, low1, low2), λ _. i))
 
   branch_list : (d o c : ℕ) (xs zs ys : List Token) (t : Terminal)
@@ -492,7 +503,7 @@ module _ (h : ℕ) (some : 0 < h) (inner : Bool → List Token → Res StmtTree)
       right_condition h some (λ e. (token T.Semicolon 0 ∷ [], IfS e (EmptyS 0) d, λ o c xs p. ((xs, token T.Semicolon 0 ∷ [], o, c, p, refl, refl, refl), λ e. refl))) (λ e r q.
       right_seq (law false r) (λ s. ([], IfS e s d, λ zs p o c xs q. let k = if_is d e s o c xs zs q p.0 (p.1 refl) in (k.0, λ e. k.1))) (λ s r k.
       right_weaker (λ ys b m zs p o c xs q. let k = m o c xs zs q p.0 (p.1 refl) in (k.0, λ e. k.1)) (λ s r k. k)
-        (right_else_part d e s q k.0 r k.1))))
+      (right_else_part d e s q k.0 r k.1))))
 
   right_while : (ts : List Token) → Right (while_statement h inner block) (StmtL false) (Ends h) ts
   unfolding while_statement if_rest
@@ -510,10 +521,16 @@ module _ (h : ℕ) (some : 0 < h) (inner : Bool → List Token → Res StmtTree)
   right_sync : (ts : List Token) → Right (sync_statement h inner block) (StmtL false) (Ends h) ts
   unfolding sync_statement
   right_sync ts =
-      right_tok T.Synchronized (λ d. (token T.OpenParen 0 ∷ token T.This 0 ∷ token T.CloseParen 0 ∷ token T.OpenBrace 0 ∷ token T.CloseBrace 0 ∷ [], SyncS this_lock no_stmts d,
-        ((token T.This 0 ∷ [], [], 0, 0, 0, 0, this_lock_is, refl, refl), λ e. refl))) (λ d r.
-      right_tok T.OpenParen (λ o. (token T.This 0 ∷ token T.CloseParen 0 ∷ token T.OpenBrace 0 ∷ token T.CloseBrace 0 ∷ [], SyncS this_lock no_stmts d,
-        ((token T.This 0 ∷ [], [], o, 0, 0, 0, this_lock_is, refl, refl), λ e. refl))) (λ o r.
+      right_tok T.Synchronized (λ d. (
+        token T.OpenParen 0 ∷ token T.This 0 ∷ token T.CloseParen 0 ∷ token T.OpenBrace 0 ∷ token T.CloseBrace 0 ∷ [],
+        SyncS this_lock no_stmts d,
+        ((token T.This 0 ∷ [], [], 0, 0, 0, 0, this_lock_is, refl, refl), λ e. refl),
+      )) (λ d r.
+      right_tok T.OpenParen (λ o. (
+        token T.This 0 ∷ token T.CloseParen 0 ∷ token T.OpenBrace 0 ∷ token T.CloseBrace 0 ∷ [],
+        SyncS this_lock no_stmts d,
+        ((token T.This 0 ∷ [], [], o, 0, 0, 0, this_lock_is, refl, refl), λ e. refl),
+      )) (λ o r.
       right_seq (right_lock r) (λ l. (token T.CloseParen 0 ∷ token T.OpenBrace 0 ∷ token T.CloseBrace 0 ∷ [], SyncS l no_stmts d, λ xs p. ((xs, [], o, 0, 0, 0, p, refl, refl), λ e. refl))) (λ l r _.
       right_tok T.CloseParen (λ c. (token T.OpenBrace 0 ∷ token T.CloseBrace 0 ∷ [], SyncS l no_stmts d, λ xs p. ((xs, [], o, c, 0, 0, p, refl, refl), λ e. refl))) (λ c r.
       right_seq (blocks r) (λ b. ([], SyncS l (stmts_from b.1) d, λ zs q xs p. sync_is d o c l b xs zs p q)) (λ b r q.
@@ -551,6 +568,7 @@ BlockLow h b r = 1 + stmt_heights (stmts_from b.1) ≤ h
 
 mutual
   unfolding statement_at block_at
+
   pub right_statement : (h : ℕ) (in_block : Bool) (ts : List Token) → Right (statement_at h in_block) (StmtL in_block) (Ends h) ts
   right_statement zero in_block ts = right_beyond (statement_through in_block ts) (token T.Semicolon 0 ∷ [], EmptyS 0, (refl, λ e. refl))
   right_statement (suc h) in_block ts =

@@ -97,10 +97,10 @@ unexpected_right ts r k e i =
       tree = g.tree;
       before = subst (λ z. Wide (z ++ g.more) g.tree) (sym front) g.spelled;
       none = λ w t s p.
-        let q : Through (length g.front) (g.front ++ r) w = subst (λ z. Through z (g.front ++ r) w) at (subst (λ z. Through k z w) g.whole p) in
-        let split = through_split g.front r w q in
-        let told : program w ≡ Err (F.Unexpected, split.0) = ap program split.1 ∙ g.again split.0 split.2 in
-        unexpected_none (highest_body t ≤ 64) (program w) (Ok (t, [])) t [] split.0 (program_read t w s) told
+          let q : Through (length g.front) (g.front ++ r) w = subst (λ z. Through z (g.front ++ r) w) at (subst (λ z. Through k z w) g.whole p) in
+          let split = through_split g.front r w q in
+          let told : program w ≡ Err (F.Unexpected, split.0) = ap program split.1 ∙ g.again split.0 split.2 in
+          unexpected_none (highest_body t ≤ 64) (program w) (Ok (t, [])) t [] split.0 (program_read t w s) told;
     }
 
 deep_high : (h : ℕ) (r : Res ProgramTree) (t : ProgramTree) (w v : List Token) → Same (h ≤ 64) r (Ok (t, w)) → r ≡ Err (F.TooDeep, v) → 64 < h
@@ -119,8 +119,29 @@ deep_right ts r k e i =
       spelled = g.spelled;
       through = subst (λ z. Through z ts (g.front ++ g.more)) (sym at) (subst (λ z. Through (length g.front) z (g.front ++ g.more)) (sym g.whole) p);
       each = λ w t s p.
-        let q : Through (length g.front) (g.front ++ r) w = subst (λ z. Through z (g.front ++ r) w) at (subst (λ z. Through k z w) g.whole p) in
-        let split = through_split g.front r w q in
-        let told : program w ≡ Err (F.TooDeep, split.0) = ap program split.1 ∙ g.again split.0 split.2 in
-        deep_high (highest_body t) (program w) t [] split.0 (program_read t w s) told
+          let q : Through (length g.front) (g.front ++ r) w = subst (λ z. Through z (g.front ++ r) w) at (subst (λ z. Through k z w) g.whole p) in
+          let split = through_split g.front r w q in
+          let told : program w ≡ Err (F.TooDeep, split.0) = ap program split.1 ∙ g.again split.0 split.2 in
+          deep_high (highest_body t) (program w) t [] split.0 (program_read t w s) told;
     }
+
+-- the grammar gives tokens at most one tree
+pub one_tree : (ts : List Token) (t u : ProgramTree) → Grammar ts t → Grammar ts u → t ≡ u
+one_tree ts t u g h = ap (λ z. z.0) (ok_pair (t, []) (u, []) (sym (read_only ts t g) ∙ read_only ts u h))
+
+-- what begins with more tokens begins with fewer
+through_take : (j k : ℕ) (ts more : List Token) → j < k → k ≤ length ts → Through j ts (take k ts ++ more)
+through_take j zero ts more h i = absurd (omega (arith, h))
+through_take j (suc k) [] more h i = absurd (omega (arith, i))
+through_take zero (suc k) (x ∷ ts) more h i = refl
+through_take (suc j) (suc k) (x ∷ ts) more h i = (refl, through_take j k ts more (omega (arith, h)) (omega (arith, i)))
+
+not_before : (ts : List Token) (j k : ℕ) → IsUnexpected ts j → IsUnexpected ts k → j < k → ⊥
+not_before ts j k u v h = u.none (take k ts ++ v.more) v.tree v.before (through_take j k ts v.more h v.within)
+
+-- at most one place is unexpected
+pub one_place : (ts : List Token) (j k : ℕ) → IsUnexpected ts j → IsUnexpected ts k → j ≡ k
+one_place ts j k u v =
+    let a : j < k → ⊥ = not_before ts j k u v in
+    let b : k < j → ⊥ = not_before ts k j v u in
+    omega (arith, a, b)

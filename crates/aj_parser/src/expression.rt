@@ -9,7 +9,10 @@ ghost use Rattle.aj_parser.specs.Combine.{comma_step};
 ghost use Rattle.aj_parser.specs.Reading.{arguments as arguments_at, below, call_arguments, chain_at, chain_with, dots as dots_at, field_name as field_name_at, leaf as leaf_at, member_rest as member_rest_at, member_step as member_step_at, negated as negated_at, new_rest as new_rest_at, op_step, parenthesised as parenthesised_at, postfix as postfix_at, primary as primary_at, unary as unary_at};
 
 use crate::stop::{Fault, Stop};
-use crate::tokens::{begins, begins_expression, begins_least, begins_number, begins_operator, least, name, number, operator, take};
+use crate::tokens::{
+    begins, begins_expression, begins_least, begins_number, begins_operator, least, name, number,
+    operator, take,
+};
 use aj_lexer::Token;
 use aj_syntax::{Expr, Name, Terminal};
 use std::alloc::Global;
@@ -114,7 +117,11 @@ fn next_argument<'a>(
     ensures limit { IfOk result (λ x. x.height < high) }
     ensures shorter { IfOk result (λ x. length x.rest.now < length so_far.entry.rest.now) }
 {
-    let Arguments { mut items, height, rest } = so_far;
+    let Arguments {
+        mut items,
+        height,
+        rest,
+    } = so_far;
     let (_, rest) = take(rest, Terminal::Comma)?;
     let argument = chain(alloc, rest, high - 1, LEVELS)?;
     items.push(argument.tree)?;
@@ -128,7 +135,11 @@ fn next_argument<'a>(
 /// Arguments up to the closing parenthesis.
 #[cycle(expression)]
 #[tactic(auto, unfolding(crate::specs::Reading::arguments), using(crate::proofs::Loops::argument_more, crate::proofs::Loops::argument_done))]
-fn argument_list<'a>(alloc: Global, tokens: &'a [Token], high: u32) -> Result<Arguments<'a>, Stop<'a>>
+fn argument_list<'a>(
+    alloc: Global,
+    tokens: &'a [Token],
+    high: u32,
+) -> Result<Arguments<'a>, Stop<'a>>
     requires high { high ≤ 64 }
     requires positive { 0 < high }
     ensures tree { Gives (λ x. (map expr_of x.items.items, x.rest.now)) result (arguments_at high (below high) tokens.now) }
@@ -169,7 +180,11 @@ fn arguments_in_parentheses<'a>(
 {
     let (_, rest) = take(tokens, Terminal::OpenParen)?;
     let list = argument_list(alloc, rest, high)?;
-    let Arguments { items, height, rest } = list;
+    let Arguments {
+        items,
+        height,
+        rest,
+    } = list;
     let (_, rest) = take(rest, Terminal::CloseParen)?;
     Ok(Arguments {
         items,
@@ -194,7 +209,11 @@ pub fn new_rest<'a>(
     ensures limit { IfOk result (λ x. x.height ≤ high) }
 {
     let (class, rest) = name(alloc, tokens)?;
-    let Arguments { items, height, rest } = arguments_in_parentheses(alloc, rest, high)?;
+    let Arguments {
+        items,
+        height,
+        rest,
+    } = arguments_in_parentheses(alloc, rest, high)?;
     Ok(Parsed {
         tree: make_new(class, items, at),
         height: height + 1,
@@ -205,11 +224,7 @@ pub fn new_rest<'a>(
 /// An expression in parentheses.
 #[cycle(expression)]
 #[tactic(auto, unfolding(crate::specs::Reading::parenthesised))]
-fn parenthesised<'a>(
-    alloc: Global,
-    tokens: &'a [Token],
-    high: u32,
-) -> Result<Parsed<'a>, Stop<'a>>
+fn parenthesised<'a>(alloc: Global, tokens: &'a [Token], high: u32) -> Result<Parsed<'a>, Stop<'a>>
     requires high { high ≤ 64 }
     requires positive { 0 < high }
     ensures tree { Gives (λ x. (expr_of x.tree, x.rest.now)) result (parenthesised_at high (below high) tokens.now) }
@@ -264,11 +279,19 @@ fn member_rest<'a>(
     ensures limit { IfOk result (λ x. x.height ≤ high) }
     ensures grows { IfOk result (λ x. receiver.entry.height < x.height) }
 {
-    let Parsed { tree, height, rest: _ } = receiver;
+    let Parsed {
+        tree,
+        height,
+        rest: _,
+    } = receiver;
     let boxed = Box::new(alloc, tree)?;
     if begins(tokens, Terminal::OpenParen) {
         let list = arguments_in_parentheses(alloc, tokens, high)?;
-        let Arguments { items, height: highest, rest } = list;
+        let Arguments {
+            items,
+            height: highest,
+            rest,
+        } = list;
         return Ok(Parsed {
             tree: make_call(boxed, member, items),
             height: height.max(highest) + 1,
@@ -409,7 +432,11 @@ fn operation<'a>(
     let Parsed { tree, height, rest } = left;
     let ((op, at), rest) = operator(rest, levels + 1)?;
     let right = chain(alloc, rest, high - 1, levels)?;
-    let Parsed { tree: operand, height: other, rest } = right;
+    let Parsed {
+        tree: operand,
+        height: other,
+        rest,
+    } = right;
     Ok(Parsed {
         tree: Expr::Binary(op, Box::new(alloc, tree)?, Box::new(alloc, operand)?, at),
         height: height.max(other) + 1,

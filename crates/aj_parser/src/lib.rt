@@ -7,10 +7,9 @@ mod member;
 mod parser;
 mod statement;
 mod stop;
-mod tokens;
-
 #[cfg(test)]
 mod tests;
+mod tokens;
 
 pub use faults::ParseFault;
-pub use parser::parse;
+pub use parser::{parse, parse_laws};

@@ -21,7 +21,11 @@ pub const MAX_HEIGHT: u32 = 64;
 
 /// A parameter. A constructor's is never final, whatever its text says.
 #[tactic(auto, unfolding(crate::specs::Reading::param))]
-fn param<'a>(alloc: Global, tokens: &'a [Token], of_ctor: bool) -> Result<(Param, &'a [Token]), Stop<'a>>
+fn param<'a>(
+    alloc: Global,
+    tokens: &'a [Token],
+    of_ctor: bool,
+) -> Result<(Param, &'a [Token]), Stop<'a>>
     ensures { Gives (λ x. (x.0, x.1.now)) result (param_at of_ctor tokens.now) }
 {
     let (says_final, rest) = flag(tokens, Terminal::Final);
@@ -56,7 +60,11 @@ fn next_param<'a>(
 
 /// Parameters with commas between them, or none.
 #[tactic(auto, unfolding(crate::specs::Reading::param_list), using(crate::proofs::MemberLoops::param_more, crate::proofs::MemberLoops::param_done))]
-fn param_list<'a>(alloc: Global, tokens: &'a [Token], of_ctor: bool) -> Result<(Vec<Param>, &'a [Token]), Stop<'a>>
+fn param_list<'a>(
+    alloc: Global,
+    tokens: &'a [Token],
+    of_ctor: bool,
+) -> Result<(Vec<Param>, &'a [Token]), Stop<'a>>
     ensures { Gives (λ x. (x.0.items, x.1.now)) result (param_list_at of_ctor tokens.now) }
 {
     let mut list = (Vec::new(alloc), tokens);
@@ -74,7 +82,11 @@ fn param_list<'a>(alloc: Global, tokens: &'a [Token], of_ctor: bool) -> Result<(
 
 /// Parameters in parentheses.
 #[tactic(auto, unfolding(crate::specs::Reading::params))]
-fn params<'a>(alloc: Global, tokens: &'a [Token], of_ctor: bool) -> Result<(Vec<Param>, &'a [Token]), Stop<'a>>
+fn params<'a>(
+    alloc: Global,
+    tokens: &'a [Token],
+    of_ctor: bool,
+) -> Result<(Vec<Param>, &'a [Token]), Stop<'a>>
     ensures { Gives (λ x. (x.0.items, x.1.now)) result (params_at of_ctor tokens.now) }
 {
     let (_, rest) = take(tokens, Terminal::OpenParen)?;
@@ -85,7 +97,10 @@ fn params<'a>(alloc: Global, tokens: &'a [Token], of_ctor: bool) -> Result<(Vec<
 
 /// One required lock more, behind its comma.
 #[tactic(auto, using(crate::proofs::MemberLoops::lock_shorter, crate::proofs::Loops::take_shorter))]
-fn next_lock<'a>(alloc: Global, so_far: (Vec<Lock>, &'a [Token])) -> Result<(Vec<Lock>, &'a [Token]), Stop<'a>>
+fn next_lock<'a>(
+    alloc: Global,
+    so_far: (Vec<Lock>, &'a [Token]),
+) -> Result<(Vec<Lock>, &'a [Token]), Stop<'a>>
     ensures tree { Gives (λ x. (map lock_of x.0.items, x.1.now)) result (comma_step lock_at (map lock_of so_far.entry.0.items) so_far.entry.1.now) }
     ensures shorter { IfOk result (λ x. length x.1.now < length so_far.entry.1.now) }
 {
@@ -163,7 +178,10 @@ fn set<'a>(alloc: Global, tokens: &'a [Token]) -> Result<((Name, Name), &'a [Tok
 
 /// One assignment more of a constructor.
 #[tactic(auto, using(crate::proofs::MemberLoops::set_shorter))]
-fn next_set<'a>(alloc: Global, so_far: (Vec<(Name, Name)>, &'a [Token])) -> Result<(Vec<(Name, Name)>, &'a [Token]), Stop<'a>>
+fn next_set<'a>(
+    alloc: Global,
+    so_far: (Vec<(Name, Name)>, &'a [Token]),
+) -> Result<(Vec<(Name, Name)>, &'a [Token]), Stop<'a>>
     ensures tree { Gives (λ x. (x.0.items, x.1.now)) result (item_step set_at so_far.entry.0.items so_far.entry.1.now) }
     ensures shorter { IfOk result (λ x. length x.1.now < length so_far.entry.1.now) }
 {
@@ -174,7 +192,10 @@ fn next_set<'a>(alloc: Global, so_far: (Vec<(Name, Name)>, &'a [Token])) -> Resu
 }
 
 #[tactic(auto, using(crate::proofs::MemberLoops::set_more, crate::proofs::MemberLoops::set_done))]
-fn sets<'a>(alloc: Global, tokens: &'a [Token]) -> Result<(Vec<(Name, Name)>, &'a [Token]), Stop<'a>>
+fn sets<'a>(
+    alloc: Global,
+    tokens: &'a [Token],
+) -> Result<(Vec<(Name, Name)>, &'a [Token]), Stop<'a>>
     ensures { Gives (λ x. (x.0.items, x.1.now)) result (several may_go_on set_at tokens.now) }
 {
     let mut list = (Vec::new(alloc), tokens);
@@ -186,7 +207,11 @@ fn sets<'a>(alloc: Global, tokens: &'a [Token]) -> Result<(Vec<(Name, Name)>, &'
 
 /// What stands behind the name of a constructor.
 #[tactic(auto, unfolding(crate::specs::Reading::ctor_rest))]
-fn ctor_rest<'a>(alloc: Global, name: Name, tokens: &'a [Token]) -> Result<(Member, &'a [Token]), Stop<'a>>
+fn ctor_rest<'a>(
+    alloc: Global,
+    name: Name,
+    tokens: &'a [Token],
+) -> Result<(Member, &'a [Token]), Stop<'a>>
     ensures { Gives (λ x. (member_of x.0, x.1.now)) result (ctor_rest_at name tokens.now) }
 {
     let (params, rest) = params(alloc, tokens, true)?;
@@ -211,7 +236,12 @@ fn guard<'a>(alloc: Global, tokens: &'a [Token]) -> Result<(Option<Lock>, &'a [T
 
 /// What stands behind the name of a field.
 #[tactic(auto, unfolding(crate::specs::Reading::field_rest))]
-fn field_rest<'a>(alloc: Global, ty: TypeName, name: Name, tokens: &'a [Token]) -> Result<(Member, &'a [Token]), Stop<'a>>
+fn field_rest<'a>(
+    alloc: Global,
+    ty: TypeName,
+    name: Name,
+    tokens: &'a [Token],
+) -> Result<(Member, &'a [Token]), Stop<'a>>
     ensures { Gives (λ x. (member_of x.0, x.1.now)) result (field_rest_at ty name tokens.now) }
 {
     let (guard, rest) = guard(alloc, tokens)?;
@@ -229,7 +259,11 @@ fn field_rest<'a>(alloc: Global, ty: TypeName, name: Name, tokens: &'a [Token]) 
 
 /// What stands behind the type of a field or a method.
 #[tactic(auto, unfolding(crate::specs::Reading::typed_rest))]
-fn typed_rest<'a>(alloc: Global, ty: TypeName, tokens: &'a [Token]) -> Result<(Member, &'a [Token]), Stop<'a>>
+fn typed_rest<'a>(
+    alloc: Global,
+    ty: TypeName,
+    tokens: &'a [Token],
+) -> Result<(Member, &'a [Token]), Stop<'a>>
     ensures { Gives (λ x. (member_of x.0, x.1.now)) result (typed_rest_at ty tokens.now) }
 {
     let (name, rest) = name(alloc, tokens)?;
@@ -260,7 +294,10 @@ fn final_field<'a>(alloc: Global, tokens: &'a [Token]) -> Result<(Member, &'a [T
 
 /// The type of a result, or `void`.
 #[tactic(auto, unfolding(crate::specs::Reading::result_type))]
-fn result_type<'a>(alloc: Global, tokens: &'a [Token]) -> Result<(Option<TypeName>, &'a [Token]), Stop<'a>>
+fn result_type<'a>(
+    alloc: Global,
+    tokens: &'a [Token],
+) -> Result<(Option<TypeName>, &'a [Token]), Stop<'a>>
     ensures { Gives (λ x. (x.0, x.1.now)) result (result_type_at tokens.now) }
 {
     if begins(tokens, Terminal::Void) {
@@ -272,7 +309,11 @@ fn result_type<'a>(alloc: Global, tokens: &'a [Token]) -> Result<(Option<TypeNam
 }
 
 #[tactic(auto, unfolding(crate::specs::Reading::plain_method))]
-fn plain_method<'a>(alloc: Global, atomic: bool, tokens: &'a [Token]) -> Result<(Member, &'a [Token]), Stop<'a>>
+fn plain_method<'a>(
+    alloc: Global,
+    atomic: bool,
+    tokens: &'a [Token],
+) -> Result<(Member, &'a [Token]), Stop<'a>>
     ensures { Gives (λ x. (member_of x.0, x.1.now)) result (plain_method_at atomic tokens.now) }
 {
     let (returns, rest) = result_type(alloc, tokens)?;
@@ -324,7 +365,10 @@ fn member<'a>(alloc: Global, tokens: &'a [Token]) -> Result<(Member, &'a [Token]
 
 /// One member more of a class.
 #[tactic(auto, using(crate::proofs::MemberLoops::member_shorter))]
-fn next_member<'a>(alloc: Global, so_far: (Vec<Member>, &'a [Token])) -> Result<(Vec<Member>, &'a [Token]), Stop<'a>>
+fn next_member<'a>(
+    alloc: Global,
+    so_far: (Vec<Member>, &'a [Token]),
+) -> Result<(Vec<Member>, &'a [Token]), Stop<'a>>
     ensures tree { Gives (λ x. (map member_of x.0.items, x.1.now)) result (item_step member_at (map member_of so_far.entry.0.items) so_far.entry.1.now) }
     ensures shorter { IfOk result (λ x. length x.1.now < length so_far.entry.1.now) }
 {
@@ -381,7 +425,10 @@ fn class<'a>(alloc: Global, tokens: &'a [Token]) -> Result<(Class, &'a [Token]),
 
 /// One class more.
 #[tactic(auto, using(crate::proofs::MemberLoops::class_shorter))]
-fn next_class<'a>(alloc: Global, so_far: (Vec<Class>, &'a [Token])) -> Result<(Vec<Class>, &'a [Token]), Stop<'a>>
+fn next_class<'a>(
+    alloc: Global,
+    so_far: (Vec<Class>, &'a [Token]),
+) -> Result<(Vec<Class>, &'a [Token]), Stop<'a>>
     ensures tree { Gives (λ x. (map class_of x.0.items, x.1.now)) result (item_step class_at (map class_of so_far.entry.0.items) so_far.entry.1.now) }
     ensures shorter { IfOk result (λ x. length x.1.now < length so_far.entry.1.now) }
 {
@@ -393,7 +440,10 @@ fn next_class<'a>(alloc: Global, so_far: (Vec<Class>, &'a [Token])) -> Result<(V
 
 /// The classes, up to the end of the tokens.
 #[tactic(auto, unfolding(crate::specs::Reading::program), using(crate::proofs::MemberLoops::class_more, crate::proofs::MemberLoops::class_done))]
-pub fn classes<'a>(alloc: Global, tokens: &'a [Token]) -> Result<(Vec<Class>, &'a [Token]), Stop<'a>>
+pub fn classes<'a>(
+    alloc: Global,
+    tokens: &'a [Token],
+) -> Result<(Vec<Class>, &'a [Token]), Stop<'a>>
     ensures { Gives (λ x. (map class_of x.0.items, x.1.now)) result (program_at tokens.now) }
 {
     let mut list = (Vec::new(alloc), tokens);

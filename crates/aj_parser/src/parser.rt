@@ -1,6 +1,7 @@
 //! From tokens to a tree.
 
-ghost use Rattle.std.specs.Prelude.{◌≡◌, ℕ, ◌≤◌, length, IfOk, IsErrOf, MatchResult};
+ghost use Rattle.std.specs.Prelude.{◌≡◌, ℕ, ◌≤◌, length, List, IfOk, IsErrOf, MatchResult};
+ghost use Rattle.aj_lexer.specs.declared.tokens.Token.{Token as TokenData};
 ghost use Rattle.aj_syntax.specs.Faults.{IsTooDeep, IsUnexpected};
 ghost use Rattle.aj_syntax.specs.Grammar.{Grammar};
 ghost use Rattle.aj_syntax.specs.Trees.{ProgramTree};
@@ -41,3 +42,9 @@ pub fn parse(alloc: Global, tokens: &[Token]) -> Result<Program, ParseFault>
         }
     }
 }
+
+/// The laws of what `parse` answers: tokens have at most one tree, and at most one of them is the unexpected one.
+pub fn parse_laws()
+    ensures one_tree { (tokens : List Token) (one other : ProgramTree) → Grammar tokens one → Grammar tokens other → one ≡ other }
+    ensures one_place { (tokens : List Token) (one other : ℕ) → IsUnexpected tokens one → IsUnexpected tokens other → one ≡ other }
+{}

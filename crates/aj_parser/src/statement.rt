@@ -12,7 +12,10 @@ ghost use Rattle.aj_parser.specs.Reading.{assigned as assigned_at, below, block_
 
 use crate::expression::{LEVELS, Parsed, chain, dots, field_name, new_rest, primary};
 use crate::stop::{Fault, Stop};
-use crate::tokens::{begins, begins_declaration, begins_name, begins_second_name, begins_statement, goes_on, name, take};
+use crate::tokens::{
+    begins, begins_declaration, begins_name, begins_second_name, begins_statement, goes_on, name,
+    take,
+};
 use aj_lexer::Token;
 use aj_syntax::{Expr, Lock, Name, Stmt, Terminal, TypeName};
 use std::alloc::Global;
@@ -26,7 +29,10 @@ pub struct Braces {
 }
 
 #[tactic(auto, unfolding(crate::specs::Reading::type_name))]
-pub fn type_name<'a>(alloc: Global, tokens: &'a [Token]) -> Result<(TypeName, &'a [Token]), Stop<'a>>
+pub fn type_name<'a>(
+    alloc: Global,
+    tokens: &'a [Token],
+) -> Result<(TypeName, &'a [Token]), Stop<'a>>
     ensures { Gives (λ x. (x.0, x.1.now)) result (type_name_at tokens.now) }
 {
     if begins(tokens, Terminal::Int) {
@@ -86,7 +92,11 @@ pub fn lock<'a>(alloc: Global, tokens: &'a [Token]) -> Result<(Lock, &'a [Token]
 }
 
 /// An expression that is a part of a node at most `high` nodes high.
-fn expression<'a>(alloc: Global, tokens: &'a [Token], high: u32) -> Result<(Expr, &'a [Token]), Stop<'a>>
+fn expression<'a>(
+    alloc: Global,
+    tokens: &'a [Token],
+    high: u32,
+) -> Result<(Expr, &'a [Token]), Stop<'a>>
     requires high { high ≤ 64 }
     requires positive { 0 < high }
     ensures { Gives (λ x. (expr_of x.0, x.1.now)) result (expression_at high tokens.now) }
@@ -101,7 +111,11 @@ fn expression<'a>(alloc: Global, tokens: &'a [Token], high: u32) -> Result<(Expr
 
 /// An expression in parentheses.
 #[tactic(auto, unfolding(crate::specs::Reading::condition))]
-fn condition<'a>(alloc: Global, tokens: &'a [Token], high: u32) -> Result<(Expr, &'a [Token]), Stop<'a>>
+fn condition<'a>(
+    alloc: Global,
+    tokens: &'a [Token],
+    high: u32,
+) -> Result<(Expr, &'a [Token]), Stop<'a>>
     requires high { high ≤ 64 }
     requires positive { 0 < high }
     ensures { Gives (λ x. (expr_of x.0, x.1.now)) result (condition_at high tokens.now) }
@@ -113,7 +127,11 @@ fn condition<'a>(alloc: Global, tokens: &'a [Token], high: u32) -> Result<(Expr,
 }
 
 #[tactic(auto, unfolding(crate::specs::Reading::return_statement))]
-fn return_statement<'a>(alloc: Global, tokens: &'a [Token], high: u32) -> Result<(Stmt, &'a [Token]), Stop<'a>>
+fn return_statement<'a>(
+    alloc: Global,
+    tokens: &'a [Token],
+    high: u32,
+) -> Result<(Stmt, &'a [Token]), Stop<'a>>
     requires high { high ≤ 64 }
     requires positive { 0 < high }
     ensures { Gives (λ x. (stmt_of x.0, x.1.now)) result (return_statement_at high tokens.now) }
@@ -129,7 +147,11 @@ fn return_statement<'a>(alloc: Global, tokens: &'a [Token], high: u32) -> Result
 }
 
 #[tactic(auto, unfolding(crate::specs::Reading::print_statement))]
-fn print_statement<'a>(alloc: Global, tokens: &'a [Token], high: u32) -> Result<(Stmt, &'a [Token]), Stop<'a>>
+fn print_statement<'a>(
+    alloc: Global,
+    tokens: &'a [Token],
+    high: u32,
+) -> Result<(Stmt, &'a [Token]), Stop<'a>>
     requires high { high ≤ 64 }
     requires positive { 0 < high }
     ensures { Gives (λ x. (stmt_of x.0, x.1.now)) result (print_statement_at high tokens.now) }
@@ -146,7 +168,12 @@ fn print_statement<'a>(alloc: Global, tokens: &'a [Token], high: u32) -> Result<
 
 /// The start of a thread, behind its `new`, which is at the offset `at`.
 #[tactic(auto, unfolding(crate::specs::Reading::start_rest))]
-fn start_rest<'a>(alloc: Global, tokens: &'a [Token], high: u32, at: u32) -> Result<(Stmt, &'a [Token]), Stop<'a>>
+fn start_rest<'a>(
+    alloc: Global,
+    tokens: &'a [Token],
+    high: u32,
+    at: u32,
+) -> Result<(Stmt, &'a [Token]), Stop<'a>>
     requires high { high ≤ 64 }
     requires positive { 0 < high }
     ensures { Gives (λ x. (stmt_of x.0, x.1.now)) result (start_rest_at high at tokens.now) }
@@ -163,7 +190,11 @@ fn start_rest<'a>(alloc: Global, tokens: &'a [Token], high: u32, at: u32) -> Res
 
 /// The value of an assignment, behind its target, with the offset of the `=`.
 #[tactic(auto, unfolding(crate::specs::Reading::assigned))]
-fn assigned<'a>(alloc: Global, tokens: &'a [Token], high: u32) -> Result<((Box<Expr>, u32), &'a [Token]), Stop<'a>>
+fn assigned<'a>(
+    alloc: Global,
+    tokens: &'a [Token],
+    high: u32,
+) -> Result<((Box<Expr>, u32), &'a [Token]), Stop<'a>>
     requires high { high ≤ 64 }
     requires positive { 0 < high }
     ensures { Gives (λ x. ((expr_of x.0.0.value, x.0.1), x.1.now)) result (assigned_at high tokens.now) }
@@ -204,7 +235,11 @@ fn local_rest<'a>(
 
 /// A declaration whose type isn't a class, or that says `final`.
 #[tactic(auto, unfolding(crate::specs::Reading::local_statement))]
-fn local_statement<'a>(alloc: Global, tokens: &'a [Token], high: u32) -> Result<(Stmt, &'a [Token]), Stop<'a>>
+fn local_statement<'a>(
+    alloc: Global,
+    tokens: &'a [Token],
+    high: u32,
+) -> Result<(Stmt, &'a [Token]), Stop<'a>>
     requires high { high ≤ 64 }
     requires positive { 0 < high }
     ensures { Gives (λ x. (stmt_of x.0, x.1.now)) result (local_statement_at high tokens.now) }
@@ -237,7 +272,8 @@ fn first_offset(expr: &Expr) -> u32
         | Expr::Neg(_, at)
         | Expr::New(_, _, at) => *at,
         Expr::Var(name) => name.at,
-        Expr::Binary(_, first, _, _) | Expr::Get(first, _) | Expr::Call(first, _, _) => first_offset(first),
+        Expr::Binary(_, first, _, _) | Expr::Get(first, _) | Expr::Call(first, _, _) =>
+            first_offset(first),
     }
 }
 
@@ -250,7 +286,11 @@ fn is_statement(expr: &Expr) -> bool
 
 /// The end of a call or `new` that stands as a statement.
 #[tactic(auto, unfolding(crate::specs::Reading::call_end))]
-fn call_end<'a>(alloc: Global, front: Parsed<'a>, high: u32) -> Result<(Stmt, &'a [Token]), Stop<'a>>
+fn call_end<'a>(
+    alloc: Global,
+    front: Parsed<'a>,
+    high: u32,
+) -> Result<(Stmt, &'a [Token]), Stop<'a>>
     requires height { front.height ≡ height_of (expr_of front.tree) }
     ensures { Gives (λ x. (stmt_of x.0, x.1.now)) result (call_end_at high (expr_of front.entry.tree) front.entry.rest.now) }
 {
@@ -268,7 +308,12 @@ fn call_end<'a>(alloc: Global, front: Parsed<'a>, high: u32) -> Result<(Stmt, &'
 
 /// An assignment to what was read.
 #[tactic(auto, unfolding(crate::specs::Reading::assign))]
-fn target<'a>(alloc: Global, tree: Expr, tokens: &'a [Token], high: u32) -> Result<(Stmt, &'a [Token]), Stop<'a>>
+fn target<'a>(
+    alloc: Global,
+    tree: Expr,
+    tokens: &'a [Token],
+    high: u32,
+) -> Result<(Stmt, &'a [Token]), Stop<'a>>
     requires high { high ≤ 64 }
     requires positive { 0 < high }
     ensures { Gives (λ x. (stmt_of x.0, x.1.now)) result (target_at high (expr_of tree) tokens.now) }
@@ -307,7 +352,11 @@ fn finish<'a>(alloc: Global, front: Parsed<'a>, high: u32) -> Result<(Stmt, &'a 
 
 /// What stands behind a primary that begins a statement.
 #[tactic(auto, unfolding(crate::specs::Reading::finish_from))]
-fn finish_from<'a>(alloc: Global, front: Parsed<'a>, high: u32) -> Result<(Stmt, &'a [Token]), Stop<'a>>
+fn finish_from<'a>(
+    alloc: Global,
+    front: Parsed<'a>,
+    high: u32,
+) -> Result<(Stmt, &'a [Token]), Stop<'a>>
     requires high { high ≤ 64 }
     requires positive { 0 < high }
     requires height { front.height ≡ height_of (expr_of front.tree) }
@@ -319,7 +368,11 @@ fn finish_from<'a>(alloc: Global, front: Parsed<'a>, high: u32) -> Result<(Stmt,
 }
 
 #[tactic(auto, unfolding(crate::specs::Reading::new_statement))]
-fn new_statement<'a>(alloc: Global, tokens: &'a [Token], high: u32) -> Result<(Stmt, &'a [Token]), Stop<'a>>
+fn new_statement<'a>(
+    alloc: Global,
+    tokens: &'a [Token],
+    high: u32,
+) -> Result<(Stmt, &'a [Token]), Stop<'a>>
     requires high { high ≤ 64 }
     requires positive { 0 < high }
     ensures { Gives (λ x. (stmt_of x.0, x.1.now)) result (new_statement_at high tokens.now) }
@@ -358,7 +411,11 @@ fn name_statement<'a>(
 }
 
 #[tactic(auto, unfolding(crate::specs::Reading::expression_statement))]
-fn expression_statement<'a>(alloc: Global, tokens: &'a [Token], high: u32) -> Result<(Stmt, &'a [Token]), Stop<'a>>
+fn expression_statement<'a>(
+    alloc: Global,
+    tokens: &'a [Token],
+    high: u32,
+) -> Result<(Stmt, &'a [Token]), Stop<'a>>
     requires high { high ≤ 64 }
     requires positive { 0 < high }
     ensures { Gives (λ x. (stmt_of x.0, x.1.now)) result (expression_statement_at high tokens.now) }
@@ -451,7 +508,11 @@ fn else_part<'a>(
 
 #[cycle(statement)]
 #[tactic(auto, unfolding(crate::specs::Reading::if_statement))]
-fn if_statement<'a>(alloc: Global, tokens: &'a [Token], high: u32) -> Result<(Stmt, &'a [Token]), Stop<'a>>
+fn if_statement<'a>(
+    alloc: Global,
+    tokens: &'a [Token],
+    high: u32,
+) -> Result<(Stmt, &'a [Token]), Stop<'a>>
     requires high { high ≤ 64 }
     requires positive { 0 < high }
     ensures { Gives (λ x. (stmt_of x.0, x.1.now)) result (if_statement_at high (statement_at (high - 1)) (block_at (high - 1)) tokens.now) }
@@ -466,7 +527,11 @@ fn if_statement<'a>(alloc: Global, tokens: &'a [Token], high: u32) -> Result<(St
 
 #[cycle(statement)]
 #[tactic(auto, unfolding(crate::specs::Reading::while_statement))]
-fn while_statement<'a>(alloc: Global, tokens: &'a [Token], high: u32) -> Result<(Stmt, &'a [Token]), Stop<'a>>
+fn while_statement<'a>(
+    alloc: Global,
+    tokens: &'a [Token],
+    high: u32,
+) -> Result<(Stmt, &'a [Token]), Stop<'a>>
     requires high { high ≤ 64 }
     requires positive { 0 < high }
     ensures { Gives (λ x. (stmt_of x.0, x.1.now)) result (while_statement_at high (statement_at (high - 1)) (block_at (high - 1)) tokens.now) }
@@ -474,12 +539,19 @@ fn while_statement<'a>(alloc: Global, tokens: &'a [Token], high: u32) -> Result<
     let (at, rest) = take(tokens, Terminal::While)?;
     let (value, rest) = condition(alloc, rest, high)?;
     let (repeated, rest) = statement(alloc, rest, high - 1, false)?;
-    Ok((Stmt::While(Box::new(alloc, value)?, Box::new(alloc, repeated)?, at), rest))
+    Ok((
+        Stmt::While(Box::new(alloc, value)?, Box::new(alloc, repeated)?, at),
+        rest,
+    ))
 }
 
 #[cycle(statement)]
 #[tactic(auto, unfolding(crate::specs::Reading::sync_statement))]
-fn sync_statement<'a>(alloc: Global, tokens: &'a [Token], high: u32) -> Result<(Stmt, &'a [Token]), Stop<'a>>
+fn sync_statement<'a>(
+    alloc: Global,
+    tokens: &'a [Token],
+    high: u32,
+) -> Result<(Stmt, &'a [Token]), Stop<'a>>
     requires high { high ≤ 64 }
     requires positive { 0 < high }
     ensures { Gives (λ x. (stmt_of x.0, x.1.now)) result (sync_statement_at high (statement_at (high - 1)) (block_at (high - 1)) tokens.now) }
@@ -518,7 +590,11 @@ fn next_statement<'a>(
 /// The statements up to the closing brace.
 #[cycle(statement)]
 #[tactic(auto, using(crate::proofs::StatementLoops::statement_more, crate::proofs::StatementLoops::statement_done))]
-fn statements<'a>(alloc: Global, tokens: &'a [Token], high: u32) -> Result<(Vec<Stmt>, &'a [Token]), Stop<'a>>
+fn statements<'a>(
+    alloc: Global,
+    tokens: &'a [Token],
+    high: u32,
+) -> Result<(Vec<Stmt>, &'a [Token]), Stop<'a>>
     requires high { high < 64 }
     ensures { Gives (λ x. (map stmt_of x.0.items, x.1.now)) result (several may_go_on (statement_at high true) tokens.now) }
 {
@@ -532,7 +608,11 @@ fn statements<'a>(alloc: Global, tokens: &'a [Token], high: u32) -> Result<(Vec<
 /// A block that counts as one node, at most `high` nodes high.
 #[cycle(statement)]
 #[tactic(auto, unfolding(crate::specs::Reading::braces), using(crate::proofs::StatementLoops::block_zero, crate::proofs::StatementLoops::block_positive))]
-pub fn block<'a>(alloc: Global, tokens: &'a [Token], high: u32) -> Result<(Braces, &'a [Token]), Stop<'a>>
+pub fn block<'a>(
+    alloc: Global,
+    tokens: &'a [Token],
+    high: u32,
+) -> Result<(Braces, &'a [Token]), Stop<'a>>
     requires high { high ≤ 64 }
     ensures { Gives (λ x. ((x.0.at, map stmt_of x.0.statements.items, x.0.end), x.1.now)) result (block_at high tokens.now) }
 {

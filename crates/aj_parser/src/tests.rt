@@ -32,19 +32,58 @@ fn faults_have_places(rt: HostRuntime) -> Result<(), Fail> {
         ("class Main { void main() { } }", None),
         ("public class Main { public void main() { } }", None),
         ("class C { final D d; C(final D d) { this.d = d; } }", None),
-        ("class C { int v guarded_by this; atomic int m() requires this, a.b { return -1; } }", None),
-        ("class W implements Runnable { void run() { new Thread(new W()).start(); } }", None),
-        ("class A { void m() { final A a = new A(); A b = a; a.f.g(1, b).h = - 2147483648; } }", None),
-        ("class A { void m() { while (a + 1 * 2 < 3 && !b) { synchronized (a.l) { return; } } } }", None),
-        ("class Main { void main() { if (true) { } el", Some(ParseFault::Unexpected(15))),
-        ("class Main { void main() { System.out.println(21", Some(ParseFault::Unexpected(15))),
-        ("class Main { void main() { x++; } }", Some(ParseFault::Unexpected(9))),
-        ("class A { void m() { x = 2147483648; } }", Some(ParseFault::Unexpected(10))),
-        ("class A { void m() { x = -2147483648.f; } }", Some(ParseFault::Unexpected(12))),
-        ("class A { void m() { if (a) int b = 1; } }", Some(ParseFault::Unexpected(12))),
-        ("class A { void m() { (a.f()); } }", Some(ParseFault::Unexpected(15))),
-        ("class A { void m() { a < b; } }", Some(ParseFault::Unexpected(9))),
-        ("class A { final int f guarded_by this; }", Some(ParseFault::Unexpected(6))),
+        (
+            "class C { int v guarded_by this; atomic int m() requires this, a.b { return -1; } }",
+            None,
+        ),
+        (
+            "class W implements Runnable { void run() { new Thread(new W()).start(); } }",
+            None,
+        ),
+        (
+            "class A { void m() { final A a = new A(); A b = a; a.f.g(1, b).h = - 2147483648; } }",
+            None,
+        ),
+        (
+            "class A { void m() { while (a + 1 * 2 < 3 && !b) { synchronized (a.l) { return; } } } }",
+            None,
+        ),
+        (
+            "class Main { void main() { if (true) { } el",
+            Some(ParseFault::Unexpected(15)),
+        ),
+        (
+            "class Main { void main() { System.out.println(21",
+            Some(ParseFault::Unexpected(15)),
+        ),
+        (
+            "class Main { void main() { x++; } }",
+            Some(ParseFault::Unexpected(9)),
+        ),
+        (
+            "class A { void m() { x = 2147483648; } }",
+            Some(ParseFault::Unexpected(10)),
+        ),
+        (
+            "class A { void m() { x = -2147483648.f; } }",
+            Some(ParseFault::Unexpected(12)),
+        ),
+        (
+            "class A { void m() { if (a) int b = 1; } }",
+            Some(ParseFault::Unexpected(12)),
+        ),
+        (
+            "class A { void m() { (a.f()); } }",
+            Some(ParseFault::Unexpected(15)),
+        ),
+        (
+            "class A { void m() { a < b; } }",
+            Some(ParseFault::Unexpected(9)),
+        ),
+        (
+            "class A { final int f guarded_by this; }",
+            Some(ParseFault::Unexpected(6)),
+        ),
         ("class A extends B { }", Some(ParseFault::Unexpected(2))),
     ] {
         assert_eq!(rt; fault_of(rt.alloc(), source)?, fault, "{source}");
@@ -68,7 +107,10 @@ fn outer_has_no_else(program: &Program) -> bool {
 
 #[test]
 fn else_belongs_to_the_nearest_if(rt: HostRuntime) -> Result<(), Fail> {
-    let program = parsed(rt.alloc(), "class A { void m() { if (a) if (b) ; else ; } }")??;
+    let program = parsed(
+        rt.alloc(),
+        "class A { void m() { if (a) if (b) ; else ; } }",
+    )??;
     assert!(rt; outer_has_no_else(&program));
     Ok(())
 }
@@ -85,8 +127,14 @@ fn nested(alloc: Global, front: &str, unit: &str, times: u32) -> Result<Option<P
 
 #[test]
 fn nesting_has_a_limit(rt: HostRuntime) -> Result<(), Fail> {
-    assert_eq!(rt; nested(rt.alloc(), "", "{", 64)?, Some(ParseFault::TooDeep(71)));
-    assert_eq!(rt; nested(rt.alloc(), "", "{", 63)?, Some(ParseFault::Unexpected(71)));
+    assert_eq!(rt;
+        nested(rt.alloc(), "", "{", 64)?,
+        Some(ParseFault::TooDeep(71))
+    );
+    assert_eq!(rt;
+        nested(rt.alloc(), "", "{", 63)?,
+        Some(ParseFault::Unexpected(71))
+    );
     for (front, unit, times) in [
         ("", "{", 100_000),
         ("a = ", "(", 100_000),

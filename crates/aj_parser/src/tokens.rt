@@ -262,7 +262,9 @@ pub fn begins_expression(tokens: &[Token]) -> bool
 fn begins_local_token(token: &Token) -> bool
     ensures { result ≡ begins_local token.now }
 {
-    Terminal::Final.matches(token) || Terminal::Int.matches(token) || Terminal::Boolean.matches(token)
+    Terminal::Final.matches(token)
+        || Terminal::Int.matches(token)
+        || Terminal::Boolean.matches(token)
 }
 
 #[tactic(auto, unfolding(crate::specs::Reading::begins_statement))]

@@ -4,8 +4,8 @@
 mod terminal;
 mod tree;
 
-pub use terminal::Terminal;
-pub use tree::{Class, Expr, Lock, Member, Name, Op, Param, Program, Stmt, TypeName};
-
 ghost use Rattle.aj_syntax.specs.Faults.{IsTooDeep, IsUnexpected};
 ghost use Rattle.aj_syntax.specs.Views.{program_of};
+
+pub use terminal::Terminal;
+pub use tree::{Class, Expr, Lock, Member, Name, Op, Param, Program, Stmt, TypeName};

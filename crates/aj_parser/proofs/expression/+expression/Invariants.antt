@@ -57,7 +57,7 @@ invariant-argument_list-loop-alloc l = record {
   told : loop (is T.Comma) (comma_step (below l.high 6)) (map expr_of l.list.items.items) l.list.rest.now ≡ arguments_at l.high (below l.high) l.tokens;
   height : l.list.height ≡ heights (exprs_from (map expr_of l.list.items.items));
   limit : l.list.height < l.high;
-  }
+}
 
 abbrev pub decreases-argument_list-loop-alloc : goal.decreases-argument_list-loop-alloc
 decreases-argument_list-loop-alloc l = length l.list.rest.now
@@ -67,7 +67,7 @@ invariant-dots-loop-alloc l = record {
   told : loop (is T.Dot) (member_step l.high (below l.high)) (expr_of l.whole.tree) l.whole.rest.now ≡ dots_at l.high (below l.high) (expr_of l.fn.front.tree) l.fn.front.rest.now;
   height : l.whole.height ≡ height_of (expr_of l.whole.tree);
   limit : l.whole.height ≤ l.high;
-  }
+}
 
 abbrev pub decreases-dots-loop-alloc : goal.decreases-dots-loop-alloc
 decreases-dots-loop-alloc l = l.high - l.whole.height
@@ -77,7 +77,7 @@ invariant-operations-loop-alloc l = record {
   told : loop (is_op l.levels) (op_step l.high (below l.high) (l.levels - 1)) (expr_of l.whole.tree) l.whole.rest.now ≡ chain_with l.high (below l.high) l.levels l.tokens;
   height : l.whole.height ≡ height_of (expr_of l.whole.tree);
   limit : l.whole.height ≤ l.high;
-  }
+}
 
 abbrev pub decreases-operations-loop-alloc : goal.decreases-operations-loop-alloc
 decreases-operations-loop-alloc l = l.high - l.whole.height
