@@ -1,6 +1,6 @@
 -- What is spelled is read: expressions.
-use Rattle.std.proofs.Common.{◌≡◌, ◌≢◌, ℕ, zero, suc, ◌<◌, ◌≤◌, ◌+◌, ◌-◌, ◌==◌, ◌&&◌, ◌||◌, max, nat_lt, Bool, true, false, List, [], ◌∷◌, ◌++◌, length, Option, Some, None, Result, Ok, Err, refl, sym, ◌∙◌, ap, subst, append_assoc, append-nil, arith, if◌then◌else◌, is_some}
-use Rattle.std.proofs.lemmas.Bool.{eqb-true, ltb-true, ltb-false, eq-eqb, ne_eqb, le-ltb, lt-ltb}
+use Rattle.std.proofs.Common.{◌≡◌, ◌≢◌, ℕ, zero, suc, ◌<◌, ◌≤◌, ◌+◌, ◌-◌, ◌==◌, ◌||◌, nat_lt, Bool, true, false, List, [], ◌∷◌, ◌++◌, Option, Some, Ok, Err, refl, sym, ◌∙◌, ap, subst, append_assoc, append-nil, arith, if◌then◌else◌, is_some}
+use Rattle.std.proofs.lemmas.Bool.{eqb-true, ltb-false, eq-eqb, ne_eqb, lt-ltb}
 use Rattle.aj_lexer.specs.declared.tokens.Token.{Token}
 use Rattle.aj_syntax.specs.declared.terminal.Terminal.{Terminal}
 use Rattle.aj_syntax.specs.declared.terminal.Terminal.TheVariants as T
@@ -12,12 +12,12 @@ use Rattle.aj_syntax.specs.Heights.{height, heights}
 use Rattle.aj_syntax.specs.Tokens.{is, token, name_token, number_token}
 use Rattle.aj_syntax.specs.Trees.{ExprTree, ExprTrees, NumberE, LeastE, TruthE, NullE, ThisE, VarE, ParenE, NotE, NegE, BinaryE, GetE, CallE, NewE, no_exprs, more_exprs}
 use Rattle.aj_syntax.specs.Views.{exprs_from}
-use Rattle.aj_parser.proofs.Expressions.{Level, Postfix, op_takes, member_takes}
+use Rattle.aj_parser.proofs.Expressions.{Level, op_takes}
 use Rattle.aj_parser.proofs.Lists.{shift}
 use Rattle.aj_parser.proofs.LoopLaw.{loop_done, loop_more}
 use Rattle.aj_parser.proofs.Loops.{below_law, member_more, member_done, chain_positive, argument_takes}
-use Rattle.aj_parser.specs.Combine.{Res, ◌>>=◌, starts, first, when, take_one, loop, comma_step, separated, beyond, allow}
-use Rattle.aj_parser.specs.Reading.{a_name, is_name, a_number, is_number, a_least, is_least, op_of, op_at, an_op, is_op, is_leaf, begins_expression, field_name, leaf, arguments, call_arguments, new_rest, parenthesised, primary, member_rest, member_step, dots, postfix, negated, unary, op_step, chain_with, chain_at, below}
+use Rattle.aj_parser.specs.Combine.{Res, ◌>>=◌, starts, first, when, take_one, loop, comma_step, allow}
+use Rattle.aj_parser.specs.Reading.{is_number, is_least, op_of, op_at, an_op, is_op, begins_expression, field_name, leaf, arguments, call_arguments, new_rest, parenthesised, primary, member_rest, member_step, dots, postfix, negated, unary, op_step, chain_with, chain_at, below}
 use Rattle.aj_parser.specs.declared.stop.Fault.TheVariants as F
 
 -- an answer that is too deep

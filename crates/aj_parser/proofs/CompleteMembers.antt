@@ -1,5 +1,5 @@
 -- What is spelled is read: members, classes and programs.
-use Rattle.std.proofs.Common.{◌≡◌, ◌≢◌, ℕ, zero, suc, ◌<◌, ◌≤◌, ◌+◌, ◌-◌, ◌&&◌, not, max, Bool, true, false, List, [], ◌∷◌, ◌++◌, length, Option, Some, None, Result, Ok, Err, refl, sym, ◌∙◌, ap, subst, append_assoc, append-nil, arith, if◌then◌else◌, inl, inr, ◌⊎◌, length-append}
+use Rattle.std.proofs.Common.{◌≡◌, ℕ, ◌<◌, ◌≤◌, ◌+◌, ◌&&◌, not, Bool, true, false, List, [], ◌∷◌, ◌++◌, length, Option, Some, None, Ok, refl, sym, ◌∙◌, ap, subst, append_assoc, append-nil, arith, if◌then◌else◌, inl, inr}
 use Rattle.aj_lexer.specs.declared.tokens.Token.{Token}
 use Rattle.aj_syntax.specs.declared.terminal.Terminal.{Terminal}
 use Rattle.aj_syntax.specs.declared.terminal.Terminal.TheVariants as T
@@ -7,19 +7,19 @@ use Rattle.aj_syntax.specs.declared.tree.Name.{Name}
 use Rattle.aj_syntax.specs.declared.tree.Param.{Param}
 use Rattle.aj_syntax.specs.declared.tree.TypeName.{TypeName}
 use Rattle.aj_syntax.specs.declared.tree.TypeName.TheVariants as Y
-use Rattle.aj_syntax.specs.Grammar.{SpellsStmts, SpellsLock, SpellsFields, IsType, IsFlag, IsOptional, IsResultType, SpellsParam, SpellsCtorParam, SpellsSet, SpellsGuard, SpellsRequires, SpellsBare, SpellsMember, SpellsRunnable, SpellsClass, Separates, Follows, Repeats, Wide}
+use Rattle.aj_syntax.specs.Grammar.{SpellsStmts, SpellsLock, IsType, IsFlag, IsOptional, IsResultType, SpellsSet, SpellsGuard, SpellsRequires, SpellsBare, SpellsMember, SpellsRunnable, SpellsClass, Separates, Follows, Repeats, Wide}
 use Rattle.aj_syntax.specs.Heights.{stmt_heights, body_height, highest_member, highest_body}
 use Rattle.aj_syntax.specs.Tokens.{is, token, name_token}
-use Rattle.aj_syntax.specs.Trees.{LockTree, StmtTree, StmtTrees, no_stmts, MethodTree, MemberTree, FieldM, CtorM, MethodM, ClassTree, ProgramTree}
+use Rattle.aj_syntax.specs.Trees.{LockTree, StmtTrees, MethodTree, MemberTree, FieldM, CtorM, MethodM, ClassTree, ProgramTree}
 use Rattle.aj_syntax.specs.Views.{stmts_from}
-use Rattle.aj_parser.proofs.Complete.{IsDeep, Same, same, deep, same_along, same_weaker, same_then, same_bind, same_trans, at_list}
+use Rattle.aj_parser.proofs.Complete.{Same, same, same_along, same_then, same_bind, at_list}
 use Rattle.aj_parser.proofs.CompleteStatements.{lock_read, type_read, block_read, items_read}
 use Rattle.aj_parser.proofs.Lists.{shift}
 use Rattle.aj_parser.proofs.LoopLaw.{loop_done, loop_more, Takes}
 use Rattle.aj_parser.proofs.MemberLoops.{param_takes, lock_takes, set_takes, member_takes, class_takes}
 use Rattle.aj_parser.proofs.Members.{ParamL, class_long}
 use Rattle.aj_parser.specs.Combine.{Res, ◌>>=◌, starts, first, take_one, flag, flagged, loop, several, separated, item_step, comma_step}
-use Rattle.aj_parser.specs.Reading.{a_name, is_name, field_name, lock, type_name, goes_on, block_at, param, param_list, params, required, method_rest, set, ctor_rest, guard, field_rest, typed_rest, final_field, result_type, plain_method, named_member, bare_member, member, runnable, class_at, program}
+use Rattle.aj_parser.specs.Reading.{a_name, field_name, lock, type_name, goes_on, block_at, param, param_list, params, required, method_rest, set, ctor_rest, guard, field_rest, typed_rest, final_field, result_type, plain_method, named_member, bare_member, member, runnable, class_at, program}
 
 if_false : {B : Type 0} (b : Bool) (x y : B) → b ≡ false → (if b then x else y) ≡ y
 if_false true x y h = cc

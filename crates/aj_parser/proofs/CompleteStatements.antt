@@ -1,6 +1,6 @@
 -- What is spelled is read: statements.
-use Rattle.std.proofs.Common.{◌≡◌, ◌≢◌, ℕ, zero, suc, ◌<◌, ◌≤◌, ◌+◌, ◌-◌, ◌==◌, ◌&&◌, ◌||◌, not, max, nat_lt, Bool, true, false, List, [], ◌∷◌, ◌++◌, length, Option, Some, None, Result, Ok, Err, refl, sym, ◌∙◌, ap, subst, append_assoc, append-nil, arith, if◌then◌else◌, is_some}
-use Rattle.std.proofs.lemmas.Bool.{ltb-true, ltb-false, lt-ltb}
+use Rattle.std.proofs.Common.{◌≡◌, ℕ, zero, suc, ◌<◌, ◌≤◌, ◌+◌, ◌-◌, ◌&&◌, ◌||◌, nat_lt, Bool, true, false, List, [], ◌∷◌, ◌++◌, length, Option, Some, None, Ok, Err, refl, sym, ◌∙◌, ap, subst, append_assoc, append-nil, arith, if◌then◌else◌, is_some}
+use Rattle.std.proofs.lemmas.Bool.{ltb-false, lt-ltb}
 use Rattle.aj_lexer.specs.declared.tokens.Token.{Token}
 use Rattle.aj_syntax.specs.declared.terminal.Terminal.{Terminal}
 use Rattle.aj_syntax.specs.declared.terminal.Terminal.TheVariants as T
@@ -8,20 +8,18 @@ use Rattle.aj_syntax.specs.declared.tree.Name.{Name}
 use Rattle.aj_syntax.specs.declared.tree.TypeName.{TypeName}
 use Rattle.aj_syntax.specs.declared.tree.TypeName.TheVariants as Y
 use Rattle.aj_syntax.specs.Grammar.{Spells, SpellsStmt, SpellsStmts, SpellsLock, SpellsFields, SpellsRoot, IsType, IsFlag, is_postfix, is_call, is_local, open_if, offset}
-use Rattle.aj_syntax.specs.Heights.{height, heights, stmt_height, stmt_heights}
+use Rattle.aj_syntax.specs.Heights.{height, stmt_height, stmt_heights}
 use Rattle.aj_syntax.specs.Tokens.{is, token, name_token, number_token}
-use Rattle.aj_syntax.specs.Trees.{LockTree, ExprTree, ExprTrees, NumberE, LeastE, TruthE, NullE, ThisE, VarE, ParenE, NotE, NegE, BinaryE, GetE, CallE, NewE, no_exprs, more_exprs, StmtTree, StmtTrees, EmptyS, BlockS, LocalS, SetVarS, SetFieldS, DoS, IfS, IfElseS, WhileS, SyncS, ReturnS, PrintS, StartS, no_stmts, more_stmts}
+use Rattle.aj_syntax.specs.Trees.{LockTree, ExprTree, NumberE, LeastE, TruthE, NullE, ThisE, VarE, ParenE, NotE, NegE, BinaryE, GetE, CallE, NewE, StmtTree, StmtTrees, EmptyS, BlockS, LocalS, SetVarS, SetFieldS, DoS, IfS, IfElseS, WhileS, SyncS, ReturnS, PrintS, StartS, no_stmts, more_stmts}
 use Rattle.aj_syntax.specs.Views.{stmts_from}
-use Rattle.aj_parser.proofs.Complete.{IsDeep, Same, same, deep, same_along, same_weaker, same_then, same_bind, same_trans, same_allow, at_list, postfix_first, reads, reads_any, reads_args, new_rest_read, Reads, Calm, calm_close, calm_semicolon, no_semicolon, height_some}
+use Rattle.aj_parser.proofs.Complete.{Same, same, deep, same_along, same_weaker, same_then, same_bind, same_allow, at_list, postfix_first, reads, reads_any, calm_close, calm_semicolon, no_semicolon}
 use Rattle.aj_parser.proofs.Expressions.{spelled_long}
 use Rattle.aj_parser.proofs.Lists.{shift}
-use Rattle.aj_parser.proofs.LoopLaw.{loop_done, loop_more}
 use Rattle.aj_parser.proofs.Loops.{member_done}
-use Rattle.aj_parser.proofs.StatementLoops.{field_more, field_done, statement_more, statement_done, statement_zero, statement_positive, block_zero, block_positive, block_statement_is}
+use Rattle.aj_parser.proofs.StatementLoops.{field_more, field_done, statement_more, statement_done, statement_zero, statement_positive, block_zero, block_positive}
 use Rattle.aj_parser.proofs.Statements.{first_is}
-use Rattle.aj_parser.specs.Combine.{Res, ◌>>=◌, starts, first, when, take_one, loop, several, item_step, beyond, allow}
-use Rattle.aj_parser.specs.Reading.{a_name, is_name, is_leaf, is_number, leaf, field_name, lock, type_name, below, first_at, begins_local, begins_statement, goes_on, braces, expression, condition, return_statement, print_statement, start_rest, assign, assigned, local_rest, local_statement, call_end, target, finish, finish_from, new_statement, name_statement, expression_statement, plain_statement, else_part, if_statement, while_statement, sync_statement, block_statement, statement_with, statement_at, block_at, dots, primary, new_rest, postfix, parenthesised}
-use Rattle.aj_parser.specs.declared.stop.Fault.TheVariants as F
+use Rattle.aj_parser.specs.Combine.{Res, ◌>>=◌, starts, when, take_one, loop, item_step}
+use Rattle.aj_parser.specs.Reading.{is_name, leaf, field_name, lock, type_name, below, first_at, begins_local, begins_statement, goes_on, braces, condition, return_statement, print_statement, start_rest, assign, assigned, local_rest, local_statement, call_end, target, finish, finish_from, new_statement, name_statement, expression_statement, plain_statement, else_part, if_statement, while_statement, sync_statement, block_statement, statement_with, statement_at, block_at, dots, primary, new_rest, postfix}
 
 if_false : {B : Type 0} (b : Bool) (x y : B) → b ≡ false → (if b then x else y) ≡ y
 if_false true x y h = cc

@@ -1,5 +1,5 @@
 -- Expressions are read right.
-use Rattle.std.proofs.Common.{◌≡◌, ℕ, zero, suc, ◌<◌, ◌≤◌, ◌+◌, ◌-◌, ◌==◌, ◌&&◌, ◌||◌, max, nat_lt, Bool, true, false, List, [], ◌∷◌, ◌++◌, length, Option, Some, None, Result, Ok, Err, refl, sym, ◌∙◌, ap, subst, append_assoc, append-nil, arith, length-append, ◌⊎◌, inl, inr, map, if◌then◌else◌, is_some}
+use Rattle.std.proofs.Common.{◌≡◌, ℕ, zero, suc, ◌<◌, ◌≤◌, ◌==◌, ◌||◌, nat_lt, Bool, true, false, List, [], ◌∷◌, ◌++◌, length, Option, Some, None, refl, sym, ◌∙◌, ap, subst, append_assoc, append-nil, arith, length-append, if◌then◌else◌, is_some}
 use Rattle.std.proofs.lemmas.Bool.{eqb-true, ltb-true}
 use Rattle.aj_lexer.specs.declared.tokens.Token.{Token}
 use Rattle.aj_lexer.specs.declared.tokens.TokenKind.{TokenKind}
@@ -11,15 +11,14 @@ use Rattle.aj_syntax.specs.declared.tree.Op.TheVariants as O
 use Rattle.aj_syntax.specs.Grammar.{Spells, SpellsArgs, SpellsMoreArgs, loose, level, sign_of, is_postfix}
 use Rattle.aj_syntax.specs.Heights.{height, heights}
 use Rattle.aj_syntax.specs.Tokens.{is, token, name_token, number_token}
-use Rattle.aj_syntax.specs.Trees.{ExprTree, ExprTrees, NumberE, LeastE, TruthE, NullE, ThisE, VarE, ParenE, NotE, NegE, BinaryE, GetE, CallE, NewE, no_exprs, more_exprs}
+use Rattle.aj_syntax.specs.Trees.{ExprTree, NumberE, LeastE, TruthE, NullE, ThisE, VarE, ParenE, NotE, NegE, BinaryE, GetE, CallE, NewE, no_exprs}
 use Rattle.aj_syntax.specs.Views.{exprs_from}
-use Rattle.aj_parser.proofs.Right.{Right, Any, Some_of, Goes, right_seq, right_along, right_weaker}
-use Rattle.aj_parser.proofs.Parts.{One, Through_next, right_first, right_one, right_tok, right_name, right_a_name, right_done, right_if, right_allow, right_beyond, x_name, is_token, name_if_is, right_fail}
+use Rattle.aj_parser.proofs.Right.{Right, Any, Some_of, right_seq, right_weaker}
+use Rattle.aj_parser.proofs.Parts.{One, Through_next, right_first, right_one, right_tok, right_name, right_a_name, right_done, right_if, right_allow, right_beyond, x_name, is_token, name_if_is}
 use Rattle.aj_parser.proofs.LoopLaw.{right_loop, loop_takes, Takes}
-use Rattle.aj_parser.proofs.Lists.{right_separated, separated_takes, longer}
-use Rattle.aj_parser.specs.Combine.{Res, ◌>>=◌, starts, first, when, take_one, loop, comma_step, separated, beyond, allow}
+use Rattle.aj_parser.proofs.Lists.{right_separated}
+use Rattle.aj_parser.specs.Combine.{Res, ◌>>=◌, starts, first, when}
 use Rattle.aj_parser.specs.Reading.{a_name, is_name, a_number, number_if, small_number, is_number, a_least, is_least, least_number, op_of, op_at, an_op, is_op, is_leaf, begins_expression, field_name, leaf, arguments, call_arguments, new_rest, parenthesised, primary, member_rest, member_step, dots, postfix, negated, unary, op_step, chain_with, chain_at}
-use Rattle.aj_parser.specs.declared.stop.Fault.TheVariants as F
 
 -- what stands at a level
 abbrev pub Level : ℕ → List Token → ExprTree → Type 0

@@ -1,12 +1,12 @@
 -- Items one after another, and items with commas between them, are right.
-use Rattle.std.proofs.Common.{◌≡◌, ℕ, zero, suc, ◌<◌, ◌≤◌, ◌+◌, Bool, true, false, List, [], ◌∷◌, ◌++◌, length, Result, Ok, Err, refl, sym, ◌∙◌, ap, subst, append_assoc, append-nil, arith, length-append}
+use Rattle.std.proofs.Common.{◌≡◌, ℕ, ◌<◌, Bool, true, false, List, [], ◌∷◌, ◌++◌, length, refl, sym, ◌∙◌, ap, subst, append_assoc, append-nil, arith, length-append}
 use Rattle.aj_lexer.specs.declared.tokens.Token.{Token}
 use Rattle.aj_syntax.specs.declared.terminal.Terminal.TheVariants as T
 use Rattle.aj_syntax.specs.Tokens.{is, token}
-use Rattle.aj_parser.proofs.Right.{Right, Any, Some_of, right_seq, right_along, right_weaker}
+use Rattle.aj_parser.proofs.Right.{Right, Some_of, right_seq, right_weaker}
 use Rattle.aj_parser.proofs.Parts.{right_done, right_tok}
 use Rattle.aj_parser.proofs.LoopLaw.{right_loop, loop_takes, Takes}
-use Rattle.aj_parser.specs.Combine.{Res, ◌>>=◌, starts, loop, item_step, comma_step, several, separated}
+use Rattle.aj_parser.specs.Combine.{Res, starts, item_step, comma_step, several, separated}
 
 pub shift : {A : Type 0} (so : List A) (a : A) (rest : List A) → (so ++ (a ∷ [])) ++ rest ≡ so ++ (a ∷ rest)
 shift so a rest = append_assoc so (a ∷ []) rest

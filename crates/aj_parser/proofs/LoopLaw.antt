@@ -1,10 +1,9 @@
 -- Loops are right, and have fuel enough.
-use Rattle.std.proofs.Common.{◌≡◌, ℕ, zero, suc, ◌<◌, ◌≤◌, ◌+◌, ◌-◌, Bool, true, false, List, [], ◌∷◌, ◌++◌, length, Result, Ok, Err, if◌then◌else◌, refl, sym, ◌∙◌, ap, subst, append_assoc, arith, length-append}
+use Rattle.std.proofs.Common.{◌≡◌, ℕ, zero, suc, ◌<◌, ◌≤◌, Bool, true, false, List, [], ◌∷◌, ◌++◌, length, Ok, Err, if◌then◌else◌, refl, ◌∙◌, ap, subst, arith, length-append}
 use Rattle.aj_lexer.specs.declared.tokens.Token.{Token}
-use Rattle.aj_parser.proofs.Right.{Meets, Goes, RightAt, RightOk, RightErr, Right, Any, Some_of, right_seq_at, right_along, right_weaker, meets_append}
+use Rattle.aj_parser.proofs.Right.{RightAt, Right, Some_of, right_seq_at, right_along, right_weaker}
 use Rattle.aj_parser.proofs.Parts.{right_done, starts_meets}
 use Rattle.aj_parser.specs.Combine.{Res, ◌>>=◌, starts, loop, iterate}
-use Rattle.aj_parser.specs.declared.stop.Fault.{Fault}
 
 -- what is read leaves at most n tokens
 abbrev pub Leaves : {A : Type 0} → ℕ → Res A → Type 0

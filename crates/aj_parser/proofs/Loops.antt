@@ -1,5 +1,5 @@
 -- One turn of each loop, and its end, as the functions of the parser use them.
-use Rattle.std.proofs.Common.{◌≡◌, ℕ, zero, suc, ◌<◌, ◌≤◌, ◌+◌, ◌-◌, Bool, true, false, List, [], ◌∷◌, ◌++◌, map, max, length, length-append, Option, Some, None, Result, Ok, Err, refl, sym, ◌∙◌, ap, subst, arith}
+use Rattle.std.proofs.Common.{◌≡◌, ℕ, zero, suc, ◌<◌, ◌≤◌, ◌-◌, true, false, List, [], ◌∷◌, ◌++◌, map, max, length, length-append, Option, Some, None, Ok, Err, refl, sym, ap, subst, arith}
 use Rattle.aj_lexer.specs.declared.tokens.Token.{Token}
 use Rattle.aj_syntax.specs.Heights.{height, heights}
 use Rattle.aj_syntax.specs.Views.{expr_of, exprs_from}
@@ -9,10 +9,10 @@ use Rattle.aj_syntax.specs.Tokens.{is, name_token}
 use Rattle.aj_syntax.specs.declared.terminal.Terminal.{Terminal}
 use Rattle.aj_syntax.specs.declared.terminal.Terminal.TheVariants as T
 use Rattle.aj_parser.proofs.Expressions.{Below, Level, x_is, right_chain_at, member_takes, op_takes, level_long, spelled_long, All_below, more_below}
-use Rattle.aj_parser.proofs.LoopLaw.{loop_done, loop_more, Takes, Leaves, takes_at}
+use Rattle.aj_parser.proofs.LoopLaw.{loop_done, loop_more, Takes}
 use Rattle.aj_parser.proofs.Lists.{separated_takes}
 use Rattle.aj_parser.proofs.Parts.{x_name}
-use Rattle.aj_parser.proofs.Right.{Right, RightAt, right_weaker}
+use Rattle.aj_parser.proofs.Right.{RightAt, right_weaker}
 use Rattle.aj_parser.specs.Combine.{Res, ◌>>=◌, starts, loop, beyond, comma_step, got, first, take_one, at_of}
 use Rattle.aj_parser.specs.Reading.{is_op, op_step, member_step, chain_with, chain_at, below, unary, begins_expression}
 

@@ -1,5 +1,5 @@
 -- One turn of the loops of members and classes, and their ends, as the functions of the parser use them.
-use Rattle.std.proofs.Common.{◌≡◌, ℕ, ◌<◌, ◌≤◌, Bool, true, false, List, [], ◌∷◌, ◌++◌, length, Result, Ok, Err, refl}
+use Rattle.std.proofs.Common.{◌≡◌, ◌<◌, Bool, true, false, List, [], ◌∷◌, length, Ok}
 use Rattle.aj_lexer.specs.declared.tokens.Token.{Token}
 use Rattle.aj_syntax.specs.declared.terminal.Terminal.TheVariants as T
 use Rattle.aj_syntax.specs.declared.tree.Name.{Name}
@@ -13,7 +13,7 @@ use Rattle.aj_parser.proofs.Loops.{right_shorter}
 use Rattle.aj_parser.proofs.Members.{ParamL, param_long, param_example, right_param, lock_long, right_set, set_example, set_long, right_member, member_example, member_long, LowMember, right_class, class_example, class_long, LowClass}
 use Rattle.aj_parser.proofs.Right.{Any}
 use Rattle.aj_parser.proofs.Statements.{right_lock, this_lock, this_lock_is}
-use Rattle.aj_parser.specs.Combine.{Res, ◌>>=◌, starts, loop, comma_step, item_step}
+use Rattle.aj_parser.specs.Combine.{◌>>=◌, starts, loop, comma_step, item_step}
 use Rattle.aj_parser.specs.Reading.{param, lock, set, goes_on, member, class_at}
 
 pub param_takes : (of_ctor : Bool) → Takes (is T.Comma) (comma_step (param of_ctor))

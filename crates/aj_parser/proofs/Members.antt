@@ -1,5 +1,5 @@
 -- Members, classes and programs are read right.
-use Rattle.std.proofs.Common.{◌≡◌, ℕ, zero, suc, ◌<◌, ◌≤◌, ◌+◌, ◌-◌, ◌&&◌, not, max, Bool, true, false, List, [], ◌∷◌, ◌++◌, length, Option, Some, None, Result, Ok, Err, refl, sym, ◌∙◌, ap, subst, append_assoc, append-nil, arith, length-append, inl, inr, ◌⊎◌, if◌then◌else◌}
+use Rattle.std.proofs.Common.{◌≡◌, ℕ, ◌<◌, ◌≤◌, ◌&&◌, not, Bool, true, false, List, [], ◌∷◌, ◌++◌, length, Option, Some, None, refl, sym, ◌∙◌, ap, subst, append_assoc, append-nil, arith, length-append, inl, inr}
 use Rattle.aj_lexer.specs.declared.tokens.Token.{Token}
 use Rattle.aj_syntax.specs.declared.terminal.Terminal.{Terminal}
 use Rattle.aj_syntax.specs.declared.terminal.Terminal.TheVariants as T
@@ -7,19 +7,18 @@ use Rattle.aj_syntax.specs.declared.tree.Name.{Name}
 use Rattle.aj_syntax.specs.declared.tree.Param.{Param}
 use Rattle.aj_syntax.specs.declared.tree.TypeName.{TypeName}
 use Rattle.aj_syntax.specs.declared.tree.TypeName.TheVariants as Y
-use Rattle.aj_syntax.specs.Grammar.{SpellsStmts, SpellsLock, SpellsFields, IsType, IsFlag, IsOptional, IsResultType, SpellsParam, SpellsCtorParam, SpellsSet, SpellsGuard, SpellsRequires, SpellsBare, SpellsMember, SpellsRunnable, SpellsClass, Separates, Follows, Repeats, Wide}
-use Rattle.aj_syntax.specs.Heights.{stmt_heights, body_height, highest_member, highest_body}
-use Rattle.aj_syntax.specs.Tokens.{is, token, name_token}
-use Rattle.aj_syntax.specs.Trees.{LockTree, StmtTree, StmtTrees, no_stmts, MethodTree, MemberTree, FieldM, CtorM, MethodM, ClassTree, ProgramTree}
+use Rattle.aj_syntax.specs.Grammar.{SpellsLock, IsType, IsFlag, IsOptional, IsResultType, SpellsParam, SpellsCtorParam, SpellsSet, SpellsGuard, SpellsRequires, SpellsBare, SpellsMember, SpellsRunnable, SpellsClass, Separates, Follows, Repeats, Wide}
+use Rattle.aj_syntax.specs.Heights.{body_height, highest_member, highest_body}
+use Rattle.aj_syntax.specs.Tokens.{token, name_token}
+use Rattle.aj_syntax.specs.Trees.{LockTree, StmtTree, StmtTrees, no_stmts, MemberTree, FieldM, CtorM, MethodM, ClassTree, ProgramTree}
 use Rattle.aj_syntax.specs.Views.{stmts_from}
 use Rattle.aj_parser.proofs.Expressions.{right_field}
-use Rattle.aj_parser.proofs.Lists.{right_several, right_separated, longer}
-use Rattle.aj_parser.proofs.LoopLaw.{Takes}
-use Rattle.aj_parser.proofs.Parts.{One, right_one, right_tok, right_name, right_done, right_if, right_flag, right_fail, x_name}
-use Rattle.aj_parser.proofs.Right.{Right, Any, Some_of, right_seq, right_along, right_weaker}
-use Rattle.aj_parser.proofs.Statements.{TypeToken, right_type, right_lock, this_lock, this_lock_is as this_is, BlockL, BlockLow, right_block}
-use Rattle.aj_parser.specs.Combine.{Res, ◌>>=◌, starts, first, take_one, flag, several, separated}
-use Rattle.aj_parser.specs.Reading.{a_name, is_name, lock, type_name, goes_on, block_at, param, param_list, params, required, method_rest, set, ctor_rest, guard, field_rest, typed_rest, final_field, result_type, plain_method, named_member, bare_member, member, runnable, class_at, program}
+use Rattle.aj_parser.proofs.Lists.{right_several, right_separated}
+use Rattle.aj_parser.proofs.Parts.{One, right_one, right_tok, right_name, right_done, right_if, right_flag, x_name}
+use Rattle.aj_parser.proofs.Right.{Right, Any, Some_of, right_seq, right_weaker}
+use Rattle.aj_parser.proofs.Statements.{right_type, right_lock, this_lock, this_lock_is as this_is, BlockL, right_block}
+use Rattle.aj_parser.specs.Combine.{Res, ◌>>=◌, starts, several}
+use Rattle.aj_parser.specs.Reading.{lock, goes_on, param, param_list, params, required, method_rest, set, ctor_rest, guard, field_rest, typed_rest, final_field, result_type, plain_method, named_member, bare_member, member, runnable, class_at, program}
 
 -- a terminal that may stand, and then
 flag_optional : (t : Terminal) (f : Bool) (zs : List Token) → IsFlag t f zs → IsOptional t zs

@@ -1,19 +1,17 @@
 -- Single tokens, choices, ends and limits are right.
-use Rattle.std.proofs.Common.{◌≡◌, ℕ, zero, suc, ◌<◌, ◌≤◌, ◌+◌, ◌-◌, ◌==◌, ◌&&◌, Bool, true, false, List, [], ◌∷◌, ◌++◌, length, Option, Some, None, Result, Ok, Err, if◌then◌else◌, refl, sym, ◌∙◌, ap, subst, append_assoc, arith}
+use Rattle.std.proofs.Common.{◌≡◌, ℕ, ◌&&◌, Bool, true, false, List, [], ◌∷◌, ◌++◌, Option, Some, None, Ok, Err, if◌then◌else◌, refl, sym, ◌∙◌, ap, subst}
 use Rattle.std.specs.Str.{bytes_eq}
 use Rattle.std.proofs.lemmas.Slice.Eq.{bytes_eq-Decides}
 use Rattle.aj_lexer.specs.declared.tokens.Token.{Token}
 use Rattle.aj_lexer.specs.declared.tokens.TokenKind.{TokenKind}
 use Rattle.aj_lexer.specs.declared.tokens.TokenKind.TheVariants as K
 use Rattle.aj_syntax.specs.declared.terminal.Terminal.{Terminal}
-use Rattle.aj_syntax.specs.declared.terminal.Terminal.TheVariants as T
 use Rattle.aj_syntax.specs.declared.tree.Name.{Name}
 use Rattle.aj_syntax.specs.Grammar.{IsFlag, offset}
-use Rattle.aj_syntax.specs.Tokens.{is, token, name_token, same_kind, kind_of, spelling, number_token}
-use Rattle.aj_parser.proofs.Right.{Meets, Goes, RightAt, RightOk, RightErr, Right, Any, Some_of, right_seq, right_along, right_weaker}
-use Rattle.aj_parser.specs.Combine.{Res, ◌>>=◌, starts, got, first, allow, take_one, at_of, when, flag, flagged, beyond}
-use Rattle.aj_parser.specs.Reading.{a_name, name_if, is_name}
-use Rattle.aj_parser.specs.declared.stop.Fault.{Fault}
+use Rattle.aj_syntax.specs.Tokens.{is, token, name_token, same_kind, kind_of, spelling}
+use Rattle.aj_parser.proofs.Right.{Meets, Goes, RightAt, Right, Any, Some_of, right_seq, right_along, right_weaker}
+use Rattle.aj_parser.specs.Combine.{Res, ◌>>=◌, starts, got, first, allow, take_one, when, flag, flagged, beyond}
+use Rattle.aj_parser.specs.Reading.{a_name, name_if}
 use Rattle.aj_parser.specs.declared.stop.Fault.TheVariants as F
 
 -- one token of which C says what it means

@@ -1,7 +1,7 @@
 -- What is read is right, and no token past the next one was looked at.
-use Rattle.std.proofs.Common.{◌≡◌, ℕ, zero, suc, ◌<◌, ◌≤◌, ◌+◌, ◌-◌, ◌==◌, Bool, true, false, List, [], ◌∷◌, ◌++◌, length, Option, Some, None, Result, Ok, Err, if◌then◌else◌, refl, sym, ◌∙◌, ap, subst, append_assoc, arith}
+use Rattle.std.proofs.Common.{◌≡◌, List, [], ◌∷◌, ◌++◌, Ok, Err, refl, sym, ◌∙◌, ap, subst, append_assoc}
 use Rattle.aj_lexer.specs.declared.tokens.Token.{Token}
-use Rattle.aj_parser.specs.Combine.{Res, ◌>>=◌, starts, got, first, allow, loop, iterate}
+use Rattle.aj_parser.specs.Combine.{Res, ◌>>=◌}
 use Rattle.aj_parser.specs.declared.stop.Fault.{Fault}
 use Rattle.aj_parser.specs.declared.stop.Fault.TheVariants as F
 

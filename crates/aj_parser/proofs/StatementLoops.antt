@@ -1,10 +1,8 @@
 -- One turn of the loops of locks and blocks, and their ends, as the functions of the parser use them.
-use Rattle.std.proofs.Common.{◌≡◌, ℕ, zero, suc, ◌<◌, ◌≤◌, ◌+◌, ◌-◌, Bool, true, false, List, [], ◌∷◌, ◌++◌, length, Result, Ok, Err, refl, sym, ◌∙◌, ap, subst, arith}
+use Rattle.std.proofs.Common.{◌≡◌, ℕ, zero, suc, ◌<◌, ◌-◌, Bool, true, false, List, [], ◌∷◌, length, Ok, refl, sym, ap, subst, arith}
 use Rattle.aj_lexer.specs.declared.tokens.Token.{Token}
 use Rattle.aj_syntax.specs.declared.terminal.Terminal.TheVariants as T
 use Rattle.aj_syntax.specs.declared.tree.Name.{Name}
-use Rattle.aj_syntax.specs.Grammar.{SpellsFields}
-use Rattle.aj_syntax.specs.Heights.{stmt_height}
 use Rattle.aj_syntax.specs.Tokens.{is, token, name_token}
 use Rattle.aj_syntax.specs.Trees.{StmtTree, EmptyS, BlockS}
 use Rattle.aj_syntax.specs.Views.{stmts_from}
@@ -13,10 +11,10 @@ use Rattle.aj_parser.proofs.LoopLaw.{loop_done, loop_more, Takes}
 use Rattle.aj_parser.proofs.Loops.{right_shorter}
 use Rattle.aj_parser.proofs.Lists.{several_takes}
 use Rattle.aj_parser.proofs.Parts.{x_name}
-use Rattle.aj_parser.proofs.Right.{Right, Any}
-use Rattle.aj_parser.proofs.Statements.{FieldL, field_long, StmtL, Ends, stmt_long, right_statement, right_block}
-use Rattle.aj_parser.specs.Combine.{Res, ◌>>=◌, starts, loop, beyond, item_step, several}
-use Rattle.aj_parser.specs.Reading.{field_name, goes_on, braces, below, statement_at, statement_with, block_at, begins_statement, block_statement}
+use Rattle.aj_parser.proofs.Right.{Any}
+use Rattle.aj_parser.proofs.Statements.{FieldL, field_long, StmtL, Ends, stmt_long, right_statement}
+use Rattle.aj_parser.specs.Combine.{◌>>=◌, starts, loop, beyond, item_step}
+use Rattle.aj_parser.specs.Reading.{field_name, goes_on, braces, statement_at, statement_with, block_at, begins_statement, block_statement}
 
 field_takes : Takes (is T.Dot) (item_step field_name)
 field_takes = several_takes field_name FieldL Any (token T.Dot 0 ∷ name_token x_name ∷ [], x_name, (0, refl)) field_long (λ ns. Unit {0}) (λ so a r p q. tt)

@@ -1,25 +1,24 @@
 -- Statements are read right.
-use Rattle.std.proofs.Common.{◌≡◌, ℕ, zero, suc, ◌<◌, ◌≤◌, ◌+◌, ◌-◌, ◌==◌, ◌&&◌, ◌||◌, not, max, nat_lt, Bool, true, false, List, [], ◌∷◌, ◌++◌, length, Option, Some, None, Result, Ok, Err, refl, sym, ◌∙◌, ap, subst, append_assoc, append-nil, arith, length-append, if◌then◌else◌}
-use Rattle.std.proofs.lemmas.Bool.{eqb-true, ltb-true}
+use Rattle.std.proofs.Common.{◌≡◌, ℕ, zero, suc, ◌<◌, ◌≤◌, ◌+◌, ◌&&◌, ◌||◌, nat_lt, Bool, true, false, List, [], ◌∷◌, ◌++◌, length, Some, None, refl, sym, ◌∙◌, ap, subst, append_assoc, append-nil, arith, length-append}
+use Rattle.std.proofs.lemmas.Bool.{ltb-true}
 use Rattle.aj_lexer.specs.declared.tokens.Token.{Token}
 use Rattle.aj_syntax.specs.declared.terminal.Terminal.{Terminal}
 use Rattle.aj_syntax.specs.declared.terminal.Terminal.TheVariants as T
 use Rattle.aj_syntax.specs.declared.tree.Name.{Name}
 use Rattle.aj_syntax.specs.declared.tree.TypeName.{TypeName}
 use Rattle.aj_syntax.specs.declared.tree.TypeName.TheVariants as Y
-use Rattle.aj_syntax.specs.Grammar.{Spells, SpellsStmt, SpellsStmts, SpellsLock, SpellsFields, IsType, IsFlag, is_postfix, is_call, is_local, open_if, offset}
-use Rattle.aj_syntax.specs.Heights.{height, heights, stmt_height, stmt_heights}
-use Rattle.aj_syntax.specs.Tokens.{is, token, name_token, number_token}
-use Rattle.aj_syntax.specs.Trees.{LockTree, ExprTree, ExprTrees, NumberE, LeastE, TruthE, NullE, ThisE, VarE, ParenE, NotE, NegE, BinaryE, GetE, CallE, NewE, no_exprs, more_exprs, StmtTree, StmtTrees, EmptyS, BlockS, LocalS, SetVarS, SetFieldS, DoS, IfS, IfElseS, WhileS, SyncS, ReturnS, PrintS, StartS, no_stmts, more_stmts}
+use Rattle.aj_syntax.specs.Grammar.{Spells, SpellsStmt, SpellsStmts, SpellsLock, SpellsFields, IsType, is_call, is_local, open_if, offset}
+use Rattle.aj_syntax.specs.Heights.{height, stmt_height, stmt_heights}
+use Rattle.aj_syntax.specs.Tokens.{is, token, name_token}
+use Rattle.aj_syntax.specs.Trees.{LockTree, ExprTree, NumberE, LeastE, TruthE, NullE, ThisE, VarE, ParenE, NotE, NegE, BinaryE, GetE, CallE, NewE, no_exprs, StmtTree, EmptyS, BlockS, LocalS, SetVarS, SetFieldS, DoS, IfS, IfElseS, WhileS, SyncS, ReturnS, PrintS, StartS, no_stmts}
 use Rattle.aj_syntax.specs.Views.{stmts_from}
-use Rattle.aj_parser.proofs.Expressions.{Below, Level, Postfix, spelled_long, Completes, leaf_some, paren_some, new_some, or_else, right_field, field_law, right_chain_at, right_primary, right_dots, right_new_rest}
-use Rattle.aj_parser.proofs.Lists.{right_several, longer}
+use Rattle.aj_parser.proofs.Expressions.{Level, Postfix, spelled_long, Completes, leaf_some, paren_some, new_some, or_else, field_law, right_primary, right_dots, right_new_rest}
+use Rattle.aj_parser.proofs.Lists.{right_several}
 use Rattle.aj_parser.proofs.Loops.{below_law}
-use Rattle.aj_parser.proofs.Parts.{One, Through_next, right_first, right_one, right_tok, right_name, right_a_name, right_take, right_done, right_if, right_choice, right_allow, right_beyond, x_name, is_token, name_if_is, right_fail}
-use Rattle.aj_parser.proofs.Right.{Right, Any, Some_of, Goes, right_seq, right_along, right_weaker}
-use Rattle.aj_parser.specs.Combine.{Res, ◌>>=◌, starts, first, take_one, several, beyond, allow}
-use Rattle.aj_parser.specs.Reading.{a_name, is_name, is_leaf, field_name, lock, type_name, below, first_at, begins_local, begins_statement, goes_on, braces, expression, condition, return_statement, print_statement, start_rest, assign, assigned, local_rest, local_statement, call_end, target, finish, finish_from, new_statement, name_statement, expression_statement, plain_statement, else_part, if_statement, while_statement, sync_statement, block_statement, statement_with, statement_at, block_at, dots, primary, new_rest}
-use Rattle.aj_parser.specs.declared.stop.Fault.TheVariants as F
+use Rattle.aj_parser.proofs.Parts.{One, Through_next, right_one, right_tok, right_name, right_done, right_if, right_choice, right_allow, right_beyond, x_name, is_token, right_fail}
+use Rattle.aj_parser.proofs.Right.{Right, Any, Some_of, right_seq, right_weaker}
+use Rattle.aj_parser.specs.Combine.{Res, ◌>>=◌, starts, several}
+use Rattle.aj_parser.specs.Reading.{is_name, is_leaf, field_name, lock, type_name, below, first_at, begins_local, begins_statement, goes_on, braces, expression, condition, return_statement, print_statement, start_rest, assign, assigned, local_rest, local_statement, call_end, target, finish, finish_from, new_statement, name_statement, expression_statement, plain_statement, else_part, if_statement, while_statement, sync_statement, block_statement, statement_with, statement_at, block_at}
 
 x_tokens : List Token
 x_tokens = name_token x_name ∷ []

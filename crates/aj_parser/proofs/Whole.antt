@@ -1,5 +1,5 @@
 -- The laws of the whole program, as the contract of the parser states them.
-use Rattle.std.proofs.Common.{◌≡◌, ◌≢◌, ℕ, zero, suc, ◌<◌, ◌≤◌, ◌+◌, ◌-◌, Bool, true, false, List, [], ◌∷◌, ◌++◌, length, take, Result, Ok, Err, refl, sym, ◌∙◌, ap, subst, append-nil, arith, length-append}
+use Rattle.std.proofs.Common.{◌≡◌, ℕ, zero, suc, ◌<◌, ◌≤◌, ◌+◌, true, false, List, [], ◌∷◌, ◌++◌, length, take, Ok, Err, refl, sym, ◌∙◌, ap, subst, append-nil, arith, length-append}
 use Rattle.aj_lexer.specs.declared.tokens.Token.{Token}
 use Rattle.aj_syntax.specs.Faults.{Through, IsUnexpected, IsTooDeep}
 use Rattle.aj_syntax.specs.Grammar.{Wide, Grammar}
@@ -8,7 +8,7 @@ use Rattle.aj_syntax.specs.Trees.{ProgramTree}
 use Rattle.aj_parser.proofs.Complete.{IsDeep, Same, same, deep}
 use Rattle.aj_parser.proofs.CompleteMembers.{program_read}
 use Rattle.aj_parser.proofs.Members.{right_program}
-use Rattle.aj_parser.proofs.Right.{Meets, Goes, RightAt, RightOk, RightErr, Right}
+use Rattle.aj_parser.proofs.Right.{Meets, Goes, RightAt, RightOk, RightErr}
 use Rattle.aj_parser.specs.Combine.{Res, starts}
 use Rattle.aj_parser.specs.Reading.{program}
 use Rattle.aj_parser.specs.declared.stop.Fault.{Fault}

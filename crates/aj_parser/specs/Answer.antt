@@ -1,8 +1,7 @@
 -- What the parser's functions answer, beside what is read from lists.
-use Rattle.std.specs.Prelude.{◌≡◌, ℕ, List, Result, Ok, Err}
+use Rattle.std.specs.Prelude.{◌≡◌, List, Result, Ok, Err}
 use Rattle.aj_lexer.specs.declared.tokens.Token.{Token}
 use Rattle.aj_parser.specs.Combine.{Res}
-use Rattle.aj_parser.specs.declared.stop.Fault.{Fault}
 use Rattle.aj_parser.specs.declared.stop.Stop.{Stop}
 use Rattle.aj_parser.specs.declared.stop.Stop.TheVariants as ends
 

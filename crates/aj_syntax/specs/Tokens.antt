@@ -1,5 +1,5 @@
 -- The tokens that the grammar names, and those of names and numbers.
-use Rattle.std.specs.Prelude.{◌≡◌, ℕ, List, Bool, true, false, codes, ◌==◌, ◌&&◌}
+use Rattle.std.specs.Prelude.{ℕ, List, Bool, true, false, codes, ◌&&◌}
 use Rattle.std.specs.Str.{bytes_eq}
 use Rattle.aj_lexer.specs.declared.tokens.Token.{Token}
 use Rattle.aj_lexer.specs.declared.tokens.TokenKind.{TokenKind}

@@ -1,4 +1,4 @@
-use Rattle.std.proofs.Common.{◌≡◌, arith, ap, map}
+use Rattle.std.proofs.Common.{arith, ap, map}
 use Rattle.aj_syntax.specs.Heights.{heights}
 use Rattle.aj_syntax.specs.Views.{expr_of, exprs_from}
 use Rattle.aj_parser.proofs.Loops.{heights_pushed}

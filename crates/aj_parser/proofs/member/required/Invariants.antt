@@ -1,9 +1,9 @@
-use Rattle.std.proofs.Common.{◌≡◌, map, length, true}
+use Rattle.std.proofs.Common.{◌≡◌, map, length}
 use Rattle.aj_syntax.specs.Tokens.{is}
 use Rattle.aj_syntax.specs.declared.terminal.Terminal.TheVariants as T
-use Rattle.aj_syntax.specs.Views.{class_of, lock_of, member_of}
-use Rattle.aj_parser.specs.Combine.{comma_step, item_step, loop, several}
-use Rattle.aj_parser.specs.Reading.{class_at, goes_on, lock, member, param, param_list, program, required, set}
+use Rattle.aj_syntax.specs.Views.{lock_of}
+use Rattle.aj_parser.specs.Combine.{comma_step, loop}
+use Rattle.aj_parser.specs.Reading.{lock, required}
 use Rattle.aj_parser.proofs.member.required.Given as goal
 
 abbrev pub invariant-loop-alloc : goal.invariant-loop-alloc

@@ -1,4 +1,4 @@
-use Rattle.std.proofs.Common.{◌≡◌, ℕ, ◌+◌, ◌*◌, true, map, length}
+use Rattle.std.proofs.Common.{◌≡◌, ◌+◌, ◌*◌, true, map, length}
 use Rattle.aj_syntax.specs.Views.{stmt_of}
 use Rattle.aj_parser.specs.Combine.{item_step, loop, several}
 use Rattle.aj_parser.specs.Reading.{goes_on, statement_at}
