@@ -117,22 +117,31 @@ is_postfix (NewE n args at) = true
 abbrev mutual
   -- expr: a binary operator takes on its left what binds as tightly as itself or more, on its right what binds more tightly
   pub Spells : ExprTree → List Token → Type 0
+  -- Number up to 2147483647
   Spells (NumberE n at) ts = (text : List ℕ) × (n < 2147483648) × (ts ≡ number_token n text at ∷ [])
+  -- "-" 2147483648
   Spells (LeastE at) ts = (text : List ℕ) × (d : ℕ) × (ts ≡ token T.Minus at ∷ number_token 2147483648 text d ∷ [])
+  -- "true" | "false" | "null" | "this" | Name
   Spells (TruthE true at) ts = ts ≡ token T.True at ∷ []
   Spells (TruthE false at) ts = ts ≡ token T.False at ∷ []
   Spells (NullE at) ts = ts ≡ token T.Null at ∷ []
   Spells (ThisE at) ts = ts ≡ token T.This at ∷ []
   Spells (VarE n) ts = ts ≡ name_token n ∷ []
+  -- "(" expr ")"
   Spells (ParenE e at) ts = (xs : List Token) × (c : ℕ) × Spells e xs × (ts ≡ token T.OpenParen at ∷ xs ++ (token T.CloseParen c ∷ []))
+  -- "!" unary | "-" unary
   Spells (NotE e at) ts = (xs : List Token) × Spells e xs × (loose e ≡ 0) × (ts ≡ token T.Bang at ∷ xs)
   Spells (NegE e at) ts = (xs : List Token) × Spells e xs × (loose e ≡ 0) × (ts ≡ token T.Minus at ∷ xs)
+  -- or, and, eq, rel, sum and term: an operand, and an operator with its right operand
   Spells (BinaryE op e f at) ts =
       (xs ys : List Token) × Spells e xs × Spells f ys × (loose e ≤ level op) × (loose f < level op) × (ts ≡ xs ++ (token (sign_of op) at ∷ ys))
+  -- postfix "." Name
   Spells (GetE e n) ts = (xs : List Token) × (d : ℕ) × Spells e xs × (is_postfix e ≡ true) × (ts ≡ xs ++ (token T.Dot d ∷ name_token n ∷ []))
+  -- postfix "." Name "(" [ args ] ")"
   Spells (CallE e n args) ts =
       (xs ys : List Token) × (d o c : ℕ) × Spells e xs × (is_postfix e ≡ true) × SpellsArgs args ys
       × (ts ≡ xs ++ (token T.Dot d ∷ name_token n ∷ token T.OpenParen o ∷ ys ++ (token T.CloseParen c ∷ [])))
+  -- "new" Name "(" [ args ] ")"
   Spells (NewE n args at) ts =
       (ys : List Token) × (o c : ℕ) × SpellsArgs args ys × (ts ≡ token T.New at ∷ name_token n ∷ token T.OpenParen o ∷ ys ++ (token T.CloseParen c ∷ []))
 
@@ -198,39 +207,52 @@ is_call (NewE n args at) = true
 abbrev mutual
   -- stmt, and the declaration of a local
   pub SpellsStmt : StmtTree → List Token → Type 0
+  -- ";"
   SpellsStmt (EmptyS at) ts = ts ≡ token T.Semicolon at ∷ []
+  -- block = "{" { stmt | declaration } "}"
   SpellsStmt (BlockS ss at) ts =
       (xs : List Token) × (c : ℕ) × SpellsStmts ss xs × (ts ≡ token T.OpenBrace at ∷ xs ++ (token T.CloseBrace c ∷ []))
+  -- [ "final" ] type Name "=" expr ";", only in a block
   SpellsStmt (LocalS fin ty n e at) ts =
       (fs ys : List Token) × (x : Token) × (d c : ℕ) × IsFlag T.Final fin fs × IsType ty x × Spells e ys × (at ≡ offset ts)
       × (ts ≡ fs ++ (x ∷ name_token n ∷ token T.Assign d ∷ ys ++ (token T.Semicolon c ∷ [])))
+  -- Name "=" expr ";"
   SpellsStmt (SetVarS n e at) ts =
       (ys : List Token) × (c : ℕ) × Spells e ys × (ts ≡ name_token n ∷ token T.Assign at ∷ ys ++ (token T.Semicolon c ∷ []))
+  -- postfix "." Name "=" expr ";"
   SpellsStmt (SetFieldS e n f at) ts =
       (xs ys : List Token) × (d c : ℕ) × Spells e xs × (is_postfix e ≡ true) × Spells f ys
       × (ts ≡ xs ++ (token T.Dot d ∷ name_token n ∷ token T.Assign at ∷ ys ++ (token T.Semicolon c ∷ [])))
+  -- postfix "." Name "(" [ args ] ")" ";" | "new" Name "(" [ args ] ")" ";"
   SpellsStmt (DoS e at) ts =
       (xs : List Token) × (c : ℕ) × Spells e xs × (is_call e ≡ true) × (at ≡ offset ts) × (ts ≡ xs ++ (token T.Semicolon c ∷ []))
+  -- "if" "(" expr ")" stmt
   SpellsStmt (IfS e s at) ts =
       (xs ys : List Token) × (o c : ℕ) × Spells e xs × SpellsStmt s ys × (is_local s ≡ false)
       × (ts ≡ token T.If at ∷ token T.OpenParen o ∷ xs ++ (token T.CloseParen c ∷ ys))
+  -- "if" "(" expr ")" stmt "else" stmt, where the `else` belongs to the nearest `if`
   SpellsStmt (IfElseS e s t at) ts =
       (xs ys zs : List Token) × (o c d : ℕ) × Spells e xs × SpellsStmt s ys × SpellsStmt t zs
       × (is_local s ≡ false) × (is_local t ≡ false) × (open_if s ≡ false)
       × (ts ≡ token T.If at ∷ token T.OpenParen o ∷ xs ++ (token T.CloseParen c ∷ ys ++ (token T.Else d ∷ zs)))
+  -- "while" "(" expr ")" stmt
   SpellsStmt (WhileS e s at) ts =
       (xs ys : List Token) × (o c : ℕ) × Spells e xs × SpellsStmt s ys × (is_local s ≡ false)
       × (ts ≡ token T.While at ∷ token T.OpenParen o ∷ xs ++ (token T.CloseParen c ∷ ys))
+  -- "synchronized" "(" lock ")" block
   SpellsStmt (SyncS l ss at) ts =
       (xs ys : List Token) × (o c b d : ℕ) × SpellsLock l xs × SpellsStmts ss ys
       × (ts ≡ token T.Synchronized at ∷ token T.OpenParen o ∷ xs ++ (token T.CloseParen c ∷ token T.OpenBrace b ∷ ys ++ (token T.CloseBrace d ∷ [])))
+  -- "return" [ expr ] ";"
   SpellsStmt (ReturnS None at) ts = (c : ℕ) × (ts ≡ token T.Return at ∷ token T.Semicolon c ∷ [])
   SpellsStmt (ReturnS (Some e) at) ts =
       (xs : List Token) × (c : ℕ) × Spells e xs × (ts ≡ token T.Return at ∷ xs ++ (token T.Semicolon c ∷ []))
+  -- "System" "." "out" "." "println" "(" expr ")" ";"
   SpellsStmt (PrintS e at) ts =
       (xs : List Token) × (d n f p o c g : ℕ) × Spells e xs
       × (ts ≡ token T.System at ∷ token T.Dot d ∷ token T.Out n ∷ token T.Dot f ∷ token T.Println p ∷ token T.OpenParen o
       ∷ xs ++ (token T.CloseParen c ∷ token T.Semicolon g ∷ []))
+  -- "new" "Thread" "(" expr ")" "." "start" "(" ")" ";"
   SpellsStmt (StartS e at) ts =
       (xs : List Token) × (t o c d s p q g : ℕ) × Spells e xs
       × (ts ≡ token T.New at ∷ token T.Thread t ∷ token T.OpenParen o
@@ -282,13 +304,17 @@ SpellsRequires (l ∷ ls) ts = (xs : List Token) × (d : ℕ) × Separates Spell
 
 -- field, ctor or method. A final field has no guard
 abbrev pub SpellsBare : MemberTree → List Token → Type 0
+-- "final" type Name ";"
 SpellsBare (FieldM true ty n (Some l)) ts = ⊥
 SpellsBare (FieldM true ty n None) ts = (x : Token) × (d c : ℕ) × IsType ty x × (ts ≡ token T.Final d ∷ x ∷ name_token n ∷ token T.Semicolon c ∷ [])
+-- type Name [ "guarded_by" lock ] ";"
 SpellsBare (FieldM false ty n guard) ts =
     (x : Token) × (gs : List Token) × (c : ℕ) × IsType ty x × SpellsGuard guard gs × (ts ≡ x ∷ name_token n ∷ gs ++ (token T.Semicolon c ∷ []))
+-- Name "(" [ params ] ")" "{" { "this" "." Name "=" Name ";" } "}"
 SpellsBare (CtorM n params sets) ts =
     (xs ys : List Token) × (o c b d : ℕ) × Separates SpellsCtorParam params xs × Repeats SpellsSet sets ys
     × (ts ≡ name_token n ∷ token T.OpenParen o ∷ xs ++ (token T.CloseParen c ∷ token T.OpenBrace b ∷ ys ++ (token T.CloseBrace d ∷ [])))
+-- [ "atomic" ] ( type | "void" ) Name "(" [ params ] ")" [ "requires" lock { "," lock } ] block
 SpellsBare (MethodM m) ts =
     (fs xs rs ys : List Token) × (x : Token) × (o c b : ℕ) × IsFlag T.Atomic m.atomic fs × IsResultType m.returns x
     × Separates SpellsParam m.params xs × SpellsRequires m.locks rs × SpellsStmts m.body ys
