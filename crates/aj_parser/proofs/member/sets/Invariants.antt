@@ -1,0 +1,10 @@
+use Rattle.std.proofs.Common.{◌≡◌, length}
+use Rattle.aj_parser.specs.Combine.{item_step, loop, several}
+use Rattle.aj_parser.specs.Reading.{goes_on, set}
+use Rattle.aj_parser.proofs.member.sets.Given as goal
+
+abbrev pub invariant-loop-alloc : goal.invariant-loop-alloc
+invariant-loop-alloc l = loop goes_on (item_step set) l.list.0.items l.list.1.now ≡ several goes_on set l.tokens
+
+abbrev pub decreases-loop-alloc : goal.decreases-loop-alloc
+decreases-loop-alloc l = length l.list.1.now

@@ -1,0 +1,15 @@
+//! The parser: recursive descent with one token of preview, whose depth the limit of height bounds.
+#![tactic(auto)]
+
+mod expression;
+mod faults;
+mod member;
+mod parser;
+mod statement;
+mod stop;
+#[cfg(test)]
+mod tests;
+mod tokens;
+
+pub use faults::ParseFault;
+pub use parser::{parse, parse_laws};

@@ -1,0 +1,50 @@
+//! From tokens to a tree.
+
+ghost use Rattle.std.specs.Prelude.{◌≡◌, ℕ, ◌≤◌, length, List, IfOk, IsErrOf, MatchResult};
+ghost use Rattle.aj_lexer.specs.declared.tokens.Token.{Token as TokenData};
+ghost use Rattle.aj_syntax.specs.Faults.{IsTooDeep, IsUnexpected};
+ghost use Rattle.aj_syntax.specs.Grammar.{Grammar};
+ghost use Rattle.aj_syntax.specs.Trees.{ProgramTree};
+ghost use Rattle.aj_syntax.specs.Views.{program_of};
+
+use crate::faults::ParseFault;
+use crate::member::classes;
+use crate::stop::{Fault, Stop};
+use aj_lexer::Token;
+use aj_syntax::Program;
+use std::alloc::Global;
+
+/// The tree of the tokens.
+///
+/// The grammar is Java's of classes, statements and expressions, restated for a small language; an `else` belongs to the
+/// nearest `if`. A text may have both faults, at different places; then either may be told. The depth of the recursion is
+/// bounded by the limit of height, and the work is linear in the number of tokens.
+#[tactic(auto, using(crate::proofs::Whole::read_right, crate::proofs::Whole::read_only, crate::proofs::Whole::unexpected_right, crate::proofs::Whole::deep_right, crate::proofs::Whole::place_fits))]
+pub fn parse(alloc: Global, tokens: &[Token]) -> Result<Program, ParseFault>
+    requires { length tokens.now ≤ 262144 }
+    // What is answered is in the grammar.
+    ensures found { IfOk result (λ program. Grammar tokens.now (program_of program)) }
+    // What is in the grammar is answered, unless memory runs out.
+    ensures only { (tree : ProgramTree) → Grammar tokens.now tree →
+        MatchResult result (λ program. program_of program ≡ tree) (λ fault. fault ≡ ParseFault.NoMemory) }
+    ensures unexpected { (place : ℕ) → IsErrOf result (ParseFault.Unexpected place) → IsUnexpected tokens.now place }
+    ensures too_deep { (place : ℕ) → IsErrOf result (ParseFault.TooDeep place) → IsTooDeep tokens.now place }
+{
+    match classes(alloc, tokens) {
+        Ok((classes, _)) => Ok(Program { classes }),
+        Err(Stop::Memory) => Err(ParseFault::NoMemory),
+        Err(Stop::Fault(fault, rest)) => {
+            let place = (tokens.len() - rest.len()) as u32;
+            match fault {
+                Fault::Unexpected => Err(ParseFault::Unexpected(place)),
+                Fault::TooDeep => Err(ParseFault::TooDeep(place)),
+            }
+        }
+    }
+}
+
+/// The laws of what `parse` answers: tokens have at most one tree, and at most one of them is the unexpected one.
+pub fn parse_laws()
+    ensures one_tree { (tokens : List Token) (one other : ProgramTree) → Grammar tokens one → Grammar tokens other → one ≡ other }
+    ensures one_place { (tokens : List Token) (one other : ℕ) → IsUnexpected tokens one → IsUnexpected tokens other → one ≡ other }
+{}
