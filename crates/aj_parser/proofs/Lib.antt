@@ -1,0 +1,12 @@
+pub mod Complete
+pub mod CompleteStatements
+pub mod Expressions
+pub mod LoopLaw
+pub mod Lists
+pub mod Loops
+pub mod MemberLoops
+pub mod Members
+pub mod Parts
+pub mod Right
+pub mod StatementLoops
+pub mod Statements

@@ -1,0 +1,468 @@
+//! Expressions. `high` is the height that is still allowed, and bounds the depth of the recursion.
+
+ghost use Rattle.std.specs.Prelude.{◌≡◌, ℕ, suc, ◌+◌, ◌-◌, ◌<◌, ◌≤◌, map, length, IfOk};
+ghost use Rattle.aj_syntax.specs.Heights.{height as height_of, heights};
+ghost use Rattle.aj_syntax.specs.Trees.{CallE, NewE};
+ghost use Rattle.aj_syntax.specs.Views.{expr_of, exprs_from};
+ghost use Rattle.aj_parser.specs.Answer.{Gives};
+ghost use Rattle.aj_parser.specs.Combine.{comma_step};
+ghost use Rattle.aj_parser.specs.Reading.{arguments as arguments_at, below, call_arguments, chain_at, chain_with, dots as dots_at, field_name as field_name_at, leaf as leaf_at, member_rest as member_rest_at, member_step as member_step_at, negated as negated_at, new_rest as new_rest_at, op_step, parenthesised as parenthesised_at, postfix as postfix_at, primary as primary_at, unary as unary_at};
+
+use crate::stop::{Fault, Stop};
+use crate::tokens::{begins, begins_expression, begins_least, begins_number, begins_operator, least, name, number, operator, take};
+use aj_lexer::Token;
+use aj_syntax::{Expr, Name, Terminal};
+use std::alloc::Global;
+
+/// The levels of binary operators.
+pub const LEVELS: u32 = 6;
+
+/// An expression, its height, and the tokens behind it.
+#[derive(Drop)]
+pub struct Parsed<'a> {
+    pub tree: Expr,
+    pub height: u32,
+    pub rest: &'a [Token],
+}
+
+/// Arguments, the height of the highest, and the tokens behind them.
+#[derive(Drop)]
+pub struct Arguments<'a> {
+    pub items: Vec<Expr>,
+    pub height: u32,
+    pub rest: &'a [Token],
+}
+
+fn leaf_of<'a>(tree: Expr, rest: &'a [Token]) -> Parsed<'a>
+    ensures tree { expr_of result.tree ≡ expr_of tree }
+    ensures height { result.height ≡ 1 }
+    ensures rest { result.rest.now ≡ rest.now }
+{
+    Parsed {
+        tree,
+        height: 1,
+        rest,
+    }
+}
+
+/// A number, a truth value, `null`, `this` or a name.
+#[tactic(auto, unfolding(crate::specs::Reading::leaf))]
+pub fn leaf<'a>(alloc: Global, tokens: &'a [Token]) -> Result<Parsed<'a>, Stop<'a>>
+    ensures tree { Gives (λ x. (expr_of x.tree, x.rest.now)) result (leaf_at tokens.now) }
+    ensures height { IfOk result (λ x. x.height ≡ height_of (expr_of x.tree)) }
+    ensures limit { IfOk result (λ x. x.height ≡ 1) }
+{
+    if begins_number(tokens) {
+        let ((value, at), rest) = number(tokens)?;
+        return Ok(leaf_of(Expr::Number(value, at), rest));
+    }
+    if begins(tokens, Terminal::True) {
+        let (at, rest) = take(tokens, Terminal::True)?;
+        return Ok(leaf_of(Expr::Truth(true, at), rest));
+    }
+    if begins(tokens, Terminal::False) {
+        let (at, rest) = take(tokens, Terminal::False)?;
+        return Ok(leaf_of(Expr::Truth(false, at), rest));
+    }
+    if begins(tokens, Terminal::Null) {
+        let (at, rest) = take(tokens, Terminal::Null)?;
+        return Ok(leaf_of(Expr::Null(at), rest));
+    }
+    if begins(tokens, Terminal::This) {
+        let (at, rest) = take(tokens, Terminal::This)?;
+        return Ok(leaf_of(Expr::This(at), rest));
+    }
+    let (variable, rest) = name(alloc, tokens)?;
+    Ok(leaf_of(Expr::Var(variable), rest))
+}
+
+/// A dot and a name.
+#[tactic(auto, unfolding(crate::specs::Reading::field_name))]
+pub fn field_name<'a>(alloc: Global, tokens: &'a [Token]) -> Result<(Name, &'a [Token]), Stop<'a>>
+    ensures { Gives (λ x. (x.0, x.1.now)) result (field_name_at tokens.now) }
+{
+    let (_, rest) = take(tokens, Terminal::Dot)?;
+    name(alloc, rest)
+}
+
+fn make_call(receiver: Box<Expr>, method: Name, arguments: Vec<Expr>) -> Expr
+    ensures { expr_of result ≡ CallE (expr_of receiver.value) method (exprs_from (map expr_of arguments.items)) }
+{
+    Expr::Call(receiver, method, arguments)
+}
+
+fn make_new(class: Name, arguments: Vec<Expr>, at: u32) -> Expr
+    ensures { expr_of result ≡ NewE class (exprs_from (map expr_of arguments.items)) at }
+{
+    Expr::New(class, arguments, at)
+}
+
+/// One argument more, behind its comma.
+#[cycle(expression)]
+#[tactic(auto, using(crate::proofs::Loops::take_shorter, crate::proofs::Loops::chain_shorter, crate::proofs::Loops::heights_pushed))]
+fn next_argument<'a>(
+    alloc: Global,
+    so_far: Arguments<'a>,
+    high: u32,
+) -> Result<Arguments<'a>, Stop<'a>>
+    requires high { high ≤ 64 }
+    requires positive { 0 < high }
+    requires height { so_far.height ≡ heights (exprs_from (map expr_of so_far.items.items)) }
+    requires limit { so_far.height < high }
+    ensures tree { Gives (λ x. (map expr_of x.items.items, x.rest.now)) result (comma_step (below high 6) (map expr_of so_far.entry.items.items) so_far.entry.rest.now) }
+    ensures height { IfOk result (λ x. x.height ≡ heights (exprs_from (map expr_of x.items.items))) }
+    ensures limit { IfOk result (λ x. x.height < high) }
+    ensures shorter { IfOk result (λ x. length x.rest.now < length so_far.entry.rest.now) }
+{
+    let Arguments { mut items, height, rest } = so_far;
+    let (_, rest) = take(rest, Terminal::Comma)?;
+    let argument = chain(alloc, rest, high - 1, LEVELS)?;
+    items.push(argument.tree)?;
+    Ok(Arguments {
+        items,
+        height: height.max(argument.height),
+        rest: argument.rest,
+    })
+}
+
+/// Arguments up to the closing parenthesis.
+#[cycle(expression)]
+#[tactic(auto, unfolding(crate::specs::Reading::arguments), using(crate::proofs::Loops::argument_more, crate::proofs::Loops::argument_done))]
+fn argument_list<'a>(alloc: Global, tokens: &'a [Token], high: u32) -> Result<Arguments<'a>, Stop<'a>>
+    requires high { high ≤ 64 }
+    requires positive { 0 < high }
+    ensures tree { Gives (λ x. (map expr_of x.items.items, x.rest.now)) result (arguments_at high (below high) tokens.now) }
+    ensures height { IfOk result (λ x. x.height ≡ heights (exprs_from (map expr_of x.items.items))) }
+    ensures limit { IfOk result (λ x. x.height < high) }
+{
+    let mut list = Arguments {
+        items: Vec::new(alloc),
+        height: 0,
+        rest: tokens,
+    };
+    if begins(tokens, Terminal::CloseParen) {
+        return Ok(list);
+    }
+    let argument = chain(alloc, tokens, high - 1, LEVELS)?;
+    list.items.push(argument.tree)?;
+    list.height = argument.height;
+    list.rest = argument.rest;
+    while begins(list.rest, Terminal::Comma) {
+        list = next_argument(alloc, list, high)?;
+    }
+    Ok(list)
+}
+
+/// Arguments in parentheses.
+#[cycle(expression)]
+#[tactic(auto, unfolding(crate::specs::Reading::call_arguments))]
+fn arguments_in_parentheses<'a>(
+    alloc: Global,
+    tokens: &'a [Token],
+    high: u32,
+) -> Result<Arguments<'a>, Stop<'a>>
+    requires high { high ≤ 64 }
+    requires positive { 0 < high }
+    ensures tree { Gives (λ x. (map expr_of x.items.items, x.rest.now)) result (call_arguments high (below high) tokens.now) }
+    ensures height { IfOk result (λ x. x.height ≡ heights (exprs_from (map expr_of x.items.items))) }
+    ensures limit { IfOk result (λ x. x.height < high) }
+{
+    let (_, rest) = take(tokens, Terminal::OpenParen)?;
+    let list = argument_list(alloc, rest, high)?;
+    let Arguments { items, height, rest } = list;
+    let (_, rest) = take(rest, Terminal::CloseParen)?;
+    Ok(Arguments {
+        items,
+        height,
+        rest,
+    })
+}
+
+/// What stands behind `new`, which is at the offset `at`.
+#[cycle(expression)]
+#[tactic(auto, unfolding(crate::specs::Reading::new_rest))]
+pub fn new_rest<'a>(
+    alloc: Global,
+    tokens: &'a [Token],
+    high: u32,
+    at: u32,
+) -> Result<Parsed<'a>, Stop<'a>>
+    requires high { high ≤ 64 }
+    requires positive { 0 < high }
+    ensures tree { Gives (λ x. (expr_of x.tree, x.rest.now)) result (new_rest_at high (below high) at tokens.now) }
+    ensures height { IfOk result (λ x. x.height ≡ height_of (expr_of x.tree)) }
+    ensures limit { IfOk result (λ x. x.height ≤ high) }
+{
+    let (class, rest) = name(alloc, tokens)?;
+    let Arguments { items, height, rest } = arguments_in_parentheses(alloc, rest, high)?;
+    Ok(Parsed {
+        tree: make_new(class, items, at),
+        height: height + 1,
+        rest,
+    })
+}
+
+/// An expression in parentheses.
+#[cycle(expression)]
+#[tactic(auto, unfolding(crate::specs::Reading::parenthesised))]
+fn parenthesised<'a>(
+    alloc: Global,
+    tokens: &'a [Token],
+    high: u32,
+) -> Result<Parsed<'a>, Stop<'a>>
+    requires high { high ≤ 64 }
+    requires positive { 0 < high }
+    ensures tree { Gives (λ x. (expr_of x.tree, x.rest.now)) result (parenthesised_at high (below high) tokens.now) }
+    ensures height { IfOk result (λ x. x.height ≡ height_of (expr_of x.tree)) }
+    ensures limit { IfOk result (λ x. x.height ≤ high) }
+{
+    let (at, rest) = take(tokens, Terminal::OpenParen)?;
+    let Parsed { tree, height, rest } = chain(alloc, rest, high - 1, LEVELS)?;
+    let (_, rest) = take(rest, Terminal::CloseParen)?;
+    Ok(Parsed {
+        tree: Expr::Paren(Box::new(alloc, tree)?, at),
+        height: height + 1,
+        rest,
+    })
+}
+
+#[cycle(expression)]
+#[tactic(auto, unfolding(crate::specs::Reading::primary))]
+pub fn primary<'a>(alloc: Global, tokens: &'a [Token], high: u32) -> Result<Parsed<'a>, Stop<'a>>
+    requires high { high ≤ 64 }
+    requires positive { 0 < high }
+    ensures tree { Gives (λ x. (expr_of x.tree, x.rest.now)) result (primary_at high (below high) tokens.now) }
+    ensures height { IfOk result (λ x. x.height ≡ height_of (expr_of x.tree)) }
+    ensures limit { IfOk result (λ x. x.height ≤ high) }
+{
+    if begins(tokens, Terminal::OpenParen) {
+        return parenthesised(alloc, tokens, high);
+    }
+    if begins(tokens, Terminal::New) {
+        let (at, rest) = take(tokens, Terminal::New)?;
+        return new_rest(alloc, rest, high, at);
+    }
+    leaf(alloc, tokens)
+}
+
+/// What stands behind a dot and a name: arguments, or nothing.
+#[cycle(expression)]
+#[tactic(auto, unfolding(crate::specs::Reading::member_rest))]
+fn member_rest<'a>(
+    alloc: Global,
+    receiver: Parsed<'a>,
+    member: Name,
+    tokens: &'a [Token],
+    high: u32,
+) -> Result<Parsed<'a>, Stop<'a>>
+    requires high { high ≤ 64 }
+    requires positive { 0 < high }
+    requires height { receiver.height ≡ height_of (expr_of receiver.tree) }
+    requires limit { receiver.height < high }
+    ensures tree { Gives (λ x. (expr_of x.tree, x.rest.now)) result (member_rest_at high (below high) (expr_of receiver.entry.tree) member tokens.now) }
+    ensures height { IfOk result (λ x. x.height ≡ height_of (expr_of x.tree)) }
+    ensures limit { IfOk result (λ x. x.height ≤ high) }
+    ensures grows { IfOk result (λ x. receiver.entry.height < x.height) }
+{
+    let Parsed { tree, height, rest: _ } = receiver;
+    let boxed = Box::new(alloc, tree)?;
+    if begins(tokens, Terminal::OpenParen) {
+        let list = arguments_in_parentheses(alloc, tokens, high)?;
+        let Arguments { items, height: highest, rest } = list;
+        return Ok(Parsed {
+            tree: make_call(boxed, member, items),
+            height: height.max(highest) + 1,
+            rest,
+        });
+    }
+    Ok(Parsed {
+        tree: Expr::Get(boxed, member),
+        height: height + 1,
+        rest: tokens,
+    })
+}
+
+/// A field or a call behind a receiver.
+#[cycle(expression)]
+#[tactic(auto, unfolding(crate::specs::Reading::member_step))]
+fn member<'a>(alloc: Global, receiver: Parsed<'a>, high: u32) -> Result<Parsed<'a>, Stop<'a>>
+    requires high { high ≤ 64 }
+    requires positive { 0 < high }
+    requires height { receiver.height ≡ height_of (expr_of receiver.tree) }
+    ensures tree { Gives (λ x. (expr_of x.tree, x.rest.now)) result (member_step_at high (below high) (expr_of receiver.entry.tree) receiver.entry.rest.now) }
+    ensures height { IfOk result (λ x. x.height ≡ height_of (expr_of x.tree)) }
+    ensures limit { IfOk result (λ x. x.height ≤ high) }
+    ensures grows { IfOk result (λ x. receiver.entry.height < x.height) }
+{
+    if high <= receiver.height {
+        return Err(Stop::Fault(Fault::TooDeep, receiver.rest));
+    }
+    let (member, rest) = field_name(alloc, receiver.rest)?;
+    member_rest(alloc, receiver, member, rest, high)
+}
+
+/// The fields and calls behind an expression.
+#[cycle(expression)]
+#[tactic(auto, unfolding(crate::specs::Reading::dots), using(crate::proofs::Loops::member_more, crate::proofs::Loops::member_done))]
+pub fn dots<'a>(alloc: Global, front: Parsed<'a>, high: u32) -> Result<Parsed<'a>, Stop<'a>>
+    requires high { high ≤ 64 }
+    requires positive { 0 < high }
+    requires height { front.height ≡ height_of (expr_of front.tree) }
+    requires limit { front.height ≤ high }
+    ensures tree { Gives (λ x. (expr_of x.tree, x.rest.now)) result (dots_at high (below high) (expr_of front.entry.tree) front.entry.rest.now) }
+    ensures height { IfOk result (λ x. x.height ≡ height_of (expr_of x.tree)) }
+    ensures limit { IfOk result (λ x. x.height ≤ high) }
+{
+    let mut whole = front;
+    while begins(whole.rest, Terminal::Dot) {
+        whole = member(alloc, whole, high)?;
+    }
+    Ok(whole)
+}
+
+#[cycle(expression)]
+#[tactic(auto, unfolding(crate::specs::Reading::postfix))]
+fn postfix<'a>(alloc: Global, tokens: &'a [Token], high: u32) -> Result<Parsed<'a>, Stop<'a>>
+    requires high { high ≤ 64 }
+    requires positive { 0 < high }
+    ensures tree { Gives (λ x. (expr_of x.tree, x.rest.now)) result (postfix_at high (below high) tokens.now) }
+    ensures height { IfOk result (λ x. x.height ≡ height_of (expr_of x.tree)) }
+    ensures limit { IfOk result (λ x. x.height ≤ high) }
+{
+    let front = primary(alloc, tokens, high)?;
+    dots(alloc, front, high)
+}
+
+/// What stands behind a `-` at the offset `at`.
+#[cycle(expression)]
+#[tactic(auto, unfolding(crate::specs::Reading::negated))]
+fn negated<'a>(
+    alloc: Global,
+    tokens: &'a [Token],
+    high: u32,
+    at: u32,
+) -> Result<Parsed<'a>, Stop<'a>>
+    requires high { high ≤ 64 }
+    requires positive { 0 < high }
+    ensures tree { Gives (λ x. (expr_of x.tree, x.rest.now)) result (negated_at high (below high) at tokens.now) }
+    ensures height { IfOk result (λ x. x.height ≡ height_of (expr_of x.tree)) }
+    ensures limit { IfOk result (λ x. x.height ≤ high) }
+{
+    if begins_least(tokens) {
+        let (_, rest) = least(tokens)?;
+        return Ok(leaf_of(Expr::Least(at), rest));
+    }
+    let Parsed { tree, height, rest } = chain(alloc, tokens, high - 1, 0)?;
+    Ok(Parsed {
+        tree: Expr::Neg(Box::new(alloc, tree)?, at),
+        height: height + 1,
+        rest,
+    })
+}
+
+#[cycle(expression)]
+#[tactic(auto, unfolding(crate::specs::Reading::unary))]
+fn unary<'a>(alloc: Global, tokens: &'a [Token], high: u32) -> Result<Parsed<'a>, Stop<'a>>
+    requires high { high ≤ 64 }
+    requires positive { 0 < high }
+    ensures tree { Gives (λ x. (expr_of x.tree, x.rest.now)) result (unary_at high (below high) tokens.now) }
+    ensures height { IfOk result (λ x. x.height ≡ height_of (expr_of x.tree)) }
+    ensures limit { IfOk result (λ x. x.height ≤ high) }
+{
+    if begins(tokens, Terminal::Bang) {
+        let (at, rest) = take(tokens, Terminal::Bang)?;
+        let Parsed { tree, height, rest } = chain(alloc, rest, high - 1, 0)?;
+        return Ok(Parsed {
+            tree: Expr::Not(Box::new(alloc, tree)?, at),
+            height: height + 1,
+            rest,
+        });
+    }
+    if begins(tokens, Terminal::Minus) {
+        let (at, rest) = take(tokens, Terminal::Minus)?;
+        return negated(alloc, rest, high, at);
+    }
+    postfix(alloc, tokens, high)
+}
+
+/// An operator and its right operand, behind the left one.
+#[cycle(expression)]
+#[tactic(auto, unfolding(crate::specs::Reading::op_step))]
+fn operation<'a>(
+    alloc: Global,
+    left: Parsed<'a>,
+    high: u32,
+    levels: u32,
+) -> Result<Parsed<'a>, Stop<'a>>
+    requires high { high ≤ 64 }
+    requires positive { 0 < high }
+    requires levels { levels < 6 }
+    requires height { left.height ≡ height_of (expr_of left.tree) }
+    ensures tree { Gives (λ x. (expr_of x.tree, x.rest.now)) result (op_step high (below high) levels (expr_of left.entry.tree) left.entry.rest.now) }
+    ensures height { IfOk result (λ x. x.height ≡ height_of (expr_of x.tree)) }
+    ensures limit { IfOk result (λ x. x.height ≤ high) }
+    ensures grows { IfOk result (λ x. left.entry.height < x.height) }
+{
+    if high <= left.height {
+        return Err(Stop::Fault(Fault::TooDeep, left.rest));
+    }
+    let Parsed { tree, height, rest } = left;
+    let ((op, at), rest) = operator(rest, levels + 1)?;
+    let right = chain(alloc, rest, high - 1, levels)?;
+    let Parsed { tree: operand, height: other, rest } = right;
+    Ok(Parsed {
+        tree: Expr::Binary(op, Box::new(alloc, tree)?, Box::new(alloc, operand)?, at),
+        height: height.max(other) + 1,
+        rest,
+    })
+}
+
+/// Operands with operators of the first levels between them.
+#[cycle(expression)]
+#[tactic(auto, using(crate::proofs::Loops::operation_more, crate::proofs::Loops::operation_done, crate::proofs::Loops::chain_none, crate::proofs::Loops::chain_next))]
+fn operations<'a>(
+    alloc: Global,
+    tokens: &'a [Token],
+    high: u32,
+    levels: u32,
+) -> Result<Parsed<'a>, Stop<'a>>
+    requires high { high ≤ 64 }
+    requires positive { 0 < high }
+    requires levels { levels ≤ 6 }
+    ensures tree { Gives (λ x. (expr_of x.tree, x.rest.now)) result (chain_with high (below high) levels tokens.now) }
+    ensures height { IfOk result (λ x. x.height ≡ height_of (expr_of x.tree)) }
+    ensures limit { IfOk result (λ x. x.height ≤ high) }
+{
+    if levels == 0 {
+        return unary(alloc, tokens, high);
+    }
+    let mut whole = operations(alloc, tokens, high, levels - 1)?;
+    while begins_operator(whole.rest, levels) {
+        whole = operation(alloc, whole, high, levels - 1)?;
+    }
+    Ok(whole)
+}
+
+/// An expression at most `high` nodes high, whose operators are of the first levels.
+#[cycle(expression)]
+#[tactic(auto, using(crate::proofs::Loops::chain_zero, crate::proofs::Loops::chain_positive))]
+pub fn chain<'a>(
+    alloc: Global,
+    tokens: &'a [Token],
+    high: u32,
+    levels: u32,
+) -> Result<Parsed<'a>, Stop<'a>>
+    requires high { high ≤ 64 }
+    requires levels { levels ≤ 6 }
+    ensures tree { Gives (λ x. (expr_of x.tree, x.rest.now)) result (chain_at high levels tokens.now) }
+    ensures height { IfOk result (λ x. x.height ≡ height_of (expr_of x.tree)) }
+    ensures limit { IfOk result (λ x. x.height ≤ high) }
+{
+    if high == 0 {
+        if begins_expression(tokens) {
+            return Err(Stop::Fault(Fault::TooDeep, tokens));
+        }
+        return Err(Stop::Fault(Fault::Unexpected, tokens));
+    }
+    operations(alloc, tokens, high, levels)
+}

@@ -1,0 +1,411 @@
+//! Classes and their members.
+
+ghost use Rattle.std.specs.Prelude.{◌≡◌, ℕ, ◌<◌, map, length, true, IfOk};
+ghost use Rattle.std.specs.Option.{option_map};
+ghost use Rattle.aj_syntax.specs.Tokens.{is};
+ghost use Rattle.aj_syntax.specs.Views.{class_of, lock_of, member_of, stmt_of, stmts_from};
+ghost use Rattle.aj_parser.specs.Answer.{Gives};
+ghost use Rattle.aj_parser.specs.Combine.{comma_step, item_step, several, starts};
+ghost use Rattle.aj_parser.specs.Reading.{bare_member as bare_member_at, class_at, ctor_rest as ctor_rest_at, field_rest as field_rest_at, final_field as final_field_at, goes_on as may_go_on, guard as guard_at, lock as lock_at, member as member_at, method_rest as method_rest_at, named_member as named_member_at, param as param_at, param_list as param_list_at, params as params_at, plain_method as plain_method_at, program as program_at, required as required_at, result_type as result_type_at, runnable as runnable_at, set as set_at, typed_rest as typed_rest_at};
+
+use crate::expression::field_name;
+use crate::statement::{Braces, block, lock, type_name};
+use crate::stop::Stop;
+use crate::tokens::{begins, begins_name, flag, goes_on, name, take};
+use aj_lexer::Token;
+use aj_syntax::{Class, Lock, Member, Name, Param, Terminal, TypeName};
+use std::alloc::Global;
+
+/// The height of a method body, which counts as one block, is at most this.
+pub const MAX_HEIGHT: u32 = 64;
+
+/// A parameter. A constructor's is never final, whatever its text says.
+#[tactic(auto, unfolding(crate::specs::Reading::param))]
+fn param<'a>(alloc: Global, tokens: &'a [Token], of_ctor: bool) -> Result<(Param, &'a [Token]), Stop<'a>>
+    ensures { Gives (λ x. (x.0, x.1.now)) result (param_at of_ctor tokens.now) }
+{
+    let (says_final, rest) = flag(tokens, Terminal::Final);
+    let (ty, rest) = type_name(alloc, rest)?;
+    let (name, rest) = name(alloc, rest)?;
+    Ok((
+        Param {
+            is_final: says_final && !of_ctor,
+            ty,
+            name,
+        },
+        rest,
+    ))
+}
+
+/// One parameter more, behind its comma.
+#[tactic(auto, using(crate::proofs::MemberLoops::param_shorter, crate::proofs::Loops::take_shorter))]
+fn next_param<'a>(
+    alloc: Global,
+    so_far: (Vec<Param>, &'a [Token]),
+    of_ctor: bool,
+) -> Result<(Vec<Param>, &'a [Token]), Stop<'a>>
+    ensures tree { Gives (λ x. (x.0.items, x.1.now)) result (comma_step (param_at of_ctor) so_far.entry.0.items so_far.entry.1.now) }
+    ensures shorter { IfOk result (λ x. length x.1.now < length so_far.entry.1.now) }
+{
+    let (mut items, rest) = so_far;
+    let (_, rest) = take(rest, Terminal::Comma)?;
+    let (item, rest) = param(alloc, rest, of_ctor)?;
+    items.push(item)?;
+    Ok((items, rest))
+}
+
+/// Parameters with commas between them, or none.
+#[tactic(auto, unfolding(crate::specs::Reading::param_list), using(crate::proofs::MemberLoops::param_more, crate::proofs::MemberLoops::param_done))]
+fn param_list<'a>(alloc: Global, tokens: &'a [Token], of_ctor: bool) -> Result<(Vec<Param>, &'a [Token]), Stop<'a>>
+    ensures { Gives (λ x. (x.0.items, x.1.now)) result (param_list_at of_ctor tokens.now) }
+{
+    let mut list = (Vec::new(alloc), tokens);
+    if begins(tokens, Terminal::CloseParen) {
+        return Ok(list);
+    }
+    let (first, rest) = param(alloc, tokens, of_ctor)?;
+    list.0.push(first)?;
+    list.1 = rest;
+    while begins(list.1, Terminal::Comma) {
+        list = next_param(alloc, list, of_ctor)?;
+    }
+    Ok(list)
+}
+
+/// Parameters in parentheses.
+#[tactic(auto, unfolding(crate::specs::Reading::params))]
+fn params<'a>(alloc: Global, tokens: &'a [Token], of_ctor: bool) -> Result<(Vec<Param>, &'a [Token]), Stop<'a>>
+    ensures { Gives (λ x. (x.0.items, x.1.now)) result (params_at of_ctor tokens.now) }
+{
+    let (_, rest) = take(tokens, Terminal::OpenParen)?;
+    let (items, rest) = param_list(alloc, rest, of_ctor)?;
+    let (_, rest) = take(rest, Terminal::CloseParen)?;
+    Ok((items, rest))
+}
+
+/// One required lock more, behind its comma.
+#[tactic(auto, using(crate::proofs::MemberLoops::lock_shorter, crate::proofs::Loops::take_shorter))]
+fn next_lock<'a>(alloc: Global, so_far: (Vec<Lock>, &'a [Token])) -> Result<(Vec<Lock>, &'a [Token]), Stop<'a>>
+    ensures tree { Gives (λ x. (map lock_of x.0.items, x.1.now)) result (comma_step lock_at (map lock_of so_far.entry.0.items) so_far.entry.1.now) }
+    ensures shorter { IfOk result (λ x. length x.1.now < length so_far.entry.1.now) }
+{
+    let (mut items, rest) = so_far;
+    let (_, rest) = take(rest, Terminal::Comma)?;
+    let (item, rest) = lock(alloc, rest)?;
+    items.push(item)?;
+    Ok((items, rest))
+}
+
+/// The locks that a method requires, or none.
+#[tactic(auto, unfolding(crate::specs::Reading::required), using(crate::proofs::MemberLoops::lock_more, crate::proofs::MemberLoops::lock_done))]
+fn required<'a>(alloc: Global, tokens: &'a [Token]) -> Result<(Vec<Lock>, &'a [Token]), Stop<'a>>
+    ensures { Gives (λ x. (map lock_of x.0.items, x.1.now)) result (required_at tokens.now) }
+{
+    let mut list = (Vec::new(alloc), tokens);
+    if !begins(tokens, Terminal::Requires) {
+        return Ok(list);
+    }
+    let (_, rest) = take(tokens, Terminal::Requires)?;
+    let (first, rest) = lock(alloc, rest)?;
+    list.0.push(first)?;
+    list.1 = rest;
+    while begins(list.1, Terminal::Comma) {
+        list = next_lock(alloc, list)?;
+    }
+    Ok(list)
+}
+
+/// What stands behind the name of a method.
+#[tactic(auto, unfolding(crate::specs::Reading::method_rest))]
+fn method_rest<'a>(
+    alloc: Global,
+    atomic: bool,
+    returns: Option<TypeName>,
+    name: Name,
+    tokens: &'a [Token],
+) -> Result<(Member, &'a [Token]), Stop<'a>>
+    ensures { Gives (λ x. (member_of x.0, x.1.now)) result (method_rest_at atomic returns name tokens.now) }
+{
+    let (params, rest) = params(alloc, tokens, false)?;
+    let (requires_, rest) = required(alloc, rest)?;
+    let (inside, rest) = block(alloc, rest, MAX_HEIGHT)?;
+    let Braces {
+        at: _,
+        statements,
+        end,
+    } = inside;
+    Ok((
+        Member::Method {
+            atomic,
+            result: returns,
+            name,
+            params,
+            requires_,
+            body: statements,
+            end,
+        },
+        rest,
+    ))
+}
+
+/// An assignment of a constructor: the field, and the parameter.
+#[tactic(auto, unfolding(crate::specs::Reading::set))]
+fn set<'a>(alloc: Global, tokens: &'a [Token]) -> Result<((Name, Name), &'a [Token]), Stop<'a>>
+    ensures { Gives (λ x. (x.0, x.1.now)) result (set_at tokens.now) }
+{
+    let (_, rest) = take(tokens, Terminal::This)?;
+    let (field, rest) = field_name(alloc, rest)?;
+    let (_, rest) = take(rest, Terminal::Assign)?;
+    let (parameter, rest) = name(alloc, rest)?;
+    let (_, rest) = take(rest, Terminal::Semicolon)?;
+    Ok(((field, parameter), rest))
+}
+
+/// One assignment more of a constructor.
+#[tactic(auto, using(crate::proofs::MemberLoops::set_shorter))]
+fn next_set<'a>(alloc: Global, so_far: (Vec<(Name, Name)>, &'a [Token])) -> Result<(Vec<(Name, Name)>, &'a [Token]), Stop<'a>>
+    ensures tree { Gives (λ x. (x.0.items, x.1.now)) result (item_step set_at so_far.entry.0.items so_far.entry.1.now) }
+    ensures shorter { IfOk result (λ x. length x.1.now < length so_far.entry.1.now) }
+{
+    let (mut items, rest) = so_far;
+    let (item, rest) = set(alloc, rest)?;
+    items.push(item)?;
+    Ok((items, rest))
+}
+
+#[tactic(auto, using(crate::proofs::MemberLoops::set_more, crate::proofs::MemberLoops::set_done))]
+fn sets<'a>(alloc: Global, tokens: &'a [Token]) -> Result<(Vec<(Name, Name)>, &'a [Token]), Stop<'a>>
+    ensures { Gives (λ x. (x.0.items, x.1.now)) result (several may_go_on set_at tokens.now) }
+{
+    let mut list = (Vec::new(alloc), tokens);
+    while goes_on(list.1) {
+        list = next_set(alloc, list)?;
+    }
+    Ok(list)
+}
+
+/// What stands behind the name of a constructor.
+#[tactic(auto, unfolding(crate::specs::Reading::ctor_rest))]
+fn ctor_rest<'a>(alloc: Global, name: Name, tokens: &'a [Token]) -> Result<(Member, &'a [Token]), Stop<'a>>
+    ensures { Gives (λ x. (member_of x.0, x.1.now)) result (ctor_rest_at name tokens.now) }
+{
+    let (params, rest) = params(alloc, tokens, true)?;
+    let (_, rest) = take(rest, Terminal::OpenBrace)?;
+    let (sets, rest) = sets(alloc, rest)?;
+    let (_, rest) = take(rest, Terminal::CloseBrace)?;
+    Ok((Member::Ctor { name, params, sets }, rest))
+}
+
+/// The lock that guards a field, or none.
+#[tactic(auto, unfolding(crate::specs::Reading::guard))]
+fn guard<'a>(alloc: Global, tokens: &'a [Token]) -> Result<(Option<Lock>, &'a [Token]), Stop<'a>>
+    ensures { Gives (λ x. (option_map lock_of x.0, x.1.now)) result (guard_at tokens.now) }
+{
+    if begins(tokens, Terminal::GuardedBy) {
+        let (_, rest) = take(tokens, Terminal::GuardedBy)?;
+        let (held, rest) = lock(alloc, rest)?;
+        return Ok((Some(held), rest));
+    }
+    Ok((None, tokens))
+}
+
+/// What stands behind the name of a field.
+#[tactic(auto, unfolding(crate::specs::Reading::field_rest))]
+fn field_rest<'a>(alloc: Global, ty: TypeName, name: Name, tokens: &'a [Token]) -> Result<(Member, &'a [Token]), Stop<'a>>
+    ensures { Gives (λ x. (member_of x.0, x.1.now)) result (field_rest_at ty name tokens.now) }
+{
+    let (guard, rest) = guard(alloc, tokens)?;
+    let (_, rest) = take(rest, Terminal::Semicolon)?;
+    Ok((
+        Member::Field {
+            is_final: false,
+            ty,
+            name,
+            guard,
+        },
+        rest,
+    ))
+}
+
+/// What stands behind the type of a field or a method.
+#[tactic(auto, unfolding(crate::specs::Reading::typed_rest))]
+fn typed_rest<'a>(alloc: Global, ty: TypeName, tokens: &'a [Token]) -> Result<(Member, &'a [Token]), Stop<'a>>
+    ensures { Gives (λ x. (member_of x.0, x.1.now)) result (typed_rest_at ty tokens.now) }
+{
+    let (name, rest) = name(alloc, tokens)?;
+    if begins(rest, Terminal::OpenParen) {
+        return method_rest(alloc, false, Some(ty), name, rest);
+    }
+    field_rest(alloc, ty, name, rest)
+}
+
+#[tactic(auto, unfolding(crate::specs::Reading::final_field))]
+fn final_field<'a>(alloc: Global, tokens: &'a [Token]) -> Result<(Member, &'a [Token]), Stop<'a>>
+    ensures { Gives (λ x. (member_of x.0, x.1.now)) result (final_field_at tokens.now) }
+{
+    let (_, rest) = take(tokens, Terminal::Final)?;
+    let (ty, rest) = type_name(alloc, rest)?;
+    let (name, rest) = name(alloc, rest)?;
+    let (_, rest) = take(rest, Terminal::Semicolon)?;
+    Ok((
+        Member::Field {
+            is_final: true,
+            ty,
+            name,
+            guard: None,
+        },
+        rest,
+    ))
+}
+
+/// The type of a result, or `void`.
+#[tactic(auto, unfolding(crate::specs::Reading::result_type))]
+fn result_type<'a>(alloc: Global, tokens: &'a [Token]) -> Result<(Option<TypeName>, &'a [Token]), Stop<'a>>
+    ensures { Gives (λ x. (x.0, x.1.now)) result (result_type_at tokens.now) }
+{
+    if begins(tokens, Terminal::Void) {
+        let (_, rest) = take(tokens, Terminal::Void)?;
+        return Ok((None, rest));
+    }
+    let (ty, rest) = type_name(alloc, tokens)?;
+    Ok((Some(ty), rest))
+}
+
+#[tactic(auto, unfolding(crate::specs::Reading::plain_method))]
+fn plain_method<'a>(alloc: Global, atomic: bool, tokens: &'a [Token]) -> Result<(Member, &'a [Token]), Stop<'a>>
+    ensures { Gives (λ x. (member_of x.0, x.1.now)) result (plain_method_at atomic tokens.now) }
+{
+    let (returns, rest) = result_type(alloc, tokens)?;
+    let (name, rest) = name(alloc, rest)?;
+    method_rest(alloc, atomic, returns, name, rest)
+}
+
+/// A constructor, or a member whose type is a class.
+#[tactic(auto, unfolding(crate::specs::Reading::named_member))]
+fn named_member<'a>(alloc: Global, tokens: &'a [Token]) -> Result<(Member, &'a [Token]), Stop<'a>>
+    ensures { Gives (λ x. (member_of x.0, x.1.now)) result (named_member_at tokens.now) }
+{
+    let (first, rest) = name(alloc, tokens)?;
+    if begins(rest, Terminal::OpenParen) {
+        return ctor_rest(alloc, first, rest);
+    }
+    typed_rest(alloc, TypeName::Class(first), rest)
+}
+
+/// A member behind its `public`.
+#[tactic(auto, unfolding(crate::specs::Reading::bare_member))]
+fn bare_member<'a>(alloc: Global, tokens: &'a [Token]) -> Result<(Member, &'a [Token]), Stop<'a>>
+    ensures { Gives (λ x. (member_of x.0, x.1.now)) result (bare_member_at tokens.now) }
+{
+    if begins(tokens, Terminal::Final) {
+        return final_field(alloc, tokens);
+    }
+    if begins(tokens, Terminal::Atomic) {
+        let (_, rest) = take(tokens, Terminal::Atomic)?;
+        return plain_method(alloc, true, rest);
+    }
+    if begins(tokens, Terminal::Void) {
+        return plain_method(alloc, false, tokens);
+    }
+    if begins_name(tokens) {
+        return named_member(alloc, tokens);
+    }
+    let (ty, rest) = type_name(alloc, tokens)?;
+    typed_rest(alloc, ty, rest)
+}
+
+#[tactic(auto, unfolding(crate::specs::Reading::member))]
+fn member<'a>(alloc: Global, tokens: &'a [Token]) -> Result<(Member, &'a [Token]), Stop<'a>>
+    ensures { Gives (λ x. (member_of x.0, x.1.now)) result (member_at tokens.now) }
+{
+    let (_, rest) = flag(tokens, Terminal::Public);
+    bare_member(alloc, rest)
+}
+
+/// One member more of a class.
+#[tactic(auto, using(crate::proofs::MemberLoops::member_shorter))]
+fn next_member<'a>(alloc: Global, so_far: (Vec<Member>, &'a [Token])) -> Result<(Vec<Member>, &'a [Token]), Stop<'a>>
+    ensures tree { Gives (λ x. (map member_of x.0.items, x.1.now)) result (item_step member_at (map member_of so_far.entry.0.items) so_far.entry.1.now) }
+    ensures shorter { IfOk result (λ x. length x.1.now < length so_far.entry.1.now) }
+{
+    let (mut items, rest) = so_far;
+    let (item, rest) = member(alloc, rest)?;
+    items.push(item)?;
+    Ok((items, rest))
+}
+
+#[tactic(auto, using(crate::proofs::MemberLoops::member_more, crate::proofs::MemberLoops::member_done))]
+fn members<'a>(alloc: Global, tokens: &'a [Token]) -> Result<(Vec<Member>, &'a [Token]), Stop<'a>>
+    ensures { Gives (λ x. (map member_of x.0.items, x.1.now)) result (several may_go_on member_at tokens.now) }
+{
+    let mut list = (Vec::new(alloc), tokens);
+    while goes_on(list.1) {
+        list = next_member(alloc, list)?;
+    }
+    Ok(list)
+}
+
+/// `implements Runnable`, or nothing.
+#[tactic(auto, unfolding(crate::specs::Reading::runnable))]
+fn runnable<'a>(tokens: &'a [Token]) -> Result<(bool, &'a [Token]), Stop<'a>>
+    ensures { Gives (λ x. (x.0, x.1.now)) result (runnable_at tokens.now) }
+{
+    if begins(tokens, Terminal::Implements) {
+        let (_, rest) = take(tokens, Terminal::Implements)?;
+        let (_, rest) = take(rest, Terminal::Runnable)?;
+        return Ok((true, rest));
+    }
+    Ok((false, tokens))
+}
+
+#[tactic(auto, unfolding(crate::specs::Reading::class_at))]
+fn class<'a>(alloc: Global, tokens: &'a [Token]) -> Result<(Class, &'a [Token]), Stop<'a>>
+    ensures { Gives (λ x. (class_of x.0, x.1.now)) result (class_at tokens.now) }
+{
+    let (_, rest) = flag(tokens, Terminal::Public);
+    let (_, rest) = take(rest, Terminal::Class)?;
+    let (name, rest) = name(alloc, rest)?;
+    let (runnable, rest) = runnable(rest)?;
+    let (_, rest) = take(rest, Terminal::OpenBrace)?;
+    let (members, rest) = members(alloc, rest)?;
+    let (_, rest) = take(rest, Terminal::CloseBrace)?;
+    Ok((
+        Class {
+            name,
+            runnable,
+            members,
+        },
+        rest,
+    ))
+}
+
+/// One class more.
+#[tactic(auto, using(crate::proofs::MemberLoops::class_shorter))]
+fn next_class<'a>(alloc: Global, so_far: (Vec<Class>, &'a [Token])) -> Result<(Vec<Class>, &'a [Token]), Stop<'a>>
+    ensures tree { Gives (λ x. (map class_of x.0.items, x.1.now)) result (item_step class_at (map class_of so_far.entry.0.items) so_far.entry.1.now) }
+    ensures shorter { IfOk result (λ x. length x.1.now < length so_far.entry.1.now) }
+{
+    let (mut items, rest) = so_far;
+    let (item, rest) = class(alloc, rest)?;
+    items.push(item)?;
+    Ok((items, rest))
+}
+
+/// The classes, up to the end of the tokens.
+#[tactic(auto, unfolding(crate::specs::Reading::program), using(crate::proofs::MemberLoops::class_more, crate::proofs::MemberLoops::class_done))]
+pub fn classes<'a>(alloc: Global, tokens: &'a [Token]) -> Result<(Vec<Class>, &'a [Token]), Stop<'a>>
+    ensures { Gives (λ x. (map class_of x.0.items, x.1.now)) result (program_at tokens.now) }
+{
+    let mut list = (Vec::new(alloc), tokens);
+    while stands(list.1) {
+        list = next_class(alloc, list)?;
+    }
+    Ok(list)
+}
+
+/// Whether a token is left.
+fn stands(tokens: &[Token]) -> bool
+    ensures { result ≡ starts (λ x. true) tokens.now }
+{
+    !tokens.is_empty()
+}

@@ -1,0 +1,39 @@
+//! Why reading stops.
+
+ghost use Rattle.std.specs.Prelude.{◌≡◌};
+
+use aj_lexer::Token;
+use std::alloc::{AllocError, AllocFailed};
+
+#[derive(Clone, Copy, Debug, PartialEq, Eq)]
+pub enum Fault {
+    Unexpected,
+    TooDeep,
+}
+
+/// Want of memory, or a fault and the tokens from the faulty one on.
+#[derive(Drop)]
+pub enum Stop<'a> {
+    Memory,
+    Fault(Fault, &'a [Token]),
+}
+
+impl<'a> From<AllocError> for Stop<'a> {
+    ghost use Rattle.aj_parser.specs.declared.stop.Stop.TheVariants.{Memory};
+
+    ghost from_gives = { λ _ e. e ≡ Memory };
+
+    fn from(_error: AllocError) -> Stop<'a> {
+        Stop::Memory
+    }
+}
+
+impl<'a, T: Drop> From<AllocFailed<T>> for Stop<'a> {
+    ghost use Rattle.aj_parser.specs.declared.stop.Stop.TheVariants.{Memory};
+
+    ghost from_gives = { λ _ e. e ≡ Memory };
+
+    fn from(_error: AllocFailed<T>) -> Stop<'a> {
+        Stop::Memory
+    }
+}

@@ -1,0 +1,323 @@
+//! Single tokens at the front of a list.
+
+ghost use Rattle.std.specs.Prelude.{◌≡◌, ◌&&◌};
+ghost use Rattle.aj_syntax.specs.Grammar.{level as level_of, offset as offset_of};
+ghost use Rattle.aj_syntax.specs.Tokens.{is};
+ghost use Rattle.aj_parser.specs.Answer.{Gives};
+ghost use Rattle.aj_parser.specs.Combine.{Res, beyond as beyond_at, first, flag as flag_at, starts, take_one};
+ghost use Rattle.aj_parser.specs.Reading.{a_least, a_name, a_number, an_op, begins_expression as may_begin_expression, begins_statement as may_begin_statement, goes_on as may_go_on, begins_local, is_leaf as may_be_leaf, is_least, is_name, is_number, is_op, op_of};
+
+use crate::stop::{Fault, Stop};
+use aj_lexer::{Token, TokenKind};
+use aj_syntax::{Name, Op, Terminal};
+use std::alloc::Global;
+
+/// Whether the terminal stands first.
+pub fn begins(tokens: &[Token], terminal: Terminal) -> bool
+    ensures { result ≡ starts (is terminal) tokens.now }
+{
+    match tokens {
+        [token, ..] => terminal.matches(token),
+        [] => false,
+    }
+}
+
+/// Takes the terminal, and gives its offset.
+pub fn take<'a>(tokens: &'a [Token], terminal: Terminal) -> Result<(u32, &'a [Token]), Stop<'a>>
+    ensures { Gives (λ x. (x.0, x.1.now)) result (take_one terminal tokens.now) }
+{
+    match tokens {
+        [token, rest @ ..] if terminal.matches(token) => Ok((token.at, rest)),
+        _ => Err(Stop::Fault(Fault::Unexpected, tokens)),
+    }
+}
+
+/// Takes the terminal where it stands first.
+pub fn flag<'a>(tokens: &'a [Token], terminal: Terminal) -> (bool, &'a [Token])
+    ensures { (result.0, result.1.now) ≡ flag_at terminal tokens.now }
+{
+    match tokens {
+        [token, rest @ ..] if terminal.matches(token) => (true, rest),
+        _ => (false, tokens),
+    }
+}
+
+/// The offset of the first token, or 0.
+pub fn offset(tokens: &[Token]) -> u32
+    ensures { result ≡ offset_of tokens.now }
+{
+    match tokens {
+        [token, ..] => token.at,
+        [] => 0,
+    }
+}
+
+fn is_name_token(token: &Token) -> bool
+    ensures { result ≡ is_name token.now }
+{
+    match token.kind {
+        TokenKind::Name => true,
+        TokenKind::Word | TokenKind::Number(_) | TokenKind::Sign => false,
+    }
+}
+
+fn is_number_token(token: &Token) -> bool
+    ensures { result ≡ is_number token.now }
+{
+    match token.kind {
+        TokenKind::Number(value) => value < 2_147_483_648,
+        TokenKind::Name | TokenKind::Word | TokenKind::Sign => false,
+    }
+}
+
+fn is_least_token(token: &Token) -> bool
+    ensures { result ≡ is_least token.now }
+{
+    match token.kind {
+        TokenKind::Number(value) => value == 2_147_483_648,
+        TokenKind::Name | TokenKind::Word | TokenKind::Sign => false,
+    }
+}
+
+pub fn begins_name(tokens: &[Token]) -> bool
+    ensures { result ≡ starts is_name tokens.now }
+{
+    match tokens {
+        [token, ..] => is_name_token(token),
+        [] => false,
+    }
+}
+
+pub fn begins_number(tokens: &[Token]) -> bool
+    ensures { result ≡ starts is_number tokens.now }
+{
+    match tokens {
+        [token, ..] => is_number_token(token),
+        [] => false,
+    }
+}
+
+/// Whether 2147483648 stands first, which is the least number behind a `-`.
+pub fn begins_least(tokens: &[Token]) -> bool
+    ensures { result ≡ starts is_least tokens.now }
+{
+    match tokens {
+        [token, ..] => is_least_token(token),
+        [] => false,
+    }
+}
+
+pub fn name<'a>(alloc: Global, tokens: &'a [Token]) -> Result<(Name, &'a [Token]), Stop<'a>>
+    ensures { Gives (λ x. (x.0, x.1.now)) result (first a_name tokens.now) }
+{
+    match tokens {
+        [token, rest @ ..] if is_name_token(token) => {
+            let text = token.text.copy(alloc)?;
+            Ok((Name { text, at: token.at }, rest))
+        }
+        _ => Err(Stop::Fault(Fault::Unexpected, tokens)),
+    }
+}
+
+/// Takes a number up to 2147483647, and gives it and its offset.
+pub fn number<'a>(tokens: &'a [Token]) -> Result<((u32, u32), &'a [Token]), Stop<'a>>
+    ensures { Gives (λ x. (x.0, x.1.now)) result (first a_number tokens.now) }
+{
+    match tokens {
+        [token, rest @ ..] => match token.kind {
+            TokenKind::Number(value) if value < 2_147_483_648 => Ok(((value, token.at), rest)),
+            _ => Err(Stop::Fault(Fault::Unexpected, tokens)),
+        },
+        [] => Err(Stop::Fault(Fault::Unexpected, tokens)),
+    }
+}
+
+pub fn least<'a>(tokens: &'a [Token]) -> Result<(u32, &'a [Token]), Stop<'a>>
+    ensures { Gives (λ x. (x.0, x.1.now)) result (first a_least tokens.now) }
+{
+    match tokens {
+        [token, rest @ ..] if is_least_token(token) => Ok((token.at, rest)),
+        _ => Err(Stop::Fault(Fault::Unexpected, tokens)),
+    }
+}
+
+#[tactic(auto, unfolding(crate::specs::Reading::op_of))]
+fn operator_of(token: &Token) -> Option<Op>
+    ensures { result ≡ op_of token.now }
+{
+    if Terminal::Star.matches(token) {
+        return Some(Op::Mul);
+    }
+    if Terminal::Slash.matches(token) {
+        return Some(Op::Div);
+    }
+    if Terminal::Percent.matches(token) {
+        return Some(Op::Rem);
+    }
+    if Terminal::Plus.matches(token) {
+        return Some(Op::Add);
+    }
+    if Terminal::Minus.matches(token) {
+        return Some(Op::Sub);
+    }
+    if Terminal::Less.matches(token) {
+        return Some(Op::Lt);
+    }
+    if Terminal::LessEqual.matches(token) {
+        return Some(Op::Le);
+    }
+    if Terminal::Greater.matches(token) {
+        return Some(Op::Gt);
+    }
+    if Terminal::GreaterEqual.matches(token) {
+        return Some(Op::Ge);
+    }
+    if Terminal::EqualTo.matches(token) {
+        return Some(Op::Eq);
+    }
+    if Terminal::NotEqual.matches(token) {
+        return Some(Op::Ne);
+    }
+    if Terminal::AndAnd.matches(token) {
+        return Some(Op::And);
+    }
+    if Terminal::OrOr.matches(token) {
+        return Some(Op::Or);
+    }
+    None
+}
+
+/// How loosely an operator binds, from 1 to 6.
+fn level(op: Op) -> u32
+    ensures { result ≡ level_of op }
+{
+    match op {
+        Op::Mul | Op::Div | Op::Rem => 1,
+        Op::Add | Op::Sub => 2,
+        Op::Lt | Op::Le | Op::Gt | Op::Ge => 3,
+        Op::Eq | Op::Ne => 4,
+        Op::And => 5,
+        Op::Or => 6,
+    }
+}
+
+/// Whether an operator of the level stands first.
+pub fn begins_operator(tokens: &[Token], levels: u32) -> bool
+    ensures { result ≡ starts (is_op levels) tokens.now }
+{
+    match tokens {
+        [token, ..] => match operator_of(token) {
+            Some(op) => level(op) == levels,
+            None => false,
+        },
+        [] => false,
+    }
+}
+
+/// Takes an operator of the level, and gives it and its offset.
+pub fn operator<'a>(tokens: &'a [Token], levels: u32) -> Result<((Op, u32), &'a [Token]), Stop<'a>>
+    ensures { Gives (λ x. (x.0, x.1.now)) result (first (an_op levels) tokens.now) }
+{
+    match tokens {
+        [token, rest @ ..] => match operator_of(token) {
+            Some(op) if level(op) == levels => Ok(((op, token.at), rest)),
+            _ => Err(Stop::Fault(Fault::Unexpected, tokens)),
+        },
+        [] => Err(Stop::Fault(Fault::Unexpected, tokens)),
+    }
+}
+
+fn is_leaf(token: &Token) -> bool
+    ensures { result ≡ may_be_leaf token.now }
+{
+    is_number_token(token)
+        || Terminal::True.matches(token)
+        || Terminal::False.matches(token)
+        || Terminal::Null.matches(token)
+        || Terminal::This.matches(token)
+        || is_name_token(token)
+}
+
+#[tactic(auto, unfolding(crate::specs::Reading::begins_expression))]
+fn begins_expression_token(token: &Token) -> bool
+    ensures { result ≡ may_begin_expression token.now }
+{
+    Terminal::OpenParen.matches(token)
+        || Terminal::New.matches(token)
+        || Terminal::Bang.matches(token)
+        || Terminal::Minus.matches(token)
+        || is_leaf(token)
+}
+
+/// Whether a token that may begin an expression stands first.
+pub fn begins_expression(tokens: &[Token]) -> bool
+    ensures { result ≡ starts may_begin_expression tokens.now }
+{
+    match tokens {
+        [token, ..] => begins_expression_token(token),
+        [] => false,
+    }
+}
+
+fn begins_local_token(token: &Token) -> bool
+    ensures { result ≡ begins_local token.now }
+{
+    Terminal::Final.matches(token) || Terminal::Int.matches(token) || Terminal::Boolean.matches(token)
+}
+
+#[tactic(auto, unfolding(crate::specs::Reading::begins_statement))]
+fn begins_statement_token(token: &Token, in_block: bool) -> bool
+    ensures { result ≡ may_begin_statement in_block token.now }
+{
+    Terminal::OpenBrace.matches(token)
+        || Terminal::Semicolon.matches(token)
+        || Terminal::If.matches(token)
+        || Terminal::While.matches(token)
+        || Terminal::Synchronized.matches(token)
+        || Terminal::Return.matches(token)
+        || Terminal::System.matches(token)
+        || Terminal::New.matches(token)
+        || Terminal::OpenParen.matches(token)
+        || is_leaf(token)
+        || (in_block && begins_local_token(token))
+}
+
+/// Whether a token that may begin a statement stands first; in a block it may be a declaration.
+pub fn begins_statement(tokens: &[Token], in_block: bool) -> bool
+    ensures { result ≡ starts (may_begin_statement in_block) tokens.now }
+{
+    match tokens {
+        [token, ..] => begins_statement_token(token, in_block),
+        [] => false,
+    }
+}
+
+/// Whether a declaration may stand here and a token that begins one does.
+pub fn begins_declaration(tokens: &[Token], in_block: bool) -> bool
+    ensures { result ≡ starts (λ x. in_block && begins_local x) tokens.now }
+{
+    match tokens {
+        [token, ..] => in_block && begins_local_token(token),
+        [] => false,
+    }
+}
+
+/// Whether a declaration may stand here and a second name says that it does.
+pub fn begins_second_name(tokens: &[Token], in_block: bool) -> bool
+    ensures { result ≡ starts (λ x. in_block && is_name x) tokens.now }
+{
+    match tokens {
+        [token, ..] => in_block && is_name_token(token),
+        [] => false,
+    }
+}
+
+/// Whether something stands before the closing brace.
+pub fn goes_on(tokens: &[Token]) -> bool
+    ensures { result ≡ starts may_go_on tokens.now }
+{
+    match tokens {
+        [token, ..] => !Terminal::CloseBrace.matches(token),
+        [] => false,
+    }
+}

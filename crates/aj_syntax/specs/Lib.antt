@@ -1,0 +1,6 @@
+pub mod Faults
+pub mod Grammar
+pub mod Heights
+pub mod Tokens
+pub mod Trees
+pub mod Views

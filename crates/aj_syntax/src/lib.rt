@@ -1,0 +1,11 @@
+//! The syntax of the language: its trees and the grammar that relates them to lists of tokens.
+#![tactic(auto)]
+
+mod terminal;
+mod tree;
+
+pub use terminal::Terminal;
+pub use tree::{Class, Expr, Lock, Member, Name, Op, Param, Program, Stmt, TypeName};
+
+ghost use Rattle.aj_syntax.specs.Faults.{IsTooDeep, IsUnexpected};
+ghost use Rattle.aj_syntax.specs.Views.{program_of};
