@@ -1,9 +1,12 @@
 //! The syntax of the language: its trees and the grammar that relates them to lists of tokens.
 #![tactic(auto)]
 
+mod page;
+mod print;
 mod terminal;
 mod tree;
 
+pub use print::print_program;
 pub use terminal::Terminal;
 pub use tree::{Class, Expr, Lock, Member, Name, Op, Param, Program, Stmt, TypeName};
 
