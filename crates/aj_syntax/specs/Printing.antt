@@ -123,6 +123,12 @@ abbrev pub requires_lexemes : List LockTree → List Lexeme
 requires_lexemes [] = []
 requires_lexemes (l ∷ ls) = Fixed T.Requires ∷ listed_lexemes lock_lexemes (l ∷ ls)
 
+abbrev pub method_lexemes : Bool → Option TypeName → Name → List Param → List LockTree → StmtTrees → List Lexeme
+method_lexemes atomic returns n params locks body =
+    flag_lexemes T.Atomic atomic ++ (result_lexeme returns ∷ name_lexeme n ∷ Fixed T.OpenParen
+        ∷ listed_lexemes (param_lexemes true) params
+        ++ (Fixed T.CloseParen ∷ requires_lexemes locks ++ (Fixed T.OpenBrace ∷ stmts_lexemes body ++ (Fixed T.CloseBrace ∷ []))))
+
 -- a field, constructor or method, without `public`; a constructor's parameters without `final`
 abbrev pub member_lexemes : MemberTree → List Lexeme
 member_lexemes (FieldM fin ty n guard) =
@@ -130,10 +136,7 @@ member_lexemes (FieldM fin ty n guard) =
 member_lexemes (CtorM n params sets) =
     name_lexeme n ∷ Fixed T.OpenParen ∷ listed_lexemes (param_lexemes false) params
         ++ (Fixed T.CloseParen ∷ Fixed T.OpenBrace ∷ all_lexemes set_lexemes sets ++ (Fixed T.CloseBrace ∷ []))
-member_lexemes (MethodM m) =
-    flag_lexemes T.Atomic m.atomic ++ (result_lexeme m.returns ∷ name_lexeme m.name ∷ Fixed T.OpenParen
-        ∷ listed_lexemes (param_lexemes true) m.params
-        ++ (Fixed T.CloseParen ∷ requires_lexemes m.locks ++ (Fixed T.OpenBrace ∷ stmts_lexemes m.body ++ (Fixed T.CloseBrace ∷ []))))
+member_lexemes (MethodM m) = method_lexemes m.atomic m.returns m.name m.params m.locks m.body
 
 abbrev pub runnable_lexemes : Bool → List Lexeme
 runnable_lexemes true = Fixed T.Implements ∷ Fixed T.Runnable ∷ []

@@ -5,8 +5,8 @@ ghost use Rattle.std.specs.Prelude.{◌≡◌, [], ◌∷◌, ◌++◌, IfOk, On
 ghost use Rattle.std.specs.Option.{option_map};
 ghost use Rattle.aj_syntax.specs.Grammar.{sign_of};
 ghost use Rattle.aj_syntax.specs.Layout.{Fixed, put, writes};
-ghost use Rattle.aj_syntax.specs.Printing.{all_lexemes, args_lexemes, canonical, class_lexemes, dotted_lexemes, expr_lexemes, flag_lexemes, guard_lexemes, listed_lexemes, lock_lexemes, member_lexemes, more_args_lexemes, name_lexeme, param_lexemes, requires_lexemes, result_lexeme, root_lexeme, runnable_lexemes, set_lexemes, stmt_lexemes, stmts_lexemes, type_lexeme};
-ghost use Rattle.aj_syntax.specs.Trees.{BlockS, ParenE, PrintS, ReturnS, SetVarS, StartS};
+ghost use Rattle.aj_syntax.specs.Printing.{all_lexemes, args_lexemes, canonical, class_lexemes, dotted_lexemes, expr_lexemes, flag_lexemes, further_lexemes, guard_lexemes, listed_lexemes, lock_lexemes, member_lexemes, method_lexemes, more_args_lexemes, name_lexeme, param_lexemes, requires_lexemes, result_lexeme, root_lexeme, runnable_lexemes, set_lexemes, stmt_lexemes, stmts_lexemes, type_lexeme};
+ghost use Rattle.aj_syntax.specs.Trees.{BlockS, CtorM, FieldM, ParenE, PrintS, ReturnS, SetVarS, StartS};
 ghost use Rattle.aj_syntax.specs.declared.terminal.Terminal.TheVariants as terminals;
 ghost use Rattle.aj_syntax.specs.Views.{class_of, expr_of, exprs_from, lock_of, member_of, program_of, stmt_of, stmts_from};
 
@@ -48,11 +48,11 @@ fn write_class(to: &mut Printer, class: &Class) -> Result<(), NoMemory>
 fn write_runnable(to: &mut Printer, runnable: bool) -> Result<(), NoMemory>
     ensures { OnOk result (to.new ≡ writes to.old (runnable_lexemes runnable)) }
 {
-    if runnable {
-        to.terminal(Terminal::Implements)?;
-        to.terminal(Terminal::Runnable)?;
+    if !runnable {
+        return Ok(());
     }
-    Ok(())
+    to.terminal(Terminal::Implements)?;
+    to.terminal(Terminal::Runnable)
 }
 
 fn write_members(to: &mut Printer, members: &[Member]) -> Result<(), NoMemory>
@@ -68,44 +68,66 @@ fn write_member(to: &mut Printer, member: &Member) -> Result<(), NoMemory>
     ensures { OnOk result (to.new ≡ writes to.old (member_lexemes (member_of member.now))) }
 {
     match member {
-        Member::Field { is_final, ty, name, guard } => {
-            write_flag(to, Terminal::Final, *is_final)?;
-            write_type(to, ty)?;
-            write_name(to, name)?;
-            write_guard(to, guard)?;
-            to.terminal(Terminal::Semicolon)
-        }
-        Member::Ctor { name, params, sets } => {
-            write_name(to, name)?;
-            to.terminal(Terminal::OpenParen)?;
-            write_params(to, params, false)?;
-            to.terminal(Terminal::CloseParen)?;
-            to.terminal(Terminal::OpenBrace)?;
-            write_sets(to, sets)?;
-            to.terminal(Terminal::CloseBrace)
-        }
+        Member::Field { is_final, ty, name, guard } => write_field(to, *is_final, ty, name, guard),
+        Member::Ctor { name, params, sets } => write_constructor(to, name, params, sets),
         Member::Method { atomic, result, name, params, requires_, body, end: _ } => {
-            write_flag(to, Terminal::Atomic, *atomic)?;
-            write_result(to, result)?;
-            write_name(to, name)?;
-            to.terminal(Terminal::OpenParen)?;
-            write_params(to, params, true)?;
-            to.terminal(Terminal::CloseParen)?;
-            write_requires(to, requires_)?;
-            to.terminal(Terminal::OpenBrace)?;
-            write_stmts(to, body)?;
-            to.terminal(Terminal::CloseBrace)
+            write_method(to, *atomic, result, name, params, requires_, body)
         }
     }
+}
+
+fn write_field(to: &mut Printer, is_final: bool, ty: &TypeName, name: &Name, guard: &Option<Lock>) -> Result<(), NoMemory>
+    ensures { OnOk result (to.new ≡ writes to.old (member_lexemes (FieldM is_final ty.now name.now (option_map lock_of guard.now)))) }
+{
+    write_flag(to, Terminal::Final, is_final)?;
+    write_type(to, ty)?;
+    write_name(to, name)?;
+    write_guard(to, guard)?;
+    to.terminal(Terminal::Semicolon)
+}
+
+fn write_constructor(to: &mut Printer, name: &Name, params: &[Param], sets: &[(Name, Name)]) -> Result<(), NoMemory>
+    ensures { OnOk result (to.new ≡ writes to.old (member_lexemes (CtorM name.now params.now sets.now))) }
+{
+    write_name(to, name)?;
+    to.terminal(Terminal::OpenParen)?;
+    write_params(to, params, false)?;
+    to.terminal(Terminal::CloseParen)?;
+    to.terminal(Terminal::OpenBrace)?;
+    write_sets(to, sets)?;
+    to.terminal(Terminal::CloseBrace)
+}
+
+fn write_method(
+    to: &mut Printer,
+    atomic: bool,
+    result_type: &Option<TypeName>,
+    name: &Name,
+    params: &[Param],
+    locks: &[Lock],
+    body: &[Stmt],
+) -> Result<(), NoMemory>
+    ensures { OnOk result (to.new ≡ writes to.old (method_lexemes atomic result_type.now name.now params.now (map lock_of locks.now) (stmts_from (map stmt_of body.now)))) }
+{
+    write_flag(to, Terminal::Atomic, atomic)?;
+    write_result(to, result_type)?;
+    write_name(to, name)?;
+    to.terminal(Terminal::OpenParen)?;
+    write_params(to, params, true)?;
+    to.terminal(Terminal::CloseParen)?;
+    write_requires(to, locks)?;
+    to.terminal(Terminal::OpenBrace)?;
+    write_stmts(to, body)?;
+    to.terminal(Terminal::CloseBrace)
 }
 
 fn write_flag(to: &mut Printer, terminal: Terminal, stands: bool) -> Result<(), NoMemory>
     ensures { OnOk result (to.new ≡ writes to.old (flag_lexemes terminal stands)) }
 {
-    if stands {
-        to.terminal(terminal)?;
+    if !stands {
+        return Ok(());
     }
-    Ok(())
+    to.terminal(terminal)
 }
 
 fn write_name(to: &mut Printer, name: &Name) -> Result<(), NoMemory>
@@ -141,7 +163,13 @@ fn write_params(to: &mut Printer, params: &[Param], keeps_final: bool) -> Result
         return Ok(());
     };
     write_param(to, first, keeps_final)?;
-    for param in rest {
+    write_further_params(to, rest, keeps_final)
+}
+
+fn write_further_params(to: &mut Printer, params: &[Param], keeps_final: bool) -> Result<(), NoMemory>
+    ensures { OnOk result (to.new ≡ writes to.old (further_lexemes (param_lexemes keeps_final) params.now)) }
+{
+    for param in params {
         to.terminal(Terminal::Comma)?;
         write_param(to, param, keeps_final)?;
     }
@@ -180,11 +208,11 @@ fn write_set(to: &mut Printer, set: &(Name, Name)) -> Result<(), NoMemory>
 fn write_guard(to: &mut Printer, guard: &Option<Lock>) -> Result<(), NoMemory>
     ensures { OnOk result (to.new ≡ writes to.old (guard_lexemes (option_map lock_of guard.now))) }
 {
-    if let Some(lock) = guard {
-        to.terminal(Terminal::GuardedBy)?;
-        write_lock(to, lock)?;
-    }
-    Ok(())
+    let Some(lock) = guard else {
+        return Ok(());
+    };
+    to.terminal(Terminal::GuardedBy)?;
+    write_lock(to, lock)
 }
 
 fn write_requires(to: &mut Printer, locks: &[Lock]) -> Result<(), NoMemory>
@@ -195,7 +223,13 @@ fn write_requires(to: &mut Printer, locks: &[Lock]) -> Result<(), NoMemory>
     };
     to.terminal(Terminal::Requires)?;
     write_lock(to, first)?;
-    for lock in rest {
+    write_further_locks(to, rest)
+}
+
+fn write_further_locks(to: &mut Printer, locks: &[Lock]) -> Result<(), NoMemory>
+    ensures { OnOk result (to.new ≡ writes to.old (further_lexemes lock_lexemes (map lock_of locks.now))) }
+{
+    for lock in locks {
         to.terminal(Terminal::Comma)?;
         write_lock(to, lock)?;
     }
@@ -206,7 +240,13 @@ fn write_lock(to: &mut Printer, lock: &Lock) -> Result<(), NoMemory>
     ensures { OnOk result (to.new ≡ writes to.old (lock_lexemes (lock_of lock.now))) }
 {
     write_root(to, &lock.root)?;
-    for field in &lock.fields {
+    write_fields(to, &lock.fields)
+}
+
+fn write_fields(to: &mut Printer, fields: &[Name]) -> Result<(), NoMemory>
+    ensures { OnOk result (to.new ≡ writes to.old (all_lexemes dotted_lexemes fields.now)) }
+{
+    for field in fields {
         write_dotted(to, field)?;
     }
     Ok(())
@@ -245,7 +285,11 @@ fn write_stmt(to: &mut Printer, stmt: &Stmt) -> Result<(), NoMemory>
 {
     match stmt {
         Stmt::Empty(_) => to.terminal(Terminal::Semicolon),
-        Stmt::Block(stmts, _) => write_block(to, stmts),
+        Stmt::Block(stmts, _) => {
+            to.terminal(Terminal::OpenBrace)?;
+            write_stmts(to, stmts)?;
+            to.terminal(Terminal::CloseBrace)
+        }
         Stmt::Local { is_final, ty, name, value, at: _ } => {
             write_flag(to, Terminal::Final, *is_final)?;
             write_type(to, ty)?;
@@ -261,18 +305,17 @@ fn write_stmt(to: &mut Printer, stmt: &Stmt) -> Result<(), NoMemory>
             write_expr(to, call)?;
             to.terminal(Terminal::Semicolon)
         }
-        Stmt::If(condition, stmt, None, _) => {
-            write_condition(to, Terminal::If, condition)?;
-            write_stmt(to, stmt)
-        }
-        Stmt::If(condition, stmt, Some(other), _) => {
-            write_condition(to, Terminal::If, condition)?;
+        Stmt::If(condition, stmt, other, _) => {
+            write_in_parentheses(to, Terminal::If, condition)?;
             write_stmt(to, stmt)?;
+            let Some(other) = other else {
+                return Ok(());
+            };
             to.terminal(Terminal::Else)?;
             write_stmt(to, other)
         }
         Stmt::While(condition, stmt, _) => {
-            write_condition(to, Terminal::While, condition)?;
+            write_in_parentheses(to, Terminal::While, condition)?;
             write_stmt(to, stmt)
         }
         Stmt::Sync(lock, stmts, _) => {
@@ -280,21 +323,14 @@ fn write_stmt(to: &mut Printer, stmt: &Stmt) -> Result<(), NoMemory>
             to.terminal(Terminal::OpenParen)?;
             write_lock(to, lock)?;
             to.terminal(Terminal::CloseParen)?;
-            write_block(to, stmts)
+            to.terminal(Terminal::OpenBrace)?;
+            write_stmts(to, stmts)?;
+            to.terminal(Terminal::CloseBrace)
         }
         Stmt::Return(value, _) => write_return(to, value),
         Stmt::Print(value, _) => write_print(to, value),
         Stmt::Start(value, _) => write_start(to, value),
     }
-}
-
-#[cycle(statements)]
-fn write_block(to: &mut Printer, stmts: &[Stmt]) -> Result<(), NoMemory>
-    ensures { OnOk result (to.new ≡ writes to.old (stmt_lexemes (BlockS (stmts_from (map stmt_of stmts.now)) 0))) }
-{
-    to.terminal(Terminal::OpenBrace)?;
-    write_stmts(to, stmts)?;
-    to.terminal(Terminal::CloseBrace)
 }
 
 /// Writes `NAME = VALUE;`.
@@ -307,13 +343,13 @@ fn write_assignment(to: &mut Printer, name: &Name, value: &Expr) -> Result<(), N
     to.terminal(Terminal::Semicolon)
 }
 
-/// Writes a word and a condition in parentheses.
-fn write_condition(to: &mut Printer, word: Terminal, condition: &Expr) -> Result<(), NoMemory>
-    ensures { OnOk result (to.new ≡ writes to.old (Fixed word ∷ expr_lexemes (ParenE (expr_of condition.now) 0))) }
+/// Writes a terminal, and an expression in parentheses.
+fn write_in_parentheses(to: &mut Printer, before: Terminal, inner: &Expr) -> Result<(), NoMemory>
+    ensures { OnOk result (to.new ≡ writes to.old (Fixed before ∷ expr_lexemes (ParenE (expr_of inner.now) 0))) }
 {
-    to.terminal(word)?;
+    to.terminal(before)?;
     to.terminal(Terminal::OpenParen)?;
-    write_expr(to, condition)?;
+    write_expr(to, inner)?;
     to.terminal(Terminal::CloseParen)
 }
 
@@ -321,9 +357,10 @@ fn write_return(to: &mut Printer, value: &Option<Box<Expr>>) -> Result<(), NoMem
     ensures { OnOk result (to.new ≡ writes to.old (stmt_lexemes (ReturnS (option_map (λ b. expr_of b.value) value.now) 0))) }
 {
     to.terminal(Terminal::Return)?;
-    if let Some(value) = value {
-        write_expr(to, value)?;
-    }
+    let Some(value) = value else {
+        return to.terminal(Terminal::Semicolon);
+    };
+    write_expr(to, value)?;
     to.terminal(Terminal::Semicolon)
 }
 
@@ -396,35 +433,30 @@ fn write_expr(to: &mut Printer, expr: &Expr) -> Result<(), NoMemory>
         Expr::Call(receiver, name, args) => {
             write_expr(to, receiver)?;
             write_dotted(to, name)?;
-            write_args(to, args)
+            to.terminal(Terminal::OpenParen)?;
+            write_args(to, args)?;
+            to.terminal(Terminal::CloseParen)
         }
         Expr::New(class, args, _) => {
             to.terminal(Terminal::New)?;
             write_name(to, class)?;
-            write_args(to, args)
+            to.terminal(Terminal::OpenParen)?;
+            write_args(to, args)?;
+            to.terminal(Terminal::CloseParen)
         }
     }
 }
 
-/// Writes arguments in parentheses.
+/// Writes arguments with commas between them.
 #[cycle(expressions)]
 fn write_args(to: &mut Printer, args: &[Expr]) -> Result<(), NoMemory>
-    ensures { OnOk result (to.new ≡ writes to.old (Fixed terminals.OpenParen ∷ args_lexemes (exprs_from (map expr_of args.now)) ++ (Fixed terminals.CloseParen ∷ []))) }
+    ensures { OnOk result (to.new ≡ writes to.old (args_lexemes (exprs_from (map expr_of args.now)))) }
 {
-    to.terminal(Terminal::OpenParen)?;
-    if let Some((first, rest)) = args.split_first() {
-        write_expr(to, first)?;
-        write_more_args(to, rest)?;
-    }
-    to.terminal(Terminal::CloseParen)
-}
-
-/// Writes arguments, each with its comma before it.
-#[cycle(expressions)]
-fn write_more_args(to: &mut Printer, args: &[Expr]) -> Result<(), NoMemory>
-    ensures { OnOk result (to.new ≡ writes to.old (more_args_lexemes (exprs_from (map expr_of args.now)))) }
-{
-    for arg in args {
+    let Some((first, rest)) = args.split_first() else {
+        return Ok(());
+    };
+    write_expr(to, first)?;
+    for arg in rest {
         to.terminal(Terminal::Comma)?;
         write_expr(to, arg)?;
     }
