@@ -1,11 +1,14 @@
-//! The syntax of the language: its trees and the grammar that relates them to lists of tokens.
+//! The syntax of the language: its trees, the grammar that relates them to lists of tokens, and their canonical text.
 #![tactic(auto)]
 
+mod page;
+mod print;
 mod terminal;
 mod tree;
 
 ghost use Rattle.aj_syntax.specs.Faults.{IsTooDeep, IsUnexpected};
 ghost use Rattle.aj_syntax.specs.Views.{program_of};
 
+pub use print::print_program;
 pub use terminal::Terminal;
 pub use tree::{Class, Expr, Lock, Member, Name, Op, Param, Program, Stmt, TypeName};

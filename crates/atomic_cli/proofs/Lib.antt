@@ -12,4 +12,6 @@ pub mod Classes
 pub mod Answers
 pub mod Words
 pub mod Runs
+pub mod Offsets
+pub mod Refusing
 pub mod Members

@@ -5,7 +5,9 @@ pub mod Reading
 pub mod Gives
 pub mod Rules
 pub mod Lines
+pub mod Refusals
 pub mod Answer
 pub mod Tables
 pub mod Sources
 pub mod Said
+pub mod Commands

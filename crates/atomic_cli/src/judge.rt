@@ -1,18 +1,20 @@
-//! Judges the bytes of a source.
+//! Judges and prints the bytes of a source.
 
 ghost use Rattle.std.specs.Prelude.{◌≡◌, ◌≤◌, ◌<◌, ℕ, List, length, map, IfOk, string_bytes, option_map};
 ghost use Rattle.atomic_cli.specs.Shape.{shape_of};
 ghost use Rattle.atomic_cli.specs.Views.{program_of};
-ghost use Rattle.atomic_cli.specs.Answer.{Answer, Verdict};
+ghost use Rattle.atomic_cli.specs.Answer.{Answer, Verdict, CheckFile, PrintFile};
 ghost use Rattle.atomic_cli.specs.Lines.{not_built_line};
-ghost use Rattle.atomic_cli.specs.Sources.{IsClassOf, IsSourceOf};
+ghost use Rattle.atomic_cli.specs.Sources.{IsClassOf};
 
 use crate::lines::{NOT_BUILT, broken_line, report};
 use crate::small::conditions::meets_conditions;
 use crate::small::read::{Stop, class_main};
 use crate::small::rules::first_broken;
 use crate::small::tree::Program;
-use aj_lexer::{LexFault, Token, lex, utf8_text};
+use crate::source::{Reading, read_source};
+use aj_lexer::Token;
+use aj_syntax::print_program;
 use std::alloc::{AllocError as NoMemory, Global};
 
 /// A status of the program, and the text that is written with it.
@@ -36,21 +38,6 @@ fn well_formed_class(alloc: Global, tokens: &[Token]) -> Result<Option<Program>,
         }
         Err(Stop::NotSmall) => Ok(None),
         Err(Stop::NoMemory) => Err(NoMemory),
-    }
-}
-
-/// The small source that the bytes are, if they are one.
-fn small_source(alloc: Global, bytes: &[u8]) -> Result<Option<Program>, NoMemory>
-    requires { length bytes.now ≤ 262144 }
-    ensures { IfOk result (IsSourceOf bytes.now) }
-{
-    let Ok(text) = utf8_text(bytes) else {
-        return Ok(None);
-    };
-    match lex(alloc, text) {
-        Ok(tokens) => well_formed_class(alloc, tokens.as_slice()),
-        Err(LexFault::NoMemory) => Err(NoMemory),
-        Err(_) => Ok(None),
     }
 }
 
@@ -83,11 +70,30 @@ fn not_built(alloc: Global) -> Result<Outcome, NoMemory>
 /// Judges a source of at most 262,144 bytes.
 pub fn judge(alloc: Global, bytes: &[u8]) -> Result<Outcome, NoMemory>
     requires { length bytes.now ≤ 262144 }
-    ensures answer { IfOk result (λ o. (name : List ℕ) → Answer name bytes.now o.status (string_bytes o.text)) }
+    ensures answer { IfOk result (λ o. (name : List ℕ) → Answer bytes.now (CheckFile name) o.status (string_bytes o.text)) }
     ensures status { IfOk result (λ o. o.status < 3) }
 {
-    match small_source(alloc, bytes)? {
+    let tokens = match read_source(alloc, bytes)? {
+        Reading::NoProgram(text) => return Ok(Outcome { status: 1, text }),
+        Reading::Program(tokens, _tree) => tokens,
+    };
+    match well_formed_class(alloc, tokens.as_slice())? {
         Some(program) => verdict(alloc, &program),
         None => not_built(alloc),
+    }
+}
+
+/// Writes a source of at most 262,144 bytes in canonical layout.
+pub fn print(alloc: Global, bytes: &[u8]) -> Result<Outcome, NoMemory>
+    requires { length bytes.now ≤ 262144 }
+    ensures answer { IfOk result (λ o. (name : List ℕ) → Answer bytes.now (PrintFile name) o.status (string_bytes o.text)) }
+    ensures status { IfOk result (λ o. o.status < 3) }
+{
+    match read_source(alloc, bytes)? {
+        Reading::NoProgram(text) => Ok(Outcome { status: 1, text }),
+        Reading::Program(_tokens, tree) => Ok(Outcome {
+            status: 0,
+            text: print_program(alloc, &tree)?,
+        }),
     }
 }

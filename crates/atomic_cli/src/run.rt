@@ -1,13 +1,15 @@
 //! The top call of the program.
 
-ghost use Rattle.std.specs.Prelude.{◌≡◌, ◌≤◌, ◌⊎◌, ℕ, List, length, map, Option, Some, MatchOption, IfOk, OnErr, string_bytes};
+ghost use Rattle.std.specs.Prelude.{◌≡◌, ◌≤◌, ◌⊎◌, ℕ, List, length, map, ◌<◌, Option, Some, IfOk, OnErr, string_bytes};
 ghost use Rattle.aj_edge.specs.Faults.{Rose};
 ghost use Rattle.atomic_cli.specs.Lines.{usage_line, cannot_read_line};
-ghost use Rattle.atomic_cli.specs.Answer.{IsCheck, IsNoRow, Answer, Yields, IsExact};
+ghost use Rattle.atomic_cli.specs.Answer.{Row, words_of, file_of, IsNoRow, Answer, Yields, IsExact};
+ghost use Rattle.atomic_cli.specs.Commands.{row_of};
 ghost use Rattle.atomic_cli.specs.Said.{Says, WritesAnswer, WritesFront};
 ghost use Rattle.std.specs.Io.KnownBytes.{Appends, Keeps};
 
-use crate::judge::{Outcome, judge};
+use crate::command::{Command, command_of};
+use crate::judge::{Outcome, judge, print};
 use crate::lines::{USAGE, cannot_read_line, too_large_line};
 use aj_edge::{Fault, Folder, ReadEnd, Sink, read_file, write_all};
 use std::alloc::{AllocError as NoMemory, Global};
@@ -15,25 +17,33 @@ use std::alloc::{AllocError as NoMemory, Global};
 /// The most bytes that a source may have.
 const LARGEST_SOURCE: u32 = 262144;
 
-/// The name in the words `check NAME`, if they are that.
-fn checked_name(words: &[String]) -> Option<&str>
-    ensures { MatchOption result (IsNoRow (map string_bytes words.now)) (λ name. IsCheck (map string_bytes words.now) name.now) }
+/// What the command answers to the bytes of its file.
+fn answer(alloc: Global, command: Command<'_>, bytes: &[u8]) -> Result<Outcome, NoMemory>
+    requires { length bytes.now ≤ 262144 }
+    ensures answer { IfOk result (λ o. Answer bytes.now (row_of command.entry) o.status (string_bytes o.text)) }
+    ensures status { IfOk result (λ o. o.status < 3) }
 {
-    match words {
-        [command, name] if command.as_str() == "check" => Some(name.as_str()),
-        _ => None,
+    match command {
+        Command::Check(_) => judge(alloc, bytes),
+        Command::Print(_) => print(alloc, bytes),
     }
 }
 
-/// Reads the source of this name and judges it.
-fn check<F: Folder>(alloc: Global, folder: &mut F, name: &str) -> Result<Outcome, NoMemory>
-    ensures unreadable { IfOk result (λ o. o.status ≡ 6 → (string_bytes o.text ≡ cannot_read_line name.now) × Rose (F.faults folder.old name.now) (F.faults folder.new name.now)) }
-    ensures answer { IfOk result (λ o. (file : List ℕ) → F.told folder.old name.now ≡ Some file →
-        (o.status ≡ 6) ⊎ Answer name.now file o.status (string_bytes o.text)) }
+/// Reads the file of the command, and does what the command says.
+fn perform<F: Folder>(
+    alloc: Global,
+    folder: &mut F,
+    command: Command<'_>,
+) -> Result<Outcome, NoMemory>
+    ensures unreadable { IfOk result (λ o. o.status ≡ 6 → (string_bytes o.text ≡ cannot_read_line (file_of (row_of command.entry)))
+        × Rose (F.faults folder.old (file_of (row_of command.entry))) (F.faults folder.new (file_of (row_of command.entry)))) }
+    ensures answer { IfOk result (λ o. (file : List ℕ) → F.told folder.old (file_of (row_of command.entry)) ≡ Some file →
+        (o.status ≡ 6) ⊎ Answer file (row_of command.entry) o.status (string_bytes o.text)) }
     ensures other { IfOk result (λ o. (o.status ≡ 7 → ⊥) × (o.status ≡ 8 → ⊥) × (o.status ≡ 9 → ⊥)) }
 {
+    let name = command.file();
     match read_file(alloc, folder, name, LARGEST_SOURCE) {
-        Ok(bytes) => judge(alloc, bytes.as_slice()),
+        Ok(bytes) => answer(alloc, command, bytes.as_slice()),
         Err(ReadEnd::TooLarge) => Ok(Outcome {
             status: 10,
             text: too_large_line(alloc, name)?,
@@ -68,27 +78,27 @@ pub fn run<F: Folder, K: Sink>(alloc: Global, words: &[String], folder: &mut F, 
     ensures usage_only { result ≡ 9 → IsNoRow (map string_bytes words.now) }
 
     // A file that can't be read, a sink that fails, want of memory.
-    ensures cannot_read { (name : List ℕ) → IsCheck (map string_bytes words.now) name → result ≡ 6 →
-        Rose (F.faults folder.old name) (F.faults folder.new name) × Appends (K.written sink.old) (K.written sink.new) (cannot_read_line name) }
+    ensures cannot_read { (row : Row) → map string_bytes words.now ≡ words_of row → result ≡ 6 →
+        Rose (F.faults folder.old (file_of row)) (F.faults folder.new (file_of row)) × Appends (K.written sink.old) (K.written sink.new) (cannot_read_line (file_of row)) }
     ensures cannot_write { result ≡ 7 → Rose (K.faults sink.old) (K.faults sink.new) }
     ensures no_memory { result ≡ 8 → Keeps (K.written sink.old) (K.written sink.new) }
 
     // The file is told: each status comes exactly where its fact holds, and the text is the one that belongs to it.
-    ensures exact { (name file : List ℕ) → IsCheck (map string_bytes words.now) name → F.told folder.old name ≡ Some file → IsExact file result }
-    ensures text { (name file : List ℕ) → IsCheck (map string_bytes words.now) name → F.told folder.old name ≡ Some file →
-        Yields result ⊎ WritesAnswer name file result (K.written sink.old) (K.written sink.new) }
-    ensures front { (name file : List ℕ) → IsCheck (map string_bytes words.now) name → F.told folder.old name ≡ Some file → result ≡ 7 →
-        WritesFront name file (K.written sink.old) (K.written sink.new) }
+    ensures exact { (row : Row) (file : List ℕ) → map string_bytes words.now ≡ words_of row → F.told folder.old (file_of row) ≡ Some file → IsExact file row result }
+    ensures text { (row : Row) (file : List ℕ) → map string_bytes words.now ≡ words_of row → F.told folder.old (file_of row) ≡ Some file →
+        Yields result ⊎ WritesAnswer file row result (K.written sink.old) (K.written sink.new) }
+    ensures front { (row : Row) (file : List ℕ) → map string_bytes words.now ≡ words_of row → F.told folder.old (file_of row) ≡ Some file → result ≡ 7 →
+        WritesFront file row (K.written sink.old) (K.written sink.new) }
 
     // Neither count rose or stands at its last value: the answer, or want of memory.
-    ensures complete { (name file : List ℕ) → IsCheck (map string_bytes words.now) name → F.told folder.old name ≡ Some file →
-        (Rose (F.faults folder.old name) (F.faults folder.new name) → ⊥) → (Rose (K.faults sink.old) (K.faults sink.new) → ⊥) →
-        (result ≡ 8) ⊎ WritesAnswer name file result (K.written sink.old) (K.written sink.new) }
+    ensures complete { (row : Row) (file : List ℕ) → map string_bytes words.now ≡ words_of row → F.told folder.old (file_of row) ≡ Some file →
+        (Rose (F.faults folder.old (file_of row)) (F.faults folder.new (file_of row)) → ⊥) → (Rose (K.faults sink.old) (K.faults sink.new) → ⊥) →
+        (result ≡ 8) ⊎ WritesAnswer file row result (K.written sink.old) (K.written sink.new) }
 {
-    let Some(name) = checked_name(words) else {
+    let Some(command) = command_of(words) else {
         return say(sink, 9, USAGE);
     };
-    match check(alloc, folder, name) {
+    match perform(alloc, folder, command) {
         Ok(outcome) => say(sink, outcome.status, outcome.text.as_str()),
         Err(NoMemory) => 8,
     }
