@@ -230,11 +230,11 @@ abbrev mutual
   SpellsStmt (PrintS e at) ts =
       (xs : List Token) × (d n f p o c g : ℕ) × Spells e xs
       × (ts ≡ token T.System at ∷ token T.Dot d ∷ token T.Out n ∷ token T.Dot f ∷ token T.Println p ∷ token T.OpenParen o
-          ∷ xs ++ (token T.CloseParen c ∷ token T.Semicolon g ∷ []))
+      ∷ xs ++ (token T.CloseParen c ∷ token T.Semicolon g ∷ []))
   SpellsStmt (StartS e at) ts =
       (xs : List Token) × (t o c d s p q g : ℕ) × Spells e xs
       × (ts ≡ token T.New at ∷ token T.Thread t ∷ token T.OpenParen o
-          ∷ xs ++ (token T.CloseParen c ∷ token T.Dot d ∷ token T.Start s ∷ token T.OpenParen p ∷ token T.CloseParen q ∷ token T.Semicolon g ∷ []))
+      ∷ xs ++ (token T.CloseParen c ∷ token T.Dot d ∷ token T.Start s ∷ token T.OpenParen p ∷ token T.CloseParen q ∷ token T.Semicolon g ∷ []))
 
   -- the statements of a block, one after another
   pub SpellsStmts : StmtTrees → List Token → Type 0
@@ -293,7 +293,7 @@ SpellsBare (MethodM m) ts =
     (fs xs rs ys : List Token) × (x : Token) × (o c b : ℕ) × IsFlag T.Atomic m.atomic fs × IsResultType m.returns x
     × Separates SpellsParam m.params xs × SpellsRequires m.locks rs × SpellsStmts m.body ys
     × (ts ≡ fs ++ (x ∷ name_token m.name ∷ token T.OpenParen o
-        ∷ xs ++ (token T.CloseParen c ∷ rs ++ (token T.OpenBrace b ∷ ys ++ (token T.CloseBrace m.end ∷ [])))))
+    ∷ xs ++ (token T.CloseParen c ∷ rs ++ (token T.OpenBrace b ∷ ys ++ (token T.CloseBrace m.end ∷ [])))))
 
 -- member = [ "public" ] ( field | ctor | method )
 abbrev pub SpellsMember : MemberTree → List Token → Type 0

@@ -108,7 +108,7 @@ unfoldable pub put : Page → Lexeme → Page
 put page x = record {
   text = page.text ++ (gap page.place page.depth (lead_of x) ++ (lexeme_text x ++ line_end x));
   depth = depth_after page.depth x;
-  place = place_after x
+  place = place_after x;
 }
 
 -- the page with more tokens

@@ -94,15 +94,15 @@ abbrev mutual
   stmt_lexemes (WhileS e s at) = Fixed T.While ∷ Fixed T.OpenParen ∷ expr_lexemes e ++ (Fixed T.CloseParen ∷ stmt_lexemes s)
   stmt_lexemes (SyncS l ss at) =
       Fixed T.Synchronized ∷ Fixed T.OpenParen ∷ lock_lexemes l
-          ++ (Fixed T.CloseParen ∷ Fixed T.OpenBrace ∷ stmts_lexemes ss ++ (Fixed T.CloseBrace ∷ []))
+      ++ (Fixed T.CloseParen ∷ Fixed T.OpenBrace ∷ stmts_lexemes ss ++ (Fixed T.CloseBrace ∷ []))
   stmt_lexemes (ReturnS None at) = Fixed T.Return ∷ Fixed T.Semicolon ∷ []
   stmt_lexemes (ReturnS (Some e) at) = Fixed T.Return ∷ expr_lexemes e ++ (Fixed T.Semicolon ∷ [])
   stmt_lexemes (PrintS e at) =
       Fixed T.System ∷ Fixed T.Dot ∷ Fixed T.Out ∷ Fixed T.Dot ∷ Fixed T.Println ∷ Fixed T.OpenParen
-          ∷ expr_lexemes e ++ (Fixed T.CloseParen ∷ Fixed T.Semicolon ∷ [])
+      ∷ expr_lexemes e ++ (Fixed T.CloseParen ∷ Fixed T.Semicolon ∷ [])
   stmt_lexemes (StartS e at) =
       Fixed T.New ∷ Fixed T.Thread ∷ Fixed T.OpenParen
-          ∷ expr_lexemes e ++ (Fixed T.CloseParen ∷ Fixed T.Dot ∷ Fixed T.Start ∷ Fixed T.OpenParen ∷ Fixed T.CloseParen ∷ Fixed T.Semicolon ∷ [])
+      ∷ expr_lexemes e ++ (Fixed T.CloseParen ∷ Fixed T.Dot ∷ Fixed T.Start ∷ Fixed T.OpenParen ∷ Fixed T.CloseParen ∷ Fixed T.Semicolon ∷ [])
 
   pub stmts_lexemes : StmtTrees → List Lexeme
   stmts_lexemes no_stmts = []
@@ -126,8 +126,8 @@ requires_lexemes (l ∷ ls) = Fixed T.Requires ∷ listed_lexemes lock_lexemes (
 abbrev pub method_lexemes : Bool → Option TypeName → Name → List Param → List LockTree → StmtTrees → List Lexeme
 method_lexemes atomic returns n params locks body =
     flag_lexemes T.Atomic atomic ++ (result_lexeme returns ∷ name_lexeme n ∷ Fixed T.OpenParen
-        ∷ listed_lexemes (param_lexemes true) params
-        ++ (Fixed T.CloseParen ∷ requires_lexemes locks ++ (Fixed T.OpenBrace ∷ stmts_lexemes body ++ (Fixed T.CloseBrace ∷ []))))
+    ∷ listed_lexemes (param_lexemes true) params
+    ++ (Fixed T.CloseParen ∷ requires_lexemes locks ++ (Fixed T.OpenBrace ∷ stmts_lexemes body ++ (Fixed T.CloseBrace ∷ []))))
 
 -- a field, constructor or method, without `public`; a constructor's parameters without `final`
 abbrev pub member_lexemes : MemberTree → List Lexeme
@@ -135,7 +135,7 @@ member_lexemes (FieldM fin ty n guard) =
     flag_lexemes T.Final fin ++ (type_lexeme ty ∷ name_lexeme n ∷ guard_lexemes guard ++ (Fixed T.Semicolon ∷ []))
 member_lexemes (CtorM n params sets) =
     name_lexeme n ∷ Fixed T.OpenParen ∷ listed_lexemes (param_lexemes false) params
-        ++ (Fixed T.CloseParen ∷ Fixed T.OpenBrace ∷ all_lexemes set_lexemes sets ++ (Fixed T.CloseBrace ∷ []))
+    ++ (Fixed T.CloseParen ∷ Fixed T.OpenBrace ∷ all_lexemes set_lexemes sets ++ (Fixed T.CloseBrace ∷ []))
 member_lexemes (MethodM m) = method_lexemes m.atomic m.returns m.name m.params m.locks m.body
 
 abbrev pub runnable_lexemes : Bool → List Lexeme
@@ -146,7 +146,7 @@ runnable_lexemes false = []
 abbrev pub class_lexemes : ClassTree → List Lexeme
 class_lexemes c =
     Fixed T.Class ∷ name_lexeme c.name ∷ runnable_lexemes c.runnable
-        ++ (Fixed T.OpenBrace ∷ all_lexemes member_lexemes c.members ++ (Fixed T.CloseBrace ∷ []))
+    ++ (Fixed T.OpenBrace ∷ all_lexemes member_lexemes c.members ++ (Fixed T.CloseBrace ∷ []))
 
 abbrev pub program_lexemes : ProgramTree → List Lexeme
 program_lexemes t = all_lexemes class_lexemes t

@@ -73,8 +73,13 @@ member_of (M.Field fin ty n guard) = FieldM fin ty n (option_map lock_of guard)
 member_of (M.Ctor n params sets) = CtorM n params.items sets.items
 member_of (M.Method atomic returns n params locks body end) =
     MethodM record {
-      atomic = atomic; returns = returns; name = n; params = params.items; locks = map lock_of locks.items;
-      body = stmts_from (map stmt_of body.items); end = end
+      atomic = atomic;
+      returns = returns;
+      name = n;
+      params = params.items;
+      locks = map lock_of locks.items;
+      body = stmts_from (map stmt_of body.items);
+      end = end;
     }
 
 abbrev pub class_of : Class → ClassTree

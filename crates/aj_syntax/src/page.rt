@@ -140,7 +140,8 @@ fn lead_to(terminal: Terminal) -> Lead
     ensures { result ≡ lead_of (Fixed terminal) }
 {
     match terminal {
-        Terminal::Semicolon | Terminal::Comma | Terminal::CloseParen | Terminal::Dot => Lead::Joined,
+        Terminal::Semicolon | Terminal::Comma | Terminal::CloseParen | Terminal::Dot =>
+            Lead::Joined,
         Terminal::OpenParen => Lead::OpenParen,
         Terminal::CloseBrace => Lead::CloseBrace,
         _ => Lead::Spaced,

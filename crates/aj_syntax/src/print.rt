@@ -68,15 +68,32 @@ fn write_member(to: &mut Printer, member: &Member) -> Result<(), NoMemory>
     ensures { OnOk result (to.new ≡ writes to.old (member_lexemes (member_of member.now))) }
 {
     match member {
-        Member::Field { is_final, ty, name, guard } => write_field(to, *is_final, ty, name, guard),
+        Member::Field {
+            is_final,
+            ty,
+            name,
+            guard,
+        } => write_field(to, *is_final, ty, name, guard),
         Member::Ctor { name, params, sets } => write_constructor(to, name, params, sets),
-        Member::Method { atomic, result, name, params, requires_, body, end: _ } => {
-            write_method(to, *atomic, result, name, params, requires_, body)
-        }
+        Member::Method {
+            atomic,
+            result,
+            name,
+            params,
+            requires_,
+            body,
+            end: _,
+        } => { write_method(to, *atomic, result, name, params, requires_, body) }
     }
 }
 
-fn write_field(to: &mut Printer, is_final: bool, ty: &TypeName, name: &Name, guard: &Option<Lock>) -> Result<(), NoMemory>
+fn write_field(
+    to: &mut Printer,
+    is_final: bool,
+    ty: &TypeName,
+    name: &Name,
+    guard: &Option<Lock>,
+) -> Result<(), NoMemory>
     ensures { OnOk result (to.new ≡ writes to.old (member_lexemes (FieldM is_final ty.now name.now (option_map lock_of guard.now)))) }
 {
     write_flag(to, Terminal::Final, is_final)?;
@@ -86,7 +103,12 @@ fn write_field(to: &mut Printer, is_final: bool, ty: &TypeName, name: &Name, gua
     to.terminal(Terminal::Semicolon)
 }
 
-fn write_constructor(to: &mut Printer, name: &Name, params: &[Param], sets: &[(Name, Name)]) -> Result<(), NoMemory>
+fn write_constructor(
+    to: &mut Printer,
+    name: &Name,
+    params: &[Param],
+    sets: &[(Name, Name)],
+) -> Result<(), NoMemory>
     ensures { OnOk result (to.new ≡ writes to.old (member_lexemes (CtorM name.now params.now sets.now))) }
 {
     write_name(to, name)?;
@@ -166,7 +188,11 @@ fn write_params(to: &mut Printer, params: &[Param], keeps_final: bool) -> Result
     write_further_params(to, rest, keeps_final)
 }
 
-fn write_further_params(to: &mut Printer, params: &[Param], keeps_final: bool) -> Result<(), NoMemory>
+fn write_further_params(
+    to: &mut Printer,
+    params: &[Param],
+    keeps_final: bool,
+) -> Result<(), NoMemory>
     ensures { OnOk result (to.new ≡ writes to.old (further_lexemes (param_lexemes keeps_final) params.now)) }
 {
     for param in params {
@@ -290,7 +316,13 @@ fn write_stmt(to: &mut Printer, stmt: &Stmt) -> Result<(), NoMemory>
             write_stmts(to, stmts)?;
             to.terminal(Terminal::CloseBrace)
         }
-        Stmt::Local { is_final, ty, name, value, at: _ } => {
+        Stmt::Local {
+            is_final,
+            ty,
+            name,
+            value,
+            at: _,
+        } => {
             write_flag(to, Terminal::Final, *is_final)?;
             write_type(to, ty)?;
             write_assignment(to, name, value)

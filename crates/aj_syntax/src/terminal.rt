@@ -5,8 +5,6 @@ ghost use Rattle.aj_syntax.specs.Tokens.{is, kind_of, same_kind, spelling};
 
 use aj_lexer::{Token, TokenKind};
 
-
-
 /// A token that the grammar names: a reserved word, a sign, or one of three names.
 #[derive(Clone, Copy, Debug, PartialEq, Eq)]
 pub enum Terminal {

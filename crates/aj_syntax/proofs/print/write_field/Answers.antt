@@ -10,4 +10,4 @@ use Rattle.aj_syntax.proofs.print.write_field.Goals as goal
 pub returns : goal.returns
 returns c =
     added c.terminal.result c.args.to.now c.terminal.new.self (member_lexemes (FieldM c.args.is_final c.args.ty.now c.args.name.now (option_map lock_of c.args.guard.now))) (member_lexemes (FieldM c.args.is_final c.args.ty.now c.args.name.now (option_map lock_of c.args.guard.now))) refl
-        (writes_first (flag_lexemes T.Final c.args.is_final) c.in_ok-write_flag.ensures (put_first c.in_ok-write_type.ensures (put_first c.in_ok-write_name.ensures (writes_first (guard_lexemes (option_map lock_of c.args.guard.now)) c.in_ok-write_guard.ensures (put_last c.terminal.ensures)))))
+    (writes_first (flag_lexemes T.Final c.args.is_final) c.in_ok-write_flag.ensures (put_first c.in_ok-write_type.ensures (put_first c.in_ok-write_name.ensures (writes_first (guard_lexemes (option_map lock_of c.args.guard.now)) c.in_ok-write_guard.ensures (put_last c.terminal.ensures)))))
