@@ -1,2 +1,4 @@
 pub mod Bridge
+pub mod Cutting
+pub mod Parting
 pub mod Writing

@@ -3,6 +3,7 @@ pub mod Grammar
 pub mod Heights
 pub mod Layout
 pub mod Printing
+pub mod Reprinted
 pub mod Tokens
 pub mod Trees
 pub mod Views

@@ -3,12 +3,16 @@
 
 mod page;
 mod print;
+mod print_laws;
 mod terminal;
+#[cfg(test)]
+mod tests;
 mod tree;
 
 ghost use Rattle.aj_syntax.specs.Faults.{IsTooDeep, IsUnexpected};
 ghost use Rattle.aj_syntax.specs.Views.{program_of};
 
 pub use print::print_program;
+pub use print_laws::printing_laws;
 pub use terminal::Terminal;
 pub use tree::{Class, Expr, Lock, Member, Name, Op, Param, Program, Stmt, TypeName};
