@@ -1,4 +1,6 @@
 pub mod Bridge
 pub mod Cutting
+pub mod Moving
 pub mod Parting
+pub mod ReadingBack
 pub mod Writing

@@ -6,4 +6,5 @@ pub mod Printing
 pub mod Reprinted
 pub mod Tokens
 pub mod Trees
+pub mod Unplaced
 pub mod Views

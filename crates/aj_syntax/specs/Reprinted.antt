@@ -3,10 +3,13 @@ use Rattle.std.specs.Prelude.{◌≡◌, ℕ, Bool, true, false, List, [], ◌�
 use Rattle.aj_lexer.specs.declared.tokens.Token.{Token}
 use Rattle.aj_lexer.specs.declared.tokens.TokenKind.{TokenKind}
 use Rattle.aj_lexer.specs.declared.tokens.TokenKind.TheVariants as K
-use Rattle.aj_lexer.specs.Tokens.{IsOfKind}
+use Rattle.aj_lexer.specs.Tokens.{IsOfKind, Tokens}
 use Rattle.aj_syntax.specs.declared.terminal.Terminal.TheVariants as T
+use Rattle.aj_syntax.specs.Grammar.{Grammar}
 use Rattle.aj_syntax.specs.Layout.{Lexeme, Fixed, Named, Numeral, lexeme_text, token_at}
 use Rattle.aj_syntax.specs.Tokens.{kind_of}
+use Rattle.aj_syntax.specs.Trees.{ProgramTree}
+use Rattle.aj_syntax.specs.Unplaced.{without_offsets}
 
 abbrev pub lexeme_kind : Lexeme → TokenKind
 lexeme_kind (Fixed t) = kind_of t
@@ -38,3 +41,11 @@ AreTokensOf [] [] = Unit {0}
 AreTokensOf [] (t ∷ ts) = ⊥
 AreTokensOf (x ∷ xs) [] = ⊥
 AreTokensOf (x ∷ xs) (t ∷ ts) = (t ≡ token_at t.at x) × AreTokensOf xs ts
+
+-- the text has tokens that the grammar relates to a tree, which is this one but for offsets
+pub record ReadsBack (text : List ℕ) (tree : ProgramTree) : Type 0 where
+  pub tokens : List Token
+  pub cut : Tokens text tokens
+  pub again : ProgramTree
+  pub related : Grammar tokens again
+  pub same : without_offsets again ≡ without_offsets tree

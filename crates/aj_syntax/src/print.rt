@@ -1,9 +1,12 @@
 //! Writes the canonical text of trees.
 #![tactic(auto, using(crate::proofs::Writing::writes_none, crate::proofs::Writing::writes_one, crate::proofs::Writing::writes_both))]
 
-ghost use Rattle.std.specs.Prelude.{◌≡◌, [], ◌∷◌, ◌++◌, IfOk, OnOk, map, string_bytes};
+ghost use Rattle.std.specs.Prelude.{◌≡◌, ℕ, List, [], ◌∷◌, ◌++◌, IfOk, OnOk, map, string_bytes};
 ghost use Rattle.std.specs.Option.{option_map};
-ghost use Rattle.aj_syntax.specs.Grammar.{sign_of};
+ghost use Rattle.aj_lexer.specs.declared.tokens.Token.{Token};
+ghost use Rattle.aj_lexer.specs.Tokens.{Tokens};
+ghost use Rattle.aj_syntax.specs.Grammar.{Grammar, sign_of};
+ghost use Rattle.aj_syntax.specs.Reprinted.{ReadsBack};
 ghost use Rattle.aj_syntax.specs.Layout.{Fixed, put, writes};
 ghost use Rattle.aj_syntax.specs.Printing.{all_lexemes, args_lexemes, canonical, class_lexemes, dotted_lexemes, expr_lexemes, flag_lexemes, further_lexemes, guard_lexemes, listed_lexemes, lock_lexemes, member_lexemes, method_lexemes, more_args_lexemes, name_lexeme, param_lexemes, requires_lexemes, result_lexeme, root_lexeme, runnable_lexemes, set_lexemes, stmt_lexemes, stmts_lexemes, type_lexeme};
 ghost use Rattle.aj_syntax.specs.Trees.{BlockS, CtorM, FieldM, ParenE, PrintS, ReturnS, SetVarS, StartS};
@@ -19,6 +22,8 @@ use std::alloc::{AllocError as NoMemory, Global};
 /// brace. `public` isn't written, nor is `final` on a constructor's parameter.
 pub fn print_program(alloc: Global, program: &Program) -> Result<String, NoMemory>
     ensures text { IfOk result (λ text. string_bytes text ≡ canonical (program_of program.now)) }
+    ensures reads_back { (source : List ℕ) (ts : List Token) → Tokens source ts → Grammar ts (program_of program.now)
+        → IfOk result (λ text. ReadsBack (string_bytes text) (program_of program.now)) }
 {
     let mut printer = Printer::new(alloc);
     write_classes(&mut printer, &program.classes)?;

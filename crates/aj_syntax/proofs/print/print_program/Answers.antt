@@ -1,12 +1,19 @@
-use Rattle.std.proofs.Common.{map, ap, ◌∙◌, string_bytes}
+use Rattle.std.proofs.Common.{◌≡◌, List, map, ap, sym, subst, ◌∙◌, string_bytes}
+use Rattle.aj_lexer.specs.declared.tokens.Token.{Token}
 use Rattle.aj_syntax.specs.Layout.{writes}
-use Rattle.aj_syntax.specs.Printing.{all_lexemes, class_lexemes}
+use Rattle.aj_syntax.specs.Printing.{all_lexemes, canonical, class_lexemes}
+use Rattle.aj_syntax.specs.Reprinted.{ReadsBack}
 use Rattle.aj_syntax.specs.Views.{class_of, program_of}
+use Rattle.aj_syntax.proofs.ReadingBack.{reads_back}
 use Rattle.aj_syntax.proofs.Writing.{canonical_text}
 use Rattle.aj_syntax.proofs.print.print_program.Goals as goal
 
 pub returns : goal.returns
-returns c = record {
-  text = canonical_text (string_bytes c.into_text.result) c.new-printer.result c.write_classes.new.to (program_of c.args.program.now) c.new-printer.ensures
-      (c.in_ok-write_classes.ensures ∙ ap (λ z. writes c.new-printer.result (all_lexemes class_lexemes (map class_of z))) c.deref.ensures.value) c.into_text.ensures;
-}
+returns c =
+    let t = program_of c.args.program.now in
+    let e : string_bytes c.into_text.result ≡ canonical t = canonical_text (string_bytes c.into_text.result) c.new-printer.result c.write_classes.new.to t c.new-printer.ensures
+    (c.in_ok-write_classes.ensures ∙ ap (λ z. writes c.new-printer.result (all_lexemes class_lexemes (map class_of z))) c.deref.ensures.value) c.into_text.ensures in
+    record {
+      text = e;
+      reads_back = λ source ts its g. subst (λ z. ReadsBack z t) (sym e) (reads_back t source ts its g);
+    }
