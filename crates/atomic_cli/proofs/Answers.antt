@@ -95,7 +95,7 @@ exact_answer file _ _ _ (not_built {name = name} len tokens tree is none) = reco
   done = never 1 0 _ (λ e. cc) (λ f. none f.1.0 f.1.1);
 }
 exact_answer file _ status text (judged {name = name} len p s v) = verdict_is file name status text len p s v
-exact_answer file _ _ _ (printed {name = name} len tokens tree is) = record {
+exact_answer file _ _ _ (printed {name = name} len tokens tree is again) = record {
   too_large = never 0 10 _ (λ e. cc) (λ f. omega arith);
   refused = never 0 1 _ (λ e. cc) (λ f. f.1 tokens tree is);
   inadmissible = never 0 2 _ (λ e. cc) (λ f. f.1);

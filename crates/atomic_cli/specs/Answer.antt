@@ -2,6 +2,7 @@
 use Rattle.std.specs.Prelude.{◌≡◌, ℕ, ◌≤◌, ◌<◌, List, [], ◌∷◌, map, codes, ◌⊎◌, length}
 use Rattle.aj_lexer.specs.declared.tokens.Token.{Token}
 use Rattle.aj_syntax.specs.Printing.{canonical}
+use Rattle.aj_syntax.specs.Reprinted.{ReadsBack}
 use Rattle.aj_syntax.specs.Trees.{ProgramTree}
 use Rattle.aj_algebra.specs.declared.basic.Basic.{Basic}
 use Rattle.atomic_cli.specs.Shape.{shape_of}
@@ -51,7 +52,8 @@ pub data Answer (file : List ℕ) : Row → ℕ → List ℕ → Type 0 where
       → Answer file (CheckFile name) 1 not_built_line
   judged : {name : List ℕ} {status : ℕ} {text : List ℕ} → length file ≤ 262144 → (p : Program) → IsSmall file p → Verdict p status text
       → Answer file (CheckFile name) status text
-  printed : {name : List ℕ} → length file ≤ 262144 → (tokens : List Token) (tree : ProgramTree) → IsProgram file tokens tree
+  -- the canonical text of the tree, which reads back as that tree but for offsets
+  printed : {name : List ℕ} → length file ≤ 262144 → (tokens : List Token) (tree : ProgramTree) → IsProgram file tokens tree → ReadsBack (canonical tree) tree
       → Answer file (PrintFile name) 0 (canonical tree)
 
 -- the answers that come before a status, or in its place: a file that can't be read, a sink that fails, want of memory
