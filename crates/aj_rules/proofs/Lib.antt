@@ -5,3 +5,9 @@ pub mod Falling
 pub mod NearOnly
 pub mod EffectExamples
 pub mod AcceptedExample
+pub mod ClauseLemmas
+pub mod Reaching
+pub mod PathLists
+pub mod SearchLemmas
+pub mod LimitLemmas
+pub mod UniqueSets

@@ -20,19 +20,19 @@ use Rattle.aj_rules.specs.Mentions.{Mention, Accesses, Calls, Locks, Names, expr
 use Rattle.aj_rules.specs.Near.{Near, named, called, guarded, locked, MethodPaths, AreRelevant, rel_of, rel_paths, IsRel}
 use Rattle.aj_rules.specs.Effect.{Assignment, required_paths, access_effect, held_under, sync_effect, after_local, after_stmt, call_of, expr_effect, exprs_effect, effect, block_effect}
 
-contains_here : {A : Type 0} (x : A) (xs : List A) → Contains (x ∷ xs) x
+pub contains_here : {A : Type 0} (x : A) (xs : List A) → Contains (x ∷ xs) x
 contains_here x xs = (0, omega arith, refl)
 
-contains_later : {A : Type 0} (x y : A) (xs : List A) → Contains xs y → Contains (x ∷ xs) y
+pub contains_later : {A : Type 0} (x y : A) (xs : List A) → Contains xs y → Contains (x ∷ xs) y
 contains_later x y xs (k, below, is) = (suc k, omega arith, is)
 
 module _ (P : Program) (rel : ℕ → List PathData) (A : Assignment) (N : PathData → Type 0) where
   -- these paths have all that the parts with these mentions look at
-  record Covers (xs : List Mention) : Type 0 where
-    guards : (e : Expr) (f : ℕ) (p : PathData) → Contains xs (Accesses e f) → guard_of P f (path_of P e) ≡ Named p → N p
-    locks : (p : PathData) → Contains xs (Locks p) → N p
-    calls : (e : Expr) (m : ℕ) (args : Exprs) (q p : PathData) → Contains xs (Calls e m args) → has_path (rel m) q ≡ true → under_call (path_of P e) (paths_of P args) q ≡ Some p → N p
-    names : (x : ℕ) (e : Expr) (start q p : PathData) → Contains xs (Names x e) → path_of P e ≡ Some start → N q → q.root ≡ x → extended start q.fields ≡ Some p → N p
+  pub record Covers (xs : List Mention) : Type 0 where
+    pub guards : (e : Expr) (f : ℕ) (p : PathData) → Contains xs (Accesses e f) → guard_of P f (path_of P e) ≡ Named p → N p
+    pub locks : (p : PathData) → Contains xs (Locks p) → N p
+    pub calls : (e : Expr) (m : ℕ) (args : Exprs) (q p : PathData) → Contains xs (Calls e m args) → has_path (rel m) q ≡ true → under_call (path_of P e) (paths_of P args) q ≡ Some p → N p
+    pub names : (x : ℕ) (e : Expr) (start q p : PathData) → Contains xs (Names x e) → path_of P e ≡ Some start → N q → q.root ≡ x → extended start q.fields ≡ Some p → N p
 
   covers_part : (xs ys : List Mention) → ((x : Mention) → Contains ys x → Contains xs x) → Covers xs → Covers ys
   covers_part xs ys part c = record {
@@ -175,7 +175,7 @@ module _ (P : Program) (rel : ℕ → List PathData) (A : Assignment) (N : PathD
     stmt_same (PrintS e) H K c same = seq_same (expr_same e H K c same) refl
     stmt_same (StartS e) H K c same = seq_same (expr_same e H K c same) refl
 
-    block_same : (ss : Stmts) (H K : Held) → Covers (block_mentions ss) → Agree H K → block_effect P rel A ss H ≡ block_effect P rel A ss K
+    pub block_same : (ss : Stmts) (H K : Held) → Covers (block_mentions ss) → Agree H K → block_effect P rel A ss H ≡ block_effect P rel A ss K
     block_same no_stmts H K c same = refl
     block_same (and_stmt s ss) H K c same =
         let first = covers_left (mentions s) (block_mentions ss) c in
@@ -183,11 +183,11 @@ module _ (P : Program) (rel : ℕ → List PathData) (A : Assignment) (N : PathD
         seq_same (stmt_same s H K first same) (block_same ss (after_stmt P s H) (after_stmt P s K) rest (after_same s H K first same))
 
 module _ (P : Program) (sets : List MethodPaths) (relevant : AreRelevant P sets) where
-  rel_is : (m : ℕ) (o : Option MethodPaths) → slice_get sets m ≡ o → (q : PathData) → has_path (rel_paths o) q ≡ true → IsRel P m q
+  pub rel_is : (m : ℕ) (o : Option MethodPaths) → slice_get sets m ≡ o → (q : PathData) → has_path (rel_paths o) q ≡ true → IsRel P m q
   rel_is m None is q has = absurd cc
   rel_is m (Some paths) is q has = ((relevant.each m paths is).rel q).0 has
 
-  near_covers : (A : Assignment) (m : ℕ) (method : Method) → slice_get P.methods m ≡ Some method → Covers P (rel_of sets) A (Near P m) (mentions method.body)
+  pub near_covers : (A : Assignment) (m : ℕ) (method : Method) → slice_get P.methods m ≡ Some method → Covers P (rel_of sets) A (Near P m) (mentions method.body)
   near_covers A m method is = record {
     guards = λ e f p has guard. guarded e f (method, is, has) guard;
     locks = λ p has. locked (method, is, has);

@@ -5,3 +5,6 @@ pub mod Near
 pub mod Effect
 pub mod Rules
 pub mod Examples
+pub mod Clauses
+pub mod Search
+pub mod Limits

@@ -22,3 +22,8 @@ pub fn only_near_paths_count()
         ((q : PathData) → Near P m q → H q ≡ K q) →
         effect P (rel_of sets) A method.body H ≡ effect P (rel_of sets) A method.body K }
 {}
+
+/// A program has one list of relevant sets.
+pub fn relevant_sets_are_unique()
+    ensures { (P : Program) (s t : List MethodPaths) → AreRelevant P s → AreRelevant P t → s ≡ t }
+{}

@@ -2,14 +2,20 @@
 // After Flanagan and Qadeer (2003), taken at one set of held locks at a time; the tables are this checker's own.
 #![tactic(auto)]
 
+mod clauses;
 pub mod examples;
 mod guard;
 mod laws;
+mod relevance;
+#[cfg(test)]
+mod relevance_tests;
 mod renaming;
+mod search;
 mod sets;
 
 pub use guard::{Guard, guard_at};
-pub use laws::{more_held_paths_fall, only_near_paths_count};
+pub use laws::{more_held_paths_fall, only_near_paths_count, relevant_sets_are_unique};
+pub use relevance::{RuleEnd, relevant};
 pub use renaming::renaming_at;
 pub use sets::RelevantSets;
 

@@ -1,0 +1,225 @@
+-- What is reached by a program's clauses are the near paths.
+use Rattle.std.proofs.Common.{◌≡◌, ℕ, zero, suc, ◌+◌, ◌≤◌, Bool, true, false, List, [], ◌∷◌, ◌++◌, length, map, Some, None, refl, sym, ap, subst, ◌∙◌, arith, ◌⊎◌, inl, inr}
+use Rattle.std.specs.Prelude.{Option, Contains, slice_get, nat_le, if◌then◌else◌}
+use Rattle.std.proofs.lemmas.List.Elements.{Contains-append_left, Contains-append_right, Contains-append_cases}
+use Rattle.std.proofs.lemmas.Bool.Decides.{nat_tests}
+use Rattle.aj_paths.specs.Paths.{PathData, extended, extended_some}
+use Rattle.aj_paths.specs.Renamings.{argument_at, passed}
+use Rattle.aj_core.specs.Core.{Program, Method, Expr, Exprs}
+use Rattle.aj_core.specs.Locks.{path_of}
+use Rattle.aj_rules.specs.declared.guard.Guard.{Guard}
+use Rattle.aj_rules.specs.declared.guard.Guard.TheVariants.{Final, Free, Named, Unnamed}
+use Rattle.aj_rules.specs.Guards.{guard_of}
+use Rattle.aj_rules.specs.Mentions.{Mention, Accesses, Calls, Locks, Names, mentions, paths_of}
+use Rattle.aj_rules.specs.Near.{Near, required, locked, guarded, called, named, Mentions, Requires}
+use Rattle.aj_rules.specs.declared.clauses.Link.{Link}
+use Rattle.aj_rules.specs.declared.clauses.Clause.{Clause}
+use Rattle.aj_rules.specs.declared.clauses.Clause.TheVariants as clause
+use Rattle.aj_rules.specs.Clauses.{fact, link_clauses, passed_clauses, all_passed, params_of, call_clauses, guard_clauses, clauses_at, clauses_of, method_clauses, clauses_from, Reached, given, led}
+
+pub contains_none : {A : Type 0} {X : Type 0} (x : A) → Contains [] x → X
+contains_none x (k, below, is) = absurd (omega arith)
+
+pub contains_here : {A : Type 0} (x : A) (xs : List A) → Contains (x ∷ xs) x
+contains_here x xs = (0, omega arith, refl)
+
+pub contains_later : {A : Type 0} (x y : A) (xs : List A) → Contains xs y → Contains (x ∷ xs) y
+contains_later x y xs (k, below, is) = (suc k, omega arith, is)
+
+pub contains_cases : {A : Type 0} (x y : A) (xs : List A) → Contains (x ∷ xs) y → (x ≡ y) ⊎ Contains xs y
+contains_cases x y xs (zero, below, is) = inl is
+contains_cases x y xs (suc k, below, is) = inr (k, omega arith, is)
+
+pub contains_one : {A : Type 0} (x y : A) → Contains (x ∷ []) y → x ≡ y
+contains_one x y has = elim (contains_cases x y [] has) as (λ _. x ≡ y) [ inl e ↦ e | inr none ↦ contains_none y none ]
+
+-- a rule that holds of the near paths of a program
+abbrev IsSound : Program → Clause → Type 0
+IsSound P (clause.Fact x) = Near P x.method x.path
+IsSound P (clause.Leads link) = (q p : PathData) → Near P link.from q → q.root ≡ link.root → extended link.start q.fields ≡ Some p → Near P link.to p
+
+abbrev AllSound : Program → List Clause → Type 0
+AllSound P cs = (c : Clause) → Contains cs c → IsSound P c
+
+none_sound : (P : Program) → AllSound P []
+none_sound P c has = contains_none c has
+
+one_sound : (P : Program) (x : Clause) → IsSound P x → AllSound P (x ∷ [])
+one_sound P x sound c has = subst (IsSound P) (contains_one x c has) sound
+
+both_sound : (P : Program) (xs ys : List Clause) → AllSound P xs → AllSound P ys → AllSound P (xs ++ ys)
+both_sound P xs ys first second c has = elim (Contains-append_cases xs ys c has) as (λ _. IsSound P c) [ inl h ↦ first c h | inr h ↦ second c h ]
+
+-- what a slot of a callee stands for, in one list
+passed_at : (receiver : Option PathData) (args : List (Option PathData)) (x : ℕ) → passed receiver args x ≡ argument_at (slice_get (receiver ∷ args) x)
+passed_at receiver args zero = refl
+passed_at receiver args (suc n) = refl
+
+some_extended : (o : Option PathData) (start p : PathData) (fields : List ℕ) → o ≡ Some start → extended start fields ≡ Some p → extended_some o fields ≡ Some p
+some_extended o start p fields is fits = ap (λ x. extended_some x fields) is ∙ fits
+
+module _ (P : Program) (m : ℕ) (method : Method) (is : slice_get P.methods m ≡ Some method) where
+  module _ (e : Expr) (callee : ℕ) (args : Exprs) (mention : Contains (mentions method.body) (Calls e callee args)) (other : Method) (there : slice_get P.methods callee ≡ Some other) where
+    passed_sound : (root : ℕ) (o : Option PathData) → passed (path_of P e) (paths_of P args) root ≡ o → (b : Bool) → nat_le root (length other.params) ≡ b → AllSound P (if b then link_clauses callee root m o else [])
+    passed_sound root o at false in_params = none_sound P
+    passed_sound root None at true in_params = none_sound P
+    passed_sound root (Some start) at true in_params = one_sound P _ (λ q p near rooted fits.
+        called e callee args q (method, is, mention) near
+        (other, there, subst (λ r. r ≤ length other.params) (sym rooted) (let h = in_params in grind (arith, nat_tests)))
+        (some_extended _ start p q.fields (subst (λ r. passed (path_of P e) (paths_of P args) r ≡ Some start) (sym rooted) at) fits))
+
+    all_passed_sound : (root : ℕ) (rest : List (Option PathData)) → ((k : ℕ) (o : Option PathData) → slice_get rest k ≡ Some o → passed (path_of P e) (paths_of P args) (root + k) ≡ o) → AllSound P (all_passed (length other.params) callee root m rest)
+    all_passed_sound root [] at = none_sound P
+    all_passed_sound root (o ∷ rest) at = both_sound P _ _
+        (passed_sound root o (let e0 : root + 0 ≡ root = omega arith in subst (λ r. passed (path_of P e) (paths_of P args) r ≡ o) e0 (at 0 o refl)) _ refl)
+        (all_passed_sound (root + 1) rest (λ k x has. let e1 : root + suc k ≡ root + 1 + k = omega arith in subst (λ r. passed (path_of P e) (paths_of P args) r ≡ x) e1 (at (suc k) x has)))
+
+  call_sound : (e : Expr) (callee : ℕ) (args : Exprs) → Contains (mentions method.body) (Calls e callee args) → (o : Option Method) → slice_get P.methods callee ≡ o → AllSound P (call_clauses callee m (params_of o) (path_of P e) (paths_of P args))
+  call_sound e callee args mention None there = none_sound P
+  call_sound e callee args mention (Some other) there = both_sound P _ _
+      (passed_sound e callee args mention other there 0 (path_of P e) refl _ refl)
+      (all_passed_sound e callee args mention other there 1 (paths_of P args) (λ k o has. let e1 : suc k ≡ 1 + k = omega arith in subst (λ r. passed (path_of P e) (paths_of P args) r ≡ o) e1 (ap argument_at has)))
+
+  guard_sound : (e : Expr) (f : ℕ) → Contains (mentions method.body) (Accesses e f) → (g : Guard) → guard_of P f (path_of P e) ≡ g → AllSound P (guard_clauses m g)
+  guard_sound e f mention Final g = none_sound P
+  guard_sound e f mention Free g = none_sound P
+  guard_sound e f mention (Named p) g = one_sound P _ (guarded e f (method, is, mention) g)
+  guard_sound e f mention Unnamed g = none_sound P
+
+  name_sound : (x : ℕ) (e : Expr) → Contains (mentions method.body) (Names x e) → (o : Option PathData) → path_of P e ≡ o → AllSound P (link_clauses m x m o)
+  name_sound x e mention None at = none_sound P
+  name_sound x e mention (Some start) at = one_sound P _ (λ q p near rooted fits.
+      named q e start near (method, is, subst (λ r. Contains (mentions method.body) (Names r e)) (sym rooted) mention) at fits)
+
+  mention_sound : (x : Mention) → Contains (mentions method.body) x → AllSound P (clauses_at P m x)
+  mention_sound (Accesses e f) mention = guard_sound e f mention _ refl
+  mention_sound (Calls e callee args) mention = call_sound e callee args mention _ refl
+  mention_sound (Locks p) mention = one_sound P _ (locked (method, is, mention))
+  mention_sound (Names x e) mention = name_sound x e mention _ refl
+
+  mentions_sound : (xs : List Mention) → ((x : Mention) → Contains xs x → Contains (mentions method.body) x) → AllSound P (clauses_of P m xs)
+  mentions_sound [] part = none_sound P
+  mentions_sound (x ∷ xs) part = both_sound P _ _ (mention_sound x (part x (contains_here x xs))) (mentions_sound xs (λ y has. part y (contains_later x y xs has)))
+
+  required_sound : (ps : List PathData) → ((p : PathData) → Contains ps p → Contains method.requires_ p) → AllSound P (map (λ p. fact m p) ps)
+  required_sound [] part c has = contains_none c has
+  required_sound (p ∷ ps) part c has = elim (contains_cases (fact m p) c (map (λ p. fact m p) ps) has) as (λ _. IsSound P c) [
+    | inl e ↦ subst (IsSound P) e (required (method, is, part p (contains_here p ps)))
+    | inr h ↦ required_sound ps (λ q has. part q (contains_later p q ps has)) c h
+  ]
+
+  method_sound : AllSound P (method_clauses P m method)
+  method_sound = both_sound P _ _ (required_sound method.requires_ (λ p has. has)) (mentions_sound (mentions method.body) (λ x has. has))
+
+all_sound : (P : Program) (m : ℕ) (methods : List Method) → ((k : ℕ) (method : Method) → slice_get methods k ≡ Some method → slice_get P.methods (m + k) ≡ Some method) → AllSound P (clauses_from P m methods)
+all_sound P m [] at = none_sound P
+all_sound P m (method ∷ methods) at = both_sound P _ _
+    (method_sound P m method (let e0 : m + 0 ≡ m = omega arith in subst (λ n. slice_get P.methods n ≡ Some method) e0 (at 0 method refl)))
+    (all_sound P (m + 1) methods (λ k x has. let e1 : m + suc k ≡ m + 1 + k = omega arith in subst (λ n. slice_get P.methods n ≡ Some x) e1 (at (suc k) x has)))
+
+program_sound : (P : Program) → AllSound P (clauses_from P 0 P.methods)
+program_sound P = all_sound P 0 P.methods (λ k method has. let e : k ≡ 0 + k = omega arith in subst (λ n. slice_get P.methods n ≡ Some method) e has)
+
+sound_near : (P : Program) (cs : List Clause) → AllSound P cs → (m : ℕ) (p : PathData) → Reached cs m p → Near P m p
+sound_near P cs sound m p (given has) = sound _ has
+sound_near P cs sound m p (led link q reached has rooted fits) = sound _ has q p (sound_near P cs sound _ q reached) rooted fits
+
+pub near_from_reached : (P : Program) (m : ℕ) (p : PathData) → Reached (clauses_from P 0 P.methods) m p → Near P m p
+near_from_reached P m p reached = sound_near P _ (program_sound P) m p reached
+
+-- Each rule of the family is among the clauses.
+
+in_clauses_of : (P : Program) (m : ℕ) (xs : List Mention) (x : Mention) (c : Clause) → Contains xs x → Contains (clauses_at P m x) c → Contains (clauses_of P m xs) c
+in_clauses_of P m [] x c has in_one = contains_none x has
+in_clauses_of P m (y ∷ xs) x c has in_one = elim (contains_cases y x xs has) as (λ _. Contains (clauses_of P m (y ∷ xs)) c) [
+  | inl e ↦ Contains-append_left (clauses_at P m y) (clauses_of P m xs) c (subst (λ z. Contains (clauses_at P m z) c) (sym e) in_one)
+  | inr h ↦ Contains-append_right (clauses_at P m y) (clauses_of P m xs) c (in_clauses_of P m xs x c h in_one)
+]
+
+in_clauses_from : (P : Program) (m : ℕ) (methods : List Method) (k : ℕ) (method : Method) (c : Clause) → slice_get methods k ≡ Some method → Contains (method_clauses P (m + k) method) c → Contains (clauses_from P m methods) c
+in_clauses_from P m [] k method c at has = absurd cc
+in_clauses_from P m (first ∷ methods) zero method c at has =
+    let e0 : m + 0 ≡ m = omega arith in
+    let f : Option Method → Method = λ o. elim o as (λ _. Method) [ None ↦ first | Some x ↦ x ] in
+    let same : method ≡ first = sym (ap f at) in
+    Contains-append_left (method_clauses P m first) (clauses_from P (m + 1) methods) c (subst (λ n. Contains (method_clauses P n first) c) e0 (subst (λ x. Contains (method_clauses P (m + 0) x) c) same has))
+in_clauses_from P m (first ∷ methods) (suc k) method c at has =
+    let e1 : m + suc k ≡ m + 1 + k = omega arith in
+    Contains-append_right (method_clauses P m first) (clauses_from P (m + 1) methods) c (in_clauses_from P (m + 1) methods k method c at (subst (λ n. Contains (method_clauses P n method) c) e1 has))
+
+in_program : (P : Program) (m : ℕ) (method : Method) (c : Clause) → slice_get P.methods m ≡ Some method → Contains (method_clauses P m method) c → Contains (clauses_from P 0 P.methods) c
+in_program P m method c at has =
+    let e : m ≡ 0 + m = omega arith in
+    in_clauses_from P 0 P.methods m method c at (subst (λ n. Contains (method_clauses P n method) c) e has)
+
+mentioned : (P : Program) (m : ℕ) (x : Mention) (c : Clause) → Mentions P m x → Contains (clauses_at P m x) c → Contains (clauses_from P 0 P.methods) c
+mentioned P m x c (method, is, has) in_one =
+    in_program P m method c is (Contains-append_right (map (λ p. fact m p) method.requires_) (clauses_of P m (mentions method.body)) c (in_clauses_of P m (mentions method.body) x c has in_one))
+
+in_facts : (m : ℕ) (ps : List PathData) (p : PathData) → Contains ps p → Contains (map (λ p. fact m p) ps) (fact m p)
+in_facts m [] p has = contains_none p has
+in_facts m (q ∷ ps) p has = elim (contains_cases q p ps has) as (λ _. Contains (map (λ p. fact m p) (q ∷ ps)) (fact m p)) [
+  | inl e ↦ subst (λ x. Contains (fact m q ∷ map (λ p. fact m p) ps) (fact m x)) e (contains_here (fact m q) (map (λ p. fact m p) ps))
+  | inr h ↦ contains_later (fact m q) (fact m p) (map (λ p. fact m p) ps) (in_facts m ps p h)
+]
+
+in_requires : (P : Program) (m : ℕ) (p : PathData) → Requires P m p → Contains (clauses_from P 0 P.methods) (fact m p)
+in_requires P m p (method, is, has) =
+    in_program P m method (fact m p) is (Contains-append_left (map (λ p. fact m p) method.requires_) (clauses_of P m (mentions method.body)) (fact m p) (in_facts m method.requires_ p has))
+
+guard_in : (m : ℕ) (g : Guard) (p : PathData) → g ≡ Named p → Contains (guard_clauses m g) (fact m p)
+guard_in m g p is = subst (λ x. Contains (guard_clauses m x) (fact m p)) (sym is) (contains_here (fact m p) [])
+
+link_in : (from root to : ℕ) (o : Option PathData) (start : PathData) → o ≡ Some start → Contains (link_clauses from root to o) (clause.Leads (record { from = from; root = root; to = to; start = start }))
+link_in from root to o start is = subst (λ x. Contains (link_clauses from root to x) (clause.Leads (record { from = from; root = root; to = to; start = start }))) (sym is) (contains_here _ [])
+
+passed_in : (params from root to : ℕ) (o : Option PathData) (start : PathData) → o ≡ Some start → (b : Bool) → b ≡ true → Contains (if b then link_clauses from root to o else []) (clause.Leads (record { from = from; root = root; to = to; start = start }))
+passed_in params from root to o start is true in_params = link_in from root to o start is
+passed_in params from root to o start is false in_params = absurd cc
+
+all_passed_in : (params from root to : ℕ) (rest : List (Option PathData)) (k : ℕ) (start : PathData) → argument_at (slice_get rest k) ≡ Some start → nat_le (root + k) params ≡ true → Contains (all_passed params from root to rest) (clause.Leads (record { from = from; root = root + k; to = to; start = start }))
+all_passed_in params from root to [] k start at in_params = absurd cc
+all_passed_in params from root to (o ∷ rest) zero start at in_params =
+    let e0 : root ≡ root + 0 = omega arith in
+    subst (λ r. Contains (all_passed params from root to (o ∷ rest)) (clause.Leads (record { from = from; root = r; to = to; start = start }))) e0
+    (Contains-append_left (passed_clauses params from root to o) (all_passed params from (root + 1) to rest) _
+    (passed_in params from root to o start at _ (subst (λ r. nat_le r params ≡ true) (sym e0) in_params)))
+all_passed_in params from root to (o ∷ rest) (suc k) start at in_params =
+    let e1 : root + 1 + k ≡ root + suc k = omega arith in
+    Contains-append_right (passed_clauses params from root to o) (all_passed params from (root + 1) to rest) _
+    (subst (λ r. Contains (all_passed params from (root + 1) to rest) (clause.Leads (record { from = from; root = r; to = to; start = start }))) e1
+    (all_passed_in params from (root + 1) to rest k start at (subst (λ r. nat_le r params ≡ true) (sym e1) in_params)))
+
+-- what a root of the callee stands for is in the clauses of the call
+call_in : (params from to : ℕ) (receiver : Option PathData) (args : List (Option PathData)) (root : ℕ) (start : PathData) → passed receiver args root ≡ Some start → nat_le root params ≡ true → Contains (call_clauses from to (Some params) receiver args) (clause.Leads (record { from = from; root = root; to = to; start = start }))
+call_in params from to receiver args zero start at in_params =
+    Contains-append_left (passed_clauses params from 0 to receiver) (all_passed params from 1 to args) _ (passed_in params from 0 to receiver start at _ in_params)
+call_in params from to receiver args (suc n) start at in_params =
+    let e1 : 1 + n ≡ suc n = omega arith in
+    Contains-append_right (passed_clauses params from 0 to receiver) (all_passed params from 1 to args) _
+    (subst (λ r. Contains (all_passed params from 1 to args) (clause.Leads (record { from = from; root = r; to = to; start = start }))) e1
+    (all_passed_in params from 1 to args n start at (subst (λ r. nat_le r params ≡ true) (sym e1) in_params)))
+
+-- the path that a defined renaming begins with
+start_of : (o : Option PathData) (fields : List ℕ) (p : PathData) → extended_some o fields ≡ Some p → (start : PathData) × (o ≡ Some start) × (extended start fields ≡ Some p)
+start_of None fields p is = absurd cc
+start_of (Some start) fields p is = (start, refl, is)
+
+within : (n m : ℕ) → n ≤ m → nat_le n m ≡ true
+within n m le = grind (arith, nat_tests)
+
+pub reached_from_near : (P : Program) (m : ℕ) (p : PathData) → Near P m p → Reached (clauses_from P 0 P.methods) m p
+reached_from_near P m p (required has) = given (in_requires P m p has)
+reached_from_near P m p (locked has) = given (mentioned P m (Locks p) (fact m p) has (contains_here (fact m p) []))
+reached_from_near P m p (guarded e f has is) = given (mentioned P m (Accesses e f) (fact m p) has (guard_in m (guard_of P f (path_of P e)) p is))
+reached_from_near P m p (called e callee args q has near outer under) =
+    let s = start_of (passed (path_of P e) (paths_of P args) q.root) q.fields p under in
+    let link : Link = record { from = callee; root = q.root; to = m; start = s.0 } in
+    led link q (reached_from_near P callee q near)
+    (mentioned P m (Calls e callee args) (clause.Leads link) has
+    (subst (λ o. Contains (call_clauses callee m (params_of o) (path_of P e) (paths_of P args)) (clause.Leads link)) (sym outer.1)
+    (call_in (length outer.0.params) callee m (path_of P e) (paths_of P args) q.root s.0 s.1 (within q.root (length outer.0.params) outer.2))))
+    refl s.2
+reached_from_near P m p (named q e start near has is fits) =
+    let link : Link = record { from = m; root = q.root; to = m; start = start } in
+    led link q (reached_from_near P m q near) (mentioned P m (Names q.root e) (clause.Leads link) has (link_in m q.root m (path_of P e) start is)) refl fits

@@ -1,0 +1,7 @@
+use Rattle.std.proofs.Common.{take}
+use Rattle.aj_rules.specs.Search.{Grows, IsLed, rows_of}
+use Rattle.aj_rules.proofs.search.Family.follow_each.Given as goal
+
+-- the places that the links so far lead to
+abbrev pub invariant-loop-link : goal.invariant-loop-link
+invariant-loop-link l = Grows l.fn.self.queue.items (IsLed (take l.link-index l.links) l.place) (rows_of l.self.near.items) l.self.queue.items

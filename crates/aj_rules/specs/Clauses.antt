@@ -1,0 +1,71 @@
+-- The rules of the family of near paths, as the bodies of a program have them: facts, and links from one method's paths to another's.
+use Rattle.std.specs.Prelude.{◌≡◌, ℕ, ◌+◌, List, [], ◌∷◌, ◌++◌, map, length, nat_le, Option, Some, None, Contains, slice_get, if◌then◌else◌}
+use Rattle.aj_paths.specs.Paths.{PathData, extended}
+use Rattle.aj_core.specs.Core.{Program, Method}
+use Rattle.aj_core.specs.Locks.{path_of}
+use Rattle.aj_rules.specs.declared.guard.Guard.{Guard}
+use Rattle.aj_rules.specs.declared.guard.Guard.TheVariants.{Final, Free, Named, Unnamed}
+use Rattle.aj_rules.specs.Guards.{guard_of}
+use Rattle.aj_rules.specs.Mentions.{Mention, Accesses, Calls, Locks, Names, mentions, paths_of}
+use Rattle.aj_rules.specs.declared.clauses.Link.{Link}
+use Rattle.aj_rules.specs.declared.clauses.Clause.{Clause}
+use Rattle.aj_rules.specs.declared.clauses.Clause.TheVariants as clause
+
+-- the path is near the method
+abbrev pub fact : ℕ → PathData → Clause
+fact m p = clause.Fact (record { method = m; path = p })
+
+-- in the method `to` this path, where there is one, is what the slot of the method `from` stands for
+abbrev pub link_clauses : (from root to : ℕ) → Option PathData → List Clause
+link_clauses from root to None = []
+link_clauses from root to (Some start) = clause.Leads (record { from = from; root = root; to = to; start = start }) ∷ []
+
+-- the same of a slot that is `this` or a parameter of a method with so many parameters
+abbrev pub passed_clauses : (params from root to : ℕ) → Option PathData → List Clause
+passed_clauses params from root to start = if nat_le root params then link_clauses from root to start else []
+
+-- what is passed for the slots from this one on
+abbrev pub all_passed : (params from root to : ℕ) → List (Option PathData) → List Clause
+all_passed params from root to [] = []
+all_passed params from root to (start ∷ rest) = passed_clauses params from root to start ++ all_passed params from (root + 1) to rest
+
+-- how many parameters a method has, where it is there
+abbrev pub params_of : Option Method → Option ℕ
+params_of None = None
+params_of (Some m) = Some (length m.params)
+
+-- a call of a method with so many parameters, where it is there
+abbrev pub call_clauses : (from to : ℕ) → Option ℕ → Option PathData → List (Option PathData) → List Clause
+call_clauses from to None receiver args = []
+call_clauses from to (Some params) receiver args = passed_clauses params from 0 to receiver ++ all_passed params from 1 to args
+
+abbrev pub guard_clauses : ℕ → Guard → List Clause
+guard_clauses m Final = []
+guard_clauses m Free = []
+guard_clauses m (Named p) = fact m p ∷ []
+guard_clauses m Unnamed = []
+
+-- what one mention in the body of a method gives
+abbrev pub clauses_at : Program → ℕ → Mention → List Clause
+clauses_at P m (Accesses e f) = guard_clauses m (guard_of P f (path_of P e))
+clauses_at P m (Calls e callee args) = call_clauses callee m (params_of (slice_get P.methods callee)) (path_of P e) (paths_of P args)
+clauses_at P m (Locks p) = fact m p ∷ []
+clauses_at P m (Names x e) = link_clauses m x m (path_of P e)
+
+abbrev pub clauses_of : Program → ℕ → List Mention → List Clause
+clauses_of P m [] = []
+clauses_of P m (x ∷ xs) = clauses_at P m x ++ clauses_of P m xs
+
+-- the clauses of a method: its required paths, and what its body mentions
+abbrev pub method_clauses : Program → ℕ → Method → List Clause
+method_clauses P m method = map (λ p. fact m p) method.requires_ ++ clauses_of P m (mentions method.body)
+
+-- the clauses of methods that are numbered from here on
+abbrev pub clauses_from : Program → ℕ → List Method → List Clause
+clauses_from P m [] = []
+clauses_from P m (method ∷ methods) = method_clauses P m method ++ clauses_from P (m + 1) methods
+
+-- the least family that meets these clauses
+pub data Reached (clauses : List Clause) : ℕ → PathData → Type 0 where
+  given : {m : ℕ} {p : PathData} → Contains clauses (fact m p) → Reached clauses m p
+  led : {p : PathData} (link : Link) (q : PathData) → Reached clauses link.from q → Contains clauses (clause.Leads link) → q.root ≡ link.root → extended link.start q.fields ≡ Some p → Reached clauses link.to p

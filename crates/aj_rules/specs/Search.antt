@@ -1,0 +1,76 @@
+-- What the search for near paths keeps: a list of paths for each method, and the queue of the places found so far.
+use Rattle.std.specs.Prelude.{◌≡◌, ◌↔◌, ℕ, ◌<◌, true, ◌==◌, List, [], ◌∷◌, ◌++◌, map, Option, Some, None, if◌then◌else◌, Contains, Vec, slice_get}
+use Rattle.std.specs.List.Sorted.{IsStrictlySortedBy}
+use Rattle.std.specs.declared.alloc.Global.{Global}
+use Rattle.aj_paths.specs.Paths.{PathData, path_order, extended}
+use Rattle.aj_algebra.specs.HeldPaths.{has_path}
+use Rattle.aj_rules.specs.declared.clauses.Place.{Place}
+use Rattle.aj_rules.specs.declared.clauses.Link.{Link}
+use Rattle.aj_rules.specs.declared.clauses.Clause.{Clause}
+use Rattle.aj_rules.specs.declared.clauses.Clause.TheVariants as clause
+use Rattle.aj_rules.specs.Clauses.{Reached}
+
+abbrev pub row_or_none : {A : Type 0} → Option (List A) → List A
+row_or_none None = []
+row_or_none (Some row) = row
+
+-- the list of a method; empty where it has none
+abbrev pub row_at : {A : Type 0} → List (List A) → ℕ → List A
+row_at rows m = row_or_none (slice_get rows m)
+
+-- lists in memory as plain data
+abbrev pub rows_of : {A : Type 0} → List (Vec A Global) → List (List A)
+rows_of rows = map (λ row. row.items) rows
+
+-- the link leads from the first place to the second
+pub record LeadsTo (link : Link) (from to : Place) : Type 0 where
+  pub root : from.path.root ≡ link.root
+  pub path : extended link.start from.path.fields ≡ Some to.path
+  pub method : to.method ≡ link.to
+
+-- the path that a link leads to from a place, where it leads somewhere
+abbrev pub led_path : Link → Place → Option PathData
+led_path link place = if place.path.root == link.root then extended link.start place.path.fields else None
+
+-- one of the links leads from the first place to the second
+abbrev pub IsLed : List Link → Place → Place → Type 0
+IsLed links from to = (link : Link) × Contains links link × LeadsTo link from to
+
+-- the links of a method, and that of the clause if it is one of this method
+abbrev pub with_link : Clause → ℕ → List Link → List Link
+with_link (clause.Fact x) m links = links
+with_link (clause.Leads link) m links = if m == link.from then links ++ link ∷ [] else links
+
+-- the links of each method are those of the clauses
+pub record AreLinks (clauses : List Clause) (links : List (List Link)) : Type 0 where
+  pub exact : (m : ℕ) (link : Link) → Contains (row_at links m) link ↔ (Contains clauses (clause.Leads link) × (link.from ≡ m))
+
+-- the lists ascend, and have the paths of the places in the queue
+pub record Agree (near : List (List PathData)) (queue : List Place) : Type 0 where
+  pub ascends : (m : ℕ) → IsStrictlySortedBy path_order (row_at near m)
+  pub same : (m : ℕ) (p : PathData) → (has_path (row_at near m) p ≡ true) ↔ Contains queue (record { method = m; path = p })
+
+-- the queue has become longer by some of the next places, and has them all
+pub record Grows (queue : List Place) (IsNext : Place → Type 0) (near : List (List PathData)) (longer : List Place) : Type 0 where
+  pub agree : Agree near longer
+  pub added : List Place
+  pub is : longer ≡ queue ++ added
+  pub only : (x : Place) → Contains added x → IsNext x
+  pub each : (x : Place) → IsNext x → Contains longer x
+
+-- the queue has the places of the clauses' facts
+pub record HasFacts (clauses : List Clause) (near : List (List PathData)) (queue : List Place) : Type 0 where
+  pub agree : Agree near queue
+  pub facts : (x : Place) → Contains queue x ↔ Contains clauses (clause.Fact x)
+
+-- the queue has all facts and nothing that isn't reached, and what its first places lead to
+pub record HasDone (clauses : List Clause) (links : List (List Link)) (next : ℕ) (near : List (List PathData)) (queue : List Place) : Type 0 where
+  pub agree : Agree near queue
+  pub starts : (x : Place) → Contains clauses (clause.Fact x) → Contains queue x
+  pub sound : (x : Place) → Contains queue x → Reached clauses x.method x.path
+  pub done : (k : ℕ) (x y : Place) → k < next → slice_get queue k ≡ Some x → IsLed (row_at links x.method) x y → Contains queue y
+
+-- the lists ascend, and have exactly the paths that are reached
+pub record IsLeastFamily (clauses : List Clause) (near : List (List PathData)) : Type 0 where
+  pub ascends : (m : ℕ) → IsStrictlySortedBy path_order (row_at near m)
+  pub exact : (m : ℕ) (p : PathData) → (has_path (row_at near m) p ≡ true) ↔ Reached clauses m p

@@ -1,0 +1,204 @@
+// The search for the near paths of all methods: from the facts along the links, each place once.
+ghost use Rattle.std.specs.Prelude.{◌≡◌, ◌≤◌, ◌<◌, ◌^◌, ◌∷◌, ◌++◌, ◌==◌, ◌||◌, [], ℕ, Bool, length, not, map, IfOk, OnOk, if◌then◌else◌};
+ghost use Rattle.std.specs.List.Sorted.{IsStrictlySortedBy};
+ghost use Rattle.aj_paths.specs.Paths.{PathData, path_order, path_eq};
+ghost use Rattle.aj_algebra.specs.HeldPaths.{has_path};
+ghost use Rattle.aj_rules.specs.declared.clauses.Place.{Place};
+ghost use Rattle.aj_rules.specs.declared.clauses.Clause.TheVariants as Clause;
+ghost use Rattle.aj_rules.specs.Search.{row_at, rows_of, with_link, LeadsTo, led_path, IsLed, AreLinks, Agree, Grows, HasFacts, IsLeastFamily};
+
+use crate::clauses::{Clause, Link, Place};
+use aj_paths::{MethodId, Path, extend};
+use std::alloc::{AllocError as NoMemory, Global};
+
+/// For each method the near paths found so far, ascending, and all places in the order in which they were found.
+#[derive(Drop)]
+struct Family {
+    near: Vec<Vec<Path>>,
+    queue: Vec<Place>,
+}
+
+/// The near paths of each method that some clause names, ascending. A place is followed once, along the links of
+/// its method, and a method's list is searched by halves.
+pub(crate) fn near_paths(alloc: Global, clauses: &[Clause]) -> Result<Vec<Vec<Path>>, NoMemory>
+    ensures { IfOk result (λ near. IsLeastFamily clauses.now (rows_of near.items)) }
+{
+    let links = links_of(alloc, clauses)?;
+    let mut family = facts_of(alloc, clauses)?;
+    let mut next = 0;
+    while next < family.queue.len() {
+        let place = family.queue[next].copy();
+        family.follow_all(alloc, links.as_slice(), &place)?;
+        next += 1;
+    }
+    Ok(family.near)
+}
+
+/// The links of each method.
+fn links_of(alloc: Global, clauses: &[Clause]) -> Result<Vec<Vec<Link>>, NoMemory>
+    ensures { IfOk result (λ links. AreLinks clauses.now (rows_of links.items)) }
+{
+    let mut links = Vec::new(alloc);
+    for clause in clauses {
+        add_link(alloc, &mut links, clause)?;
+    }
+    Ok(links)
+}
+
+/// Puts the clause's link, if it is one, at the end of its method's list.
+fn add_link(alloc: Global, links: &mut Vec<Vec<Link>>, clause: &Clause) -> Result<(), NoMemory>
+    ensures { OnOk result ((m : ℕ) → row_at (rows_of links.new.items) m ≡ with_link clause.now m (row_at (rows_of links.old.items) m)) }
+{
+    match clause {
+        Clause::Fact(_) => Ok(()),
+        Clause::Leads(link) => push_link(alloc, links, link.copy()),
+    }
+}
+
+fn push_link(alloc: Global, links: &mut Vec<Vec<Link>>, link: Link) -> Result<(), NoMemory>
+    ensures { OnOk result ((m : ℕ) → row_at (rows_of links.new.items) m ≡
+        (if m == link.from then row_at (rows_of links.old.items) m ++ link ∷ [] else row_at (rows_of links.old.items) m)) }
+{
+    let from = number(link.from);
+    grow(alloc, links, from + 1)?;
+    links[from].push(link)?;
+    Ok(())
+}
+
+/// Where the list of a method stands.
+fn number(method: MethodId) -> usize
+    ensures is { result ≡ method }
+    ensures small { result < 2 ^ 32 }
+{
+    method.0 as usize
+}
+
+/// The list of a method; empty where it has none.
+pub(crate) fn row<T>(rows: &[Vec<T>], method: usize) -> &[T]
+    ensures { result.now ≡ row_at (rows_of rows.now) method }
+{
+    match rows.get(method) {
+        Some(row) => row.as_slice(),
+        None => &[],
+    }
+}
+
+/// The path that a link leads to from a place, where it leads somewhere.
+fn led_path(link: &Link, place: &Place) -> Option<Path>
+    ensures { result ≡ led_path link.now place.now }
+{
+    if place.path.root as usize == link.root {
+        extend(&link.start, place.path.fields.as_slice())
+    } else {
+        None
+    }
+}
+
+/// Adds empty lists at the end, so that there are at least so many.
+fn grow<T: Drop>(alloc: Global, rows: &mut Vec<Vec<T>>, count: usize) -> Result<(), NoMemory>
+    ensures same { (m : ℕ) → row_at (rows_of rows.new.items) m ≡ row_at (rows_of rows.old.items) m }
+    ensures long { OnOk result (count ≤ length rows.new.items) }
+{
+    while rows.len() < count {
+        rows.push(Vec::new(alloc))?;
+    }
+    Ok(())
+}
+
+/// The places of the facts.
+fn facts_of(alloc: Global, clauses: &[Clause]) -> Result<Family, NoMemory>
+    ensures { IfOk result (λ family. HasFacts clauses.now (rows_of family.near.items) family.queue.items) }
+{
+    let mut family = Family {
+        near: Vec::new(alloc),
+        queue: Vec::new(alloc),
+    };
+    for clause in clauses {
+        family.put_fact(alloc, clause)?;
+    }
+    Ok(family)
+}
+
+/// Puts a path at its place in an ascending list. Answers false where the list has it already.
+fn insert(paths: &mut Vec<Path>, path: &Path) -> Result<bool, NoMemory>
+    requires { IsStrictlySortedBy path_order paths.old.items }
+    ensures ascends { OnOk result (IsStrictlySortedBy path_order paths.new.items) }
+    ensures is_new { IfOk result (λ is_new. is_new ≡ not (has_path paths.old.items path.now)) }
+    ensures paths { OnOk result ((q : PathData) → has_path paths.new.items q ≡ (path_eq path.now q || has_path paths.old.items q)) }
+{
+    match paths.binary_search(path) {
+        Ok(_) => Ok(false),
+        Err(at) => {
+            paths.insert(at, path.copy())?;
+            Ok(true)
+        }
+    }
+}
+
+impl Family {
+    /// The place of the clause, if it is a fact.
+    fn put_fact(&mut self, alloc: Global, clause: &Clause) -> Result<(), NoMemory>
+        requires { Agree (rows_of self.old.near.items) self.old.queue.items }
+        ensures { OnOk result (Grows self.old.queue.items (λ x. clause.now ≡ Clause.Fact x) (rows_of self.new.near.items) self.new.queue.items) }
+    {
+        match clause {
+            Clause::Fact(place) => self.put(alloc, place.copy()),
+            Clause::Leads(_) => Ok(()),
+        }
+    }
+
+    /// One more place, if it isn't known.
+    fn put(&mut self, alloc: Global, place: Place) -> Result<(), NoMemory>
+        requires { Agree (rows_of self.old.near.items) self.old.queue.items }
+        ensures { OnOk result (Grows self.old.queue.items (λ x. x ≡ place) (rows_of self.new.near.items) self.new.queue.items) }
+    {
+        let method = number(place.method);
+        grow(alloc, &mut self.near, method + 1)?;
+        if insert(&mut self.near[method], &place.path)? {
+            self.queue.push(place)?;
+        }
+        Ok(())
+    }
+
+    /// What a link leads to from a place.
+    fn follow(&mut self, alloc: Global, link: &Link, place: &Place) -> Result<(), NoMemory>
+        requires { Agree (rows_of self.old.near.items) self.old.queue.items }
+        ensures { OnOk result (Grows self.old.queue.items (LeadsTo link.now place.now) (rows_of self.new.near.items) self.new.queue.items) }
+    {
+        match led_path(link, place) {
+            None => Ok(()),
+            Some(path) => self.put(
+                alloc,
+                Place {
+                    method: link.to,
+                    path,
+                },
+            ),
+        }
+    }
+
+    /// What these links lead to from a place.
+    fn follow_each(&mut self, alloc: Global, links: &[Link], place: &Place) -> Result<(), NoMemory>
+        requires { Agree (rows_of self.old.near.items) self.old.queue.items }
+        ensures { OnOk result (Grows self.old.queue.items (IsLed links.now place.now) (rows_of self.new.near.items) self.new.queue.items) }
+    {
+        for link in links {
+            self.follow(alloc, link, place)?;
+        }
+        Ok(())
+    }
+
+    /// What the links of its method lead to from a place.
+    fn follow_all(
+        &mut self,
+        alloc: Global,
+        links: &[Vec<Link>],
+        place: &Place,
+    ) -> Result<(), NoMemory>
+        requires { Agree (rows_of self.old.near.items) self.old.queue.items }
+        ensures { OnOk result (Grows self.old.queue.items (IsLed (row_at (rows_of links.now) place.now.method) place.now)
+            (rows_of self.new.near.items) self.new.queue.items) }
+    {
+        self.follow_each(alloc, row(links, number(place.method)), place)
+    }
+}
