@@ -1,0 +1,5 @@
+mod Sets
+mod Tables
+mod Titles
+mod Leasts
+mod Noting

@@ -1,0 +1,22 @@
+use Rattle.std.proofs.Common.{◌∙◌, sym, inl, inr}
+use Rattle.aj_syntax.specs.Views.{program_of}
+use Rattle.aj_classes.proofs.Leasts.{first_is, none_is, one_first, no_first}
+use Rattle.aj_classes.proofs.make.table.Goals as goal
+
+pub build-requires-clause-no_faults : goal.build-requires-clause-no_faults
+build-requires-clause-no_faults c = none_is (program_of c.args.program.now) (sym c.in_ok-fault.ensures.fault ∙ c.in-None.is)
+
+pub returns-in-Some-clause-exact : goal.returns-in-Some-clause-exact
+returns-in-Some-clause-exact c = inr (first_is (program_of c.args.program.now) c.in-Some.fault (sym c.in_ok-fault.ensures.fault ∙ c.in-Some.is))
+
+pub returns-in-Some-clause-fault_given : goal.returns-in-Some-clause-fault_given
+returns-in-Some-clause-fault_given c f h =
+    inl (one_first (program_of c.args.program.now) c.in-Some.fault f (first_is (program_of c.args.program.now) c.in-Some.fault (sym c.in_ok-fault.ensures.fault ∙ c.in-Some.is)) h)
+
+pub returns-in_ok-build-in-None-clause-exact : goal.returns-in_ok-build-in-None-clause-exact
+returns-in_ok-build-in-None-clause-exact c =
+    (none_is (program_of c.args.program.now) (sym c.in_ok-fault.ensures.fault ∙ c.in-None.is), c.in_ok-build-in-None.ensures)
+
+pub returns-in_ok-build-in-None-clause-fault_given : goal.returns-in_ok-build-in-None-clause-fault_given
+returns-in_ok-build-in-None-clause-fault_given c f h =
+    no_first (program_of c.args.program.now) f (none_is (program_of c.args.program.now) (sym c.in_ok-fault.ensures.fault ∙ c.in-None.is)) h

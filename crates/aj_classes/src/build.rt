@@ -1,0 +1,258 @@
+//! Builds the table of a program without faults.
+
+ghost use Rattle.std.specs.Prelude.{◌≡◌, ◌+◌, ◌^◌, ◌<◌, ◌++◌, [], map, length, option_map, IfOk, OnOk};
+ghost use Rattle.aj_syntax.specs.Views.{member_of, class_of};
+ghost use Rattle.aj_classes.specs.Names.{distinct};
+ghost use Rattle.aj_classes.specs.Members.{field_names, method_names};
+ghost use Rattle.aj_classes.specs.Table.{type_of, param_of, fields_of, methods_of};
+ghost use Rattle.aj_classes.specs.Views.{class_data, field_data, param_data, method_data};
+ghost use Rattle.aj_classes.specs.Building.{parts_data, class_at, with_class, with_classes, no_parts};
+
+use crate::entries::{ClassEntry, FieldEntry, MethodEntry, ParamEntry};
+use crate::names::NameSet;
+use aj_core::CoreType;
+use aj_paths::ClassId;
+use aj_syntax::{Class, Member, Name, Param, TypeName};
+use std::alloc::{AllocError as NoMemory, Global};
+
+// A number for an id. There is no memory for a program with more parts than ids.
+pub(crate) fn number(count: usize) -> Result<u32, NoMemory>
+    ensures { IfOk result (λ n. n ≡ count) }
+{
+    match u32::try_from(count) {
+        Ok(number) => Ok(number),
+        Err(_) => Err(NoMemory),
+    }
+}
+
+// Whether so many numbers from a first one are ids.
+fn check_room(first: u32, count: usize) -> Result<(), NoMemory>
+    ensures { OnOk result (first + count < 2 ^ 32) }
+{
+    if count <= (u32::MAX - first) as usize {
+        Ok(())
+    } else {
+        Err(NoMemory)
+    }
+}
+
+fn core_type(names: &NameSet, ty: &TypeName) -> Result<CoreType, NoMemory>
+    ensures { IfOk result (λ t. t ≡ type_of names.now ty.now) }
+{
+    match ty {
+        TypeName::Int => Ok(CoreType::Int),
+        TypeName::Boolean => Ok(CoreType::Boolean),
+        TypeName::Class(name) => {
+            let index = names.number_of(name.text.as_str()).unwrap_or(0);
+            Ok(CoreType::Class(ClassId(number(index)?)))
+        }
+    }
+}
+
+fn result_type(names: &NameSet, returns: &Option<TypeName>) -> Result<Option<CoreType>, NoMemory>
+    ensures { IfOk result (λ t. t ≡ option_map (type_of names.now) returns.now) }
+{
+    match returns {
+        Some(ty) => Ok(Some(core_type(names, ty)?)),
+        None => Ok(None),
+    }
+}
+
+fn param_entry(alloc: Global, names: &NameSet, param: &Param) -> Result<ParamEntry, NoMemory>
+    ensures { IfOk result (λ p. param_data p ≡ param_of names.now param.now) }
+{
+    let ty = core_type(names, &param.ty)?;
+    let name = param.name.text.copy(alloc)?;
+    Ok(ParamEntry {
+        name,
+        is_final: param.is_final,
+        ty,
+    })
+}
+
+fn param_entries(
+    alloc: Global,
+    names: &NameSet,
+    params: &[Param],
+) -> Result<Vec<ParamEntry>, NoMemory>
+    ensures { IfOk result (λ ps. map param_data ps.items ≡ map (param_of names.now) params.now) }
+{
+    let mut entries = Vec::new(alloc);
+    for param in params {
+        entries.push(param_entry(alloc, names, param)?)?;
+    }
+    Ok(entries)
+}
+
+fn field_entry(
+    alloc: Global,
+    names: &NameSet,
+    class: ClassId,
+    is_final: bool,
+    ty: &TypeName,
+    name: &Name,
+) -> Result<FieldEntry, NoMemory>
+    ensures { IfOk result (λ f. field_data f ≡ record { class = class; name = name.now.text; is_final = is_final; ty = type_of names.now ty.now }) }
+{
+    let ty = core_type(names, ty)?;
+    let name = name.text.copy(alloc)?;
+    Ok(FieldEntry {
+        class,
+        name,
+        is_final,
+        ty,
+    })
+}
+
+fn method_entry(
+    alloc: Global,
+    names: &NameSet,
+    class: ClassId,
+    name: &Name,
+    params: &[Param],
+    returns: &Option<TypeName>,
+) -> Result<MethodEntry, NoMemory>
+    ensures { IfOk result (λ m. method_data m ≡ record { class = class; name = name.now.text; params = map (param_of names.now) params.now; returns = option_map (type_of names.now) returns.now }) }
+{
+    let returns = result_type(names, returns)?;
+    let params = param_entries(alloc, names, params)?;
+    let name = name.text.copy(alloc)?;
+    Ok(MethodEntry {
+        class,
+        name,
+        params,
+        returns,
+    })
+}
+
+fn add_fields(
+    alloc: Global,
+    names: &NameSet,
+    class: ClassId,
+    members: &[Member],
+    fields: &mut Vec<FieldEntry>,
+) -> Result<(), NoMemory>
+    ensures { OnOk result (map field_data fields.new.items ≡ map field_data fields.old.items ++ fields_of names.now class (map member_of members.now)) }
+{
+    for member in members {
+        if let Member::Field {
+            is_final,
+            ty,
+            name,
+            ..
+        } = member
+        {
+            fields.push(field_entry(alloc, names, class, *is_final, ty, name)?)?;
+        }
+    }
+    Ok(())
+}
+
+fn add_methods(
+    alloc: Global,
+    names: &NameSet,
+    class: ClassId,
+    members: &[Member],
+    methods: &mut Vec<MethodEntry>,
+) -> Result<(), NoMemory>
+    ensures { OnOk result (map method_data methods.new.items ≡ map method_data methods.old.items ++ methods_of names.now class (map member_of members.now)) }
+{
+    for member in members {
+        if let Member::Method {
+            result: returns,
+            name,
+            params,
+            ..
+        } = member
+        {
+            methods.push(method_entry(alloc, names, class, name, params.as_slice(), returns)?)?;
+        }
+    }
+    Ok(())
+}
+
+fn field_set(alloc: Global, members: &[Member]) -> Result<NameSet, NoMemory>
+    ensures { IfOk result (λ s. s ≡ distinct (field_names (map member_of members.now))) }
+{
+    let mut names = NameSet::new(alloc);
+    for member in members {
+        if let Member::Field { name, .. } = member {
+            names.add(alloc, name.text.as_str())?;
+        }
+    }
+    Ok(names)
+}
+
+fn method_set(alloc: Global, members: &[Member]) -> Result<NameSet, NoMemory>
+    ensures { IfOk result (λ s. s ≡ distinct (method_names (map member_of members.now))) }
+{
+    let mut names = NameSet::new(alloc);
+    for member in members {
+        if let Member::Method { name, .. } = member {
+            names.add(alloc, name.text.as_str())?;
+        }
+    }
+    Ok(names)
+}
+
+// A class, where so many fields and methods stand before.
+fn class_entry(
+    alloc: Global,
+    class: &Class,
+    first_field: u32,
+    first_method: u32,
+) -> Result<ClassEntry, NoMemory>
+    ensures { IfOk result (λ c. class_data c ≡ class_at first_field first_method (class_of class.now)) }
+{
+    let members = class.members.as_slice();
+    let field_names = field_set(alloc, members)?;
+    check_room(first_field, field_names.len())?;
+    let method_names = method_set(alloc, members)?;
+    check_room(first_method, method_names.len())?;
+    Ok(ClassEntry {
+        runnable: class.runnable,
+        first_field,
+        field_names,
+        first_method,
+        method_names,
+    })
+}
+
+/// The parts of a table while classes are added.
+#[derive(Drop)]
+pub(crate) struct Parts {
+    pub(crate) classes: Vec<ClassEntry>,
+    pub(crate) fields: Vec<FieldEntry>,
+    pub(crate) methods: Vec<MethodEntry>,
+}
+
+impl Parts {
+    fn add(&mut self, alloc: Global, names: &NameSet, class: &Class) -> Result<(), NoMemory>
+        ensures { OnOk result (parts_data self.new ≡ with_class names.now (class_of class.now) (parts_data self.old)) }
+    {
+        let id = ClassId(number(self.classes.len())?);
+        let first_field = number(self.fields.len())?;
+        let first_method = number(self.methods.len())?;
+        let entry = class_entry(alloc, class, first_field, first_method)?;
+        let members = class.members.as_slice();
+        add_fields(alloc, names, id, members, &mut self.fields)?;
+        add_methods(alloc, names, id, members, &mut self.methods)?;
+        self.classes.push(entry)?;
+        Ok(())
+    }
+}
+
+/// The parts of the table of these classes.
+pub(crate) fn parts_of(alloc: Global, names: &NameSet, classes: &[Class]) -> Result<Parts, NoMemory>
+    ensures { IfOk result (λ p. parts_data p ≡ with_classes names.now no_parts (map class_of classes.now)) }
+{
+    let mut parts = Parts {
+        classes: Vec::new(alloc),
+        fields: Vec::new(alloc),
+        methods: Vec::new(alloc),
+    };
+    for class in classes {
+        parts.add(alloc, names, class)?;
+    }
+    Ok(parts)
+}

@@ -1,0 +1,17 @@
+//! The table of a program's classes, fields and methods, and the first fault of a program that has none.
+#![tactic(auto)]
+
+mod build;
+mod check;
+mod entries;
+mod fault;
+mod lookup;
+mod make;
+mod names;
+#[cfg(test)]
+mod tests;
+
+pub use entries::{ClassEntry, ClassTable, FieldEntry, MethodEntry, ParamEntry};
+pub use fault::ClassFault;
+pub use make::table;
+pub use names::NameSet;

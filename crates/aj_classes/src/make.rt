@@ -1,0 +1,56 @@
+//! The class table of a program, or its first fault.
+
+ghost use Rattle.std.specs.Prelude.{◌≡◌, ◌⊎◌, [], MatchResult};
+ghost use Rattle.aj_syntax.specs.Views.{program_of};
+ghost use Rattle.aj_classes.specs.declared.fault.ClassFault.{ClassFault};
+ghost use Rattle.aj_classes.specs.declared.fault.ClassFault.TheVariants.{NoMemory as OutOfMemory};
+ghost use Rattle.aj_classes.specs.Names.{distinct};
+ghost use Rattle.aj_classes.specs.Members.{class_names};
+ghost use Rattle.aj_classes.specs.Faults.{faults_of, IsFirstFault};
+ghost use Rattle.aj_classes.specs.Table.{table_of};
+ghost use Rattle.aj_classes.specs.Views.{table_data};
+ghost use Rattle.std.specs.Prelude.{IfOk};
+
+use crate::build::{Parts, number, parts_of};
+use crate::check::first_fault;
+use crate::entries::ClassTable;
+use crate::fault::ClassFault;
+use crate::names::NameSet;
+use aj_syntax::Program;
+use std::alloc::{AllocError as NoMemory, Global};
+
+// The table of a program without faults, whose classes have these names.
+fn build(alloc: Global, program: &Program, names: NameSet) -> Result<ClassTable, NoMemory>
+    requires no_faults { faults_of (program_of program.now) ≡ [] }
+    requires names { names ≡ distinct (class_names (program_of program.now)) }
+    ensures { IfOk result (λ t. table_data t ≡ table_of (program_of program.now)) }
+{
+    let _count = number(names.len())?;
+    let parts = parts_of(alloc, &names, program.classes.as_slice())?;
+    let Parts {
+        classes,
+        fields,
+        methods,
+    } = parts;
+    Ok(ClassTable {
+        names,
+        classes,
+        fields,
+        methods,
+    })
+}
+
+/// The class table of a program, or its first fault: the one with the least offset, at one offset the one that
+/// `ClassFault` lists first but for `NoMain`, which is told only where there is no other. A program with more than
+/// 4294967295 classes, fields or methods has no room for their numbers: it is answered with `NoMemory`.
+pub fn table(alloc: Global, program: &Program) -> Result<ClassTable, ClassFault>
+    ensures exact { MatchResult result (λ t. (faults_of (program_of program.now) ≡ []) × (table_data t ≡ table_of (program_of program.now))) (λ e. (e ≡ OutOfMemory) ⊎ IsFirstFault (program_of program.now) e) }
+    ensures table_given { faults_of (program_of program.now) ≡ [] → MatchResult result (λ t. table_data t ≡ table_of (program_of program.now)) (λ e. e ≡ OutOfMemory) }
+    ensures fault_given { (f : ClassFault) → IsFirstFault (program_of program.now) f → MatchResult result (λ _. ⊥) (λ e. (e ≡ f) ⊎ (e ≡ OutOfMemory)) }
+{
+    let mut names = NameSet::new(alloc);
+    match first_fault(alloc, program, &mut names)? {
+        Some(fault) => Err(fault),
+        None => Ok(build(alloc, program, names)?),
+    }
+}
