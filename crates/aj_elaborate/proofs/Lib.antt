@@ -1,0 +1,26 @@
+-- Laws of elaboration.
+pub mod Complete
+pub mod FirstFaults
+pub mod Inversions
+pub mod TypedExprs
+pub mod TypedLocks
+pub mod Shapes
+pub mod TypedStmts
+pub mod Spelled
+pub mod Parts
+pub mod PathsInOrder
+pub mod Places
+pub mod Built
+pub mod Agreement
+pub mod TypedPrograms
+pub mod Fitting
+pub mod Gathering
+pub mod Blocks
+pub mod Called
+pub mod Noting
+pub mod Ordering
+pub mod Ascending
+pub mod Steps
+pub mod Adding
+pub mod Answering
+pub mod Bodies

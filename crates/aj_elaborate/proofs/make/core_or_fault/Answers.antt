@@ -1,0 +1,45 @@
+use Rattle.std.proofs.Common.{Some, None, inr, map, ap, sym, ◌∙◌}
+use Rattle.aj_classes.specs.Views.{table_data}
+use Rattle.aj_core.specs.Views as core
+use Rattle.aj_syntax.specs.Views.{class_of, program_of}
+use Rattle.aj_elaborate.specs.Noted.{noted}
+use Rattle.aj_elaborate.specs.Programs.{faults_from}
+use Rattle.aj_elaborate.specs.Views.{fields_data, methods_data}
+use Rattle.aj_elaborate.proofs.Answering.{found_in, told, made, all_are_there}
+use Rattle.aj_elaborate.proofs.make.core_or_fault.Goals as goal
+
+pub returns-in-Some : goal.returns-in-Some
+returns-in-Some c =
+    let tree = program_of c.args.program.now in
+    let classes = map class_of c.as_slice-classes.result.now in
+    let t = table_data c.args.table.now in
+    inr (told tree c.in-Some.fault (fields_data c.in_ok-parts.parts) (methods_data c.in_ok-parts.parts)
+    (found_in tree classes t (Some c.in-Some.fault) (fields_data c.in_ok-parts.parts) (methods_data c.in_ok-parts.parts)
+    (ap (map class_of) c.as_slice-classes.ensures.value) c.requires.table
+    (sym c.in-Some.is ∙ c.first.view_is ∙ c.in_ok-parts.ensures.fault ∙ ap (λ z. noted z (faults_from t 0 classes)) c.new-first.ensures)
+    c.in_ok-parts.ensures.fields c.in_ok-parts.ensures.methods))
+
+pub returns-in_ok-assembled-in-None : goal.returns-in_ok-assembled-in-None
+returns-in_ok-assembled-in-None c =
+    let tree = program_of c.args.program.now in
+    let classes = map class_of c.as_slice-classes.result.now in
+    let t = table_data c.args.table.now in
+    made tree classes t (fields_data c.in_ok-parts.parts) (methods_data c.in_ok-parts.parts) (core.program_of c.in_ok-assembled-in-None.field-0)
+    (ap (map class_of) c.as_slice-classes.ensures.value) c.requires.table
+    (found_in tree classes t None (fields_data c.in_ok-parts.parts) (methods_data c.in_ok-parts.parts)
+    (ap (map class_of) c.as_slice-classes.ensures.value) c.requires.table
+    (sym c.in-None.is ∙ c.first.view_is ∙ c.in_ok-parts.ensures.fault ∙ ap (λ z. noted z (faults_from t 0 classes)) c.new-first.ensures)
+    c.in_ok-parts.ensures.fields c.in_ok-parts.ensures.methods)
+    c.in_ok-assembled-in-None.ensures
+
+pub assembled-requires-clause-whole : goal.assembled-requires-clause-whole
+assembled-requires-clause-whole c =
+    let tree = program_of c.args.program.now in
+    let classes = map class_of c.as_slice-classes.result.now in
+    let t = table_data c.args.table.now in
+    all_are_there tree classes t (fields_data c.in_ok-parts.parts) (methods_data c.in_ok-parts.parts)
+    (ap (map class_of) c.as_slice-classes.ensures.value) c.requires.table
+    (found_in tree classes t None (fields_data c.in_ok-parts.parts) (methods_data c.in_ok-parts.parts)
+    (ap (map class_of) c.as_slice-classes.ensures.value) c.requires.table
+    (sym c.in-None.is ∙ c.first.view_is ∙ c.in_ok-parts.ensures.fault ∙ ap (λ z. noted z (faults_from t 0 classes)) c.new-first.ensures)
+    c.in_ok-parts.ensures.fields c.in_ok-parts.ensures.methods)

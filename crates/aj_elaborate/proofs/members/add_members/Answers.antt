@@ -1,0 +1,26 @@
+use Rattle.std.proofs.Common.{map, flat_map}
+use Rattle.aj_classes.specs.Views.{table_data}
+use Rattle.aj_syntax.specs.Views.{member_of}
+use Rattle.aj_elaborate.specs.Gathered.{appended}
+use Rattle.aj_elaborate.specs.Noted.{noted}
+use Rattle.aj_elaborate.specs.Programs.{all_there, fields_core, methods_core, member_faults}
+use Rattle.aj_elaborate.specs.Views.{fields_data, methods_data}
+use Rattle.aj_elaborate.proofs.Adding.{field_step, method_step, member_fault}
+use Rattle.aj_elaborate.proofs.members.add_members.Goals as goal
+
+pub loop-member-preserved : goal.loop-member-preserved
+loop-member-preserved c =
+    let T = table_data c.args.table.now in (
+      field_step T c.args.class c.args.members.now c.loop-member.member-index c.loop-member.index c.in_ok-index.index c.member-item.result
+          (fields_data c.loop-member.parts) (fields_data c.add_member.new.parts)
+          (appended (fields_data c.args.parts.now) (all_there (fields_core T c.args.class 0 (map member_of c.args.members.now))))
+          c.loop-member-test.true c.member-item.is c.loop-member.invariant.0 c.in_ok-index.ensures.fields c.in_ok-index.ensures.index,
+      method_step T c.args.class c.args.members.now c.loop-member.member-index c.member-item.result
+          (methods_data c.loop-member.parts) (methods_data c.add_member.new.parts)
+          (appended (methods_data c.args.parts.now) (all_there (methods_core T c.args.class (map member_of c.args.members.now))))
+          c.loop-member-test.true c.member-item.is c.loop-member.invariant.1 c.in_ok-index.ensures.methods,
+      member_fault T c.args.class c.args.members.now c.loop-member.member-index c.member-item.result
+          c.loop-member.first c.add_member.new.first
+          (noted c.args.first.now (flat_map (member_faults T c.args.class) (map member_of c.args.members.now)))
+          c.loop-member-test.true c.member-item.is c.loop-member.invariant.2 c.in_ok-index.ensures.fault,
+    )

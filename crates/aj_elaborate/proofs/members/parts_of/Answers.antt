@@ -1,0 +1,30 @@
+use Rattle.std.proofs.Common.{map, flat_map, ap, ◌∙◌}
+use Rattle.aj_classes.specs.Views.{table_data}
+use Rattle.aj_syntax.specs.Views.{class_of, member_of}
+use Rattle.aj_elaborate.specs.Gathered.{appended}
+use Rattle.aj_elaborate.specs.Noted.{noted}
+use Rattle.aj_elaborate.specs.Programs.{all_there, fields_core, methods_core, member_faults, faults_from, all_fields, all_methods}
+use Rattle.aj_elaborate.specs.Views.{fields_data, methods_data}
+use Rattle.aj_elaborate.proofs.Adding.{class_fields_step, class_methods_step, class_fault}
+use Rattle.aj_elaborate.proofs.members.parts_of.Goals as goal
+
+pub loop-class-preserved : goal.loop-class-preserved
+loop-class-preserved c =
+    let T = table_data c.args.table.now in
+    let k = c.loop-class.number in (
+      class_fields_step T c.args.classes.now c.loop-class.class-index k c.in_ok-number.number c.class-item.result
+          (fields_data c.loop-class.parts) (fields_data c.add_members.new.parts) (all_there (all_fields T 0 (map class_of c.args.classes.now)))
+          c.loop-class-test.true c.class-item.is c.loop-class.invariant.0
+          (c.in_ok-add_members.ensures.fields ∙ ap (λ z. appended (fields_data c.loop-class.parts) (all_there (fields_core T k 0 (map member_of z)))) c.as_slice.ensures.value)
+          c.in_ok-number.ensures,
+      class_methods_step T c.args.classes.now c.loop-class.class-index k c.in_ok-number.number c.class-item.result
+          (methods_data c.loop-class.parts) (methods_data c.add_members.new.parts) (all_there (all_methods T 0 (map class_of c.args.classes.now)))
+          c.loop-class-test.true c.class-item.is c.loop-class.invariant.1
+          (c.in_ok-add_members.ensures.methods ∙ ap (λ z. appended (methods_data c.loop-class.parts) (all_there (methods_core T k (map member_of z)))) c.as_slice.ensures.value)
+          c.in_ok-number.ensures,
+      class_fault T c.args.classes.now c.loop-class.class-index k c.in_ok-number.number c.class-item.result
+          c.loop-class.first c.add_members.new.first (noted c.args.first.now (faults_from T 0 (map class_of c.args.classes.now)))
+          c.loop-class-test.true c.class-item.is c.loop-class.invariant.2
+          (c.in_ok-add_members.ensures.fault ∙ ap (λ z. noted c.loop-class.first (flat_map (member_faults T k) (map member_of z))) c.as_slice.ensures.value)
+          c.in_ok-number.ensures,
+    )

@@ -1,0 +1,80 @@
+use Rattle.std.proofs.Common.{◌≡◌, ◌+◌, ◌&&◌, true, is_some, length, map, flat_map, ap, sym, ◌∙◌, subst, IfOk, option_map}
+use Rattle.aj_classes.specs.Views.{table_data}
+use Rattle.aj_core.specs.Core.{BlockS}
+use Rattle.aj_core.specs.Views as core
+use Rattle.aj_syntax.specs.Trees.{MethodTree}
+use Rattle.aj_syntax.specs.Views.{lock_of, member_of, stmt_of, stmts_from}
+use Rattle.aj_elaborate.specs.Completion.{completes_each, locals_in_each}
+use Rattle.aj_elaborate.specs.Gathered.{method_in, faults_in_method, return_faults}
+use Rattle.aj_elaborate.specs.Locks.{lock_rule}
+use Rattle.aj_elaborate.specs.Making.{method_from}
+use Rattle.aj_elaborate.specs.Noted.{noted}
+use Rattle.aj_elaborate.specs.Programs.{all_there}
+use Rattle.aj_elaborate.specs.Rulings.{gain, loss, both}
+use Rattle.aj_elaborate.specs.Scopes.{parameters_from}
+use Rattle.aj_elaborate.specs.Stmts.{block_core, block_faults}
+use Rattle.aj_elaborate.specs.Views.{scope_of}
+use Rattle.aj_elaborate.proofs.Bodies.{faults_told, node_made, on_ok}
+use Rattle.aj_elaborate.proofs.methods.method.Goals as goal
+
+pub returns-clause-node : goal.returns-clause-node
+returns-clause-node c =
+    let T = table_data c.args.table.now in
+    let k = c.args.class in
+    let params = c.in-Method.params.items in
+    let m : MethodTree = record {
+      atomic = c.in-Method.atomic;
+      returns = c.in-Method.returns;
+      name = c.in-Method.name;
+      params = params;
+      locks = map lock_of c.in-Method.requires_.items;
+      body = stmts_from (map stmt_of c.in-Method.body.items);
+      end = c.in-Method.at;
+    } in
+    let scope = scope_of c.in_ok-scope.scope.items in
+    let returns = c.result_of.result in
+    let first = c.in_ok-first_local.field-0 in
+    subst (λ z. IfOk c.core_method.result (λ r. option_map core.method_of r ≡ z))
+    (ap (λ z. option_map (method_from T k returns first c.in-Method.atomic c.in-Method.name.at z c.in_ok-body.body.locals) (both (option_map (λ v. v.items) c.in_ok-locks.locks) (option_map core.stmt_of c.in_ok-body.body.node))) c.as_slice-params.ensures.value
+    ∙ node_made T k m scope returns first (option_map (λ v. v.items) c.in_ok-locks.locks) (option_map core.stmt_of c.in_ok-body.body.node) c.in_ok-body.body.locals
+    (c.in_ok-scope.ensures ∙ ap (parameters_from T 1) c.as_slice-params.ensures.value)
+    c.result_of.ensures
+    (c.in_ok-first_local.ensures ∙ ap (λ z. 1 + length z) c.as_slice-params.ensures.value)
+    (c.in_ok-locks.ensures.paths
+    ∙ ap (λ z. all_there (map (λ l. gain (lock_rule T k (scope_of z) l)) (map lock_of c.as_slice-2.result.now))) c.as_slice.ensures.value
+    ∙ ap (λ z. all_there (map (λ l. gain (lock_rule T k scope l)) (map lock_of z))) c.as_slice-2.ensures.value)
+    (c.in_ok-body.ensures.node ∙ ap (λ z. option_map BlockS (block_core T k returns first scope 0 (stmts_from (map stmt_of z)))) c.as_slice-3.ensures.value)
+    (c.in_ok-body.ensures.locals ∙ ap (λ z. locals_in_each (stmts_from (map stmt_of z))) c.as_slice-3.ensures.value)
+    ∙ ap (method_in T k) (sym (ap member_of c.in-Method.is)))
+    c.core_method.ensures
+
+pub returns-clause-fault : goal.returns-clause-fault
+returns-clause-fault c =
+    let T = table_data c.args.table.now in
+    let k = c.args.class in
+    let params = c.in-Method.params.items in
+    let m : MethodTree = record {
+      atomic = c.in-Method.atomic;
+      returns = c.in-Method.returns;
+      name = c.in-Method.name;
+      params = params;
+      locks = map lock_of c.in-Method.requires_.items;
+      body = stmts_from (map stmt_of c.in-Method.body.items);
+      end = c.in-Method.at;
+    } in
+    let scope = scope_of c.in_ok-scope.scope.items in
+    let returns = c.result_of.result in
+    let first = c.in_ok-first_local.field-0 in
+    on_ok c.core_method.result
+    (faults_told T k m scope returns first c.args.first.now c.required.new.first c.block.new.first c.note_missing_return.new.first
+    (c.in_ok-scope.ensures ∙ ap (parameters_from T 1) c.as_slice-params.ensures.value)
+    c.result_of.ensures
+    (c.in_ok-first_local.ensures ∙ ap (λ z. 1 + length z) c.as_slice-params.ensures.value)
+    (c.in_ok-locks.ensures.fault
+    ∙ ap (λ z. noted c.args.first.now (flat_map (λ l. loss (lock_rule T k (scope_of z) l)) (map lock_of c.as_slice-2.result.now))) c.as_slice.ensures.value
+    ∙ ap (λ z. noted c.args.first.now (flat_map (λ l. loss (lock_rule T k scope l)) (map lock_of z))) c.as_slice-2.ensures.value)
+    (c.in_ok-body.ensures.fault ∙ ap (λ z. noted c.required.new.first (block_faults T k returns first scope 0 true (stmts_from (map stmt_of z)))) c.as_slice-3.ensures.value)
+    (c.note_missing_return.ensures
+    ∙ ap (λ z. noted c.block.new.first (return_faults (z && c.in_ok-body.body.completes) c.in-Method.at)) c.is_some.ensures
+    ∙ ap (λ z. noted c.block.new.first (return_faults (is_some c.in-Method.returns && z) c.in-Method.at)) (c.in_ok-body.ensures.completes ∙ ap (λ z. completes_each (stmts_from (map stmt_of z))) c.as_slice-3.ensures.value))
+    ∙ ap (λ z. noted c.args.first.now (faults_in_method T k z)) (sym (ap member_of c.in-Method.is)))

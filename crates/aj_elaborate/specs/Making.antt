@@ -1,0 +1,21 @@
+-- Core methods, made of their parts.
+use Rattle.std.specs.Prelude.{ℕ, ◌+◌, Bool, List, Option, map}
+use Rattle.aj_paths.specs.Paths.{PathData}
+use Rattle.aj_core.specs.declared.types.CoreType.{CoreType}
+use Rattle.aj_core.specs.Core.{Method, Stmt}
+use Rattle.aj_syntax.specs.declared.tree.Param.{Param}
+use Rattle.aj_classes.specs.Table.{TableData, type_of}
+use Rattle.aj_elaborate.specs.Programs.{ascending}
+
+-- the core method of a class, with this result, whose first local has this slot, from its locks and its body
+abbrev pub method_from : TableData → ℕ → Option CoreType → ℕ → Bool → ℕ → List Param → ℕ → List PathData × Stmt → Method
+method_from t class returns first atomic at params locals p = record {
+  class = class;
+  place_at = at;
+  annotated = atomic;
+  requires_ = ascending p.0;
+  params = map (λ q. (q.is_final, type_of t.names q.ty)) params;
+  result = returns;
+  slots = first + locals;
+  body = p.1;
+}

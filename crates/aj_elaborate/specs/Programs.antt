@@ -1,0 +1,183 @@
+-- Programs: all type faults of a program, the first of them, and the core program of one without faults.
+use Rattle.std.specs.Prelude.{◌≡◌, ℕ, ◌+◌, true, false, ◌&&◌, List, [], ◌∷◌, ◌++◌, Option, Some, None, map, flat_map, filter, length, option_map, unwrap_or, is_some, slice_get, codes, Contains, if◌then◌else◌}
+use Rattle.std.specs.declared.cmp.Ordering.{Ordering}
+use Rattle.std.specs.declared.cmp.Ordering.TheVariants.{Less, Equal, Greater}
+use Rattle.aj_paths.specs.Paths.{PathData, path_order}
+use Rattle.aj_core.specs.declared.types.CoreType.{CoreType}
+use Rattle.aj_core.specs.Core.{Program, Class, Field, Method, Stmts, BlockS}
+use Rattle.aj_core.specs.Typed.{fields_from, is_final_at}
+use Rattle.aj_syntax.specs.Trees.{LockTree, MethodTree, MemberTree, FieldM, CtorM, MethodM, ClassTree, ProgramTree}
+use Rattle.aj_classes.specs.Table.{TableData, type_of, class_number, method_number, table_of}
+use Rattle.aj_elaborate.specs.declared.fault.TypeFault.{TypeFault}
+use Rattle.aj_elaborate.specs.declared.fault.TypeFault.TheVariants.{MissingReturn}
+use Rattle.aj_elaborate.specs.Faults.{is_before}
+use Rattle.aj_elaborate.specs.Rulings.{gain, loss, both}
+use Rattle.aj_elaborate.specs.Scopes.{Scope, parameters_from}
+use Rattle.aj_elaborate.specs.Locks.{lock_rule}
+use Rattle.aj_elaborate.specs.Completion.{completes_each, locals_in_each}
+use Rattle.aj_elaborate.specs.Stmts.{block_core, block_faults}
+
+-- all of a list, where none is missing
+abbrev pub all_there : {A : Type 0} → List (Option A) → Option (List A)
+all_there [] = Some []
+all_there (a ∷ rest) = option_map (λ p. p.0 ∷ p.1) (both a (all_there rest))
+
+-- the first, second or third of three, for an order
+abbrev pub by_order : {A : Type 0} → Ordering → A → A → A → A
+by_order Less x y z = x
+by_order Equal x y z = y
+by_order Greater x y z = z
+
+-- a path put into an ascending list, where it isn't there yet
+abbrev pub inserted : PathData → List PathData → List PathData
+inserted p [] = p ∷ []
+inserted p (q ∷ qs) = by_order (path_order p q) (p ∷ q ∷ qs) (q ∷ qs) (q ∷ inserted p qs)
+
+-- these paths in ascending order, each once
+abbrev pub ascending : List PathData → List PathData
+ascending [] = []
+ascending (p ∷ ps) = inserted p (ascending ps)
+
+module _ (t : TableData) where
+  -- ---- methods
+
+  -- the parameters of a method, as they are in scope
+  abbrev pub method_scope : MethodTree → Scope
+  method_scope m = parameters_from t 1 m.params
+
+  -- the result of a method
+  abbrev pub method_result : MethodTree → Option CoreType
+  method_result m = option_map (type_of t.names) m.returns
+
+  -- of a method with a result whose body can complete
+  abbrev pub missing_return : MethodTree → List TypeFault
+  missing_return m = if is_some m.returns && completes_each m.body then MissingReturn m.end ∷ [] else []
+
+  -- the faults of a method of the class with number k
+  abbrev pub method_faults : ℕ → MethodTree → List TypeFault
+  method_faults k m =
+      flat_map (λ l. loss (lock_rule t k (method_scope m) l)) m.locks
+      ++ (block_faults t k (method_result m) (1 + length m.params) (method_scope m) 0 true m.body
+      ++ missing_return m)
+
+  -- the core method of a method of the class with number k, from its locks and its body
+  abbrev pub method_node : ℕ → MethodTree → List PathData × Stmts → Method
+  method_node k m p = record {
+    class = k;
+    place_at = m.name.at;
+    annotated = m.atomic;
+    requires_ = ascending p.0;
+    params = map (λ q. (q.is_final, type_of t.names q.ty)) m.params;
+    result = method_result m;
+    slots = 1 + length m.params + locals_in_each m.body;
+    body = BlockS p.1;
+  }
+
+  abbrev pub method_core : ℕ → MethodTree → Option Method
+  method_core k m =
+      option_map (method_node k m)
+      (both (all_there (map (λ l. gain (lock_rule t k (method_scope m) l)) m.locks))
+      (block_core t k (method_result m) (1 + length m.params) (method_scope m) 0 m.body))
+
+  -- ---- fields
+
+  -- the faults of a guard, if there is one; no variable is in scope
+  abbrev pub guard_faults : ℕ → Option LockTree → List TypeFault
+  guard_faults k None = []
+  guard_faults k (Some l) = loss (lock_rule t k [] l)
+
+  -- the path of a guard, if there is one; missing where the guard is no lock
+  abbrev pub guard_path : ℕ → Option LockTree → Option (Option PathData)
+  guard_path k None = Some None
+  guard_path k (Some l) = option_map Some (gain (lock_rule t k [] l))
+
+  -- ---- classes
+
+  -- the faults of a member of the class with number k; a constructor has none
+  abbrev pub member_faults : ℕ → MemberTree → List TypeFault
+  member_faults k (FieldM fin ty n guard) = guard_faults k guard
+  member_faults k (CtorM n params sets) = []
+  member_faults k (MethodM m) = method_faults k m
+
+  -- the faults of classes, the first of which has the number k
+  abbrev pub faults_from : ℕ → ProgramTree → List TypeFault
+  faults_from k [] = []
+  faults_from k (c ∷ cs) = flat_map (member_faults k) c.members ++ faults_from (k + 1) cs
+
+  -- the core fields of the class with number k, the first of which has this index
+  abbrev pub fields_core : ℕ → ℕ → List MemberTree → List (Option Field)
+  fields_core k i [] = []
+  fields_core k i (FieldM fin ty n guard ∷ ms) =
+      option_map (λ g. record { class = k; index = i; is_final = fin; ty = type_of t.names ty; guard = g }) (guard_path k guard)
+      ∷ fields_core k (i + 1) ms
+  fields_core k i (CtorM n params sets ∷ ms) = fields_core k i ms
+  fields_core k i (MethodM m ∷ ms) = fields_core k i ms
+
+  -- the core methods of the class with number k
+  abbrev pub methods_core : ℕ → List MemberTree → List (Option Method)
+  methods_core k [] = []
+  methods_core k (FieldM fin ty n guard ∷ ms) = methods_core k ms
+  methods_core k (CtorM n params sets ∷ ms) = methods_core k ms
+  methods_core k (MethodM m ∷ ms) = method_core k m ∷ methods_core k ms
+
+  -- the core fields of classes, the first of which has the number k
+  abbrev pub all_fields : ℕ → ProgramTree → List (Option Field)
+  all_fields k [] = []
+  all_fields k (c ∷ cs) = fields_core k 0 c.members ++ all_fields (k + 1) cs
+
+  -- the core methods of classes, the first of which has the number k
+  abbrev pub all_methods : ℕ → ProgramTree → List (Option Method)
+  all_methods k [] = []
+  all_methods k (c ∷ cs) = methods_core k c.members ++ all_methods (k + 1) cs
+
+  -- the method `run` of a class that says `implements Runnable`
+  abbrev pub run_of : ℕ → ClassTree → Option ℕ
+  run_of k c = if c.runnable then method_number t k (codes "run") else None
+
+  -- the core classes, the first of which has the number k, in a program with these fields
+  abbrev pub all_classes : List Field → ℕ → ProgramTree → List Class
+  all_classes fields k [] = []
+  all_classes fields k (c ∷ cs) =
+      record {
+        fields = fields_from k 0 fields;
+        finals = filter (λ f. is_final_at (slice_get fields f)) (fields_from k 0 fields);
+        run = run_of k c;
+      }
+      ∷ all_classes fields (k + 1) cs
+
+  -- the class `Main`
+  abbrev pub main_class : ℕ
+  main_class = unwrap_or (class_number t (codes "Main")) 0
+
+  -- the method `main` of it
+  abbrev pub main_method : ℕ
+  main_method = unwrap_or (method_number t main_class (codes "main")) 0
+
+  abbrev pub program_node : ProgramTree → List Field × List Method → Program
+  program_node tree p = record {
+    classes = all_classes p.0 0 tree;
+    fields = p.0;
+    methods = p.1;
+    main_class = main_class;
+    main = main_method;
+  }
+
+-- the type faults of a program without class faults
+abbrev pub faults_of : ProgramTree → List TypeFault
+faults_of tree = faults_from (table_of tree) 0 tree
+
+-- the fault of a program's that is told: it is one, and none comes before it
+pub record IsFirstFault (tree : ProgramTree) (f : TypeFault) : Type 0 where
+  pub stands : Contains (faults_of tree) f
+  pub least : (g : TypeFault) → Contains (faults_of tree) g → is_before g f ≡ false
+
+-- the core program of a program, where each of its parts has a core node
+abbrev pub core_of : ProgramTree → Option Program
+core_of tree =
+    let t = table_of tree in
+    option_map (program_node t tree) (both (all_there (all_fields t 0 tree)) (all_there (all_methods t 0 tree)))
+
+-- the core program of a program without faults
+pub record IsCoreOf (tree : ProgramTree) (P : Program) : Type 0 where
+  pub faultless : faults_of tree ≡ []
+  pub core : core_of tree ≡ Some P

@@ -1,0 +1,65 @@
+-- What the values of the code are as plain data.
+use Rattle.std.specs.Prelude.{ℕ, List, Option, map, option_map}
+use Rattle.std.specs.Borrow.{Bor}
+use Rattle.aj_paths.specs.declared.ids.FieldId.{FieldId}
+use Rattle.aj_paths.specs.declared.ids.MethodId.{MethodId}
+use Rattle.aj_classes.specs.declared.entries.FieldEntry.{FieldEntry}
+use Rattle.aj_classes.specs.declared.entries.MethodEntry.{MethodEntry}
+use Rattle.aj_classes.specs.Table.{FieldData, MethodData}
+use Rattle.aj_classes.specs.Views.{field_data, method_data}
+use Rattle.aj_elaborate.specs.declared.lock.ReachTo.{ReachTo}
+use Rattle.aj_elaborate.specs.Locks.{Reach}
+use Rattle.aj_core.specs.Core.{Expr, Field, Method}
+use Rattle.aj_core.specs.Types.{NodeType, ValueT, NullT, VoidT}
+use Rattle.aj_core.specs.Views.{expr_of, exprs_from, field_of, method_of}
+use Rattle.aj_elaborate.specs.declared.members.Parts.{Parts}
+use Rattle.aj_elaborate.specs.Gathered.{gathered}
+use Rattle.aj_elaborate.specs.declared.types.ExprType.{ExprType}
+use Rattle.aj_elaborate.specs.declared.types.ExprType.TheVariants as ty
+use Rattle.aj_elaborate.specs.declared.types.TypedExpr.{TypedExpr}
+use Rattle.aj_core.specs.declared.tree.CoreExpr.{CoreExpr}
+use Rattle.aj_elaborate.specs.declared.scope.Bound.{Bound}
+use Rattle.aj_elaborate.specs.Rules.{TypedData, TypedList}
+use Rattle.aj_elaborate.specs.Scopes.{Binding, Scope}
+
+abbrev pub type_data : ExprType → NodeType
+type_data (ty.Value t) = ValueT t
+type_data ty.Null = NullT
+type_data ty.Void = VoidT
+
+abbrev pub typed_data : TypedExpr → TypedData
+typed_data e = record { ty = type_data e.ty; node = expr_of e.node }
+
+abbrev pub types_of : List TypedExpr → List NodeType
+types_of = map (λ e. type_data e.ty)
+
+abbrev pub nodes_of : List TypedExpr → List CoreExpr
+nodes_of = map (λ e. e.node)
+
+abbrev pub typed_list : List TypedExpr → TypedList
+typed_list es = record { types = types_of es; nodes = exprs_from (nodes_of es) }
+
+abbrev pub binding_of : Bound → Binding
+binding_of b = record { name = b.name; variable = record { slot = b.slot; is_final = b.is_final; ty = b.ty } }
+
+abbrev pub scope_of : List Bound → Scope
+scope_of bound = map binding_of bound
+
+abbrev pub field_found : FieldId × Bor FieldEntry → ℕ × FieldData
+field_found f = (f.0, field_data f.1.now)
+
+abbrev pub method_found : MethodId × Bor MethodEntry → ℕ × MethodData
+method_found m = (m.0, method_data m.1.now)
+
+abbrev pub reach_data : ReachTo → Reach
+reach_data r = record { path = r.path; is_final = r.is_final; ty = r.ty }
+
+-- the receiver and the field of an assignment
+abbrev pub target_data : CoreExpr × (FieldId × Bor FieldEntry) → Expr × (ℕ × FieldData)
+target_data p = (expr_of p.0, field_found p.1)
+
+abbrev pub fields_data : Parts → Option (List Field)
+fields_data p = option_map (map field_of) (gathered p.fields)
+
+abbrev pub methods_data : Parts → Option (List Method)
+methods_data p = option_map (map method_of) (gathered p.methods)

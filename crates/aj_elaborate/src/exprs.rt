@@ -1,0 +1,95 @@
+//! Expressions: the type and core node of each, where it has a type.
+#![tactic(auto, using(crate::proofs::Noting::noted_append))]
+
+ghost use Rattle.std.specs.Prelude.{◌≡◌, map, option_map, IfOk, OnOk};
+ghost use Rattle.aj_classes.specs.Views.{table_data};
+ghost use Rattle.aj_syntax.specs.Views.{expr_of, exprs_from};
+ghost use Rattle.aj_elaborate.specs.Exprs.{elaborated, elaborated_each, expr_faults, each_faults};
+ghost use Rattle.aj_elaborate.specs.Noted.{noted};
+ghost use Rattle.aj_elaborate.specs.Views.{typed_data, typed_list, scope_of};
+
+use crate::calls::{call_rule, new_rule};
+use crate::first::FirstFault;
+use crate::gather::Gathered;
+use crate::rules::{
+    binary_rule, get_rule, least_number, neg_rule, not_rule, number_rule, value, variable_rule,
+};
+use crate::scope::Bound;
+use crate::types::{ExprType, TypedExpr};
+use aj_classes::ClassTable;
+use aj_core::{CoreExpr, CoreType};
+use aj_paths::ClassId;
+use aj_syntax::Expr;
+use std::alloc::{AllocError as NoMemory, Global};
+
+/// An expression in a class, with these variables in scope. None where it has no type; its faults are noted.
+#[cycle(expressions)]
+pub(crate) fn expr(
+    alloc: Global,
+    table: &ClassTable,
+    class: ClassId,
+    scope: &[Bound],
+    e: &Expr,
+    first: &mut FirstFault,
+) -> Result<Option<TypedExpr>, NoMemory>
+    ensures typed { IfOk result (λ r. option_map typed_data r ≡ elaborated (table_data table.now) class (scope_of scope.now) (expr_of e.now)) }
+    ensures fault { OnOk result (first.new ≡ noted first.old (expr_faults (table_data table.now) class (scope_of scope.now) (expr_of e.now))) }
+{
+    match e {
+        Expr::Number(number, at) => Ok(number_rule(*number, *at, first)),
+        Expr::Least(_) => Ok(Some(least_number())),
+        Expr::Truth(truth, _) => Ok(Some(value(CoreType::Boolean, CoreExpr::Truth(*truth)))),
+        Expr::Null(_) => Ok(Some(TypedExpr {
+            ty: ExprType::Null,
+            node: CoreExpr::Null,
+        })),
+        Expr::This(_) => Ok(Some(value(CoreType::Class(class), CoreExpr::This))),
+        Expr::Var(name) => Ok(variable_rule(scope, name, first)),
+        Expr::Paren(inner, _) => expr(alloc, table, class, scope, inner, first),
+        Expr::Not(part, at) => {
+            let part = expr(alloc, table, class, scope, part, first)?;
+            not_rule(alloc, *at, part, first)
+        }
+        Expr::Neg(part, at) => {
+            let part = expr(alloc, table, class, scope, part, first)?;
+            neg_rule(alloc, *at, part, first)
+        }
+        Expr::Binary(op, left, right, at) => {
+            let left = expr(alloc, table, class, scope, left, first)?;
+            let right = expr(alloc, table, class, scope, right, first)?;
+            binary_rule(alloc, *op, *at, left, right, first)
+        }
+        Expr::Get(receiver, name) => {
+            let receiver = expr(alloc, table, class, scope, receiver, first)?;
+            get_rule(alloc, table, name, receiver, first)
+        }
+        Expr::Call(receiver, name, args) => {
+            let receiver = expr(alloc, table, class, scope, receiver, first)?;
+            let args = arguments(alloc, table, class, scope, args, first)?;
+            call_rule(alloc, table, name, receiver, args, first)
+        }
+        Expr::New(name, args, _) => {
+            let args = arguments(alloc, table, class, scope, args, first)?;
+            new_rule(alloc, table, name, args, first)
+        }
+    }
+}
+
+#[cycle(expressions)]
+fn arguments(
+    alloc: Global,
+    table: &ClassTable,
+    class: ClassId,
+    scope: &[Bound],
+    args: &[Expr],
+    first: &mut FirstFault,
+) -> Result<Option<Vec<TypedExpr>>, NoMemory>
+    ensures typed { IfOk result (λ r. option_map (λ a. typed_list a.items) r ≡ elaborated_each (table_data table.now) class (scope_of scope.now) (exprs_from (map expr_of args.now))) }
+    ensures fault { OnOk result (first.new ≡ noted first.old (each_faults (table_data table.now) class (scope_of scope.now) (exprs_from (map expr_of args.now)))) }
+{
+    let mut parts = Gathered::new(alloc);
+    for arg in args {
+        parts.add(expr(alloc, table, class, scope, arg, first)?)?;
+    }
+    Ok(parts.all())
+}

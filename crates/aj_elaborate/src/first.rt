@@ -1,0 +1,38 @@
+//! Keeps the first of the faults that are found.
+
+ghost use Rattle.std.specs.Prelude.{◌≡◌, [], ◌∷◌, None};
+ghost use Rattle.aj_elaborate.specs.Noted.{noted};
+
+use crate::fault::TypeFault;
+use std::marker::Model;
+
+/// The first of the faults that were noted.
+#[derive(Drop)]
+pub(crate) struct FirstFault {
+    pub(crate) found: Option<TypeFault>,
+}
+
+impl Model for FirstFault {
+    ghost use Rattle.std.specs.Prelude.{Option};
+    ghost use Rattle.aj_elaborate.specs.declared.fault.TypeFault.{TypeFault};
+
+    ghost Value = { Option TypeFault };
+
+    ghost view = { λ f. f.found };
+
+    ghost inverse = { λ f. record { found = f } };
+}
+
+impl FirstFault {
+    pub(crate) fn new() -> FirstFault
+        ensures { result ≡ None }
+    {
+        FirstFault { found: None }
+    }
+
+    pub(crate) fn note(&mut self, fault: TypeFault)
+        ensures { self.new ≡ noted self.old (fault ∷ []) }
+    {
+        self.found = fault.or_earlier(self.found);
+    }
+}

@@ -1,0 +1,30 @@
+//! Laws of elaboration.
+
+ghost use Rattle.std.specs.Prelude.{◌≡◌, ◌≤◌, List, [], length};
+ghost use Rattle.aj_core.specs.Core.{Program};
+ghost use Rattle.aj_core.specs.Typed.{IsTyped};
+ghost use Rattle.aj_lexer.specs.declared.tokens.Token.{Token};
+ghost use Rattle.aj_syntax.specs.Grammar.{Grammar};
+ghost use Rattle.aj_syntax.specs.Trees.{ProgramTree};
+ghost use Rattle.aj_classes.specs.Faults as classes;
+ghost use Rattle.aj_elaborate.specs.declared.fault.TypeFault.{TypeFault};
+ghost use Rattle.aj_elaborate.specs.Programs.{faults_of, IsFirstFault, IsCoreOf};
+
+/// A program without faults has exactly one core program.
+pub fn core_program_laws()
+    ensures some { (tree : ProgramTree) → faults_of tree ≡ [] → (P : Program) × IsCoreOf tree P }
+    ensures one { (tree : ProgramTree) (P Q : Program) → IsCoreOf tree P → IsCoreOf tree Q → P ≡ Q }
+{}
+
+/// A program with faults has exactly one first fault, and no core program.
+pub fn first_fault_laws()
+    ensures some { (tree : ProgramTree) → (faults_of tree ≡ [] → ⊥) → (f : TypeFault) × IsFirstFault tree f }
+    ensures one { (tree : ProgramTree) (f g : TypeFault) → IsFirstFault tree f → IsFirstFault tree g → f ≡ g }
+    ensures apart { (tree : ProgramTree) (f : TypeFault) (P : Program) → IsFirstFault tree f → IsCoreOf tree P → ⊥ }
+{}
+
+/// The core program of a tree that the grammar gives to at most 262,144 tokens is typed, where the tree's classes have no faults.
+pub fn typed_law()
+    ensures { (tree : ProgramTree) (P : Program) (ts : List Token) → classes.faults_of tree ≡ [] → IsCoreOf tree P → Grammar ts tree →
+        length ts ≤ 262144 → IsTyped P }
+{}

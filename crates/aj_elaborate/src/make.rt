@@ -1,0 +1,114 @@
+//! The core program of a program, or its first type fault.
+
+ghost use Rattle.std.specs.Prelude.{◌≡◌, ◌≤◌, ◌⊎◌, List, [], Some, length, map, option_map, IfOk, MatchResult};
+ghost use Rattle.aj_classes.specs.Faults as classes;
+ghost use Rattle.aj_classes.specs.Table.{table_of};
+ghost use Rattle.aj_classes.specs.Views.{table_data};
+ghost use Rattle.aj_core.specs.Core.{Program as CoreData};
+ghost use Rattle.aj_core.specs.Typed.{IsTyped};
+ghost use Rattle.aj_core.specs.Views as core;
+ghost use Rattle.aj_lexer.specs.declared.tokens.Token.{Token};
+ghost use Rattle.aj_syntax.specs.Grammar.{Grammar};
+ghost use Rattle.aj_syntax.specs.Views.{class_of, program_of};
+ghost use Rattle.aj_elaborate.specs.declared.fault.TypeFault.{TypeFault};
+ghost use Rattle.aj_elaborate.specs.declared.fault.TypeFault.TheVariants.{NoMemory as OutOfMemory};
+ghost use Rattle.aj_elaborate.specs.Order.{Ascends};
+ghost use Rattle.aj_elaborate.specs.Programs.{IsFirstFault, IsCoreOf, main_class, main_method, program_node, all_there, all_fields, all_methods};
+ghost use Rattle.aj_elaborate.specs.Rulings.{both};
+ghost use Rattle.aj_elaborate.specs.Views.{fields_data, methods_data};
+
+use crate::classes::core_classes;
+use crate::fault::TypeFault;
+use crate::first::FirstFault;
+use crate::members::{Parts, parts_of};
+use aj_classes::ClassTable;
+use aj_core::{CoreField, CoreMethod, CoreProgram};
+use aj_paths::{ClassId, MethodId};
+use aj_syntax::{Class, Program};
+use std::alloc::{AllocError as NoMemory, Global};
+
+fn main_class(table: &ClassTable) -> ClassId
+    ensures { result ≡ main_class (table_data table.now) }
+{
+    table.class_named("Main").unwrap_or(ClassId(0))
+}
+
+fn main_method(table: &ClassTable, class: ClassId) -> MethodId
+    ensures { class ≡ main_class (table_data table.now) → result ≡ main_method (table_data table.now) }
+{
+    table.method_named(class, "main").unwrap_or(MethodId(0))
+}
+
+// The core program with these fields, which ascend by class, and these methods.
+fn core_program(
+    alloc: Global,
+    table: &ClassTable,
+    classes: &[Class],
+    fields: Vec<CoreField>,
+    methods: Vec<CoreMethod>,
+) -> Result<CoreProgram, NoMemory>
+    requires ascends { Ascends 0 (map core.field_of fields.items) }
+    ensures { IfOk result (λ p. core.program_of p ≡ program_node (table_data table.now) (map class_of classes.now) (map core.field_of fields.items, map core.method_of methods.items)) }
+{
+    let classes = core_classes(alloc, table, classes, fields.as_slice())?;
+    let main_class = main_class(table);
+    let main = main_method(table, main_class);
+    Ok(CoreProgram {
+        classes,
+        fields,
+        methods,
+        main_class,
+        main,
+    })
+}
+
+// The core program of these parts, none of which is missing.
+fn assembled(
+    alloc: Global,
+    table: &ClassTable,
+    classes: &[Class],
+    parts: Parts,
+) -> Result<CoreProgram, NoMemory>
+    requires fields { fields_data parts ≡ all_there (all_fields (table_data table.now) 0 (map class_of classes.now)) }
+    requires whole { (P : CoreData) × (option_map (program_node (table_data table.now) (map class_of classes.now)) (both (fields_data parts) (methods_data parts)) ≡ Some P) }
+    ensures { IfOk result (λ p. Some (core.program_of p) ≡ option_map (program_node (table_data table.now) (map class_of classes.now)) (both (fields_data parts) (methods_data parts))) }
+{
+    let Parts { fields, methods } = parts;
+    let fields = fields.all().unwrap();
+    let methods = methods.all().unwrap();
+    core_program(alloc, table, classes, fields, methods)
+}
+
+fn core_or_fault(
+    alloc: Global,
+    table: &ClassTable,
+    program: &Program,
+) -> Result<CoreProgram, TypeFault>
+    requires table { table_data table.now ≡ table_of (program_of program.now) }
+    ensures { MatchResult result (λ p. IsCoreOf (program_of program.now) (core.program_of p)) (λ e. (e ≡ OutOfMemory) ⊎ IsFirstFault (program_of program.now) e) }
+{
+    let classes = program.classes.as_slice();
+    let mut first = FirstFault::new();
+    let parts = parts_of(alloc, table, classes, &mut first)?;
+    match first.found {
+        Some(fault) => Err(fault),
+        None => Ok(assembled(alloc, table, classes, parts)?),
+    }
+}
+
+/// The core program of a program without class faults, or its first type fault: the one with the least offset, at one
+/// offset the one that `TypeFault` lists first. `table` is the program's class table.
+pub fn elaborate(
+    alloc: Global,
+    table: &ClassTable,
+    program: &Program,
+) -> Result<CoreProgram, TypeFault>
+    requires no_class_faults { classes.faults_of (program_of program.now) ≡ [] }
+    requires table { table_data table.now ≡ table_of (program_of program.now) }
+    ensures exact { MatchResult result (λ p. IsCoreOf (program_of program.now) (core.program_of p)) (λ e. (e ≡ OutOfMemory) ⊎ IsFirstFault (program_of program.now) e) }
+    ensures core_given { (P : CoreData) → IsCoreOf (program_of program.now) P → MatchResult result (λ p. core.program_of p ≡ P) (λ e. e ≡ OutOfMemory) }
+    ensures fault_given { (f : TypeFault) → IsFirstFault (program_of program.now) f → MatchResult result (λ _. ⊥) (λ e. (e ≡ f) ⊎ (e ≡ OutOfMemory)) }
+    ensures typed { (ts : List Token) → length ts ≤ 262144 → Grammar ts (program_of program.now) → IfOk result (λ p. IsTyped (core.program_of p)) }
+{
+    core_or_fault(alloc, table, program)
+}

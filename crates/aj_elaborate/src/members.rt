@@ -1,0 +1,173 @@
+//! The fields and methods of all classes.
+#![tactic(auto, using(crate::proofs::Noting::noted_append))]
+
+ghost use Rattle.std.specs.Prelude.{◌≡◌, ◌+◌, map, option_map, IfOk, OnOk};
+ghost use Rattle.aj_classes.specs.Table.{type_of};
+ghost use Rattle.aj_classes.specs.Views.{table_data};
+ghost use Rattle.aj_core.specs.Views.{field_of};
+ghost use Rattle.aj_syntax.specs.Views.{lock_of, member_of, class_of};
+ghost use Rattle.aj_elaborate.specs.Gathered.{appended, with_field, with_method, index_after};
+ghost use Rattle.aj_elaborate.specs.Noted.{noted};
+ghost use Rattle.aj_elaborate.specs.Programs.{all_there, guard_faults, guard_path, member_faults, faults_from, fields_core, methods_core, all_fields, all_methods};
+ghost use Rattle.aj_elaborate.specs.Views.{fields_data, methods_data};
+ghost use Rattle.std.specs.Prelude.{flat_map};
+
+use crate::first::FirstFault;
+use crate::gather::Gathered;
+use crate::lock::lock_path;
+use crate::methods::{core_type, method};
+use aj_classes::ClassTable;
+use aj_core::{CoreField, CoreMethod};
+use aj_paths::{ClassId, Path};
+use aj_syntax::{Class, Lock, Member, TypeName};
+use std::alloc::{AllocError as NoMemory, Global};
+
+/// The core fields and methods so far.
+#[derive(Drop)]
+pub(crate) struct Parts {
+    pub(crate) fields: Gathered<CoreField>,
+    pub(crate) methods: Gathered<CoreMethod>,
+}
+
+// The path of a guard, if there is one. None where the guard is no lock.
+fn guard_path(
+    table: &ClassTable,
+    class: ClassId,
+    guard: &Option<Lock>,
+    first: &mut FirstFault,
+) -> Option<Option<Path>>
+    ensures path { result ≡ guard_path (table_data table.now) class (option_map lock_of guard.now) }
+    ensures fault { first.new ≡ noted first.old (guard_faults (table_data table.now) class (option_map lock_of guard.now)) }
+{
+    let Some(lock) = guard else {
+        return Some(None);
+    };
+    let path = lock_path(table, class, &[], lock, first)?;
+    Some(Some(path))
+}
+
+fn field(
+    table: &ClassTable,
+    class: ClassId,
+    index: u16,
+    is_final: bool,
+    ty: &TypeName,
+    guard: Option<Option<Path>>,
+) -> Option<CoreField>
+    ensures { option_map field_of result ≡ option_map (λ g. record { class = class; index = index; is_final = is_final; ty = type_of (table_data table.now).names ty.now; guard = g }) guard }
+{
+    let guard = guard?;
+    Some(CoreField {
+        class,
+        index,
+        is_final,
+        ty: core_type(table, ty),
+        guard,
+    })
+}
+
+// The index of the next field. A class table admits 32 fields in a class at most; there is no memory for 65,536.
+fn next_index(index: u16) -> Result<u16, NoMemory>
+    ensures { IfOk result (λ n. n ≡ index + 1) }
+{
+    match index.checked_add(1) {
+        Some(next) => Ok(next),
+        None => Err(NoMemory),
+    }
+}
+
+// One member of a class, in which so many fields stand before it; how many stand before the next.
+fn add_member(
+    alloc: Global,
+    table: &ClassTable,
+    class: ClassId,
+    index: u16,
+    member: &Member,
+    parts: &mut Parts,
+    first: &mut FirstFault,
+) -> Result<u16, NoMemory>
+    ensures fields { OnOk result (fields_data parts.new ≡ with_field (table_data table.now) class index (member_of member.now) (fields_data parts.old)) }
+    ensures methods { OnOk result (methods_data parts.new ≡ with_method (table_data table.now) class (member_of member.now) (methods_data parts.old)) }
+    ensures index { IfOk result (λ n. n ≡ index_after (member_of member.now) index) }
+    ensures fault { OnOk result (first.new ≡ noted first.old (member_faults (table_data table.now) class (member_of member.now))) }
+{
+    match member {
+        Member::Field {
+            is_final,
+            ty,
+            guard,
+            name: _,
+        } => {
+            let guard = guard_path(table, class, guard, first);
+            parts
+                .fields
+                .add(field(table, class, index, *is_final, ty, guard))?;
+            next_index(index)
+        }
+        Member::Ctor { .. } => Ok(index),
+        Member::Method { .. } => {
+            let method = method(alloc, table, class, member, first)?;
+            parts.methods.add(method)?;
+            Ok(index)
+        }
+    }
+}
+
+fn add_members(
+    alloc: Global,
+    table: &ClassTable,
+    class: ClassId,
+    members: &[Member],
+    parts: &mut Parts,
+    first: &mut FirstFault,
+) -> Result<(), NoMemory>
+    ensures fields { OnOk result (fields_data parts.new ≡ appended (fields_data parts.old) (all_there (fields_core (table_data table.now) class 0 (map member_of members.now)))) }
+    ensures methods { OnOk result (methods_data parts.new ≡ appended (methods_data parts.old) (all_there (methods_core (table_data table.now) class (map member_of members.now)))) }
+    ensures fault { OnOk result (first.new ≡ noted first.old (flat_map (member_faults (table_data table.now) class) (map member_of members.now))) }
+{
+    let mut index = 0;
+    for member in members {
+        index = add_member(alloc, table, class, index, member, parts, first)?;
+    }
+    Ok(())
+}
+
+// The number after this one. There is no memory for a program with more parts than numbers.
+pub(crate) fn next_number(number: u32) -> Result<u32, NoMemory>
+    ensures { IfOk result (λ n. n ≡ number + 1) }
+{
+    match number.checked_add(1) {
+        Some(next) => Ok(next),
+        None => Err(NoMemory),
+    }
+}
+
+/// The core fields and methods of these classes; their faults are noted.
+pub(crate) fn parts_of(
+    alloc: Global,
+    table: &ClassTable,
+    classes: &[Class],
+    first: &mut FirstFault,
+) -> Result<Parts, NoMemory>
+    ensures fields { IfOk result (λ p. fields_data p ≡ all_there (all_fields (table_data table.now) 0 (map class_of classes.now))) }
+    ensures methods { IfOk result (λ p. methods_data p ≡ all_there (all_methods (table_data table.now) 0 (map class_of classes.now))) }
+    ensures fault { OnOk result (first.new ≡ noted first.old (faults_from (table_data table.now) 0 (map class_of classes.now))) }
+{
+    let mut parts = Parts {
+        fields: Gathered::new(alloc),
+        methods: Gathered::new(alloc),
+    };
+    let mut number = 0;
+    for class in classes {
+        add_members(
+            alloc,
+            table,
+            ClassId(number),
+            class.members.as_slice(),
+            &mut parts,
+            first,
+        )?;
+        number = next_number(number)?;
+    }
+    Ok(parts)
+}

@@ -1,0 +1,242 @@
+//! Methods: their parameters, locks and bodies.
+#![tactic(auto, using(crate::proofs::Noting::noted_append))]
+
+ghost use Rattle.std.specs.Prelude.{◌≡◌, ◌+◌, length, map, flat_map, option_map, is_some, IfOk, OnOk, ◌&&◌};
+ghost use Rattle.aj_classes.specs.Table.{type_of};
+ghost use Rattle.aj_classes.specs.Views.{table_data};
+ghost use Rattle.aj_core.specs.Views.{method_of, stmt_of};
+ghost use Rattle.aj_syntax.specs.Views.{lock_of, member_of};
+ghost use Rattle.aj_elaborate.specs.Completion.{locals_in_each, completes_each};
+ghost use Rattle.aj_elaborate.specs.Gathered.{method_in, faults_in_method, return_faults};
+ghost use Rattle.aj_elaborate.specs.Locks.{lock_rule};
+ghost use Rattle.aj_elaborate.specs.Making.{method_from};
+ghost use Rattle.aj_elaborate.specs.Noted.{noted};
+ghost use Rattle.aj_elaborate.specs.Programs.{all_there, ascending};
+ghost use Rattle.aj_elaborate.specs.Rulings.{gain, loss, both};
+ghost use Rattle.aj_elaborate.specs.Scopes.{parameters_from};
+ghost use Rattle.aj_elaborate.specs.Views.{scope_of};
+
+use crate::fault::TypeFault;
+use crate::first::FirstFault;
+use crate::gather::Gathered;
+use crate::lock::lock_path;
+use crate::scope::Bound;
+use crate::stmts::{Signature, block};
+use aj_classes::ClassTable;
+use aj_core::{CoreMethod, CoreStmt, CoreType};
+use aj_paths::{ClassId, Path};
+use aj_syntax::{Lock, Member, Param, TypeName};
+use std::alloc::{AllocError as NoMemory, Global};
+use std::collections::BTreeSet;
+
+/// The type that is written; that of class 0 for a name of no class.
+pub(crate) fn core_type(table: &ClassTable, ty: &TypeName) -> CoreType
+    ensures { result ≡ type_of (table_data table.now).names ty.now }
+{
+    match ty {
+        TypeName::Int => CoreType::Int,
+        TypeName::Boolean => CoreType::Boolean,
+        TypeName::Class(name) => {
+            CoreType::Class(table.class_named(name.text.as_str()).unwrap_or(ClassId(0)))
+        }
+    }
+}
+
+fn result_of(table: &ClassTable, returns: &Option<TypeName>) -> Option<CoreType>
+    ensures { result ≡ option_map (type_of (table_data table.now).names) returns.now }
+{
+    match returns {
+        Some(ty) => Some(core_type(table, ty)),
+        None => None,
+    }
+}
+
+// The slot after this one. There is no memory for a method with more parameters than slots.
+fn next_slot(slot: u16) -> Result<u16, NoMemory>
+    ensures { IfOk result (λ n. n ≡ slot + 1) }
+{
+    match slot.checked_add(1) {
+        Some(next) => Ok(next),
+        None => Err(NoMemory),
+    }
+}
+
+fn parameters(alloc: Global, table: &ClassTable, params: &[Param]) -> Result<Vec<Bound>, NoMemory>
+    ensures { IfOk result (λ scope. scope_of scope.items ≡ parameters_from (table_data table.now) 1 params.now) }
+{
+    let mut scope = Vec::new(alloc);
+    let mut slot = 1;
+    for param in params {
+        let name = param.name.text.copy(alloc)?;
+        scope.push(Bound {
+            name,
+            slot,
+            is_final: param.is_final,
+            ty: core_type(table, &param.ty),
+        })?;
+        slot = next_slot(slot)?;
+    }
+    Ok(scope)
+}
+
+fn param_types(
+    alloc: Global,
+    table: &ClassTable,
+    params: &[Param],
+) -> Result<Vec<(bool, CoreType)>, NoMemory>
+    ensures { IfOk result (λ types. types.items ≡ map (λ p. (p.is_final, type_of (table_data table.now).names p.ty)) params.now) }
+{
+    let mut types = Vec::new(alloc);
+    for param in params {
+        types.push((param.is_final, core_type(table, &param.ty)))?;
+    }
+    Ok(types)
+}
+
+// The slot of the first local of a method with these parameters. A class table admits 16 parameters at most; there is no
+// memory for 255 or more.
+fn first_local(params: &[Param]) -> Result<u8, NoMemory>
+    ensures { IfOk result (λ slot. slot ≡ 1 + length params.now) }
+{
+    match u8::try_from(1 + params.len()) {
+        Ok(slot) => Ok(slot),
+        Err(_) => Err(NoMemory),
+    }
+}
+
+// How many slots a method has. There is no memory for 65,536 or more.
+fn slots(first_local: u8, locals: usize) -> Result<u16, NoMemory>
+    ensures { IfOk result (λ count. count ≡ first_local + locals) }
+{
+    let Ok(locals) = u16::try_from(locals) else {
+        return Err(NoMemory);
+    };
+    match locals.checked_add(first_local as u16) {
+        Some(count) => Ok(count),
+        None => Err(NoMemory),
+    }
+}
+
+fn required(
+    alloc: Global,
+    table: &ClassTable,
+    class: ClassId,
+    scope: &[Bound],
+    locks: &[Lock],
+    first: &mut FirstFault,
+) -> Result<Option<Vec<Path>>, NoMemory>
+    ensures paths { IfOk result (λ paths. option_map (λ v. v.items) paths ≡ all_there (map (λ l. gain (lock_rule (table_data table.now) class (scope_of scope.now) l)) (map lock_of locks.now))) }
+    ensures fault { OnOk result (first.new ≡ noted first.old (flat_map (λ l. loss (lock_rule (table_data table.now) class (scope_of scope.now) l)) (map lock_of locks.now))) }
+{
+    let mut paths = Gathered::new(alloc);
+    for lock in locks {
+        paths.add(lock_path(table, class, scope, lock, first))?;
+    }
+    Ok(paths.all())
+}
+
+// These paths in ascending order, each once.
+fn ascending(alloc: Global, paths: Vec<Path>) -> Result<Vec<Path>, NoMemory>
+    ensures { IfOk result (λ all. all.items ≡ ascending paths.items) }
+{
+    let mut rest = paths;
+    let mut set = BTreeSet::new(alloc);
+    while let Some(path) = rest.pop() {
+        set.insert(path)?;
+    }
+    set.into_iter().collect(alloc)
+}
+
+// Notes that the body of a method with a result can complete. Its closing brace stands at `at`.
+fn note_missing_return(returns: bool, completes: bool, at: u32, first: &mut FirstFault)
+    ensures { first.new ≡ noted first.old (return_faults (returns && completes) at) }
+{
+    if returns && completes {
+        first.note(TypeFault::MissingReturn(at));
+    }
+}
+
+// The core method of these parts. None where one is missing.
+fn core_method(
+    alloc: Global,
+    table: &ClassTable,
+    method: &Signature,
+    atomic: bool,
+    place_at: u32,
+    params: &[Param],
+    locks: Option<Vec<Path>>,
+    body: Option<CoreStmt>,
+    locals: usize,
+) -> Result<Option<CoreMethod>, NoMemory>
+    ensures { IfOk result (λ m. option_map method_of m ≡ option_map (method_from (table_data table.now) method.now.class method.now.returns method.now.first_local atomic place_at params.now locals) (both (option_map (λ v. v.items) locks) (option_map stmt_of body))) }
+{
+    let Some(locks) = locks else {
+        return Ok(None);
+    };
+    let Some(body) = body else {
+        return Ok(None);
+    };
+    Ok(Some(CoreMethod {
+        class: method.class,
+        place_at,
+        annotated: atomic,
+        requires_: ascending(alloc, locks)?,
+        params: param_types(alloc, table, params)?,
+        result: method.returns,
+        slots: slots(method.first_local, locals)?,
+        body,
+    }))
+}
+
+/// A method of a class. None for another member.
+pub(crate) fn method(
+    alloc: Global,
+    table: &ClassTable,
+    class: ClassId,
+    member: &Member,
+    first: &mut FirstFault,
+) -> Result<Option<CoreMethod>, NoMemory>
+    ensures node { IfOk result (λ m. option_map method_of m ≡ method_in (table_data table.now) class (member_of member.now)) }
+    ensures fault { OnOk result (first.new ≡ noted first.old (faults_in_method (table_data table.now) class (member_of member.now))) }
+{
+    let Member::Method {
+        atomic,
+        result: returns,
+        name,
+        params,
+        requires_,
+        body,
+        end: at,
+    } = member
+    else {
+        return Ok(None);
+    };
+    let params = params.as_slice();
+    let mut scope = parameters(alloc, table, params)?;
+    let method = Signature {
+        class,
+        returns: result_of(table, returns),
+        first_local: first_local(params)?,
+    };
+    let locks = required(
+        alloc,
+        table,
+        class,
+        scope.as_slice(),
+        requires_.as_slice(),
+        first,
+    )?;
+    let body = block(alloc, table, &method, &mut scope, 0, body.as_slice(), first)?;
+    note_missing_return(returns.is_some(), body.completes, *at, first);
+    core_method(
+        alloc,
+        table,
+        &method,
+        *atomic,
+        name.at,
+        params,
+        locks,
+        body.node,
+        body.locals,
+    )
+}
