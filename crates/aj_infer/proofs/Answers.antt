@@ -1,0 +1,17 @@
+-- What a call answers, told in other words.
+use Rattle.std.proofs.Common.{◌≡◌, ◌∙◌, Ok, Err, IfOk}
+use Rattle.std.specs.Prelude.{Result}
+use Rattle.aj_algebra.specs.declared.basic.Basic.{Basic}
+use Rattle.aj_algebra.specs.HeldPaths.{Held}
+use Rattle.aj_algebra.specs.Values.{Keeps}
+
+pub value_same : {S A E : Type 0} (value : S → A → Held → Basic) (s : S) (r : Result A E) (f g : Held → Basic) → ((H : Held) → f H ≡ g H) → IfOk r (λ a. (H : Held) → value s a H ≡ f H) → IfOk r (λ a. (H : Held) → value s a H ≡ g H)
+value_same value s (Ok a) f g same is = λ H. is H ∙ same H
+value_same value s (Err e) f g same is = is
+
+-- what two calls keep, one after the other
+pub keeps_both : {S A : Type 0} (k : S → A → Type 0) (v : S → A → Held → Basic) (a b c : S) → Keeps k v a b → Keeps k v b c → Keeps k v a c
+keeps_both k v a b c first second = record {
+  known = λ x is. second.known x (first.known x is);
+  same = λ x is H. second.same x (first.known x is) H ∙ first.same x is H;
+}

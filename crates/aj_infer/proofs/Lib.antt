@@ -1,0 +1,20 @@
+-- Lemmas on inference.
+pub mod Weights
+pub mod Answers
+pub mod Calls
+pub mod Locals
+pub mod Blocks
+pub mod BodyParts
+pub mod EffectRises
+pub mod TableParts
+pub mod CellLemmas
+pub mod Required
+pub mod LeastLemmas
+pub mod RowLemmas
+pub mod Lookups
+pub mod RiseLemmas
+pub mod ValueLemmas
+pub mod StartLemmas
+pub mod VerdictLemmas
+pub mod CallsSame
+pub mod QuietLemmas

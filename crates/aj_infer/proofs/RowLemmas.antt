@@ -1,0 +1,57 @@
+-- Rows of basics, one place more at a time.
+use Rattle.std.proofs.Common.{◌≡◌, ℕ, zero, suc, ◌+◌, ◌<◌, true, false, ◌&&◌, List, [], ◌∷◌, ◌++◌, length, drop, get_or, slice_get, None, refl, sym, ap, subst, ◌∙◌, arith, append_assoc}
+use Rattle.std.proofs.Math.Numerals.{add-one}
+use Rattle.aj_paths.specs.Paths.{PathData}
+use Rattle.aj_algebra.specs.declared.basic.Basic.{Basic}
+use Rattle.aj_infer.specs.Cells.{at_parts, below_some, are_below, join_some, joined}
+
+drop_none : (i : ℕ) → drop {A = Basic} i [] ≡ []
+drop_none zero = refl
+drop_none (suc i) = refl
+
+below_next : (row table : List Basic) (i : ℕ) (d : Basic) → i < length row → are_below (drop i row) (drop i table) ≡ (below_some (get_or row i d) (slice_get table i) && are_below (drop (suc i) row) (drop (suc i) table))
+below_next [] table i d below = absurd (omega arith)
+below_next (b ∷ row) [] zero d below = refl
+below_next (b ∷ row) (c ∷ table) zero d below = refl
+below_next (b ∷ row) [] (suc i) d below = subst (λ t. are_below (drop i row) t ≡ (below_some (get_or row i d) None && are_below (drop (suc i) row) [])) (drop_none i) (below_next row [] i d (omega arith))
+below_next (b ∷ row) (c ∷ table) (suc i) d below = below_next row table i d (omega arith)
+
+-- at one place
+pub below_step : (row table : List Basic) (i : ℕ) (d : Basic) → i < length row → are_below (drop i row) (drop i table) ≡ (below_some (get_or row i d) (slice_get table i) && are_below (drop (i + 1) row) (drop (i + 1) table))
+below_step row table i d below = rw (add-one i) (below_next row table i d below)
+
+-- a place that is below
+pub below_more : (row table : List Basic) (i : ℕ) (d : Basic) → i < length row → true ≡ below_some (get_or row i d) (slice_get table i) → are_below (drop i row) (drop i table) ≡ are_below row table → are_below (drop (i + 1) row) (drop (i + 1) table) ≡ are_below row table
+below_more row table i d below passes whole = ap (λ b. b && are_below (drop (i + 1) row) (drop (i + 1) table)) passes ∙ sym (below_step row table i d below) ∙ whole
+
+-- a place that isn't below
+pub below_fails : (row table : List Basic) (i : ℕ) (d : Basic) → i < length row → false ≡ below_some (get_or row i d) (slice_get table i) → are_below (drop i row) (drop i table) ≡ are_below row table → false ≡ are_below row table
+below_fails row table i d below fails whole = ap (λ b. b && are_below (drop (i + 1) row) (drop (i + 1) table)) fails ∙ sym (below_step row table i d below) ∙ whole
+
+joined_next : (row table : List Basic) (i : ℕ) (d : Basic) → i < length row → joined (drop i row) (drop i table) ≡ join_some (get_or row i d) (slice_get table i) ∷ joined (drop (suc i) row) (drop (suc i) table)
+joined_next [] table i d below = absurd (omega arith)
+joined_next (b ∷ row) [] zero d below = ap (λ bs. b ∷ bs) (sym (rest_alone row))
+  where
+    rest_alone : (bs : List Basic) → joined bs [] ≡ bs
+    rest_alone [] = refl
+    rest_alone (c ∷ bs) = refl
+joined_next (b ∷ row) (c ∷ table) zero d below = refl
+joined_next (b ∷ row) [] (suc i) d below = subst (λ t. joined (drop i row) t ≡ get_or row i d ∷ joined (drop (suc i) row) []) (drop_none i) (joined_next row [] i d (omega arith))
+joined_next (b ∷ row) (c ∷ table) (suc i) d below = joined_next row table i d (omega arith)
+
+pub joined_step : (row table : List Basic) (i : ℕ) (d : Basic) → i < length row → joined (drop i row) (drop i table) ≡ join_some (get_or row i d) (slice_get table i) ∷ joined (drop (i + 1) row) (drop (i + 1) table)
+joined_step row table i d below = rw (add-one i) (joined_next row table i d below)
+
+-- one place more was joined
+pub joined_more : (row table old new : List Basic) (i : ℕ) (b d : Basic) → i < length row → b ≡ join_some (get_or row i d) (slice_get table i) → new ≡ old ++ b ∷ []
+    → old ++ joined (drop i row) (drop i table) ≡ joined row table → new ++ joined (drop (i + 1) row) (drop (i + 1) table) ≡ joined row table
+joined_more row table old new i b d below is new_is so_far =
+    ap (λ bs. bs ++ joined (drop (i + 1) row) (drop (i + 1) table)) new_is ∙ append_assoc old (b ∷ []) (joined (drop (i + 1) row) (drop (i + 1) table))
+    ∙ ap (λ c. old ++ c ∷ joined (drop (i + 1) row) (drop (i + 1) table)) is ∙ ap (λ bs. old ++ bs) (sym (joined_step row table i d below)) ∙ so_far
+
+-- the parts without the first path, and those with it
+pub parts_more : (f : List PathData → Basic) (old one two : List Basic) (held held1 held2 paths rest : List PathData) (p : PathData) → paths ≡ p ∷ rest
+    → held2 ≡ held1 ++ p ∷ [] → held1 ≡ held → one ≡ old ++ at_parts f held rest → two ≡ one ++ at_parts f held2 rest → two ≡ old ++ at_parts f held paths
+parts_more f old one two held held1 held2 paths rest p paths_are held2_is held1_is one_is two_is =
+    two_is ∙ ap (λ bs. bs ++ at_parts f held2 rest) one_is ∙ append_assoc old (at_parts f held rest) (at_parts f held2 rest)
+    ∙ ap (λ hs. old ++ (at_parts f held rest ++ at_parts f hs rest)) (held2_is ∙ ap (λ hs. hs ++ p ∷ []) held1_is) ∙ ap (λ ps. old ++ at_parts f held ps) (sym paths_are)

@@ -1,0 +1,49 @@
+-- From const everywhere to the least tables.
+use Rattle.std.proofs.Common.{◌≡◌, ℕ, ◌+◌, ◌*◌, ◌^◌, ◌≤◌, List, length, map, replicate, sym, ap, subst, ◌∙◌, arith}
+use Rattle.std.proofs.lemmas.List.{length-map, length-replicate}
+use Rattle.aj_algebra.specs.declared.basic.Basic.{Basic}
+use Rattle.aj_core.specs.declared.program.CoreMethod.{CoreMethod}
+use Rattle.aj_core.specs.Core.{Program, Method}
+use Rattle.aj_core.specs.Typed.{IsTyped}
+use Rattle.aj_core.specs.Views.{method_of}
+use Rattle.aj_fix.specs.Assignments as fix
+use Rattle.aj_rules.specs.Near.{MethodPaths, AreRelevant, AreFew, rel_of}
+use Rattle.aj_infer.specs.Tables.{assigned}
+use Rattle.aj_infer.specs.Cells.{numbers_of, tables_in, all_const, is_met, rooms_of, AreTables, AreCells}
+use Rattle.aj_infer.specs.Least.{IsLeast}
+use Rattle.aj_infer.proofs.CellLemmas.{length_numbers, length_above}
+use Rattle.aj_infer.proofs.LeastLemmas.{length_tables_in, const_tables, const_room, is_least}
+use Rattle.aj_infer.proofs.QuietLemmas.{all_stale, replicate_above}
+use Rattle.aj_infer.proofs.Required.{required_in_rel}
+
+pub same_count : (xs : List CoreMethod) (methods : List Method) → map method_of xs ≡ methods → length xs ≡ length methods
+same_count xs methods all = sym (length-map xs method_of) ∙ ap length all
+
+module _ (P : Program) (sets : List MethodPaths) (start : List (List Basic)) (count : ℕ) (start_is : start ≡ tables_in (rel_of sets) all_const 0 count) (all : count ≡ length P.methods) where
+  start_at : start ≡ tables_in (rel_of sets) all_const 0 (length P.methods)
+  start_at = start_is ∙ ap (tables_in (rel_of sets) all_const 0) all
+
+  pub start_length : length start ≡ length P.methods
+  start_length = ap length start_at ∙ length_tables_in (rel_of sets) all_const 0 (length P.methods)
+
+  pub start_cells : length P.methods ≤ 2 ^ 32 → AreFew sets → (len room : ℕ) → len ≡ length start → room ≡ 1024 * len → AreCells P (rel_of sets) start room (replicate len room) (replicate len (room + 1))
+  start_cells below few len room is room_is = record {
+    few = below;
+    each = subst (AreTables P (rel_of sets)) (sym start_at) (const_tables P (rel_of sets));
+    enough = subst (λ n. rooms_of start ≤ n) (sym room_is) (subst (λ n. rooms_of start ≤ 1024 * n) (sym is)
+        (subst (λ ts. rooms_of ts ≤ 1024 * length ts) (sym start_at) (const_room P sets few)));
+    left_count = length-replicate len room ∙ is;
+    asked_count = length-replicate len (room + 1) ∙ is;
+    left_above = λ m most at. let e = replicate_above len room m most at in omega arith;
+    asked_above = λ m most at. let e = replicate_above len (room + 1) m most at in omega arith;
+    quiet = λ m since at quiet. absurd (all_stale P len room m since at quiet);
+  }
+
+  -- where every demand is met, above the start and below all others
+  pub least_count : (tables : List (List Basic)) → fix.IsAbove (numbers_of tables) (numbers_of start) → length tables ≡ length P.methods
+  least_count tables up = sym (length_numbers tables) ∙ length_above (numbers_of tables) (numbers_of start) up ∙ length_numbers start ∙ start_length
+
+  pub least_is : IsTyped P → AreRelevant P sets → (tables : List (List Basic)) → fix.IsClosed (is_met P (rel_of sets)) (numbers_of tables)
+      → fix.IsBetween (is_met P (rel_of sets)) (numbers_of start) (numbers_of tables) → IsLeast P (rel_of sets) (assigned (rel_of sets) tables)
+  least_is typed relevant tables closed between = is_least P (rel_of sets) (λ m method is. required_in_rel P sets relevant typed m method is) tables closed
+      (subst (λ ts. fix.IsBetween (is_met P (rel_of sets)) (numbers_of ts) (numbers_of tables)) start_at between)

@@ -1,0 +1,117 @@
+-- Tables as the cells of a least fixpoint: the basics of each method as numbers, and what its body demands of them.
+use Rattle.std.specs.Prelude.{◌≡◌, ℕ, zero, suc, ◌+◌, ◌-◌, ◌^◌, ◌≤◌, Bool, true, false, ◌&&◌, List, [], ◌∷◌, ◌++◌, map, length, sum_by, Option, Some, None, slice_get}
+use Rattle.aj_paths.specs.Paths.{PathData}
+use Rattle.aj_algebra.specs.declared.basic.Basic.{Basic}
+use Rattle.aj_algebra.specs.declared.basic.Basic.TheVariants.{Const, Mover, Atomic, Cmpd, Error}
+use Rattle.aj_algebra.specs.Basics.{rank_of, below_of, join_of}
+use Rattle.aj_algebra.specs.HeldPaths.{has_path}
+use Rattle.aj_core.specs.Core.{Program, Method}
+use Rattle.aj_rules.specs.Effect.{Assignment, effect}
+use Rattle.aj_infer.specs.Called.{is_stale}
+use Rattle.aj_infer.specs.Tables.{half, table_of, assigned}
+
+-- the basic of a number; error for all numbers past its own
+abbrev pub basic_of : ℕ → Basic
+basic_of zero = Const
+basic_of (suc zero) = Mover
+basic_of (suc (suc zero)) = Atomic
+basic_of (suc (suc (suc zero))) = Cmpd
+basic_of (suc (suc (suc (suc n)))) = Error
+
+-- tables as numbers, and numbers as tables
+abbrev pub numbers_of : List (List Basic) → List (List ℕ)
+numbers_of tables = map (λ table. map rank_of table) tables
+
+abbrev pub tables_of : List (List ℕ) → List (List Basic)
+tables_of rows = map (λ row. map basic_of row) rows
+
+-- the basic at the held paths with each part of these paths, in the order of tables
+abbrev pub at_parts : (List PathData → Basic) → (held paths : List PathData) → List Basic
+at_parts f held [] = f held ∷ []
+at_parts f held (p ∷ ps) = at_parts f held ps ++ at_parts f (held ++ p ∷ []) ps
+
+-- the table of an assignment for a method
+abbrev pub table_in : (ℕ → List PathData) → Assignment → ℕ → List Basic
+table_in rel A m = at_parts (λ held. A m (has_path held)) [] (rel m)
+
+-- the tables of so many methods from here on
+abbrev pub tables_in : (ℕ → List PathData) → Assignment → (first count : ℕ) → List (List Basic)
+tables_in rel A m zero = []
+tables_in rel A m (suc count) = table_in rel A m ∷ tables_in rel A (suc m) count
+
+-- const everywhere
+abbrev pub all_const : Assignment
+all_const m H = Const
+
+-- how many parts there are
+abbrev pub count_of_parts : List PathData → ℕ
+count_of_parts [] = 1
+count_of_parts (p ∷ ps) = count_of_parts ps + count_of_parts ps
+
+-- the effect of a body at the required paths with each part of the relevant ones
+abbrev pub demands_of : Program → (ℕ → List PathData) → Assignment → ℕ → Option Method → List Basic
+demands_of P rel A m None = []
+demands_of P rel A m (Some method) = at_parts (λ held. effect P rel A method.body (has_path held)) method.requires_ (rel m)
+
+abbrev pub demands_at : Program → (ℕ → List PathData) → Assignment → ℕ → List Basic
+demands_at P rel A m = demands_of P rel A m (slice_get P.methods m)
+
+-- whether a basic is at most another; not where the other is missing
+abbrev pub below_some : Basic → Option Basic → Bool
+below_some b None = false
+below_some b (Some own) = below_of b own
+
+-- each basic is at most that of the table at its place
+abbrev pub are_below : List Basic → List Basic → Bool
+are_below [] table = true
+are_below (b ∷ bs) [] = false
+are_below (b ∷ bs) (c ∷ cs) = below_of b c && are_below bs cs
+
+-- the greater of two basics; the first where the other is missing
+abbrev pub join_some : Basic → Option Basic → Basic
+join_some b None = b
+join_some b (Some own) = join_of b own
+
+-- the greater basics, place by place
+abbrev pub joined : List Basic → List Basic → List Basic
+joined [] table = []
+joined (b ∷ bs) [] = b ∷ bs
+joined (b ∷ bs) (c ∷ cs) = join_of b c ∷ joined bs cs
+
+-- a table over these paths falls: each half does, and the half with the first path is below the one without it
+abbrev pub table_falls : List PathData → List Basic → Bool
+table_falls [] table = true
+table_falls (p ∷ ps) table = are_below (half true table) (half false table) && (table_falls ps (half false table) && table_falls ps (half true table))
+
+-- the table of a method falls, and is no less than its body demands
+abbrev pub is_met_by : Program → (ℕ → List PathData) → List (List Basic) → ℕ → Bool
+is_met_by P rel tables m = table_falls (rel m) (table_of (slice_get tables m)) && are_below (demands_at P rel (assigned rel tables) m) (table_of (slice_get tables m))
+
+-- the same of numbers
+abbrev pub is_met : Program → (ℕ → List PathData) → List (List ℕ) → ℕ → Bool
+is_met P rel x m = is_met_by P rel (tables_of x) m
+
+-- how often a table can rise, at most
+abbrev pub room_of : List Basic → ℕ
+room_of table = sum_by (λ b. 4 - rank_of b) table
+
+abbrev pub rooms_of : List (List Basic) → ℕ
+rooms_of tables = sum_by room_of tables
+
+-- a table for each method, which falls, with a basic for each part of its relevant paths
+pub record AreTables (P : Program) (rel : ℕ → List PathData) (tables : List (List Basic)) : Type 0 where
+  pub count : length tables ≡ length P.methods
+  pub size : (m : ℕ) (table : List Basic) → slice_get tables m ≡ Some table → length table ≡ count_of_parts (rel m)
+  pub falls : (m : ℕ) (table : List Basic) → slice_get tables m ≡ Some table → table_falls (rel m) table ≡ true
+
+-- the cells of a program: its tables, with room for every rise; the room that the last rise of each method left, and
+-- how much there was when its demand was last found met, so that it is met still where nothing that it looks at has risen
+pub record AreCells (P : Program) (rel : ℕ → List PathData) (tables : List (List Basic)) (room : ℕ) (left asked : List ℕ) : Type 0 where
+  pub few : length P.methods ≤ 2 ^ 32
+  pub each : AreTables P rel tables
+  pub enough : rooms_of tables ≤ room
+  pub left_count : length left ≡ length tables
+  pub asked_count : length asked ≡ length tables
+  pub left_above : (m most : ℕ) → slice_get left m ≡ Some most → room ≤ most
+  pub asked_above : (m most : ℕ) → slice_get asked m ≡ Some most → room ≤ most
+  pub quiet : (m since : ℕ) → slice_get asked m ≡ Some since → is_stale P left since m ≡ false → is_met_by P rel tables m ≡ true

@@ -1,0 +1,156 @@
+//! The tables of all methods as cells of a least fixpoint: what a method's body demands of its table.
+ghost use Rattle.std.specs.Prelude.{◌≡◌, ◌<◌, Some, IfOk, slice_get};
+ghost use Rattle.aj_algebra.specs.HeldPaths.{has_path};
+ghost use Rattle.aj_algebra.specs.Values.{Keeps};
+ghost use Rattle.aj_core.specs.Views.{program_of, method_of};
+ghost use Rattle.aj_rules.specs.Near.{AreRelevant, rel_of};
+ghost use Rattle.aj_infer.specs.Bodies.{program_at, rel_at, assigned_at};
+ghost use Rattle.aj_infer.specs.Called.{is_stale};
+ghost use Rattle.aj_infer.specs.Tables.{assigned};
+ghost use Rattle.aj_infer.specs.Cells.{AreCells, numbers_of, demands_of, demands_at, is_met};
+
+use crate::called::{Since, has_risen, stmt_calls};
+use crate::judged::Judged;
+use crate::rows::{are_below, joined, put_parts};
+use crate::table::{Table, table_at};
+use crate::walk::{Walk, stmt_value};
+use aj_algebra::{Algebra, Basic};
+use aj_core::CoreMethod;
+use aj_fix::Rising;
+use aj_paths::{MethodId, Path};
+use std::alloc::{AllocError as NoMemory, Global};
+
+/// What the body of a method demands of its table.
+fn demands<G: Algebra>(
+    alloc: Global,
+    judged: &Judged<'_>,
+    tables: &[Table],
+    algebra: &mut G,
+    method: MethodId,
+) -> Result<Vec<Basic>, NoMemory>
+    ensures { IfOk result (λ row.
+        let rel = rel_of judged.now.1 in row.items ≡ demands_at (program_of judged.now.0) rel (assigned rel tables.now) method) }
+{
+    let walk = Walk {
+        program: judged.program,
+        sets: judged.sets,
+        tables,
+        method,
+    };
+    walk_demands(alloc, &walk, algebra)
+}
+
+/// What the body of the walk's method demands of its table.
+fn walk_demands<G: Algebra>(
+    alloc: Global,
+    walk: &Walk<'_>,
+    algebra: &mut G,
+) -> Result<Vec<Basic>, NoMemory>
+    requires { AreRelevant (program_at walk.now) walk.now.sets.now }
+    ensures { IfOk result (λ row. row.items ≡ demands_at (program_at walk.now) (rel_at walk.now) (assigned_at walk.now) walk.now.method) }
+{
+    match walk.program.methods().get(walk.method.0 as usize) {
+        Some(method) => body_demands(alloc, walk, algebra, method),
+        None => Ok(Vec::new(alloc)),
+    }
+}
+
+/// What this body of the walk's method demands.
+fn body_demands<G: Algebra>(
+    alloc: Global,
+    walk: &Walk<'_>,
+    algebra: &mut G,
+    method: &CoreMethod,
+) -> Result<Vec<Basic>, NoMemory>
+    requires relevant { AreRelevant (program_at walk.now) walk.now.sets.now }
+    requires is { slice_get (program_at walk.now).methods walk.now.method ≡ Some (method_of method.now) }
+    ensures { IfOk result (λ row. row.items ≡ demands_of (program_at walk.now) (rel_at walk.now) (assigned_at walk.now) walk.now.method (Some (method_of method.now))) }
+{
+    let value = stmt_value(alloc, walk, algebra, &method.body)?;
+    let mut held = copied(alloc, method.requires_.as_slice())?;
+    let mut row = Vec::new(alloc);
+    put_parts(
+        algebra,
+        &value,
+        &mut held,
+        walk.sets.rel(walk.method),
+        &mut row,
+    )?;
+    Ok(row)
+}
+
+/// Copies of paths.
+fn copied(alloc: Global, paths: &[Path]) -> Result<Vec<Path>, NoMemory>
+    ensures { IfOk result (λ copies. copies.items ≡ paths.now) }
+{
+    let mut copies = Vec::new(alloc);
+    for path in paths {
+        copies.push(path.copy())?;
+    }
+    Ok(copies)
+}
+
+/// Whether a method or one that it calls has risen since.
+fn is_stale(judged: &Judged<'_>, since: &Since<'_>, method: MethodId) -> bool
+    ensures { result ≡ is_stale (program_of judged.now.0) since.now.left.now since.now.room method }
+{
+    let risen = has_risen(since, method);
+    match judged.program.methods().get(method.0 as usize) {
+        Some(method) => risen | stmt_calls(since, &method.body),
+        None => risen,
+    }
+}
+
+/// The tables of a program's methods. They fall, and there is room for all their rises.
+///
+/// Beside them stand the room that the last rise of each method left, and how much there was when its demand was last
+/// found met. So a method's body is walked again only where its table or that of a method that it calls has risen.
+#[derive(Drop)]
+pub(crate) struct Cells<'a, 'b, G: Algebra> {
+    pub(crate) judged: Judged<'a>,
+    pub(crate) algebra: &'b mut G,
+    pub(crate) tables: Vec<Table>,
+    pub(crate) room: u64,
+    pub(crate) left: Vec<u64>,
+    pub(crate) asked: Vec<u64>,
+    ghost sound: { AreCells (program_of judged.0) (rel_of judged.1) tables.items room left.items asked.items },
+}
+
+impl<'a, 'b, G: Algebra> Rising for Cells<'a, 'b, G> {
+    ghost marks = { λ s. numbers_of s.tables.items };
+
+    ghost met = { λ s. is_met (program_of s.judged.0) (rel_of s.judged.1) };
+
+    ghost left = { λ s. s.room };
+
+    fn cells(&self) -> usize {
+        self.tables.len()
+    }
+
+    fn room(&self) -> u64 {
+        self.room
+    }
+
+    fn raise(&mut self, alloc: Global, cell: usize) -> Result<bool, NoMemory> {
+        let method = MethodId(cell as u32);
+        let left = self.left.as_slice();
+        let room = self.asked[cell];
+        let since = Since { left, room };
+        if !is_stale(&self.judged, &since, method) {
+            return Ok(false);
+        }
+        let tables = self.tables.as_slice();
+        let demands = demands(alloc, &self.judged, tables, self.algebra, method)?;
+        let own = table_at(tables, method);
+        let row = demands.as_slice();
+        if are_below(row, own) {
+            self.asked[cell] = self.room;
+            return Ok(false);
+        }
+        let risen = joined(alloc, row, own)?;
+        self.tables[cell] = Table { basics: risen };
+        self.room -= 1;
+        self.left[cell] = self.room;
+        Ok(true)
+    }
+}

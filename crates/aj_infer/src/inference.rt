@@ -1,0 +1,165 @@
+//! The least closed assignment, as values of an algebra.
+ghost use Rattle.std.specs.Prelude.{◌≡◌, ◌++◌, ◌≤◌, ◌^◌, List, [], map, length, replicate, Some, IfOk, OnOk};
+ghost use Rattle.aj_paths.specs.Paths.{PathData};
+ghost use Rattle.aj_algebra.specs.declared.basic.Basic.TheVariants.{Const};
+ghost use Rattle.aj_algebra.specs.HeldPaths.{Held};
+ghost use Rattle.aj_algebra.specs.Values.{Keeps};
+ghost use Rattle.aj_core.specs.Typed.{IsTyped};
+ghost use Rattle.aj_core.specs.Views.{program_of};
+ghost use Rattle.aj_rules.specs.Near.{AreRelevant, AreFew, rel_of};
+ghost use Rattle.aj_infer.specs.Tables.{assigned};
+ghost use Rattle.aj_infer.specs.Cells.{at_parts, tables_in, all_const};
+ghost use Rattle.aj_infer.specs.Least.{IsLeast};
+ghost use Rattle.aj_infer.specs.Verdicts.{AreKnown, assignment_of};
+
+use crate::bounds::Inferred;
+use crate::cells::Cells;
+use crate::judged::Judged;
+use crate::table::{Table, pick, table_at};
+use aj_algebra::{Algebra, Basic};
+use aj_core::CoreProgram;
+use aj_fix::least;
+use aj_paths::{MethodId, Path};
+use aj_rules::RelevantSets;
+use std::alloc::{AllocError as NoMemory, Global};
+
+/// How often the table of a method can rise: four times at each part of eight relevant paths.
+const MOST_RISES: u64 = 1024;
+
+/// The least closed assignment of a typed program: the value of each method at every set of held paths.
+pub fn infer<G: Algebra>(
+    alloc: Global,
+    program: &CoreProgram,
+    sets: &RelevantSets,
+    algebra: &mut G,
+) -> Result<Inferred<G::A>, NoMemory>
+    requires count { length (program_of program.now).methods ≤ 2 ^ 32 }
+    requires relevant { AreRelevant (program_of program.now) sets.now }
+    requires few { AreFew sets.now }
+    ensures count { IfOk result (λ inferred. length inferred.methods.items ≡ length (program_of program.now).methods) }
+    ensures known { IfOk result (λ inferred. AreKnown G.IsKnown algebra.new inferred.methods.items) }
+    ensures least { IfOk result (λ inferred. IsTyped (program_of program.now) →
+        IsLeast (program_of program.now) (rel_of sets.now) (assignment_of G.value algebra.new inferred.methods.items)) }
+{
+    let tables = least_tables(alloc, program, sets, algebra)?;
+    let methods = values_of(alloc, sets, tables.as_slice(), algebra)?;
+    Ok(Inferred { methods })
+}
+
+/// The tables of the least closed assignment. Each begins with const everywhere, and rises while its method's body
+/// demands more of it.
+fn least_tables<'a, G: Algebra>(
+    alloc: Global,
+    program: &'a CoreProgram,
+    sets: &'a RelevantSets,
+    algebra: &mut G,
+) -> Result<Vec<Table>, NoMemory>
+    requires count { length (program_of program.now).methods ≤ 2 ^ 32 }
+    requires relevant { AreRelevant (program_of program.now) sets.now }
+    requires few { AreFew sets.now }
+    ensures count { IfOk result (λ tables. length tables.items ≡ length (program_of program.now).methods) }
+    ensures least { IfOk result (λ tables. IsTyped (program_of program.now) →
+        IsLeast (program_of program.now) (rel_of sets.now) (assigned (rel_of sets.now) tables.items)) }
+{
+    let tables = const_tables(alloc, sets, program.methods().len())?;
+    let count = tables.len();
+    let room = MOST_RISES * count as u64;
+    let left = repeated(alloc, room, count)?;
+    let asked = repeated(alloc, room + 1, count)?;
+    let mut cells = Cells {
+        judged: Judged { program, sets },
+        algebra,
+        tables,
+        room,
+        left,
+        asked,
+    };
+    least(alloc, &mut cells)?;
+    Ok(cells.tables)
+}
+
+/// A number so many times.
+fn repeated(alloc: Global, number: u64, count: usize) -> Result<Vec<u64>, NoMemory>
+    ensures { IfOk result (λ numbers. numbers.items ≡ replicate count number) }
+{
+    Ok(vec![in alloc; number; count]?)
+}
+
+/// The tables of so many methods with const everywhere.
+fn const_tables(alloc: Global, sets: &RelevantSets, count: usize) -> Result<Vec<Table>, NoMemory>
+    requires { count ≤ 2 ^ 32 }
+    ensures { IfOk result (λ tables. tables.items ≡ tables_in (rel_of sets.now) all_const 0 count) }
+{
+    let mut tables = Vec::new(alloc);
+    for method in 0..count {
+        tables.push(const_table(alloc, sets.rel(MethodId(method as u32)))?)?;
+    }
+    Ok(tables)
+}
+
+/// A table with const at each part of these paths.
+fn const_table(alloc: Global, paths: &[Path]) -> Result<Table, NoMemory>
+    ensures { IfOk result (λ table. table ≡ at_parts (λ qs. Const) [] paths.now) }
+{
+    let mut basics = Vec::new(alloc);
+    put_consts(paths, &mut basics)?;
+    Ok(Table { basics })
+}
+
+/// Adds const for each part of these paths.
+fn put_consts(paths: &[Path], basics: &mut Vec<Basic>) -> Result<(), NoMemory>
+    ensures { OnOk result ((held : List PathData) → basics.new.items ≡ basics.old.items ++ at_parts (λ qs. Const) held paths.now) }
+{
+    let Some((_, rest)) = paths.split_first() else {
+        basics.push(Basic::Const)?;
+        return Ok(());
+    };
+    put_consts(rest, basics)?;
+    put_consts(rest, basics)
+}
+
+/// The values of tables, method by method.
+fn values_of<G: Algebra>(
+    alloc: Global,
+    sets: &RelevantSets,
+    tables: &[Table],
+    algebra: &mut G,
+) -> Result<Vec<G::A>, NoMemory>
+    requires { length tables.now ≤ 2 ^ 32 }
+    ensures count { IfOk result (λ values. length values.items ≡ length tables.now) }
+    ensures known { IfOk result (λ values. AreKnown G.IsKnown algebra.new values.items) }
+    ensures same { IfOk result (λ values. assignment_of G.value algebra.new values.items ≡ assigned (rel_of sets.now) tables.now) }
+{
+    let mut values = Vec::new(alloc);
+    for method in 0..tables.len() {
+        values.push(value_of(alloc, sets, tables, algebra, MethodId(method as u32))?)?;
+    }
+    Ok(values)
+}
+
+/// The value of the table of a method: its entry for the relevant paths that are held.
+fn value_of<G: Algebra>(
+    alloc: Global,
+    sets: &RelevantSets,
+    tables: &[Table],
+    algebra: &mut G,
+    method: MethodId,
+) -> Result<G::A, NoMemory>
+    ensures known { IfOk result (λ value. G.IsKnown algebra.new value) }
+    ensures value { IfOk result (λ value. (H : Held) → G.value algebra.new value H ≡ assigned (rel_of sets.now) tables.now method H) }
+    ensures keeps { Keeps G.IsKnown G.value algebra.old algebra.new }
+{
+    let pairs = own_names(alloc, sets.rel(method))?;
+    pick(alloc, algebra, pairs.as_slice(), table_at(tables, method))
+}
+
+/// Each path under its own name.
+fn own_names(alloc: Global, paths: &[Path]) -> Result<Vec<(Path, Option<Path>)>, NoMemory>
+    ensures { IfOk result (λ pairs. pairs.items ≡ map (λ q. (q, Some q)) paths.now) }
+{
+    let mut pairs = Vec::new(alloc);
+    for path in paths {
+        pairs.push((path.copy(), Some(path.copy())))?;
+    }
+    Ok(pairs)
+}

@@ -1,0 +1,23 @@
+//! The least closed assignment of a program, and the exact verdict on its bounds.
+#![tactic(auto)]
+
+mod bounds;
+mod call;
+mod called;
+mod cells;
+mod inference;
+mod judged;
+mod laws;
+mod local;
+mod rows;
+mod table;
+mod walk;
+#[cfg(test)]
+mod walk_tests;
+
+pub use bounds::{Broken, Inferred, verdict};
+pub use inference::infer;
+pub use laws::least_assignment_laws;
+
+#[cfg(test)]
+mod inference_tests;

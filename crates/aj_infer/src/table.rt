@@ -1,0 +1,78 @@
+//! The tables of methods, and the value of one under the names that its paths have elsewhere.
+ghost use Rattle.std.specs.Prelude.{◌≡◌, IfOk, slice_get};
+ghost use Rattle.aj_algebra.specs.Values.{Keeps};
+ghost use Rattle.aj_algebra.specs.HeldPaths.{Held};
+ghost use Rattle.aj_infer.specs.Tables.{front, half, chosen, table_of};
+ghost use Rattle.aj_infer.specs.Names.{held_partners};
+
+use aj_algebra::{Algebra, Basic};
+use aj_paths::{MethodId, Path};
+use std::alloc::{AllocError as NoMemory, Global};
+use std::marker::Model;
+
+/// The basics of a method at the subsets of its relevant paths. Those with the first path are the second half, and so
+/// on in each half.
+#[derive(Drop)]
+pub(crate) struct Table {
+    pub(crate) basics: Vec<Basic>,
+}
+
+impl Model for Table {
+    ghost use Rattle.std.specs.Prelude.{List};
+    ghost use Rattle.aj_algebra.specs.declared.basic.Basic.{Basic};
+
+    ghost Value = { List Basic };
+
+    ghost view = { λ t. t.basics.items };
+}
+
+/// The basics of a method; none where it isn't there.
+pub(crate) fn table_at(tables: &[Table], m: MethodId) -> &[Basic]
+    ensures { result.now ≡ table_of (slice_get tables.now m) }
+{
+    match tables.get(m.0 as usize) {
+        Some(table) => table.basics.as_slice(),
+        None => &[],
+    }
+}
+
+/// The first basic; const where there is none.
+fn front(table: &[Basic]) -> Basic
+    ensures { result ≡ front table.now }
+{
+    table.first().copied().unwrap_or(Basic::Const)
+}
+
+/// One half of a table.
+fn half(table: &[Basic], passes: bool) -> &[Basic]
+    ensures { result.now ≡ half passes table.now }
+{
+    let middle = table.len() / 2;
+    if passes {
+        &table[middle..]
+    } else {
+        &table[..middle]
+    }
+}
+
+/// The table's entry at each set, where each pair tells what one of the table's paths is called here.
+pub(crate) fn pick<G: Algebra>(
+    alloc: Global,
+    algebra: &mut G,
+    pairs: &[(Path, Option<Path>)],
+    table: &[Basic],
+) -> Result<G::A, NoMemory>
+    ensures known { IfOk result (λ r. G.IsKnown algebra.new r) }
+    ensures value { IfOk result (λ r. (H : Held) → G.value algebra.new r H ≡ chosen (held_partners pairs.now H) table.now) }
+    ensures keeps { Keeps G.IsKnown G.value algebra.old algebra.new }
+{
+    let Some((pair, rest)) = pairs.split_first() else {
+        return algebra.leaf(alloc, front(table));
+    };
+    let without = pick(alloc, algebra, rest, half(table, false))?;
+    let Some(path) = &pair.1 else {
+        return Ok(without);
+    };
+    let with = pick(alloc, algebra, rest, half(table, true))?;
+    algebra.held_or(alloc, path, &with, &without)
+}
