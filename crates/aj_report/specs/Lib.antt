@@ -1,1 +1,2 @@
 pub mod SourceFaults
+pub mod Verdicts

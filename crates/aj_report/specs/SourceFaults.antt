@@ -5,6 +5,10 @@ use Rattle.aj_lexer.specs.declared.faults.LexFault.TheVariants as lex
 use Rattle.aj_lexer.specs.Places.{line_of, column_of}
 use Rattle.aj_parser.specs.declared.faults.ParseFault.{ParseFault}
 use Rattle.aj_parser.specs.declared.faults.ParseFault.TheVariants as parse
+use Rattle.aj_classes.specs.declared.fault.ClassFault.{ClassFault}
+use Rattle.aj_classes.specs.declared.fault.ClassFault.TheVariants as class
+use Rattle.aj_elaborate.specs.declared.fault.TypeFault.{TypeFault}
+use Rattle.aj_elaborate.specs.declared.fault.TypeFault.TheVariants as types
 use Rattle.aj_report.specs.declared.source_fault.SourceFault.{SourceFault}
 use Rattle.aj_report.specs.declared.source_fault.SourceFault.TheVariants as source
 
@@ -19,6 +23,23 @@ IsTold (source.Lex (lex.NameTooLong at)) = Unit {0}
 IsTold (source.Parse (parse.Unexpected k) at) = Unit {0}
 IsTold (source.Parse (parse.TooDeep k) at) = Unit {0}
 IsTold (source.Parse parse.NoMemory at) = ⊥
+IsTold (source.Class (class.Twice at)) = Unit {0}
+IsTold (source.Class (class.UnknownClass at)) = Unit {0}
+IsTold (source.Class (class.BadConstructor at)) = Unit {0}
+IsTold (source.Class class.NoMain) = Unit {0}
+IsTold (source.Class (class.NoRun at)) = Unit {0}
+IsTold (source.Class (class.TooMany at)) = Unit {0}
+IsTold (source.Class class.NoMemory) = ⊥
+IsTold (source.Types (types.UnknownName at)) = Unit {0}
+IsTold (source.Types (types.NoRule at)) = Unit {0}
+IsTold (source.Types (types.FinalAssigned at)) = Unit {0}
+IsTold (source.Types (types.NotALock at)) = Unit {0}
+IsTold (source.Types (types.MissingReturn at)) = Unit {0}
+IsTold (source.Types (types.Unreachable at)) = Unit {0}
+IsTold (source.Types (types.TooManyLocals at)) = Unit {0}
+IsTold (source.Types (types.Redeclared at)) = Unit {0}
+IsTold (source.Types types.NoMemory) = ⊥
+IsTold (source.Locks at) = Unit {0}
 
 abbrev pub lex_offset_of : LexFault → ℕ
 lex_offset_of (lex.BadCharacter at) = at
@@ -27,11 +48,36 @@ lex_offset_of (lex.LiteralTooLarge at) = at
 lex_offset_of (lex.NameTooLong at) = at
 lex_offset_of lex.NoMemory = 0
 
+-- the offset at which a fault of the classes is told; that no class is the one to begin with is told at the start
+abbrev pub class_offset_of : ClassFault → ℕ
+class_offset_of (class.Twice at) = at
+class_offset_of (class.UnknownClass at) = at
+class_offset_of (class.BadConstructor at) = at
+class_offset_of class.NoMain = 0
+class_offset_of (class.NoRun at) = at
+class_offset_of (class.TooMany at) = at
+class_offset_of class.NoMemory = 0
+
+-- the offset at which a fault of the types is told
+abbrev pub type_offset_of : TypeFault → ℕ
+type_offset_of (types.UnknownName at) = at
+type_offset_of (types.NoRule at) = at
+type_offset_of (types.FinalAssigned at) = at
+type_offset_of (types.NotALock at) = at
+type_offset_of (types.MissingReturn at) = at
+type_offset_of (types.Unreachable at) = at
+type_offset_of (types.TooManyLocals at) = at
+type_offset_of (types.Redeclared at) = at
+type_offset_of types.NoMemory = 0
+
 -- the offset at which the fault is told
 abbrev pub offset_of : SourceFault → ℕ
 offset_of (source.Text fault) = fault.at
 offset_of (source.Lex fault) = lex_offset_of fault
 offset_of (source.Parse fault at) = at
+offset_of (source.Class fault) = class_offset_of fault
+offset_of (source.Types fault) = type_offset_of fault
+offset_of (source.Locks at) = at
 
 -- the words for the fault
 abbrev pub lex_kind : LexFault → List ℕ
@@ -46,10 +92,36 @@ parse_kind (parse.Unexpected k) = codes "unexpected"
 parse_kind (parse.TooDeep k) = codes "too deep"
 parse_kind parse.NoMemory = codes ""
 
+abbrev pub class_kind : ClassFault → List ℕ
+class_kind (class.Twice at) = codes "declared twice"
+class_kind (class.UnknownClass at) = codes "unknown class"
+class_kind (class.BadConstructor at) = codes "bad constructor"
+class_kind class.NoMain = codes "no main"
+class_kind (class.NoRun at) = codes "no run"
+class_kind (class.TooMany at) = codes "too many"
+class_kind class.NoMemory = codes ""
+
+abbrev pub type_kind : TypeFault → List ℕ
+type_kind (types.UnknownName at) = codes "unknown name"
+type_kind (types.NoRule at) = codes "no rule"
+type_kind (types.FinalAssigned at) = codes "final assigned"
+type_kind (types.NotALock at) = codes "not a lock"
+type_kind (types.MissingReturn at) = codes "missing return"
+type_kind (types.Unreachable at) = codes "unreachable"
+type_kind (types.TooManyLocals at) = codes "too many locals"
+type_kind (types.Redeclared at) = codes "redeclared"
+type_kind types.NoMemory = codes ""
+
+abbrev pub locks_kind : List ℕ
+locks_kind = codes "too many locks"
+
 abbrev pub kind_of : SourceFault → List ℕ
 kind_of (source.Text fault) = codes "not text"
 kind_of (source.Lex fault) = lex_kind fault
 kind_of (source.Parse fault at) = parse_kind fault
+kind_of (source.Class fault) = class_kind fault
+kind_of (source.Types fault) = type_kind fault
+kind_of (source.Locks at) = locks_kind
 
 -- `refused at LINE:COLUMN: KIND`
 abbrev pub refused_line : List ℕ → ℕ → List ℕ → List ℕ

@@ -1,9 +1,12 @@
 //! The line for the first fault of a source.
 
 ghost use Rattle.std.specs.Prelude.{◌≡◌, ◌++◌, ◌≤◌, length, codes, decimal, string_bytes, IfOk, OnOk};
-ghost use Rattle.aj_report.specs.SourceFaults.{IsTold, offset_of, lex_offset_of, kind_of, source_fault_line};
+ghost use Rattle.aj_lexer.specs.Places.{line_of, column_of};
+ghost use Rattle.aj_report.specs.SourceFaults.{IsTold, offset_of, lex_offset_of, class_offset_of, type_offset_of, kind_of, lex_kind, parse_kind, class_kind, type_kind, source_fault_line};
 
-use aj_lexer::{LexFault, NotText, place_of};
+use aj_classes::ClassFault;
+use aj_elaborate::TypeFault;
+use aj_lexer::{LexFault, NotText, Place, place_of};
 use aj_parser::ParseFault;
 use itoa::Buffer;
 use std::alloc::{AllocError as NoMemory, Global};
@@ -17,6 +20,12 @@ pub enum SourceFault {
     Lex(LexFault),
     /// The tokens are those of no program. `at` is the offset of the faulty token, or the length of the text for its end.
     Parse { fault: ParseFault, at: u32 },
+    /// The program has no class table.
+    Class(ClassFault),
+    /// The program has no core program.
+    Types(TypeFault),
+    /// A method has too many relevant or local paths. `at` is the offset of its name.
+    Locks { at: u32 },
 }
 
 impl SourceFault {
@@ -28,34 +37,75 @@ impl SourceFault {
         match self {
             SourceFault::Text(fault) => fault.at,
             SourceFault::Lex(fault) => lex_offset(*fault),
-            SourceFault::Parse { at, .. } => *at,
+            SourceFault::Parse { at, .. } | SourceFault::Locks { at } => *at,
+            SourceFault::Class(fault) => class_offset(*fault),
+            SourceFault::Types(fault) => type_offset(*fault),
         }
     }
 
     fn kind(&self) -> &'static str
-        requires { IsTold self.now }
         ensures { result.now ≡ kind_of self.now }
     {
         match self {
             SourceFault::Text(_) => "not text",
-            SourceFault::Lex(LexFault::BadCharacter(_)) => "bad character",
-            SourceFault::Lex(LexFault::OpenComment(_)) => "open comment",
-            SourceFault::Lex(LexFault::LiteralTooLarge(_)) => "literal too large",
-            SourceFault::Lex(LexFault::NameTooLong(_)) => "name too long",
-            SourceFault::Lex(LexFault::NoMemory) => unreachable!(),
-            SourceFault::Parse {
-                fault: ParseFault::Unexpected(_),
-                ..
-            } => "unexpected",
-            SourceFault::Parse {
-                fault: ParseFault::TooDeep(_),
-                ..
-            } => "too deep",
-            SourceFault::Parse {
-                fault: ParseFault::NoMemory,
-                ..
-            } => unreachable!(),
+            SourceFault::Lex(fault) => lex_kind(*fault),
+            SourceFault::Parse { fault, .. } => parse_kind(*fault),
+            SourceFault::Class(fault) => class_kind(*fault),
+            SourceFault::Types(fault) => type_kind(*fault),
+            SourceFault::Locks { .. } => "too many locks",
         }
+    }
+}
+
+fn lex_kind(fault: LexFault) -> &'static str
+    ensures { result.now ≡ lex_kind fault }
+{
+    match fault {
+        LexFault::BadCharacter(_) => "bad character",
+        LexFault::OpenComment(_) => "open comment",
+        LexFault::LiteralTooLarge(_) => "literal too large",
+        LexFault::NameTooLong(_) => "name too long",
+        LexFault::NoMemory => "",
+    }
+}
+
+fn parse_kind(fault: ParseFault) -> &'static str
+    ensures { result.now ≡ parse_kind fault }
+{
+    match fault {
+        ParseFault::Unexpected(_) => "unexpected",
+        ParseFault::TooDeep(_) => "too deep",
+        ParseFault::NoMemory => "",
+    }
+}
+
+fn class_kind(fault: ClassFault) -> &'static str
+    ensures { result.now ≡ class_kind fault }
+{
+    match fault {
+        ClassFault::Twice(_) => "declared twice",
+        ClassFault::UnknownClass(_) => "unknown class",
+        ClassFault::BadConstructor(_) => "bad constructor",
+        ClassFault::NoMain => "no main",
+        ClassFault::NoRun(_) => "no run",
+        ClassFault::TooMany(_) => "too many",
+        ClassFault::NoMemory => "",
+    }
+}
+
+fn type_kind(fault: TypeFault) -> &'static str
+    ensures { result.now ≡ type_kind fault }
+{
+    match fault {
+        TypeFault::UnknownName(_) => "unknown name",
+        TypeFault::NoRule(_) => "no rule",
+        TypeFault::FinalAssigned(_) => "final assigned",
+        TypeFault::NotALock(_) => "not a lock",
+        TypeFault::MissingReturn(_) => "missing return",
+        TypeFault::Unreachable(_) => "unreachable",
+        TypeFault::TooManyLocals(_) => "too many locals",
+        TypeFault::Redeclared(_) => "redeclared",
+        TypeFault::NoMemory => "",
     }
 }
 
@@ -71,6 +121,44 @@ fn lex_offset(fault: LexFault) -> u32
     }
 }
 
+fn class_offset(fault: ClassFault) -> u32
+    ensures { result ≡ class_offset_of fault }
+{
+    match fault {
+        ClassFault::Twice(at)
+        | ClassFault::UnknownClass(at)
+        | ClassFault::BadConstructor(at)
+        | ClassFault::NoRun(at)
+        | ClassFault::TooMany(at) => at,
+        ClassFault::NoMain | ClassFault::NoMemory => 0,
+    }
+}
+
+fn type_offset(fault: TypeFault) -> u32
+    ensures { result ≡ type_offset_of fault }
+{
+    match fault {
+        TypeFault::UnknownName(at)
+        | TypeFault::NoRule(at)
+        | TypeFault::FinalAssigned(at)
+        | TypeFault::NotALock(at)
+        | TypeFault::MissingReturn(at)
+        | TypeFault::Unreachable(at)
+        | TypeFault::TooManyLocals(at)
+        | TypeFault::Redeclared(at) => at,
+        TypeFault::NoMemory => 0,
+    }
+}
+
+/// The place of an offset in a text; one past the text's end stands at the end.
+fn place_in(text: &str, at: u32) -> Place
+    requires { length text.now ≤ 262144 }
+    ensures line { result.line ≡ line_of text.now at }
+    ensures column { result.column ≡ column_of text.now at }
+{
+    place_of(text, at.min(text.len() as u32))
+}
+
 fn write_number(line: &mut String, number: u32) -> Result<(), NoMemory>
     ensures { OnOk result (string_bytes line.new ≡ string_bytes line.old ++ decimal number) }
 {
@@ -82,10 +170,9 @@ fn write_number(line: &mut String, number: u32) -> Result<(), NoMemory>
 pub fn source_fault_text(alloc: Global, text: &str, fault: &SourceFault) -> Result<String, NoMemory>
     requires small { length text.now ≤ 262144 }
     requires told { IsTold fault.now }
-    requires within { offset_of fault.now ≤ length text.now }
     ensures { IfOk result (λ line. string_bytes line ≡ source_fault_line text.now fault.now) }
 {
-    let place = place_of(text, fault.at());
+    let place = place_in(text, fault.at());
     let mut line = String::from_str(alloc, "refused at ")?;
     write_number(&mut line, place.line)?;
     line.push_str(":")?;

@@ -1,9 +1,11 @@
 //! The lines of faults.
 
 ghost use Rattle.std.specs.Prelude.{◌≤◌, length};
-ghost use Rattle.aj_report.specs.SourceFaults.{IsTold, offset_of};
+ghost use Rattle.aj_report.specs.SourceFaults.{IsTold};
 
 use crate::{SourceFault, source_fault_text};
+use aj_classes::ClassFault;
+use aj_elaborate::TypeFault;
 use aj_lexer::{LexFault, NotText};
 use aj_parser::ParseFault;
 use std::alloc::Global;
@@ -19,7 +21,6 @@ fn expect(
 ) -> Result<(), Fail>
     requires small { length text.now ≤ 262144 }
     requires told { IsTold fault }
-    requires within { offset_of fault ≤ length text.now }
 {
     assert_eq!(rt; source_fault_text(alloc, text, &fault)?.as_str(), line);
     Ok(())
@@ -83,5 +84,26 @@ fn each_fault_has_its_line(rt: HostRuntime) -> Result<(), Fail> {
             at: 6,
         },
         "refused at 1:7: too deep\n",
+    )?;
+    expect(
+        &rt,
+        alloc,
+        text,
+        SourceFault::Class(ClassFault::NoMain),
+        "refused at 1:1: no main\n",
+    )?;
+    expect(
+        &rt,
+        alloc,
+        text,
+        SourceFault::Types(TypeFault::NoRule(8)),
+        "refused at 2:1: no rule\n",
+    )?;
+    expect(
+        &rt,
+        alloc,
+        text,
+        SourceFault::Locks { at: 99 },
+        "refused at 2:4: too many locks\n",
     )
 }

@@ -1,42 +1,15 @@
--- From the verdict on a source to the answer to a file, and which status comes for it.
-use Rattle.std.proofs.Common.{◌≡◌, ℕ, ◌≤◌, ◌<◌, List, length, Option, Some, None, Result, Ok, Err, IfOk, refl, sym, subst, ap, ◌∙◌, arith, inl, inr, ◌⊎◌, string_bytes, map}
-use Rattle.aj_lexer.specs.declared.tokens.Token.{Token}
-use Rattle.atomic_cli.specs.declared.judge.Outcome.{Outcome}
-use Rattle.atomic_cli.specs.Shape.{shape_of}
-use Rattle.atomic_cli.specs.Small.{Program, IsClass}
-use Rattle.atomic_cli.specs.Rules.{IsAccepted}
-use Rattle.atomic_cli.specs.Lines.{not_built_line}
-use Rattle.atomic_cli.specs.Answer.{Row, CheckFile, PrintFile, IsSmall, IsNotSmall, Verdict, Answer, refused, accepted, too_large, no_program, not_built, judged, printed, Yields, Exactly, IsExact}
+-- Which status comes for the answer to a file.
+use Rattle.std.proofs.Common.{◌≡◌, ℕ, ◌≤◌, ◌<◌, List, length, refl, subst, arith, inl, inr}
 use Rattle.aj_syntax.specs.Trees.{ProgramTree}
-use Rattle.atomic_cli.specs.Refusals.{IsProgram, Refused}
-use Rattle.atomic_cli.specs.Sources.{IsClassOf}
+use Rattle.aj_classes.specs.Table.{TableData}
+use Rattle.aj_core.specs.Core.{Program}
+use Rattle.aj_rules.specs.Rules.{IsAccepted}
+use Rattle.atomic_cli.specs.Answer.{Row, CheckFile, PrintFile, Answer, too_large, no_program, ill_formed, judged, printed, Yields, Exactly, IsExact, IsNotWellFormed}
+use Rattle.atomic_cli.specs.Refusals.{Refused}
+use Rattle.atomic_cli.specs.Checking.{HasCore, IsWellFormedSource, IsIllFormed}
+use Rattle.atomic_cli.specs.Verdicts.{Verdict, broken, kept}
 use Rattle.atomic_cli.proofs.Refusing.{refused_is_none}
-use Rattle.aj_lexer.proofs.Unique.{one_list}
-use Rattle.atomic_cli.proofs.Classes.{one_class}
-
--- a program whose tokens are a well-formed class is a small source
-pub small : (file : List ℕ) (tokens : List Token) (tree : ProgramTree) (p : Program) → IsProgram file tokens tree → IsClassOf (map shape_of tokens) (Some p) → IsSmall file p
-small file tokens tree p is c = record { tokens = tokens; tree = tree; program = is; is_class = c.0; well_formed = c.1 }
-
-pub not_small : (file : List ℕ) (tokens : List Token) (tree : ProgramTree) → IsProgram file tokens tree → IsClassOf (map shape_of tokens) None → IsNotSmall file
-not_small file tokens tree is none = λ p s. none p (subst (λ ts. IsClass (map shape_of ts) p) (one_list s.program.cut is.cut) s.is_class) s.well_formed
-
-pub from_verdict : {E : Type 0} (file : List ℕ) (p : Program) (r : Result Outcome E) → length file ≤ 262144 → IsSmall file p → IfOk r (λ o. Verdict p o.status (string_bytes o.text))
-    → IfOk r (λ o. (name : List ℕ) → Answer file (CheckFile name) o.status (string_bytes o.text))
-from_verdict file p (Ok o) len s v = λ name. judged len p s v
-from_verdict file p (Err e) len s v = tt
-
-pub from_nothing : {E : Type 0} (file : List ℕ) (tokens : List Token) (tree : ProgramTree) (r : Result Outcome E) → length file ≤ 262144 → IsProgram file tokens tree → IsNotSmall file
-    → IfOk r (λ o. o.status ≡ 1) → IfOk r (λ o. string_bytes o.text ≡ not_built_line) → IfOk r (λ o. (name : List ℕ) → Answer file (CheckFile name) o.status (string_bytes o.text))
-from_nothing file tokens tree (Ok o) len is none status text = λ name. subst (λ n. Answer file (CheckFile name) n (string_bytes o.text)) (sym status) (subst (Answer file (CheckFile name) 1) (sym text) (not_built len tokens tree is none))
-from_nothing file tokens tree (Err e) len is none status text = tt
-
--- Which status comes.
-
-pub one_source : (file : List ℕ) (p q : Program) → IsSmall file p → IsSmall file q → p ≡ q
-one_source file p q s t =
-    let same = one_list s.program.cut t.program.cut in
-    one_class (map shape_of t.tokens) p q (subst (λ ts. IsClass (map shape_of ts) p) same s.is_class) s.well_formed t.is_class t.well_formed
+use Rattle.atomic_cli.proofs.Sources.{same_core, ill_formed_is_none}
 
 -- a status that comes has its fact, and no other status has
 never : (result status : ℕ) (fact : Type 0) → (result ≡ status → ⊥) → (fact → ⊥) → Exactly result status fact
@@ -45,10 +18,20 @@ never result status fact n m = record { only = λ e. absurd (n e); all = λ f. a
 always : (status : ℕ) (fact : Type 0) → fact → Exactly status status fact
 always status fact f = record { only = λ _. f; all = λ _. inl refl }
 
-no_class : (file line : List ℕ) → Refused file line → IsNotSmall file
-no_class file line told = λ p s. refused_is_none file line told s.tokens s.tree s.program
+-- a program is accepted where it is the core program of an accepted source
+accepted_as : (file : List ℕ) (t u : ProgramTree) (P Q : Program) → HasCore file t P → HasCore file u Q → IsAccepted P → IsAccepted Q
+accepted_as file t u P Q p q is = subst IsAccepted (same_core file t u P Q p q) is
 
--- a source that is too large, or no program
+-- an accepted source is well-formed
+well_formed_as : (file : List ℕ) (tree : ProgramTree) (P : Program) → HasCore file tree P → IsAccepted P → IsWellFormedSource file tree P
+well_formed_as file tree P core is = record { has_core = core; well_formed = (is.sets, is.relevant, is.few) }
+
+no_core : (file line : List ℕ) → Refused file line → IsNotWellFormed file
+no_core file line told = λ tree P is. refused_is_none file line told is.has_core.tokens tree is.has_core.program
+
+no_source : (file line : List ℕ) → IsIllFormed file line → IsNotWellFormed file
+no_source file line ill = λ tree P is. ill_formed_is_none file line tree P ill is
+
 too_large_is : (file : List ℕ) (row : Row) → 262144 < length file → IsExact file row 10
 too_large_is file row len = record {
   too_large = always 10 _ len;
@@ -57,13 +40,17 @@ too_large_is file row len = record {
   done = never 10 0 _ (λ e. cc) (λ f. omega (arith, f.0));
 }
 
-no_program_is : (file line : List ℕ) (row : Row) → length file ≤ 262144 → Refused file line → IsExact file row 1
-no_program_is file line (CheckFile name) len told = record {
+-- a source that isn't well-formed is refused
+ill_formed_is : (file name : List ℕ) → length file ≤ 262144 → IsNotWellFormed file → IsExact file (CheckFile name) 1
+ill_formed_is file name len none = record {
   too_large = never 1 10 _ (λ e. cc) (λ f. omega arith);
-  refused = always 1 _ (len, no_class file line told);
-  inadmissible = never 1 2 _ (λ e. cc) (λ f. no_class file line told f.1.0 f.1.1);
-  done = never 1 0 _ (λ e. cc) (λ f. no_class file line told f.1.0 f.1.1);
+  refused = always 1 _ (len, none);
+  inadmissible = never 1 2 _ (λ e. cc) (λ f. none f.1.0 f.1.1 f.1.2);
+  done = never 1 0 _ (λ e. cc) (λ f. none f.1.0 f.1.1 (well_formed_as file f.1.0 f.1.1 f.1.2 f.1.3));
 }
+
+no_program_is : (file line : List ℕ) (row : Row) → length file ≤ 262144 → Refused file line → IsExact file row 1
+no_program_is file line (CheckFile name) len told = ill_formed_is file name len (no_core file line told)
 no_program_is file line (PrintFile name) len told = record {
   too_large = never 1 10 _ (λ e. cc) (λ f. omega arith);
   refused = always 1 _ (len, refused_is_none file line told);
@@ -71,30 +58,25 @@ no_program_is file line (PrintFile name) len told = record {
   done = never 1 0 _ (λ e. cc) (λ f. refused_is_none file line told f.1.0 f.1.1 f.1.2);
 }
 
-verdict_is : (file name : List ℕ) (status : ℕ) (text : List ℕ) → length file ≤ 262144 → (p : Program) → IsSmall file p → Verdict p status text → IsExact file (CheckFile name) status
-verdict_is file name _ _ len p s (refused none broken) = record {
+verdict_is : (file name : List ℕ) (t : TableData) (status : ℕ) (text : List ℕ) → length file ≤ 262144 → (tree : ProgramTree) (P : Program) → IsWellFormedSource file tree P → Verdict t P status text → IsExact file (CheckFile name) status
+verdict_is file name t _ _ len tree P is (broken sets A least none first all) = record {
   too_large = never 2 10 _ (λ e. cc) (λ f. omega arith);
-  refused = never 2 1 _ (λ e. cc) (λ f. f.1 p s);
-  inadmissible = always 2 _ (len, (p, s, none));
-  done = never 2 0 _ (λ e. cc) (λ f. none (subst IsAccepted (one_source file f.1.0 p f.1.1 s) f.1.2));
+  refused = never 2 1 _ (λ e. cc) (λ f. f.1 tree P is);
+  inadmissible = always 2 _ (len, (tree, P, is, none));
+  done = never 2 0 _ (λ e. cc) (λ f. none (accepted_as file f.1.0 tree f.1.1 P f.1.2 is.has_core f.1.3));
 }
-verdict_is file name _ text len p s (accepted is report) = record {
+verdict_is file name t _ _ len tree P is (kept sets A trees least accepted show) = record {
   too_large = never 0 10 _ (λ e. cc) (λ f. omega arith);
-  refused = never 0 1 _ (λ e. cc) (λ f. f.1 p s);
-  inadmissible = never 0 2 _ (λ e. cc) (λ f. f.1.2 (subst IsAccepted (one_source file p f.1.0 s f.1.1) is));
-  done = always 0 _ (len, (p, s, is));
+  refused = never 0 1 _ (λ e. cc) (λ f. f.1 tree P is);
+  inadmissible = never 0 2 _ (λ e. cc) (λ f. f.1.3 (accepted_as file tree f.1.0 P f.1.1 is.has_core f.1.2.has_core accepted));
+  done = always 0 _ (len, (tree, P, is.has_core, accepted));
 }
 
 pub exact_answer : (file : List ℕ) (row : Row) (status : ℕ) (text : List ℕ) → Answer file row status text → IsExact file row status
 exact_answer file _ _ _ (too_large row len) = too_large_is file row len
 exact_answer file _ _ text (no_program row len told) = no_program_is file text row len told
-exact_answer file _ _ _ (not_built {name = name} len tokens tree is none) = record {
-  too_large = never 1 10 _ (λ e. cc) (λ f. omega arith);
-  refused = always 1 _ (len, none);
-  inadmissible = never 1 2 _ (λ e. cc) (λ f. none f.1.0 f.1.1);
-  done = never 1 0 _ (λ e. cc) (λ f. none f.1.0 f.1.1);
-}
-exact_answer file _ status text (judged {name = name} len p s v) = verdict_is file name status text len p s v
+exact_answer file _ _ line (ill_formed {name = name} len ill) = ill_formed_is file name len (no_source file line ill)
+exact_answer file _ status text (judged {name = name} len tree P is v) = verdict_is file name _ status text len tree P is v
 exact_answer file _ _ _ (printed {name = name} len tokens tree is again) = record {
   too_large = never 0 10 _ (λ e. cc) (λ f. omega arith);
   refused = never 0 1 _ (λ e. cc) (λ f. f.1 tokens tree is);

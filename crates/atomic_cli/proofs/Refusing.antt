@@ -1,19 +1,16 @@
 -- A file that is refused is no program, and how each refusal is told.
-use Rattle.std.proofs.Common.{◌≡◌, ℕ, ◌≤◌, ◌<◌, List, [], ◌∷◌, ◌++◌, length, take, refl, sym, subst, ap, ◌∙◌, arith, suc, zero, IsUtf8}
-use Rattle.std.specs.Str.{IsValidUpTo}
+use Rattle.std.proofs.Common.{ℕ, ◌≤◌, List, [], ◌∷◌, length, refl, sym, subst, arith, suc, zero, IsUtf8}
 use Rattle.std.proofs.lemmas.List.{take_all}
 use Rattle.aj_lexer.specs.declared.tokens.Token.{Token}
 use Rattle.aj_lexer.specs.declared.faults.LexFault.{LexFault}
 use Rattle.aj_lexer.specs.declared.faults.LexFault.TheVariants as fault
-use Rattle.aj_lexer.specs.Tokens.{Tokens, FirstFault, FaultFrom}
+use Rattle.aj_lexer.specs.Tokens.{FirstFault}
 use Rattle.aj_lexer.proofs.Laying.{no_memory_fault}
 use Rattle.aj_lexer.proofs.Unique.{one_list, never_both}
-use Rattle.aj_syntax.specs.Faults.{Through, IsUnexpected, IsTooDeep}
-use Rattle.aj_syntax.specs.Trees.{ProgramTree}
-use Rattle.aj_syntax.specs.Heights.{highest_body}
+use Rattle.aj_syntax.specs.Faults.{Through}
 use Rattle.aj_report.specs.declared.source_fault.SourceFault.TheVariants as source
-use Rattle.aj_report.specs.SourceFaults.{IsTold, lex_offset_of, lex_kind, refused_line}
-use Rattle.atomic_cli.specs.Refusals.{IsProgram, IsNoProgram, Refused, not_text, no_tokens, unexpected, too_deep, token_offset}
+use Rattle.aj_report.specs.SourceFaults.{IsTold}
+use Rattle.atomic_cli.specs.Refusals.{IsNoProgram, Refused, not_text, no_tokens, unexpected, too_deep}
 
 pub lex_told : (text : List ℕ) (its : LexFault) → FirstFault text its → IsTold (source.Lex its)
 lex_told text (fault.BadCharacter at) f = tt

@@ -1,8 +1,6 @@
 -- What the clauses of the top call say, from what was said and what was answered.
-use Rattle.std.proofs.Common.{◌≡◌, ℕ, ◌≤◌, ◌<◌, List, [], ◌∷◌, Option, Some, refl, sym, subst, ap, ◌∙◌, arith, inl, inr, ◌⊎◌}
-use Rattle.std.specs.Io.KnownBytes.{Appends}
+use Rattle.std.proofs.Common.{◌≡◌, ℕ, List, [], ◌∷◌, Option, Some, sym, subst, ap, ◌∙◌, arith, inl, inr, ◌⊎◌}
 use Rattle.aj_edge.specs.Faults.{Rose}
-use Rattle.aj_edge.specs.Pieces.{AppendsFront}
 use Rattle.atomic_cli.specs.Lines.{cannot_read_line}
 use Rattle.atomic_cli.specs.Answer.{Row, CheckFile, PrintFile, words_of, file_of, Answer, Yields, IsExact}
 use Rattle.atomic_cli.specs.Said.{Says, WritesAnswer, WritesFront}

@@ -1,15 +1,16 @@
 -- The words that the program knows, and what it answers to them, for the bytes of the file that they name.
-use Rattle.std.specs.Prelude.{◌≡◌, ℕ, ◌≤◌, ◌<◌, List, [], ◌∷◌, map, codes, ◌⊎◌, length}
+use Rattle.std.specs.Prelude.{◌≡◌, ℕ, ◌≤◌, ◌<◌, List, [], ◌∷◌, codes, ◌⊎◌, length}
 use Rattle.aj_lexer.specs.declared.tokens.Token.{Token}
 use Rattle.aj_syntax.specs.Printing.{canonical}
 use Rattle.aj_syntax.specs.Reprinted.{ReadsBack}
 use Rattle.aj_syntax.specs.Trees.{ProgramTree}
-use Rattle.aj_algebra.specs.declared.basic.Basic.{Basic}
-use Rattle.atomic_cli.specs.Shape.{shape_of}
-use Rattle.atomic_cli.specs.Small.{Program, IsClass, IsWellFormed}
+use Rattle.aj_classes.specs.Table.{table_of}
+use Rattle.aj_core.specs.Core.{Program}
+use Rattle.aj_rules.specs.Rules.{IsAccepted}
 use Rattle.atomic_cli.specs.Refusals.{IsProgram, IsNoProgram, Refused}
-use Rattle.atomic_cli.specs.Rules.{IsAccepted, IsFirstBroken}
-use Rattle.atomic_cli.specs.Lines.{too_large_line, not_built_line, broken_line, IsReport}
+use Rattle.atomic_cli.specs.Checking.{HasCore, IsWellFormedSource, IsIllFormed}
+use Rattle.atomic_cli.specs.Verdicts.{Verdict}
+use Rattle.atomic_cli.specs.Lines.{too_large_line}
 
 -- the rows of words that are built, each with the name of its file
 pub data Row : Type 0 where
@@ -28,29 +29,12 @@ file_of (PrintFile name) = name
 abbrev pub IsNoRow : List (List ℕ) → Type 0
 IsNoRow words = (row : Row) → words ≡ words_of row → ⊥
 
--- the bytes are a program of the grammar that is a small source
-pub record IsSmall (file : List ℕ) (p : Program) : Type 0 where
-  pub tokens : List Token
-  pub tree : ProgramTree
-  pub program : IsProgram file tokens tree
-  pub is_class : IsClass (map shape_of tokens) p
-  pub well_formed : IsWellFormed p
-
-abbrev pub IsNotSmall : List ℕ → Type 0
-IsNotSmall file = (p : Program) → IsSmall file p → ⊥
-
--- the status and the text that belong to a small source: the first broken bound, or the least tables
-pub data Verdict (p : Program) : ℕ → List ℕ → Type 0 where
-  refused : {method : List ℕ} {declared found : Basic} → (IsAccepted p → ⊥) → IsFirstBroken p method declared found → Verdict p 2 (broken_line method declared found)
-  accepted : {text : List ℕ} → IsAccepted p → IsReport p.fields p.methods text → Verdict p 0 text
-
 -- the status and the text that belong to a row and the bytes of its file
 pub data Answer (file : List ℕ) : Row → ℕ → List ℕ → Type 0 where
   too_large : (row : Row) → 262144 < length file → Answer file row 10 (too_large_line (file_of row))
   no_program : {line : List ℕ} (row : Row) → length file ≤ 262144 → Refused file line → Answer file row 1 line
-  not_built : {name : List ℕ} → length file ≤ 262144 → (tokens : List Token) (tree : ProgramTree) → IsProgram file tokens tree → IsNotSmall file
-      → Answer file (CheckFile name) 1 not_built_line
-  judged : {name : List ℕ} {status : ℕ} {text : List ℕ} → length file ≤ 262144 → (p : Program) → IsSmall file p → Verdict p status text
+  ill_formed : {name line : List ℕ} → length file ≤ 262144 → IsIllFormed file line → Answer file (CheckFile name) 1 line
+  judged : {name : List ℕ} {status : ℕ} {text : List ℕ} → length file ≤ 262144 → (tree : ProgramTree) (P : Program) → IsWellFormedSource file tree P → Verdict (table_of tree) P status text
       → Answer file (CheckFile name) status text
   -- the canonical text of the tree, which reads back as that tree but for offsets
   printed : {name : List ℕ} → length file ≤ 262144 → (tokens : List Token) (tree : ProgramTree) → IsProgram file tokens tree → ReadsBack (canonical tree) tree
@@ -65,19 +49,31 @@ pub record Exactly (result status : ℕ) (fact : Type 0) : Type 0 where
   pub only : result ≡ status → fact
   pub all : fact → (result ≡ status) ⊎ Yields result
 
--- the source is refused as it stands: for `check` it is no small source, for `print` no program of the grammar
+-- the bytes are no well-formed source
+abbrev pub IsNotWellFormed : List ℕ → Type 0
+IsNotWellFormed file = (tree : ProgramTree) (P : Program) → IsWellFormedSource file tree P → ⊥
+
+-- the bytes are a well-formed source for which no assignment is admissible
+abbrev pub HasNoAssignment : List ℕ → Type 0
+HasNoAssignment file = (tree : ProgramTree) × (P : Program) × IsWellFormedSource file tree P × (IsAccepted P → ⊥)
+
+-- the bytes are an accepted source: a well-formed one for which some assignment is admissible
+abbrev pub IsAcceptedSource : List ℕ → Type 0
+IsAcceptedSource file = (tree : ProgramTree) × (P : Program) × HasCore file tree P × IsAccepted P
+
+-- the source is refused as it stands
 abbrev pub IsRefused : List ℕ → Row → Type 0
-IsRefused file (CheckFile name) = IsNotSmall file
+IsRefused file (CheckFile name) = IsNotWellFormed file
 IsRefused file (PrintFile name) = IsNoProgram file
 
 -- no assignment is admissible
 abbrev pub IsInadmissible : List ℕ → Row → Type 0
-IsInadmissible file (CheckFile name) = (p : Program) × IsSmall file p × (IsAccepted p → ⊥)
+IsInadmissible file (CheckFile name) = HasNoAssignment file
 IsInadmissible file (PrintFile name) = ⊥
 
 -- the command can be done
 abbrev pub IsDone : List ℕ → Row → Type 0
-IsDone file (CheckFile name) = (p : Program) × IsSmall file p × IsAccepted p
+IsDone file (CheckFile name) = IsAcceptedSource file
 IsDone file (PrintFile name) = (tokens : List Token) × (tree : ProgramTree) × IsProgram file tokens tree
 
 -- which status comes for a row and the bytes of its file

@@ -1,13 +1,9 @@
-pub mod Shape
-pub mod Small
-pub mod Views
-pub mod Reading
-pub mod Gives
-pub mod Rules
 pub mod Lines
 pub mod Refusals
+pub mod Checking
+pub mod Stages
+pub mod Verdicts
 pub mod Answer
-pub mod Tables
 pub mod Sources
 pub mod Said
 pub mod Commands

@@ -1,5 +1,5 @@
 -- Why a source has no tree, and the line that says so.
-use Rattle.std.specs.Prelude.{◌≡◌, ℕ, ◌≤◌, List, length, take, Option, Some, None, IsUtf8, codes, slice_get}
+use Rattle.std.specs.Prelude.{ℕ, List, length, take, Option, Some, None, IsUtf8, codes, slice_get}
 use Rattle.std.specs.Str.{IsValidUpTo}
 use Rattle.aj_lexer.specs.declared.tokens.Token.{Token}
 use Rattle.aj_lexer.specs.declared.faults.LexFault.{LexFault}

@@ -1,19 +1,22 @@
 //! Judges and prints the bytes of a source.
 
-ghost use Rattle.std.specs.Prelude.{◌≡◌, ◌≤◌, ◌<◌, ℕ, List, length, map, IfOk, string_bytes, option_map};
-ghost use Rattle.atomic_cli.specs.Shape.{shape_of};
-ghost use Rattle.atomic_cli.specs.Views.{program_of};
-ghost use Rattle.atomic_cli.specs.Answer.{Answer, Verdict, CheckFile, PrintFile};
-ghost use Rattle.atomic_cli.specs.Lines.{not_built_line};
-ghost use Rattle.atomic_cli.specs.Sources.{IsClassOf};
+ghost use Rattle.std.specs.Prelude.{◌≡◌, ◌++◌, ◌≤◌, ◌<◌, ◌^◌, ℕ, List, length, map, IfOk, OnOk, string_bytes};
+ghost use Rattle.aj_classes.specs.Views.{table_data};
+ghost use Rattle.aj_cond.specs.Conditions.{cond_of};
+ghost use Rattle.aj_core.specs.Typed.{IsTyped};
+ghost use Rattle.aj_core.specs.Views.{program_of};
+ghost use Rattle.aj_report.specs.Verdicts.{atomicity_line};
+ghost use Rattle.aj_rules.specs.Near.{AreRelevant, AreFew};
+ghost use Rattle.atomic_cli.specs.Answer.{Answer, CheckFile, PrintFile};
+ghost use Rattle.atomic_cli.specs.Verdicts.{Verdict, report_from};
 
-use crate::lines::{NOT_BUILT, broken_line, report};
-use crate::small::conditions::meets_conditions;
-use crate::small::read::{Stop, class_main};
-use crate::small::rules::first_broken;
-use crate::small::tree::Program;
+use crate::checking::{Checked, Refusal, check_tree};
 use crate::source::{Reading, read_source};
-use aj_lexer::Token;
+use aj_classes::ClassTable;
+use aj_cond::{Tree, Trees};
+use aj_infer::{infer, verdict};
+use aj_paths::MethodId;
+use aj_report::{atomicity_text, broken_text};
 use aj_syntax::print_program;
 use std::alloc::{AllocError as NoMemory, Global};
 
@@ -24,47 +27,52 @@ pub struct Outcome {
     pub text: String,
 }
 
-/// The one well-formed class that the tokens are, if they are one.
-fn well_formed_class(alloc: Global, tokens: &[Token]) -> Result<Option<Program>, NoMemory>
-    ensures { IfOk result (λ p. IsClassOf (map shape_of tokens.now) (option_map program_of p)) }
+/// Writes the line of a method, with its tree.
+fn write_line(
+    alloc: Global,
+    text: &mut String,
+    table: &ClassTable,
+    method: MethodId,
+    tree: &Tree,
+) -> Result<(), NoMemory>
+    ensures { OnOk result (string_bytes text.new ≡ string_bytes text.old ++ atomicity_line (table_data table.now) method (cond_of tree.now)) }
 {
-    match class_main(alloc, tokens) {
-        Ok(program) => {
-            if meets_conditions(alloc, &program)? {
-                Ok(Some(program))
-            } else {
-                Ok(None)
-            }
-        }
-        Err(Stop::NotSmall) => Ok(None),
-        Err(Stop::NoMemory) => Err(NoMemory),
-    }
+    let line = atomicity_text(alloc, table, method, tree)?;
+    text.push_str(line.as_str())
 }
 
-fn verdict(alloc: Global, program: &Program) -> Result<Outcome, NoMemory>
-    ensures verdict { IfOk result (λ o. Verdict (program_of program.now) o.status (string_bytes o.text)) }
+/// A line for each method, with its tree.
+fn report(alloc: Global, table: &ClassTable, trees: &[Tree]) -> Result<String, NoMemory>
+    requires { length trees.now ≤ 2 ^ 32 }
+    ensures { IfOk result (λ text. string_bytes text ≡ report_from (table_data table.now) 0 (map cond_of trees.now)) }
+{
+    let mut text = String::new(alloc);
+    for (m, tree) in trees.iter().enumerate() {
+        write_line(alloc, &mut text, table, MethodId(m as u32), tree)?;
+    }
+    Ok(text)
+}
+
+/// Judges a well-formed source: whether its least closed assignment keeps every bound.
+fn judge_source(alloc: Global, source: &Checked) -> Result<Outcome, NoMemory>
+    requires typed { IsTyped (program_of source.now.program) }
+    requires relevant { AreRelevant (program_of source.now.program) source.now.sets }
+    requires few { AreFew source.now.sets }
+    ensures verdict { IfOk result (λ o. Verdict (table_data source.now.table) (program_of source.now.program) o.status (string_bytes o.text)) }
     ensures status { IfOk result (λ o. o.status < 3) }
 {
-    match first_broken(program) {
-        Some(broken) => Ok(Outcome {
-            status: 2,
-            text: broken_line(alloc, &broken)?,
-        }),
-        None => Ok(Outcome {
+    let mut trees = Trees::new();
+    let inferred = infer(alloc, &source.program, &source.sets, &mut trees)?;
+    match verdict(&source.program, &inferred, &trees) {
+        Ok(()) => Ok(Outcome {
             status: 0,
-            text: report(alloc, program)?,
+            text: report(alloc, &source.table, inferred.methods.as_slice())?,
+        }),
+        Err(broken) => Ok(Outcome {
+            status: 2,
+            text: broken_text(alloc, &source.table, &broken)?,
         }),
     }
-}
-
-fn not_built(alloc: Global) -> Result<Outcome, NoMemory>
-    ensures status { IfOk result (λ o. o.status ≡ 1) }
-    ensures text { IfOk result (λ o. string_bytes o.text ≡ not_built_line) }
-{
-    Ok(Outcome {
-        status: 1,
-        text: String::from_str(alloc, NOT_BUILT)?,
-    })
 }
 
 /// Judges a source of at most 262,144 bytes.
@@ -73,13 +81,13 @@ pub fn judge(alloc: Global, bytes: &[u8]) -> Result<Outcome, NoMemory>
     ensures answer { IfOk result (λ o. (name : List ℕ) → Answer bytes.now (CheckFile name) o.status (string_bytes o.text)) }
     ensures status { IfOk result (λ o. o.status < 3) }
 {
-    let tokens = match read_source(alloc, bytes)? {
-        Reading::NoProgram(text) => return Ok(Outcome { status: 1, text }),
-        Reading::Program(tokens, _tree) => tokens,
-    };
-    match well_formed_class(alloc, tokens.as_slice())? {
-        Some(program) => verdict(alloc, &program),
-        None => not_built(alloc),
+    match read_source(alloc, bytes)? {
+        Reading::NoProgram(text) => Ok(Outcome { status: 1, text }),
+        Reading::Program(_tokens, tree) => match check_tree(alloc, bytes, &tree) {
+            Ok(source) => judge_source(alloc, &source),
+            Err(Refusal::Line(text)) => Ok(Outcome { status: 1, text }),
+            Err(Refusal::NoMemory) => Err(NoMemory),
+        },
     }
 }
 

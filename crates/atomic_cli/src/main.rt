@@ -1,11 +1,11 @@
 //! The program `atomic`: the words of the command line, real files and standard output, and the exit status.
 #![tactic(auto)]
 
+mod checking;
 mod command;
 mod judge;
 mod lines;
 mod run;
-mod small;
 mod source;
 #[cfg(test)]
 mod tests;

@@ -2,6 +2,7 @@
 
 use crate::run::run;
 use aj_edge::{MemFolder, MemSink};
+use itoa::Buffer;
 use std::alloc::Global;
 use std::process::Abort;
 use std::test::Fail;
@@ -64,15 +65,161 @@ fn with_body(alloc: Global, before: &str, times: u32, after: &str) -> Result<Str
     Ok(source)
 }
 
+/// The counter program: a cell, workers that raise it, and a `main` that starts two of them. More members of the cell,
+/// more statements of `main` and more classes may be put in.
+fn counter(alloc: Global, in_cell: &str, in_main: &str, behind: &str) -> Result<String, Fail> {
+    let mut source = String::from_str(
+        alloc,
+        "class Cell { int v guarded_by this; atomic void inc() { synchronized (this) { this.v = this.v + 1; } } ",
+    )?;
+    source.push_str(in_cell)?;
+    source.push_str(
+        "} class W implements Runnable { final Cell c; W(Cell c) { this.c = c; } public void run() { this.c.inc(); } } \
+        class Main { void main() { final Cell c = new Cell(); new Thread(new W(c)).start(); new Thread(new W(c)).start(); ",
+    )?;
+    source.push_str(in_main)?;
+    source.push_str("} } ")?;
+    source.push_str(behind)?;
+    Ok(source)
+}
+
 #[test]
-fn check_judges_small_sources(rt: HostRuntime) -> Result<(), Fail> {
-    let rows: [(&str, u8, &str); 9] = [
-        (LOCKED, 0, "Main.main this ? mover : atomic\n"),
+fn check_judges_the_counter_program(rt: HostRuntime) -> Result<(), Fail> {
+    let rows: [(&str, &str, &str, u8, &str); 13] = [
         (
-            "class Main { int v guarded_by this; void main() { this.v = 7; } }",
+            "",
+            "",
+            "",
+            0,
+            "Cell.inc this ? mover : atomic\nW.run this.c ? mover : atomic\nMain.main cmpd\n",
+        ),
+        (
+            "atomic void twice() { this.inc(); this.inc(); } ",
+            "",
+            "",
+            2,
+            "Cell.twice: declared atomic, found cmpd\n",
+        ),
+        (
+            "atomic void twice() { synchronized (this) { this.inc(); this.inc(); } } ",
+            "",
+            "",
+            0,
+            "Cell.inc this ? mover : atomic\nCell.twice this ? mover : atomic\nW.run this.c ? mover : atomic\nMain.main cmpd\n",
+        ),
+        (
+            "int peek() { return this.v; } ",
+            "",
+            "",
+            2,
+            "Cell.peek: declared cmpd, found error\n",
+        ),
+        (
+            "int peek() requires this { return this.v; } ",
+            "",
+            "",
+            0,
+            "Cell.inc this ? mover : atomic\nCell.peek mover\nW.run this.c ? mover : atomic\nMain.main cmpd\n",
+        ),
+        (
+            "int peek() requires this { return this.v; } ",
+            "c.peek(); ",
+            "",
             2,
             "Main.main: declared cmpd, found error\n",
         ),
+        (
+            "atomic void fill() { synchronized (this) { while (this.v < 10) { this.v = this.v + 1; } } } ",
+            "",
+            "",
+            0,
+            "Cell.inc this ? mover : atomic\nCell.fill this ? mover : atomic\nW.run this.c ? mover : atomic\nMain.main cmpd\n",
+        ),
+        (
+            "int u; atomic void grow() { while (this.u < 10) { this.u = this.u + 1; } } ",
+            "",
+            "",
+            2,
+            "Cell.grow: declared atomic, found cmpd\n",
+        ),
+        (
+            "atomic void down(int k) requires this { if (k > 0) { this.v = this.v + k; this.down(k - 1); this.down(k - 1); } } ",
+            "",
+            "",
+            0,
+            "Cell.inc this ? mover : atomic\nCell.down mover\nW.run this.c ? mover : atomic\nMain.main cmpd\n",
+        ),
+        (
+            "",
+            "",
+            "class Box { final Cell c; Box(Cell c) { this.c = c; } atomic void clear() { final Cell x = this.c; synchronized (x) { x.v = 0; } } }",
+            0,
+            "Cell.inc this ? mover : atomic\nW.run this.c ? mover : atomic\nMain.main cmpd\nBox.clear this.c ? mover : atomic\n",
+        ),
+        (
+            "",
+            "",
+            "class Box { final Cell c; Box(Cell c) { this.c = c; } atomic void clear() { final Cell x = this.c; synchronized (x) { x.v = 0; this.c.v = 1; } } }",
+            2,
+            "Box.clear: declared atomic, found error\n",
+        ),
+        (
+            "Cell self() { return this; } int far() requires this { return this.self().v; } ",
+            "",
+            "",
+            2,
+            "Cell.far: declared cmpd, found error\n",
+        ),
+        (
+            "void Cell() { boolean b = null == null; } ",
+            "",
+            "",
+            0,
+            "Cell.inc this ? mover : atomic\nCell.Cell mover\nW.run this.c ? mover : atomic\nMain.main cmpd\n",
+        ),
+    ];
+    for (in_cell, in_main, behind, status, text) in rows {
+        let source = counter(rt.alloc(), in_cell, in_main, behind)?;
+        expect(
+            &rt,
+            rt.alloc(),
+            &["check", "a"],
+            source.as_bytes(),
+            status,
+            text,
+        )?;
+    }
+    Ok(())
+}
+
+/// A buffer, and the `append` of the class library restated: between the two calls on the other buffer it may change.
+const APPEND: &str =
+    "class Buf { int n guarded_by this; atomic int length() { synchronized (this) { return this.n; } } \
+    atomic int get(int k) { synchronized (this) { return this.n - k; } } \
+    atomic void append(final Buf sb) { synchronized (this) { int k = sb.length(); this.n = this.n + sb.get(k); } } } \
+    class Main { void main() { } }";
+
+/// The same with both locks.
+const APPEND_LOCKED: &str =
+    "class Buf { int n guarded_by this; atomic int length() { synchronized (this) { return this.n; } } \
+    atomic int get(int k) { synchronized (this) { return this.n - k; } } \
+    atomic void append(final Buf sb) { synchronized (this) { synchronized (sb) { int k = sb.length(); this.n = this.n + sb.get(k); } } } } \
+    class Main { void main() { } }";
+
+const EIGHT_LOCKS: &str =
+    "class L { } class Main { void m(final L a, final L b, final L c, final L d, final L e, final L f, final L g, final L h) \
+    { synchronized (a) { } synchronized (b) { } synchronized (c) { } synchronized (d) { } synchronized (e) { } synchronized (f) { } \
+    synchronized (g) { } synchronized (h) { } } void main() { } }";
+
+const NINE_LOCKS: &str =
+    "class L { } class Main { void m(final L a, final L b, final L c, final L d, final L e, final L f, final L g, final L h, final L i) \
+    { synchronized (a) { } synchronized (b) { } synchronized (c) { } synchronized (d) { } synchronized (e) { } synchronized (f) { } \
+    synchronized (g) { } synchronized (h) { } synchronized (i) { } } void main() { } }";
+
+#[test]
+fn check_judges_other_sources(rt: HostRuntime) -> Result<(), Fail> {
+    let rows: [(&str, u8, &str); 7] = [
+        (LOCKED, 0, "Main.main this ? mover : atomic\n"),
         (
             "class Main { int u; atomic void main() { this.u = 1; this.u = 2; } }",
             2,
@@ -83,27 +230,14 @@ fn check_judges_small_sources(rt: HostRuntime) -> Result<(), Fail> {
             0,
             "Main.main const\nMain.set mover\n",
         ),
+        (APPEND, 2, "Buf.append: declared atomic, found cmpd\n"),
         (
-            "class Main { void main() { int a = 1; } }",
-            1,
-            "refused: not built\n",
-        ),
-        (
-            "class Main { void main() { } void main() { } }",
-            1,
-            "refused: not built\n",
-        ),
-        (
-            "class Main { int v; void main() { this.w = 1; } }",
-            1,
-            "refused: not built\n",
-        ),
-        (
-            "class Main { int v; void main() { synchronized (this) { } synchronized (this) { } } }",
+            APPEND_LOCKED,
             0,
-            "Main.main this ? const : cmpd\n",
+            "Buf.length this ? mover : atomic\nBuf.get this ? mover : atomic\nBuf.append this ? (sb ? mover : atomic) : atomic\nMain.main const\n",
         ),
-        ("", 1, "refused: not built\n"),
+        (NINE_LOCKS, 1, "refused at 1:31: too many locks\n"),
+        ("", 1, "refused at 1:1: no main\n"),
     ];
     for (source, status, text) in rows {
         expect(
@@ -115,7 +249,223 @@ fn check_judges_small_sources(rt: HostRuntime) -> Result<(), Fail> {
             text,
         )?;
     }
+    let eight = answer(rt.alloc(), &["check", "a"], EIGHT_LOCKS.as_bytes())?;
+    assert_eq!(rt; eight.0, 0);
     Ok(())
+}
+
+/// Sources with a fault of their classes, each with its line.
+const CLASS_FAULTS: [(&str, &str); 7] = [
+    (
+        "class A { } class A { } class Main { void main() { } }",
+        "refused at 1:19: declared twice\n",
+    ),
+    (
+        "class Main { X x; void main() { } }",
+        "refused at 1:14: unknown class\n",
+    ),
+    (
+        "class A { final int n; } class Main { void main() { } }",
+        "refused at 1:7: bad constructor\n",
+    ),
+    (
+        "class A implements Runnable { } class Main { void main() { } }",
+        "refused at 1:7: no run\n",
+    ),
+    (
+        "class A { final int n; B(int n) { this.n = n; } } class Main { void main() { } }",
+        "refused at 1:24: bad constructor\n",
+    ),
+    (
+        "class A { final X n; A(X n) { this.n = n; } } class Main { void main() { } }",
+        "refused at 1:17: unknown class\n",
+    ),
+    (
+        "class Main { void main() { } void main(int a) { } }",
+        "refused at 1:35: declared twice\n",
+    ),
+];
+
+/// Sources with a fault of their types, each with its line.
+const TYPE_FAULTS: [(&str, &str); 24] = [
+    (
+        "class Main { void main() { a = 1; } }",
+        "refused at 1:28: unknown name\n",
+    ),
+    (
+        "class Main { void main() { final int a = 1; a = 2; } }",
+        "refused at 1:45: final assigned\n",
+    ),
+    (
+        "class Main { void main() { Main m = this; synchronized (m) { } } }",
+        "refused at 1:57: not a lock\n",
+    ),
+    (
+        "class Main { void main() { } int f() { } }",
+        "refused at 1:40: missing return\n",
+    ),
+    (
+        "class Main { void main() { return; ; } }",
+        "refused at 1:36: unreachable\n",
+    ),
+    (
+        "class Main { void main() { int a = 0; int a = 1; } }",
+        "refused at 1:43: redeclared\n",
+    ),
+    (
+        "class Main { void main() { int a = true; } }",
+        "refused at 1:32: no rule\n",
+    ),
+    (
+        "class Main { int f(int k) { return k; } void main() { boolean a = this.f(zz); } }",
+        "refused at 1:74: unknown name\n",
+    ),
+    (
+        "class Main { void main() { 1.qq(zz); } }",
+        "refused at 1:33: unknown name\n",
+    ),
+    (
+        "class Main { void main() { 1.qq(1); } }",
+        "refused at 1:30: no rule\n",
+    ),
+    (
+        "class Main { void main() { 1.x = zz; } }",
+        "refused at 1:30: no rule\n",
+    ),
+    (
+        "class Main { void main() { this.g(zz); } }",
+        "refused at 1:33: unknown name\n",
+    ),
+    (
+        "class Main { void main() { final int a = 1; a = zz; } }",
+        "refused at 1:45: final assigned\n",
+    ),
+    (
+        "class Main { void g() { } int h() { return this.g(); } void main() { } }",
+        "refused at 1:37: no rule\n",
+    ),
+    (
+        "class Main { void g() { } void main() { return (this.g()); } }",
+        "refused at 1:41: no rule\n",
+    ),
+    (
+        "class Main { void main() { new Thread(null).start(); } }",
+        "refused at 1:28: no rule\n",
+    ),
+    (
+        "class Main { void main() { int a = 1; int a = true; } }",
+        "refused at 1:43: no rule\n",
+    ),
+    (
+        "class Main { void main() { return; zz = 1; } }",
+        "refused at 1:36: unknown name\n",
+    ),
+    (
+        "class Main { void main() { while (((true))) { } ; } }",
+        "refused at 1:49: unreachable\n",
+    ),
+    (
+        "class Main { void main() { int a = a; } }",
+        "refused at 1:36: unknown name\n",
+    ),
+    (
+        "class Main { void main() { synchronized (this.qq.r) { } } }",
+        "refused at 1:47: unknown name\n",
+    ),
+    (
+        "class Main { void m(final int k) { synchronized (k.zz) { } } void main() { } }",
+        "refused at 1:50: not a lock\n",
+    ),
+    (
+        "class Main { int v guarded_by lock; void main() { } }",
+        "refused at 1:31: unknown name\n",
+    ),
+    (
+        "class A { int v; } class B { final A a; B(A a) { this.a = a; } } class Main { void m(final B b) { synchronized (b.a.v) { } } void main() { } }",
+        "refused at 1:113: not a lock\n",
+    ),
+];
+
+#[test]
+fn the_first_fault_has_its_line(rt: HostRuntime) -> Result<(), Fail> {
+    for (source, line) in CLASS_FAULTS {
+        expect(&rt, rt.alloc(), &["check", "a"], source.as_bytes(), 1, line)?;
+    }
+    for (source, line) in TYPE_FAULTS {
+        expect(&rt, rt.alloc(), &["check", "a"], source.as_bytes(), 1, line)?;
+    }
+    Ok(())
+}
+
+/// The class `Main` with so many times a line in place of its name's number, between two texts.
+fn numbered(
+    alloc: Global,
+    before: &str,
+    word: &str,
+    behind: &str,
+    times: u32,
+    after: &str,
+) -> Result<String, Fail> {
+    let mut source = String::from_str(alloc, before)?;
+    for number in 0..times {
+        source.push_str(word)?;
+        source.push_str(Buffer::new().format(number))?;
+        source.push_str(behind)?;
+    }
+    source.push_str(after)?;
+    Ok(source)
+}
+
+#[test]
+fn fields_and_locals_have_their_limits(rt: HostRuntime) -> Result<(), Fail> {
+    let fields = numbered(
+        rt.alloc(),
+        "class Main {\n",
+        "int f",
+        ";\n",
+        33,
+        "void main() { } }",
+    )?;
+    expect(
+        &rt,
+        rt.alloc(),
+        &["check", "a"],
+        fields.as_bytes(),
+        1,
+        "refused at 34:5: too many\n",
+    )?;
+    let locals = numbered(
+        rt.alloc(),
+        "class Main { void main() {\n",
+        "int a",
+        " = 0;\n",
+        65,
+        "} }",
+    )?;
+    expect(
+        &rt,
+        rt.alloc(),
+        &["check", "a"],
+        locals.as_bytes(),
+        1,
+        "refused at 66:5: too many locals\n",
+    )?;
+    let ended = numbered(
+        rt.alloc(),
+        "class Main { void main() {\n",
+        "{ int a",
+        " = 0; }\n",
+        65,
+        "} }",
+    )?;
+    expect(
+        &rt,
+        rt.alloc(),
+        &["check", "a"],
+        ended.as_bytes(),
+        1,
+        "refused at 66:7: too many locals\n",
+    )
 }
 
 #[test]

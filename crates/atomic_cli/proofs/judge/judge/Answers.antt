@@ -1,32 +1,19 @@
-use Rattle.std.proofs.Common.{map, Some, None, ap, sym, subst, ◌∙◌, option_map}
+use Rattle.std.proofs.Common.{sym, subst, string_bytes}
 use Rattle.aj_syntax.specs.Views.{program_of as tree_of}
-use Rattle.atomic_cli.specs.Answer.{CheckFile, no_program}
-use Rattle.atomic_cli.specs.Shape.{shape_of}
-use Rattle.atomic_cli.specs.Sources.{IsClassOf, IsReading}
-use Rattle.atomic_cli.specs.Views.{program_of}
-use Rattle.atomic_cli.proofs.Answers.{small, not_small, from_verdict, from_nothing}
+use Rattle.atomic_cli.specs.Answer.{Answer, CheckFile, no_program, ill_formed}
+use Rattle.atomic_cli.specs.Sources.{IsReading}
+use Rattle.atomic_cli.specs.Stages.{IsRefusal}
+use Rattle.atomic_cli.proofs.Verdicts.{from_verdict}
 use Rattle.atomic_cli.proofs.judge.judge.Goals as goal
 
 pub returns-in-NoProgram-clause-answer : goal.returns-in-NoProgram-clause-answer
 returns-in-NoProgram-clause-answer c = λ name. no_program (CheckFile name) c.requires (subst (IsReading c.args.bytes.now) c.in-NoProgram.is c.in_ok-text.ensures)
 
-pub returns-in-Some-clause-answer : goal.returns-in-Some-clause-answer
-returns-in-Some-clause-answer c =
-    let file = c.args.bytes.now in
-    let tokens = c.in-Program.tokens.items in
-    let tree = tree_of c.in-Program._tree in
-    let p = program_of c.in-Some.program in
-    let is = subst (IsReading file) c.in-Program.is c.in_ok-text.ensures in
-    let class = subst (λ o. IsClassOf (map shape_of tokens) (option_map program_of o)) c.in-Some.is
-    (subst (λ ts. IsClassOf (map shape_of ts) (option_map program_of c.in_ok-program.field-0)) c.as_slice.ensures.value c.in_ok-program.ensures) in
-    from_verdict file p c.verdict.result c.requires (small file tokens tree p is class) c.verdict.ensures.verdict
+pub returns-in-Ok-clause-answer : goal.returns-in-Ok-clause-answer
+returns-in-Ok-clause-answer c =
+    from_verdict c.args.bytes.now c.in-Program._tokens.items (tree_of c.in-Program.tree) c.in-Ok.source c.judge_source.result c.requires (subst (IsReading c.args.bytes.now) c.in-Program.is c.in_ok-text.ensures) c.in-Ok.ensures c.judge_source.ensures.verdict
 
-pub returns-clause-answer : goal.returns-clause-answer
-returns-clause-answer c =
-    let file = c.args.bytes.now in
-    let tokens = c.in-Program.tokens.items in
-    let tree = tree_of c.in-Program._tree in
-    let is = subst (IsReading file) c.in-Program.is c.in_ok-text.ensures in
-    let class = subst (λ o. IsClassOf (map shape_of tokens) (option_map program_of o)) c.in-None.is
-    (subst (λ ts. IsClassOf (map shape_of ts) (option_map program_of c.in_ok-program.field-0)) c.as_slice.ensures.value c.in_ok-program.ensures) in
-    from_nothing file tokens tree c.not_built.result c.requires is (not_small file tokens tree is class) c.not_built.ensures.status c.not_built.ensures.text
+pub returns-in-Err-Line-clause-answer : goal.returns-in-Err-Line-clause-answer
+returns-in-Err-Line-clause-answer c = λ name.
+    subst (λ text. Answer c.args.bytes.now (CheckFile name) 1 (string_bytes text)) (sym c.in-Err-Line.text-is)
+    (ill_formed c.requires (subst (IsRefusal c.args.bytes.now) c.in-Err-Line.field-0-is c.in-Err-Line.ensures))

@@ -2,7 +2,6 @@ use Rattle.std.proofs.Common.{ap, sym, subst, inr, Err, IfSome, length, ◌<◌,
 use Rattle.atomic_cli.specs.Answer.{Answer, too_large}
 use Rattle.atomic_cli.specs.Commands.{row_of}
 use Rattle.atomic_cli.specs.Lines.{too_large_line}
-use Rattle.atomic_cli.proofs.Words.{never_six, no_other}
 use Rattle.atomic_cli.proofs.run.perform.Goals as goal
 
 pub returns-in_ok-too_large_line-in-Err-TooLarge-clause-answer :

@@ -2,7 +2,7 @@ use Rattle.std.proofs.Common.{◌≤◌, Err, codes, length, sym, subst, ◌∙�
 use Rattle.aj_syntax.specs.Faults.{IsUnexpected, IsTooDeep}
 use Rattle.aj_report.specs.SourceFaults.{refused_line}
 use Rattle.atomic_cli.specs.Refusals.{Refused, unexpected, too_deep, token_offset}
-use Rattle.atomic_cli.proofs.Offsets.{few_tokens}
+use Rattle.atomic_cli.proofs.TokenCounts.{few_tokens}
 use Rattle.atomic_cli.proofs.source.read_text.Goals as goal
 
 pub parse-requires : goal.parse-requires
