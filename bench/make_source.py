@@ -23,7 +23,7 @@ CLASS = """public class A%d implements Runnable {
 
 def main():
     size = int(sys.argv[1])
-    out, k = "", 0
+    out, k = "class Main { void main() { } }\n", 0
     while True:
         text = CLASS % ((k,) * CLASS.count("%d"))
         if len(out) + len(text) > size:

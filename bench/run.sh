@@ -34,6 +34,10 @@ for source in half full; do
     timed "check $source" "$program" check $source
     timed "plain parser $source" ./plain $source
 done
+for kind in classes methods statements locks paths chain chain_back cycle; do
+    python3 "$here/make_checked.py" "$kind" > "$kind"
+    timed "check $kind" "$program" check "$kind"
+done
 for source in braces letters not_text parentheses nots dots; do
     timed "check $source" "$program" check $source
 done

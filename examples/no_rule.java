@@ -1,0 +1,5 @@
+class Main {
+    void main() {
+        int a = true;
+    }
+}
