@@ -397,7 +397,7 @@ fn the_first_fault_has_its_line(rt: HostRuntime) -> Result<(), Fail> {
     Ok(())
 }
 
-/// The class `Main` with so many times a line in place of its name's number, between two texts.
+/// So many lines between two texts, each with its number.
 fn numbered(
     alloc: Global,
     before: &str,
@@ -416,56 +416,44 @@ fn numbered(
     Ok(source)
 }
 
+/// The line of a source with so many numbered lines.
+fn expect_numbered(
+    rt: &impl Abort,
+    alloc: Global,
+    lines: (&str, &str, &str, u32, &str),
+    text: &str,
+) -> Result<(), Fail> {
+    let (before, word, behind, times, after) = lines;
+    let source = numbered(alloc, before, word, behind, times, after)?;
+    expect(rt, alloc, &["check", "a"], source.as_bytes(), 1, text)
+}
+
 #[test]
 fn fields_and_locals_have_their_limits(rt: HostRuntime) -> Result<(), Fail> {
-    let fields = numbered(
-        rt.alloc(),
-        "class Main {\n",
-        "int f",
-        ";\n",
-        33,
-        "void main() { } }",
-    )?;
-    expect(
-        &rt,
-        rt.alloc(),
-        &["check", "a"],
-        fields.as_bytes(),
-        1,
-        "refused at 34:5: too many\n",
-    )?;
-    let locals = numbered(
-        rt.alloc(),
-        "class Main { void main() {\n",
-        "int a",
-        " = 0;\n",
-        65,
-        "} }",
-    )?;
-    expect(
-        &rt,
-        rt.alloc(),
-        &["check", "a"],
-        locals.as_bytes(),
-        1,
-        "refused at 66:5: too many locals\n",
-    )?;
-    let ended = numbered(
-        rt.alloc(),
-        "class Main { void main() {\n",
-        "{ int a",
-        " = 0; }\n",
-        65,
-        "} }",
-    )?;
-    expect(
-        &rt,
-        rt.alloc(),
-        &["check", "a"],
-        ended.as_bytes(),
-        1,
-        "refused at 66:7: too many locals\n",
-    )
+    let class = "class Main {\n";
+    let body = "class Main { void main() {\n";
+    let rows: [((&str, &str, &str, u32, &str), &str); 4] = [
+        (
+            (class, "int f", ";\n", 33, "void main() { } }"),
+            "refused at 34:5: too many\n",
+        ),
+        (
+            (class, "int f", ";\n", 32, "int f0; void main() { } }"),
+            "refused at 34:5: declared twice\n",
+        ),
+        (
+            (body, "int a", " = 0;\n", 65, "} }"),
+            "refused at 66:5: too many locals\n",
+        ),
+        (
+            (body, "{ int a", " = 0; }\n", 65, "} }"),
+            "refused at 66:7: too many locals\n",
+        ),
+    ];
+    for (lines, text) in rows {
+        expect_numbered(&rt, rt.alloc(), lines, text)?;
+    }
+    Ok(())
 }
 
 #[test]
@@ -583,16 +571,17 @@ fn each_row_of_words_has_its_status(rt: HostRuntime) -> Result<(), Fail> {
 
 #[test]
 fn a_source_has_at_most_262144_bytes(rt: HostRuntime) -> Result<(), Fail> {
-    let full = padded(rt.alloc(), LOCKED, 262144)?;
+    let source = counter(rt.alloc(), "", "", "")?;
+    let full = padded(rt.alloc(), source.as_str(), 262144)?;
     expect(
         &rt,
         rt.alloc(),
         &["check", "a"],
         full.as_slice(),
         0,
-        "Main.main this ? mover : atomic\n",
+        "Cell.inc this ? mover : atomic\nW.run this.c ? mover : atomic\nMain.main cmpd\n",
     )?;
-    let over = padded(rt.alloc(), LOCKED, 262145)?;
+    let over = padded(rt.alloc(), source.as_str(), 262145)?;
     expect(
         &rt,
         rt.alloc(),
