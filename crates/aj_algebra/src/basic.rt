@@ -7,7 +7,7 @@ use std::fmt;
 /// How the steps of a part can move among the steps of other threads, in ascending order.
 /// A `Mover` part's steps move both ways (Lipton 1975), an `Atomic` part behaves as if nothing came between,
 /// a `Cmpd` part need not, and an `Error` part touches a guarded field without its lock.
-#[derive(Clone, Copy, Debug, PartialEq, Eq)]
+#[derive(Clone, Copy, Debug, PartialEq, Eq, Hash)]
 pub enum Basic {
     Const,
     Mover,

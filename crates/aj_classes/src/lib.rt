@@ -8,8 +8,6 @@ mod fault;
 mod lookup;
 mod make;
 mod names;
-#[cfg(test)]
-mod tests;
 
 pub use entries::{ClassEntry, ClassTable, FieldEntry, MethodEntry, ParamEntry};
 pub use fault::ClassFault;

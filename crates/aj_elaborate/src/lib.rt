@@ -19,8 +19,6 @@ mod rules;
 mod scope;
 mod stmt_rules;
 mod stmts;
-#[cfg(test)]
-mod tests;
 mod types;
 
 pub use fault::TypeFault;

@@ -12,12 +12,8 @@ mod local;
 mod rows;
 mod table;
 mod walk;
-#[cfg(test)]
-mod walk_tests;
 
 pub use bounds::{Broken, Inferred, verdict};
 pub use inference::infer;
 pub use laws::least_assignment_laws;
 
-#[cfg(test)]
-mod inference_tests;

@@ -6,8 +6,6 @@ mod laws;
 mod lexer;
 mod pieces;
 mod places;
-#[cfg(test)]
-mod tests;
 mod tokens;
 mod utf8;
 

@@ -7,8 +7,6 @@ mod member;
 mod parser;
 mod statement;
 mod stop;
-#[cfg(test)]
-mod tests;
 mod tokens;
 
 pub use faults::ParseFault;

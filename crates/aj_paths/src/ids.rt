@@ -2,7 +2,7 @@
 use std::marker::Model;
 
 /// The number of a class, counted from 0 in source order over the whole program.
-#[derive(Clone, Copy, PartialEq, Eq, PartialOrd, Ord, Default, Debug)]
+#[derive(Clone, Copy, PartialEq, Eq, PartialOrd, Ord, Hash, Default, Debug)]
 pub struct ClassId(pub u32);
 
 impl Model for ClassId {
@@ -16,7 +16,7 @@ impl Model for ClassId {
 }
 
 /// The number of a field, counted from 0 in source order over the whole program.
-#[derive(Clone, Copy, PartialEq, Eq, PartialOrd, Ord, Default, Debug)]
+#[derive(Clone, Copy, PartialEq, Eq, PartialOrd, Ord, Hash, Default, Debug)]
 pub struct FieldId(pub u32);
 
 impl Model for FieldId {
@@ -30,7 +30,7 @@ impl Model for FieldId {
 }
 
 /// The number of a method, counted from 0 in source order over the whole program.
-#[derive(Clone, Copy, PartialEq, Eq, PartialOrd, Ord, Default, Debug)]
+#[derive(Clone, Copy, PartialEq, Eq, PartialOrd, Ord, Hash, Default, Debug)]
 pub struct MethodId(pub u32);
 
 impl Model for MethodId {

@@ -10,7 +10,7 @@ use std::marker::Model;
 
 /// A lock expression in numbers: `this`, a final parameter or a final local, then at most two final fields.
 /// Slot 0 is `this`, the parameters follow, then each declared local in order of declaration.
-#[derive(Debug, Drop, PartialEq, Eq, PartialOrd, Ord)]
+#[derive(Debug, Drop, PartialEq, Eq, PartialOrd, Ord, Hash)]
 pub struct Path {
     pub root: u16,
     pub fields: ArrayVec<FieldId, 2>,

@@ -5,8 +5,6 @@ mod page;
 mod print;
 mod print_laws;
 mod terminal;
-#[cfg(test)]
-mod tests;
 mod tree;
 
 ghost use Rattle.aj_syntax.specs.Faults.{IsTooDeep, IsUnexpected};
