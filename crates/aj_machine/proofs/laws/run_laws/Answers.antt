@@ -1,8 +1,0 @@
-use Rattle.aj_machine.proofs.RunLemmas.{run_from-append, run_numbered}
-use Rattle.aj_machine.proofs.laws.run_laws.Goals as goal
-
-pub returns-clause-append : goal.returns-clause-append
-returns-clause-append c = run_from-append
-
-pub returns-clause-numbered : goal.returns-clause-numbered
-returns-clause-numbered c = run_numbered

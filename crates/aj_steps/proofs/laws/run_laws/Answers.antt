@@ -1,0 +1,8 @@
+use Rattle.aj_steps.proofs.RunLemmas.{run_from-append, run_numbered}
+use Rattle.aj_steps.proofs.laws.run_laws.Goals as goal
+
+pub returns-clause-append : goal.returns-clause-append
+returns-clause-append c = run_from-append
+
+pub returns-clause-numbered : goal.returns-clause-numbered
+returns-clause-numbered c = run_numbered

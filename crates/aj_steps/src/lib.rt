@@ -1,0 +1,7 @@
+//! The machine that runs simulated threads, one step at a time, as definitions: steps, runs, kinds, words, units and the written order, with their laws and examples.
+#![tactic(auto)]
+
+pub mod examples;
+mod laws;
+
+pub use laws::{run_laws, step_laws, unit_laws, word_laws};
