@@ -128,7 +128,7 @@ def main():
     options = parser.parse_args()
     with tempfile.TemporaryDirectory() as folder:
         built = os.path.join(folder, "plain")
-        subprocess.run(["rustc", "--edition", "2024", "-O", "-o", built, os.path.join(HERE, "plain", "main.rs")], check=True)
+        subprocess.run(["rustc", "--edition", "2024", "-O", "-A", "dead_code", "-o", built, os.path.join(HERE, "plain", "main.rs")], check=True)
         sources = os.path.join(folder, "sources")
         os.mkdir(sources)
         atomic = Program(os.path.abspath(options.atomic)) if options.atomic else Tried()
