@@ -2,8 +2,9 @@
 """compare.py [--atomic PROGRAM] [--count N] [--seed S] [--keep FOLDER]: compares the answers of `atomic` and of `bench/plain`.
 
 Both programs get the same sources: worked rows with the answers that are wanted, the files of examples/, those of
-make_source.py and make_checked.py, random programs, and damaged sources. PROGRAM is the built `atomic`; without it the
-answers come from `rt try` in crates/atomic_cli, which needs no proof. A place of `too deep` isn't the only right one, so
+make_source.py and make_checked.py, random programs, and damaged sources; where `atomic` has the commands `run` and
+`serialise`, random schedules too. PROGRAM is the built `atomic`; without it the answers come from `rt try` in
+crates/atomic_cli, which needs no proof, and these two commands are left out. A place of `too deep` isn't the only right one, so
 where both say that at different places it is counted apart. The exit status is 0 where no answer differs.
 """
 import argparse
@@ -16,7 +17,8 @@ import sys
 import tempfile
 
 import rows
-from random_source import Generator, damaged
+from random_source import Generator, damaged, workers
+from schedules import drawn, runnable, written
 
 HERE = os.path.dirname(os.path.abspath(__file__))
 COMMANDS = ["check", "print"]
@@ -33,18 +35,18 @@ class Program:
         self.path = path
 
     def answers(self, folder, names, command):
-        found = {}
-        for name in names:
-            done = run([self.path, command, name], cwd=folder)
-            found[name] = (done.returncode, done.stdout)
-        return found
+        return {name: self.answer(folder, command, name) for name in names}
+
+    def answer(self, folder, *words):
+        done = run([self.path, *words], cwd=folder)
+        return done.returncode, done.stdout
 
 
 class Tried:
     """The program before its proof, by `rt try --cases`."""
 
     def answers(self, folder, names, command):
-        words = ["rt", "try", "--cases", folder, "--", command, "{}"]
+        words = ["rt", "try", "--cases", os.path.abspath(folder), "--", command, "{}"]
         done = run(words, cwd=os.path.join(HERE, "..", "crates", "atomic_cli"))
         statuses = dict(re.findall(r"^case=(\S+) run=ended status=(\d+)", done.stderr.decode(), re.M))
         parts = re.split(rb"^== (\S+)\n", done.stdout, flags=re.M)
@@ -102,7 +104,8 @@ class Report:
         self.differences += 1
         if self.keep:
             os.makedirs(self.keep, exist_ok=True)
-            os.system(f"cp {self.folder}/{name} {self.keep}/")
+            for file in ("a", "b") if name.startswith("schedule") else (name,):
+                os.system(f"cp {self.folder}/{file} '{self.keep}/{name} {file}'")
 
     def want(self, command, name, wanted, plain):
         status, text = wanted
@@ -117,6 +120,46 @@ class Report:
             self.deep += 1
             return
         self.tell(command, name, ("atomic", "plain"), atomic, plain)
+
+
+def random_schedule(chooser, answer):
+    schedule = drawn(chooser)
+    if chooser.random() < 0.7:
+        schedule = runnable(schedule, answer, chooser)[0]
+    text = written(schedule)
+    if chooser.random() < 0.2:
+        at = chooser.randrange(len(text))
+        text = text[:at] + chooser.choice(["*", "x", "0", " # 1 *", "99999999999", "\t", "*200000 "]) + text[at:]
+    return text
+
+
+def answer_to(plain, folder, schedule):
+    write(folder, "b", written(schedule))
+    status, text = plain.answer(folder, "run", "a", "b")
+    return status, text.decode()
+
+
+def compare_schedules(atomic, plain, folder, options, words, report):
+    """Rows and random schedules of `run` and `serialise`. `atomic` is left out where it hasn't got them."""
+    write(folder, "a", "class Main { void main() { } }")
+    write(folder, "b", "")
+    has_them = isinstance(atomic, Program) and atomic.answer(folder, "run", "a", "b")[0] != 9
+    if not has_them:
+        print("`run` and `serialise` aren't known to `atomic`: only the plain program is held against the rows")
+    for number, (command, source, schedule, status, text) in enumerate(rows.schedule_rows()):
+        write(folder, "a", source)
+        write(folder, "b", schedule)
+        given = plain.answer(folder, command, "a", "b")
+        report.want(command, f"schedule row {number}", (status, text), given)
+        if has_them:
+            report.compare(command, f"schedule row {number}", atomic.answer(folder, command, "a", "b"), given)
+    chooser = random.Random(options.seed)
+    for number in range(options.count if has_them else 0):
+        write(folder, "a", workers(chooser, words))
+        write(folder, "b", random_schedule(chooser, lambda s: answer_to(plain, folder, s)))
+        for command in ("run", "serialise"):
+            both = [p.answer(folder, command, "a", "b") for p in (atomic, plain)]
+            report.compare(command, f"schedule {number}", *both)
 
 
 def main():
@@ -157,6 +200,7 @@ def compare_all(atomic, plain, folder, options):
             report.compare(command, name, ours[name], theirs[name])
             if name in wanted and wanted[name][0] == command:
                 report.want(command, name, wanted[name][1], theirs[name])
+    compare_schedules(atomic, plain, folder, options, words, report)
     for (command, status), count in sorted(report.counts.items()):
         print(f"{command}: {count} sources with status {status}")
     print(f"{report.deep} told `too deep` at another place; {report.differences} differ")

@@ -7,8 +7,10 @@ import time
 
 KINDS = "classes methods statements locks paths chain chain_back cycle".split()
 HOSTILE = "braces letters not_text parentheses nots dots".split()
+SCHEDULES = "workers objects deep prints".split()
 ROWS = [("print", "full"), ("print", "half"), ("check", "full"), ("check", "half")]
 ROWS += [("check", kind) for kind in KINDS + HOSTILE]
+ROWS += [(command, kind, f"{kind}.schedule") for kind in SCHEDULES for command in ("run", "serialise")]
 
 
 def millions(words):
@@ -41,24 +43,30 @@ def peak(words):
     return int(done.stderr.split()[-1])
 
 
-def ratio(ours, theirs):
-    return f"{ours / theirs:6.1f}" if ours and theirs else "     -"
+def measured(words):
+    """Milliseconds, millions of instructions, KiB and the answer; nothing where the program hasn't got the command."""
+    time_taken, done = milliseconds(words)
+    if done.returncode == 9:
+        return None
+    return time_taken, millions(words), peak(words), (done.returncode, done.stdout)
+
+
+def shown(value, width):
+    return f"{value:{width}.1f}" if value else f"{'-':>{width}}"
 
 
 def main():
-    atomic, plain = sys.argv[1:]
-    print(f"{'':16} {'ms':>8} {'plain':>7} {'ratio':>6} {'Minstr':>8} {'plain':>7} {'ratio':>6} {'KiB':>8} {'plain':>7} {'ratio':>6}")
-    for command, source in ROWS:
-        words = [[program, command, source] for program in (atomic, plain)]
-        (ours, done), (theirs, other) = map(milliseconds, words)
-        counts, peaks = list(map(millions, words)), list(map(peak, words))
-        same = (done.returncode, done.stdout) == (other.returncode, other.stdout)
-        shown = [f"{c:.1f}" if c else "-" for c in counts]
-        print(
-            f"{command} {source:10} {ours:8.1f} {theirs:7.1f} {ratio(ours, theirs)} {shown[0]:>8} {shown[1]:>7} {ratio(*counts)} "
-            f"{peaks[0] or 0:8} {peaks[1] or 0:7} {ratio(*peaks)} status {done.returncode}{'' if same else ' ANSWERS DIFFER'}",
-            flush=True,
-        )
+    programs = sys.argv[1:]
+    heads = [f"{unit:>8} {'plain':>8} {'ratio':>6}" for unit in ("ms", "Minstr", "KiB")]
+    print(f"{'':20} {' '.join(heads)}")
+    for words in ROWS:
+        ours, theirs = (measured([program, *words]) for program in programs)
+        cells = []
+        for k in range(3):
+            a, b = ours and ours[k], theirs[k]
+            cells += [shown(a, 8), shown(b, 8), shown(a and b and a / b, 6)]
+        same = not ours or ours[3] == theirs[3]
+        print(f"{words[0]:9} {words[1]:10} {' '.join(cells)}  status {theirs[3][0]}{'' if same else ' ANSWERS DIFFER'}", flush=True)
 
 
 main()

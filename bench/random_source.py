@@ -2,7 +2,8 @@
 
 A Generator draws a program whose names and types fit, but for a slip now and then where `slips` says so: a name that
 nothing declares, a wrong type, an assigned final, a lock that is none. A calm one mostly takes a guard before it touches
-a guarded field, so that many of its programs are accepted. `damaged` cuts, repeats, swaps or changes tokens or bytes of
+a guarded field, so that many of its programs are accepted. `workers` draws a program whose threads meet at shared
+cells. `damaged` cuts, repeats, swaps or changes tokens or bytes of
 a source.
 """
 import random
@@ -309,6 +310,56 @@ class Generator:
         if cls and depth > 0 and self.some(0.5):
             return f"new {ty}({self.args([f.ty for f in cls.finals()], depth)})"
         return "null"
+
+
+def method_of(chooser, name, body):
+    annotated = "atomic " if chooser.random() < 0.4 else ""
+    return f"{annotated}void {name}(int d) {{ {body} }}"
+
+
+def cell_step(chooser):
+    """A statement of a cell, with its lock held."""
+    return chooser.choice(
+        [
+            "this.v = this.v + d;",
+            "this.v = this.v * 2; this.w = this.v;",
+            "if (this.v > 3) { this.v = d; } else { this.w = this.w - d; }",
+            "int i = 0; while (i < 2) { this.v = this.v + i; i = i + 1; }",
+            "synchronized (this) { this.w = d; }",
+            "if (d == 7) { return; } this.w = this.w + 1;",
+            "this.v = d / this.w;",
+        ]
+    )
+
+
+def cell_body(chooser, calls):
+    held = f"synchronized (this) {{ {cell_step(chooser)} {chooser.choice(calls + [cell_step(chooser)]) if calls else ''} }}"
+    free = ["this.u = d;", "System.out.println(d);", "this.u = this.u + d;", "System.out.println(this.x);", ""]
+    return chooser.choice([held, held, held, held + " " + chooser.choice(free), chooser.choice(free) + " " + held, chooser.choice(free)])
+
+
+def workers(chooser, words):
+    """A program in which some threads call methods of two cells and of a pair, which holds both; it ends or faults."""
+    word = chooser.choice(words)
+    cells, calls = [], []
+    for name in ("m", "n", "o", "p")[: chooser.randint(2, 4)]:
+        cells.append(method_of(chooser, name, cell_body(chooser, calls)))
+        calls.append(f"this.{name}(d);")
+    pairs = []
+    for name in ("both", "one", "two"):
+        inner = " ".join(f"this.{chooser.choice('ab')}.{call[5:]}" for call in chooser.choices(calls, k=chooser.randint(1, 3)))
+        first, second = chooser.choice([("a", "b"), ("b", "a")])
+        locked = f"synchronized (this.{first}) {{ {inner} }}"
+        both = f"synchronized (this.{first}) {{ synchronized (this.{second}) {{ {inner} }} }}"
+        pairs.append(method_of(chooser, name, chooser.choice([inner, locked, both, both])))
+    runs = [f"this.p.{chooser.choice(['both', 'one', 'two', 'a.m', 'b.n'])}({chooser.randint(0, 8)});" for _ in range(chooser.randint(1, 3))]
+    starts = "new Thread(new W(p)).start(); " * chooser.randint(2, 3)
+    return (
+        f"class Cell {{ int v {word} this; int w guarded_by this; int u; int x {words[-1]} this; {' '.join(cells)} }}\n"
+        f"class Pair {{ final Cell a; final Cell b; Pair(Cell a, Cell b) {{ this.a = a; this.b = b; }} {' '.join(pairs)} }}\n"
+        f"class W implements Runnable {{ final Pair p; W(Pair p) {{ this.p = p; }} public void run() {{ {' '.join(runs)} }} }}\n"
+        f"class Main {{ void main() {{ final Pair p = new Pair(new Cell(), new Cell()); {starts}}} }}\n"
+    )
 
 
 def renamed(lock, names):

@@ -164,3 +164,50 @@ def write_guards():
 def rows(with_write_guards):
     """All rows; where the text is None, only the status is wanted."""
     return verdicts() + faults() + prints() + (write_guards() if with_write_guards else [])
+
+
+def schedule_rows():
+    """Rows of two files: command, source, schedule, status and text."""
+    counted = counter()
+    left = ["object 0:0 Main", "object 0:1 Cell v=0", "object 0:2 W c=0:1", "object 0:3 W c=0:1"]
+    numbers = "class Main { void main() { System.out.println(-2147483648 / -1); System.out.println(-7 % 3); System.out.println(1 / 0); } }"
+    twice = "class Main { int v guarded_by this; atomic void main() { synchronized (this) { synchronized (this) { this.v = 7; } } } }"
+    calls = "class Main { void f() { this.f(); } void main() { this.f(); } }"
+    follows = "class Main { Main m; void main() { this.m.m = this; } }"
+    loop = "class Main { void main() { while (true) { } } }"
+    done = ["thread 0 done", "thread 1 done", "thread 2 done"]
+    shared = ["object 0:0 Main", "object 0:1 Cell v=2", *left[2:], *done]
+    printed = ["print -2147483648", "print -1", "object 0:0 Main", "thread 0 faulted zero"]
+
+    def after(line, state):
+        return lines(line, *("# " + text for text in state))
+
+    return [
+        ("serialise", counted, "0*10 1*4 2*4 1*2 2 1*7 2 1 2*8 1 2", 0, after("0*10 1*3 2*3 1*11 2*11 1 2", shared)),
+        ("serialise", counted, "", 0, after("", ["object 0:0 Main", "thread 0 ready"])),
+        ("run", counted, "0*3 5", 4, lines("entry 4: thread 5 is absent")),
+        ("run", counted, "0*10 1*6 2*6", 4, lines("entry 22: thread 2 waits for 0:1 held by 1")),
+        ("run", counted, "0*11", 4, lines("entry 11: thread 0 is done")),
+        ("serialise", counted, "0*10 1*6", 5, lines("thread 1 is inside an atomic call")),
+        (
+            "run",
+            counted,
+            "0*10 1*6",
+            0,
+            lines(*left, "lock 0:1 thread 1 count 1", "thread 0 done", "thread 1 running Cell.inc 2", "thread 2 ready"),
+        ),
+        ("serialise", numbers, "0*14", 0, after("0*14", printed)),
+        ("run", numbers, "0*14", 0, lines(*printed)),
+        ("serialise", numbers, "0*15", 4, lines("entry 15: thread 0 is faulted zero")),
+        ("run", twice, "0*5", 0, lines("object 0:0 Main v=0", "lock 0:0 thread 0 count 2", "thread 0 running Main.main 1")),
+        ("serialise", twice, "0*11", 0, after("0*11", ["object 0:0 Main v=7", "thread 0 done"])),
+        ("run", counted, "0*0", 3, lines("schedule refused at byte 2: form")),
+        ("run", counted, "0*200001", 3, lines("schedule refused at byte 0: too long")),
+        ("run", counted, "0 x", 3, lines("schedule refused at byte 2: form")),
+        ("run", counted, "0*200001x", 3, lines("schedule refused at byte 8: form")),
+        ("run", calls, "0*2001", 0, lines("object 0:0 Main", "thread 0 faulted depth")),
+        ("run", calls, "0*2000", 0, lines("object 0:0 Main", "thread 0 running Main.f 1000")),
+        ("run", follows, "0*5", 0, lines("object 0:0 Main m=null", "thread 0 faulted null")),
+        ("serialise", loop, "0*200000", 0, after("0*200000", ["object 0:0 Main", "thread 0 running Main.main 1"])),
+        ("serialise", loop, "0*200001", 3, lines("schedule refused at byte 0: too long")),
+    ]

@@ -12,6 +12,9 @@ python3 "$here/make_source.py" 131072 > half
 for kind in classes methods statements locks paths chain chain_back cycle; do
     python3 "$here/make_checked.py" "$kind" > "$kind"
 done
+for kind in workers objects deep prints; do
+    python3 "$here/make_schedule.py" "$kind" "$kind" "$kind.schedule"
+done
 python3 -c "print('class Main { void main() {' + '{' * 100000, end='')" > braces
 python3 -c "print('a' * 262144, end='')" > letters
 python3 -c "import sys; sys.stdout.buffer.write(b'class ' + bytes([128]) * 200000)" > not_text

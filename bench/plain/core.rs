@@ -77,7 +77,6 @@ pub struct Class {
 
 #[derive(Debug)]
 pub struct Field {
-    pub class: ClassId,
     pub index: u16,
     pub is_final: bool,
     pub ty: Type,
@@ -87,7 +86,6 @@ pub struct Field {
 
 #[derive(Debug)]
 pub struct Method {
-    pub class: ClassId,
     pub at: u32,
     pub annotated: bool,
     pub requires: Vec<Path>,

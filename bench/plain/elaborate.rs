@@ -68,7 +68,6 @@ fn field(table: &Table<'_, '_>, faults: &mut Faults, id: FieldId) -> core::Field
     let first = table.classes[entry.class as usize].fields[0];
     let guard = entry.tree.guard.as_ref();
     core::Field {
-        class: entry.class,
         index: (id - first) as u16,
         is_final: entry.tree.is_final,
         ty: entry.ty,
@@ -119,7 +118,6 @@ fn method<'a>(
         elaborator.faults.note(Kind::MissingReturn, tree.end);
     }
     core::Method {
-        class: entry.class,
         at: tree.name.at,
         annotated: tree.atomic,
         requires,

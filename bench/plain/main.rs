@@ -2,21 +2,29 @@
 #![forbid(unsafe_code)]
 
 mod classes;
+mod code;
 mod core;
 mod elaborate;
 mod fault;
 mod lex;
+mod machine;
 mod parse;
 mod print;
 mod rules;
+mod schedule;
+mod serialise;
 mod tree;
 
+use classes::Table;
+use core::Program;
 use fault::{Fault, Kind};
+use machine::Machine;
 use std::fs::File;
 use std::io::{self, Read, Write};
 use std::{env, process, str};
 
 const LARGEST_SOURCE: u64 = 262_144;
+const LARGEST_SCHEDULE: u64 = 16_777_216;
 
 const USAGE: &str = "usage: atomic check FILE | run FILE SCHEDULE | serialise FILE SCHEDULE | derive FILE | \
 verify FILE BOOK | print FILE | generate N\n";
@@ -48,29 +56,80 @@ fn print(bytes: &[u8]) -> Result<String, Fault> {
     Ok(print::print(&tree, text.len()))
 }
 
-fn check(bytes: &[u8]) -> Result<Answer, Fault> {
-    let text = text(bytes)?;
-    let tree = parse::parse(text, &lex::lex(text)?)?;
-    let table = classes::table(&tree.classes)?;
-    let program = elaborate::elaborate(&table, &tree.exprs)?;
-    let rules = rules::rules(&program)?;
+fn check(table: &Table<'_, '_>, program: &Program) -> Result<Answer, Fault> {
+    let rules = rules::rules(program)?;
     let tables = rules.infer();
-    Ok(rules.verdict(&table, &tables).map_err(|line| (2, line)))
+    Ok(rules.verdict(table, &tables).map_err(|line| (2, line)))
 }
 
-fn refused(bytes: &[u8]) -> impl Fn(Fault) -> Refusal {
-    |fault| (1, fault.line(bytes))
+/// Hands the names and the core program of a source to what is to be done with it.
+fn elaborated(
+    bytes: &[u8],
+    act: impl FnOnce(&Table<'_, '_>, &Program) -> Result<Answer, Fault>,
+) -> Answer {
+    let answer = || {
+        let text = text(bytes)?;
+        let tree = parse::parse(text, &lex::lex(text)?)?;
+        let table = classes::table(&tree.classes)?;
+        let program = elaborate::elaborate(&table, &tree.exprs)?;
+        act(&table, &program)
+    };
+    answer().map_err(|fault: Fault| (1, fault.line(bytes)))?
+}
+
+fn stopped((place, thread): (usize, u32), stop: machine::Stop) -> Refusal {
+    (4, format!("entry {}: thread {thread} {stop}\n", place + 1))
+}
+
+fn run(table: &Table<'_, '_>, program: &Program, bytes: &[u8]) -> Answer {
+    let schedule = schedule::read(bytes).map_err(|fault| (3, fault.line()))?;
+    let code = code::compile(program);
+    let mut machine = Machine::start(program, &code);
+    let ended = machine.run(&schedule);
+    ended.map_err(|(place, stop)| stopped((place, schedule[place]), stop))?;
+    Ok(machine.text(table))
+}
+
+fn serialise(table: &Table<'_, '_>, program: &Program, bytes: &[u8]) -> Answer {
+    let schedule = schedule::read(bytes).map_err(|fault| (3, fault.line()))?;
+    let code = code::compile(program);
+    let mut machine = Machine::start(program, &code);
+    let ended = serialise::serialise(&mut machine, &schedule);
+    let rewritten = ended.map_err(|(place, stop)| stopped((place, schedule[place]), stop))?;
+    if let Some(thread) = machine.open_thread() {
+        return Err((5, format!("thread {thread} is inside an atomic call\n")));
+    }
+    let mut out = schedule::write(&rewritten);
+    for line in machine.text(table).lines() {
+        out.push_str("# ");
+        out.push_str(line);
+        out.push('\n');
+    }
+    Ok(out)
 }
 
 fn answer(words: &[&str]) -> Answer {
     match words {
         ["print", name] => {
             let bytes = read(name, LARGEST_SOURCE)?;
-            print(&bytes).map_err(refused(&bytes))
+            print(&bytes).map_err(|fault| (1, fault.line(&bytes)))
         }
-        ["check", name] => {
+        ["check", name] => elaborated(&read(name, LARGEST_SOURCE)?, check),
+        ["run", name, schedule] => {
             let bytes = read(name, LARGEST_SOURCE)?;
-            check(&bytes).map_err(refused(&bytes))?
+            let schedule = read(schedule, LARGEST_SCHEDULE)?;
+            elaborated(&bytes, |table, program| {
+                rules::rules(program)?;
+                Ok(run(table, program, &schedule))
+            })
+        }
+        ["serialise", name, schedule] => {
+            let bytes = read(name, LARGEST_SOURCE)?;
+            let schedule = read(schedule, LARGEST_SCHEDULE)?;
+            elaborated(&bytes, |table, program| {
+                let checked = check(table, program)?;
+                Ok(checked.and_then(|_| serialise(table, program, &schedule)))
+            })
         }
         _ => Err((9, USAGE.to_string())),
     }
