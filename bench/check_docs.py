@@ -2,7 +2,8 @@
 """check_docs.py PROGRAM: runs what the documents show, and tells each line that the program doesn't write.
 
 It reads the tables of docs/repairs.md (a line, and the source for it in the last cell) and of examples/README.md (a
-file, the lines, the status), and the blocks of lines in docs/tutorial.md. The exit status is 0 where all of them hold.
+file, the lines, the status), and the blocks of lines in docs/tutorial.md. Where crates/atomic_cli has a test of the
+examples, it is held against examples/as_test.py. The exit status is 0 where all of them hold.
 """
 import os
 import re
@@ -91,11 +92,20 @@ class Checker:
             name = named[-1] if named else name
 
 
+    def examples_test(self):
+        path = os.path.join(TOP, "crates", "atomic_cli", "src", "tests", "examples.rt")
+        script = os.path.join(TOP, "examples", "as_test.py")
+        if os.path.exists(path) and subprocess.run([sys.executable, script, "--check", path]).returncode:
+            self.wrong += 1
+            print(f"{path} isn't what {script} writes")
+
+
 def main():
     checker = Checker(os.path.abspath(sys.argv[1]))
     checker.repairs()
     checker.examples()
     checker.tutorial()
+    checker.examples_test()
     print(f"{checker.count} answers, {checker.wrong} wrong")
     sys.exit(1 if checker.wrong else 0)
 

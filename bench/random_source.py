@@ -362,6 +362,24 @@ def workers(chooser, words):
     )
 
 
+STATEMENTS = ["{ %s }", "if (true) %s", "if (true) ; else %s", "while (b) %s", "synchronized (this) { %s }", "{ ; %s ; }", "{ int a = 0; %s }"]
+ENDS = ["x = %s;", "this.f = %s;", "%s.f = 1;", "this.m(%s);", "%s.m();", "new A(%s);", "return %s;", "System.out.println(%s);", "new Thread(%s).start();", "{ int y = %s; }", "if (%s) ;", "%s;"]
+EXPRESSIONS = ["(%s)", "!%s", "-%s", "%s + 1", "1 * %s", "%s && b", "%s.f", "%s.m()", "this.m(1, %s)", "new A(%s)", "this.f.m(%s).g", "%s == null"]
+LEAVES = ["1", "x", "this", "-2147483648", "2147483648", "null", "true", "new A()", "a.b.c"]
+
+
+def deep(chooser):
+    """A body whose height is near the limit, by statements, by expressions or by both."""
+    value, levels = chooser.choice(LEAVES), chooser.randint(56, 68)
+    inner = chooser.choice([0, 1, 2, 5, levels // 2, levels])
+    for _ in range(inner):
+        value = chooser.choice(EXPRESSIONS) % value
+    body = chooser.choice(ENDS) % value
+    for _ in range(levels - inner):
+        body = chooser.choice(STATEMENTS) % body
+    return f"class Main {{ void main() {{ {body} }} }}"
+
+
 def renamed(lock, names):
     """The lock with its root replaced."""
     root, dot, fields = lock.partition(".")
