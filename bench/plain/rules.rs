@@ -3,7 +3,7 @@
 use crate::classes::Table;
 use crate::core::{Expr, ExprId, FieldId, Method, MethodId, Path, Program, Stmt};
 use crate::fault::{Fault, Kind};
-use std::collections::{BTreeSet, VecDeque};
+use std::collections::{BTreeMap, BTreeSet, VecDeque};
 use std::fmt::Write;
 use std::mem;
 
@@ -109,6 +109,53 @@ impl Call {
     }
 }
 
+/// The paths near each method, ascending, those of one method after those of another.
+struct Paths {
+    all: Vec<Path>,
+    /// Where each method's paths begin, how many are relevant, and where they end. The relevant ones come first.
+    places: Vec<(usize, usize, usize)>,
+}
+
+impl Paths {
+    /// The paths, or the first method with too many.
+    fn new(program: &Program, near: Vec<BTreeSet<Path>>) -> Result<Paths, Fault> {
+        let (mut all, mut places) = (Vec::new(), Vec::with_capacity(near.len()));
+        for (method, paths) in program.methods.iter().zip(near) {
+            let (start, count) = (all.len(), paths.len());
+            let relevant = paths.iter().take_while(|p| p.root <= method.params).count();
+            if relevant > MOST_PATHS || count - relevant > MOST_PATHS {
+                return Err(Fault {
+                    at: method.at,
+                    kind: Kind::TooManyLocks,
+                });
+            }
+            all.extend(paths);
+            places.push((start, relevant, all.len()));
+        }
+        Ok(Paths { all, places })
+    }
+
+    fn near(&self, method: usize) -> &[Path] {
+        let (start, _, end) = self.places[method];
+        &self.all[start..end]
+    }
+
+    fn relevant(&self, method: usize) -> &[Path] {
+        let (start, relevant, _) = self.places[method];
+        &self.all[start..start + relevant]
+    }
+
+    /// The bit of a path near a method. The first relevant one has the highest bit of these.
+    fn bit(&self, method: usize, path: Path) -> Held {
+        let count = self.places[method].1;
+        match self.near(method).binary_search(&path) {
+            Ok(k) if k < count => 1 << (count - 1 - k),
+            Ok(k) => 1 << k,
+            Err(_) => 0,
+        }
+    }
+}
+
 /// A well-formed program's bodies, locks and calls.
 pub struct Rules<'p> {
     program: &'p Program,
@@ -116,69 +163,48 @@ pub struct Rules<'p> {
     calls: Vec<Call>,
     /// The calls of each method.
     callers: Vec<Vec<u32>>,
-    /// The relevant paths of each method, ascending. The first has the highest bit.
-    relevant: Vec<Vec<Path>>,
+    paths: Paths,
     requires: Vec<Held>,
 }
 
 /// The rules' view of the program, or `too many locks` at the first method that has more.
 pub fn rules(program: &Program) -> Result<Rules<'_>, Fault> {
-    let count = program.methods.len();
-    let near = Near::new(count);
     let mut walker = Walker {
         program,
         method: 0,
         steps: Vec::new(),
         calls: Vec::new(),
-        near,
+        near: Near {
+            known: vec![BTreeSet::new(); program.methods.len()],
+            open: Vec::new(),
+            names: BTreeMap::new(),
+        },
     };
-    let mut bodies: Vec<_> = program
-        .methods
-        .iter()
-        .map(|method| walker.body(method))
-        .collect();
+    let methods = program.methods.iter();
+    let mut bodies: Vec<_> = methods.map(|method| walker.body(method)).collect();
     let Walker {
         mut calls, near, ..
     } = walker;
-    let mut callers = vec![Vec::new(); count];
+    let mut callers = vec![Vec::new(); bodies.len()];
     for (k, call) in calls.iter().enumerate() {
         callers[call.callee as usize].push(k as u32);
     }
-    let near = near.closed(&calls, &callers);
-    let is_relevant = |m: usize, path: &Path| path.root <= program.methods[m].params;
-    let mut relevant = Vec::with_capacity(near.len());
-    for (m, paths) in near.iter().enumerate() {
-        let rel: Vec<_> = paths
-            .iter()
-            .copied()
-            .filter(|p| is_relevant(m, p))
-            .collect();
-        if rel.len() > MOST_PATHS || paths.len() - rel.len() > MOST_PATHS {
-            return Err(Fault {
-                at: program.methods[m].at,
-                kind: Kind::TooManyLocks,
-            });
-        }
-        relevant.push(rel);
-    }
-    let bit = |m: usize, path: Path| bit_of(&near[m], relevant[m].len(), path);
+    let paths = Paths::new(program, near.closed(&calls, &callers))?;
     for call in &mut calls {
-        let callee = call.callee as usize;
-        for &path in &relevant[callee] {
+        let (caller, callee) = (call.caller as usize, call.callee as usize);
+        for &path in paths.relevant(callee) {
             if let Some(renamed) = call.renamed(path) {
-                let pair = (bit(call.caller as usize, renamed), bit(callee, path));
+                let pair = (paths.bit(caller, renamed), paths.bit(callee, path));
                 call.renaming.push(pair);
             }
         }
     }
     for (m, body) in bodies.iter_mut().enumerate() {
-        place(body, &near[m], &|path| bit(m, path));
+        place(body, paths.near(m), &|path| paths.bit(m, path));
     }
     let required = |(m, method): (usize, &Method)| {
-        method
-            .requires
-            .iter()
-            .fold(0, |all, &path| all | bit(m, path))
+        let bits = method.requires.iter().map(|&path| paths.bit(m, path));
+        bits.fold(0, |all, bit| all | bit)
     };
     let requires = program.methods.iter().enumerate().map(required).collect();
     Ok(Rules {
@@ -186,18 +212,9 @@ pub fn rules(program: &Program) -> Result<Rules<'_>, Fault> {
         bodies,
         calls,
         callers,
-        relevant,
+        paths,
         requires,
     })
-}
-
-/// The bit of a path among the ascending paths near a method, of which the first `count` are relevant.
-fn bit_of(near: &[Path], count: usize, path: Path) -> Held {
-    match near.binary_search(&path) {
-        Ok(k) if k < count => 1 << (count - 1 - k),
-        Ok(k) => 1 << k,
-        Err(_) => 0,
-    }
 }
 
 /// Gives each path in the steps its bit.
@@ -234,36 +251,25 @@ fn place(steps: &mut [Step], near: &[Path], bit: &impl Fn(Path) -> Held) {
 
 /// The paths near each method, as they are found.
 struct Near {
-    paths: Vec<BTreeSet<Path>>,
-    /// The final locals of each method whose value has a path.
-    names: Vec<Vec<(u16, Path)>>,
+    known: Vec<BTreeSet<Path>>,
     /// Those that weren't followed yet.
     open: Vec<(MethodId, Path)>,
+    /// The final locals whose value has a path.
+    names: BTreeMap<(MethodId, u16), Path>,
 }
 
 impl Near {
-    fn new(methods: usize) -> Near {
-        let (paths, names) = (vec![BTreeSet::new(); methods], vec![Vec::new(); methods]);
-        Near {
-            paths,
-            names,
-            open: Vec::new(),
-        }
-    }
-
     fn add(&mut self, method: MethodId, path: Path) {
-        if self.paths[method as usize].insert(path) {
+        if self.known[method as usize].insert(path) {
             self.open.push((method, path));
         }
     }
 
     /// The least family with these paths.
-    fn closed(mut self, calls: &[Call], callers: &[Vec<u32>]) -> Vec<Vec<Path>> {
+    fn closed(mut self, calls: &[Call], callers: &[Vec<u32>]) -> Vec<BTreeSet<Path>> {
         while let Some((method, path)) = self.open.pop() {
-            let named = self.names[method as usize]
-                .iter()
-                .find(|(slot, _)| *slot == path.root);
-            if let Some(same) = named.and_then(|(_, value)| value.extended(path)) {
+            let value = self.names.get(&(method, path.root));
+            if let Some(same) = value.and_then(|value| value.extended(path)) {
                 self.add(method, same);
             }
             for &call in &callers[method as usize] {
@@ -273,10 +279,7 @@ impl Near {
                 }
             }
         }
-        self.paths
-            .into_iter()
-            .map(|paths| paths.into_iter().collect())
-            .collect()
+        self.known
     }
 }
 
@@ -452,7 +455,7 @@ impl Walker<'_> {
             gains: Vec::new(),
         });
         if let Some(value) = value {
-            self.near.names[self.method as usize].push((slot, value));
+            self.near.names.insert((self.method, slot), value);
         }
     }
 }
@@ -466,13 +469,13 @@ impl Rules<'_> {
     /// The sets of relevant paths of a method that have its required ones.
     fn sets(&self, method: usize) -> impl Iterator<Item = Held> {
         let required = self.requires[method];
-        (0..1 << self.relevant[method].len()).filter(move |held| held & required == required)
+        (0..1 << self.paths.relevant(method).len()).filter(move |held| held & required == required)
     }
 
     pub fn infer(&self) -> Tables {
         let count = self.bodies.len();
-        let empty = |rel: &Vec<Path>| vec![Basic::Const; 1 << rel.len()];
-        let mut tables: Vec<_> = self.relevant.iter().map(empty).collect();
+        let empty = |m| vec![Basic::Const; 1 << self.paths.relevant(m).len()];
+        let mut tables: Vec<_> = (0..count).map(empty).collect();
         let mut waits = vec![true; count];
         let mut queue: VecDeque<_> = (0..count).collect();
         while let Some(method) = queue.pop_front() {
@@ -568,7 +571,7 @@ impl Rules<'_> {
         for (m, table) in tables.tables.iter().enumerate() {
             let (class, name) = names.method_name(m as MethodId);
             let _ = write!(out, "{class}.{name} ");
-            write_table(&mut out, names, m, &self.relevant[m], table, false);
+            write_table(&mut out, names, m, self.paths.relevant(m), table, false);
             out.push('\n');
         }
         Ok(out)
