@@ -2,8 +2,10 @@
 """lanes.py < STEPS > PICTURE.svg: draws a schedule as lanes, one for each thread; time goes from left to right.
 
 A line of STEPS is a thread's number and what it does. `1 call NAME` and `1 end NAME` are drawn as a frame around what
-stands between them; every other line is a cell. Lines that begin with `#` say nothing.
+stands between them; every other line is a cell. A line may also be a schedule, as `0*10 1*3 2`, with a cell for each
+entry. Lines that begin with `#` say nothing.
 """
+import re
 import sys
 from html import escape
 
@@ -23,6 +25,10 @@ def read(lines):
     for line in lines:
         words = line.split()
         if not words or words[0].startswith("#"):
+            continue
+        if all(re.fullmatch(r"\d+(\*\d+)?", word) for word in words):
+            for thread, _, times in (word.partition("*") for word in words):
+                cells.append((int(thread), f"{times} steps" if times else "1 step"))
             continue
         thread, what = int(words[0]), " ".join(words[1:])
         if words[1] == "call":
