@@ -17,7 +17,7 @@ import sys
 import tempfile
 
 import rows
-from random_source import Generator, damaged, deep, workers
+from random_source import Crowd, Generator, damaged, deep, workers
 from schedules import drawn, runnable, written
 
 HERE = os.path.dirname(os.path.abspath(__file__))
@@ -81,13 +81,14 @@ def fixed_sources():
 
 
 def random_sources(count, seed, words):
-    """Random programs, high ones, and a damaged one of each."""
+    """Random programs, some with many locks, high ones, and damaged ones."""
     chooser = random.Random(seed)
     for k in range(count):
         calm, slips = k % 3 > 0, 0.002 if k % 4 == 0 else 0.0
         source = Generator(chooser.getrandbits(64), slips, calm, words).source()
         yield f"random_{k}", source.encode()
         yield f"damaged_{k}", damaged(source, chooser)
+        yield f"crowd_{k}", Crowd(chooser, words).source().encode()
         high = deep(chooser)
         yield f"high_{k}", high.encode()
         yield f"high_damaged_{k}", damaged(high, chooser)

@@ -2,9 +2,9 @@
 
 A Generator draws a program whose names and types fit, but for a slip now and then where `slips` says so: a name that
 nothing declares, a wrong type, an assigned final, a lock that is none. A calm one mostly takes a guard before it touches
-a guarded field, so that many of its programs are accepted. `workers` draws a program whose threads meet at shared
-cells. `damaged` cuts, repeats, swaps or changes tokens or bytes of
-a source.
+a guarded field, so that many of its programs are accepted. A Crowd draws methods with many locks. `workers` draws a
+program whose threads meet at shared cells, `deep` a body whose height is near the limit. `damaged` cuts, repeats, swaps
+or changes tokens or bytes of a source.
 """
 import random
 import re
@@ -310,6 +310,69 @@ class Generator:
         if cls and depth > 0 and self.some(0.5):
             return f"new {ty}({self.args([f.ty for f in cls.finals()], depth)})"
         return "null"
+
+
+class Crowd:
+    """A program whose methods have about as many locks as they may."""
+
+    def __init__(self, chooser, words):
+        self.chooser, self.words = chooser, words
+        self.count = chooser.randint(2, 5)
+        # A tame one takes the lock first, and asks for few.
+        self.is_tame = chooser.random() < 0.7
+
+    def lock(self):
+        weights = [30, 3, 2, 1, 1, 1] if self.is_tame else [6, 2, 2, 1, 1, 1]
+        fields = self.chooser.choices(["", ".a", ".b", ".a.a", ".a.b", ".b.a"], weights)[0]
+        return self.chooser.choice(self.roots) + fields
+
+    def call(self):
+        args = ", ".join(self.chooser.choice([self.lock(), self.lock(), "null", "r"]) for _ in range(3))
+        return f"{self.lock()}.m{self.chooser.randrange(self.count)}({args});"
+
+    def statement(self, depth):
+        kind = self.chooser.randint(0, 9 if depth > 0 else 4)
+        lock = self.lock()
+        if kind <= 1:
+            return self.call()
+        if kind == 2 and self.is_tame:
+            return f"{lock}.u = {self.lock()}.u;"
+        if kind == 2:
+            return f"{lock}.{self.chooser.choice('uvw')} = {self.lock()}.{self.chooser.choice('vw')};"
+        if kind <= 4:
+            # The guard of v is the object, that of w its field a.
+            field, guard = self.chooser.choice([("v", lock), ("w", f"{lock}.a")])
+            return f"synchronized ({guard}) {{ {lock}.{field} = 1; }}" if guard.count(".") <= 2 else ";"
+        if kind == 5:
+            name = f"x{len(self.roots)}_{self.chooser.randrange(1000)}"
+            value = self.chooser.choice([self.lock(), self.lock(), "r", "new N(p, q)"])
+            self.roots.append(name)
+            rest = self.statements(depth - 1)
+            self.roots.pop()
+            return f"{{ final N {name} = {value}; {rest} }}"
+        if kind == 6:
+            return f"if (p == q) {{ {self.statements(depth - 1)} }} else {{ {self.statements(depth - 1)} }}"
+        if kind == 7:
+            return f"while (p != q) {{ {self.statements(depth - 1)} }}"
+        return f"synchronized ({lock}) {{ {self.statements(depth - 1)} }}"
+
+    def statements(self, depth):
+        return " ".join(self.statement(depth) for _ in range(self.chooser.randint(1, 3)))
+
+    def method(self, number):
+        self.roots = ["this", "p", "q"]
+        wanted = self.chooser.choice([0, 0, 0, 0, 0, 1] if self.is_tame else [0, 0, 1, 2, 4])
+        requires = sorted({self.lock() for _ in range(wanted)})
+        text = f"{'atomic ' * (self.chooser.random() < 0.2)}void m{number}(final N p, final N q, N r)"
+        return f"{text}{' requires ' * bool(requires)}{', '.join(requires)} {{ {self.statements(2)} }}"
+
+    def source(self):
+        methods = "\n".join(self.method(k) for k in range(self.count))
+        fields = f"int u; int v {self.chooser.choice(self.words)} this; int w {self.chooser.choice(self.words)} this.a;"
+        return (
+            f"class N {{ final N a; final N b; {fields} N(N a, N b) {{ this.a = a; this.b = b; }}\n{methods} }}\n"
+            "class Main { void main() { } }\n"
+        )
 
 
 def method_of(chooser, name, body):
