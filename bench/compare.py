@@ -117,7 +117,7 @@ class Report:
             self.tell(command, name, ("wanted", "plain"), (status, (text or "").encode()), plain)
 
     def compare(self, command, name, atomic, plain):
-        self.counts[command, atomic[0]] += 1
+        self.counts[command.partition(" ")[0] or "no words", atomic[0]] += 1
         if atomic == plain:
             return
         if first_line(atomic[1]).endswith("too deep") and first_line(plain[1]).endswith("too deep"):
@@ -135,6 +135,16 @@ def random_schedule(chooser, answer):
         at = chooser.randrange(len(text))
         text = text[:at] + chooser.choice(["*", "x", "0", " # 1 *", "99999999999", "\t", "*200000 "]) + text[at:]
     return text
+
+
+def compare_words(atomic, plain, folder, report):
+    """Words that are no command, and files that can't be read or are too large."""
+    write(folder, "large", b" " * 262145)
+    write(folder, "a", "class Main { void main() { } }")
+    one = [[], ["check"], ["-h"], ["Check", "a"], ["check", "a", "a"], ["print", "a", ""], ["check", ""], ["check", "."]]
+    two = [[command, name] for command in COMMANDS for name in ("missing", "large", "a")]
+    for words in one + two if isinstance(atomic, Program) else []:
+        report.compare(" ".join(words), "a", atomic.answer(folder, *words), plain.answer(folder, *words))
 
 
 def answer_to(plain, folder, schedule):
@@ -204,6 +214,7 @@ def compare_all(atomic, plain, folder, options):
             report.compare(command, name, ours[name], theirs[name])
             if name in wanted and wanted[name][0] == command:
                 report.want(command, name, wanted[name][1], theirs[name])
+    compare_words(atomic, plain, folder, report)
     compare_schedules(atomic, plain, folder, options, words, report)
     for (command, status), count in sorted(report.counts.items()):
         print(f"{command}: {count} sources with status {status}")
