@@ -1,8 +1,9 @@
 -- Reducible words of kinds, after Lipton (1975).
-use Rattle.std.specs.Prelude.{◌≡◌, ◌≤◌, Bool, true, false, List, [], ◌∷◌, ◌++◌, length}
+use Rattle.std.specs.Prelude.{◌≡◌, ◌≢◌, ◌≤◌, ℕ, Bool, true, false, List, [], ◌∷◌, ◌++◌, length, Some, slice_get}
 use Rattle.std.specs.List.{list_all}
 use Rattle.aj_state.specs.declared.value.StepKind.{StepKind}
 use Rattle.aj_state.specs.declared.value.StepKind.TheVariants.{Both, Right, Left, Other, Bare}
+use Rattle.aj_steps.specs.Units.{Entry, word_of, is_call}
 
 -- Right or Both
 abbrev pub moves_right : StepKind → Bool
@@ -45,3 +46,11 @@ is_reducible (Right ∷ ks) = is_reducible ks
 is_reducible (Left ∷ ks) = list_all moves_left ks
 is_reducible (Other ∷ ks) = list_all moves_left ks
 is_reducible (Bare ∷ ks) = false
+
+-- no entry of a run is Bare
+abbrev pub HasNoBare : List Entry → Type 0
+HasNoBare es = (place : ℕ) (e : Entry) → slice_get es place ≡ Some e → e.kind ≢ Bare
+
+-- the word of each atomic call is reducible
+abbrev pub HasWords : List (List Entry) → Type 0
+HasWords us = (n : ℕ) (u : List Entry) → slice_get us n ≡ Some u → is_call u ≡ true → IsReducible (word_of u)

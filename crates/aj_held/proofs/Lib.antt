@@ -1,0 +1,6 @@
+-- Lemmas on safe states, runs and words.
+pub mod Shared
+pub mod SafeSteps
+pub mod UnitWords
+pub mod SafeRuns
+pub mod Theorem
