@@ -10,7 +10,7 @@ use Rattle.aj_state.specs.Memory.{IsNumbered}
 use Rattle.aj_state.specs.States.{Thread, State, initial}
 use Rattle.aj_steps.specs.Step.{Change, Move, Outcome, Moves, Absent, IsDone, HadFaulted, Waits, outcome, step, state_after, moved, kind_in, kind_of}
 use Rattle.aj_steps.specs.Run.{run, run_from, inside, is_inside_some}
-use Rattle.aj_steps.specs.Units.{Entry, entry_then, entries_from, entries, units, added, word_of, is_commit}
+use Rattle.aj_steps.specs.Units.{Entry, entry_then, entries_from, entries, units, word_of, is_commit}
 use Rattle.aj_steps.specs.Words.{IsReducible}
 use Rattle.aj_steps.proofs.RunLemmas.{step_numbered, initial_numbered}
 use Rattle.aj_safe.specs.Phases.{Phase, phase_of, allowed}
@@ -20,7 +20,7 @@ use Rattle.aj_state.proofs.MemoryLemmas.{set_other}
 use Rattle.std.specs.Prelude.{slice_set}
 use Rattle.aj_held.proofs.Shared.{ThreadAfter, kept, begun, thread_after}
 use Rattle.aj_held.proofs.SafeSteps.{step_fine, step_safe, initial_safe, other_number}
-use Rattle.aj_held.proofs.UnitWords.{Judged, judged_same, judged_added, judged_words, both_true, eqb_turned, same_thread, itself}
+use Rattle.aj_held.proofs.UnitWords.{Judged, added_entry, judged_words, itself}
 
 moves_in : (P : Program) (q r : State) (t : ℕ) (o : Outcome) → outcome P q t ≡ o → state_after q t o ≡ Some r → (move : Move) × (outcome P q t ≡ Moves move) × (moved t move q ≡ r)
 moves_in P q r t (Moves move) is e = (move, is, Rattle.aj_turn.proofs.Actions.some_same e)
@@ -95,18 +95,6 @@ module _ (P : Program) (rel : ℕ → List PathData) (A : Assignment) (accepted 
   inner_allowed false c Left e = refl
   inner_allowed false c Other e = refl
   inner_allowed false c Bare e = absurd (let k : false ≡ true = e in cc)
-
-  added_entry : (e : Entry) (us : List (List Entry)) (S T : ℕ → Bool) → ((v : ℕ) → (v == e.thread) ≡ false → S v ≡ T v) → (after : Bool) → (after ≡ true → T e.thread ≡ (S e.thread || is_commit e.kind)) → (after ≡ false → T e.thread ≡ false)
-      → allowed (phase_of true (S e.thread)) e.kind ≡ true → Judged T us → Judged S (if after then added e us else (e ∷ []) ∷ us)
-  added_entry e us S T others true stays leaves allow j = judged_added e us S T others (stays refl) allow j
-  added_entry e us S T others false stays leaves allow j = (
-    (λ v is. both_true _ true (ap (λ w. allowed (phase_of true (S w)) e.kind) (same_thread e.thread v (eqb_turned v e.thread ∙ is)) ∙ allow) refl),
-    judged_same T (λ v. if e.thread == v then false else S v) (λ v. rest v (v == e.thread) refl) us j,
-  )
-    where
-      rest : (v : ℕ) (b : Bool) → (v == e.thread) ≡ b → T v ≡ (if e.thread == v then false else S v)
-      rest v true is = ap T (same_thread e.thread v is) ∙ leaves refl ∙ sym (ap (λ x. if x then false else S v) (eqb_turned e.thread v ∙ is))
-      rest v false is = sym (others v is) ∙ sym (ap (λ x. if x then false else S v) (eqb_turned e.thread v ∙ is))
 
   and_left : (a b : Bool) → a ≡ true → (a && b) ≡ b
   and_left true b e = refl

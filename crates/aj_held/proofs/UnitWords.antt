@@ -5,8 +5,8 @@ use Rattle.std.specs.List.{list_all}
 use Rattle.std.proofs.lemmas.Bool.Decides.{nat_tests}
 use Rattle.aj_state.specs.declared.value.StepKind.{StepKind}
 use Rattle.aj_state.specs.declared.value.StepKind.TheVariants.{Both, Right, Left, Other, Bare}
-use Rattle.aj_steps.specs.Units.{Entry, added, is_of_thread, is_commit, word_of}
-use Rattle.aj_steps.specs.Words.{IsReducible, is_reducible, moves_left}
+use Rattle.aj_steps.specs.Units.{Entry, added, is_of_thread, is_commit, word_of, units}
+use Rattle.aj_steps.specs.Words.{IsReducible, is_reducible, moves_left, fits_phase, next_phase, FitPhases}
 use Rattle.aj_steps.proofs.WordLemmas.{reducible_is, left_reducible}
 use Rattle.aj_safe.specs.Phases.{phase_of, allowed}
 
@@ -115,9 +115,56 @@ module _ (e : Entry) where
             (ap (λ x. allowed (phase_of true (if x then false else S e.thread)) e.kind) other ∙ allow) j.1,
       )
 
+-- an entry before units that are judged
+pub added_entry : (e : Entry) (us : List (List Entry)) (S T : ℕ → Bool) → ((v : ℕ) → (v == e.thread) ≡ false → S v ≡ T v) → (after : Bool) → (after ≡ true → T e.thread ≡ (S e.thread || is_commit e.kind)) → (after ≡ false → T e.thread ≡ false)
+    → allowed (phase_of true (S e.thread)) e.kind ≡ true → Judged T us → Judged S (if after then added e us else (e ∷ []) ∷ us)
+added_entry e us S T others true stays leaves allow j = judged_added e us S T others (stays refl) allow j
+added_entry e us S T others false stays leaves allow j = (
+  (λ v is. both_true _ true (ap (λ w. allowed (phase_of true (S w)) e.kind) (same_thread e.thread v (eqb_turned v e.thread ∙ is)) ∙ allow) refl),
+  judged_same T (λ v. if e.thread == v then false else S v) (λ v. rest v (v == e.thread) refl) us j,
+)
+  where
+    rest : (v : ℕ) (b : Bool) → (v == e.thread) ≡ b → T v ≡ (if e.thread == v then false else S v)
+    rest v true is = ap T (same_thread e.thread v is) ∙ leaves refl ∙ sym (ap (λ x. if x then false else S v) (eqb_turned e.thread v ∙ is))
+    rest v false is = sym (others v is) ∙ sym (ap (λ x. if x then false else S v) (eqb_turned e.thread v ∙ is))
+
 -- units that are judged have reducible words
 pub judged_words : (us : List (List Entry)) (S : ℕ → Bool) → Judged S us → (n : ℕ) (u : List Entry) → slice_get us n ≡ Some u → IsReducible (word_of u)
 judged_words [] S j n u is = absurd (let e : None ≡ Some u = is in cc)
 judged_words ([] ∷ us) S j zero u is = subst (λ x. IsReducible (word_of x)) (Rattle.aj_turn.proofs.Actions.some_same is) (reducible_is [] refl)
 judged_words ((e ∷ u) ∷ us) S j zero w is = subst (λ x. IsReducible (word_of x)) (Rattle.aj_turn.proofs.Actions.some_same is) (accepted_word (S e.thread) (word_of (e ∷ u)) (j.0 e.thread (itself e.thread)))
 judged_words (u ∷ us) S j (suc n) w is = judged_words us (λ v. if is_of_thread v u then false else S v) j.1 n w is
+
+-- Phases.
+
+phase_allows : (c : Bool) (kind : StepKind) → fits_phase c kind ≡ true → allowed (phase_of true c) kind ≡ true
+phase_allows true kind e = e
+phase_allows false Both e = refl
+phase_allows false Right e = refl
+phase_allows false Left e = refl
+phase_allows false Other e = refl
+phase_allows false Bare e = absurd (let k : false ≡ true = e in cc)
+
+and_true : (a b : Bool) → a ≡ true → (a && b) ≡ b
+and_true true b e = refl
+and_true false b e = absurd cc
+
+and_false : (a b : Bool) → a ≡ false → (a && b) ≡ false
+and_false true b e = absurd cc
+and_false false b e = refl
+
+other_phase : (committed : ℕ → Bool) (e : Entry) (v : ℕ) → (v == e.thread) ≡ false → committed v ≡ next_phase committed e v
+other_phase committed e v other = sym (ap (λ b. if b then e.inside && (committed e.thread || is_commit e.kind) else committed v) other)
+
+own_phase : (committed : ℕ → Bool) (e : Entry) → next_phase committed e e.thread ≡ (e.inside && (committed e.thread || is_commit e.kind))
+own_phase committed e = ap (λ b. if b then e.inside && (committed e.thread || is_commit e.kind) else committed e.thread) (itself e.thread)
+
+phases_judged : (es : List Entry) (committed : ℕ → Bool) → FitPhases committed es → Judged committed (units es)
+phases_judged [] committed f = tt
+phases_judged (e ∷ es) committed f = added_entry e (units es) committed (next_phase committed e) (λ v other. other_phase committed e v other) e.inside
+    (λ stays. own_phase committed e ∙ and_true e.inside (committed e.thread || is_commit e.kind) stays) (λ leaves. own_phase committed e ∙ and_false e.inside (committed e.thread || is_commit e.kind) leaves)
+    (phase_allows (committed e.thread) e.kind f.0) (phases_judged es (next_phase committed e) f.1)
+
+-- entries that fit their phases have reducible words
+pub phases_words : (es : List Entry) (committed : ℕ → Bool) → FitPhases committed es → (n : ℕ) (u : List Entry) → slice_get (units es) n ≡ Some u → IsReducible (word_of u)
+phases_words es committed f n u is = judged_words (units es) committed (phases_judged es committed f) n u is

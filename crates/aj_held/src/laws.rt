@@ -11,7 +11,7 @@ ghost use Rattle.aj_state.specs.States.{State, initial};
 ghost use Rattle.aj_steps.specs.Step.{Move, Moves, outcome, moved, kind_of};
 ghost use Rattle.aj_steps.specs.Run.{run};
 ghost use Rattle.aj_steps.specs.Units.{Entry, entries, units, word_of};
-ghost use Rattle.aj_steps.specs.Words.{IsReducible, HasWords};
+ghost use Rattle.aj_steps.specs.Words.{IsReducible, HasWords, FitPhases};
 ghost use Rattle.aj_safe.specs.Safe.{IsSafe, flags_after};
 
 /// Guards are held: in no state that a schedule of an accepted program runs to is some thread's next step Bare.
@@ -24,6 +24,11 @@ pub fn guards_held()
 pub fn reducible_words()
     ensures calls { (P : Program) → IsTyped P → IsAccepted P → (s : List ℕ) → HasWords (units (entries P s)) }
     ensures units { (P : Program) → IsTyped P → IsAccepted P → (s : List ℕ) (n : ℕ) (u : List Entry) → slice_get (units (entries P s)) n ≡ Some u → IsReducible (word_of u) }
+{}
+
+/// Entries each of which may be made in the phase of its thread, outside atomic calls at the start, have reducible words.
+pub fn phases_give_words()
+    ensures { (es : List Entry) → FitPhases (λ t. false) es → HasWords (units es) }
 {}
 
 /// Safe states, on which both rest: the one at the start is safe, and each step of a thread keeps every thread safe.

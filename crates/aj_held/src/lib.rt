@@ -5,4 +5,4 @@
 pub mod examples;
 mod laws;
 
-pub use laws::{guards_held, reducible_words, safe_states};
+pub use laws::{guards_held, phases_give_words, reducible_words, safe_states};

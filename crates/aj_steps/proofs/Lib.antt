@@ -1,6 +1,7 @@
 -- Lemmas on the machine.
 pub mod StepCases
 pub mod RunLemmas
+pub mod MoreEntries
 pub mod WordLemmas
 pub mod PlainRuns
 pub mod UnitLemmas

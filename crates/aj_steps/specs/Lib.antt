@@ -1,4 +1,5 @@
--- What the contracts of the machine cite.
+-- What the contracts of the machine cite. Of proofs/ the files RunLemmas, MoreEntries, WordLemmas, UnitLemmas and PlainRuns are
+-- public: crates above cite them.
 pub mod Step
 pub mod Waiting
 pub mod Run

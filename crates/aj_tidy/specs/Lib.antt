@@ -1,1 +1,1 @@
--- The contracts of this crate cite the definitions of the crates below alone. The lemma file proofs/Admissible.antt is public: the crate above cites it.
+-- The contracts of this crate cite the definitions of the crates below alone. Of proofs/ the file Admissible is public: the crate above cites it.

@@ -29,7 +29,7 @@ module _ (P : Program) (rel : ℕ → List PathData) (A B : Assignment) (above :
       (above m (held_under (rel m) o args H) (λ q e. first (has_path (rel m) q) _ e))
 
   mutual
-    expr_rises : (e : Expr) (H : Held) → AtMost (expr_effect P rel A e H) (expr_effect P rel B e H)
+    pub expr_rises : (e : Expr) (H : Held) → AtMost (expr_effect P rel A e H) (expr_effect P rel B e H)
     expr_rises (IntE n) H = refl
     expr_rises (TruthE b) H = refl
     expr_rises NullE H = refl
