@@ -4,3 +4,7 @@ pub mod Values
 pub mod Memory
 pub mod Work
 pub mod States
+pub mod Slots
+pub mod Frames
+pub mod Codes
+pub mod Stored
