@@ -1,5 +1,4 @@
 -- Lemmas on safe states, runs and words.
-pub mod Shared
 pub mod SafeSteps
 pub mod UnitWords
 pub mod SafeRuns

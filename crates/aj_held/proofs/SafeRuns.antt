@@ -18,7 +18,7 @@ use Rattle.aj_safe.specs.Safe.{IsFree, IsSafe, flags_after}
 use Rattle.aj_turn.specs.Turn.{Accepted}
 use Rattle.aj_state.proofs.MemoryLemmas.{set_other}
 use Rattle.std.specs.Prelude.{slice_set}
-use Rattle.aj_held.proofs.Shared.{ThreadAfter, kept, begun, thread_after}
+use Rattle.aj_steps.proofs.Changed.{ThreadAfter, kept, begun, thread_after}
 use Rattle.aj_held.proofs.SafeSteps.{step_fine, step_safe, initial_safe, other_number}
 use Rattle.aj_held.proofs.UnitWords.{Judged, added_entry, judged_words, itself}
 

@@ -20,10 +20,10 @@ use Rattle.aj_safe.specs.Leads.{Memory, memory_of, Grows}
 use Rattle.aj_safe.specs.Safe.{Owns, IsFree, IsSafeThread, IsSafe, frames_inside, held_count, flags_after}
 use Rattle.aj_safe.proofs.PhaseLemmas.{le_itself}
 use Rattle.aj_safe.proofs.Frames.{frames_move}
-use Rattle.aj_turn.specs.Turn.{Accepted, StepFine, Fine, StartFine, objects_after, locks_after}
-use Rattle.aj_turn.proofs.FrameLemmas.{same_number}
+use Rattle.aj_turn.specs.Turn.{Accepted, StepFine, Fine, StartFine}
+use Rattle.aj_steps.specs.Changes.{objects_after, locks_after}
 use Rattle.aj_turn.proofs.ThreadTurn.{turn_fine}
-use Rattle.aj_held.proofs.Shared.{heap_after, locks_are, ThreadAfter, kept, begun, thread_after}
+use Rattle.aj_steps.proofs.Changed.{same_number, heap_after, locks_are, ThreadAfter, kept, begun, thread_after}
 
 pub other_number : (a b : ℕ) → (a == b) ≡ false → a ≢ b
 other_number a b e = grind (arith, nat_tests)

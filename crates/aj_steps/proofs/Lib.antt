@@ -6,3 +6,5 @@ pub mod WordLemmas
 pub mod PlainRuns
 pub mod UnitLemmas
 pub mod KeptLemmas
+pub mod Looks
+pub mod Changed

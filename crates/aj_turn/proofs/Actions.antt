@@ -34,7 +34,8 @@ use Rattle.aj_safe.proofs.LeadLemmas.{grows_itself, each_top, each_under, each_d
 use Rattle.aj_safe.proofs.FitLemmas.{fits_falls}
 use Rattle.aj_safe.proofs.SetLemmas.{first_false, second_false, sound_kept, extended_is}
 use Rattle.aj_safe.proofs.Unfolding.{on_pushed}
-use Rattle.aj_turn.specs.Turn.{Accepted, objects_after, locks_after, StartFine, Fine}
+use Rattle.aj_turn.specs.Turn.{Accepted, StartFine, Fine}
+use Rattle.aj_steps.specs.Changes.{objects_after, locks_after}
 use Rattle.aj_safe.proofs.Frames.{frames_move, outer_falls}
 use Rattle.aj_turn.proofs.FrameLemmas.{held_counts, stored, put_grows, made_grows}
 use Rattle.aj_turn.proofs.Accesses.{access_admits}

@@ -1,5 +1,5 @@
 -- Frames: in smaller phases and grown memories, counts of releases, slots and objects.
-use Rattle.std.proofs.Common.{◌≡◌, ◌≢◌, ℕ, zero, suc, ◌+◌, Bool, true, false, ◌||◌, ◌&&◌, ◌==◌, List, [], ◌∷◌, ◌++◌, Some, None, refl, sym, ap, ◌∙◌, arith}
+use Rattle.std.proofs.Common.{◌≡◌, ◌≢◌, ℕ, zero, suc, ◌+◌, Bool, true, false, ◌||◌, ◌==◌, List, [], ◌∷◌, ◌++◌, Some, None, refl, sym, ap, ◌∙◌, arith}
 use Rattle.std.specs.Prelude.{Option, slice_get, slice_set, unwrap_or, nat_lt, if◌then◌else◌}
 use Rattle.std.proofs.lemmas.Bool.Decides.{nat_tests}
 use Rattle.aj_core.specs.Core as core
@@ -17,7 +17,8 @@ use Rattle.aj_state.specs.States.{Frame}
 use Rattle.aj_safe.specs.Leads.{env_of, with_slot, memory_of, Grows}
 use Rattle.aj_safe.specs.Fits.{has_release, count_release}
 use Rattle.aj_safe.specs.Safe.{held_by, count_frames}
-use Rattle.aj_turn.specs.Turn.{object_with}
+use Rattle.aj_steps.specs.Changes.{object_with}
+use Rattle.aj_steps.proofs.Changed.{and_parts, same_number, other_number, same_address}
 
 -- Releases.
 
@@ -66,12 +67,6 @@ held_counts a more fs = both_count (has_release a more) (held_by fs a) (count_re
 
 -- Slots.
 
-pub same_number : (a b : ℕ) → (a == b) ≡ true → a ≡ b
-same_number a b e = grind (arith, nat_tests)
-
-pub other_number : (a b : ℕ) → (a == b) ≡ false → b ≢ a
-other_number a b e = grind (arith, nat_tests)
-
 slot_at : (slots : List Value) (x y : ℕ) (v old : Value) → slice_get slots x ≡ Some old → (b : Bool) → (x == y) ≡ b → unwrap_or (slice_get (slice_set slots x v) y) value.Null ≡ (if b then v else env_of slots y)
 slot_at slots x y v old is true same =
     ap (λ o. unwrap_or o value.Null) (ap (λ z. slice_get (slice_set slots x v) z) (sym (same_number x y same)) ∙ set_same slots x v old is)
@@ -85,25 +80,6 @@ pub found_before : {A : Type 0} (xs ys : List A) (k : ℕ) (x : A) → slice_get
 found_before [] ys k x e = absurd cc
 found_before (z ∷ zs) ys zero x e = e
 found_before (z ∷ zs) ys (suc k) x e = found_before zs ys k x e
-
--- Addresses.
-
-and_parts : (a b : Bool) → (a && b) ≡ true → (a ≡ true) × (b ≡ true)
-and_parts true b e = (refl, e)
-and_parts false b e = absurd cc
-
-pub same_address : (a b : Address) → address_eq a b ≡ true → a ≡ b
-same_address a b e =
-    let parts = and_parts (a.thread == b.thread) (a.count == b.count) e in
-    let first = same_number a.thread b.thread parts.0 in
-    let second = same_number a.count b.count parts.1 in
-    λ i. record { thread = first i; count = second i }
-
-number_itself : (n : ℕ) → (n == n) ≡ true
-number_itself n = grind (arith, nat_tests)
-
-pub address_itself : (a : Address) → address_eq a a ≡ true
-address_itself a = ap (λ b. b && (a.count == a.count)) (number_itself a.thread) ∙ number_itself a.count
 
 -- Objects.
 

@@ -26,7 +26,8 @@ use Rattle.aj_safe.specs.Safe.{LeadEach, FramesFit, Owns, frames_inside, outer_p
 use Rattle.aj_safe.proofs.PhaseLemmas.{passes_map, passes_lift, lift_allows, both_allowed, left_allowed, phase_stepped}
 use Rattle.aj_safe.proofs.LeadLemmas.{grows_itself, each_top, sound_more}
 use Rattle.aj_turn.specs.Turn.{Fine}
-use Rattle.aj_turn.proofs.FrameLemmas.{held_counts, same_address, address_itself}
+use Rattle.aj_turn.proofs.FrameLemmas.{held_counts}
+use Rattle.aj_steps.proofs.Changed.{same_address, address_itself}
 use Rattle.aj_turn.proofs.Actions.{fault_fine, list_falls, some_same, address_is}
 
 -- Numbers.

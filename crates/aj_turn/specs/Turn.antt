@@ -1,5 +1,5 @@
 -- What a thread's turn keeps, and what is asked of the program for it.
-use Rattle.std.specs.Prelude.{◌≡◌, ℕ, Bool, true, false, ◌&&◌, ◌||◌, ◌==◌, List, [], Option, Some, None, slice_get, if◌then◌else◌}
+use Rattle.std.specs.Prelude.{◌≡◌, ℕ, Bool, true, false, ◌&&◌, ◌||◌, ◌==◌, List, [], Some, slice_get}
 use Rattle.aj_paths.specs.Paths.{PathData}
 use Rattle.aj_algebra.specs.declared.basic.Basic.TheVariants.{Atomic}
 use Rattle.aj_algebra.specs.HeldPaths.{Held, has_path}
@@ -7,10 +7,8 @@ use Rattle.aj_core.specs.Core.{Program, Class, Method}
 use Rattle.aj_rules.specs.Effect.{Assignment}
 use Rattle.aj_rules.specs.Rules.{IsPart, AtMost, IsClosed, declared_bound}
 use Rattle.aj_state.specs.declared.value.Address.{Address}
-use Rattle.aj_state.specs.declared.value.Value.{Value}
-use Rattle.aj_state.specs.Values.{address_eq}
-use Rattle.aj_state.specs.Memory.{Object, Hold, with_value}
-use Rattle.aj_steps.specs.Step.{Change, FieldIs, ObjectIs, LockIs, Starts, Shared, Move, Outcome, Moves, Absent, IsDone, HadFaulted, Waits}
+use Rattle.aj_steps.specs.Step.{Change, Starts, Shared, Move, Outcome, Moves, Absent, IsDone, HadFaulted, Waits}
+use Rattle.aj_steps.specs.Changes.{objects_after, locks_after}
 use Rattle.aj_steps.specs.Units.{is_commit}
 use Rattle.aj_safe.specs.Phases.{phase_of, allowed}
 use Rattle.aj_safe.specs.Leads.{memory_of, Grows}
@@ -29,21 +27,6 @@ pub record Accepted (P : Program) (rel : ℕ → List PathData) (A : Assignment)
   -- the root of a relevant path isn't stored
   pub rooted : (m : ℕ) (method : Method) → slice_get P.methods m ≡ Some method → (q : PathData) → has_path (rel m) q ≡ true → stores method.body q.root ≡ false
   pub run : (c : ℕ) (class : Class) (m : ℕ) → slice_get P.classes c ≡ Some class → class.run ≡ Some m → IsFree P m
-
--- the object with another value of the field at this index, where there is one
-abbrev pub object_with : ℕ → Value → Option Object → Option Object
-object_with index v None = None
-object_with index v (Some o) = Some (with_value index v o)
-
--- objects and locks after a change
-abbrev pub objects_after : Change → (Address → Option Object) → Address → Option Object
-objects_after (FieldIs a index v) get = λ b. if address_eq a b then object_with index v (get a) else get b
-objects_after (ObjectIs a o) get = λ b. if address_eq a b then Some o else get b
-objects_after _ get = get
-
-abbrev pub locks_after : Change → (Address → Option Hold) → Address → Option Hold
-locks_after (LockIs a hold) get = λ b. if address_eq b a then hold else get b
-locks_after _ get = get
 
 -- a thread is started with a method that requires no lock
 abbrev pub StartFine : Program → Change → Type 0

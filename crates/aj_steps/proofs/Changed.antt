@@ -1,6 +1,7 @@
--- What a step changes, as it is seen of heap, locks and threads.
-use Rattle.std.proofs.Common.{◌≡◌, ◌≢◌, ℕ, zero, suc, Bool, true, false, List, [], ◌∷◌, ◌++◌, Some, None, refl, sym, ap, subst, ◌∙◌}
+-- What a change does, as it is seen of heap, locks and threads.
+use Rattle.std.proofs.Common.{◌≡◌, ◌≢◌, ℕ, zero, suc, Bool, true, false, ◌&&◌, ◌==◌, List, [], ◌∷◌, ◌++◌, Some, None, refl, sym, ap, subst, ◌∙◌, arith}
 use Rattle.std.specs.Prelude.{Option, slice_get, cond, if◌then◌else◌}
+use Rattle.std.proofs.lemmas.Bool.Decides.{nat_tests}
 use Rattle.std.specs.FinMap as M
 use Rattle.std.specs.FinMap.{get-remove}
 use Rattle.aj_state.specs.declared.value.Address.{Address}
@@ -11,8 +12,32 @@ use Rattle.aj_state.specs.States.{Thread, Ready, State}
 use Rattle.aj_state.proofs.Addresses.{address_total, apart, alike}
 use Rattle.aj_state.proofs.MemoryLemmas.{get-insert_other, get-insert_same}
 use Rattle.aj_steps.specs.Step.{Change, Nothing, FieldIs, ObjectIs, LockIs, Prints, Starts, changed}
-use Rattle.aj_turn.specs.Turn.{object_with, objects_after, locks_after}
-use Rattle.aj_turn.proofs.FrameLemmas.{same_address, address_itself}
+use Rattle.aj_steps.specs.Changes.{object_with, objects_after, locks_after}
+
+-- Addresses by their test.
+
+pub same_number : (a b : ℕ) → (a == b) ≡ true → a ≡ b
+same_number a b e = grind (arith, nat_tests)
+
+pub other_number : (a b : ℕ) → (a == b) ≡ false → b ≢ a
+other_number a b e = grind (arith, nat_tests)
+
+pub and_parts : (a b : Bool) → (a && b) ≡ true → (a ≡ true) × (b ≡ true)
+and_parts true b e = (refl, e)
+and_parts false b e = absurd cc
+
+pub same_address : (a b : Address) → address_eq a b ≡ true → a ≡ b
+same_address a b e =
+    let parts = and_parts (a.thread == b.thread) (a.count == b.count) e in
+    let first = same_number a.thread b.thread parts.0 in
+    let second = same_number a.count b.count parts.1 in
+    λ i. record { thread = first i; count = second i }
+
+number_itself : (n : ℕ) → (n == n) ≡ true
+number_itself n = grind (arith, nat_tests)
+
+pub address_itself : (a : Address) → address_eq a a ≡ true
+address_itself a = ap (λ b. b && (a.count == a.count)) (number_itself a.thread) ∙ number_itself a.count
 
 differ : (a b : Address) → address_eq a b ≡ false → b ≢ a
 differ a b other same = let e : true ≡ false = sym (address_itself a) ∙ ap (address_eq a) (sym same) ∙ other in absurd cc
