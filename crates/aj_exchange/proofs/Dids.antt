@@ -11,7 +11,7 @@ use Rattle.aj_state.specs.Work as W
 use Rattle.aj_state.specs.Work.{Action, Item, Next, unfolded}
 use Rattle.aj_state.specs.States.{Frame, Thread, Ready, Running, Done, Faulted}
 use Rattle.aj_steps.specs.Step.{Shared, Move, Outcome, Moves, Absent, IsDone, HadFaulted, Waits, unless_final, value_at, load, store, binary, and_then, or_else, choose, loop, get, get_value, put, put_value, new, call, call_on, enter, acquire, take, take_held, release, release_held, return_to, start, start_run, act, act_next, enter_first, turn}
-use Rattle.aj_exchange.specs.Asks.{Ask, Alone, Reads, Writes, Counts, Takes, Gives, Runs, ask_at, ask_of, ask_next, asks}
+use Rattle.aj_steps.specs.Asks.{Ask, Alone, Reads, Writes, Counts, Takes, Gives, Runs, asks_at, act_asks, next_asks, asks}
 use Rattle.aj_exchange.specs.Changes.{Did, quiet, was_read, was_written, was_made, was_taken, taken_more, was_given, was_started, was_printed}
 
 module _ (P : Program) (see : Shared) (t : ℕ) where
@@ -68,7 +68,7 @@ module _ (P : Program) (see : Shared) (t : ℕ) where
     get_value_did a x None is (Some v) e = absurd (let none = sym (no_field x (see.object_at a)) ∙ sym (ap (field_value P x (see.object_at a)) is) ∙ e in cc)
     get_value_did a x (Some fd) is (Some v) e = was_read fd v is e
 
-    get_did : (x : ℕ) (o : Option Address) → OutDid (ask_at (λ a. Reads a x) o) (get P see t f below rest x o)
+    get_did : (x : ℕ) (o : Option Address) → OutDid (asks_at (λ a. Reads a x) o) (get P see t f below rest x o)
     get_did x None = quiet Alone tt
     get_did x (Some a) = get_value_did a x _ refl _ refl
 
@@ -77,7 +77,7 @@ module _ (P : Program) (see : Shared) (t : ℕ) where
     put_value_did a x None is (Some old) e = absurd cc
     put_value_did a x (Some fd) is (Some old) e = let w = written_field fd.is_final (value_at P see t a x) old e in was_written fd old (top f.operands) is w.0 w.1
 
-    put_did : (x : ℕ) (o : Option Address) → OutDid (ask_at (λ a. Writes a x) o) (put P see t f below rest x o)
+    put_did : (x : ℕ) (o : Option Address) → OutDid (asks_at (λ a. Writes a x) o) (put P see t f below rest x o)
     put_did x None = quiet Alone tt
     put_did x (Some a) = put_value_did a x _ refl _ refl
 
@@ -105,7 +105,7 @@ module _ (P : Program) (see : Shared) (t : ℕ) where
     take_did s a None e = was_taken e
     take_did s a (Some hold) e = take_held_did s a hold e _ refl
 
-    acquire_did : (s : Stmt) (o : Option Address) → OutDid (ask_at Takes o) (acquire P see t f below rest s o)
+    acquire_did : (s : Stmt) (o : Option Address) → OutDid (asks_at Takes o) (acquire P see t f below rest s o)
     acquire_did s None = quiet Alone tt
     acquire_did s (Some a) = take_did s a _ refl
 
@@ -125,11 +125,11 @@ module _ (P : Program) (see : Shared) (t : ℕ) where
     start_run_did a None = quiet (Runs a) tt
     start_run_did a (Some m) = was_started m
 
-    start_did : (o : Option Address) → OutDid (ask_at Runs o) (start P see t f below rest o)
+    start_did : (o : Option Address) → OutDid (asks_at Runs o) (start P see t f below rest o)
     start_did None = quiet Alone tt
     start_did (Some a) = start_run_did a _
 
-    act_did : (a : Action) → OutDid (ask_of f a) (act P see t f below rest a)
+    act_did : (a : Action) → OutDid (act_asks f.operands a) (act P see t f below rest a)
     act_did (W.Push v) = quiet Alone tt
     act_did (W.Load x) = load_did _
     act_did (W.Store x) = store_did x _
@@ -150,7 +150,7 @@ module _ (P : Program) (see : Shared) (t : ℕ) where
     act_did W.Print = was_printed _
     act_did W.Start = start_did _
 
-  next_did : (f : Frame) (below : List Frame) (o : Option Next) → OutDid (ask_next f o) (act_next P see t f below o)
+  next_did : (f : Frame) (below : List Frame) (o : Option Next) → OutDid (next_asks f.operands o) (act_next P see t f below o)
   next_did f below None = quiet Alone tt
   next_did f below (Some next) = act_did f below next.1 next.0
 

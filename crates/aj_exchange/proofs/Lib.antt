@@ -1,6 +1,5 @@
 -- Public lemmas, for the crates above: the exchange and movers (Moving), soundness (SoundRuns), and that a thread stays as it is
 -- while others step (Swap).
-pub mod Looks
 pub mod Dids
 pub mod Commute
 pub mod Chains

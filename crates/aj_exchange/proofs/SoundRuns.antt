@@ -18,7 +18,7 @@ use Rattle.aj_state.proofs.Addresses.{address_total}
 use Rattle.aj_steps.specs.Step.{Change, Nothing, FieldIs, ObjectIs, LockIs, Prints, Starts, Move, Outcome, Moves, Absent, IsDone, HadFaulted, Waits, outcome, step, moved, state_after}
 use Rattle.aj_steps.specs.Run.{run_from, run}
 use Rattle.aj_steps.proofs.RunLemmas.{step_numbered, initial_numbered}
-use Rattle.aj_exchange.specs.Asks.{Ask, Reads, Writes, Takes, Runs, ask_at, ask_of, ask_next, asks}
+use Rattle.aj_steps.specs.Asks.{Ask, Reads, Writes, Takes, Runs, asks_at, act_asks, next_asks, asks}
 use Rattle.aj_exchange.specs.Guards.{AreFinal, HasFinalGuards}
 use Rattle.aj_exchange.specs.Orderly.{IsThere, Refers, IsClosed, IsFit, IsOrderly}
 use Rattle.aj_exchange.specs.Sound.{AllRefer, IsSoundFrame, IsSoundThread, IsSound}
@@ -152,7 +152,7 @@ module _ (P : Program) where
 
 -- What is asked in a sound state is there.
 module _ (heap : Heap) where
-  fit_at : (make : Address → Ask) → ((a : Address) → IsThere heap a → IsFit heap (make a)) → (v : Value) → Refers heap v → (o : Option Address) → address_of v ≡ o → IsFit heap (ask_at make o)
+  fit_at : (make : Address → Ask) → ((a : Address) → IsThere heap a → IsFit heap (make a)) → (v : Value) → Refers heap v → (o : Option Address) → address_of v ≡ o → IsFit heap (asks_at make o)
   fit_at make fit v r None e = tt
   fit_at make fit v r (Some a) e = fit a (address_there heap v a r e)
 
@@ -164,7 +164,7 @@ module _ (heap : Heap) where
   under_refer [] h = tt
   under_refer (v ∷ vs) h = h.1
 
-  ask_fit : (f : Frame) → IsSoundFrame heap f → (a : Action) → IsFit heap (ask_of f a)
+  ask_fit : (f : Frame) → IsSoundFrame heap f → (a : Action) → IsFit heap (act_asks f.operands a)
   ask_fit f s (W.Push v) = tt
   ask_fit f s (W.Load x) = tt
   ask_fit f s (W.Store x) = tt
@@ -185,7 +185,7 @@ module _ (heap : Heap) where
   ask_fit f s W.Print = tt
   ask_fit f s W.Start = fit_at Runs (λ a h. h) (top f.operands) (top_refers f.operands s.operands) _ refl
 
-  next_fit : (f : Frame) → IsSoundFrame heap f → (o : Option Next) → IsFit heap (ask_next f o)
+  next_fit : (f : Frame) → IsSoundFrame heap f → (o : Option Next) → IsFit heap (next_asks f.operands o)
   next_fit f s None = tt
   next_fit f s (Some next) = ask_fit f s next.0
 

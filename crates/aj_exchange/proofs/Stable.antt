@@ -14,7 +14,7 @@ use Rattle.aj_state.proofs.Addresses.{tied, apart}
 use Rattle.aj_state.proofs.MemoryLemmas.{get-insert_other, value_in-insert_other}
 use Rattle.aj_state.proofs.Numbering.{next_free, numbered_new, numbered_written}
 use Rattle.aj_steps.specs.Step.{Change, FieldIs, LockIs, index_of, holds, run_of, next_at, access_kind, taken_again, given_back}
-use Rattle.aj_exchange.specs.Asks.{Ask, Alone, Reads, Writes, Counts, Takes, Gives, Runs, mine, LooksSame}
+use Rattle.aj_steps.specs.Asks.{Ask, Alone, Reads, Writes, Counts, Takes, Gives, Runs, mine, LooksSame}
 use Rattle.aj_exchange.specs.Changes.{IsApart, Did, quiet, was_read, was_written, was_made, was_taken, taken_more, was_given, was_started, was_printed}
 use Rattle.aj_exchange.specs.Guards.{HasFinalGuards}
 use Rattle.aj_exchange.specs.Orderly.{see_in, IsThere, Refers, IsClosed, IsFit}

@@ -12,13 +12,13 @@ use Rattle.aj_state.specs.States.{Thread, Ready, State}
 use Rattle.aj_state.proofs.MemoryLemmas.{set_other}
 use Rattle.aj_state.proofs.Numbering.{next_free}
 use Rattle.aj_steps.specs.Step.{Change, Nothing, FieldIs, ObjectIs, LockIs, Prints, Starts, Move, Moves, Absent, outcome, moved, turn, seen_by, index_of, unless_final, access_kind, taken_again, given_back}
-use Rattle.aj_exchange.specs.Asks.{Ask, Alone, Reads, Writes, Counts, Takes, Gives, Runs, asks}
+use Rattle.aj_steps.specs.Asks.{Ask, Alone, Reads, Writes, Counts, Takes, Gives, Runs, asks}
 use Rattle.aj_exchange.specs.Changes.{AreClear, IsApart, IsIdle, Did, quiet, was_read, was_written, was_made, was_taken, taken_more, was_given, was_started, was_printed}
 use Rattle.aj_exchange.specs.Guards.{HasFinalGuards}
 use Rattle.aj_exchange.specs.Orderly.{see_in, IsOrderly}
 use Rattle.aj_exchange.specs.Parts.{on_heap, on_locks, on_threads}
 use Rattle.aj_exchange.specs.Swapped.{MayPass, started, Swapped}
-use Rattle.aj_exchange.proofs.Looks.{turn_same}
+use Rattle.aj_steps.proofs.Looks.{turn_same}
 use Rattle.aj_exchange.proofs.Dids.{moves_did}
 use Rattle.aj_exchange.proofs.Commute.{moved_is, moved_swap}
 use Rattle.aj_exchange.proofs.Stable.{stable}

@@ -7,7 +7,7 @@ use Rattle.aj_state.specs.declared.value.StepKind.{StepKind}
 use Rattle.aj_state.specs.declared.value.StepKind.TheVariants.{Both, Right, Other}
 use Rattle.aj_state.specs.Memory.{Object, Hold, Heap, value_in}
 use Rattle.aj_steps.specs.Step.{Change, Nothing, FieldIs, ObjectIs, LockIs, Prints, Starts, index_of, unless_final, Shared, value_at, access_kind, taken_again, given_back, release_kind}
-use Rattle.aj_exchange.specs.Asks.{Ask, Alone, Reads, Writes, Counts, Takes, Gives, Runs}
+use Rattle.aj_steps.specs.Asks.{Ask, Alone, Reads, Writes, Counts, Takes, Gives, Runs}
 
 -- the two changes touch different things
 abbrev pub AreClear : Change → Change → Type 0

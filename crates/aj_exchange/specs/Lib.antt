@@ -1,7 +1,5 @@
 -- For a reader of the laws, in this order: which two steps change places and what that means (Swapped), movers (Movers), the
--- invariant of runs that it rests on (Orderly, Sound), what a step asks of what all share (Asks). Changes, Parts and Guards serve
--- the proofs.
-pub mod Asks
+-- invariant of runs that it rests on (Orderly, Sound). Changes, Parts and Guards serve the proofs.
 pub mod Changes
 pub mod Guards
 pub mod Orderly

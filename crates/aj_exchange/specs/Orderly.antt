@@ -7,7 +7,7 @@ use Rattle.aj_state.specs.declared.value.Value.TheVariants as value
 use Rattle.aj_state.specs.Memory.{Object, Heap, Locks, made_by, IsNumbered}
 use Rattle.aj_state.specs.States.{State}
 use Rattle.aj_steps.specs.Step.{Shared}
-use Rattle.aj_exchange.specs.Asks.{Ask, Reads, Writes, Runs, asks}
+use Rattle.aj_steps.specs.Asks.{Ask, Reads, Writes, Runs, asks}
 
 -- what a thread may see of a heap and of held locks
 abbrev pub see_in : ℕ → Heap → Locks → Shared

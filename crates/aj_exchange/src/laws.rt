@@ -1,23 +1,17 @@
 //! Laws of neighbouring steps.
 
-ghost use Rattle.std.specs.Prelude.{◌≡◌, ◌≢◌, ℕ, List, Option, true, length, Some};
+ghost use Rattle.std.specs.Prelude.{◌≡◌, ◌≢◌, ℕ, List, true, length, Some};
 ghost use Rattle.aj_core.specs.Core.{Program};
 ghost use Rattle.aj_core.specs.Typed.{IsTyped};
 ghost use Rattle.aj_state.specs.declared.value.StepKind.TheVariants.{Bare};
-ghost use Rattle.aj_state.specs.States.{State, Thread, initial};
+ghost use Rattle.aj_state.specs.States.{State, initial};
 ghost use Rattle.aj_steps.specs.Run.{run};
-ghost use Rattle.aj_steps.specs.Step.{Shared, Move, Moves, outcome, moved, turn};
+ghost use Rattle.aj_steps.specs.Step.{Move, Moves, outcome, moved};
 ghost use Rattle.aj_steps.specs.Words.{moves_right, moves_left};
-ghost use Rattle.aj_exchange.specs.Asks.{asks, LooksSame};
 ghost use Rattle.aj_exchange.specs.Movers.{MovesRight, MovesLeft};
 ghost use Rattle.aj_exchange.specs.Orderly.{IsOrderly};
 ghost use Rattle.aj_exchange.specs.Sound.{IsSound};
 ghost use Rattle.aj_exchange.specs.Swapped.{MayPass, started, Swapped};
-
-/// What comes of a thread's turn depends on what all threads share only at what the thread asks: at most one thing.
-pub fn asking_laws()
-    ensures same { (P : Program) (t : ℕ) (see other : Shared) (o : Option Thread) → LooksSame P t see other (asks o) → turn P see t o ≡ turn P other t o }
-{}
 
 /// No address dangles in any state of any run, and in such a state whatever is asked about an object is asked about one
 /// that is there.

@@ -4,4 +4,4 @@
 
 mod laws;
 
-pub use laws::{asking_laws, exchange_laws, mover_laws, soundness_laws};
+pub use laws::{exchange_laws, mover_laws, soundness_laws};

@@ -1,0 +1,5 @@
+//! Probe.
+
+pub fn probe()
+    ensures { Unit {0} }
+{}

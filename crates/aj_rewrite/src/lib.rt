@@ -1,0 +1,6 @@
+//! Probe.
+#![tactic(auto)]
+
+mod laws;
+
+pub use laws::probe;
