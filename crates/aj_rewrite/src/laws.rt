@@ -1,5 +1,0 @@
-//! Probe.
-
-pub fn probe()
-    ensures { Unit {0} }
-{}

@@ -1,6 +1,0 @@
-//! Probe.
-#![tactic(auto)]
-
-mod laws;
-
-pub use laws::probe;
