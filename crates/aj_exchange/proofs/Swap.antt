@@ -272,7 +272,7 @@ thread_kept q t u m other fresh =
     ∙ set_other q.threads t u m.thread (λ e. absurd (other (sym e)))
 
 -- a thread that steps is there
-stepper : (P : Program) (q : State) (t : ℕ) (m : Move) → outcome P q t ≡ Moves m → t < length q.threads
+pub stepper : (P : Program) (q : State) (t : ℕ) (m : Move) → outcome P q t ≡ Moves m → t < length q.threads
 stepper P q t m e = by (slice_get q.threads t) refl
   where
     by : (o : Option Thread) → slice_get q.threads t ≡ o → t < length q.threads
