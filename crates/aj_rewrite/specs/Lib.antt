@@ -1,0 +1,3 @@
+-- Serial is for a reader of the laws; Runs serves the proofs.
+pub mod Serial
+pub mod Runs
