@@ -9,4 +9,4 @@ mod Complete
 mod PassBooks
 mod BookLaws
 mod CursorLaws
-mod TableLaws
+pub mod TableLaws

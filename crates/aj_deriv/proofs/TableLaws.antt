@@ -30,7 +30,7 @@ pub record IsFirst (ds : Nodes) (view : NodeView) (inner new : Premises) : Type 
   pub inner_are : ArePremises inner (nodes_in inner.rest.now)
   pub new_are : ArePremises new (nodes_in new.rest.now)
 
-node_is : (d : Node) (view : NodeView) (ds : Nodes) → view.word ≡ word_at d → view.number ≡ number_of d → ds ≡ premises_of d → d ≡ node view.word view.number ds
+pub node_is : (d : Node) (view : NodeView) (ds : Nodes) → view.word ≡ word_at d → view.number ≡ number_of d → ds ≡ premises_of d → d ≡ node view.word view.number ds
 node_is (node w n ps) view ds word number premises = λ i. node (sym word i) (sym number i) (sym premises i)
 
 pub first_is : (ds : Nodes) (view : NodeView) (inner new : Premises) → IsNext ds (Some view) new → ((d : Node) → IsViewOf view d → ArePremises inner (premises_of d)) → IsFirst ds view inner new
