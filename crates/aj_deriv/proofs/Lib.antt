@@ -7,6 +7,6 @@ mod Several
 mod PassLemmas
 mod Complete
 mod PassBooks
-mod BookLaws
-mod CursorLaws
+pub mod BookLaws
+pub mod CursorLaws
 pub mod TableLaws

@@ -11,3 +11,5 @@ mod LineLemmas
 mod VerdictLemmas
 mod PassLemmas
 mod CanonicalLemmas
+mod OneVerdict
+mod TextVerdict

@@ -1,11 +1,17 @@
 //! Whether the text of a book is good for a program.
-ghost use Rattle.std.specs.Prelude.{◌≡◌, ◌≤◌, length, IfOk, IfErr};
+ghost use Rattle.std.specs.Prelude.{◌≡◌, ◌≢◌, ◌≤◌, ◌⊎◌, length, Some, IfOk, IfErr, MatchResult};
 ghost use Rattle.aj_core.specs.Typed.{IsTyped};
 ghost use Rattle.aj_core.specs.Views.{program_of};
 ghost use Rattle.aj_deriv.specs.Books.{Book};
 ghost use Rattle.aj_deriv.specs.Views.{IsCursorAt};
 ghost use Rattle.aj_rules.specs.Near.{AreRelevant, AreFew, rel_of};
+ghost use Rattle.aj_deriv.specs.Faults.{first_fault};
+ghost use Rattle.aj_deriv.specs.Texts.{IsTextOf};
+ghost use Rattle.aj_deriv.specs.declared.stop.BookFault.{BookFault};
 ghost use Rattle.aj_deriv_check.specs.Checks.{IsJudged};
+ghost use Rattle.aj_deriv_check.specs.Faults.{IsWrong};
+ghost use Rattle.aj_deriv_check.specs.Good.{IsGoodBook};
+ghost use Rattle.aj_deriv_check.specs.declared.wrong.Wrong.{Wrong};
 ghost use Rattle.aj_deriv_check.specs.Passes.{IsVerdict};
 
 use crate::checked::Checked;
@@ -91,6 +97,14 @@ pub fn accept_text(
     ensures program_back { IfErr result (λ refused. refused.program ≡ program) }
     ensures sets_back { IfErr result (λ refused. refused.sets ≡ sets) }
     ensures refused { IfErr result (λ refused. IsJudged (program_of program) (rel_of sets) bytes.now (Err refused.why)) }
+
+    // Each fault is told, and a good book is taken, where there is memory.
+    ensures only_fault { (fault : BookFault) → first_fault bytes.now ≡ Some fault →
+        MatchResult result (λ _. ⊥) (λ refused. refused.why ≡ TextWrong.Book fault) }
+    ensures only_wrong { (book : Book) (fault : Wrong) → IsTextOf bytes.now book → fault ≢ Wrong.Memory → IsWrong (program_of program) (rel_of sets) book fault →
+        MatchResult result (λ _. ⊥) (λ refused. (refused.why ≡ TextWrong.Wrong fault) ⊎ (refused.why ≡ TextWrong.Wrong Wrong.Memory)) }
+    ensures only_good { (book : Book) → IsTextOf bytes.now book → IsGoodBook (program_of program) (rel_of sets) book →
+        IfErr result (λ refused. refused.why ≡ TextWrong.Wrong Wrong.Memory) }
 {
     match judged(alloc, &program, &sets, bytes) {
         Ok(()) => Ok(Checked { program, sets }),
