@@ -1,0 +1,12 @@
+-- The lemmas that several proofs share.
+mod Digits
+mod Fronts
+mod Sound
+mod SoundTrees
+mod Several
+mod PassLemmas
+mod Complete
+mod PassBooks
+pub mod BookLaws
+pub mod CursorLaws
+pub mod TableLaws

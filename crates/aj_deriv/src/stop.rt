@@ -1,0 +1,54 @@
+//! Why reading stops.
+ghost use Rattle.std.specs.Prelude.{◌≡◌, ◌-◌, ◌<◌, ◌^◌, length};
+ghost use Rattle.aj_deriv.specs.Faults.{fault_at};
+
+use std::alloc::{AllocError, Global};
+
+/// Why bytes are no book. Places count bytes from 0.
+#[derive(Clone, Copy, Debug, PartialEq, Eq)]
+pub enum BookFault {
+    /// No book goes on with this byte, or the bytes end here too early, or a number out of range or a tree that isn't canonical
+    /// begins here.
+    Form(u32),
+    /// This bracket is the 65th open one.
+    TooDeep(u32),
+    /// There was no memory for the book.
+    NoMemory,
+}
+
+impl From<AllocError> for BookFault {
+    ghost use Rattle.std.specs.Prelude.{◌≡◌};
+    ghost use Rattle.aj_deriv.specs.declared.stop.BookFault.TheVariants as faults;
+
+    ghost from_gives = { λ _ fault. fault ≡ faults.NoMemory };
+
+    fn from(_: AllocError) -> Self {
+        BookFault::NoMemory
+    }
+}
+
+/// What kind of fault a text has.
+#[derive(Clone, Copy, Debug, PartialEq, Eq)]
+pub(crate) enum Kind {
+    Form,
+    TooDeep,
+}
+
+/// A fault, and the text from its first byte on.
+#[derive(Clone, Copy)]
+pub(crate) struct Stop<'a> {
+    pub(crate) kind: Kind,
+    pub(crate) rest: &'a [u8],
+}
+
+/// The fault where reading stopped in a text of this length.
+pub(crate) fn fault_in(size: usize, stop: Stop<'_>) -> BookFault
+    requires { size < 2 ^ 32 }
+    ensures { result ≡ fault_at stop.entry.kind (size - length stop.entry.rest.now) }
+{
+    let place = size.saturating_sub(stop.rest.len()) as u32;
+    match stop.kind {
+        Kind::Form => BookFault::Form(place),
+        Kind::TooDeep => BookFault::TooDeep(place),
+    }
+}

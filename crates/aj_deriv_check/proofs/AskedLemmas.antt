@@ -1,0 +1,65 @@
+-- What is asked of each node.
+use Rattle.std.proofs.Common.{◌≡◌, ℕ, ◌==◌, ◌&&◌, ◌↔◌, Bool, true, false, List, [], ◌∷◌, ◌++◌, map, length, Result, Ok, Err, IfOk, refl, sym, ◌∙◌, ap, subst}
+use Rattle.std.proofs.lemmas.Bool.Decides.{nat_tests}
+use Rattle.std.proofs.Common.{arith}
+use Rattle.aj_algebra.specs.HeldPaths.{Held}
+use Rattle.aj_rules.specs.Rules.{AtMost}
+use Rattle.aj_deriv.specs.declared.word.Word.{Word}
+use Rattle.aj_deriv.specs.Derivations.{node, Nodes, no_nodes, and_node, count_nodes, Node, number_of}
+use Rattle.aj_deriv_check.specs.Good.{conclusions}
+use Rattle.aj_deriv_check.specs.Parts.{Part, Fits, word_of, parts_of}
+use Rattle.aj_deriv_check.specs.Rules.{Value}
+
+same_count : (a b : ℕ) → (a == b) ≡ true → a ≡ b
+same_count a b e = grind (arith, nat_tests)
+
+count_same : (a b : ℕ) → a ≡ b → (a == b) ≡ true
+count_same a b e = grind (arith, nat_tests)
+
+and_left : (a b : Bool) → (a && b) ≡ true → a ≡ true
+and_left true b e = refl
+and_left false b e = absurd (cc)
+
+and_right : (a b : Bool) → (a && b) ≡ true → b ≡ true
+and_right true b e = e
+and_right false b e = absurd (cc)
+
+and_true : (a b : Bool) → a ≡ true → b ≡ true → (a && b) ≡ true
+and_true a b p q = rw (p, q) refl
+
+-- both tests together say that a node fits
+pub fits_is : (x : Part) (w : Word) (n : ℕ) (ds : Nodes) (same_word same_size : Bool) (parts : List Part) → (same_word ≡ true) ↔ (w ≡ word_of x) → parts ≡ parts_of x →
+    same_size ≡ (count_nodes ds == length parts) → ((same_word && same_size) ≡ true) ↔ Fits (record { part = x; at = node w n ds })
+fits_is x w n ds same_word same_size parts words are sizes = (
+  (λ e. record {
+    word = words.0 (and_left same_word same_size e);
+    count = same_count (count_nodes ds) (length parts) (sym sizes ∙ and_right same_word same_size e) ∙ ap length are;
+  }),
+  (λ fits. and_true same_word same_size (words.1 fits.word) (sizes ∙ count_same (count_nodes ds) (length parts) (fits.count ∙ ap length (sym are)))),
+)
+
+-- one conclusion more
+pub numbers_more : (V : ℕ → Value) (old new : List ℕ) (d : Node) (all ds es : Nodes) → new ≡ old ++ (number_of d ∷ []) → ds ≡ and_node d es →
+    map V old ++ conclusions V ds ≡ conclusions V all → map V new ++ conclusions V es ≡ conclusions V all
+numbers_more V old new d all ds es pushed is so_far =
+    ap (λ z. map V z ++ conclusions V es) pushed ∙ moved old (number_of d) ∙ ap (λ z. map V old ++ conclusions V z) (sym is) ∙ so_far
+  where
+    moved : (old : List ℕ) (n : ℕ) → map V (old ++ (n ∷ [])) ++ conclusions V es ≡ map V old ++ (V n ∷ conclusions V es)
+    moved [] n = refl
+    moved (m ∷ old) n = ap (λ z. V m ∷ z) (moved old n)
+
+nil : (xs : List Value) → xs ++ [] ≡ xs
+nil [] = refl
+nil (x ∷ xs) = ap (λ t. x ∷ t) (nil xs)
+
+pub numbers_done : (V : ℕ → Value) (numbers : List ℕ) (all ds : Nodes) → ds ≡ no_nodes → map V numbers ++ conclusions V ds ≡ conclusions V all → map V numbers ≡ conclusions V all
+numbers_done V numbers all ds is so_far = sym (nil (map V numbers)) ∙ ap (λ z. map V numbers ++ conclusions V z) (sym is) ∙ so_far
+
+-- a comparison of two trees, in other words
+pub step_is : {E : Type 0} (r : Result Bool E) (a b c d : Value) → ((H : Held) → a H ≡ c H) → ((H : Held) → b H ≡ d H) →
+    IfOk r (λ x. (x ≡ true) ↔ ((H : Held) → AtMost (a H) (b H))) → IfOk r (λ x. (x ≡ true) ↔ ((H : Held) → AtMost (c H) (d H)))
+step_is (Ok x) a b c d first second test = (
+  (λ e H. subst (λ z. AtMost z (d H)) (first H) (subst (λ z. AtMost (a H) z) (second H) (test.0 e H))),
+  (λ all. test.1 (λ H. subst (λ z. AtMost z (b H)) (sym (first H)) (subst (λ z. AtMost (c H) z) (sym (second H)) (all H)))),
+)
+step_is (Err e) a b c d first second test = tt

@@ -1,0 +1,123 @@
+-- What a method line's tree is tested for.
+use Rattle.std.proofs.Common.{◌≡◌, ◌&&◌, ◌||◌, ◌↔◌, Bool, true, false, List, [], ◌∷◌, Result, Ok, Err, IfOk, if◌then◌else◌, refl, sym, ◌∙◌, ap, subst}
+use Rattle.std.specs.List.{list_all}
+use Rattle.aj_paths.specs.Paths.{PathData, path_eq}
+use Rattle.aj_paths.proofs.PathOrder.{eq_is, eq_itself}
+use Rattle.aj_algebra.specs.declared.basic.Basic.{Basic}
+use Rattle.aj_algebra.specs.declared.basic.Basic.TheVariants.{Error}
+use Rattle.aj_algebra.specs.HeldPaths.{Held, has_path}
+use Rattle.aj_cond.specs.Conditions.{Cond, LeafC, TestC, value_of, IsCanonical}
+use Rattle.aj_cond.proofs.PathLemmas.{put}
+use Rattle.aj_cond.proofs.NodeLemmas.{parts-test, parts-high, parts-low}
+use Rattle.aj_rules.specs.Rules.{IsPart, AtMost}
+use Rattle.aj_rules.proofs.BasicLemmas.{below_itself, below_chain, below_error}
+use Rattle.aj_deriv_check.specs.Good.{Falls, IsUnder, IsTabled, tests_only}
+
+pub falls_leaf : (b : Basic) → Falls (value_of (LeafC b))
+falls_leaf b = λ H K part. below_itself b
+
+falls_if : (p q : Bool) (a b c d : Basic) → (p ≡ true → q ≡ true) → AtMost c a → AtMost d b → AtMost c d → AtMost (if q then c else d) (if p then a else b)
+falls_if true true a b c d part first second here = first
+falls_if true false a b c d part first second here = absurd (let no : false ≡ true = part refl in cc)
+falls_if false true a b c d part first second here = below_chain c d b here second
+falls_if false false a b c d part first second here = second
+
+both_parts : (a b c : Bool) → (a && (b && c)) ≡ true → (a ≡ true) × (b ≡ true) × (c ≡ true)
+both_parts true true true e = (refl, refl, refl)
+both_parts true true false e = absurd (cc)
+both_parts true false c e = absurd (cc)
+both_parts false b c e = absurd (cc)
+
+all_true : (a b c : Bool) → a ≡ true → b ≡ true → c ≡ true → (a && (b && c)) ≡ true
+all_true a b c p q r = rw (p, q, r) refl
+
+put_part : (p : PathData) (v : Bool) (H K : Held) → IsPart H K → IsPart (put p v H) (put p v K)
+put_part p v H K part = λ q e. chosen q (path_eq p q) e
+  where
+    chosen : (q : PathData) (b : Bool) → (if b then v else H q) ≡ true → (if b then v else K q) ≡ true
+    chosen q true e = e
+    chosen q false e = part q e
+
+put_more : (p : PathData) (H : Held) → IsPart (put p false H) (put p true H)
+put_more p H = λ q e. chosen (H q) (path_eq p q) e
+  where
+    chosen : (h b : Bool) → (if b then false else h) ≡ true → (if b then true else h) ≡ true
+    chosen h true e = refl
+    chosen h false e = e
+
+pub falls_test : (p : PathData) (a b : Cond) (here held free : Bool) → IsCanonical (TestC p a b) → (here ≡ true) ↔ ((H : Held) → AtMost (value_of a H) (value_of b H)) →
+    (held ≡ true) ↔ Falls (value_of a) → (free ≡ true) ↔ Falls (value_of b) → ((here && (held && free)) ≡ true) ↔ Falls (value_of (TestC p a b))
+falls_test p a b here held free is below first second =
+    let parts = parts-test p a b is in (
+      (λ e. let all = both_parts here held free e in
+          λ H K part. falls_if (H p) (K p) (value_of a H) (value_of b H) (value_of a K) (value_of b K) (part p) (first.0 all.1 H K part) (second.0 all.2 H K part) (below.0 all.0 K)),
+      (λ falls. all_true here held free
+          (below.1 (λ H. subst (λ z. AtMost z (value_of b H)) (parts-high p (TestC p a b) a b parts H)
+          (subst (λ z. AtMost (value_of (TestC p a b) (put p true H)) z) (parts-low p (TestC p a b) a b parts H) (falls (put p false H) (put p true H) (put_more p H)))))
+          (first.1 (λ H K part. subst (λ z. AtMost z (value_of a H)) (parts-high p (TestC p a b) a b parts K)
+          (subst (λ z. AtMost (value_of (TestC p a b) (put p true K)) z) (parts-high p (TestC p a b) a b parts H) (falls (put p true H) (put p true K) (put_part p true H K part)))))
+          (second.1 (λ H K part. subst (λ z. AtMost z (value_of b H)) (parts-low p (TestC p a b) a b parts K)
+          (subst (λ z. AtMost (value_of (TestC p a b) (put p false K)) z) (parts-low p (TestC p a b) a b parts H) (falls (put p false H) (put p false K) (put_part p false H K part)))))),
+    )
+
+-- the required paths are held
+all_held : (H : Held) (qs : List PathData) → IsPart (has_path qs) H → list_all H qs ≡ true
+all_held H [] part = refl
+all_held H (q ∷ qs) part =
+    let here : H q ≡ true = part q (ap (λ b. b || has_path qs q) (eq_itself q)) in
+    let rest : list_all H qs ≡ true = all_held H qs (λ r e. part r (later (path_eq q r) (has_path qs r) e)) in
+    rw (here, rest) refl
+  where
+    later : (a b : Bool) → b ≡ true → (a || b) ≡ true
+    later true b e = refl
+    later false b e = e
+
+held_all : (H : Held) (qs : List PathData) → list_all H qs ≡ true → IsPart (has_path qs) H
+held_all H [] all = λ r e. absurd (let no : false ≡ true = e in cc)
+held_all H (q ∷ qs) all =
+    let others = held_all H qs (rest (H q) (list_all H qs) all) in
+    λ r e. chosen others r (path_eq q r) refl e
+  where
+    first : (a b : Bool) → (a && b) ≡ true → a ≡ true
+    first true b e = refl
+    first false b e = absurd (cc)
+
+    rest : (a b : Bool) → (a && b) ≡ true → b ≡ true
+    rest true b e = e
+    rest false b e = absurd (cc)
+
+    chosen : IsPart (has_path qs) H → (r : PathData) (b : Bool) → path_eq q r ≡ b → (b || has_path qs r) ≡ true → H r ≡ true
+    chosen others r true same e = subst (λ z. H z ≡ true) (eq_is q r same) (first (H q) (list_all H qs) all)
+    chosen others r false same e = others r e
+
+under_if : (b : Bool) (x y : Basic) → (b ≡ true → AtMost x y) → AtMost x (if b then y else Error)
+under_if true x y h = h refl
+under_if false x y h = below_error x
+
+-- at or below a value that is an error where a required path isn't held
+pub under_is : (required : List PathData) (x y z w u : Held → Basic) → ((H : Held) → x H ≡ w H) → ((H : Held) → y H ≡ (if list_all H required then z H else Error)) → ((H : Held) → z H ≡ u H) →
+    ((H : Held) → AtMost (x H) (y H)) ↔ IsUnder required w u
+under_is required x y z w u body own same = (
+  (λ all H part. subst (λ v. AtMost (w H) v) (own H ∙ ap (λ b. if b then z H else Error) (all_held H required part) ∙ same H) (subst (λ v. AtMost v (y H)) (body H) (all H))),
+  (λ under H. subst (λ v. AtMost v (y H)) (sym (body H)) (subst (λ v. AtMost (w H) v) (sym (own H))
+      (under_if (list_all H required) (w H) (z H) (λ e. subst (λ v. AtMost (w H) v) (sym (same H)) (under H (held_all H required e)))))),
+)
+
+both_true : (a b : Bool) → (a && b) ≡ true → (a ≡ true) × (b ≡ true)
+both_true true b e = (refl, e)
+both_true false b e = absurd (cc)
+
+true_both : (a b : Bool) → a ≡ true → b ≡ true → (a && b) ≡ true
+true_both a b p q = rw (p, q) refl
+
+pub tabled_is : (rel : List PathData) (t : Cond) (relevant falls : Bool) → relevant ≡ tests_only rel t → (falls ≡ true) ↔ Falls (value_of t) →
+    ((relevant && falls) ≡ true) ↔ IsTabled rel t
+tabled_is rel t relevant falls is test = (
+  (λ e. let both = both_true relevant falls e in record { relevant = sym is ∙ both.0; falls = test.0 both.1 }),
+  (λ tabled. true_both relevant falls (is ∙ tabled.relevant) (test.1 tabled.falls)),
+)
+
+-- a test, in other words
+pub ok_iff : {E : Type 0} (r : Result Bool E) (A B : Type 0) → A ↔ B → IfOk r (λ b. (b ≡ true) ↔ A) → IfOk r (λ b. (b ≡ true) ↔ B)
+ok_iff (Ok b) A B same test = ((λ e. same.0 (test.0 e)), (λ x. test.1 (same.1 x)))
+ok_iff (Err e) A B same test = tt

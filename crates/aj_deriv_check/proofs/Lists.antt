@@ -1,0 +1,83 @@
+-- Places in lists, and which is the least bad one.
+use Rattle.std.proofs.Common.{◌≡◌, ℕ, zero, suc, ◌+◌, ◌<◌, ◌⊎◌, inl, inr, List, [], ◌∷◌, ◌++◌, length, Some, None, refl, ◌∙◌, ap, subst, arith, slice_get}
+use Rattle.std.proofs.lemmas.Option.{slice_get_within}
+use Rattle.aj_deriv_check.specs.Parts.{Place, Each, IsLeastBad}
+
+pub get_left : {A : Type 0} (xs ys : List A) (k : ℕ) (x : A) → slice_get xs k ≡ Some x → slice_get (xs ++ ys) k ≡ Some x
+get_left [] ys k x e = absurd (let h : None ≡ Some x = e in cc)
+get_left (y ∷ xs) ys zero x e = e
+get_left (y ∷ xs) ys (suc k) x e = get_left xs ys k x e
+
+pub get_right : {A : Type 0} (xs ys : List A) (k : ℕ) → slice_get (xs ++ ys) (length xs + k) ≡ slice_get ys k
+get_right [] ys k = let e : 0 + k ≡ k = omega arith in ap (slice_get ys) e
+get_right (x ∷ xs) ys k = let e : suc (length xs) + k ≡ suc (length xs + k) = omega arith in ap (slice_get (x ∷ (xs ++ ys))) e ∙ get_right xs ys k
+
+pub get_split : {A : Type 0} (xs ys : List A) (k : ℕ) (x : A) → slice_get (xs ++ ys) k ≡ Some x → (slice_get xs k ≡ Some x) ⊎ ((j : ℕ) × (k ≡ length xs + j) × (slice_get ys j ≡ Some x))
+get_split [] ys k x e = inr (k, omega arith, e)
+get_split (y ∷ xs) ys zero x e = inl e
+get_split (y ∷ xs) ys (suc k) x e = next (get_split xs ys k x e)
+  where
+    next : (slice_get xs k ≡ Some x) ⊎ ((j : ℕ) × (k ≡ length xs + j) × (slice_get ys j ≡ Some x)) →
+        (slice_get xs k ≡ Some x) ⊎ ((j : ℕ) × (suc k ≡ suc (length xs) + j) × (slice_get ys j ≡ Some x))
+    next (inl e) = inl e
+    next (inr j) = inr (j.0, omega (arith, j.1), j.2)
+
+pub each_left : (G : Place → Type 0) (xs ys : List Place) → Each G (xs ++ ys) → Each G xs
+each_left G xs ys all = λ k x e. all k x (get_left xs ys k x e)
+
+pub each_right : (G : Place → Type 0) (xs ys : List Place) → Each G (xs ++ ys) → Each G ys
+each_right G xs ys all = λ k x e. all (length xs + k) x (get_right xs ys k ∙ e)
+
+pub each_both : (G : Place → Type 0) (xs ys : List Place) → Each G xs → Each G ys → Each G (xs ++ ys)
+each_both G xs ys first second = λ k x e. chosen (get_split xs ys k x e)
+  where
+    chosen : {k : ℕ} {x : Place} → (slice_get xs k ≡ Some x) ⊎ ((j : ℕ) × (k ≡ length xs + j) × (slice_get ys j ≡ Some x)) → G x
+    chosen {k = k} {x = x} (inl e) = first k x e
+    chosen {x = x} (inr j) = second j.0 x j.2
+
+pub each_none : (G : Place → Type 0) → Each G []
+each_none G = λ k x e. absurd (let h : None ≡ Some x = e in cc)
+
+some_same : {A : Type 0} (x y : A) → Some x ≡ Some y → x ≡ y
+some_same x y e = cc
+
+pub each_one : (G : Place → Type 0) (x : Place) → G x → Each G (x ∷ [])
+each_one G x good zero y e = subst G (some_same x y e) good
+each_one G x good (suc k) y e = absurd (let h : None ≡ Some y = e in cc)
+
+pub bad_here : (G : Place → Type 0) (x : Place) (xs : List Place) → (G x → ⊥) → IsLeastBad G (x ∷ xs) 0
+bad_here G x xs bad = record { place = x; is = refl; bad = bad; first = λ j y below e. absurd (omega (arith, below)) }
+
+pub bad_left : (G : Place → Type 0) (xs ys : List Place) (k : ℕ) → IsLeastBad G xs k → IsLeastBad G (xs ++ ys) k
+bad_left G xs ys k b = record {
+  place = b.place;
+  is = get_left xs ys k b.place b.is;
+  bad = b.bad;
+  first = λ j y below e. before j y below (get_split xs ys j y e);
+}
+  where
+    before : (j : ℕ) (y : Place) → j < k → (slice_get xs j ≡ Some y) ⊎ ((i : ℕ) × (j ≡ length xs + i) × (slice_get ys i ≡ Some y)) → G y
+    before j y below (inl e) = b.first j y below e
+    before j y below (inr i) = absurd (omega (arith, below, i.1, slice_get_within xs k b.place b.is))
+
+pub bad_right : (G : Place → Type 0) (xs ys : List Place) (k : ℕ) → Each G xs → IsLeastBad G ys k → IsLeastBad G (xs ++ ys) (length xs + k)
+bad_right G xs ys k good b = record {
+  place = b.place;
+  is = get_right xs ys k ∙ b.is;
+  bad = b.bad;
+  first = λ j y below e. before j y below (get_split xs ys j y e);
+}
+  where
+    before : (j : ℕ) (y : Place) → j < length xs + k → (slice_get xs j ≡ Some y) ⊎ ((i : ℕ) × (j ≡ length xs + i) × (slice_get ys i ≡ Some y)) → G y
+    before j y below (inl e) = good j y e
+    before j y below (inr i) = b.first i.0 y (omega (arith, below, i.1)) i.2
+
+-- a list has one least bad place, and none where all are good
+pub one_least : (G : Place → Type 0) (xs : List Place) (j k : ℕ) → IsLeastBad G xs j → IsLeastBad G xs k → j ≡ k
+one_least G xs j k a b = tied j k (λ below. a.bad (b.first j a.place below a.is)) (λ below. b.bad (a.first k b.place below b.is))
+  where
+    tied : (j k : ℕ) → (j < k → ⊥) → (k < j → ⊥) → j ≡ k
+    tied j k below above = omega (arith, below, above)
+
+pub none_bad : (G : Place → Type 0) (xs : List Place) (k : ℕ) → Each G xs → IsLeastBad G xs k → ⊥
+none_bad G xs k good b = b.bad (good k b.place b.is)

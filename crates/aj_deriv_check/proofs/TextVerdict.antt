@@ -1,0 +1,60 @@
+-- What was judged of a text is all that is true of it.
+use Rattle.std.proofs.Common.{◌≡◌, ◌≢◌, ℕ, ◌⊎◌, inl, inr, List, [], Some, Ok, Err, refl, sym, ◌∙◌, ap, subst}
+use Rattle.aj_paths.specs.Paths.{PathData}
+use Rattle.aj_core.specs.Core.{Program}
+use Rattle.aj_deriv.specs.Books.{Book}
+use Rattle.aj_deriv.specs.Texts.{IsTextOf}
+use Rattle.aj_deriv.specs.Faults.{first_fault}
+use Rattle.aj_deriv.specs.declared.stop.BookFault.{BookFault}
+use Rattle.aj_deriv.proofs.BookLaws.{complete_book}
+use Rattle.aj_deriv.proofs.CursorLaws.{one_book, no_fault, same_fault}
+use Rattle.aj_deriv_check.specs.declared.wrong.Wrong.{Wrong}
+use Rattle.aj_deriv_check.specs.declared.wrong.Wrong.TheVariants as wrong
+use Rattle.aj_deriv_check.specs.declared.wrong.TextWrong.{TextWrong}
+use Rattle.aj_deriv_check.specs.declared.wrong.TextWrong.TheVariants as text
+use Rattle.aj_deriv_check.specs.Good.{IsGoodBook}
+use Rattle.aj_deriv_check.specs.Faults.{IsWrong}
+use Rattle.aj_deriv_check.specs.Checks.{IsJudged}
+use Rattle.aj_deriv_check.proofs.OneVerdict.{one_wrong, good_no_wrong}
+
+memory_or : (w : Wrong) → (w ≡ wrong.Memory) ⊎ (w ≢ wrong.Memory)
+memory_or (wrong.Shape m n) = inr (λ e. absurd (cc))
+memory_or (wrong.Table m) = inr (λ e. absurd (cc))
+memory_or (wrong.Step m n) = inr (λ e. absurd (cc))
+memory_or (wrong.Bound m) = inr (λ e. absurd (cc))
+memory_or wrong.Memory = inl refl
+
+module _ (P : Program) (rel : ℕ → List PathData) (bytes : List ℕ) where
+  same_book : (a b : Book) → IsTextOf bytes a → IsTextOf bytes b → a ≡ b
+  same_book a b first second = one_book bytes a b (complete_book bytes a first) second
+
+  text_no_fault : (book : Book) (fault : BookFault) → IsTextOf bytes book → first_fault bytes ≡ Some fault → ⊥
+  text_no_fault book fault is e = no_fault bytes book [] fault (complete_book bytes book is) e
+
+  pub ok_no_fault : (u : Unit {0}) (fault : BookFault) → IsJudged P rel bytes (Ok u) → first_fault bytes ≡ Some fault → ⊥
+  ok_no_fault u fault judged e = text_no_fault judged.0 fault judged.1 e
+
+  pub ok_no_wrong : (u : Unit {0}) (book : Book) (w : Wrong) → IsJudged P rel bytes (Ok u) → IsTextOf bytes book → w ≢ wrong.Memory → IsWrong P rel book w → ⊥
+  ok_no_wrong u book w judged is some bad =
+      good_no_wrong P rel book w some (subst (IsGoodBook P rel) (same_book judged.0 book judged.1 is) judged.2) bad
+
+  pub err_fault : (why : TextWrong) (fault : BookFault) → IsJudged P rel bytes (Err why) → first_fault bytes ≡ Some fault → why ≡ text.Book fault
+  err_fault (text.Book found) fault judged e = ap (λ z. text.Book z) (same_fault found fault bytes judged e)
+  err_fault (text.Wrong w) fault judged e = absurd (text_no_fault judged.0 fault judged.1 e)
+
+  pub err_wrong : (why : TextWrong) (book : Book) (w : Wrong) → IsJudged P rel bytes (Err why) → IsTextOf bytes book → w ≢ wrong.Memory → IsWrong P rel book w →
+      (why ≡ text.Wrong w) ⊎ (why ≡ text.Wrong wrong.Memory)
+  err_wrong (text.Book found) book w judged is some bad = absurd (text_no_fault book found is judged)
+  err_wrong (text.Wrong v) book w judged is some bad = chosen (memory_or v)
+    where
+      chosen : (v ≡ wrong.Memory) ⊎ (v ≢ wrong.Memory) → (text.Wrong v ≡ text.Wrong w) ⊎ (text.Wrong v ≡ text.Wrong wrong.Memory)
+      chosen (inl memory) = inr (ap (λ z. text.Wrong z) memory)
+      chosen (inr other) = inl (ap (λ z. text.Wrong z) (one_wrong P rel book v w other some (subst (λ b. IsWrong P rel b v) (same_book judged.0 book judged.1 is) judged.2) bad))
+
+  pub err_good : (why : TextWrong) (book : Book) → IsJudged P rel bytes (Err why) → IsTextOf bytes book → IsGoodBook P rel book → why ≡ text.Wrong wrong.Memory
+  err_good (text.Book found) book judged is good = absurd (text_no_fault book found is judged)
+  err_good (text.Wrong v) book judged is good = chosen (memory_or v)
+    where
+      chosen : (v ≡ wrong.Memory) ⊎ (v ≢ wrong.Memory) → text.Wrong v ≡ text.Wrong wrong.Memory
+      chosen (inl memory) = ap (λ z. text.Wrong z) memory
+      chosen (inr other) = absurd (good_no_wrong P rel book v other good (subst (λ b. IsWrong P rel b v) (same_book judged.0 book judged.1 is) judged.2))

@@ -1,0 +1,31 @@
+-- A program with a good book is accepted.
+use Rattle.aj_core.specs.Views.{program_of}
+use Rattle.aj_rules.specs.Near.{rel_of}
+use Rattle.aj_deriv_check.proofs.Admissible.{book_accepts}
+use Rattle.aj_deriv_check.proofs.TextVerdict.{ok_no_fault, ok_no_wrong, err_fault, err_wrong, err_good}
+use Rattle.aj_deriv_check.proofs.accept.accept_text.Goals as goal
+
+pub invariant_of-result : goal.invariant_of-result
+invariant_of-result c =
+    let judged = c.in-Ok.ensures in
+    record {
+      typed = c.requires.typed;
+      relevant = c.requires.relevant;
+      few = c.requires.few;
+      accepted = book_accepts (program_of c.args.program) c.args.sets judged.0 c.requires.relevant c.requires.few judged.2;
+    }
+
+pub returns-in-Ok-clause-only_fault : goal.returns-in-Ok-clause-only_fault
+returns-in-Ok-clause-only_fault c = λ fault e. ok_no_fault (program_of c.args.program) (rel_of c.args.sets) c.args.bytes.now (tt {0}) fault c.in-Ok.ensures e
+
+pub returns-in-Ok-clause-only_wrong : goal.returns-in-Ok-clause-only_wrong
+returns-in-Ok-clause-only_wrong c = λ book fault is some bad. ok_no_wrong (program_of c.args.program) (rel_of c.args.sets) c.args.bytes.now (tt {0}) book fault c.in-Ok.ensures is some bad
+
+pub returns-in-Err-clause-only_fault : goal.returns-in-Err-clause-only_fault
+returns-in-Err-clause-only_fault c = λ fault e. err_fault (program_of c.args.program) (rel_of c.args.sets) c.args.bytes.now c.in-Err.why fault c.in-Err.ensures e
+
+pub returns-in-Err-clause-only_wrong : goal.returns-in-Err-clause-only_wrong
+returns-in-Err-clause-only_wrong c = λ book fault is some bad. err_wrong (program_of c.args.program) (rel_of c.args.sets) c.args.bytes.now c.in-Err.why book fault c.in-Err.ensures is some bad
+
+pub returns-in-Err-clause-only_good : goal.returns-in-Err-clause-only_good
+returns-in-Err-clause-only_good c = λ book is good. err_good (program_of c.args.program) (rel_of c.args.sets) c.args.bytes.now c.in-Err.why book c.in-Err.ensures is good

@@ -1,0 +1,18 @@
+-- At or below the method's tree, which counts as an error where a required path isn't held.
+use Rattle.aj_algebra.specs.HeldPaths.{Held}
+use Rattle.aj_cond.specs.Conditions.{cond_of, value_of}
+use Rattle.aj_rules.specs.Rules.{AtMost}
+use Rattle.aj_deriv_check.specs.Good.{IsUnder}
+use Rattle.aj_deriv_check.specs.Judges.{judge_value}
+use Rattle.aj_deriv_check.proofs.LineLemmas.{under_is, ok_iff}
+use Rattle.aj_deriv_check.proofs.line.is_under.Goals as goal
+
+pub returns : goal.returns
+returns c =
+    let body = value_of (cond_of c.in_ok-body.body) in
+    let own = value_of (cond_of c.in_ok-own.own) in
+    let wherever = value_of (cond_of c.in_ok-wherever.wherever) in
+    let V = judge_value c.args.judge.now in
+    ok_iff c.below.result ((H : Held) → AtMost (body H) (wherever H)) (IsUnder c.args.required.now (V c.args.body) (V c.args.own))
+    (under_is c.args.required.now body wherever own (V c.args.body) (V c.args.own) (λ H. c.in_ok-body.ensures.value H) (λ H. c.in_ok-wherever.ensures.value H) (λ H. c.in_ok-own.ensures.value H))
+    c.below.ensures

@@ -1,0 +1,14 @@
+-- Behind the last statement nothing is left.
+use Rattle.std.proofs.Common.{sym, ◌∙◌, arith}
+use Rattle.aj_deriv_check.specs.Judges.{judge_program, judge_value}
+use Rattle.aj_deriv_check.proofs.RuleLemmas.{block_end}
+use Rattle.aj_deriv_check.proofs.rules.block.Goals as goal
+
+pub loop-place-init : goal.loop-place-init
+loop-place-init c = record {
+  within = omega (arith, c.min-place.ensures);
+  counted = omega (arith, c.min-place.ensures);
+  known = c.leaf-rest.ensures.known;
+  value = λ H. c.leaf-rest.ensures.value H
+      ∙ sym (block_end (judge_program c.args.judge.now) (judge_value c.args.judge.now) c.args.body.now c.args.numbers.now c.min-place.result H c.min-place.ensures);
+}

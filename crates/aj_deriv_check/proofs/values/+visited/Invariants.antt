@@ -1,0 +1,4 @@
+use Rattle.aj_deriv_check.proofs.values.+visited.Given as goal
+
+abbrev pub decreases-visited : goal.decreases-visited
+decreases-visited l = l.depth

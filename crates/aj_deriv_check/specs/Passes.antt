@@ -1,0 +1,75 @@
+-- What the two passes over a book's method lines find.
+use Rattle.std.specs.Prelude.{◌≡◌, ◌⊎◌, ℕ, ◌<◌, List, [], ◌∷◌, length, slice_get, Option, Some, None, Result, Ok, Err, Vec}
+use Rattle.std.specs.Global.{Global}
+use Rattle.aj_paths.specs.Paths.{PathData}
+use Rattle.aj_core.specs.Core.{Program, Method}
+use Rattle.aj_deriv.specs.Books.{Line, Book}
+use Rattle.aj_deriv.specs.Views.{IsCursorAt}
+use Rattle.aj_deriv.specs.declared.cursor.BookCursor.{BookCursor}
+use Rattle.aj_deriv_check.specs.declared.wrong.Wrong.{Wrong}
+use Rattle.aj_deriv_check.specs.declared.wrong.Wrong.TheVariants as wrong
+use Rattle.aj_deriv_check.specs.declared.judge.Judge.{Judge}
+use Rattle.aj_deriv_check.specs.Judges.{judge_assignment, judge_program, judge_rel, judge_table}
+use Rattle.aj_deriv_check.specs.Good.{IsShaped, IsGoodBook, IsGoodLine}
+use Rattle.aj_deriv_check.specs.Faults.{HasShapeFault, AreShaped, IsWrong, IsLineVerdict}
+
+-- a shape that is wrong at this position, or want of memory
+abbrev pub IsShapeFault : ℕ → Option Method → Option Line → Wrong → Type 0
+IsShapeFault m method line (wrong.Shape k node) = (k ≡ m) × HasShapeFault m method line node
+IsShapeFault m method line wrong.Memory = Unit {0}
+IsShapeFault m method line (wrong.Table k) = ⊥
+IsShapeFault m method line (wrong.Step k node) = ⊥
+IsShapeFault m method line (wrong.Bound k) = ⊥
+
+-- the shape of the next method line: the number of its tree, and the lines that are then still to come
+abbrev pub IsShapeStep : ℕ → Method → Book → List Line → Result ℕ Wrong → BookCursor → Type 0
+IsShapeStep m method book [] (Ok n) new = ⊥
+IsShapeStep m method book [] (Err fault) new = IsShapeFault m (Some method) None fault
+IsShapeStep m method book (line ∷ lines) (Ok n) new =
+    (n ≡ line.number) × IsShaped m method line × IsCursorAt new (record { table = book.table; lines = lines })
+IsShapeStep m method book (line ∷ lines) (Err fault) new = IsShapeFault m (Some method) (Some line) fault
+
+-- the numbers of the trees of method lines
+abbrev pub numbers_of : List Line → List ℕ
+numbers_of [] = []
+numbers_of (line ∷ lines) = line.number ∷ numbers_of lines
+
+-- the first pass: the numbers of all trees, where all shapes are right
+abbrev pub AreAllShaped : Program → (ℕ → List PathData) → Book → Result (Vec ℕ Global) Wrong → Type 0
+AreAllShaped P rel book (Ok numbers) = (numbers.items ≡ numbers_of book.lines) × (length book.lines ≡ length P.methods) × AreShaped P rel book
+AreAllShaped P rel book (Err fault) = IsWrong P rel book fault
+
+-- the second pass, and the whole judgement
+abbrev pub IsVerdict : Program → (ℕ → List PathData) → Book → Result (Unit {0}) Wrong → Type 0
+IsVerdict P rel book (Ok u) = IsGoodBook P rel book
+IsVerdict P rel book (Err fault) = IsWrong P rel book fault
+
+-- the judgement of the next method line, and the lines that are then still to come; want of memory says nothing
+abbrev pub IsLineStep : Judge → ℕ → Method → Book → List Line → Result (Unit {0}) Wrong → BookCursor → Type 0
+IsLineStep judge m method book [] (Ok u) new = ⊥
+IsLineStep judge m method book [] (Err fault) new = fault ≡ wrong.Memory
+IsLineStep judge m method book (line ∷ lines) (Ok u) new =
+    IsGoodLine (judge_program judge) (judge_rel judge) (judge_table judge) (judge_assignment judge) m method line
+    × IsCursorAt new (record { table = book.table; lines = lines })
+IsLineStep judge m method book (line ∷ lines) (Err fault) new =
+    (fault ≡ wrong.Memory) ⊎ IsLineVerdict (judge_program judge) (judge_rel judge) (judge_table judge) (judge_assignment judge) m method line (Some fault)
+
+-- every line before this position is good
+abbrev pub AreGoodLines : Judge → Book → ℕ → Type 0
+AreGoodLines judge book m = (k : ℕ) (method : Method) (line : Line) → k < m → slice_get (judge_program judge).methods k ≡ Some method → slice_get book.lines k ≡ Some line →
+    IsGoodLine (judge_program judge) (judge_rel judge) (judge_table judge) (judge_assignment judge) k method line
+
+-- a line that is wrong, where every one before it is good
+pub record IsWrongLine (judge : Judge) (book : Book) (fault : Wrong) : Type 0 where
+  pub position : ℕ
+  pub before : AreGoodLines judge book position
+  pub method : Method
+  pub line : Line
+  pub method_is : slice_get (judge_program judge).methods position ≡ Some method
+  pub line_is : slice_get book.lines position ≡ Some line
+  pub verdict : IsLineVerdict (judge_program judge) (judge_rel judge) (judge_table judge) (judge_assignment judge) position method line (Some fault)
+
+-- the second pass
+abbrev pub AreLinesJudged : Judge → Book → Result (Unit {0}) Wrong → Type 0
+AreLinesJudged judge book (Ok u) = AreGoodLines judge book (length (judge_program judge).methods)
+AreLinesJudged judge book (Err fault) = (fault ≡ wrong.Memory) ⊎ IsWrongLine judge book fault

@@ -1,0 +1,113 @@
+//! Whether the text of a book is good for a program.
+ghost use Rattle.std.specs.Prelude.{◌≡◌, ◌≢◌, ◌≤◌, ◌⊎◌, length, Some, IfOk, IfErr, MatchResult};
+ghost use Rattle.aj_core.specs.Typed.{IsTyped};
+ghost use Rattle.aj_core.specs.Views.{program_of};
+ghost use Rattle.aj_deriv.specs.Books.{Book};
+ghost use Rattle.aj_deriv.specs.Views.{IsCursorAt};
+ghost use Rattle.aj_rules.specs.Near.{AreRelevant, AreFew, rel_of};
+ghost use Rattle.aj_deriv.specs.Faults.{first_fault};
+ghost use Rattle.aj_deriv.specs.Texts.{IsTextOf};
+ghost use Rattle.aj_deriv.specs.declared.stop.BookFault.{BookFault};
+ghost use Rattle.aj_deriv_check.specs.Checks.{IsJudged};
+ghost use Rattle.aj_deriv_check.specs.Faults.{IsWrong};
+ghost use Rattle.aj_deriv_check.specs.Good.{IsGoodBook};
+ghost use Rattle.aj_deriv_check.specs.declared.wrong.Wrong.{Wrong};
+ghost use Rattle.aj_deriv_check.specs.Passes.{IsVerdict};
+
+use crate::checked::Checked;
+use crate::judge::Judge;
+use crate::passes::{lines, shapes};
+use crate::wrong::{TextWrong, Wrong};
+use aj_core::CoreProgram;
+use aj_deriv::BookCursor;
+use aj_rules::RelevantSets;
+use std::alloc::Global;
+
+/// A program whose book was refused, with its relevant sets and the reason.
+#[derive(Drop)]
+pub struct RefusedText {
+    pub program: CoreProgram,
+    pub sets: RelevantSets,
+    pub why: TextWrong,
+}
+
+/// The judgement of a book for a program.
+fn judged_book(
+    alloc: Global,
+    program: &CoreProgram,
+    sets: &RelevantSets,
+    cursor: &BookCursor<'_>,
+) -> Result<(), Wrong>
+    requires { (book : Book) × IsCursorAt cursor.now book }
+    ensures { (book : Book) → IsCursorAt cursor.now book → IsVerdict (program_of program.now) (rel_of sets.now) book result }
+{
+    let table = match cursor.table(alloc) {
+        Ok(table) => table,
+        Err(_) => return Err(Wrong::Memory),
+    };
+    let numbers = match shapes(alloc, program, cursor) {
+        Ok(numbers) => numbers,
+        Err(wrong) => return Err(wrong),
+    };
+    let judge = Judge {
+        program,
+        sets,
+        table: table.as_slice(),
+        lines: numbers.as_slice(),
+    };
+    lines(alloc, &judge, cursor)
+}
+
+/// The judgement of a text for a program.
+fn judged(
+    alloc: Global,
+    program: &CoreProgram,
+    sets: &RelevantSets,
+    bytes: &[u8],
+) -> Result<(), TextWrong>
+    requires { length bytes.now ≤ 16777216 }
+    ensures { IsJudged (program_of program.now) (rel_of sets.now) bytes.now result }
+{
+    let cursor = match BookCursor::open(bytes) {
+        Ok(cursor) => cursor,
+        Err(fault) => return Err(TextWrong::Book(fault)),
+    };
+    match judged_book(alloc, program, sets, &cursor) {
+        Ok(()) => Ok(()),
+        Err(wrong) => Err(TextWrong::Wrong(wrong)),
+    }
+}
+
+/// Checks a program by the text of a book, which has at most 16,777,216 bytes and may be anyone's. Hands program and sets back
+/// where it refuses.
+pub fn accept_text(
+    alloc: Global,
+    program: CoreProgram,
+    sets: RelevantSets,
+    bytes: &[u8],
+) -> Result<Checked, RefusedText>
+    requires short { length bytes.now ≤ 16777216 }
+    requires typed { IsTyped (program_of program) }
+    requires relevant { AreRelevant (program_of program) sets }
+    requires few { AreFew sets }
+
+    // The program is checked, or the refusal hands it back with its cause.
+    ensures checked { IfOk result (λ checked. checked ≡ (program, sets)) }
+    ensures accepted { IfOk result (λ _. IsJudged (program_of program) (rel_of sets) bytes.now (Ok (tt {0}))) }
+    ensures program_back { IfErr result (λ refused. refused.program ≡ program) }
+    ensures sets_back { IfErr result (λ refused. refused.sets ≡ sets) }
+    ensures refused { IfErr result (λ refused. IsJudged (program_of program) (rel_of sets) bytes.now (Err refused.why)) }
+
+    // Each fault is told, and a good book is taken, where there is memory.
+    ensures only_fault { (fault : BookFault) → first_fault bytes.now ≡ Some fault →
+        MatchResult result (λ _. ⊥) (λ refused. refused.why ≡ TextWrong.Book fault) }
+    ensures only_wrong { (book : Book) (fault : Wrong) → IsTextOf bytes.now book → fault ≢ Wrong.Memory → IsWrong (program_of program) (rel_of sets) book fault →
+        MatchResult result (λ _. ⊥) (λ refused. (refused.why ≡ TextWrong.Wrong fault) ⊎ (refused.why ≡ TextWrong.Wrong Wrong.Memory)) }
+    ensures only_good { (book : Book) → IsTextOf bytes.now book → IsGoodBook (program_of program) (rel_of sets) book →
+        IfErr result (λ refused. refused.why ≡ TextWrong.Wrong Wrong.Memory) }
+{
+    match judged(alloc, &program, &sets, bytes) {
+        Ok(()) => Ok(Checked { program, sets }),
+        Err(why) => Err(RefusedText { program, sets, why }),
+    }
+}

@@ -1,0 +1,157 @@
+//! The judgement of one method line beside its method.
+ghost use Rattle.std.specs.Prelude.{◌≡◌, ◌↔◌, ◌&&◌, ℕ, true, slice_get, IfOk};
+ghost use Rattle.aj_algebra.specs.Basics.{below_of};
+ghost use Rattle.aj_algebra.specs.HeldPaths.{has_path};
+ghost use Rattle.aj_cond.specs.Conditions.{cond_of, value_of, IsCanonical};
+ghost use Rattle.aj_core.specs.Views.{method_of};
+ghost use Rattle.aj_deriv.specs.Derivations.{node};
+ghost use Rattle.aj_rules.specs.Rules.{declared_bound};
+ghost use Rattle.aj_deriv_check.specs.Faults.{IsLineVerdict};
+ghost use Rattle.aj_deriv_check.specs.Good.{cond_at, tests_only as tests_only_of, Falls, IsTabled, IsUnder};
+ghost use Rattle.aj_deriv_check.specs.Judges.{judge_assignment, judge_program, judge_rel, judge_table, judge_value, AreCanonical};
+
+use crate::judge::Judge;
+use crate::lookups::{conclusion, tree_at};
+use crate::names::{holds, where_held};
+use crate::parts::BodyPart;
+use crate::values::{below, same_copy};
+use crate::walk::{End, walk_node};
+use crate::wrong::Wrong;
+use aj_algebra::{Algebra, Basic};
+use aj_cond::{Tree, Trees};
+use aj_core::CoreMethod;
+use aj_deriv::{Nodes, Word};
+use aj_paths::{MethodId, Path};
+use std::alloc::{AllocError as NoMemory, Global};
+
+/// Whether each test of a tree is on one of these paths.
+fn tests_only(paths: &[Path], t: &Tree) -> bool
+    ensures { result ≡ tests_only_of paths.now (cond_of t.now) }
+{
+    match t {
+        Tree::Leaf(_) => true,
+        Tree::Test(path, a, b) => {
+            holds(paths, path) && (tests_only(paths, a) && tests_only(paths, b))
+        }
+    }
+}
+
+/// Whether all three hold.
+fn all_three(first: bool, second: bool, third: bool) -> bool
+    ensures { result ≡ (first && (second && third)) }
+{
+    first && second && third
+}
+
+/// Whether a tree is nowhere greater with more paths held.
+#[tactic(auto, using(crate::proofs::LineLemmas::falls_leaf))]
+fn falls(t: &Tree) -> Result<bool, NoMemory>
+    requires { IsCanonical (cond_of t.now) }
+    ensures { IfOk result (λ b. (b ≡ true) ↔ Falls (value_of (cond_of t.now))) }
+{
+    match t {
+        Tree::Leaf(_) => Ok(true),
+        Tree::Test(_, a, b) => {
+            let here = below(a, b)?;
+            let held = falls(a)?;
+            let free = falls(b)?;
+            Ok(all_three(here, held, free))
+        }
+    }
+}
+
+/// Whether a method's tree tests relevant paths only, and falls.
+#[tactic(auto, using(crate::proofs::LineLemmas::tabled_is))]
+fn is_tabled(rel: &[Path], t: &Tree) -> Result<bool, NoMemory>
+    requires { IsCanonical (cond_of t.now) }
+    ensures { IfOk result (λ b. (b ≡ true) ↔ IsTabled rel.now (cond_of t.now)) }
+{
+    let relevant = tests_only(rel, t);
+    let falls = falls(t)?;
+    Ok(relevant && falls)
+}
+
+/// Whether the body's conclusion is at or below the method's tree wherever the required paths are held.
+fn is_under(
+    alloc: Global,
+    judge: &Judge<'_>,
+    required: &[Path],
+    body: u32,
+    own: u32,
+) -> Result<bool, NoMemory>
+    requires { AreCanonical (judge_table judge.now) }
+    ensures { IfOk result (λ b. (b ≡ true) ↔ IsUnder required.now (judge_value judge.now body) (judge_value judge.now own)) }
+{
+    let body = conclusion(alloc, judge, body)?;
+    let own = conclusion(alloc, judge, own)?;
+    let wherever = where_held(alloc, required, own)?;
+    below(&body, &wherever)
+}
+
+/// The greatest basic that a method may have at its required locks.
+fn bound(annotated: bool) -> Basic
+    ensures { result ≡ declared_bound annotated }
+{
+    if annotated {
+        Basic::Atomic
+    } else {
+        Basic::Cmpd
+    }
+}
+
+/// Whether a method's tree at its required paths keeps the bound.
+fn is_bounded(t: &Tree, method: &CoreMethod) -> bool
+    requires { IsCanonical (cond_of t.now) }
+    ensures { result ≡ below_of (value_of (cond_of t.now) (has_path (method_of method.now).requires_)) (declared_bound (method_of method.now).annotated) }
+{
+    let found = Trees::new().at(t, method.requires_.as_slice());
+    found.below(bound(method.annotated))
+}
+
+/// The tree with this number; const where there is none.
+fn own_tree(alloc: Global, judge: &Judge<'_>, number: u32) -> Result<Tree, NoMemory>
+    requires { AreCanonical (judge_table judge.now) }
+    ensures known { IfOk result (λ r. IsCanonical (cond_of r)) }
+    ensures tree { IfOk result (λ r. cond_of r ≡ cond_at (slice_get (judge_table judge.now) number)) }
+{
+    match tree_at(judge.table, number) {
+        Some(tree) => same_copy(alloc, tree),
+        None => Ok(Tree::Leaf(Basic::Const)),
+    }
+}
+
+/// What is wrong with a method line beside its method first, if anything is: its tree, then its steps, then its bound.
+pub(crate) fn line_verdict<F: Nodes>(
+    alloc: Global,
+    judge: &Judge<'_>,
+    m: MethodId,
+    method: &CoreMethod,
+    own: u32,
+    word: Word,
+    number: u32,
+    premises: F,
+) -> Result<Option<Wrong>, NoMemory>
+    requires kept { F.AreKept premises }
+    requires canonical { AreCanonical (judge_table judge.now) }
+    ensures { (id : ℕ) → IfOk result (IsLineVerdict (judge_program judge.now) (judge_rel judge.now) (judge_table judge.now) (judge_assignment judge.now) m
+        (method_of method.now) (record { id = id; number = own; body = node word number (F.nodes premises) })) }
+{
+    let tree = own_tree(alloc, judge, own)?;
+    if !is_tabled(judge.sets.rel(m), &tree)? {
+        return Ok(Some(Wrong::Table { method: m.0 }));
+    }
+    if !is_under(alloc, judge, method.requires_.as_slice(), number, own)? {
+        return Ok(Some(Wrong::Step {
+            method: m.0,
+            node: 0,
+        }));
+    }
+    let body = BodyPart::Stmt(&method.body);
+    if let End::Bad(node) = walk_node(alloc, judge, body, word, number, premises, 0)? {
+        return Ok(Some(Wrong::Step { method: m.0, node }));
+    }
+    if !is_bounded(&tree, method) {
+        return Ok(Some(Wrong::Bound { method: m.0 }));
+    }
+    Ok(None)
+}

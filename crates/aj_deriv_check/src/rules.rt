@@ -1,0 +1,301 @@
+//! The rules on trees: the value of a node from the numbers of its premises' conclusions.
+ghost use Rattle.std.specs.Prelude.{◌≡◌, IfOk, map, slice_get, if◌then◌else◌};
+ghost use Rattle.std.specs.Option.{option_copied};
+ghost use Rattle.aj_algebra.specs.Basics.{seq_of};
+ghost use Rattle.aj_algebra.specs.HeldPaths.{Held};
+ghost use Rattle.aj_cond.specs.Conditions.{cond_of, value_of, IsCanonical};
+ghost use Rattle.aj_core.specs.Locks.{path_of};
+ghost use Rattle.aj_core.specs.Views.{expr_of, exprs_from, program_of, stmt_of, stmts_from};
+ghost use Rattle.aj_rules.specs.Effect.{access_of, after_stmt, call_of, required_paths};
+ghost use Rattle.aj_rules.specs.Mentions.{paths_of};
+ghost use Rattle.aj_rules.specs.Near.{rel_of};
+ghost use Rattle.aj_deriv_check.specs.Judges.{judge_assignment, judge_program, judge_rel, judge_table, judge_value, AreCanonical};
+ghost use Rattle.aj_deriv_check.specs.Rules.{block_value, choice_value, expr_rule as expr_rule_of, in_sequence, lock_value, loop_value, stmt_rule as stmt_rule_of};
+
+use crate::judge::Judge;
+use crate::lookups::{assigned, conclusion, required};
+use crate::names::{at_call, before, with_required};
+use crate::values::{held_or, join, leaf, seq, star, sync, then_basic};
+use aj_algebra::Basic;
+use aj_cond::Tree;
+use aj_core::{CoreExpr, CoreProgram, CoreStmt, path_of};
+use aj_paths::{FieldId, MethodId, Path};
+use aj_rules::{Guard, guard_at};
+use std::alloc::{AllocError as NoMemory, Global};
+
+/// Premises one after another. Their number is that of a call's arguments at most, so the recursion isn't deep.
+fn sequence(alloc: Global, judge: &Judge<'_>, numbers: &[u32]) -> Result<Tree, NoMemory>
+    requires { AreCanonical (judge_table judge.now) }
+    ensures known { IfOk result (λ r. IsCanonical (cond_of r)) }
+    ensures value { IfOk result (λ r. (H : Held) → value_of (cond_of r) H ≡ in_sequence (map (judge_value judge.now) numbers.now) H) }
+{
+    let Some((number, others)) = numbers.split_first() else {
+        return Ok(leaf(Basic::Const));
+    };
+    let first = conclusion(alloc, judge, *number)?;
+    let rest = sequence(alloc, judge, others)?;
+    seq(alloc, &first, &rest)
+}
+
+/// A basic where there is a path and it is held, else another.
+fn held_or_else(alloc: Global, path: &Path, held: Basic, free: Basic) -> Result<Tree, NoMemory>
+    ensures known { IfOk result (λ r. IsCanonical (cond_of r)) }
+    ensures value { IfOk result (λ r. (H : Held) → value_of (cond_of r) H ≡ (if H path.now then held else free)) }
+{
+    held_or(alloc, Some(path), &leaf(held), &leaf(free))
+}
+
+/// Reading or writing a field of this receiver.
+fn access(
+    alloc: Global,
+    program: &CoreProgram,
+    receiver: &CoreExpr,
+    field: FieldId,
+    writes: bool,
+) -> Result<Tree, NoMemory>
+    ensures known { IfOk result (λ r. IsCanonical (cond_of r)) }
+    ensures value { IfOk result (λ r. (H : Held) → let P = program_of program.now in
+        value_of (cond_of r) H ≡ access_of P writes field (path_of P (expr_of receiver.now)) H) }
+{
+    match guard_at(program, receiver, field) {
+        Guard::Final => Ok(leaf(Basic::Const)),
+        Guard::Free => Ok(leaf(Basic::Atomic)),
+        Guard::Unnamed => Ok(leaf(Basic::Error)),
+        Guard::WriteUnnamed if writes => Ok(leaf(Basic::Error)),
+        Guard::WriteUnnamed => Ok(leaf(Basic::Atomic)),
+        Guard::Named(path) => held_or_else(alloc, &path, Basic::Mover, Basic::Error),
+        Guard::WriteNamed(path) if writes => {
+            held_or_else(alloc, &path, Basic::Atomic, Basic::Error)
+        }
+        Guard::WriteNamed(path) => held_or_else(alloc, &path, Basic::Mover, Basic::Atomic),
+    }
+}
+
+/// The path of each argument, or none.
+fn paths(
+    alloc: Global,
+    program: &CoreProgram,
+    args: &[CoreExpr],
+) -> Result<Vec<Option<Path>>, NoMemory>
+    ensures { IfOk result (λ paths. paths.items ≡ paths_of (program_of program.now) (exprs_from args.now)) }
+{
+    let mut paths = Vec::new(alloc);
+    for arg in args {
+        paths.push(path_of(program, arg))?;
+    }
+    Ok(paths)
+}
+
+/// What a callee's tree gives at a call on this receiver with these arguments, by their paths.
+#[tactic(auto, using(crate::proofs::NameLemmas::call_value, crate::proofs::NameLemmas::call_all))]
+fn call_by_paths(
+    alloc: Global,
+    judge: &Judge<'_>,
+    callee: MethodId,
+    receiver: Option<&Path>,
+    args: &[Option<Path>],
+) -> Result<Tree, NoMemory>
+    requires { AreCanonical (judge_table judge.now) }
+    ensures known { IfOk result (λ r. IsCanonical (cond_of r)) }
+    ensures value { IfOk result (λ r. (H : Held) → value_of (cond_of r) H ≡
+        call_of (judge_program judge.now) (judge_rel judge.now) (judge_assignment judge.now) callee (option_copied receiver.entry) args.now H) }
+{
+    let rel = judge.sets.rel(callee);
+    let tree = assigned(alloc, judge, callee)?;
+    let value = at_call(alloc, rel, receiver, args, &tree)?;
+    with_required(
+        alloc,
+        rel,
+        receiver,
+        args,
+        required(judge.program, callee),
+        value,
+    )
+}
+
+/// The last part of a call.
+fn call(
+    alloc: Global,
+    judge: &Judge<'_>,
+    callee: MethodId,
+    receiver: &CoreExpr,
+    args: &[CoreExpr],
+) -> Result<Tree, NoMemory>
+    requires { AreCanonical (judge_table judge.now) }
+    ensures known { IfOk result (λ r. IsCanonical (cond_of r)) }
+    ensures value { IfOk result (λ r. (H : Held) → let P = judge_program judge.now in value_of (cond_of r) H ≡
+        call_of P (judge_rel judge.now) (judge_assignment judge.now) callee (path_of P (expr_of receiver.now)) (paths_of P (exprs_from args.now)) H) }
+{
+    let receiver = path_of(judge.program, receiver);
+    let args = paths(alloc, judge.program, args)?;
+    call_by_paths(alloc, judge, callee, receiver.as_ref(), args.as_slice())
+}
+
+/// The value of an expression's node.
+pub(crate) fn expr_rule(
+    alloc: Global,
+    judge: &Judge<'_>,
+    e: &CoreExpr,
+    numbers: &[u32],
+) -> Result<Tree, NoMemory>
+    requires { AreCanonical (judge_table judge.now) }
+    ensures known { IfOk result (λ r. IsCanonical (cond_of r)) }
+    ensures value { IfOk result (λ r. (H : Held) → value_of (cond_of r) H ≡
+        expr_rule_of (judge_program judge.now) (judge_rel judge.now) (judge_assignment judge.now) (expr_of e.now) (map (judge_value judge.now) numbers.now) H) }
+{
+    match e {
+        CoreExpr::Int(_) | CoreExpr::Truth(_) | CoreExpr::Null | CoreExpr::This => {
+            Ok(leaf(Basic::Const))
+        }
+        CoreExpr::Var { is_final: true, .. } => Ok(leaf(Basic::Const)),
+        CoreExpr::Var { .. } => Ok(leaf(Basic::Mover)),
+        CoreExpr::Not(_)
+        | CoreExpr::Neg(_)
+        | CoreExpr::Binary(_, _, _)
+        | CoreExpr::And(_, _)
+        | CoreExpr::Or(_, _) => sequence(alloc, judge, numbers),
+        CoreExpr::Get(receiver, field) => {
+            let parts = sequence(alloc, judge, numbers)?;
+            let access = access(alloc, judge.program, receiver, *field, false)?;
+            seq(alloc, &parts, &access)
+        }
+        CoreExpr::Call(receiver, callee, args) => {
+            let parts = sequence(alloc, judge, numbers)?;
+            let call = call(alloc, judge, *callee, receiver, args.as_slice())?;
+            seq(alloc, &parts, &call)
+        }
+        CoreExpr::New(_, _) => {
+            let parts = sequence(alloc, judge, numbers)?;
+            then_basic(alloc, &parts, Basic::Mover)
+        }
+    }
+}
+
+/// The condition, then either branch.
+fn choice(alloc: Global, judge: &Judge<'_>, numbers: &[u32]) -> Result<Tree, NoMemory>
+    requires { AreCanonical (judge_table judge.now) }
+    ensures known { IfOk result (λ r. IsCanonical (cond_of r)) }
+    ensures value { IfOk result (λ r. (H : Held) → value_of (cond_of r) H ≡ choice_value (map (judge_value judge.now) numbers.now) H) }
+{
+    let Some((condition, branches)) = numbers.split_first() else {
+        return Ok(leaf(Basic::Const));
+    };
+    let Some((first, others)) = branches.split_first() else {
+        return Ok(leaf(Basic::Const));
+    };
+    let Some((second, _)) = others.split_first() else {
+        return Ok(leaf(Basic::Const));
+    };
+    let condition = conclusion(alloc, judge, *condition)?;
+    let first = conclusion(alloc, judge, *first)?;
+    let second = conclusion(alloc, judge, *second)?;
+    let either = join(alloc, &first, &second)?;
+    seq(alloc, &condition, &either)
+}
+
+/// The condition, then the body and the condition again, any number of times.
+fn repetition(alloc: Global, judge: &Judge<'_>, numbers: &[u32]) -> Result<Tree, NoMemory>
+    requires { AreCanonical (judge_table judge.now) }
+    ensures known { IfOk result (λ r. IsCanonical (cond_of r)) }
+    ensures value { IfOk result (λ r. (H : Held) → value_of (cond_of r) H ≡ loop_value (map (judge_value judge.now) numbers.now) H) }
+{
+    let Some((condition, bodies)) = numbers.split_first() else {
+        return Ok(leaf(Basic::Const));
+    };
+    let Some((body, _)) = bodies.split_first() else {
+        return Ok(leaf(Basic::Const));
+    };
+    let condition = conclusion(alloc, judge, *condition)?;
+    let body = conclusion(alloc, judge, *body)?;
+    let turn = seq(alloc, &body, &condition)?;
+    let turns = star(alloc, &turn)?;
+    seq(alloc, &condition, &turns)
+}
+
+/// A synchronized part.
+fn locked(alloc: Global, judge: &Judge<'_>, path: &Path, numbers: &[u32]) -> Result<Tree, NoMemory>
+    requires { AreCanonical (judge_table judge.now) }
+    ensures known { IfOk result (λ r. IsCanonical (cond_of r)) }
+    ensures value { IfOk result (λ r. (H : Held) → value_of (cond_of r) H ≡ lock_value path.now (map (judge_value judge.now) numbers.now) H) }
+{
+    let Some((body, _)) = numbers.split_first() else {
+        return Ok(leaf(Basic::Const));
+    };
+    let body = conclusion(alloc, judge, *body)?;
+    sync(alloc, path, &body)
+}
+
+/// A statement of a block and then the rest of the block, from the rest's value.
+fn statement_and_rest(
+    alloc: Global,
+    judge: &Judge<'_>,
+    s: &CoreStmt,
+    number: u32,
+    rest: Tree,
+) -> Result<Tree, NoMemory>
+    requires canonical { AreCanonical (judge_table judge.now) }
+    requires known { IsCanonical (cond_of rest) }
+    ensures known { IfOk result (λ r. IsCanonical (cond_of r)) }
+    ensures value { IfOk result (λ r. (H : Held) → value_of (cond_of r) H ≡
+        seq_of (judge_value judge.now number H) (value_of (cond_of rest) (after_stmt (judge_program judge.now) (stmt_of s.now) H))) }
+{
+    let first = conclusion(alloc, judge, number)?;
+    let rest = before(alloc, judge.program, s, rest)?;
+    seq(alloc, &first, &rest)
+}
+
+/// The statements of a block, from the last to the first.
+fn block(
+    alloc: Global,
+    judge: &Judge<'_>,
+    body: &[CoreStmt],
+    numbers: &[u32],
+) -> Result<Tree, NoMemory>
+    requires { AreCanonical (judge_table judge.now) }
+    ensures known { IfOk result (λ r. IsCanonical (cond_of r)) }
+    ensures value { IfOk result (λ r. (H : Held) → value_of (cond_of r) H ≡
+        block_value (judge_program judge.now) (stmts_from body.now) (map (judge_value judge.now) numbers.now) H) }
+{
+    let mut rest = leaf(Basic::Const);
+    let mut place = body.len().min(numbers.len());
+    while place > 0 {
+        place -= 1;
+        rest = statement_and_rest(alloc, judge, &body[place], numbers[place], rest)?;
+    }
+    Ok(rest)
+}
+
+/// The value of a statement's node.
+pub(crate) fn stmt_rule(
+    alloc: Global,
+    judge: &Judge<'_>,
+    s: &CoreStmt,
+    numbers: &[u32],
+) -> Result<Tree, NoMemory>
+    requires { AreCanonical (judge_table judge.now) }
+    ensures known { IfOk result (λ r. IsCanonical (cond_of r)) }
+    ensures value { IfOk result (λ r. (H : Held) → value_of (cond_of r) H ≡
+        stmt_rule_of (judge_program judge.now) (judge_rel judge.now) (judge_assignment judge.now) (stmt_of s.now) (map (judge_value judge.now) numbers.now) H) }
+{
+    match s {
+        CoreStmt::Empty => Ok(leaf(Basic::Const)),
+        CoreStmt::Block(body) => block(alloc, judge, body.as_slice(), numbers),
+        CoreStmt::Local { .. } | CoreStmt::SetVar(_, _) => {
+            let parts = sequence(alloc, judge, numbers)?;
+            then_basic(alloc, &parts, Basic::Mover)
+        }
+        CoreStmt::SetField(receiver, field, _) => {
+            let parts = sequence(alloc, judge, numbers)?;
+            let access = access(alloc, judge.program, receiver, *field, true)?;
+            seq(alloc, &parts, &access)
+        }
+        CoreStmt::Do(_, _) | CoreStmt::Return(_) => sequence(alloc, judge, numbers),
+        CoreStmt::If(_, _, _) => choice(alloc, judge, numbers),
+        CoreStmt::While(_, _) => repetition(alloc, judge, numbers),
+        CoreStmt::Sync(path, _) => locked(alloc, judge, path, numbers),
+        CoreStmt::Print(_) | CoreStmt::Start(_) => {
+            let parts = sequence(alloc, judge, numbers)?;
+            then_basic(alloc, &parts, Basic::Atomic)
+        }
+    }
+}

@@ -1,0 +1,181 @@
+//! Operations on trees, each with its value at every set of held paths. An operation whose work would pass a bound answers want of
+//! memory; `SMALL` and `MOST_DEPTH` are beyond all trees of methods with at most 16 near paths.
+ghost use Rattle.std.specs.Prelude.{◌≡◌, ◌↔◌, true, IfOk, if◌then◌else◌};
+ghost use Rattle.std.specs.Option.{option_copied};
+ghost use Rattle.std.specs.List.{list_all};
+ghost use Rattle.aj_paths.specs.Paths.{PathData};
+ghost use Rattle.aj_algebra.specs.declared.basic.Basic.TheVariants.{Error};
+ghost use Rattle.aj_algebra.specs.Basics.{seq_of, join_of, star_of};
+ghost use Rattle.aj_algebra.specs.HeldPaths.{Held, holds_at};
+ghost use Rattle.aj_algebra.specs.Values.{sync_of};
+ghost use Rattle.aj_cond.specs.Conditions.{cond_of, value_of, IsCanonical};
+ghost use Rattle.aj_rules.specs.Rules.{AtMost};
+
+use aj_algebra::{Algebra, Basic};
+use aj_cond::{Tree, Trees};
+use aj_paths::{Path, order};
+use std::alloc::{AllocError as NoMemory, Global};
+use std::cmp::Ordering;
+
+/// How many pairs of subtrees an operation may visit.
+const SMALL: u32 = 1 << 18;
+
+/// How deep it may go.
+const MOST_DEPTH: u32 = 512;
+
+/// What is left of `left` after a visit of the pairs of subtrees that an operation on two trees visits; `None` where it is too
+/// little, or the pairs go too deep.
+fn visited(t: &Tree, u: &Tree, depth: u32, left: u32) -> Option<u32> {
+    if depth == 0 {
+        return None;
+    }
+    let left = left.checked_sub(1)?;
+    match (t, u) {
+        (Tree::Leaf(_), Tree::Leaf(_)) => Some(left),
+        (Tree::Leaf(_), Tree::Test(_, c, d)) => {
+            let left = visited(t, c, depth - 1, left)?;
+            visited(t, d, depth - 1, left)
+        }
+        (Tree::Test(_, a, b), Tree::Leaf(_)) => {
+            let left = visited(a, u, depth - 1, left)?;
+            visited(b, u, depth - 1, left)
+        }
+        (Tree::Test(p, a, b), Tree::Test(q, c, d)) => match order(p, q) {
+            Ordering::Less => {
+                let left = visited(a, u, depth - 1, left)?;
+                visited(b, u, depth - 1, left)
+            }
+            Ordering::Equal => {
+                let left = visited(a, c, depth - 1, left)?;
+                visited(b, d, depth - 1, left)
+            }
+            Ordering::Greater => {
+                let left = visited(t, c, depth - 1, left)?;
+                visited(t, d, depth - 1, left)
+            }
+        },
+    }
+}
+
+/// Want of memory, where an operation on the two trees would pass the bound.
+fn check_small(t: &Tree, u: &Tree) -> Result<(), NoMemory> {
+    match visited(t, u, MOST_DEPTH, SMALL) {
+        Some(_) => Ok(()),
+        None => Err(NoMemory),
+    }
+}
+
+/// The tree of a basic.
+pub(crate) fn leaf(basic: Basic) -> Tree
+    ensures known { IsCanonical (cond_of result) }
+    ensures value { (H : Held) → value_of (cond_of result) H ≡ basic }
+{
+    Tree::Leaf(basic)
+}
+
+/// A copy.
+pub(crate) fn copied(alloc: Global, t: &Tree) -> Result<Tree, NoMemory>
+    requires { IsCanonical (cond_of t.now) }
+    ensures known { IfOk result (λ r. IsCanonical (cond_of r)) }
+    ensures value { IfOk result (λ r. (H : Held) → value_of (cond_of r) H ≡ value_of (cond_of t.now) H) }
+{
+    check_small(t, t)?;
+    t.copy(alloc)
+}
+
+/// A copy, node by node.
+pub(crate) fn same_copy(alloc: Global, t: &Tree) -> Result<Tree, NoMemory>
+    ensures { IfOk result (λ r. cond_of r ≡ cond_of t.now) }
+{
+    check_small(t, t)?;
+    t.copy(alloc)
+}
+
+/// The first, then the second.
+pub(crate) fn seq(alloc: Global, t: &Tree, u: &Tree) -> Result<Tree, NoMemory>
+    requires first { IsCanonical (cond_of t.now) }
+    requires second { IsCanonical (cond_of u.now) }
+    ensures known { IfOk result (λ r. IsCanonical (cond_of r)) }
+    ensures value { IfOk result (λ r. (H : Held) →
+        value_of (cond_of r) H ≡ seq_of (value_of (cond_of t.now) H) (value_of (cond_of u.now) H)) }
+{
+    check_small(t, u)?;
+    let mut trees = Trees::new();
+    trees.seq(alloc, t, u)
+}
+
+/// Either of the two.
+pub(crate) fn join(alloc: Global, t: &Tree, u: &Tree) -> Result<Tree, NoMemory>
+    requires first { IsCanonical (cond_of t.now) }
+    requires second { IsCanonical (cond_of u.now) }
+    ensures known { IfOk result (λ r. IsCanonical (cond_of r)) }
+    ensures value { IfOk result (λ r. (H : Held) →
+        value_of (cond_of r) H ≡ join_of (value_of (cond_of t.now) H) (value_of (cond_of u.now) H)) }
+{
+    check_small(t, u)?;
+    let mut trees = Trees::new();
+    trees.join(alloc, t, u)
+}
+
+/// Any number of times.
+pub(crate) fn star(alloc: Global, t: &Tree) -> Result<Tree, NoMemory>
+    requires { IsCanonical (cond_of t.now) }
+    ensures known { IfOk result (λ r. IsCanonical (cond_of r)) }
+    ensures value { IfOk result (λ r. (H : Held) → value_of (cond_of r) H ≡ star_of (value_of (cond_of t.now) H)) }
+{
+    check_small(t, t)?;
+    let mut trees = Trees::new();
+    trees.star(alloc, t)
+}
+
+/// Under the lock with this path.
+pub(crate) fn sync(alloc: Global, p: &Path, t: &Tree) -> Result<Tree, NoMemory>
+    requires { IsCanonical (cond_of t.now) }
+    ensures known { IfOk result (λ r. IsCanonical (cond_of r)) }
+    ensures value { IfOk result (λ r. (H : Held) → value_of (cond_of r) H ≡ sync_of p.now (value_of (cond_of t.now)) H) }
+{
+    check_small(t, t)?;
+    let mut trees = Trees::new();
+    trees.sync(alloc, p, t)
+}
+
+/// A value, then a basic.
+pub(crate) fn then_basic(alloc: Global, t: &Tree, basic: Basic) -> Result<Tree, NoMemory>
+    requires { IsCanonical (cond_of t.now) }
+    ensures known { IfOk result (λ r. IsCanonical (cond_of r)) }
+    ensures value { IfOk result (λ r. (H : Held) → value_of (cond_of r) H ≡ seq_of (value_of (cond_of t.now) H) basic) }
+{
+    let next = leaf(basic);
+    seq(alloc, t, &next)
+}
+
+/// The first where there is a path and it is held, else the second.
+pub(crate) fn held_or(
+    alloc: Global,
+    name: Option<&Path>,
+    t: &Tree,
+    u: &Tree,
+) -> Result<Tree, NoMemory>
+    requires first { IsCanonical (cond_of t.now) }
+    requires second { IsCanonical (cond_of u.now) }
+    ensures known { IfOk result (λ r. IsCanonical (cond_of r)) }
+    ensures value { IfOk result (λ r. (H : Held) → value_of (cond_of r) H ≡
+        (if holds_at (option_copied name.entry) H then value_of (cond_of t.now) H else value_of (cond_of u.now) H)) }
+{
+    check_small(t, u)?;
+    let Some(path) = name else {
+        return copied(alloc, u);
+    };
+    let mut trees = Trees::new();
+    trees.held_or(alloc, path, t, u)
+}
+
+/// Whether the first is at most the second at every set.
+pub(crate) fn below(t: &Tree, u: &Tree) -> Result<bool, NoMemory>
+    requires first { IsCanonical (cond_of t.now) }
+    requires second { IsCanonical (cond_of u.now) }
+    ensures { IfOk result (λ b. (b ≡ true) ↔ ((H : Held) → AtMost (value_of (cond_of t.now) H) (value_of (cond_of u.now) H))) }
+{
+    check_small(t, u)?;
+    Ok(Trees::new().below(t, u))
+}

@@ -1,0 +1,109 @@
+//! A walk along the nodes of a derivation, beside the parts that they stand for.
+ghost use Rattle.std.specs.Prelude.{◌≡◌, ◌↔◌, ◌+◌, true, IfOk};
+ghost use Rattle.aj_deriv.specs.Derivations.{node};
+ghost use Rattle.aj_deriv_check.specs.Parts.{places, places_of};
+ghost use Rattle.aj_deriv_check.specs.Walks.{list_of, part_of, IsEnd};
+
+use crate::parts::{BodyPart, Parts, inner_parts};
+use aj_deriv::{Nodes, Word};
+use std::alloc::{AllocError as NoMemory, Global};
+
+/// Where a walk ends: all nodes are good, and this number comes next; or this is the least that is not.
+#[derive(Clone, Copy)]
+pub(crate) enum End {
+    Good(u32),
+    Bad(u32),
+}
+
+/// What is asked of each node.
+pub(crate) trait Asked {
+    ghost use Rattle.aj_deriv_check.specs.Parts.{Place};
+
+    /// The answer that is right.
+    ghost IsGood: { Self → Place → Type 0 };
+
+    /// What holds of whoever asks.
+    ghost IsReady: { Self → Type 0 };
+
+    fn is_good<F: Nodes>(
+        &self,
+        alloc: Global,
+        part: BodyPart<'_>,
+        word: Word,
+        number: u32,
+        premises: F,
+    ) -> Result<bool, NoMemory>
+        requires kept { F.AreKept premises }
+        requires ready { IsReady self.now }
+        ensures { IfOk result (λ b. (b ≡ true) ↔ IsGood self.now (record { part = part_of part.entry; at = node word number (F.nodes premises) })) };
+}
+
+/// The next number; want of memory where there is none, which comes with no book that fits 16,777,216 bytes.
+fn after(at: u32) -> Result<u32, NoMemory>
+    ensures { IfOk result (λ next. next ≡ at + 1) }
+{
+    match at.checked_add(1) {
+        Some(next) => Ok(next),
+        None => Err(NoMemory),
+    }
+}
+
+/// Walks along a node and those below it, of which it has this number.
+#[cycle(walking)]
+pub(crate) fn walk_node<F: Nodes, J: Asked>(
+    alloc: Global,
+    asked: &J,
+    part: BodyPart<'_>,
+    word: Word,
+    number: u32,
+    premises: F,
+    at: u32,
+) -> Result<End, NoMemory>
+    requires kept { F.AreKept premises }
+    requires ready { J.IsReady asked.now }
+    ensures { IfOk result (λ e. IsEnd (J.IsGood asked.now) (places (part_of part.entry) (node word number (F.nodes premises))) at e) }
+{
+    let next = after(at)?;
+    if !asked.is_good(alloc, part, word, number, premises)? {
+        return Ok(End::Bad(at));
+    }
+    walk_premises(alloc, asked, inner_parts(part), premises, next)
+}
+
+/// Walks along nodes side by side and those below them, of which the first has this number.
+#[cycle(walking)]
+fn walk_premises<F: Nodes, J: Asked>(
+    alloc: Global,
+    asked: &J,
+    parts: Parts<'_>,
+    premises: F,
+    at: u32,
+) -> Result<End, NoMemory>
+    requires kept { F.AreKept premises }
+    requires ready { J.IsReady asked.now }
+    ensures { IfOk result (λ e. IsEnd (J.IsGood asked.now) (places_of (list_of parts.entry) (F.nodes premises)) at e) }
+{
+    let mut parts = parts;
+    let mut rest = premises;
+    let mut next = at;
+    while let Some(first) = rest.first() {
+        let Some((part, others)) = parts.first() else {
+            return Ok(End::Good(next));
+        };
+        match walk_node(
+            alloc,
+            asked,
+            part,
+            first.word,
+            first.number,
+            first.premises,
+            next,
+        )? {
+            End::Good(after) => next = after,
+            End::Bad(node) => return Ok(End::Bad(node)),
+        }
+        parts = others;
+        rest = first.rest;
+    }
+    Ok(End::Good(next))
+}
