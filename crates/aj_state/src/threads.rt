@@ -3,7 +3,7 @@ ghost use Rattle.std.specs.Prelude.{◌≡◌, ◌<◌, ◌≤◌, ◌+◌, ◌-
 ghost use Rattle.std.specs.Option.{option_map, option_copied};
 ghost use Rattle.aj_state.specs.Values.{under};
 ghost use Rattle.aj_state.specs.States.{ThreadOf, Ready, Running, Faulted};
-ghost use Rattle.aj_state.specs.Frames.{CellFrame, code_frame, code_thread, frames_in, top_frame, on_top, status_of, waiting_of, is_running, may_enter, popped, settled, settled_operands, first_frame, rest_of, on_first, given, slots_of, operands_of, taken_of};
+ghost use Rattle.aj_state.specs.Frames.{CellFrame, code_frame, code_thread, frames_in, top_frame, on_top, status_of, waiting_of, is_running, may_enter, popped, settled, settled_operands, HasRoom, first_frame, rest_of, on_first, given, slots_of, operands_of, taken_of};
 
 use crate::frame::FrameCell;
 use crate::value::{Address, Fault, ThreadState, Value};
@@ -288,6 +288,27 @@ impl ThreadCell {
         match &mut self.top {
             Some(frame) => frame.settle(drops, gives, place),
             None => Ok(()),
+        }
+    }
+
+    /// The top frame drops its topmost operands and goes on at a place; takes no memory.
+    pub fn drop_to(&mut self, drops: usize, place: u32)
+        requires { IsSome (top_frame self.old) }
+        ensures { self.new ≡ on_top (settled drops None place) self.old }
+    {
+        if let Some(frame) = &mut self.top {
+            frame.drop_to(drops, place);
+        }
+    }
+
+    /// The top frame, which has spare room, drops its topmost operands, is given a value and goes on at a place; takes no
+    /// memory.
+    pub fn give_to(&mut self, drops: usize, value: Value, place: u32)
+        requires { HasRoom (top_frame self.old) }
+        ensures { self.new ≡ on_top (settled drops (Some value) place) self.old }
+    {
+        if let Some(frame) = &mut self.top {
+            frame.give_to(drops, value, place);
         }
     }
 
