@@ -1,2 +1,4 @@
 pub mod Simulation
 pub mod Runs
+mod Operands
+mod Lists

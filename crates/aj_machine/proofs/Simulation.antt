@@ -250,40 +250,40 @@ module _ (P : Program) (code : List Code) (entry room : List ℕ) (is_code : IsC
 
     -- the table of actions
     act_like : (a : Action) (rest : List Item) (c : Code) → Agree R (Stands R code) c f.taken rest a
-        → Like (deed_of P entry room see t f (length (f ∷ fs)) c.next c.instr) (act P see t g gs rest a)
-    act_like (W.Push v) rest c h = subst (λ y. Like (deed_of P entry room see t f (length (f ∷ fs)) c.next y) (act P see t g gs rest (W.Push v))) (sym h.0) (goes Both f.slots (v ∷ f.operands) c.next f.taken rest Nothing h.1)
-    act_like (W.Load x) rest c h = subst (λ y. Like (deed_of P entry room see t f (length (f ∷ fs)) c.next y) (act P see t g gs rest (W.Load x))) (sym h.0) (load_like rest c.next (slice_get f.slots x) h.1)
-    act_like (W.Store x) rest c h = subst (λ y. Like (deed_of P entry room see t f (length (f ∷ fs)) c.next y) (act P see t g gs rest (W.Store x))) (sym h.0) (store_like rest c.next x (slice_get f.slots x) h.1)
-    act_like W.Drop rest c h = subst (λ y. Like (deed_of P entry room see t f (length (f ∷ fs)) c.next y) (act P see t g gs rest W.Drop)) (sym h.0) (goes Both f.slots (under f.operands) c.next f.taken rest Nothing h.1)
-    act_like (W.Unary op) rest c h = subst (λ y. Like (deed_of P entry room see t f (length (f ∷ fs)) c.next y) (act P see t g gs rest (W.Unary op))) (sym h.0) (goes Both f.slots (unary_value op (top f.operands) ∷ under f.operands) c.next f.taken rest Nothing h.1)
-    act_like (W.Binary op) rest c h = subst (λ y. Like (deed_of P entry room see t f (length (f ∷ fs)) c.next y) (act P see t g gs rest (W.Binary op))) (sym h.0) (binary_like rest c.next (binary_value op (top (under f.operands)) (top f.operands)) h.1)
-    act_like (W.AndThen e) rest c h = subst (λ y. Like (deed_of P entry room see t f (length (f ∷ fs)) c.next y) (act P see t g gs rest (W.AndThen e))) (sym h.1) (and_like rest c.next e h.0 (as_truth (top f.operands)) h.2 h.3)
-    act_like (W.OrElse e) rest c h = subst (λ y. Like (deed_of P entry room see t f (length (f ∷ fs)) c.next y) (act P see t g gs rest (W.OrElse e))) (sym h.1) (or_like rest c.next e h.0 (as_truth (top f.operands)) h.2 h.3)
-    act_like (W.Choose s u) rest c h = subst (λ y. Like (deed_of P entry room see t f (length (f ∷ fs)) c.next y) (act P see t g gs rest (W.Choose s u))) (sym h.1) (choose_like rest c.next s u h.0 (as_truth (top f.operands)) h.2 h.3)
-    act_like (W.Loop e s) rest c h = subst (λ y. Like (deed_of P entry room see t f (length (f ∷ fs)) c.next y) (act P see t g gs rest (W.Loop e s))) (sym h.1) (loop_like rest c.next e s h.0 (as_truth (top f.operands)) h.2 h.3)
-    act_like (W.Get x) rest c h = subst (λ y. Like (deed_of P entry room see t f (length (f ∷ fs)) c.next y) (act P see t g gs rest (W.Get x))) (sym h.0) (get_like rest c.next x (address_of (top f.operands)) h.1)
-    act_like (W.Put x) rest c h = subst (λ y. Like (deed_of P entry room see t f (length (f ∷ fs)) c.next y) (act P see t g gs rest (W.Put x))) (sym h.0) (put_like rest c.next x (address_of (top (under f.operands))) h.1)
-    act_like (W.New x) rest c h = subst (λ y. Like (deed_of P entry room see t f (length (f ∷ fs)) c.next y) (act P see t g gs rest (W.New x))) (sym h.0) (new_like rest c.next x (slice_get P.classes x) h.1)
-    act_like (W.Call m) rest c h = subst (λ y. Like (deed_of P entry room see t f (length (f ∷ fs)) c.next y) (act P see t g gs rest (W.Call m))) (sym h.0) (call_like rest c.next m (slice_get P.methods m) refl h.1)
-    act_like (W.Acquire s) rest c h = subst (λ y. Like (deed_of P entry room see t f (length (f ∷ fs)) c.next y) (act P see t g gs rest (W.Acquire s))) (sym h.0) (acquire_like rest c.next s (address_of (top f.operands)) h.1)
-    act_like (W.Release a) rest c h = subst (λ y. Like (deed_of P entry room see t f (length (f ∷ fs)) c.next y) (act P see t g gs rest (W.Release a))) (sym h.1)
+        → Like (deed_of P entry room see t f.slots f.operands f.taken (length (f ∷ fs)) c.next c.instr) (act P see t g gs rest a)
+    act_like (W.Push v) rest c h = subst (λ y. Like (deed_of P entry room see t f.slots f.operands f.taken (length (f ∷ fs)) c.next y) (act P see t g gs rest (W.Push v))) (sym h.0) (goes Both f.slots (v ∷ f.operands) c.next f.taken rest Nothing h.1)
+    act_like (W.Load x) rest c h = subst (λ y. Like (deed_of P entry room see t f.slots f.operands f.taken (length (f ∷ fs)) c.next y) (act P see t g gs rest (W.Load x))) (sym h.0) (load_like rest c.next (slice_get f.slots x) h.1)
+    act_like (W.Store x) rest c h = subst (λ y. Like (deed_of P entry room see t f.slots f.operands f.taken (length (f ∷ fs)) c.next y) (act P see t g gs rest (W.Store x))) (sym h.0) (store_like rest c.next x (slice_get f.slots x) h.1)
+    act_like W.Drop rest c h = subst (λ y. Like (deed_of P entry room see t f.slots f.operands f.taken (length (f ∷ fs)) c.next y) (act P see t g gs rest W.Drop)) (sym h.0) (goes Both f.slots (under f.operands) c.next f.taken rest Nothing h.1)
+    act_like (W.Unary op) rest c h = subst (λ y. Like (deed_of P entry room see t f.slots f.operands f.taken (length (f ∷ fs)) c.next y) (act P see t g gs rest (W.Unary op))) (sym h.0) (goes Both f.slots (unary_value op (top f.operands) ∷ under f.operands) c.next f.taken rest Nothing h.1)
+    act_like (W.Binary op) rest c h = subst (λ y. Like (deed_of P entry room see t f.slots f.operands f.taken (length (f ∷ fs)) c.next y) (act P see t g gs rest (W.Binary op))) (sym h.0) (binary_like rest c.next (binary_value op (top (under f.operands)) (top f.operands)) h.1)
+    act_like (W.AndThen e) rest c h = subst (λ y. Like (deed_of P entry room see t f.slots f.operands f.taken (length (f ∷ fs)) c.next y) (act P see t g gs rest (W.AndThen e))) (sym h.1) (and_like rest c.next e h.0 (as_truth (top f.operands)) h.2 h.3)
+    act_like (W.OrElse e) rest c h = subst (λ y. Like (deed_of P entry room see t f.slots f.operands f.taken (length (f ∷ fs)) c.next y) (act P see t g gs rest (W.OrElse e))) (sym h.1) (or_like rest c.next e h.0 (as_truth (top f.operands)) h.2 h.3)
+    act_like (W.Choose s u) rest c h = subst (λ y. Like (deed_of P entry room see t f.slots f.operands f.taken (length (f ∷ fs)) c.next y) (act P see t g gs rest (W.Choose s u))) (sym h.1) (choose_like rest c.next s u h.0 (as_truth (top f.operands)) h.2 h.3)
+    act_like (W.Loop e s) rest c h = subst (λ y. Like (deed_of P entry room see t f.slots f.operands f.taken (length (f ∷ fs)) c.next y) (act P see t g gs rest (W.Loop e s))) (sym h.1) (loop_like rest c.next e s h.0 (as_truth (top f.operands)) h.2 h.3)
+    act_like (W.Get x) rest c h = subst (λ y. Like (deed_of P entry room see t f.slots f.operands f.taken (length (f ∷ fs)) c.next y) (act P see t g gs rest (W.Get x))) (sym h.0) (get_like rest c.next x (address_of (top f.operands)) h.1)
+    act_like (W.Put x) rest c h = subst (λ y. Like (deed_of P entry room see t f.slots f.operands f.taken (length (f ∷ fs)) c.next y) (act P see t g gs rest (W.Put x))) (sym h.0) (put_like rest c.next x (address_of (top (under f.operands))) h.1)
+    act_like (W.New x) rest c h = subst (λ y. Like (deed_of P entry room see t f.slots f.operands f.taken (length (f ∷ fs)) c.next y) (act P see t g gs rest (W.New x))) (sym h.0) (new_like rest c.next x (slice_get P.classes x) h.1)
+    act_like (W.Call m) rest c h = subst (λ y. Like (deed_of P entry room see t f.slots f.operands f.taken (length (f ∷ fs)) c.next y) (act P see t g gs rest (W.Call m))) (sym h.0) (call_like rest c.next m (slice_get P.methods m) refl h.1)
+    act_like (W.Acquire s) rest c h = subst (λ y. Like (deed_of P entry room see t f.slots f.operands f.taken (length (f ∷ fs)) c.next y) (act P see t g gs rest (W.Acquire s))) (sym h.0) (acquire_like rest c.next s (address_of (top f.operands)) h.1)
+    act_like (W.Release a) rest c h = subst (λ y. Like (deed_of P entry room see t f.slots f.operands f.taken (length (f ∷ fs)) c.next y) (act P see t g gs rest (W.Release a))) (sym h.1)
         (subst (λ l. Like (C.releases see t c.next (first_frame l)) (act P see t g gs rest (W.Release a))) (sym h.2)
         (give_like rest c.next a (see.lock_at a) refl (subst (λ l. Stands R code c.next (rest_of l) rest) (sym h.2) h.3)))
-    act_like W.Ret rest c h = subst (λ y. Like (deed_of P entry room see t f (length (f ∷ fs)) c.next y) (act P see t g gs rest W.Ret)) (sym h)
+    act_like W.Ret rest c h = subst (λ y. Like (deed_of P entry room see t f.slots f.operands f.taken (length (f ∷ fs)) c.next y) (act P see t g gs rest W.Ret)) (sym h)
         (subst (λ o. OutcomeStands P code (done P see t f fs (C.returns (top f.operands) R)) o) (returns_is rest gs) (return_any R))
       where
         return_any : (r : Bool) → OutcomeStands P code (done P see t f fs (C.returns (top f.operands) r)) (definition_returns r gs)
         return_any true = returned_like true fs gs stand
         return_any false = returned_like false fs gs stand
-    act_like W.Print rest c h = subst (λ y. Like (deed_of P entry room see t f (length (f ∷ fs)) c.next y) (act P see t g gs rest W.Print)) (sym h.0) (goes Other f.slots (under f.operands) c.next f.taken rest (Prints (as_int (top f.operands))) h.1)
-    act_like W.Start rest c h = subst (λ y. Like (deed_of P entry room see t f (length (f ∷ fs)) c.next y) (act P see t g gs rest W.Start)) (sym h.0) (start_like rest c.next (address_of (top f.operands)) h.1)
+    act_like W.Print rest c h = subst (λ y. Like (deed_of P entry room see t f.slots f.operands f.taken (length (f ∷ fs)) c.next y) (act P see t g gs rest W.Print)) (sym h.0) (goes Other f.slots (under f.operands) c.next f.taken rest (Prints (as_int (top f.operands))) h.1)
+    act_like W.Start rest c h = subst (λ y. Like (deed_of P entry room see t f.slots f.operands f.taken (length (f ∷ fs)) c.next y) (act P see t g gs rest W.Start)) (sym h.0) (start_like rest c.next (address_of (top f.operands)) h.1)
 
     -- what the frame does next
     next_like : Like (deed_at P entry room see t f (length (f ∷ fs)) (slice_get code f.place)) (act_next P see t g gs (unfolded work))
     next_like =
         let once = stands_once R code f.place f.taken work now in
         subst (λ o. Like (deed_at P entry room see t f (length (f ∷ fs)) o) (act_next P see t g gs (unfolded work))) (sym once.there)
-        (subst (λ o. Like (deed_of P entry room see t f (length (f ∷ fs)) once.line.next once.line.instr) (act_next P see t g gs o)) (sym once.next)
+        (subst (λ o. Like (deed_of P entry room see t f.slots f.operands f.taken (length (f ∷ fs)) once.line.next once.line.instr) (act_next P see t g gs o)) (sym once.next)
         (act_like once.action once.rest once.line once.agree))
 
   -- a ready thread enters its method

@@ -133,31 +133,31 @@ starts P see next (Some a) = starts_run next a (run_of P (see.object_at a))
 
 -- a program with the entries and rooms of its methods, what a thread may see, and its number
 module _ (P : Program) (entry room : List ℕ) (see : Shared) (t : ℕ) where
-  -- what an instruction does, for a frame of the thread, and how many frames the thread has
-  abbrev pub deed_of : CodeFrame → (depth next : ℕ) → Instr → Deed
-  deed_of f depth next (i.Push v) = deed.Goes 0 (Some v) next
-  deed_of f depth next (i.Load x) = pushes next (slice_get f.slots x)
-  deed_of f depth next (i.Store x) = stores next (top f.operands) x (slice_get f.slots x)
-  deed_of f depth next i.Drop = deed.Goes 1 None next
-  deed_of f depth next (i.Unary op) = deed.Goes 1 (Some (unary_value op (top f.operands))) next
-  deed_of f depth next (i.Binary op) = combines next (binary_value op (top (under f.operands)) (top f.operands))
-  deed_of f depth next (i.AndThen other) = and_then next other (as_truth (top f.operands))
-  deed_of f depth next (i.OrElse other) = or_else next other (as_truth (top f.operands))
-  deed_of f depth next (i.Branch other) = branches next other (as_truth (top f.operands))
-  deed_of f depth next (i.Get x) = reads P see t next x (address_of (top f.operands))
-  deed_of f depth next (i.Put x) = writes P see t next (top f.operands) x (address_of (top (under f.operands)))
-  deed_of f depth next (i.New c) = makes next c (slice_get P.classes c)
-  deed_of f depth next (i.Call m) = calls entry room depth next f.operands m (slice_get P.methods m)
-  deed_of f depth next i.Acquire = acquires see t next (address_of (top f.operands))
-  deed_of f depth next i.Release = releases see t next (first_frame f.taken)
-  deed_of f depth next (i.Ret result) = returns (top f.operands) result
-  deed_of f depth next i.Print = deed.Prints (as_int (top f.operands)) next
-  deed_of f depth next i.Start = starts P see next (address_of (top f.operands))
+  -- what an instruction does, for the slots, operands and taken locks of the top frame, and how many frames the thread has
+  abbrev pub deed_of : (slots operands : List Value) → List Address → (depth next : ℕ) → Instr → Deed
+  deed_of slots operands locks depth next (i.Push v) = deed.Goes 0 (Some v) next
+  deed_of slots operands locks depth next (i.Load x) = pushes next (slice_get slots x)
+  deed_of slots operands locks depth next (i.Store x) = stores next (top operands) x (slice_get slots x)
+  deed_of slots operands locks depth next i.Drop = deed.Goes 1 None next
+  deed_of slots operands locks depth next (i.Unary op) = deed.Goes 1 (Some (unary_value op (top operands))) next
+  deed_of slots operands locks depth next (i.Binary op) = combines next (binary_value op (top (under operands)) (top operands))
+  deed_of slots operands locks depth next (i.AndThen other) = and_then next other (as_truth (top operands))
+  deed_of slots operands locks depth next (i.OrElse other) = or_else next other (as_truth (top operands))
+  deed_of slots operands locks depth next (i.Branch other) = branches next other (as_truth (top operands))
+  deed_of slots operands locks depth next (i.Get x) = reads P see t next x (address_of (top operands))
+  deed_of slots operands locks depth next (i.Put x) = writes P see t next (top operands) x (address_of (top (under operands)))
+  deed_of slots operands locks depth next (i.New c) = makes next c (slice_get P.classes c)
+  deed_of slots operands locks depth next (i.Call m) = calls entry room depth next operands m (slice_get P.methods m)
+  deed_of slots operands locks depth next i.Acquire = acquires see t next (address_of (top operands))
+  deed_of slots operands locks depth next i.Release = releases see t next (first_frame locks)
+  deed_of slots operands locks depth next (i.Ret result) = returns (top operands) result
+  deed_of slots operands locks depth next i.Print = deed.Prints (as_int (top operands)) next
+  deed_of slots operands locks depth next i.Start = starts P see next (address_of (top operands))
 
   -- what a frame does next: that of its line
   abbrev pub deed_at : CodeFrame → (depth : ℕ) → Option Code → Deed
   deed_at f depth None = deed.Fails fault.Null
-  deed_at f depth (Some c) = deed_of f depth c.next c.instr
+  deed_at f depth (Some c) = deed_of f.slots f.operands f.taken depth c.next c.instr
 
 -- the kind of what is done
 abbrev pub deed_kind : Program → Shared → ℕ → Deed → StepKind

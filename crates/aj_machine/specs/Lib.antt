@@ -2,3 +2,6 @@
 -- over code as definitions, on which its private functions stand.
 pub mod CodeMachine
 pub mod Likeness
+pub mod Seen
+pub mod Listed
+pub mod Deeds

@@ -1,8 +1,14 @@
 //! The machine that runs code: each of its steps is the step of the definition.
 #![tactic(auto)]
 
+mod act;
+mod decide;
 mod deed;
+mod kinds;
 mod laws;
+mod make;
+mod operators;
+mod seen;
 
 pub(crate) use deed::Deed;
 pub use laws::code_laws;

@@ -1,5 +1,5 @@
 -- Frames of the machine that runs code, and the threads that keep them.
-use Rattle.std.specs.Prelude.{◌≡◌, ℕ, ◌+◌, ◌-◌, Bool, true, false, List, [], ◌∷◌, length, Option, Some, None, map}
+use Rattle.std.specs.Prelude.{◌≡◌, ℕ, ◌+◌, ◌-◌, ◌<◌, Bool, true, false, List, [], ◌∷◌, length, Option, Some, None, map}
 use Rattle.aj_state.specs.declared.value.Address.{Address}
 use Rattle.aj_state.specs.declared.value.Value.{Value}
 use Rattle.aj_state.specs.declared.value.ThreadState.{ThreadState}
@@ -129,6 +129,11 @@ operands_of (Some f) = f.operands
 abbrev pub taken_of : Option CellFrame → List Address
 taken_of None = []
 taken_of (Some f) = f.taken
+
+-- there is a frame, and it has spare room
+abbrev pub HasRoom : Option CellFrame → Type 0
+HasRoom None = ⊥
+HasRoom (Some f) = 0 < f.room
 
 -- How a thread is kept: its innermost frame apart from those below it.
 abbrev pub frames_from : {F : Type 0} → Option F → List F → List F

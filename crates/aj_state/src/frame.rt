@@ -167,6 +167,21 @@ impl FrameCell {
         Ok(())
     }
 
+    /// Drops the topmost operands and goes on at a place.
+    pub(crate) fn drop_to(&mut self, drops: usize, place: u32)
+        ensures { self.new ≡ settled drops None place self.old }
+    {
+        let _ = self.settle(drops, None, place);
+    }
+
+    /// Drops the topmost operands, is given a value and goes on at a place, where there is spare room.
+    pub(crate) fn give_to(&mut self, drops: usize, value: Value, place: u32)
+        requires { 0 < self.old.room }
+        ensures { self.new ≡ settled drops (Some value) place self.old }
+    {
+        let _ = self.settle(drops, Some(value), place);
+    }
+
     /// A lock becomes the last taken one.
     pub(crate) fn lock_taken(&mut self, a: Address) -> Result<(), NoMemory>
         ensures ok { OnOk result (self.new ≡ record self.old { taken = a ∷ self.old.taken }) }

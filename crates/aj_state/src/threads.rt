@@ -3,7 +3,7 @@ ghost use Rattle.std.specs.Prelude.{◌≡◌, ◌<◌, ◌≤◌, ◌+◌, ◌-
 ghost use Rattle.std.specs.Option.{option_map, option_copied};
 ghost use Rattle.aj_state.specs.Values.{under};
 ghost use Rattle.aj_state.specs.States.{ThreadOf, Ready, Running, Faulted};
-ghost use Rattle.aj_state.specs.Frames.{CellFrame, code_frame, code_thread, frames_in, top_frame, on_top, status_of, waiting_of, is_running, may_enter, popped, settled, settled_operands, first_frame, rest_of, slots_of, operands_of, taken_of};
+ghost use Rattle.aj_state.specs.Frames.{CellFrame, code_frame, code_thread, frames_in, top_frame, on_top, status_of, waiting_of, is_running, may_enter, popped, settled, settled_operands, HasRoom, first_frame, rest_of, on_first, given, slots_of, operands_of, taken_of};
 
 use crate::frame::FrameCell;
 use crate::value::{Address, Fault, ThreadState, Value};
@@ -164,6 +164,42 @@ impl ThreadCell {
         Ok(())
     }
 
+    /// A running thread calls a method: its top frame drops its topmost operands and goes on at a place, and gets a frame above
+    /// it.
+    pub fn call(
+        &mut self,
+        alloc: Global,
+        drops: usize,
+        next: u32,
+        method: MethodId,
+        slots: Vec<Value>,
+        place: u32,
+        room: u32,
+    ) -> Result<(), NoMemory>
+        requires { is_running self.old ≡ true }
+        ensures ok { OnOk result (self.new ≡ Running (record { method = method; slots = slots.items; operands = []; place = place; taken = []; room = room }
+            ∷ on_first (settled drops None next) (frames_in self.old))) }
+        ensures err { OnErr result (self.new ≡ self.old) }
+    {
+        self.push_frame(alloc, method, slots, place, room)?;
+        settle_last(&mut self.below, drops, next);
+        Ok(())
+    }
+
+    /// A running thread returns: its top frame is taken away, and the one below is given the result or none; the thread is
+    /// done where it was the last.
+    pub fn give_result(&mut self, gives: Option<Value>) -> Result<(), NoMemory>
+        requires { is_running self.old ≡ true }
+        ensures ok { OnOk result (code_thread self.new ≡ code_thread (on_top (λ f. record f { operands = given gives f.operands }) (popped self.old))) }
+        ensures err { OnErr result (self.new ≡ self.old) }
+    {
+        if let Some(value) = gives {
+            push_last(&mut self.below, value)?;
+        }
+        self.pop_frame();
+        Ok(())
+    }
+
     /// A running thread loses its top frame; it is done where that was the last.
     pub fn pop_frame(&mut self)
         requires { is_running self.old ≡ true }
@@ -255,6 +291,27 @@ impl ThreadCell {
         }
     }
 
+    /// The top frame drops its topmost operands and goes on at a place; takes no memory.
+    pub fn drop_to(&mut self, drops: usize, place: u32)
+        requires { IsSome (top_frame self.old) }
+        ensures { self.new ≡ on_top (settled drops None place) self.old }
+    {
+        if let Some(frame) = &mut self.top {
+            frame.drop_to(drops, place);
+        }
+    }
+
+    /// The top frame, which has spare room, drops its topmost operands, is given a value and goes on at a place; takes no
+    /// memory.
+    pub fn give_to(&mut self, drops: usize, value: Value, place: u32)
+        requires { HasRoom (top_frame self.old) }
+        ensures { self.new ≡ on_top (settled drops (Some value) place) self.old }
+    {
+        if let Some(frame) = &mut self.top {
+            frame.give_to(drops, value, place);
+        }
+    }
+
     /// A lock becomes the last taken one of the top frame.
     pub fn lock_taken(&mut self, a: Address) -> Result<(), NoMemory>
         requires { IsSome (top_frame self.old) }
@@ -313,4 +370,24 @@ fn copy_frames(alloc: Global, frames: &[FrameCell]) -> Result<Vec<FrameCell>, No
         copies.push(frame.copy(alloc)?)?;
     }
     Ok(copies)
+}
+
+/// The last frame drops its topmost operands and goes on at a place.
+fn settle_last(frames: &mut Vec<FrameCell>, drops: usize, place: u32)
+    ensures { reverse frames.new.items ≡ on_first (settled drops None place) (reverse frames.old.items) }
+{
+    if let Some(frame) = frames.last_mut() {
+        frame.drop_to(drops, place);
+    }
+}
+
+/// The last frame, where there is one, is given a value.
+fn push_last(frames: &mut Vec<FrameCell>, value: Value) -> Result<(), NoMemory>
+    ensures ok { OnOk result (map code_frame (reverse frames.new.items) ≡ on_first (λ f. record f { operands = value ∷ f.operands }) (map code_frame (reverse frames.old.items))) }
+    ensures err { OnErr result (frames.new.items ≡ frames.old.items) }
+{
+    match frames.last_mut() {
+        Some(frame) => frame.push(value),
+        None => Ok(()),
+    }
 }

@@ -1,0 +1,293 @@
+// What is done, on one thread and what all threads share.
+ghost use Rattle.std.specs.Prelude.{◌≡◌, ◌++◌, ◌∷◌, [], ◌-◌, reverse, map, Option, Some, None, true, IsSome, OnOk, OnErr, IfOk, slice_get, slice_set};
+ghost use Rattle.std.specs.FinMap as map;
+ghost use Rattle.aj_state.specs.Values.{under};
+ghost use Rattle.std.specs.Bool.{OnTrue};
+ghost use Rattle.aj_core.specs.Views.{program_of};
+ghost use Rattle.aj_state.specs.Memory.{with_field, with_lock, made_by, new_values};
+ghost use Rattle.aj_state.specs.States.{fields_of};
+ghost use Rattle.aj_machine.specs.Listed.{listed};
+ghost use Rattle.aj_state.specs.Stored.{HasField, MayTake, taken_by, given_back};
+ghost use Rattle.aj_state.specs.declared.value.Value.TheVariants as value;
+ghost use Rattle.aj_state.specs.Frames.{code_thread, top_frame, on_top, operands_of};
+ghost use Rattle.aj_machine.specs.Deeds.{goes_on, stores_on, takes_on, gives_on};
+
+use crate::make::values_of;
+use aj_core::CoreProgram;
+use aj_paths::ClassId;
+use aj_state::{Address, Heap, Locks, ThreadCell, Value};
+use std::alloc::{AllocError as NoMemory, Global};
+
+/// The top frame drops operands, is given one or none, and goes on.
+pub(crate) fn goes(
+    cell: &mut ThreadCell,
+    drops: usize,
+    gives: Option<Value>,
+    place: u32,
+) -> Result<(), NoMemory>
+    requires { IsSome (top_frame cell.old) }
+    ensures ok { OnOk result (code_thread cell.new ≡ on_top (goes_on drops gives place) (code_thread cell.old)) }
+    ensures err { OnErr result (cell.new ≡ cell.old) }
+{
+    cell.settle(drops, gives, place)
+}
+
+/// The top frame drops operands and goes on, which takes no memory.
+pub(crate) fn drops(cell: &mut ThreadCell, count: usize, place: u32)
+    requires { IsSome (top_frame cell.old) }
+    ensures { code_thread cell.new ≡ on_top (goes_on count None place) (code_thread cell.old) }
+{
+    cell.drop_to(count, place);
+}
+
+/// A slot that is there gets a value.
+pub(crate) fn stores(cell: &mut ThreadCell, slot: u16, value: Value, place: u32) -> Result<(), NoMemory>
+    requires { IsSome (top_frame cell.old) }
+    ensures ok { OnOk result (code_thread cell.new ≡ on_top (stores_on slot value place) (code_thread cell.old)) }
+    ensures err { OnErr result (cell.new ≡ cell.old) }
+{
+    if (slot as usize) < cell.slots().len() {
+        cell.set_slot(slot, value);
+        cell.drop_to(1, place);
+        Ok(())
+    } else {
+        Err(NoMemory)
+    }
+}
+
+/// A lock that no other thread holds is taken once more.
+pub(crate) fn takes(
+    alloc: Global,
+    locks: &mut Locks,
+    cell: &mut ThreadCell,
+    thread: u32,
+    address: Address,
+    place: u32,
+) -> Result<(), NoMemory>
+    requires top { IsSome (top_frame cell.old) }
+    requires may { MayTake thread (map.get locks.old address) }
+    ensures ok { OnOk result (code_thread cell.new ≡ on_top (takes_on address place) (code_thread cell.old)) }
+    ensures lock { OnOk result (locks.new ≡ map.insert locks.old address (taken_by thread (map.get locks.old address))) }
+    ensures err { OnErr result (cell.new ≡ cell.old) }
+    ensures kept { OnErr result (locks.new ≡ locks.old) }
+{
+    cell.lock_taken(address)?;
+    if locks.take(alloc, address, thread).is_err() {
+        cell.lock_given();
+        return Err(NoMemory);
+    }
+    cell.drop_to(1, place);
+    Ok(())
+}
+
+/// The last taken lock is given back.
+pub(crate) fn gives(locks: &mut Locks, cell: &mut ThreadCell, address: Address, place: u32)
+    requires top { IsSome (top_frame cell.old) }
+    requires held { IsSome (map.get locks.old address) }
+    ensures frame { code_thread cell.new ≡ on_top (gives_on place) (code_thread cell.old) }
+    ensures lock { locks.new ≡ with_lock address (given_back (map.get locks.old address)) locks.old }
+{
+    let _ = cell.lock_given();
+    cell.go(place);
+    locks.give(address);
+}
+
+/// An object is made at a free address, and takes the place of the arguments.
+pub(crate) fn makes(
+    alloc: Global,
+    heap: &mut Heap,
+    cell: &mut ThreadCell,
+    address: Address,
+    class: ClassId,
+    values: Vec<Value>,
+    arguments: usize,
+    place: u32,
+) -> Result<(), NoMemory>
+    requires top { IsSome (top_frame cell.old) }
+    requires free { map.get heap.old address ≡ None }
+    ensures ok { OnOk result (code_thread cell.new ≡ on_top (goes_on arguments (Some (value.Ref address)) place) (code_thread cell.old)) }
+    ensures object { OnOk result (heap.new ≡ map.insert heap.old address (record { class = class; values = values.items })) }
+    ensures err { OnErr result (code_thread cell.new ≡ code_thread cell.old) }
+    ensures kept { OnErr result (heap.new ≡ heap.old) }
+{
+    cell.make_room(1)?;
+    heap.add(alloc, address, class, values)?;
+    cell.give_to(arguments, Value::Ref(address), place);
+    Ok(())
+}
+
+/// A number is printed.
+pub(crate) fn prints(
+    output: &mut Vec<i32>,
+    cell: &mut ThreadCell,
+    number: i32,
+    place: u32,
+) -> Result<(), NoMemory>
+    requires { IsSome (top_frame cell.old) }
+    ensures ok { OnOk result (code_thread cell.new ≡ on_top (goes_on 1 None place) (code_thread cell.old)) }
+    ensures printed { OnOk result (output.new.items ≡ output.old.items ++ number ∷ []) }
+    ensures err { OnErr result (cell.new ≡ cell.old) }
+    ensures kept { OnErr result (output.new.items ≡ output.old.items) }
+{
+    output.push(number)?;
+    cell.drop_to(1, place);
+    Ok(())
+}
+
+/// A field that the object has is written.
+pub(crate) fn writes(
+    heap: &mut Heap,
+    cell: &mut ThreadCell,
+    address: Address,
+    index: u16,
+    value: Value,
+    place: u32,
+) -> Result<(), NoMemory>
+    requires { IsSome (top_frame cell.old) }
+    ensures ok { OnOk result (code_thread cell.new ≡ on_top (goes_on 2 None place) (code_thread cell.old)) }
+    ensures field { OnOk result (heap.new ≡ with_field address index value heap.old) }
+    ensures err { OnErr result (cell.new ≡ cell.old) }
+    ensures kept { OnErr result (heap.new ≡ heap.old) }
+{
+    if has_field(heap, address, index) {
+        heap.set(address, index, value);
+        cell.drop_to(2, place);
+        Ok(())
+    } else {
+        Err(NoMemory)
+    }
+}
+
+/// Whether there is an object at an address with a field at this index.
+fn has_field(heap: &Heap, address: Address, index: u16) -> bool
+    ensures { OnTrue result (HasField heap.now address index) }
+{
+    match heap.find(address) {
+        Some((_, values)) => (index as usize) < values.len(),
+        None => false,
+    }
+}
+
+/// Whether a thread may take a lock: no other thread holds it, and its count can rise.
+fn may_take(locks: &Locks, thread: u32, address: Address) -> bool
+    ensures { OnTrue result (MayTake thread (map.get locks.now address)) }
+{
+    match locks.find(address) {
+        Some((holder, count)) => holder == thread && count < u32::MAX,
+        None => true,
+    }
+}
+
+/// A lock is taken once more, where it may be.
+pub(crate) fn takes_free(
+    alloc: Global,
+    locks: &mut Locks,
+    cell: &mut ThreadCell,
+    thread: u32,
+    address: Address,
+    place: u32,
+) -> Result<(), NoMemory>
+    requires { IsSome (top_frame cell.old) }
+    ensures ok { OnOk result (code_thread cell.new ≡ on_top (takes_on address place) (code_thread cell.old)) }
+    ensures lock { OnOk result (locks.new ≡ map.insert locks.old address (taken_by thread (map.get locks.old address))) }
+    ensures err { OnErr result (cell.new ≡ cell.old) }
+    ensures kept { OnErr result (locks.new ≡ locks.old) }
+{
+    if may_take(locks, thread, address) {
+        takes(alloc, locks, cell, thread, address, place)
+    } else {
+        Err(NoMemory)
+    }
+}
+
+/// The last taken lock is given back, where it is held.
+pub(crate) fn gives_held(
+    locks: &mut Locks,
+    cell: &mut ThreadCell,
+    address: Address,
+    place: u32,
+) -> Result<(), NoMemory>
+    requires { IsSome (top_frame cell.old) }
+    ensures ok { OnOk result (code_thread cell.new ≡ on_top (gives_on place) (code_thread cell.old)) }
+    ensures lock { OnOk result (locks.new ≡ with_lock address (given_back (map.get locks.old address)) locks.old) }
+    ensures err { OnErr result (cell.new ≡ cell.old) }
+    ensures kept { OnErr result (locks.new ≡ locks.old) }
+{
+    if is_held(locks, address) {
+        gives(locks, cell, address, place);
+        Ok(())
+    } else {
+        Err(NoMemory)
+    }
+}
+
+/// Whether a lock is held.
+fn is_held(locks: &Locks, address: Address) -> bool
+    ensures { OnTrue result (IsSome (map.get locks.now address)) }
+{
+    match locks.find(address) {
+        Some(_) => true,
+        None => false,
+    }
+}
+
+/// Whether there is no object at an address.
+fn is_free(heap: &Heap, address: Address) -> bool
+    ensures { OnTrue result (map.get heap.now address ≡ None) }
+{
+    match heap.find(address) {
+        Some(_) => false,
+        None => true,
+    }
+}
+
+/// The address of a thread's next object.
+fn next_address(heap: &Heap, thread: u32) -> Result<Address, NoMemory>
+    ensures { IfOk result (λ a. a ≡ record { thread = thread; count = made_by thread heap.now }) }
+{
+    let count = u32::try_from(heap.made(thread)).map_err(|_| NoMemory)?;
+    Ok(Address { thread, count })
+}
+
+/// An object of a class is made, from the topmost operands as the arguments for its final fields.
+pub(crate) fn makes_next(
+    alloc: Global,
+    program: &CoreProgram,
+    heap: &mut Heap,
+    cell: &mut ThreadCell,
+    thread: u32,
+    class: ClassId,
+    arguments: usize,
+    place: u32,
+) -> Result<(), NoMemory>
+    requires { IsSome (top_frame cell.old) }
+    ensures ok { OnOk result (code_thread cell.new ≡ on_top (goes_on arguments (Some (value.Ref (record { thread = thread; count = made_by thread heap.old }))) place) (code_thread cell.old)) }
+    ensures object { OnOk result (heap.new ≡ map.insert heap.old (record { thread = thread; count = made_by thread heap.old })
+        (record { class = class; values = new_values (program_of program.now) (fields_of (slice_get (program_of program.now).classes class)) (listed arguments (operands_of (top_frame cell.old))) })) }
+    ensures err { OnErr result (code_thread cell.new ≡ code_thread cell.old) }
+    ensures kept { OnErr result (heap.new ≡ heap.old) }
+{
+    let address = next_address(heap, thread)?;
+    let values = object_values(alloc, program, class, cell.operands(), arguments)?;
+    if is_free(heap, address) {
+        makes(alloc, heap, cell, address, class, values, arguments, place)
+    } else {
+        Err(NoMemory)
+    }
+}
+
+/// The values of a new object of a class.
+fn object_values(
+    alloc: Global,
+    program: &CoreProgram,
+    class: ClassId,
+    operands: &[Value],
+    count: usize,
+) -> Result<Vec<Value>, NoMemory>
+    ensures { IfOk result (λ v. v.items ≡ new_values (program_of program.now) (fields_of (slice_get (program_of program.now).classes class)) (listed count (reverse operands.now))) }
+{
+    match program.classes.get(class.0 as usize) {
+        Some(found) => values_of(alloc, program, found.fields.as_slice(), operands, count),
+        None => Ok(Vec::new(alloc)),
+    }
+}
