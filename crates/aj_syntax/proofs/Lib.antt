@@ -1,5 +1,6 @@
 pub mod Bridge
 pub mod Cutting
+pub mod Fields
 pub mod Moving
 pub mod Parting
 pub mod ReadingBack

@@ -4,6 +4,7 @@ pub mod Heights
 pub mod Layout
 pub mod Printing
 pub mod Reprinted
+pub mod Seen
 pub mod Tokens
 pub mod Trees
 pub mod Unplaced

@@ -14,6 +14,7 @@ pub enum Terminal {
     Runnable,
     Final,
     GuardedBy,
+    WriteGuardedBy,
     This,
     Atomic,
     Void,
@@ -70,6 +71,7 @@ impl Terminal {
             Terminal::Runnable => "Runnable",
             Terminal::Final => "final",
             Terminal::GuardedBy => "guarded_by",
+            Terminal::WriteGuardedBy => "write_guarded_by",
             Terminal::This => "this",
             Terminal::Atomic => "atomic",
             Terminal::Void => "void",
@@ -150,7 +152,7 @@ impl Terminal {
     pub fn matches(self, token: &Token) -> bool
         ensures { result ≡ is self token.now }
     {
-        is_same_kind(token.kind, self.kind()) && token.text.is(self.text())
+        is_same_kind(token.kind, self.kind()) && token.text == self.text()
     }
 }
 
