@@ -2,6 +2,7 @@ pub mod Faults
 pub mod Grammar
 pub mod Heights
 pub mod Layout
+pub mod Names
 pub mod Printing
 pub mod Reprinted
 pub mod Seen
