@@ -8,7 +8,7 @@ use Rattle.aj_core.specs.Core.{Program, Class, Stmt}
 use Rattle.aj_core.specs.Types.{Variable}
 use Rattle.aj_core.specs.Typed.{IsTyped, IsTypedClass, IsTypedField, IsTypedMethod, IsLock, IsTypedStmt, declared_in}
 use Rattle.aj_core.specs.Sizes.{stmt_height, stmt_nodes}
-use Rattle.aj_core.specs.Examples.{this_path, plain_method, inc_body, run_body, start_worker, guarded_main, counter, nested, returns_locked, divides_by_zero}
+use Rattle.aj_core.specs.Examples.{this_path, plain_method, inc_body, run_body, start_worker, guarded_main, counter, nested, returns_locked, divides_by_zero, reads_unlocked}
 
 no_truth : false ≡ true → ⊥
 no_truth e = subst T (sym e) tt
@@ -42,8 +42,8 @@ counter_classes = (
 
 counter_fields : EachFrom (IsTypedField counter) 0 counter.fields
 counter_fields = (
-  record { class = _; of_class = refl; index = refl; ty = tt; guard = record { root_class = 0; root = refl; fields = tt; short = omega arith }; unguarded = λ e. absurd (no_truth e) },
-  (record { class = _; of_class = refl; index = refl; ty = omega arith; guard = tt; unguarded = λ e. refl }, tt),
+  record { class = _; of_class = refl; index = refl; ty = tt; guard = record { root_class = 0; root = refl; fields = tt; short = omega arith }; unguarded = λ e. absurd (no_truth e); writes = λ e. absurd (no_truth e) },
+  (record { class = _; of_class = refl; index = refl; ty = omega arith; guard = tt; unguarded = λ e. refl; writes = λ e. absurd (no_truth e) }, tt),
 )
 
 this_lock : (c : ℕ) (P : Program) (scope : List Variable) → IsLock P c scope this_path
@@ -112,12 +112,12 @@ counter_is_typed = record {
 }
 
 -- a `main` over a guarded field is typed where its body is
-guarded_main_is_typed : (place_at : ℕ) (annotated : Bool) (body : Stmt) → declared_in body ≡ 0 → IsTypedStmt (guarded_main place_at annotated body) 0 None body [] 1 → stmt_height body ≤ 64 → stmt_nodes body ≤ 1000 → IsTyped (guarded_main place_at annotated body)
-guarded_main_is_typed place_at annotated body no_locals typed low small =
-    let P = guarded_main place_at annotated body in
+guarded_main_is_typed : (writes_only : Bool) (place_at : ℕ) (annotated : Bool) (body : Stmt) → declared_in body ≡ 0 → IsTypedStmt (guarded_main writes_only place_at annotated body) 0 None body [] 1 → stmt_height body ≤ 64 → stmt_nodes body ≤ 1000 → IsTyped (guarded_main writes_only place_at annotated body)
+guarded_main_is_typed writes_only place_at annotated body no_locals typed low small =
+    let P = guarded_main writes_only place_at annotated body in
     record {
       classes = each (IsTypedClass P) P.classes (record { fields = refl; finals = refl; run = tt; few = omega arith }, tt);
-      fields = each (IsTypedField P) P.fields (record { class = _; of_class = refl; index = refl; ty = tt; guard = this_lock 0 P []; unguarded = λ e. absurd (no_truth e) }, tt);
+      fields = each (IsTypedField P) P.fields (record { class = _; of_class = refl; index = refl; ty = tt; guard = this_lock 0 P []; unguarded = λ e. absurd (no_truth e); writes = λ e. refl }, tt);
       methods = each (λ m. IsTypedMethod P) P.methods (plain_typed P 0 place_at annotated body (omega arith) no_locals typed low, tt);
       main = record { method = _; is = refl; of_class = refl; no_parameters = refl; no_result = refl; no_locks = refl };
       no_finals = λ class is. ap (λ o. finals_of o) (sym is);
@@ -125,10 +125,13 @@ guarded_main_is_typed place_at annotated body no_locals typed low small =
     }
 
 pub nested_is_typed : IsTyped nested
-nested_is_typed = guarded_main_is_typed _ _ _ refl ((this_lock 0 _ [], ((this_lock 0 _ [], ((_, refl, refl, refl, (_, refl, refl)), tt)), tt)), tt) (omega arith) (omega arith)
+nested_is_typed = guarded_main_is_typed _ _ _ _ refl ((this_lock 0 _ [], ((this_lock 0 _ [], ((_, refl, refl, refl, (_, refl, refl)), tt)), tt)), tt) (omega arith) (omega arith)
 
 pub returns_locked_is_typed : IsTyped returns_locked
-returns_locked_is_typed = guarded_main_is_typed _ _ _ refl ((this_lock 0 _ [], ((this_lock 0 _ [], (tt, tt)), tt)), tt) (omega arith) (omega arith)
+returns_locked_is_typed = guarded_main_is_typed _ _ _ _ refl ((this_lock 0 _ [], ((this_lock 0 _ [], (tt, tt)), tt)), tt) (omega arith) (omega arith)
 
 pub divides_by_zero_is_typed : IsTyped divides_by_zero
-divides_by_zero_is_typed = guarded_main_is_typed _ _ _ refl ((_, _, refl, refl, refl), tt) (omega arith) (omega arith)
+divides_by_zero_is_typed = guarded_main_is_typed _ _ _ _ refl ((_, _, refl, refl, refl), tt) (omega arith) (omega arith)
+
+pub reads_unlocked_is_typed : IsTyped reads_unlocked
+reads_unlocked_is_typed = guarded_main_is_typed _ _ _ _ refl ((_, refl, refl, refl), ((this_lock 0 _ [], ((_, refl, refl, refl, (_, refl, refl)), ((_, refl, refl, refl), tt))), tt)) (omega arith) (omega arith)

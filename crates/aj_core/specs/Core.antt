@@ -53,13 +53,14 @@ pub record Class : Type 0 where
   pub finals : List ℕ
   pub run : Option ℕ
 
--- a field: its class, its place there, whether it is final, its type and its guard
+-- a field: its class, its place there, whether it is final, its type, its guard, and whether that guards writes only
 pub record Field : Type 0 where
   pub class : ℕ
   pub index : ℕ
   pub is_final : Bool
   pub ty : CoreType
   pub guard : Option PathData
+  pub writes_only : Bool
 
 -- a method: each parameter with whether it is final, and its type
 pub record Method : Type 0 where

@@ -57,18 +57,19 @@ main_body = BlockS (and_stmt (LocalS 1 true (type.Class 0) (NewE 0 no_exprs)) (a
 abbrev pub counter : Program
 counter = record {
   classes = record { fields = 0 ∷ []; finals = []; run = None } ∷ record { fields = 1 ∷ []; finals = 1 ∷ []; run = Some 1 } ∷ record { fields = []; finals = []; run = None } ∷ [];
-  fields = record { class = 0; index = 0; is_final = false; ty = type.Int; guard = Some this_path } ∷ record { class = 1; index = 0; is_final = true; ty = type.Class 0; guard = None } ∷ [];
+  fields = record { class = 0; index = 0; is_final = false; ty = type.Int; guard = Some this_path; writes_only = false } ∷ record { class = 1; index = 0; is_final = true; ty = type.Class 0; guard = None; writes_only = false } ∷ [];
   methods = plain_method 0 48 true inc_body ∷ plain_method 1 187 false run_body ∷ record (plain_method 2 231 false main_body) { slots = 2 } ∷ [];
   main_class = 2;
   main = 2;
 }
 
--- A class with a guarded field and a `main` with this body, annotated or not.
+-- A class with a field that is guarded, or guarded for writing only, and a `main` with this body, annotated or not.
 --     class Main { int v guarded_by this; void main() { .. } }
-abbrev pub guarded_main : (place_at : ℕ) (annotated : Bool) → Stmt → Program
-guarded_main place_at annotated body = record {
+--     class Main { int v write_guarded_by this; void main() { .. } }
+abbrev pub guarded_main : (writes_only : Bool) (place_at : ℕ) (annotated : Bool) → Stmt → Program
+guarded_main writes_only place_at annotated body = record {
   classes = record { fields = 0 ∷ []; finals = []; run = None } ∷ [];
-  fields = record { class = 0; index = 0; is_final = false; ty = type.Int; guard = Some this_path } ∷ [];
+  fields = record { class = 0; index = 0; is_final = false; ty = type.Int; guard = Some this_path; writes_only = writes_only } ∷ [];
   methods = plain_method 0 place_at annotated body ∷ [];
   main_class = 0;
   main = 0;
@@ -84,12 +85,20 @@ put_seven = SetFieldS ThisE 0 (IntE (pos 7))
 
 -- `atomic void main() { synchronized (this) { synchronized (this) { this.v = 7; } } }`
 abbrev pub nested : Program
-nested = guarded_main 48 true (block_of (synchronized_this (synchronized_this put_seven)))
+nested = guarded_main false 48 true (block_of (synchronized_this (synchronized_this put_seven)))
 
 -- `void main() { synchronized (this) { synchronized (this) { return; } } }`
 abbrev pub returns_locked : Program
-returns_locked = guarded_main 41 false (block_of (synchronized_this (synchronized_this (ReturnS None))))
+returns_locked = guarded_main false 41 false (block_of (synchronized_this (synchronized_this (ReturnS None))))
 
 -- `void main() { System.out.println(1 / 0); }`
 abbrev pub divides_by_zero : Program
-divides_by_zero = guarded_main 41 false (block_of (PrintS (BinaryE Div (IntE (pos 1)) (IntE (pos 0)))))
+divides_by_zero = guarded_main false 41 false (block_of (PrintS (BinaryE Div (IntE (pos 1)) (IntE (pos 0)))))
+
+-- `System.out.println(this.v);`
+abbrev pub print_field : Stmt
+print_field = PrintS (GetE ThisE 0)
+
+-- `void main() { System.out.println(this.v); synchronized (this) { this.v = 7; System.out.println(this.v); } }`, where the guard guards writes only
+abbrev pub reads_unlocked : Program
+reads_unlocked = guarded_main true 47 false (BlockS (and_stmt print_field (and_stmt (SyncS this_path (BlockS (and_stmt put_seven (and_stmt print_field no_stmts)))) no_stmts)))

@@ -185,7 +185,7 @@ pub record IsTypedClass (P : Program) (c : ℕ) (class : Class) : Type 0 where
   pub run : IfSome class.run (IsEntry P c)
   pub few : length class.fields ≤ most_class_fields
 
--- a field: it stands in its class at its index, its guard is rooted at `this`, and a final field has none
+-- a field: it stands in its class at its index, its guard is rooted at `this`, a final field has none, and only a guard guards writes alone
 pub record IsTypedField (P : Program) (f : ℕ) (field : Field) : Type 0 where
   pub class : Class
   pub of_class : slice_get P.classes field.class ≡ Some class
@@ -193,6 +193,7 @@ pub record IsTypedField (P : Program) (f : ℕ) (field : Field) : Type 0 where
   pub ty : IsType P field.ty
   pub guard : IfSome field.guard (IsLock P field.class [])
   pub unguarded : field.is_final ≡ true → field.guard ≡ None
+  pub writes : field.writes_only ≡ true → IsSome field.guard
 
 -- a method: its required locks ascend, its slots are `this`, its parameters and its locals, its body is typed, and one with a result can't complete
 pub record IsTypedMethod (P : Program) (method : Method) : Type 0 where

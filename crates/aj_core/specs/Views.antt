@@ -62,7 +62,7 @@ class_of c = record { fields = c.fields.items; finals = c.finals.items; run = c.
 
 -- a field as plain data
 abbrev pub field_of : CoreField → Field
-field_of f = record { class = f.class; index = f.index; is_final = f.is_final; ty = f.ty; guard = f.guard }
+field_of f = record { class = f.class; index = f.index; is_final = f.is_final; ty = f.ty; guard = f.guard; writes_only = f.writes_only }
 
 -- a method as plain data
 abbrev pub method_of : CoreMethod → Method

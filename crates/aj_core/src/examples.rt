@@ -4,7 +4,7 @@ ghost use Rattle.aj_core.specs.declared.types.CoreType.TheVariants as type;
 ghost use Rattle.aj_core.specs.Core.{GetE, ThisE, IntE, VarE};
 ghost use Rattle.aj_core.specs.Locks.{path_of, slot_path};
 ghost use Rattle.aj_core.specs.Typed.{IsTyped};
-ghost use Rattle.aj_core.specs.Examples.{counter, nested, returns_locked, divides_by_zero};
+ghost use Rattle.aj_core.specs.Examples.{counter, nested, returns_locked, divides_by_zero, reads_unlocked};
 
 /// The example programs that other crates run and judge are typed.
 pub fn examples_are_typed()
@@ -12,4 +12,5 @@ pub fn examples_are_typed()
     ensures nested { IsTyped nested }
     ensures returns_locked { IsTyped returns_locked }
     ensures divides_by_zero { IsTyped divides_by_zero }
+    ensures reads_unlocked { IsTyped reads_unlocked }
 {}

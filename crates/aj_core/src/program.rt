@@ -26,7 +26,8 @@ pub struct CoreClass {
     pub run: Option<MethodId>,
 }
 
-/// A field. `index` is its place among the fields of its class; a guard's path has the root 0.
+/// A field. `index` is its place among the fields of its class; a guard's path has the root 0. Where
+/// `writes_only` is set, the guard guards writes alone.
 #[derive(Drop)]
 pub struct CoreField {
     pub class: ClassId,
@@ -34,6 +35,7 @@ pub struct CoreField {
     pub is_final: bool,
     pub ty: CoreType,
     pub guard: Option<Path>,
+    pub writes_only: bool,
 }
 
 /// A method. `place_at` is the byte offset of its name in the source, `requires_` its required locks in

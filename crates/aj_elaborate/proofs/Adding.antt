@@ -1,5 +1,5 @@
 -- The members of a class and the classes of a program, one after the other.
-use Rattle.std.proofs.Common.{◌≡◌, ℕ, ◌+◌, ◌<◌, List, ◌∷◌, Option, option_map, map, flat_map, length, drop, get_or, refl, ap, sym, ◌∙◌}
+use Rattle.std.proofs.Common.{false, ◌≡◌, ℕ, ◌+◌, ◌<◌, List, ◌∷◌, Option, option_map, map, flat_map, length, drop, get_or, refl, ap, sym, ◌∙◌}
 use Rattle.aj_core.specs.Core.{Field, Method}
 use Rattle.aj_syntax.specs.declared.tree.Class.{Class}
 use Rattle.aj_syntax.specs.declared.tree.Member.{Member}
@@ -18,7 +18,7 @@ module _ (t : TableData) where
   one_field : (k i : ℕ) (m : MemberTree) (ms : List MemberTree) (g : Option (List Field))
       → appended (with_field t k i m g) (all_there (fields_core t k (index_after m i) ms)) ≡ appended g (all_there (fields_core t k i (m ∷ ms)))
   one_field k i (FieldM fin ty n guard) ms g =
-      appended_more g (option_map (λ p. record { class = k; index = i; is_final = fin; ty = type_of t.names ty; guard = p }) (guard_path t k guard)) (all_there (fields_core t k (i + 1) ms))
+      appended_more g (option_map (λ p. record { class = k; index = i; is_final = fin; ty = type_of t.names ty; guard = p; writes_only = false }) (guard_path t k guard)) (all_there (fields_core t k (i + 1) ms))
   one_field k i (CtorM n params sets) ms g = refl
   one_field k i (MethodM m) ms g = refl
 

@@ -144,7 +144,7 @@ module _ (tree : ProgramTree) (P : Program) (b : IsBuilt tree P) where
         let class_of : FieldAt → ℕ = λ d. d.class in
         let all : map (λ f. f.class) P.fields ≡ map class_of (fields_at 0 tree) =
         told_alike (core_field the_table) (λ f. f.class) class_of
-        (λ d x h. ap (λ z. z.class) (sym (map_of (λ g. record { class = d.class; index = d.index; is_final = d.is_final; ty = type_of the_table.names d.ty; guard = g }) (guard_path the_table d.class d.guard) x h).2))
+        (λ d x h. ap (λ z. z.class) (sym (map_of (λ g. record { class = d.class; index = d.index; is_final = d.is_final; ty = type_of the_table.names d.ty; guard = g; writes_only = false }) (guard_path the_table d.class d.guard) x h).2))
         (fields_at 0 tree) P.fields b.fields in
         let before = map class_of place.fields_before in
         let middle = map class_of own in

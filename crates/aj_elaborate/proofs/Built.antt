@@ -75,9 +75,10 @@ pub record IsField (t : TableData) (P : Program) (n : ℕ) (d : FieldAt) : Type 
   pub finality : field.is_final ≡ d.is_final
   pub ty : field.ty ≡ type_of t.names d.ty
   pub guard : guard_path t d.class d.guard ≡ Some field.guard
+  pub writes : field.writes_only ≡ false
 
 abbrev field_node : TableData → FieldAt → Option PathData → Field
-field_node t d g = record { class = d.class; index = d.index; is_final = d.is_final; ty = type_of t.names d.ty; guard = g }
+field_node t d g = record { class = d.class; index = d.index; is_final = d.is_final; ty = type_of t.names d.ty; guard = g; writes_only = false }
 
 abbrev pub field_is : (t : TableData) (P : Program) (n : ℕ) (d : FieldAt) (x : Field) → slice_get P.fields n ≡ Some x → core_field t d ≡ Some x → IsField t P n d
 field_is t P n d x is h =
@@ -90,6 +91,7 @@ field_is t P n d x is h =
       finality = ap (λ z. z.is_final) (sym g.2);
       ty = ap (λ z. z.ty) (sym g.2);
       guard = g.1 ∙ ap (λ z. Some z.guard) g.2;
+      writes = ap (λ z. z.writes_only) (sym g.2);
     }
 
 -- ---- a method of the core program, by what is written

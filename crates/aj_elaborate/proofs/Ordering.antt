@@ -84,7 +84,7 @@ field_ascends t k i fin (Some g) rest make same h = (omega (arith, same g), subs
 members_ascend : (t : TableData) (k i : ℕ) (ms : List MemberTree) (rest : List (Option Field)) → AllAscend k rest → AllAscend k (fields_core t k i ms ++ rest)
 members_ascend t k i [] rest h = h
 members_ascend t k i (FieldM fin ty n guard ∷ ms) rest h =
-    field_ascends t k i fin (guard_path t k guard) (fields_core t k (i + 1) ms ++ rest) (λ g. record { class = k; index = i; is_final = fin; ty = type_of t.names ty; guard = g }) (λ g. refl) (members_ascend t k (i + 1) ms rest h)
+    field_ascends t k i fin (guard_path t k guard) (fields_core t k (i + 1) ms ++ rest) (λ g. record { class = k; index = i; is_final = fin; ty = type_of t.names ty; guard = g; writes_only = false }) (λ g. refl) (members_ascend t k (i + 1) ms rest h)
 members_ascend t k i (CtorM n params sets ∷ ms) rest h = members_ascend t k i ms rest h
 members_ascend t k i (MethodM m ∷ ms) rest h = members_ascend t k i ms rest h
 

@@ -75,7 +75,7 @@ method_entry names d = record {
 
 abbrev pub core_field : TableData → FieldAt → Option Field
 core_field t d =
-    option_map (λ g. record { class = d.class; index = d.index; is_final = d.is_final; ty = type_of t.names d.ty; guard = g }) (guard_path t d.class d.guard)
+    option_map (λ g. record { class = d.class; index = d.index; is_final = d.is_final; ty = type_of t.names d.ty; guard = g; writes_only = false }) (guard_path t d.class d.guard)
 
 abbrev pub core_method : TableData → MethodAt → Option Method
 core_method t d = method_core t d.class d.method

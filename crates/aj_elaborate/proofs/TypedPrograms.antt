@@ -335,6 +335,7 @@ module _ (tree : ProgramTree) (P : Program) (b : IsBuilt tree P) (s : AreSound t
           unguarded = λ final_is.
               let none : d.guard ≡ None = each_at IsUnguarded (fields_at 0 tree) f d plain r.1 (sym is.finality ∙ final_is) in
               same_some field.guard None (sym is.guard ∙ ap (guard_path t d.class) none);
+          writes = λ set. absurd (let e : false ≡ true = sym is.writes ∙ set in cc);
         }
 
   -- ---- classes

@@ -1,5 +1,5 @@
 -- Parts that are gathered one after the other.
-use Rattle.std.specs.Prelude.{ℕ, ◌+◌, Bool, List, [], ◌∷◌, ◌++◌, Option, Some, None, option_map, if◌then◌else◌}
+use Rattle.std.specs.Prelude.{false, ℕ, ◌+◌, Bool, List, [], ◌∷◌, ◌++◌, Option, Some, None, option_map, if◌then◌else◌}
 use Rattle.aj_core.specs.Core.{Field, Method}
 use Rattle.aj_syntax.specs.Trees.{MemberTree, FieldM, CtorM, MethodM}
 use Rattle.aj_classes.specs.Table.{TableData, type_of}
@@ -26,7 +26,7 @@ appended parts more = option_map (λ p. p.0 ++ p.1) (both parts more)
 -- the fields so far, with that of a member of the class with number k, in which so many fields stand before it
 abbrev pub with_field : TableData → ℕ → ℕ → MemberTree → Option (List Field) → Option (List Field)
 with_field t k i (FieldM fin ty n guard) fields =
-    one_more fields (option_map (λ g. record { class = k; index = i; is_final = fin; ty = type_of t.names ty; guard = g }) (guard_path t k guard))
+    one_more fields (option_map (λ g. record { class = k; index = i; is_final = fin; ty = type_of t.names ty; guard = g; writes_only = false }) (guard_path t k guard))
 with_field t k i (CtorM n params sets) fields = fields
 with_field t k i (MethodM m) fields = fields
 

@@ -108,7 +108,7 @@ module _ (t : TableData) where
   abbrev pub fields_core : ℕ → ℕ → List MemberTree → List (Option Field)
   fields_core k i [] = []
   fields_core k i (FieldM fin ty n guard ∷ ms) =
-      option_map (λ g. record { class = k; index = i; is_final = fin; ty = type_of t.names ty; guard = g }) (guard_path k guard)
+      option_map (λ g. record { class = k; index = i; is_final = fin; ty = type_of t.names ty; guard = g; writes_only = false }) (guard_path k guard)
       ∷ fields_core k (i + 1) ms
   fields_core k i (CtorM n params sets ∷ ms) = fields_core k i ms
   fields_core k i (MethodM m ∷ ms) = fields_core k i ms

@@ -1,7 +1,7 @@
 //! The fields and methods of all classes.
 #![tactic(auto, using(crate::proofs::Noting::noted_append))]
 
-ghost use Rattle.std.specs.Prelude.{◌≡◌, ◌+◌, map, option_map, IfOk, OnOk};
+ghost use Rattle.std.specs.Prelude.{false, ◌≡◌, ◌+◌, map, option_map, IfOk, OnOk};
 ghost use Rattle.aj_classes.specs.Table.{type_of};
 ghost use Rattle.aj_classes.specs.Views.{table_data};
 ghost use Rattle.aj_core.specs.Views.{field_of};
@@ -54,7 +54,7 @@ fn field(
     ty: &TypeName,
     guard: Option<Option<Path>>,
 ) -> Option<CoreField>
-    ensures { option_map field_of result ≡ option_map (λ g. record { class = class; index = index; is_final = is_final; ty = type_of (table_data table.now).names ty.now; guard = g }) guard }
+    ensures { option_map field_of result ≡ option_map (λ g. record { class = class; index = index; is_final = is_final; ty = type_of (table_data table.now).names ty.now; guard = g; writes_only = false }) guard }
 {
     let guard = guard?;
     Some(CoreField {
@@ -63,6 +63,7 @@ fn field(
         is_final,
         ty: core_type(table, ty),
         guard,
+        writes_only: false,
     })
 }
 

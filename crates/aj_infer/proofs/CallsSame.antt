@@ -41,7 +41,7 @@ module _ (P : Program) (rel : ℕ → List PathData) (A B : Assignment) (test : 
     expr_same (BinaryE op a b) H c = seq_same (expr_same a H (first_false (expr_calls test a) (expr_calls test b) c)) (expr_same b H (second_false (expr_calls test a) (expr_calls test b) c))
     expr_same (AndE a b) H c = seq_same (expr_same a H (first_false (expr_calls test a) (expr_calls test b) c)) (expr_same b H (second_false (expr_calls test a) (expr_calls test b) c))
     expr_same (OrE a b) H c = seq_same (expr_same a H (first_false (expr_calls test a) (expr_calls test b) c)) (expr_same b H (second_false (expr_calls test a) (expr_calls test b) c))
-    expr_same (GetE e f) H c = ap (λ b. seq_of b (access_of P f (path_of P e) H)) (expr_same e H c)
+    expr_same (GetE e f) H c = ap (λ b. seq_of b (access_of P false f (path_of P e) H)) (expr_same e H c)
     expr_same (CallE e m args) H c =
         let rest = second_false (test m) (expr_calls test e || exprs_call test args) c in
         seq_same (expr_same e H (first_false (expr_calls test e) (exprs_call test args) rest))
@@ -60,7 +60,7 @@ module _ (P : Program) (rel : ℕ → List PathData) (A B : Assignment) (test : 
     stmt_same (LocalS x is_final ty e) H c = ap (λ b. seq_of b Mover) (expr_same e H c)
     stmt_same (SetVarS x e) H c = ap (λ b. seq_of b Mover) (expr_same e H c)
     stmt_same (SetFieldS e f g) H c = seq_same (expr_same e H (first_false (expr_calls test e) (expr_calls test g) c))
-        (ap (λ b. seq_of b (access_of P f (path_of P e) H)) (expr_same g H (second_false (expr_calls test e) (expr_calls test g) c)))
+        (ap (λ b. seq_of b (access_of P true f (path_of P e) H)) (expr_same g H (second_false (expr_calls test e) (expr_calls test g) c)))
     stmt_same (DoS e drops) H c = expr_same e H c
     stmt_same (IfS b s t) H c =
         let rest = second_false (expr_calls test b) (stmt_calls test s || stmt_calls test t) c in

@@ -16,4 +16,3 @@ mod walk;
 pub use bounds::{Broken, Inferred, verdict};
 pub use inference::infer;
 pub use laws::least_assignment_laws;
-

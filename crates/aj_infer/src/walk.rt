@@ -1,5 +1,5 @@
 //! The effect of a body at every set of held paths at once.
-ghost use Rattle.std.specs.Prelude.{◌≡◌, IfOk};
+ghost use Rattle.std.specs.Prelude.{◌≡◌, IfOk, if◌then◌else◌};
 ghost use Rattle.aj_algebra.specs.Basics.{seq_of};
 ghost use Rattle.aj_algebra.specs.HeldPaths.{Held};
 ghost use Rattle.aj_algebra.specs.Values.{Keeps};
@@ -16,7 +16,7 @@ use crate::local::before;
 use crate::table::Table;
 use aj_algebra::{Algebra, Basic};
 use aj_core::{CoreExpr, CoreProgram, CoreStmt};
-use aj_paths::{FieldId, MethodId};
+use aj_paths::{FieldId, MethodId, Path};
 use aj_rules::{Guard, RelevantSets, guard_at};
 use std::alloc::{AllocError as NoMemory, Global};
 
@@ -29,6 +29,23 @@ pub(crate) struct Walk<'a> {
     pub(crate) method: MethodId,
 }
 
+/// A basic where this path is held, and another where it isn't.
+fn held_or_else<G: Algebra>(
+    alloc: Global,
+    algebra: &mut G,
+    path: &Path,
+    held: Basic,
+    other: Basic,
+) -> Result<G::A, NoMemory>
+    ensures known { IfOk result (λ r. G.IsKnown algebra.new r) }
+    ensures value { IfOk result (λ r. (H : Held) → G.value algebra.new r H ≡ (if H path.now then held else other)) }
+    ensures keeps { Keeps G.IsKnown G.value algebra.old algebra.new }
+{
+    let held = algebra.leaf(alloc, held)?;
+    let other = algebra.leaf(alloc, other)?;
+    algebra.held_or(alloc, path, &held, &other)
+}
+
 /// Reading or writing a field of this receiver.
 fn access_value<G: Algebra>(
     alloc: Global,
@@ -36,20 +53,26 @@ fn access_value<G: Algebra>(
     algebra: &mut G,
     receiver: &CoreExpr,
     field: FieldId,
+    writes: bool,
 ) -> Result<G::A, NoMemory>
     ensures known { IfOk result (λ r. G.IsKnown algebra.new r) }
     ensures value { IfOk result (λ r. (H : Held) → let P = program_at walk.now in
-        G.value algebra.new r H ≡ access_of P field (path_of P (expr_of receiver.now)) H) }
+        G.value algebra.new r H ≡ access_of P writes field (path_of P (expr_of receiver.now)) H) }
     ensures keeps { Keeps G.IsKnown G.value algebra.old algebra.new }
 {
     match guard_at(walk.program, receiver, field) {
         Guard::Final => algebra.leaf(alloc, Basic::Const),
         Guard::Free => algebra.leaf(alloc, Basic::Atomic),
         Guard::Unnamed => algebra.leaf(alloc, Basic::Error),
-        Guard::Named(path) => {
-            let mover = algebra.leaf(alloc, Basic::Mover)?;
-            let error = algebra.leaf(alloc, Basic::Error)?;
-            algebra.held_or(alloc, &path, &mover, &error)
+        Guard::WriteUnnamed => {
+            algebra.leaf(alloc, if writes { Basic::Error } else { Basic::Atomic })
+        }
+        Guard::Named(path) => held_or_else(alloc, algebra, &path, Basic::Mover, Basic::Error),
+        Guard::WriteNamed(path) if writes => {
+            held_or_else(alloc, algebra, &path, Basic::Atomic, Basic::Error)
+        }
+        Guard::WriteNamed(path) => {
+            held_or_else(alloc, algebra, &path, Basic::Mover, Basic::Atomic)
         }
     }
 }
@@ -97,7 +120,7 @@ fn expr_value<G: Algebra>(
         }
         CoreExpr::Get(a, field) => {
             let receiver = expr_value(alloc, walk, algebra, a)?;
-            let access = access_value(alloc, walk, algebra, a, *field)?;
+            let access = access_value(alloc, walk, algebra, a, *field, false)?;
             algebra.seq(alloc, &receiver, &access)
         }
         CoreExpr::Call(a, callee, args) => {
@@ -160,7 +183,7 @@ pub(crate) fn stmt_value<G: Algebra>(
         CoreStmt::SetField(a, field, b) => {
             let receiver = expr_value(alloc, walk, algebra, a)?;
             let value = expr_value(alloc, walk, algebra, b)?;
-            let access = access_value(alloc, walk, algebra, a, *field)?;
+            let access = access_value(alloc, walk, algebra, a, *field, true)?;
             let rest = algebra.seq(alloc, &value, &access)?;
             algebra.seq(alloc, &receiver, &rest)
         }

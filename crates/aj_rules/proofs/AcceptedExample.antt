@@ -1,5 +1,5 @@
 -- The counter program is accepted: its relevant paths, and an admissible assignment.
-use Rattle.std.proofs.Common.{◌≡◌, ℕ, zero, suc, Bool, true, false, List, [], ◌∷◌, Some, refl, sym, ap, subst, ◌∙◌, ◌≤◌, arith, ◌||◌}
+use Rattle.std.proofs.Common.{◌≡◌, ℕ, zero, suc, Bool, true, false, List, [], ◌∷◌, None, Some, refl, sym, ap, subst, ◌∙◌, ◌≤◌, arith, ◌||◌}
 use Rattle.std.specs.Prelude.{Contains, length, if◌then◌else◌}
 use Rattle.std.specs.List.Sorted.{IsStrictlySortedBy}
 use Rattle.aj_paths.specs.Paths.{PathData, path_order}
@@ -11,8 +11,7 @@ use Rattle.aj_core.specs.Core.{Program, Method, Expr, Exprs, ThisE, no_exprs}
 use Rattle.aj_core.specs.Locks.{path_of}
 use Rattle.aj_core.specs.Examples.{counter, this_path, inc_body, run_body, main_body}
 use Rattle.aj_core.proofs.ExampleProofs.{EachFrom, each}
-use Rattle.aj_rules.specs.declared.guard.Guard.TheVariants.{Final, Named}
-use Rattle.aj_rules.specs.Guards.{guard_of}
+use Rattle.aj_rules.specs.Guards.{guard_of, guard_path}
 use Rattle.aj_rules.specs.Mentions.{Mention, Accesses, Calls, Locks, Names, mentions, paths_of}
 use Rattle.aj_rules.specs.Near.{Mentions, Requires, Near, required, locked, guarded, called, named, IsRel, IsLoc, ArePathsOf, rel_of, loc_of}
 use Rattle.aj_rules.specs.Effect.{effect}
@@ -54,7 +53,7 @@ abbrev LocksAllowed : ℕ → Mention → Type 0
 LocksAllowed m x = (p : PathData) → x ≡ Locks p → Allowed m p
 
 abbrev AccessAllowed : ℕ → Mention → Type 0
-AccessAllowed m x = (e : Expr) (f : ℕ) (p : PathData) → x ≡ Accesses e f → guard_of counter f (path_of counter e) ≡ Named p → Allowed m p
+AccessAllowed m x = (e : Expr) (f : ℕ) (p : PathData) → x ≡ Accesses e f → guard_path (guard_of counter f (path_of counter e)) ≡ Some p → Allowed m p
 
 abbrev CallAllowed : ℕ → Mention → Type 0
 CallAllowed m x = (e : Expr) (callee : ℕ) (args : Exprs) (q p : PathData) → x ≡ Calls e callee args → Allowed callee q → under_call (path_of counter e) (paths_of counter args) q ≡ Some p → Allowed m p
@@ -62,18 +61,18 @@ CallAllowed m x = (e : Expr) (callee : ℕ) (args : Exprs) (q p : PathData) → 
 abbrev NamesAllowed : ℕ → Mention → Type 0
 NamesAllowed m x = (y : ℕ) (e : Expr) (q p : PathData) → x ≡ Names y e → Allowed m q → Allowed m p
 
-inc_access : (e : Expr) (f : ℕ) (p : PathData) → Accesses ThisE 0 ≡ Accesses e f → guard_of counter f (path_of counter e) ≡ Named p → this_path ≡ p
+inc_access : (e : Expr) (f : ℕ) (p : PathData) → Accesses ThisE 0 ≡ Accesses e f → guard_path (guard_of counter f (path_of counter e)) ≡ Some p → this_path ≡ p
 inc_access e f p is guard =
     let same_e : ThisE ≡ e = cc in
     let same_f : 0 ≡ f = cc in
-    let both : Named this_path ≡ Named p = ap (λ x. guard_of counter x (path_of counter ThisE)) same_f ∙ ap (λ x. guard_of counter f (path_of counter x)) same_e ∙ guard in
+    let both : Some this_path ≡ Some p = ap (λ x. guard_path (guard_of counter x (path_of counter ThisE))) same_f ∙ ap (λ x. guard_path (guard_of counter f (path_of counter x))) same_e ∙ guard in
     cc
 
-run_access : (e : Expr) (f : ℕ) (p : PathData) → Accesses ThisE 1 ≡ Accesses e f → guard_of counter f (path_of counter e) ≡ Named p → cell_path ≡ p
+run_access : (e : Expr) (f : ℕ) (p : PathData) → Accesses ThisE 1 ≡ Accesses e f → guard_path (guard_of counter f (path_of counter e)) ≡ Some p → cell_path ≡ p
 run_access e f p is guard =
     let same_e : ThisE ≡ e = cc in
     let same_f : 1 ≡ f = cc in
-    let both : Final ≡ Named p = ap (λ x. guard_of counter x (path_of counter ThisE)) same_f ∙ ap (λ x. guard_of counter f (path_of counter x)) same_e ∙ guard in
+    let both : None ≡ Some p = ap (λ x. guard_path (guard_of counter x (path_of counter ThisE))) same_f ∙ ap (λ x. guard_path (guard_of counter f (path_of counter x))) same_e ∙ guard in
     absurd cc
 
 run_call : (e : Expr) (callee : ℕ) (args : Exprs) (q p : PathData) → Calls (Rattle.aj_core.specs.Core.GetE ThisE 1) 0 no_exprs ≡ Calls e callee args → Allowed callee q → under_call (path_of counter e) (paths_of counter args) q ≡ Some p → cell_path ≡ p

@@ -6,11 +6,11 @@ use Rattle.aj_algebra.specs.Basics.{below_of, seq_of, join_of, star_of, lift_of}
 use Rattle.aj_rules.specs.Rules.{AtMost}
 
 -- the test passes at each basic
-abbrev every : (Basic → Bool) → Bool
+abbrev pub every : (Basic → Bool) → Bool
 every p = p Const && (p Mover && (p Atomic && (p Cmpd && p Error)))
 
 -- the second fact follows from the first
-abbrev implies : Bool → Bool → Bool
+abbrev pub implies : Bool → Bool → Bool
 implies true b = b
 implies false b = true
 
@@ -22,14 +22,14 @@ five true true false d e h = absurd cc
 five true false c d e h = absurd cc
 five false b c d e h = absurd cc
 
-each : (p : Basic → Bool) → every p ≡ true → (b : Basic) → p b ≡ true
+pub each : (p : Basic → Bool) → every p ≡ true → (b : Basic) → p b ≡ true
 each p all Const = (five (p Const) (p Mover) (p Atomic) (p Cmpd) (p Error) all).0
 each p all Mover = (five (p Const) (p Mover) (p Atomic) (p Cmpd) (p Error) all).1
 each p all Atomic = (five (p Const) (p Mover) (p Atomic) (p Cmpd) (p Error) all).2
 each p all Cmpd = (five (p Const) (p Mover) (p Atomic) (p Cmpd) (p Error) all).3
 each p all Error = (five (p Const) (p Mover) (p Atomic) (p Cmpd) (p Error) all).4
 
-follows : (a b : Bool) → implies a b ≡ true → a ≡ true → b ≡ true
+pub follows : (a b : Bool) → implies a b ≡ true → a ≡ true → b ≡ true
 follows true b h e = h
 follows false b h e = absurd cc
 

@@ -3,32 +3,38 @@ use Rattle.std.proofs.Common.{◌≡◌, ℕ, Bool, true, false, List, Some, Non
 use Rattle.std.specs.Prelude.{Option, slice_get, if◌then◌else◌}
 use Rattle.aj_paths.specs.Paths.{PathData}
 use Rattle.aj_algebra.specs.declared.basic.Basic.{Basic}
-use Rattle.aj_algebra.specs.declared.basic.Basic.TheVariants.{Mover, Error}
+use Rattle.aj_algebra.specs.declared.basic.Basic.TheVariants.{Mover, Atomic, Error}
 use Rattle.aj_algebra.specs.HeldPaths.{Held, has_path, with_path}
 use Rattle.aj_core.specs.Core.{Program, Expr, Exprs, IntE, TruthE, NullE, ThisE, VarE, NotE, NegE, BinaryE, AndE, OrE, GetE, CallE, NewE, no_exprs, and_expr}
 use Rattle.aj_core.specs.Core.{Stmt, Stmts, EmptyS, BlockS, LocalS, SetVarS, SetFieldS, DoS, IfS, WhileS, SyncS, ReturnS, PrintS, StartS, no_stmts, and_stmt}
 use Rattle.aj_core.specs.Locks.{path_of}
 use Rattle.aj_rules.specs.declared.guard.Guard.{Guard}
-use Rattle.aj_rules.specs.declared.guard.Guard.TheVariants.{Final, Free, Named, Unnamed}
+use Rattle.aj_rules.specs.declared.guard.Guard.TheVariants.{Final, Free, Named, Unnamed, WriteNamed, WriteUnnamed}
 use Rattle.aj_rules.specs.Guards.{guard_of}
 use Rattle.aj_rules.specs.Mentions.{paths_of}
-use Rattle.aj_rules.specs.Effect.{Assignment, required_paths, access_effect, sync_effect, call_of, expr_effect, exprs_effect, effect, block_effect}
+use Rattle.aj_rules.specs.Effect.{Assignment, required_paths, write_guarded, access_effect, sync_effect, call_of, expr_effect, exprs_effect, effect, block_effect}
 use Rattle.aj_rules.specs.Rules.{IsPart, AtMost, IsFalling}
 use Rattle.aj_rules.proofs.BasicLemmas.{below_itself, below_error, below_lift, below_chain, seq_mono, join_mono, star_mono, lift_mono}
 use Rattle.aj_rules.proofs.SetLemmas.{first, all_part, under_part, with_part, after_part, with_path_part}
 
 -- a choice that falls where the test holds oftener
-choice_falls : (h k : Bool) (low high : Basic) → (h ≡ true → k ≡ true) → AtMost low high → AtMost (if k then low else Error) (if h then high else Error)
-choice_falls true true low high part falls = falls
-choice_falls true false low high part falls = absurd (let e : false ≡ true = part refl in cc)
-choice_falls false true low high part falls = below_error low
-choice_falls false false low high part falls = refl
+choice_falls : (h k : Bool) (low high other : Basic) → (h ≡ true → k ≡ true) → AtMost low high → AtMost low other → AtMost (if k then low else other) (if h then high else other)
+choice_falls true true low high other part falls least = falls
+choice_falls true false low high other part falls least = absurd (let e : false ≡ true = part refl in cc)
+choice_falls false true low high other part falls least = least
+choice_falls false false low high other part falls least = below_itself other
 
-access_falls : (g : Guard) (H K : Held) → IsPart H K → AtMost (access_effect g K) (access_effect g H)
-access_falls Final H K part = refl
-access_falls Free H K part = refl
-access_falls (Named p) H K part = choice_falls (H p) (K p) Mover Mover (part p) refl
-access_falls Unnamed H K part = refl
+write_falls : (writes h k : Bool) → (h ≡ true → k ≡ true) → AtMost (write_guarded writes k) (write_guarded writes h)
+write_falls false h k part = choice_falls h k Mover Mover Atomic part refl refl
+write_falls true h k part = choice_falls h k Atomic Atomic Error part refl refl
+
+access_falls : (writes : Bool) (g : Guard) (H K : Held) → IsPart H K → AtMost (access_effect writes g K) (access_effect writes g H)
+access_falls writes Final H K part = refl
+access_falls writes Free H K part = refl
+access_falls writes (Named p) H K part = choice_falls (H p) (K p) Mover Mover Error (part p) refl refl
+access_falls writes Unnamed H K part = refl
+access_falls writes (WriteNamed p) H K part = write_falls writes (H p) (K p) (part p)
+access_falls writes WriteUnnamed H K part = below_itself (write_guarded writes false)
 
 -- a synchronized part: its body at the two sets, and with the lock
 sync_falls : (h k : Bool) (heldH heldK takenH takenK : Basic) → (h ≡ true → k ≡ true) → AtMost heldK heldH → (k ≡ true → AtMost heldK takenH) → AtMost takenK takenH → AtMost (sync_effect k heldK takenK) (sync_effect h heldH takenH)
@@ -39,9 +45,9 @@ sync_falls false false heldH heldK takenH takenK part held mixed taken = lift_mo
 
 module _ (P : Program) (rel : ℕ → List PathData) (A : Assignment) (falling : IsFalling rel A) where
   call_falls : (m : ℕ) (o : Option PathData) (args : List (Option PathData)) (H K : Held) → IsPart H K → AtMost (call_of P rel A m o args K) (call_of P rel A m o args H)
-  call_falls m o args H K part = choice_falls _ _ _ _
+  call_falls m o args H K part = choice_falls _ _ _ _ Error
       (all_part _ _ (under_part H K part (rel m) o args) (required_paths (slice_get P.methods m)))
-      (falling m _ _ (λ q e. first (has_path (rel m) q) _ e) (under_part H K part (rel m) o args))
+      (falling m _ _ (λ q e. first (has_path (rel m) q) _ e) (under_part H K part (rel m) o args)) (below_error _)
 
   mutual
     pub expr_falls : (e : Expr) (H K : Held) → IsPart H K → AtMost (expr_effect P rel A e K) (expr_effect P rel A e H)
@@ -55,7 +61,7 @@ module _ (P : Program) (rel : ℕ → List PathData) (A : Assignment) (falling :
     expr_falls (BinaryE op a b) H K part = seq_mono _ _ _ _ (expr_falls a H K part) (expr_falls b H K part)
     expr_falls (AndE a b) H K part = seq_mono _ _ _ _ (expr_falls a H K part) (expr_falls b H K part)
     expr_falls (OrE a b) H K part = seq_mono _ _ _ _ (expr_falls a H K part) (expr_falls b H K part)
-    expr_falls (GetE e f) H K part = seq_mono _ _ _ _ (expr_falls e H K part) (access_falls (guard_of P f (path_of P e)) H K part)
+    expr_falls (GetE e f) H K part = seq_mono _ _ _ _ (expr_falls e H K part) (access_falls false (guard_of P f (path_of P e)) H K part)
     expr_falls (CallE e m args) H K part = seq_mono _ _ _ _ (expr_falls e H K part) (seq_mono _ _ _ _ (exprs_fall args H K part) (call_falls m (path_of P e) (paths_of P args) H K part))
     expr_falls (NewE c args) H K part = seq_mono _ _ _ _ (exprs_fall args H K part) refl
 
@@ -69,7 +75,7 @@ module _ (P : Program) (rel : ℕ → List PathData) (A : Assignment) (falling :
     stmt_falls (BlockS ss) H K part = block_falls ss H K part
     stmt_falls (LocalS x is_final ty e) H K part = seq_mono _ _ _ _ (expr_falls e H K part) refl
     stmt_falls (SetVarS x e) H K part = seq_mono _ _ _ _ (expr_falls e H K part) refl
-    stmt_falls (SetFieldS e f g) H K part = seq_mono _ _ _ _ (expr_falls e H K part) (seq_mono _ _ _ _ (expr_falls g H K part) (access_falls (guard_of P f (path_of P e)) H K part))
+    stmt_falls (SetFieldS e f g) H K part = seq_mono _ _ _ _ (expr_falls e H K part) (seq_mono _ _ _ _ (expr_falls g H K part) (access_falls true (guard_of P f (path_of P e)) H K part))
     stmt_falls (DoS e drops) H K part = expr_falls e H K part
     stmt_falls (IfS c s t) H K part = seq_mono _ _ _ _ (expr_falls c H K part) (join_mono _ _ _ _ (stmt_falls s H K part) (stmt_falls t H K part))
     stmt_falls (WhileS c s) H K part = seq_mono _ _ _ _ (expr_falls c H K part) (star_mono _ _ (seq_mono _ _ _ _ (stmt_falls s H K part) (expr_falls c H K part)))

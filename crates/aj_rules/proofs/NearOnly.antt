@@ -14,11 +14,11 @@ use Rattle.aj_core.specs.Core.{Program, Method, Expr, Exprs, IntE, TruthE, NullE
 use Rattle.aj_core.specs.Core.{Stmt, Stmts, EmptyS, BlockS, LocalS, SetVarS, SetFieldS, DoS, IfS, WhileS, SyncS, ReturnS, PrintS, StartS, no_stmts, and_stmt}
 use Rattle.aj_core.specs.Locks.{path_of}
 use Rattle.aj_rules.specs.declared.guard.Guard.{Guard}
-use Rattle.aj_rules.specs.declared.guard.Guard.TheVariants.{Final, Free, Named, Unnamed}
-use Rattle.aj_rules.specs.Guards.{guard_of}
+use Rattle.aj_rules.specs.declared.guard.Guard.TheVariants.{Final, Free, Named, Unnamed, WriteNamed, WriteUnnamed}
+use Rattle.aj_rules.specs.Guards.{guard_of, guard_path}
 use Rattle.aj_rules.specs.Mentions.{Mention, Accesses, Calls, Locks, Names, expr_mentions, exprs_mentions, mentions, block_mentions, paths_of}
 use Rattle.aj_rules.specs.Near.{Near, named, called, guarded, locked, MethodPaths, AreRelevant, rel_of, rel_paths, IsRel}
-use Rattle.aj_rules.specs.Effect.{Assignment, required_paths, access_effect, held_under, sync_effect, after_local, after_stmt, call_of, expr_effect, exprs_effect, effect, block_effect}
+use Rattle.aj_rules.specs.Effect.{Assignment, required_paths, write_guarded, access_effect, held_under, sync_effect, after_local, after_stmt, call_of, expr_effect, exprs_effect, effect, block_effect}
 
 pub contains_here : {A : Type 0} (x : A) (xs : List A) → Contains (x ∷ xs) x
 contains_here x xs = (0, omega arith, refl)
@@ -29,7 +29,7 @@ contains_later x y xs (k, below, is) = (suc k, omega arith, is)
 module _ (P : Program) (rel : ℕ → List PathData) (A : Assignment) (N : PathData → Type 0) where
   -- these paths have all that the parts with these mentions look at
   pub record Covers (xs : List Mention) : Type 0 where
-    pub guards : (e : Expr) (f : ℕ) (p : PathData) → Contains xs (Accesses e f) → guard_of P f (path_of P e) ≡ Named p → N p
+    pub guards : (e : Expr) (f : ℕ) (p : PathData) → Contains xs (Accesses e f) → guard_path (guard_of P f (path_of P e)) ≡ Some p → N p
     pub locks : (p : PathData) → Contains xs (Locks p) → N p
     pub calls : (e : Expr) (m : ℕ) (args : Exprs) (q p : PathData) → Contains xs (Calls e m args) → has_path (rel m) q ≡ true → under_call (path_of P e) (paths_of P args) q ≡ Some p → N p
     pub names : (x : ℕ) (e : Expr) (start q p : PathData) → Contains xs (Names x e) → path_of P e ≡ Some start → N q → q.root ≡ x → extended start q.fields ≡ Some p → N p
@@ -55,11 +55,13 @@ module _ (P : Program) (rel : ℕ → List PathData) (A : Assignment) (N : PathD
   abbrev Agree : Held → Held → Type 0
   Agree H K = (q : PathData) → N q → H q ≡ K q
 
-  access_same : (g : Guard) (H K : Held) → ((p : PathData) → g ≡ Named p → H p ≡ K p) → access_effect g H ≡ access_effect g K
-  access_same Final H K same = refl
-  access_same Free H K same = refl
-  access_same (Named p) H K same = ap (λ b. if b then Mover else Error) (same p refl)
-  access_same Unnamed H K same = refl
+  access_same : (writes : Bool) (g : Guard) (H K : Held) → ((p : PathData) → guard_path g ≡ Some p → H p ≡ K p) → access_effect writes g H ≡ access_effect writes g K
+  access_same writes Final H K same = refl
+  access_same writes Free H K same = refl
+  access_same writes (Named p) H K same = ap (λ b. if b then Mover else Error) (same p refl)
+  access_same writes Unnamed H K same = refl
+  access_same writes (WriteNamed p) H K same = ap (write_guarded writes) (same p refl)
+  access_same writes WriteUnnamed H K same = refl
 
   holds_same : (o : Option PathData) (H K : Held) → ((p : PathData) → o ≡ Some p → H p ≡ K p) → holds_at o H ≡ holds_at o K
   holds_same None H K same = refl
@@ -114,8 +116,8 @@ module _ (P : Program) (rel : ℕ → List PathData) (A : Assignment) (N : PathD
   seq_same : {a b c d : Basic} → a ≡ b → c ≡ d → seq_of a c ≡ seq_of b d
   seq_same e f = λ i. seq_of (e i) (f i)
 
-  guard_same : (xs : List Mention) (e : Expr) (f : ℕ) (H K : Held) → Covers xs → Contains xs (Accesses e f) → Agree H K → access_effect (guard_of P f (path_of P e)) H ≡ access_effect (guard_of P f (path_of P e)) K
-  guard_same xs e f H K c has same = access_same (guard_of P f (path_of P e)) H K (λ p is. same p (c.guards e f p has is))
+  guard_same : (writes : Bool) (xs : List Mention) (e : Expr) (f : ℕ) (H K : Held) → Covers xs → Contains xs (Accesses e f) → Agree H K → access_effect writes (guard_of P f (path_of P e)) H ≡ access_effect writes (guard_of P f (path_of P e)) K
+  guard_same writes xs e f H K c has same = access_same writes (guard_of P f (path_of P e)) H K (λ p is. same p (c.guards e f p has is))
 
   mutual
     expr_same : (e : Expr) (H K : Held) → Covers (expr_mentions e) → Agree H K → expr_effect P rel A e H ≡ expr_effect P rel A e K
@@ -130,7 +132,7 @@ module _ (P : Program) (rel : ℕ → List PathData) (A : Assignment) (N : PathD
     expr_same (AndE a b) H K c same = seq_same (expr_same a H K (covers_left (expr_mentions a) (expr_mentions b) c) same) (expr_same b H K (covers_right (expr_mentions a) (expr_mentions b) c) same)
     expr_same (OrE a b) H K c same = seq_same (expr_same a H K (covers_left (expr_mentions a) (expr_mentions b) c) same) (expr_same b H K (covers_right (expr_mentions a) (expr_mentions b) c) same)
     expr_same (GetE e f) H K c same = seq_same (expr_same e H K (covers_rest (Accesses e f) (expr_mentions e) c) same)
-        (guard_same _ e f H K c (contains_here (Accesses e f) (expr_mentions e)) same)
+        (guard_same false _ e f H K c (contains_here (Accesses e f) (expr_mentions e)) same)
     expr_same (CallE e m args) H K c same =
         let rest = covers_rest (Calls e m args) (expr_mentions e ++ exprs_mentions args) c in
         seq_same (expr_same e H K (covers_left (expr_mentions e) (exprs_mentions args) rest) same)
@@ -153,7 +155,7 @@ module _ (P : Program) (rel : ℕ → List PathData) (A : Assignment) (N : PathD
         let rest = covers_rest (Accesses e f) (expr_mentions e ++ expr_mentions g) c in
         seq_same (expr_same e H K (covers_left (expr_mentions e) (expr_mentions g) rest) same)
         (seq_same (expr_same g H K (covers_right (expr_mentions e) (expr_mentions g) rest) same)
-        (guard_same _ e f H K c (contains_here (Accesses e f) (expr_mentions e ++ expr_mentions g)) same))
+        (guard_same true _ e f H K c (contains_here (Accesses e f) (expr_mentions e ++ expr_mentions g)) same))
     stmt_same (DoS e drops) H K c same = expr_same e H K c same
     stmt_same (IfS b s t) H K c same =
         let parts = covers_right (expr_mentions b) (mentions s ++ mentions t) c in

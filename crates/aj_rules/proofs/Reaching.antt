@@ -7,9 +7,7 @@ use Rattle.aj_paths.specs.Paths.{PathData, extended, extended_some}
 use Rattle.aj_paths.specs.Renamings.{argument_at, passed}
 use Rattle.aj_core.specs.Core.{Program, Method, Expr, Exprs}
 use Rattle.aj_core.specs.Locks.{path_of}
-use Rattle.aj_rules.specs.declared.guard.Guard.{Guard}
-use Rattle.aj_rules.specs.declared.guard.Guard.TheVariants.{Final, Free, Named, Unnamed}
-use Rattle.aj_rules.specs.Guards.{guard_of}
+use Rattle.aj_rules.specs.Guards.{guard_of, guard_path}
 use Rattle.aj_rules.specs.Mentions.{Mention, Accesses, Calls, Locks, Names, mentions, paths_of}
 use Rattle.aj_rules.specs.Near.{Near, required, locked, guarded, called, named, Mentions, Requires}
 use Rattle.aj_rules.specs.declared.clauses.Link.{Link}
@@ -80,11 +78,9 @@ module _ (P : Program) (m : ℕ) (method : Method) (is : slice_get P.methods m �
       (passed_sound e callee args mention other there 0 (path_of P e) refl _ refl)
       (all_passed_sound e callee args mention other there 1 (paths_of P args) (λ k o has. let e1 : suc k ≡ 1 + k = omega arith in subst (λ r. passed (path_of P e) (paths_of P args) r ≡ o) e1 (ap argument_at has)))
 
-  guard_sound : (e : Expr) (f : ℕ) → Contains (mentions method.body) (Accesses e f) → (g : Guard) → guard_of P f (path_of P e) ≡ g → AllSound P (guard_clauses m g)
-  guard_sound e f mention Final g = none_sound P
-  guard_sound e f mention Free g = none_sound P
-  guard_sound e f mention (Named p) g = one_sound P _ (guarded e f (method, is, mention) g)
-  guard_sound e f mention Unnamed g = none_sound P
+  guard_sound : (e : Expr) (f : ℕ) → Contains (mentions method.body) (Accesses e f) → (o : Option PathData) → guard_path (guard_of P f (path_of P e)) ≡ o → AllSound P (guard_clauses m o)
+  guard_sound e f mention None at = none_sound P
+  guard_sound e f mention (Some p) at = one_sound P _ (guarded e f (method, is, mention) at)
 
   name_sound : (x : ℕ) (e : Expr) → Contains (mentions method.body) (Names x e) → (o : Option PathData) → path_of P e ≡ o → AllSound P (link_clauses m x m o)
   name_sound x e mention None at = none_sound P
@@ -167,8 +163,8 @@ in_requires : (P : Program) (m : ℕ) (p : PathData) → Requires P m p → Cont
 in_requires P m p (method, is, has) =
     in_program P m method (fact m p) is (Contains-append_left (map (λ p. fact m p) method.requires_) (clauses_of P m (mentions method.body)) (fact m p) (in_facts m method.requires_ p has))
 
-guard_in : (m : ℕ) (g : Guard) (p : PathData) → g ≡ Named p → Contains (guard_clauses m g) (fact m p)
-guard_in m g p is = subst (λ x. Contains (guard_clauses m x) (fact m p)) (sym is) (contains_here (fact m p) [])
+guard_in : (m : ℕ) (o : Option PathData) (p : PathData) → o ≡ Some p → Contains (guard_clauses m o) (fact m p)
+guard_in m o p is = subst (λ x. Contains (guard_clauses m x) (fact m p)) (sym is) (contains_here (fact m p) [])
 
 link_in : (from root to : ℕ) (o : Option PathData) (start : PathData) → o ≡ Some start → Contains (link_clauses from root to o) (clause.Leads (record { from = from; root = root; to = to; start = start }))
 link_in from root to o start is = subst (λ x. Contains (link_clauses from root to x) (clause.Leads (record { from = from; root = root; to = to; start = start }))) (sym is) (contains_here _ [])
@@ -211,7 +207,7 @@ within n m le = grind (arith, nat_tests)
 pub reached_from_near : (P : Program) (m : ℕ) (p : PathData) → Near P m p → Reached (clauses_from P 0 P.methods) m p
 reached_from_near P m p (required has) = given (in_requires P m p has)
 reached_from_near P m p (locked has) = given (mentioned P m (Locks p) (fact m p) has (contains_here (fact m p) []))
-reached_from_near P m p (guarded e f has is) = given (mentioned P m (Accesses e f) (fact m p) has (guard_in m (guard_of P f (path_of P e)) p is))
+reached_from_near P m p (guarded e f has is) = given (mentioned P m (Accesses e f) (fact m p) has (guard_in m (guard_path (guard_of P f (path_of P e))) p is))
 reached_from_near P m p (called e callee args q has near outer under) =
     let s = start_of (passed (path_of P e) (paths_of P args) q.root) q.fields p under in
     let link : Link = record { from = callee; root = q.root; to = m; start = s.0 } in

@@ -3,9 +3,7 @@ use Rattle.std.specs.Prelude.{◌≡◌, ℕ, ◌+◌, List, [], ◌∷◌, ◌+
 use Rattle.aj_paths.specs.Paths.{PathData, extended}
 use Rattle.aj_core.specs.Core.{Program, Method}
 use Rattle.aj_core.specs.Locks.{path_of}
-use Rattle.aj_rules.specs.declared.guard.Guard.{Guard}
-use Rattle.aj_rules.specs.declared.guard.Guard.TheVariants.{Final, Free, Named, Unnamed}
-use Rattle.aj_rules.specs.Guards.{guard_of}
+use Rattle.aj_rules.specs.Guards.{guard_of, guard_path}
 use Rattle.aj_rules.specs.Mentions.{Mention, Accesses, Calls, Locks, Names, mentions, paths_of}
 use Rattle.aj_rules.specs.declared.clauses.Link.{Link}
 use Rattle.aj_rules.specs.declared.clauses.Clause.{Clause}
@@ -39,15 +37,14 @@ abbrev pub call_clauses : (from to : ℕ) → Option ℕ → Option PathData →
 call_clauses from to None receiver args = []
 call_clauses from to (Some params) receiver args = passed_clauses params from 0 to receiver ++ all_passed params from 1 to args
 
-abbrev pub guard_clauses : ℕ → Guard → List Clause
-guard_clauses m Final = []
-guard_clauses m Free = []
-guard_clauses m (Named p) = fact m p ∷ []
-guard_clauses m Unnamed = []
+-- a guard's path, where it has one, is near the method
+abbrev pub guard_clauses : ℕ → Option PathData → List Clause
+guard_clauses m None = []
+guard_clauses m (Some p) = fact m p ∷ []
 
 -- what one mention in the body of a method gives
 abbrev pub clauses_at : Program → ℕ → Mention → List Clause
-clauses_at P m (Accesses e f) = guard_clauses m (guard_of P f (path_of P e))
+clauses_at P m (Accesses e f) = guard_clauses m (guard_path (guard_of P f (path_of P e)))
 clauses_at P m (Calls e callee args) = call_clauses callee m (params_of (slice_get P.methods callee)) (path_of P e) (paths_of P args)
 clauses_at P m (Locks p) = fact m p ∷ []
 clauses_at P m (Names x e) = link_clauses m x m (path_of P e)

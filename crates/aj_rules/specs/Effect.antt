@@ -11,7 +11,7 @@ use Rattle.aj_core.specs.Core.{Program, Method, Expr, Exprs, IntE, TruthE, NullE
 use Rattle.aj_core.specs.Core.{Stmt, Stmts, EmptyS, BlockS, LocalS, SetVarS, SetFieldS, DoS, IfS, WhileS, SyncS, ReturnS, PrintS, StartS, no_stmts, and_stmt}
 use Rattle.aj_core.specs.Locks.{path_of}
 use Rattle.aj_rules.specs.declared.guard.Guard.{Guard}
-use Rattle.aj_rules.specs.declared.guard.Guard.TheVariants.{Final, Free, Named, Unnamed}
+use Rattle.aj_rules.specs.declared.guard.Guard.TheVariants.{Final, Free, Named, Unnamed, WriteNamed, WriteUnnamed}
 use Rattle.aj_rules.specs.Guards.{guard_of}
 use Rattle.aj_rules.specs.Mentions.{paths_of}
 
@@ -29,16 +29,23 @@ abbrev pub variable_effect : (is_final : Bool) → Basic
 variable_effect true = Const
 variable_effect false = Mover
 
--- reading or writing a field: a mover where its guard is held, else an error
-abbrev pub access_effect : Guard → Held → Basic
-access_effect Final H = Const
-access_effect Free H = Atomic
-access_effect (Named p) H = if H p then Mover else Error
-access_effect Unnamed H = Error
+-- reading or writing a field whose guard guards writes only, by whether the guard is held: others may read where it is not
+abbrev pub write_guarded : (writes held : Bool) → Basic
+write_guarded false held = if held then Mover else Atomic
+write_guarded true held = if held then Atomic else Error
+
+-- reading or writing a field: under a guard of both a mover where it is held, else an error
+abbrev pub access_effect : (writes : Bool) → Guard → Held → Basic
+access_effect writes Final H = Const
+access_effect writes Free H = Atomic
+access_effect writes (Named p) H = if H p then Mover else Error
+access_effect writes Unnamed H = Error
+access_effect writes (WriteNamed p) H = write_guarded writes (H p)
+access_effect writes WriteUnnamed H = write_guarded writes false
 
 -- reading or writing this field of a receiver that has this path or none
-abbrev pub access_of : Program → ℕ → Option PathData → Held → Basic
-access_of P f receiver H = access_effect (guard_of P f receiver) H
+abbrev pub access_of : Program → (writes : Bool) → ℕ → Option PathData → Held → Basic
+access_of P writes f receiver H = access_effect writes (guard_of P f receiver) H
 
 -- the set that a callee begins with: those of its relevant paths whose names here are defined and held
 abbrev pub held_under : List PathData → Option PathData → List (Option PathData) → Held → Held
@@ -80,7 +87,7 @@ module _ (P : Program) (rel : ℕ → List PathData) (A : Assignment) where
     expr_effect (BinaryE op a b) H = seq_of (expr_effect a H) (expr_effect b H)
     expr_effect (AndE a b) H = seq_of (expr_effect a H) (expr_effect b H)
     expr_effect (OrE a b) H = seq_of (expr_effect a H) (expr_effect b H)
-    expr_effect (GetE e f) H = seq_of (expr_effect e H) (access_of P f (path_of P e) H)
+    expr_effect (GetE e f) H = seq_of (expr_effect e H) (access_of P false f (path_of P e) H)
     expr_effect (CallE e m args) H = seq_of (expr_effect e H) (seq_of (exprs_effect args H) (call_of m (path_of P e) (paths_of P args) H))
     expr_effect (NewE c args) H = seq_of (exprs_effect args H) Mover
 
@@ -96,7 +103,7 @@ module _ (P : Program) (rel : ℕ → List PathData) (A : Assignment) where
     effect (BlockS ss) H = block_effect ss H
     effect (LocalS x is_final ty e) H = seq_of (expr_effect e H) Mover
     effect (SetVarS x e) H = seq_of (expr_effect e H) Mover
-    effect (SetFieldS e f g) H = seq_of (expr_effect e H) (seq_of (expr_effect g H) (access_of P f (path_of P e) H))
+    effect (SetFieldS e f g) H = seq_of (expr_effect e H) (seq_of (expr_effect g H) (access_of P true f (path_of P e) H))
     effect (DoS e drops) H = expr_effect e H
     effect (IfS c s t) H = seq_of (expr_effect c H) (join_of (effect s H) (effect t H))
     effect (WhileS c s) H = seq_of (expr_effect c H) (star_of (seq_of (effect s H) (expr_effect c H)))

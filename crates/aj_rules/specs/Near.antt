@@ -6,8 +6,7 @@ use Rattle.aj_paths.specs.Renamings.{under_call}
 use Rattle.aj_algebra.specs.HeldPaths.{has_path}
 use Rattle.aj_core.specs.Core.{Program, Method, Expr, Exprs}
 use Rattle.aj_core.specs.Locks.{path_of}
-use Rattle.aj_rules.specs.declared.guard.Guard.TheVariants.{Named}
-use Rattle.aj_rules.specs.Guards.{guard_of}
+use Rattle.aj_rules.specs.Guards.{guard_of, guard_path}
 use Rattle.aj_rules.specs.Mentions.{Mention, Accesses, Calls, Locks, Names, mentions, paths_of}
 
 -- the body of the method mentions this
@@ -33,8 +32,8 @@ module _ (P : Program) where
     required : {m : ℕ} {p : PathData} → Requires P m p → Near m p
     -- the path of a `synchronized`
     locked : {m : ℕ} {p : PathData} → Mentions P m (Locks p) → Near m p
-    -- the guard's path of an access, where it is named
-    guarded : {m : ℕ} {p : PathData} (e : Expr) (f : ℕ) → Mentions P m (Accesses e f) → guard_of P f (path_of P e) ≡ Named p → Near m p
+    -- the guard's path of an access, where it is named; also of a guard of writes only
+    guarded : {m : ℕ} {p : PathData} (e : Expr) (f : ℕ) → Mentions P m (Accesses e f) → guard_path (guard_of P f (path_of P e)) ≡ Some p → Near m p
     -- a callee's relevant path as it is called here, where that is defined
     called : {m : ℕ} {p : PathData} (e : Expr) (callee : ℕ) (args : Exprs) (q : PathData) → Mentions P m (Calls e callee args) → Near callee q → IsOuter P callee q → under_call (path_of P e) (paths_of P args) q ≡ Some p → Near m p
     -- what a path rooted at a final local is from the path of the local's value, where it has at most two fields

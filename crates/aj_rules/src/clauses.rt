@@ -3,7 +3,7 @@ ghost use Rattle.std.specs.Prelude.{◌≡◌, ◌≤◌, ◌^◌, ◌++◌, ◌
 ghost use Rattle.aj_core.specs.Locks.{path_of};
 ghost use Rattle.aj_core.specs.Views.{program_of, method_of, expr_of, exprs_from, stmt_of, stmts_from};
 ghost use Rattle.aj_rules.specs.Mentions.{expr_mentions, exprs_mentions, mentions, block_mentions, paths_of};
-ghost use Rattle.aj_rules.specs.Guards.{guard_of};
+ghost use Rattle.aj_rules.specs.Guards.{guard_of, guard_path};
 ghost use Rattle.aj_rules.specs.Clauses.{link_clauses, passed_clauses, all_passed, params_of, call_clauses, guard_clauses, clauses_of, method_clauses, clauses_from, fact};
 
 use crate::guard::{Guard, guard_at};
@@ -203,11 +203,11 @@ fn add_access(
     clauses: &mut Vec<Clause>,
 ) -> Result<(), NoMemory>
     ensures { OnOk result (let P = program_of program.now in clauses.new.items ≡
-        clauses.old.items ++ guard_clauses method (guard_of P field (path_of P (expr_of receiver.now)))) }
+        clauses.old.items ++ guard_clauses method (guard_path (guard_of P field (path_of P (expr_of receiver.now))))) }
 {
     match guard_at(program, receiver, field) {
-        Guard::Named(path) => add_fact(method, path, clauses),
-        Guard::Final | Guard::Free | Guard::Unnamed => Ok(()),
+        Guard::Named(path) | Guard::WriteNamed(path) => add_fact(method, path, clauses),
+        Guard::Final | Guard::Free | Guard::Unnamed | Guard::WriteUnnamed => Ok(()),
     }
 }
 

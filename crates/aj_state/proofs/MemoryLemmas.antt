@@ -8,7 +8,7 @@ use Rattle.aj_core.specs.Core.{Program, Field}
 use Rattle.aj_state.specs.declared.value.Address.{Address}
 use Rattle.aj_state.specs.declared.value.Value.{Value}
 use Rattle.aj_state.specs.Values.{taken, top, under}
-use Rattle.aj_state.specs.Memory.{Heap, Object, address_cmp, field_value, value_in, with_value, with_object, with_field}
+use Rattle.aj_state.specs.Memory.{Heap, Object, address_cmp, lists, field_value, value_in, with_value, with_object, with_field}
 use Rattle.aj_state.proofs.Addresses.{address_total, apart, alike, tied, differ}
 
 pub length-taken : (n : ℕ) (found ops : List Value) → length (taken n found ops) ≡ n + length found
@@ -24,7 +24,7 @@ get-insert_same m a x = get-insert address_total m a x a ∙ ap (λ t. cond t (S
 
 module _ (P : Program) (heap : Heap) where
   pub value_in-insert_other : (a b : Address) (o : Object) (f : ℕ) → b ≢ a → value_in P (M.insert heap a o) b f ≡ value_in P heap b f
-  value_in-insert_other a b o f other = ap (λ x. field_value x (slice_get P.fields f)) (get-insert_other heap a b o other)
+  value_in-insert_other a b o f other = ap (λ x. field_value P f x (slice_get P.fields f)) (get-insert_other heap a b o other)
 
   object_other : (a b : Address) (found : Option Object) (change : Object → Object) (f : ℕ) → b ≢ a → value_in P (with_object a found change heap) b f ≡ value_in P heap b f
   object_other a b None change f other = refl
@@ -36,37 +36,37 @@ module _ (P : Program) (heap : Heap) where
 no_value : {A : Type 0} {x : A} → None ≡ Some x → ⊥
 no_value e = absurd cc
 
-set_other : {A : Type 0} (xs : List A) (i j : ℕ) (x : A) → j ≢ i → slice_get (slice_set xs i x) j ≡ slice_get xs j
+pub set_other : {A : Type 0} (xs : List A) (i j : ℕ) (x : A) → j ≢ i → slice_get (slice_set xs i x) j ≡ slice_get xs j
 set_other [] i j x other = refl
 set_other (y ∷ ys) zero zero x other = absurd (other refl)
 set_other (y ∷ ys) zero (suc j) x other = refl
 set_other (y ∷ ys) (suc i) zero x other = refl
 set_other (y ∷ ys) (suc i) (suc j) x other = set_other ys i j x (λ e. other (ap suc e))
 
-set_same : {A : Type 0} (xs : List A) (i : ℕ) (x y : A) → slice_get xs i ≡ Some y → slice_get (slice_set xs i x) i ≡ Some x
+pub set_same : {A : Type 0} (xs : List A) (i : ℕ) (x y : A) → slice_get xs i ≡ Some y → slice_get (slice_set xs i x) i ≡ Some x
 set_same [] i x y e = absurd (no_value e)
 set_same (z ∷ zs) zero x y e = refl
 set_same (z ∷ zs) (suc i) x y e = set_same zs i x y e
 
 -- of one object: another field is as before, and the written one as written
-value_other : (o : Object) (field : Field) (index : ℕ) (v : Value) → field.index ≢ index → field_value (Some (with_value index v o)) (Some field) ≡ field_value (Some o) (Some field)
-value_other o field index v other = ap (λ x. if o.class == field.class then x else None) (set_other o.values index field.index v other)
+value_other : (P : Program) (f : ℕ) (o : Object) (field : Field) (index : ℕ) (v : Value) → field.index ≢ index → field_value P f (Some (with_value index v o)) (Some field) ≡ field_value P f (Some o) (Some field)
+value_other P f o field index v other = ap (λ x. if lists (slice_get P.classes o.class) field.index f then x else None) (set_other o.values index field.index v other)
 
 if_written : (t : Bool) (values : List Value) (i : ℕ) (old v : Value) → (if t then slice_get values i else None) ≡ Some old → (if t then slice_get (slice_set values i v) i else None) ≡ Some v
 if_written true values i old v e = set_same values i v old e
 if_written false values i old v e = absurd (no_value e)
 
-value_written : (o : Object) (field : Field) (old v : Value) → field_value (Some o) (Some field) ≡ Some old → field_value (Some (with_value field.index v o)) (Some field) ≡ Some v
-value_written o field old v e = if_written (o.class == field.class) o.values field.index old v e
+value_written : (P : Program) (f : ℕ) (o : Object) (field : Field) (old v : Value) → field_value P f (Some o) (Some field) ≡ Some old → field_value P f (Some (with_value field.index v o)) (Some field) ≡ Some v
+value_written P f o field old v e = if_written (lists (slice_get P.classes o.class) field.index f) o.values field.index old v e
 
 module _ (P : Program) (heap : Heap) (f : ℕ) (field : Field) (is : slice_get P.fields f ≡ Some field) where
   -- at the written object
   same_object : (a : Address) (index : ℕ) (v : Value) → field.index ≢ index → (found : Option Object) → M.get heap a ≡ found → value_in P (with_object a found (with_value index v) heap) a f ≡ value_in P heap a f
   same_object a index v other None e = refl
   same_object a index v other (Some o) e =
-      ap (λ x. field_value x (slice_get P.fields f)) (get-insert_same heap a (with_value index v o))
-      ∙ ap (field_value (Some (with_value index v o))) is ∙ value_other o field index v other
-      ∙ sym (ap (field_value (Some o)) is) ∙ sym (ap (λ x. field_value x (slice_get P.fields f)) e)
+      ap (λ x. field_value P f x (slice_get P.fields f)) (get-insert_same heap a (with_value index v o))
+      ∙ ap (field_value P f (Some (with_value index v o))) is ∙ value_other P f o field index v other
+      ∙ sym (ap (field_value P f (Some o)) is) ∙ sym (ap (λ x. field_value P f x (slice_get P.fields f)) e)
 
   pub value_in-with_field_at : (a b : Address) (index : ℕ) (v : Value) → field.index ≢ index → value_in P (with_field a index v heap) b f ≡ value_in P heap b f
   value_in-with_field_at a b index v other =
@@ -76,11 +76,11 @@ module _ (P : Program) (heap : Heap) (f : ℕ) (field : Field) (is : slice_get P
       ] refl
 
   written_object : (a : Address) (old v : Value) → (found : Option Object) → M.get heap a ≡ found → value_in P heap a f ≡ Some old → value_in P (with_object a found (with_value field.index v) heap) a f ≡ Some v
-  written_object a old v None e has = absurd (no_value (sym (ap (λ x. field_value x (slice_get P.fields f)) e) ∙ has))
+  written_object a old v None e has = absurd (no_value (sym (ap (λ x. field_value P f x (slice_get P.fields f)) e) ∙ has))
   written_object a old v (Some o) e has =
-      ap (λ x. field_value x (slice_get P.fields f)) (get-insert_same heap a (with_value field.index v o))
-      ∙ ap (field_value (Some (with_value field.index v o))) is
-      ∙ value_written o field old v (sym (ap (field_value (Some o)) is) ∙ sym (ap (λ x. field_value x (slice_get P.fields f)) e) ∙ has)
+      ap (λ x. field_value P f x (slice_get P.fields f)) (get-insert_same heap a (with_value field.index v o))
+      ∙ ap (field_value P f (Some (with_value field.index v o))) is
+      ∙ value_written P f o field old v (sym (ap (field_value P f (Some o)) is) ∙ sym (ap (λ x. field_value P f x (slice_get P.fields f)) e) ∙ has)
 
   pub value_in-with_field_same : (a : Address) (old v : Value) → value_in P heap a f ≡ Some old → value_in P (with_field a field.index v heap) a f ≡ Some v
   value_in-with_field_same a old v has = written_object a old v _ refl has

@@ -1,9 +1,9 @@
 -- What all threads share: the heap of objects and the table of held locks.
-use Rattle.std.specs.Prelude.{◌≡◌, ℕ, nat_lt, is_some, ◌==◌, List, [], ◌∷◌, Option, Some, None, slice_get, slice_set, count_by, if◌then◌else◌}
+use Rattle.std.specs.Prelude.{◌≡◌, ℕ, Bool, false, nat_lt, is_some, ◌==◌, List, [], ◌∷◌, Option, Some, None, slice_get, slice_set, count_by, if◌then◌else◌}
 use Rattle.std.specs.declared.cmp.Ordering.{Ordering}
 use Rattle.std.specs.Ordering.{nat_cmp, ordering_then}
 use Rattle.std.specs.FinMap as map
-use Rattle.aj_core.specs.Core.{Program, Field}
+use Rattle.aj_core.specs.Core.{Program, Class, Field}
 use Rattle.aj_state.specs.declared.value.Address.{Address}
 use Rattle.aj_state.specs.declared.value.Value.{Value}
 use Rattle.aj_state.specs.declared.value.Value.TheVariants.{Null}
@@ -43,15 +43,25 @@ next_address t heap = record { thread = t; count = made_by t heap }
 abbrev pub IsNumbered : Heap → Type 0
 IsNumbered heap = (t n : ℕ) → is_some (map.get heap (record { thread = t; count = n })) ≡ nat_lt n (made_by t heap)
 
--- the value of a field of an object; none where there is no such object or field, or the object's class lacks the field
-abbrev pub field_value : Option Object → Option Field → Option Value
-field_value None f = None
-field_value (Some o) None = None
-field_value (Some o) (Some f) = if o.class == f.class then slice_get o.values f.index else None
+-- whether it is this field
+abbrev pub is_field : ℕ → Option ℕ → Bool
+is_field f None = false
+is_field f (Some g) = g == f
 
--- the value of a field of the object at an address; none where there is no such object or field, or its class lacks the field
+-- whether a class lists this field at this index
+abbrev pub lists : Option Class → (index f : ℕ) → Bool
+lists None index f = false
+lists (Some c) index f = is_field f (slice_get c.fields index)
+
+-- the value of a field of an object; none where there is no such object or field, or the object's class doesn't list the field at its index
+abbrev pub field_value : Program → ℕ → Option Object → Option Field → Option Value
+field_value P f None field = None
+field_value P f (Some o) None = None
+field_value P f (Some o) (Some field) = if lists (slice_get P.classes o.class) field.index f then slice_get o.values field.index else None
+
+-- the value of a field of the object at an address; none where there is no such object or field, or its class doesn't list the field at its index
 abbrev pub value_in : Program → Heap → Address → ℕ → Option Value
-value_in P heap a f = field_value (map.get heap a) (slice_get P.fields f)
+value_in P heap a f = field_value P f (map.get heap a) (slice_get P.fields f)
 
 -- the object with another value of the field at this index
 abbrev pub with_value : ℕ → Value → Object → Object

@@ -27,12 +27,16 @@ pub data ThreadOf (F : Type 0) : Type 0 where
 abbrev pub Thread : Type 0
 Thread = ThreadOf Frame
 
--- a state: the heap, the held locks, the threads by their numbers, and what was printed
-pub record State : Type 0 where
+-- a state with frames of some type: the heap, the held locks, the threads by their numbers, and what was printed
+pub record StateOf (F : Type 0) : Type 0 where
   pub heap : Heap
   pub locks : Locks
-  pub threads : List Thread
+  pub threads : List (ThreadOf F)
   pub output : List ℤ
+
+-- a state of the machine that runs work lists
+abbrev pub State : Type 0
+State = StateOf Frame
 
 -- the slots of a new frame: `this`, the arguments, and 0 in each other slot
 abbrev pub new_slots : Method → Value → List Value → List Value

@@ -8,7 +8,7 @@ use Rattle.aj_core.specs.Core.{Program}
 use Rattle.aj_state.specs.Memory.{address_cmp, IsNumbered}
 use Rattle.aj_state.specs.States.{State, initial, new_object}
 use Rattle.aj_state.proofs.Numbering.{numbered_new, numbered_written}
-use Rattle.aj_steps.specs.Step.{Change, Nothing, FieldIs, ObjectIs, LockIs, Prints, Starts, Outcome, step, changed, moved, state_after}
+use Rattle.aj_steps.specs.Step.{Change, Nothing, FieldIs, ObjectIs, LockIs, Prints, Starts, Outcome, outcome, step, changed, moved, state_after}
 use Rattle.aj_steps.specs.Run.{run_from, run}
 use Rattle.aj_steps.proofs.StepCases.{Case, moves, absent, done, faulted, waits, NewIsNext, outcome_case}
 use Rattle.aj_steps.proofs.PlainRuns.{made_by-empty}
@@ -40,7 +40,7 @@ next_kept (LockIs a hold) q t threads next = next
 next_kept (Prints n) q t threads next = next
 next_kept (Starts a m) q t threads next = next
 
-after_numbered : (q : State) (t : ℕ) (o : Outcome) → Case q t o → IsNumbered q.heap → (r : State) → state_after q t o ≡ Some r → IsNumbered r.heap
+pub after_numbered : (q : State) (t : ℕ) (o : Outcome) → Case q t o → IsNumbered q.heap → (r : State) → state_after q t o ≡ Some r → IsNumbered r.heap
 after_numbered q t _ (moves m next) numbered r is =
     let q1 = record q { threads = slice_set q.threads t m.thread } in
     let same : moved t m q ≡ r = cc in
@@ -51,6 +51,9 @@ after_numbered q t _ (faulted kind frames e) numbered r is = absurd cc
 after_numbered q t _ (waits a holder w) numbered r is = absurd cc
 
 module _ (P : Program) where
+  pub step_numbered : (q : State) (t : ℕ) (r : State) → IsNumbered q.heap → step P q t ≡ Some r → IsNumbered r.heap
+  step_numbered q t r numbered is = after_numbered q t (outcome P q t) (outcome_case P q t) numbered r is
+
   from_numbered : (s : List ℕ) (q r : State) → IsNumbered q.heap → run_from P q s ≡ Some r → IsNumbered r.heap
   from_numbered [] q r numbered is = let same : q ≡ r = cc in subst (λ (x : State). IsNumbered x.heap) same numbered
   from_numbered (t ∷ s) q r numbered is =
@@ -65,7 +68,7 @@ module _ (P : Program) where
   empty_numbered : IsNumbered M.empty
   empty_numbered t n = ap is_some (get-empty address_cmp _) ∙ none_less n _ (made_by-empty t)
 
-  initial_numbered : IsNumbered (initial P).heap
+  pub initial_numbered : IsNumbered (initial P).heap
   initial_numbered = subst (λ n. IsNumbered (M.insert M.empty (record { thread = 0; count = n }) (new_object P P.main_class []))) (made_by-empty 0) (numbered_new M.empty 0 (new_object P P.main_class []) empty_numbered)
 
   pub run_numbered : (s : List ℕ) (q : State) → run P s ≡ Some q → IsNumbered q.heap

@@ -26,7 +26,7 @@ reducible_is (Left ∷ ks) e = record { before = []; middle = []; after = Left �
 reducible_is (Other ∷ ks) e = record { before = []; middle = Other ∷ []; after = ks; is = refl; before_right = refl; middle_one = omega arith; middle_other = refl; after_left = e }
 reducible_is (Bare ∷ ks) e = absurd cc
 
-left_reducible : (after : List StepKind) → list_all moves_left after ≡ true → is_reducible after ≡ true
+pub left_reducible : (after : List StepKind) → list_all moves_left after ≡ true → is_reducible after ≡ true
 left_reducible [] e = refl
 left_reducible (Both ∷ ks) e = left_reducible ks e
 left_reducible (Left ∷ ks) e = e

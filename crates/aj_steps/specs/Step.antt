@@ -14,7 +14,7 @@ use Rattle.aj_state.specs.Values.{top, under, taken, dropped, as_int, as_truth, 
 use Rattle.aj_state.specs.Memory.{Object, Hold, made_by, field_value, with_field, with_lock}
 use Rattle.aj_state.specs.Work as W
 use Rattle.aj_state.specs.Work.{Action, Item, Ex, St, Act, Next, unfolded}
-use Rattle.aj_state.specs.States.{Frame, Thread, Ready, Running, Done, Faulted, State, new_frame, new_object}
+use Rattle.aj_state.specs.States.{Frame, ThreadOf, Thread, Ready, Running, Done, Faulted, StateOf, State, new_frame, new_object}
 
 -- the most frames that a thread has
 abbrev pub most_frames : ℕ
@@ -34,20 +34,27 @@ pub data Change : Type 0 where
   -- there is a new thread, ready to run this method on this object
   Starts : Address → ℕ → Change
 
--- a step: its kind, its thread after it, and what else it changes
-pub record Move : Type 0 where
+-- a step, with frames of some type: its kind, its thread after it, and what else it changes
+pub record MoveOf (F : Type 0) : Type 0 where
   pub kind : StepKind
-  pub thread : Thread
+  pub thread : ThreadOf F
   pub change : Change
 
 -- what comes of a thread's turn: a step, or the reason why there is none
-pub data Outcome : Type 0 where
-  Moves : Move → Outcome
-  Absent : Outcome
-  IsDone : Outcome
-  HadFaulted : Fault → Outcome
+pub data OutcomeOf (F : Type 0) : Type 0 where
+  Moves : MoveOf F → OutcomeOf F
+  Absent : OutcomeOf F
+  IsDone : OutcomeOf F
+  HadFaulted : Fault → OutcomeOf F
   -- another thread holds the lock of this address
-  Waits : Address → ℕ → Outcome
+  Waits : Address → ℕ → OutcomeOf F
+
+-- a step and an outcome of the machine that runs work lists
+abbrev pub Move : Type 0
+Move = MoveOf Frame
+
+abbrev pub Outcome : Type 0
+Outcome = OutcomeOf Frame
 
 -- What a step may see of what all threads share: objects, held locks, and how many objects its own thread made.
 pub record Shared : Type 0 where
@@ -104,10 +111,22 @@ abbrev pub release_kind : Option Hold → StepKind
 release_kind None = Left
 release_kind (Some hold) = Both
 
+-- of an access to a guarded field: Bare without the lock, but for a read where the guard guards writes only;
+-- with the lock Both, but for such a guard's write, since others may read at the same time
+abbrev pub guarded_kind : (writes_only writes held : Bool) → StepKind
+guarded_kind false writes held = if held then Both else Bare
+guarded_kind true false held = if held then Both else Other
+guarded_kind true true held = if held then Other else Bare
+
+-- the old value of a field that may be written; none of a final one
+abbrev pub unless_final : Option Field → Option Value → Option Value
+unless_final None old = None
+unless_final (Some f) old = if f.is_final then None else old
+
 module _ (P : Program) (see : Shared) (t : ℕ) where
   -- the value of a field of the object at an address, where both are there
   abbrev pub value_at : Address → ℕ → Option Value
-  value_at a f = field_value (see.object_at a) (slice_get P.fields f)
+  value_at a f = field_value P f (see.object_at a) (slice_get P.fields f)
 
   -- the value of a field of what a value refers to
   abbrev pub next_at : Value → ℕ → Option Value
@@ -129,15 +148,15 @@ module _ (P : Program) (see : Shared) (t : ℕ) where
   some_address None = None
   some_address (Some v) = address_of v
 
-  -- of an access to a mutable field of the object at an address: Other without a guard, Bare where its guard's lock isn't held
-  abbrev pub mutable_kind : Address → Option PathData → StepKind
-  mutable_kind a None = Other
-  mutable_kind a (Some guard) = if holds_object (some_address (followed (value.Ref a) guard.fields)) then Both else Bare
+  -- of an access to a mutable field of the object at an address: Other without a guard, else by whether the thread holds its guard's lock
+  abbrev pub mutable_kind : (writes_only writes : Bool) → Address → Option PathData → StepKind
+  mutable_kind writes_only writes a None = Other
+  mutable_kind writes_only writes a (Some guard) = guarded_kind writes_only writes (holds_object (some_address (followed (value.Ref a) guard.fields)))
 
-  -- of an access to a field: Both for a final one
-  abbrev pub access_kind : Address → Option Field → StepKind
-  access_kind a None = Both
-  access_kind a (Some f) = if f.is_final then Both else mutable_kind a f.guard
+  -- of a read or a write of a field: Both for a final one
+  abbrev pub access_kind : (writes : Bool) → Address → Option Field → StepKind
+  access_kind writes a None = Both
+  access_kind writes a (Some f) = if f.is_final then Both else mutable_kind f.writes_only writes a f.guard
 
   -- a frame of the thread, the frames below it, and what is left to do after the action
   module _ (f : Frame) (below : List Frame) (rest : List Item) where
@@ -191,7 +210,7 @@ module _ (P : Program) (see : Shared) (t : ℕ) where
     -- reads a field of the object at an address
     abbrev pub get_value : Address → Option Field → Option Value → Outcome
     get_value a field None = faults fault.Null
-    get_value a field (Some v) = goes_on (access_kind a field) (v ∷ under f.operands) rest Nothing
+    get_value a field (Some v) = goes_on (access_kind false a field) (v ∷ under f.operands) rest Nothing
 
     -- reads a field of what the operand refers to
     abbrev pub get : ℕ → Option Address → Outcome
@@ -201,12 +220,12 @@ module _ (P : Program) (see : Shared) (t : ℕ) where
     -- writes a field of the object at an address
     abbrev pub put_value : Address → Option Field → Option Value → Outcome
     put_value a field None = faults fault.Null
-    put_value a field (Some old) = goes_on (access_kind a field) (under (under f.operands)) rest (FieldIs a (index_of field) (top f.operands))
+    put_value a field (Some old) = goes_on (access_kind true a field) (under (under f.operands)) rest (FieldIs a (index_of field) (top f.operands))
 
-    -- writes a field of what the operand under the value refers to
+    -- writes a field of what the operand under the value refers to, unless it is final
     abbrev pub put : ℕ → Option Address → Outcome
     put x None = faults fault.Null
-    put x (Some a) = put_value a (slice_get P.fields x) (value_at a x)
+    put x (Some a) = put_value a (slice_get P.fields x) (unless_final (slice_get P.fields x) (value_at a x))
 
     -- the address of the thread's next object
     abbrev pub new_address : Address
@@ -328,7 +347,7 @@ module _ (P : Program) (see : Shared) (t : ℕ) where
   turn (Some (Running (f ∷ below))) = act_next f below (unfolded f.work)
 
 -- what a thread may see of a state
-abbrev pub seen_by : ℕ → State → Shared
+abbrev pub seen_by : {F : Type 0} → ℕ → StateOf F → Shared
 seen_by t q = record { object_at = map.get q.heap; lock_at = map.get q.locks; made = made_by t q.heap }
 
 -- what comes of a thread's turn in a state
@@ -336,7 +355,7 @@ abbrev pub outcome : Program → State → ℕ → Outcome
 outcome P q t = turn P (seen_by t q) t (slice_get q.threads t)
 
 -- the state with a change
-abbrev pub changed : Change → State → State
+abbrev pub changed : {F : Type 0} → Change → StateOf F → StateOf F
 changed Nothing q = q
 changed (FieldIs a index v) q = record q { heap = with_field a index v q.heap }
 changed (ObjectIs a o) q = record q { heap = map.insert q.heap a o }
@@ -345,11 +364,11 @@ changed (Prints n) q = record q { output = q.output ++ n ∷ [] }
 changed (Starts a m) q = record q { threads = q.threads ++ Ready a m ∷ [] }
 
 -- the state after a step of a thread
-abbrev pub moved : ℕ → Move → State → State
+abbrev pub moved : {F : Type 0} → ℕ → MoveOf F → StateOf F → StateOf F
 moved t move q = changed move.change (record q { threads = slice_set q.threads t move.thread })
 
 -- the state after an outcome, where it is a step
-abbrev pub state_after : State → ℕ → Outcome → Option State
+abbrev pub state_after : {F : Type 0} → StateOf F → ℕ → OutcomeOf F → Option (StateOf F)
 state_after q t (Moves move) = Some (moved t move q)
 state_after q t _ = None
 
@@ -358,7 +377,7 @@ abbrev pub step : Program → State → ℕ → Option State
 step P q t = state_after q t (outcome P q t)
 
 -- the kind of an outcome, where it is a step
-abbrev pub kind_in : Outcome → Option StepKind
+abbrev pub kind_in : {F : Type 0} → OutcomeOf F → Option StepKind
 kind_in (Moves move) = Some move.kind
 kind_in _ = None
 

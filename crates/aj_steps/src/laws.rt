@@ -6,7 +6,7 @@ ghost use Rattle.aj_state.specs.declared.value.Address.{Address};
 ghost use Rattle.aj_state.specs.declared.value.Fault.{Fault};
 ghost use Rattle.aj_state.specs.declared.value.StepKind.{StepKind};
 ghost use Rattle.aj_state.specs.Memory.{IsNumbered};
-ghost use Rattle.aj_state.specs.States.{State, Frame, Done, Faulted};
+ghost use Rattle.aj_state.specs.States.{State, Frame, Done, Faulted, initial};
 ghost use Rattle.aj_steps.specs.Step.{Absent, IsDone, HadFaulted, Waits, outcome, step, kind_of};
 ghost use Rattle.aj_steps.specs.Run.{run, run_from, Runs, IsUninterrupted, IsRearrangement};
 ghost use Rattle.aj_steps.specs.Units.{entries, are_kept, written_order};
@@ -29,11 +29,13 @@ pub fn step_laws()
 {}
 
 /// A run of two schedules, one after the other, is the run of both; and in each state that a schedule runs to,
-/// each thread's objects are numbered from 0, so its next address is free.
+/// each thread's objects are numbered from 0, so its next address is free: that is so at the start, and each step keeps it.
 pub fn run_laws()
     ensures append { (P : Program) (q : State) (s r : List ℕ) →
         run_from P q (s ++ r) ≡ option_and_then (λ next. run_from P next r) (run_from P q s) }
     ensures numbered { (P : Program) (s : List ℕ) (q : State) → run P s ≡ Some q → IsNumbered q.heap }
+    ensures numbered_initial { (P : Program) → IsNumbered (initial P).heap }
+    ensures numbered_step { (P : Program) (q : State) (t : ℕ) (r : State) → IsNumbered q.heap → step P q t ≡ Some r → IsNumbered r.heap }
 {}
 
 /// The test for reducible words is exact, and what can be made reducible is so.
