@@ -22,7 +22,7 @@ use std::alloc::Global;
 /// The grammar is Java's of classes, statements and expressions, restated for a small language; an `else` belongs to the
 /// nearest `if`. A text may have both faults, at different places; then either may be told. The depth of the recursion is
 /// bounded by the limit of height, and the work is linear in the number of tokens.
-#[tactic(auto, using(crate::proofs::Whole::read_right, crate::proofs::Whole::named_right, crate::proofs::Whole::read_only, crate::proofs::Whole::unexpected_right, crate::proofs::Whole::deep_right, crate::proofs::Whole::place_fits))]
+#[tactic(auto, using(crate::proofs::Whole::read_right, crate::proofs::Whole::read_only, crate::proofs::Whole::unexpected_right, crate::proofs::Whole::deep_right, crate::proofs::Whole::place_fits))]
 pub fn parse<'a>(alloc: Global, tokens: &[Token<'a>]) -> Result<Program<'a>, ParseFault>
     requires { length tokens.now ≤ 262144 }
     // What is answered is in the grammar.
