@@ -8,3 +8,4 @@ pub mod Shows
 pub mod Table
 pub mod Views
 pub mod Building
+pub mod Declarations

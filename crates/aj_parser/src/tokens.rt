@@ -12,6 +12,7 @@ use aj_lexer::{Token, TokenKind};
 use aj_syntax::{Name, Op, Terminal};
 
 /// Whether the terminal stands first.
+#[inline(always)]
 pub fn begins(tokens: &[Token], terminal: Terminal) -> bool
     ensures { result ≡ starts (is terminal) tokens.now }
 {
@@ -22,6 +23,7 @@ pub fn begins(tokens: &[Token], terminal: Terminal) -> bool
 }
 
 /// Takes the terminal, and gives its offset.
+#[inline(always)]
 pub fn take<'t, 'a>(
     tokens: &'t [Token<'a>],
     terminal: Terminal,
@@ -35,6 +37,7 @@ pub fn take<'t, 'a>(
 }
 
 /// Takes the terminal where it stands first.
+#[inline(always)]
 pub fn flag<'t, 'a>(tokens: &'t [Token<'a>], terminal: Terminal) -> (bool, &'t [Token<'a>])
     ensures { (result.0, result.1.now) ≡ flag_at terminal tokens.now }
 {

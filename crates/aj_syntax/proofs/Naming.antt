@@ -108,7 +108,7 @@ module _ (P : Token → Type 0) where
         both (names_of_expr e) (names_of_stmt b) (expr_named e s.0 s.4 (left s.0 _ h)) (stmt_named b s.1 s.5 (right s.0 _ h).1)
     stmt_named (IfElseS e b c at) ts s a = let h = (subst (Each P) s.12 a).1.1 in let r = (right s.0 _ h).1 in
         both (names_of_expr e) (names_of_stmt b ++ names_of_stmt c) (expr_named e s.0 s.6 (left s.0 _ h))
-            (both (names_of_stmt b) (names_of_stmt c) (stmt_named b s.1 s.7 (left s.1 _ r)) (stmt_named c s.2 s.8 (right s.1 _ r).1))
+        (both (names_of_stmt b) (names_of_stmt c) (stmt_named b s.1 s.7 (left s.1 _ r)) (stmt_named c s.2 s.8 (right s.1 _ r).1))
     stmt_named (WhileS e b at) ts s a = let h = (subst (Each P) s.7 a).1.1 in
         both (names_of_expr e) (names_of_stmt b) (expr_named e s.0 s.4 (left s.0 _ h)) (stmt_named b s.1 s.5 (right s.0 _ h).1)
     stmt_named (SyncS l ss at) ts s a = let h = (subst (Each P) s.8 a).1.1 in
@@ -162,14 +162,16 @@ module _ (P : Token → Type 0) where
       both (names_of_type f.ty) (f.name ∷ names_of_guard f.guard) (type_named f.ty s.0 s.3 h.0) (h.1.0, subst (λ g. Named (names_of_guard g)) (sym s.4) tt)
   field_named false f ts s a = let h = subst (Each P) s.5 a in
       both (names_of_type f.ty) (f.name ∷ names_of_guard f.guard) (type_named f.ty s.0 s.3 h.0)
-          (h.1.0, guard_named f.writes_only f.guard s.1 s.4 (left s.1 _ h.1.1))
+      (h.1.0, guard_named f.writes_only f.guard s.1 s.4 (left s.1 _ h.1.1))
 
   bare_named : (m : MemberTree) (ts : List Token) → SpellsBare m ts → Each P ts → Named (names_of_member m)
   bare_named (FieldM f) ts s a = field_named f.is_final f ts s a
-  bare_named (CtorM n params sets) ts s a = let h = subst (Each P) s.8 a in
-      (h.0, both (flat_map names_of_param params) (flat_map names_of_set sets)
-          (separates_named SpellsCtorParam names_of_param ctor_param_named params s.0 s.6 (left s.0 _ h.1.1))
-          (repeats_named SpellsSet names_of_set set_named sets s.1 s.7 (left s.1 _ (right s.0 _ h.1.1).1.1)))
+  bare_named (CtorM n params sets) ts s a = let h = subst (Each P) s.8 a in (
+    h.0,
+    both (flat_map names_of_param params) (flat_map names_of_set sets)
+        (separates_named SpellsCtorParam names_of_param ctor_param_named params s.0 s.6 (left s.0 _ h.1.1))
+        (repeats_named SpellsSet names_of_set set_named sets s.1 s.7 (left s.1 _ (right s.0 _ h.1.1).1.1)),
+  )
   bare_named (MethodM m) ts s a =
       let h = right s.0 _ (subst (Each P) s.13 a) in
       let k = h.1.1.1 in
@@ -177,9 +179,11 @@ module _ (P : Token → Type 0) where
       let params = flat_map names_of_param m.params in
       let locks = flat_map names_of_lock m.locks in
       let body = names_of_stmts m.body in
-      both (names_of_result m.returns) (m.name ∷ params ++ (locks ++ body)) (result_named m.returns s.4 s.9 h.0)
-          (h.1.0, both params (locks ++ body) (separates_named SpellsParam names_of_param param_named m.params s.1 s.10 (left s.1 _ k))
-          (both locks body (requires_named m.locks s.2 s.11 (left s.2 _ r)) (stmts_named m.body s.3 s.12 (left s.3 _ (right s.2 _ r).1))))
+      both (names_of_result m.returns) (m.name ∷ params ++ (locks ++ body)) (result_named m.returns s.4 s.9 h.0) (
+        h.1.0,
+        both params (locks ++ body) (separates_named SpellsParam names_of_param param_named m.params s.1 s.10 (left s.1 _ k))
+            (both locks body (requires_named m.locks s.2 s.11 (left s.2 _ r)) (stmts_named m.body s.3 s.12 (left s.3 _ (right s.2 _ r).1))),
+      )
 
   member_named : (m : MemberTree) (ts : List Token) → SpellsMember m ts → Each P ts → Named (names_of_member m)
   member_named m ts s a = bare_named m s.1 s.3 (right s.0 _ (subst (Each P) s.4 a))

@@ -61,6 +61,7 @@ pub enum Terminal {
 
 impl Terminal {
     /// The text of the terminal.
+    #[inline(always)]
     pub fn text(self) -> &'static str
         ensures { result.now ≡ spelling self }
     {
@@ -117,6 +118,7 @@ impl Terminal {
         }
     }
 
+    #[inline(always)]
     fn kind(self) -> TokenKind
         ensures { result ≡ kind_of self }
     {
@@ -148,7 +150,8 @@ impl Terminal {
         }
     }
 
-    /// Whether a token is this terminal's.
+    /// Whether a token is this terminal's. At a given terminal this is two comparisons of numbers and one of a few bytes.
+    #[inline(always)]
     pub fn matches(self, token: &Token) -> bool
         ensures { result ≡ is self token.now }
     {
@@ -156,6 +159,7 @@ impl Terminal {
     }
 }
 
+#[inline(always)]
 fn is_same_kind(one: TokenKind, other: TokenKind) -> bool
     ensures { result ≡ same_kind one other }
 {

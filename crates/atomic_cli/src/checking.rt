@@ -29,8 +29,8 @@ use std::alloc::{AllocError, AllocError as NoMemory, Global};
 
 /// A well-formed source.
 #[derive(Drop)]
-pub struct Checked {
-    pub table: ClassTable,
+pub struct Checked<'a> {
+    pub table: ClassTable<'a>,
     pub program: CoreProgram,
     pub sets: RelevantSets,
 }
@@ -82,7 +82,11 @@ fn refuse(alloc: Global, bytes: &[u8], fault: &SourceFault) -> Refusal
 }
 
 /// The class table of the tree of this source.
-fn class_table(alloc: Global, bytes: &[u8], tree: &Program) -> Result<ClassTable, Refusal>
+fn class_table<'a>(
+    alloc: Global,
+    bytes: &[u8],
+    tree: &Program<'a>,
+) -> Result<ClassTable<'a>, Refusal>
     requires small { length bytes.now ≤ 262144 }
     requires program { (tokens : List Token) × IsProgram bytes.now tokens (tree_of tree.now) }
     ensures { MatchResult result (λ t. (faults_of (tree_of tree.now) ≡ []) × (table_data t ≡ table_of (tree_of tree.now))) (IsRefusal bytes.now) }
@@ -158,7 +162,11 @@ fn relevant_sets(
 }
 
 /// Checks the tree of this source: its class table, its core program and its relevant sets, or the line that refuses it.
-pub fn check_tree(alloc: Global, bytes: &[u8], tree: &Program) -> Result<Checked, Refusal>
+pub fn check_tree<'a>(
+    alloc: Global,
+    bytes: &[u8],
+    tree: &Program<'a>,
+) -> Result<Checked<'a>, Refusal>
     requires small { length bytes.now ≤ 262144 }
     requires program { (tokens : List Token) × IsProgram bytes.now tokens (tree_of tree.now) }
     ensures { MatchResult result (IsChecked (tree_of tree.now)) (IsRefusal bytes.now) }

@@ -8,6 +8,8 @@ mod lines;
 mod run;
 mod source;
 #[cfg(test)]
+mod source_tests;
+#[cfg(test)]
 mod tests;
 
 use crate::run::run;

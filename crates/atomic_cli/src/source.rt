@@ -16,14 +16,14 @@ use std::alloc::{AllocError as NoMemory, Global};
 
 /// What a source was read as.
 #[derive(Drop)]
-pub enum Reading {
+pub enum Reading<'a> {
     /// Its tokens and its tree.
-    Program(Vec<Token>, Program),
+    Program(Vec<Token<'a>>, Program<'a>),
     /// The line for its first fault.
     NoProgram(String),
 }
 
-fn not_text(alloc: Global, bytes: &[u8], fault: NotText) -> Result<Reading, NoMemory>
+fn not_text<'a>(alloc: Global, bytes: &'a [u8], fault: NotText) -> Result<Reading<'a>, NoMemory>
     requires small { length bytes.now ≤ 262144 }
     requires front { IsValidUpTo bytes.now fault.at }
     ensures { IfOk result (IsReading bytes.now) }
@@ -35,7 +35,7 @@ fn not_text(alloc: Global, bytes: &[u8], fault: NotText) -> Result<Reading, NoMe
     Ok(Reading::NoProgram(line))
 }
 
-fn no_tokens(alloc: Global, text: &str, fault: LexFault) -> Result<Reading, NoMemory>
+fn no_tokens<'a>(alloc: Global, text: &'a str, fault: LexFault) -> Result<Reading<'a>, NoMemory>
     requires small { length text.now ≤ 262144 }
     requires first { FirstFault text.now fault }
     ensures { IfOk result (IsReading text.now) }
@@ -72,7 +72,7 @@ fn no_tree(
 }
 
 /// Reads a text of at most 262,144 bytes.
-fn read_text(alloc: Global, text: &str) -> Result<Reading, NoMemory>
+fn read_text<'a>(alloc: Global, text: &'a str) -> Result<Reading<'a>, NoMemory>
     requires { length text.now ≤ 262144 }
     ensures { IfOk result (IsReading text.now) }
 {
@@ -102,7 +102,7 @@ fn read_text(alloc: Global, text: &str) -> Result<Reading, NoMemory>
 }
 
 /// Reads a source of at most 262,144 bytes.
-pub fn read_source(alloc: Global, bytes: &[u8]) -> Result<Reading, NoMemory>
+pub fn read_source<'a>(alloc: Global, bytes: &'a [u8]) -> Result<Reading<'a>, NoMemory>
     requires { length bytes.now ≤ 262144 }
     ensures { IfOk result (IsReading bytes.now) }
 {
