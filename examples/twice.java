@@ -11,6 +11,18 @@ class Cell {
     }
 }
 
+class W implements Runnable {
+    final Cell c;
+    W(Cell c) { this.c = c; }
+    public void run() {
+        this.c.twice();
+    }
+}
+
 class Main {
-    void main() { }
+    void main() {
+        final Cell c = new Cell();
+        new Thread(new W(c)).start();
+        new Thread(new W(c)).start();
+    }
 }

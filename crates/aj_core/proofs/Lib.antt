@@ -1,3 +1,4 @@
 -- Lemmas on the core program.
 pub mod ViewLemmas
 pub mod ExampleProofs
+pub mod LockLemmas

@@ -1,4 +1,4 @@
--- What the contracts of the core program cite.
+-- What the contracts of the core program cite. Of proofs/ the files ViewLemmas and ExampleProofs are public: crates above cite them.
 pub mod Core
 pub mod Views
 pub mod Locks

@@ -8,7 +8,7 @@ mod program;
 mod tree;
 mod types;
 
-pub use laws::lists_as_plain_data;
+pub use laws::{lists_as_plain_data, paths_are_locks};
 pub use lock::path_of;
 pub use program::{CoreClass, CoreField, CoreMethod, CoreProgram};
 pub use tree::{CoreExpr, CoreStmt};

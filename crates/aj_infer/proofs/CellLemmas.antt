@@ -16,7 +16,7 @@ use Rattle.aj_rules.proofs.SetLemmas.{both, first, second}
 use Rattle.aj_rules.proofs.Falling.{stmt_falls}
 use Rattle.aj_infer.specs.Tables.{chosen, table_of, assigned}
 use Rattle.aj_infer.specs.Cells.{basic_of, numbers_of, tables_of, count_of_parts, demands_of, demands_at, are_below, joined, table_falls, is_met, room_of, rooms_of, AreTables}
-use Rattle.aj_infer.proofs.EffectRises.{stmt_rises}
+use Rattle.aj_rules.proofs.EffectRises.{stmt_rises}
 use Rattle.aj_infer.proofs.TableParts.{length_parts, chosen_parts, chosen_below, chosen_none, length_joined, parts_below, below_lists, falls_chosen, none_falls, parts_fall, joined_falls}
 
 -- Basics and numbers.

@@ -24,7 +24,7 @@ use Rattle.aj_infer.specs.Tables.{chosen, table_of, assigned}
 use Rattle.aj_infer.specs.Cells.{basic_of, numbers_of, table_in, tables_in, all_const, count_of_parts, demands_of, demands_at, are_below, table_falls, is_met_by, is_met, room_of, rooms_of, AreTables}
 use Rattle.aj_infer.specs.Least.{IsLeast}
 use Rattle.aj_infer.specs.Verdicts.{HoldBounds}
-use Rattle.aj_infer.proofs.EffectRises.{stmt_rises}
+use Rattle.aj_rules.proofs.EffectRises.{stmt_rises}
 use Rattle.aj_infer.proofs.TableParts.{length_parts, chosen_parts, chosen_below, chosen_none, parts_below, in_first, in_second, in_either, in_filter, of_list, filter_has, bits_same, none_falls, parts_fall}
 use Rattle.aj_infer.proofs.CellLemmas.{tables_same, length_numbers, length_above, tables_fall, above_assigned, demand_is, le_test, basic_rank}
 use Rattle.aj_infer.proofs.Required.{required_in_rel}

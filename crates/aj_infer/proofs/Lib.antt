@@ -5,7 +5,6 @@ pub mod Calls
 pub mod Locals
 pub mod Blocks
 pub mod BodyParts
-pub mod EffectRises
 pub mod TableParts
 pub mod CellLemmas
 pub mod Required

@@ -1,3 +1,3 @@
--- What the contracts of lock paths cite.
+-- What the contracts of lock paths cite. Of proofs/ the file PathOrder is public: crates above cite its laws of the order.
 pub mod Paths
 pub mod Renamings

@@ -5,7 +5,7 @@ use Rattle.aj_paths.specs.Paths.{PathData}
 use Rattle.aj_algebra.specs.declared.basic.Basic.{Basic}
 use Rattle.aj_algebra.specs.declared.basic.Basic.TheVariants.{Mover, Atomic, Error}
 use Rattle.aj_algebra.specs.HeldPaths.{Held, has_path, with_path}
-use Rattle.aj_core.specs.Core.{Program, Expr, Exprs, IntE, TruthE, NullE, ThisE, VarE, NotE, NegE, BinaryE, AndE, OrE, GetE, CallE, NewE, no_exprs, and_expr}
+use Rattle.aj_core.specs.Core.{Program, Method, Expr, Exprs, IntE, TruthE, NullE, ThisE, VarE, NotE, NegE, BinaryE, AndE, OrE, GetE, CallE, NewE, no_exprs, and_expr}
 use Rattle.aj_core.specs.Core.{Stmt, Stmts, EmptyS, BlockS, LocalS, SetVarS, SetFieldS, DoS, IfS, WhileS, SyncS, ReturnS, PrintS, StartS, no_stmts, and_stmt}
 use Rattle.aj_core.specs.Locks.{path_of}
 use Rattle.aj_rules.specs.declared.guard.Guard.{Guard}
@@ -13,7 +13,7 @@ use Rattle.aj_rules.specs.declared.guard.Guard.TheVariants.{Final, Free, Named, 
 use Rattle.aj_rules.specs.Guards.{guard_of}
 use Rattle.aj_rules.specs.Mentions.{paths_of}
 use Rattle.aj_rules.specs.Effect.{Assignment, required_paths, write_guarded, access_effect, sync_effect, call_of, expr_effect, exprs_effect, effect, block_effect}
-use Rattle.aj_rules.specs.Rules.{IsPart, AtMost, IsFalling}
+use Rattle.aj_rules.specs.Rules.{IsPart, AtMost, IsFalling, IsClosed}
 use Rattle.aj_rules.proofs.BasicLemmas.{below_itself, below_error, below_lift, below_chain, seq_mono, join_mono, star_mono, lift_mono}
 use Rattle.aj_rules.proofs.SetLemmas.{first, all_part, under_part, with_part, after_part, with_path_part}
 
@@ -90,3 +90,9 @@ module _ (P : Program) (rel : ℕ → List PathData) (A : Assignment) (falling :
     block_falls : (ss : Stmts) (H K : Held) → IsPart H K → AtMost (block_effect P rel A ss K) (block_effect P rel A ss H)
     block_falls no_stmts H K part = refl
     block_falls (and_stmt s ss) H K part = seq_mono _ _ _ _ (stmt_falls s H K part) (block_falls ss _ _ (after_part H K part P s))
+
+-- a closed assignment is above the body at any larger set
+pub closed_above : (P : Program) (rel : ℕ → List PathData) (A : Assignment) → IsFalling rel A → IsClosed P rel A → (m : ℕ) (method : Method) → slice_get P.methods m ≡ Some method → (H K : Held)
+    → IsPart H (has_path (rel m)) → IsPart (has_path method.requires_) H → IsPart H K → AtMost (effect P rel A method.body K) (A m H)
+closed_above P rel A falling closed m method is H K part required larger =
+    below_chain (effect P rel A method.body K) (effect P rel A method.body H) (A m H) (stmt_falls P rel A falling method.body H K larger) (closed m method is H part required)

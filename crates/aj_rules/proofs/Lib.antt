@@ -2,6 +2,7 @@
 pub mod BasicLemmas
 pub mod SetLemmas
 pub mod Falling
+pub mod EffectRises
 pub mod NearOnly
 pub mod EffectExamples
 pub mod AcceptedExample

@@ -34,7 +34,7 @@ module _ (P : Program) (rel : ℕ → List PathData) (A : Assignment) (N : PathD
     pub calls : (e : Expr) (m : ℕ) (args : Exprs) (q p : PathData) → Contains xs (Calls e m args) → has_path (rel m) q ≡ true → under_call (path_of P e) (paths_of P args) q ≡ Some p → N p
     pub names : (x : ℕ) (e : Expr) (start q p : PathData) → Contains xs (Names x e) → path_of P e ≡ Some start → N q → q.root ≡ x → extended start q.fields ≡ Some p → N p
 
-  covers_part : (xs ys : List Mention) → ((x : Mention) → Contains ys x → Contains xs x) → Covers xs → Covers ys
+  pub covers_part : (xs ys : List Mention) → ((x : Mention) → Contains ys x → Contains xs x) → Covers xs → Covers ys
   covers_part xs ys part c = record {
     guards = λ e f p has. c.guards e f p (part _ has);
     locks = λ p has. c.locks p (part _ has);
@@ -120,7 +120,7 @@ module _ (P : Program) (rel : ℕ → List PathData) (A : Assignment) (N : PathD
   guard_same writes xs e f H K c has same = access_same writes (guard_of P f (path_of P e)) H K (λ p is. same p (c.guards e f p has is))
 
   mutual
-    expr_same : (e : Expr) (H K : Held) → Covers (expr_mentions e) → Agree H K → expr_effect P rel A e H ≡ expr_effect P rel A e K
+    pub expr_same : (e : Expr) (H K : Held) → Covers (expr_mentions e) → Agree H K → expr_effect P rel A e H ≡ expr_effect P rel A e K
     expr_same (IntE n) H K c same = refl
     expr_same (TruthE b) H K c same = refl
     expr_same NullE H K c same = refl
@@ -145,7 +145,7 @@ module _ (P : Program) (rel : ℕ → List PathData) (A : Assignment) (N : PathD
     exprs_same (and_expr e es) H K c same = seq_same (expr_same e H K (covers_left (expr_mentions e) (exprs_mentions es) c) same) (exprs_same es H K (covers_right (expr_mentions e) (exprs_mentions es) c) same)
 
   mutual
-    stmt_same : (s : Stmt) (H K : Held) → Covers (mentions s) → Agree H K → effect P rel A s H ≡ effect P rel A s K
+    pub stmt_same : (s : Stmt) (H K : Held) → Covers (mentions s) → Agree H K → effect P rel A s H ≡ effect P rel A s K
     stmt_same EmptyS H K c same = refl
     stmt_same (BlockS ss) H K c same = block_same ss H K c same
     stmt_same (LocalS x true ty e) H K c same = seq_same (expr_same e H K (covers_rest (Names x e) (expr_mentions e) c) same) refl
@@ -202,3 +202,14 @@ module _ (P : Program) (sets : List MethodPaths) (relevant : AreRelevant P sets)
 
 pub near_only : (P : Program) (sets : List MethodPaths) (A : Assignment) → AreRelevant P sets → (m : ℕ) (method : Method) → slice_get P.methods m ≡ Some method → (H K : Held) → ((q : PathData) → Near P m q → H q ≡ K q) → effect P (rel_of sets) A method.body H ≡ effect P (rel_of sets) A method.body K
 near_only P sets A relevant m method is H K same = near_only_in P sets relevant A m method is H K same
+
+-- of any part whose mentions are the body's
+pub near_only_expr : (P : Program) (sets : List MethodPaths) (A : Assignment) → AreRelevant P sets → (m : ℕ) (method : Method) → slice_get P.methods m ≡ Some method → (e : Expr)
+    → ((x : Mention) → Contains (expr_mentions e) x → Contains (mentions method.body) x) → (H K : Held) → ((q : PathData) → Near P m q → H q ≡ K q) → expr_effect P (rel_of sets) A e H ≡ expr_effect P (rel_of sets) A e K
+near_only_expr P sets A relevant m method is e part H K same =
+    expr_same P (rel_of sets) A (Near P m) e H K (covers_part P (rel_of sets) A (Near P m) (mentions method.body) (expr_mentions e) part (near_covers P sets relevant A m method is)) same
+
+pub near_only_stmt : (P : Program) (sets : List MethodPaths) (A : Assignment) → AreRelevant P sets → (m : ℕ) (method : Method) → slice_get P.methods m ≡ Some method → (s : Stmt)
+    → ((x : Mention) → Contains (mentions s) x → Contains (mentions method.body) x) → (H K : Held) → ((q : PathData) → Near P m q → H q ≡ K q) → effect P (rel_of sets) A s H ≡ effect P (rel_of sets) A s K
+near_only_stmt P sets A relevant m method is s part H K same =
+    stmt_same P (rel_of sets) A (Near P m) s H K (covers_part P (rel_of sets) A (Near P m) (mentions method.body) (mentions s) part (near_covers P sets relevant A m method is)) same

@@ -1,4 +1,5 @@
--- What the contracts of the rules cite.
+-- What the contracts of the rules cite. Of proofs/ these files are public, crates above cite them: BasicLemmas (the order of
+-- basics), SetLemmas, Falling, EffectRises, NearOnly, UniqueSets, LimitLemmas, AcceptedExample.
 pub mod Mentions
 pub mod Guards
 pub mod Near

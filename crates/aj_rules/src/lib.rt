@@ -12,7 +12,10 @@ mod search;
 mod sets;
 
 pub use guard::{Guard, guard_at};
-pub use laws::{more_held_paths_fall, only_near_paths_count, relevant_sets_are_unique};
+pub use laws::{
+    closed_above_larger_sets, greater_assignments_rise, more_held_paths_fall,
+    only_near_paths_count, relevant_sets_are_unique, well_formed_methods_have_few,
+};
 pub use relevance::{RuleEnd, relevant};
 pub use renaming::renaming_at;
 pub use sets::RelevantSets;

@@ -2,3 +2,8 @@
 pub mod Addresses
 pub mod MemoryLemmas
 pub mod Numbering
+mod Grids
+mod GridMaps
+mod GridCounts
+mod Operands
+mod FrameLemmas

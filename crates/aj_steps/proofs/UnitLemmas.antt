@@ -55,7 +55,7 @@ module _ (t : ℕ) where
   count-in_order (u ∷ us) = omega (arith, count-placed u (in_order us), count-in_order us, count-append (map (λ e. e.thread) u) (schedule_of us))
 
 -- the entries of a schedule that runs are all of it
-entries_all : (P : Program) (q : State) (place : ℕ) (s : List ℕ) → IsSome (run_from P q s) → map (λ e. e.thread) (entries_from P q place s) ≡ s
+pub entries_all : (P : Program) (q : State) (place : ℕ) (s : List ℕ) → IsSome (run_from P q s) → map (λ e. e.thread) (entries_from P q place s) ≡ s
 entries_all P q place [] runs = refl
 entries_all P q place (t ∷ s) runs =
     elim (outcome P q t) as (λ o. IsSome (option_and_then (λ next. run_from P next s) (state_after q t o)) → map (λ e. e.thread) (entry_then P q place t o (λ next. entries_from P next (place + 1) s)) ≡ t ∷ s) [

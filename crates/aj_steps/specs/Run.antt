@@ -1,5 +1,5 @@
 -- Runs of schedules, who stands inside an atomic call, and which schedules interrupt nobody.
-use Rattle.std.specs.Prelude.{◌≡◌, ℕ, ◌+◌, Bool, true, false, ◌==◌, List, [], ◌∷◌, take, Option, Some, None, IsSome, option_and_then, position, count_by, slice_get}
+use Rattle.std.specs.Prelude.{◌≡◌, ℕ, ◌+◌, Bool, true, false, ◌==◌, List, [], ◌∷◌, take, Option, Some, None, IsSome, option_and_then, position, count_by, slice_get, if◌then◌else◌}
 use Rattle.std.specs.List.{list_any}
 use Rattle.aj_core.specs.Core.{Program, Method}
 use Rattle.aj_state.specs.States.{Frame, Thread, Ready, Running, Done, Faulted, State, initial}
@@ -65,3 +65,13 @@ pub record IsUninterrupted (P : Program) (s : List ℕ) : Type 0 where
 -- each number stands in both schedules equally often
 abbrev pub IsRearrangement : List ℕ → List ℕ → Type 0
 IsRearrangement s r = (t : ℕ) → count_by (λ u. u == t) s ≡ count_by (λ u. u == t) r
+
+-- a thread's frames and status after an entry of thread u, where that is its own, before those after later entries
+abbrev pub owns_then : (t u : ℕ) → (State → List (Option Thread)) → Option State → List (Option Thread)
+owns_then t u later None = []
+owns_then t u later (Some next) = if u == t then slice_get next.threads u ∷ later next else later next
+
+-- a thread's frames and status after each of its entries in a schedule
+abbrev pub own_states : Program → State → ℕ → List ℕ → List (Option Thread)
+own_states P q t [] = []
+own_states P q t (u ∷ s) = owns_then t u (λ next. own_states P next t s) (step P q u)

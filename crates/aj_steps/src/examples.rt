@@ -1,6 +1,6 @@
 // Examples of runs, which the check computes.
 ghost use Rattle.std.specs.Prelude.{◌≡◌, ◌==◌, [], ◌∷◌, ◌++◌, Some, map, filter, replicate};
-ghost use Rattle.aj_core.specs.Examples.{counter, nested, returns_locked, divides_by_zero};
+ghost use Rattle.aj_core.specs.Examples.{counter, nested, returns_locked, divides_by_zero, reads_unlocked};
 ghost use Rattle.aj_state.specs.declared.value.Fault.TheVariants.{Zero};
 ghost use Rattle.aj_state.specs.declared.value.StepKind.TheVariants.{Both, Right, Left, Other};
 ghost use Rattle.aj_steps.specs.Step.{HadFaulted, outcome};
@@ -31,6 +31,15 @@ pub fn a_zero_divisor_faults()
 pub fn kinds_of_a_worker()
     ensures { let steps = filter (λ e. e.thread == 1) (entries counter one_worker) in
         map (λ e. e.kind) steps ≡ replicate 5 Both ++ Right ∷ replicate 6 Both ++ Left ∷ Both ∷ Both ∷ [] }
+{}
+
+/// A field whose guard guards writes only: a read without the lock is Other, one with the lock is Both, and a write with the
+/// lock is Other.
+///     class Main { int v write_guarded_by this;
+///       void main() { System.out.println(this.v); synchronized (this) { this.v = 7; System.out.println(this.v); } } }
+pub fn kinds_of_a_write_guard()
+    ensures { map (λ e. e.kind) (entries reads_unlocked (replicate 14 0)) ≡
+        Both ∷ Both ∷ Other ∷ Other ∷ Both ∷ Right ∷ Both ∷ Both ∷ Other ∷ Both ∷ Both ∷ Other ∷ Left ∷ Both ∷ [] }
 {}
 
 /// Two calls that overlap are two units; each stands at the place of its release.

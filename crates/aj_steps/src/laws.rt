@@ -1,14 +1,16 @@
 // Laws of steps, runs and words.
-ghost use Rattle.std.specs.Prelude.{◌≡◌, ◌≢◌, ◌↔◌, ◌⊎◌, ◌++◌, ◌==◌, ℕ, List, true, false, Some, None, option_and_then, slice_get};
+ghost use Rattle.std.specs.Prelude.{◌≡◌, ◌≢◌, ◌↔◌, ◌⊎◌, ◌++◌, ◌==◌, ℕ, List, [], ◌∷◌, length, true, false, Option, Some, None, option_and_then, slice_get};
 ghost use Rattle.std.specs.FinMap as map;
 ghost use Rattle.aj_core.specs.Core.{Program};
 ghost use Rattle.aj_state.specs.declared.value.Address.{Address};
 ghost use Rattle.aj_state.specs.declared.value.Fault.{Fault};
 ghost use Rattle.aj_state.specs.declared.value.StepKind.{StepKind};
 ghost use Rattle.aj_state.specs.Memory.{IsNumbered};
-ghost use Rattle.aj_state.specs.States.{State, Frame, Done, Faulted, initial};
-ghost use Rattle.aj_steps.specs.Step.{Absent, IsDone, HadFaulted, Waits, outcome, step, kind_of};
-ghost use Rattle.aj_steps.specs.Run.{run, run_from, Runs, IsUninterrupted, IsRearrangement};
+ghost use Rattle.aj_state.specs.States.{State, Frame, Thread, Done, Faulted, initial};
+ghost use Rattle.aj_steps.specs.Step.{Shared, Change, changed, turn, Absent, IsDone, HadFaulted, Waits, Move, Moves, outcome, moved, step, kind_of};
+ghost use Rattle.aj_steps.specs.Changes.{objects_after, locks_after};
+ghost use Rattle.aj_steps.specs.Asks.{LooksSame, asks};
+ghost use Rattle.aj_steps.specs.Run.{run, run_from, inside, Runs, IsUninterrupted, IsRearrangement};
 ghost use Rattle.aj_steps.specs.Units.{entries, are_kept, written_order};
 ghost use Rattle.aj_steps.specs.Waiting.{WaitsFor};
 ghost use Rattle.aj_steps.specs.Words.{IsReducible, IsReduciblePrefix, is_reducible};
@@ -36,6 +38,24 @@ pub fn run_laws()
     ensures numbered { (P : Program) (s : List ℕ) (q : State) → run P s ≡ Some q → IsNumbered q.heap }
     ensures numbered_initial { (P : Program) → IsNumbered (initial P).heap }
     ensures numbered_step { (P : Program) (q : State) (t : ℕ) (r : State) → IsNumbered q.heap → step P q t ≡ Some r → IsNumbered r.heap }
+{}
+
+/// What a change does to each object and to each lock.
+pub fn change_laws()
+    ensures objects { (c : Change) (q : State) → map.get (changed c q).heap ≡ objects_after c (map.get q.heap) }
+    ensures locks { (c : Change) (q : State) → map.get (changed c q).locks ≡ locks_after c (map.get q.locks) }
+{}
+
+/// A thread's turn depends on what all threads share only at the one thing that it asks: where that looks the same, it comes
+/// to the same.
+pub fn asking_laws()
+    ensures same { (P : Program) (t : ℕ) (see other : Shared) (thread : Option Thread) → LooksSame P t see other (asks thread) → turn P see t thread ≡ turn P other t thread }
+{}
+
+/// One more step at the end of a run adds one entry.
+pub fn entry_laws()
+    ensures more { (P : Program) (s : List ℕ) (q : State) (t : ℕ) (move : Move) → run P s ≡ Some q → outcome P q t ≡ Moves move →
+        entries P (s ++ t ∷ []) ≡ entries P s ++ record { place = length s; thread = t; kind = move.kind; inside = inside P (moved t move q) t } ∷ [] }
 {}
 
 /// The test for reducible words is exact, and what can be made reducible is so.

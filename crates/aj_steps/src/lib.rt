@@ -4,4 +4,4 @@
 pub mod examples;
 mod laws;
 
-pub use laws::{run_laws, step_laws, unit_laws, word_laws};
+pub use laws::{asking_laws, change_laws, entry_laws, run_laws, step_laws, unit_laws, word_laws};

@@ -1,8 +1,4 @@
-pub mod Answers
-pub mod Words
+pub mod Endings
 pub mod Runs
-pub mod TokenCounts
-pub mod Refusing
-pub mod Sources
-pub mod Checks
-pub mod Verdicts
+pub mod Rows
+pub mod FileLemmas

@@ -1,69 +1,114 @@
--- What the clauses of the top call say, from what was said and what was answered.
-use Rattle.std.proofs.Common.{◌≡◌, ℕ, List, [], ◌∷◌, Option, Some, sym, subst, ap, ◌∙◌, arith, inl, inr, ◌⊎◌}
+-- What the clauses of the top call say, from what was done and what was said.
+use Rattle.std.proofs.Common.{◌≡◌, ℕ, List, ◌∷◌, Option, Some, None, if◌then◌else◌, codes, refl, sym, subst, ap, ◌∙◌, arith, inl, inr, ◌⊎◌, Contains}
+use Rattle.std.specs.Str.{bytes_eq}
 use Rattle.aj_edge.specs.Faults.{Rose}
-use Rattle.atomic_cli.specs.Lines.{cannot_read_line}
-use Rattle.atomic_cli.specs.Answer.{Row, CheckFile, PrintFile, words_of, file_of, Answer, Yields, IsExact}
-use Rattle.atomic_cli.specs.Said.{Says, WritesAnswer, WritesFront}
-use Rattle.atomic_cli.proofs.Answers.{exact_answer, exact_yield}
+use Rattle.atomic_cli.specs.declared.command.Command.{Command}
+use Rattle.atomic_cli.specs.declared.command.Command.TheVariants.{Check, Print}
+use Rattle.atomic_cli.specs.declared.status.Status.{Status}
+use Rattle.atomic_cli.specs.declared.status.Status.TheVariants.{Ended, CannotRead, CannotWrite, NoMemory, Usage, TooLarge}
+use Rattle.atomic_cli.specs.Rows.{Row, IsRow, word_of}
+use Rattle.atomic_cli.specs.Files.{IsAsked}
+use Rattle.atomic_cli.specs.Answers.{Belongs, too_large, ended, Yields, IsExact}
+use Rattle.atomic_cli.specs.Said.{Says, IsUnread, WritesUnread, WritesAnswer, WritesFront}
+use Rattle.atomic_cli.specs.Commands.{status_of}
+use Rattle.atomic_cli.specs.Outcomes.{IsOutcome}
+use Rattle.atomic_cli.proofs.Endings.{exact_answer, exact_yield, no_ending}
 
-first_byte : List (List ℕ) → ℕ
-first_byte [] = 0
-first_byte ([] ∷ words) = 0
-first_byte ((c ∷ cs) ∷ words) = c
+-- the command that a word names
+command_of : List ℕ → Option Command
+command_of word = if bytes_eq word (codes "check") then Some Check else if bytes_eq word (codes "print") then Some Print else None
+
+named : (command : Command) → command_of (word_of command) ≡ Some command
+unfolding command_of
+named Check = refl
+named Print = refl
 
 -- words are one row at most
-rows : (row other : Row) → words_of row ≡ words_of other → row ≡ other
-unfolding first_byte
-rows (CheckFile name) (CheckFile other) e = let same : name ≡ other = cc in ap CheckFile same
-rows (CheckFile name) (PrintFile other) e = absurd (let c : 99 ≡ 112 = ap first_byte e in omega arith)
-rows (PrintFile name) (CheckFile other) e = absurd (let c : 112 ≡ 99 = ap first_byte e in omega arith)
-rows (PrintFile name) (PrintFile other) e = let same : name ≡ other = cc in ap PrintFile same
+one_row : (words : List (List ℕ)) (row other : Row) → IsRow words row → IsRow words other → row ≡ other
+one_row words row other a b =
+    let same : word_of row.command ∷ row.names ≡ word_of other.command ∷ other.names = sym a.said ∙ b.said in
+    let word : word_of row.command ≡ word_of other.command = cc in
+    let names : row.names ≡ other.names = cc in
+    let some : Some row.command ≡ Some other.command = sym (named row.command) ∙ ap command_of word ∙ named other.command in
+    let command : row.command ≡ other.command = cc in
+    λ i. record { command = command i; names = names i }
 
-pub one_row : (words : List (List ℕ)) (row other : Row) → words ≡ words_of row → words ≡ words_of other → row ≡ other
-one_row words row other a b = rows row other (sym a ∙ b)
+-- no outcome has the status of a sink that fails
+other_than_seven : (row : Row) (told : List ℕ → Option (List ℕ)) (before now : List ℕ → ℕ) (status : Status) (text : List ℕ) → IsOutcome row told before now status text → status_of status ≡ 7 → ⊥
+other_than_seven row told before now (Ended ending) text is e = no_ending ending 7 (omega arith) (omega arith) e
+other_than_seven row told before now CannotRead text is e = omega arith
+other_than_seven row told before now TooLarge text is e = omega arith
+other_than_seven row told before now CannotWrite text is e = is
+other_than_seven row told before now NoMemory text is e = is
+other_than_seven row told before now Usage text is e = is
 
--- a row was done: its name, the status and text of the outcome, and what was said
-pub record Done (words : List (List ℕ)) (result : ℕ) (told : List ℕ → Option (List ℕ)) (before now : List ℕ → ℕ) (old new : Option (List ℕ)) (sink_before sink_now : ℕ) : Type 0 where
+-- a row was done: its status and text, and what was said
+pub record IsDone (words : List (List ℕ)) (result : ℕ) (told : List ℕ → Option (List ℕ)) (before now : List ℕ → ℕ) (old new : Option (List ℕ)) (sink_before sink_now : ℕ) : Type 0 where
   pub row : Row
-  pub is_row : words ≡ words_of row
-  pub status : ℕ
+  pub is_row : IsRow words row
+  pub status : Status
   pub text : List ℕ
-  pub unreadable : status ≡ 6 → (text ≡ cannot_read_line (file_of row)) × Rose (before (file_of row)) (now (file_of row))
-  pub answer : (file : List ℕ) → told (file_of row) ≡ Some file → (status ≡ 6) ⊎ Answer file row status text
-  pub other : (status ≡ 7 → ⊥) × (status ≡ 8 → ⊥) × (status ≡ 9 → ⊥)
-  pub said : Says result status text old new sink_before sink_now
+  pub outcome : IsOutcome row told before now status text
+  pub said : Says result (status_of status) text old new sink_before sink_now
 
 module _ (words : List (List ℕ)) (result : ℕ) (told : List ℕ → Option (List ℕ)) (before now : List ℕ → ℕ) (old new : Option (List ℕ)) (sink_before sink_now : ℕ)
-    (d : Done words result told before now old new sink_before sink_now) where
-  module _ (row : Row) (file : List ℕ) (is_row : words ≡ words_of row) (tells : told (file_of row) ≡ Some file) where
-    same : d.row ≡ row
-    same = one_row words d.row row d.is_row is_row
+    (d : IsDone words result told before now old new sink_before sink_now) where
+  -- a file that can't be read
+  pub unreadable : (row : Row) → IsRow words row → result ≡ 6 → WritesUnread row before now old new
+  unreadable row is six = by d.status (subst (λ r. IsOutcome r told before now d.status d.text) (one_row words d.row row d.is_row is) d.outcome) d.said
+    where
+      by : (status : Status) → IsOutcome row told before now status d.text → Says result (status_of status) d.text old new sink_before sink_now → WritesUnread row before now old new
+      by status is (inr s) = absurd (omega (arith, s.0))
+      by CannotRead is (inl s) = record { line = d.text; unread = is; written = s.1 }
+      by (Ended ending) is (inl s) = absurd (no_ending ending 6 (omega arith) (omega arith) (sym s.0 ∙ six))
+      by TooLarge is (inl s) = absurd (omega (arith, s.0))
+      by CannotWrite is (inl s) = absurd is
+      by NoMemory is (inl s) = absurd is
+      by Usage is (inl s) = absurd is
 
-    its : (d.status ≡ 6) ⊎ Answer file row d.status d.text
-    its = subst (λ r. (d.status ≡ 6) ⊎ Answer file r d.status d.text) same (d.answer file (subst (λ r. told (file_of r) ≡ Some file) (sym same) tells))
+  module _ (row : Row) (files : List (List ℕ)) (asked : IsAsked words told row files) where
+    -- the line of a file that can't be read, or what belongs to the files
+    its : (IsUnread row before now d.text × (status_of d.status ≡ 6)) ⊎ Belongs row files (status_of d.status) d.text
+    its = by d.status (subst (λ r. IsOutcome r told before now d.status d.text) (one_row words d.row row d.is_row asked.is_row) d.outcome)
+      where
+        by : (status : Status) → IsOutcome row told before now status d.text → (IsUnread row before now d.text × (status_of status ≡ 6)) ⊎ Belongs row files (status_of status) d.text
+        by CannotRead is = inl (is, refl)
+        by (Ended ending) is = let a = is files asked.are_told in inr (ended ending d.text a.0 a.1)
+        by TooLarge is = let a = is files asked.are_told in inr (subst (Belongs row files 10) (sym a.2) (too_large a.0 a.1))
+        by CannotWrite is = absurd is
+        by NoMemory is = absurd is
+        by Usage is = absurd is
 
-    pub answered : Yields result ⊎ WritesAnswer file row result old new
+    pub answered : Yields result ⊎ WritesAnswer row files result old new
     answered = by d.said its
       where
-        by : Says result d.status d.text old new sink_before sink_now → (d.status ≡ 6) ⊎ Answer file row d.status d.text → Yields result ⊎ WritesAnswer file row result old new
+        by : Says result (status_of d.status) d.text old new sink_before sink_now → (IsUnread row before now d.text × (status_of d.status ≡ 6)) ⊎ Belongs row files (status_of d.status) d.text → Yields result ⊎ WritesAnswer row files result old new
         by (inr s) a = inl (inr (inl s.0))
-        by (inl s) (inl six) = inl (inl (s.0 ∙ six))
-        by (inl s) (inr a) = inr (record { text = d.text; belongs = subst (λ n. Answer file row n d.text) (sym s.0) a; written = s.1 })
+        by (inl s) (inl six) = inl (inl (s.0 ∙ six.1))
+        by (inl s) (inr a) = inr (record { text = d.text; belongs = subst (λ n. Belongs row files n d.text) (sym s.0) a; written = s.1 })
 
-    pub exact : IsExact file row result
+    pub exact : IsExact row files result
     exact = by answered
       where
-        by : Yields result ⊎ WritesAnswer file row result old new → IsExact file row result
-        by (inl y) = exact_yield file row result y
-        by (inr w) = exact_answer file row result w.text w.belongs
+        by : Yields result ⊎ WritesAnswer row files result old new → IsExact row files result
+        by (inl y) = exact_yield row files result y
+        by (inr w) = exact_answer row files result w.text w.belongs
 
-    pub front : result ≡ 7 → WritesFront file row old new
-    front e = by d.said
+    pub front : result ≡ 7 → WritesFront row files before now old new
+    front seven = by d.said its
       where
-        belongs : (d.status ≡ 6) ⊎ Answer file row d.status d.text → ((d.status ≡ 6) × (d.text ≡ cannot_read_line (file_of row))) ⊎ Answer file row d.status d.text
-        belongs (inl is) = inl (is, (d.unreadable is).0 ∙ ap (λ r. cannot_read_line (file_of r)) same)
+        belongs : (IsUnread row before now d.text × (status_of d.status ≡ 6)) ⊎ Belongs row files (status_of d.status) d.text → IsUnread row before now d.text ⊎ Belongs row files (status_of d.status) d.text
+        belongs (inl a) = inl a.0
         belongs (inr a) = inr a
 
-        by : Says result d.status d.text old new sink_before sink_now → WritesFront file row old new
-        by (inl s) = absurd (d.other.0 (sym s.0 ∙ e))
-        by (inr s) = record { status = d.status; text = d.text; belongs = belongs its; written = s.1 }
+        by : Says result (status_of d.status) d.text old new sink_before sink_now → (IsUnread row before now d.text × (status_of d.status ≡ 6)) ⊎ Belongs row files (status_of d.status) d.text → WritesFront row files before now old new
+        by (inl s) a = absurd (other_than_seven d.row told before now d.status d.text d.outcome (sym s.0 ∙ seven))
+        by (inr s) a = record { status = status_of d.status; text = d.text; belongs = belongs a; written = s.1 }
+
+    pub complete : ((name : List ℕ) → Contains row.names name → Rose (before name) (now name) → ⊥) → (Rose sink_before sink_now → ⊥) → (result ≡ 8) ⊎ WritesAnswer row files result old new
+    complete calm sink_calm = by d.said its
+      where
+        by : Says result (status_of d.status) d.text old new sink_before sink_now → (IsUnread row before now d.text × (status_of d.status ≡ 6)) ⊎ Belongs row files (status_of d.status) d.text → (result ≡ 8) ⊎ WritesAnswer row files result old new
+        by (inr s) a = absurd (sink_calm s.2)
+        by (inl s) (inl six) = absurd (calm six.0.name six.0.named six.0.rose)
+        by (inl s) (inr a) = inr (record { text = d.text; belongs = subst (λ n. Belongs row files n d.text) (sym s.0) a; written = s.1 })

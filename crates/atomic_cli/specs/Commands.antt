@@ -1,8 +1,19 @@
--- The commands of the program as rows of words.
-use Rattle.atomic_cli.specs.declared.command.Command.{Command}
-use Rattle.atomic_cli.specs.declared.command.Command.TheVariants.{Check, Print}
-use Rattle.atomic_cli.specs.Answer.{Row, CheckFile, PrintFile}
+-- Rows and statuses as the code has them.
+use Rattle.std.specs.Prelude.{ℕ, map, string_bytes}
+use Rattle.aj_sources.specs.Refusals.{code_of}
+use Rattle.atomic_cli.specs.declared.command.Words.{Words}
+use Rattle.atomic_cli.specs.declared.status.Status.{Status}
+use Rattle.atomic_cli.specs.declared.status.Status.TheVariants.{Ended, CannotRead, CannotWrite, NoMemory, Usage, TooLarge}
+use Rattle.atomic_cli.specs.Rows.{Row}
 
-abbrev pub row_of : Command → Row
-row_of (Check name) = CheckFile name.now
-row_of (Print name) = PrintFile name.now
+abbrev pub row_of : Words → Row
+row_of words = record { command = words.command; names = map string_bytes words.names.now }
+
+-- the exit status
+abbrev pub status_of : Status → ℕ
+status_of (Ended ending) = code_of ending
+status_of CannotRead = 6
+status_of CannotWrite = 7
+status_of NoMemory = 8
+status_of Usage = 9
+status_of TooLarge = 10

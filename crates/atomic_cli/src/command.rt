@@ -1,50 +1,61 @@
 //! The words of the command line.
 
-ghost use Rattle.std.specs.Prelude.{◌≡◌, ℕ, List, [], ◌∷◌, map, MatchOption, string_bytes};
-ghost use Rattle.atomic_cli.specs.Answer.{Row, words_of, file_of, IsNoRow};
+ghost use Rattle.std.specs.Prelude.{◌≡◌, map, MatchOption, string_bytes};
 ghost use Rattle.atomic_cli.specs.Commands.{row_of};
+ghost use Rattle.atomic_cli.specs.Rows.{IsRow, IsNoRow};
 
-/// What the words ask for, with the name of the file.
-#[derive(Clone, Copy)]
-pub enum Command<'a> {
-    /// Judges the source.
-    Check(&'a str),
-    /// Writes the source in canonical layout.
-    Print(&'a str),
+/// The most bytes that a source may have.
+const LARGEST_SOURCE: u32 = 262_144;
+
+/// What is to be done with the named files.
+#[derive(Clone, Copy, Debug, PartialEq, Eq)]
+pub enum Command {
+    /// Judges a source.
+    Check,
+    /// Writes a source in canonical layout.
+    Print,
 }
 
-fn named_command<'a>(command: &str, name: &'a str) -> Option<Command<'a>>
-    ensures { MatchOption result ((row : Row) → command.now ∷ name.now ∷ [] ≡ words_of row → ⊥) (λ c. command.now ∷ name.now ∷ [] ≡ words_of (row_of c)) }
-{
-    if command == "check" {
-        return Some(Command::Check(name));
-    }
-    if command == "print" {
-        return Some(Command::Print(name));
-    }
-    None
-}
+impl Command {
+    ghost use Rattle.atomic_cli.specs.Rows.{word_of, limits_of};
 
-/// The command that the words are, if they are one.
-pub fn command_of(words: &[String]) -> Option<Command<'_>>
-    ensures { MatchOption result (IsNoRow (map string_bytes words.now)) (λ c. map string_bytes words.now ≡ words_of (row_of c)) }
-{
-    match words {
-        [command, name] => named_command(command.as_str(), name.as_str()),
-        _ => None,
+    /// The command with this name.
+    fn named(word: &str) -> Option<Command>
+        ensures { MatchOption result ((command : Command) → word.now ≡ word_of command → ⊥) (λ command. word.now ≡ word_of command) }
+    {
+        match word {
+            "check" => Some(Command::Check),
+            "print" => Some(Command::Print),
+            _ => None,
+        }
     }
-}
 
-impl<'a> Command<'a> {
-    ghost use Rattle.atomic_cli.specs.Answer.{file_of};
-    ghost use Rattle.atomic_cli.specs.Commands.{row_of};
-
-    /// The name of the file.
-    pub fn file(self) -> &'a str
-        ensures { result.now ≡ file_of (row_of self.entry) }
+    /// The most bytes that each of its files may have, in the order of the words.
+    pub fn limits(self) -> &'static [u32]
+        ensures { result.now ≡ limits_of self }
     {
         match self {
-            Command::Check(name) | Command::Print(name) => name,
+            Command::Check | Command::Print => &[LARGEST_SOURCE],
         }
+    }
+}
+
+/// A command, and the names of its files.
+#[derive(Clone, Copy)]
+pub struct Words<'a> {
+    pub command: Command,
+    pub names: &'a [String],
+}
+
+/// The row that the words are, if they are one.
+pub fn words_of(words: &[String]) -> Option<Words<'_>>
+    ensures { MatchOption result (IsNoRow (map string_bytes words.now)) (λ row. IsRow (map string_bytes words.now) (row_of row)) }
+{
+    let (word, names) = words.split_first()?;
+    let command = Command::named(word.as_str())?;
+    if names.len() == command.limits().len() {
+        Some(Words { command, names })
+    } else {
+        None
     }
 }

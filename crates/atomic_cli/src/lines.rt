@@ -6,8 +6,8 @@ ghost use Rattle.atomic_cli.specs.Lines as lines;
 use std::alloc::{AllocError as NoMemory, Global};
 
 /// What is written for words that are no row.
-pub const USAGE: &str =
-    "usage: atomic check FILE | run FILE SCHEDULE | serialise FILE SCHEDULE | derive FILE | verify FILE BOOK | print FILE | generate N\n";
+pub const USAGE: &[u8] =
+    b"usage: atomic check FILE | run FILE SCHEDULE | serialise FILE SCHEDULE | derive FILE | verify FILE BOOK | print FILE | generate N\n";
 
 /// What ends a line.
 const LINE_END: &str = "\n";

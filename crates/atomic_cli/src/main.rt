@@ -1,25 +1,24 @@
 //! The program `atomic`: the words of the command line, real files and standard output, and the exit status.
 #![tactic(auto)]
 
-mod checking;
+mod check;
 mod command;
-mod judge;
+mod files;
 mod lines;
+mod print;
 mod run;
-mod source;
+mod status;
 #[cfg(test)]
 mod source_tests;
 #[cfg(test)]
 mod tests;
 
 use crate::run::run;
+use crate::status::Status;
 use aj_edge::{FileFolder, OutSink};
 use std::alloc::AllocError as NoMemory;
 use std::env;
 use std::process::ExitCode;
-
-/// The status where there is no memory for the words.
-const NO_MEMORY: u8 = 8;
 
 /// The words of the command line, without the program's name.
 fn words_of(rt: &HostRuntime) -> Result<Vec<String>, NoMemory> {
@@ -35,7 +34,7 @@ fn words_of(rt: &HostRuntime) -> Result<Vec<String>, NoMemory> {
 
 fn main(rt: HostRuntime) -> ExitCode {
     let Ok(words) = words_of(&rt) else {
-        return ExitCode::from(NO_MEMORY);
+        return ExitCode::from(Status::NoMemory.code());
     };
     let mut folder = FileFolder::new(&rt);
     let mut sink = OutSink::new(&rt);

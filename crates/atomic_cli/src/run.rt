@@ -1,105 +1,137 @@
 //! The top call of the program.
 
-ghost use Rattle.std.specs.Prelude.{◌≡◌, ◌≤◌, ◌⊎◌, ℕ, List, length, map, ◌<◌, Option, Some, IfOk, OnErr, string_bytes};
+ghost use Rattle.std.specs.Prelude.{◌≡◌, ◌⊎◌, ℕ, List, Option, Contains, length, map, IfOk, MatchResult, string_bytes};
+ghost use Rattle.std.specs.Io.KnownBytes.{Keeps};
 ghost use Rattle.aj_edge.specs.Faults.{Rose};
-ghost use Rattle.atomic_cli.specs.Lines.{usage_line, cannot_read_line};
-ghost use Rattle.atomic_cli.specs.Answer.{Row, words_of, file_of, IsNoRow, Answer, Yields, IsExact};
-ghost use Rattle.atomic_cli.specs.Commands.{row_of};
-ghost use Rattle.atomic_cli.specs.Said.{Says, WritesAnswer, WritesFront};
-ghost use Rattle.std.specs.Io.KnownBytes.{Appends, Keeps};
+ghost use Rattle.aj_sources.specs.Refusals.{IsRight};
+ghost use Rattle.aj_sources.specs.declared.refusal.Ending.{Ending as EndingData};
+ghost use Rattle.atomic_cli.specs.Lines.{usage_line};
+ghost use Rattle.atomic_cli.specs.Rows.{Row, IsRow, IsNoRow, limits_of};
+ghost use Rattle.atomic_cli.specs.Files.{IsAsked, AreBounded};
+ghost use Rattle.atomic_cli.specs.Answers.{Answer, Yields, IsExact};
+ghost use Rattle.atomic_cli.specs.Said.{Says, WritesUnread, WritesAnswer, WritesFront};
+ghost use Rattle.atomic_cli.specs.Commands.{row_of, status_of};
+ghost use Rattle.atomic_cli.specs.Outcomes.{IsUnreadFor, IsOutcome};
 
-use crate::command::{Command, command_of};
-use crate::judge::{Outcome, judge, print};
+use crate::check::check;
+use crate::command::{Command, Words, words_of};
+use crate::files::{Unread, file_at, read_files};
 use crate::lines::{USAGE, cannot_read_line, too_large_line};
-use aj_edge::{Fault, Folder, ReadEnd, Sink, read_file, write_all};
+use crate::print::print;
+use crate::status::Status;
+use aj_edge::{Fault, Folder, Sink, write_all};
+use aj_sources::{Ending, Refusal};
 use std::alloc::{AllocError as NoMemory, Global};
 
-/// The most bytes that a source may have.
-const LARGEST_SOURCE: u32 = 262144;
+/// A status of the program, and the text that is written with it.
+#[derive(Drop)]
+struct Outcome {
+    status: Status,
+    text: Vec<u8>,
+}
 
-/// What the command answers to the bytes of its file.
-fn answer(alloc: Global, command: Command<'_>, bytes: &[u8]) -> Result<Outcome, NoMemory>
-    requires { length bytes.now ≤ 262144 }
-    ensures answer { IfOk result (λ o. Answer bytes.now (row_of command.entry) o.status (string_bytes o.text)) }
-    ensures status { IfOk result (λ o. o.status < 3) }
+/// The text of the command for the bytes of its files, or the refusal.
+fn answer(alloc: Global, command: Command, files: &[Vec<u8>]) -> Result<Vec<u8>, Refusal>
+    requires { AreBounded (limits_of command) (map (λ file. file.items) files.now) }
+    ensures { MatchResult result (λ text. Answer command (map (λ file. file.items) files.now) Ending.Done text.items) (IsRight (Answer command (map (λ file. file.items) files.now))) }
 {
     match command {
-        Command::Check(_) => judge(alloc, bytes),
-        Command::Print(_) => print(alloc, bytes),
+        Command::Check => check(alloc, file_at(files, 0)),
+        Command::Print => print(alloc, file_at(files, 0)),
     }
 }
 
-/// Reads the file of the command, and does what the command says.
-fn perform<F: Folder>(
-    alloc: Global,
-    folder: &mut F,
-    command: Command<'_>,
-) -> Result<Outcome, NoMemory>
-    ensures unreadable { IfOk result (λ o. o.status ≡ 6 → (string_bytes o.text ≡ cannot_read_line (file_of (row_of command.entry)))
-        × Rose (F.faults folder.old (file_of (row_of command.entry))) (F.faults folder.new (file_of (row_of command.entry)))) }
-    ensures answer { IfOk result (λ o. (file : List ℕ) → F.told folder.old (file_of (row_of command.entry)) ≡ Some file →
-        (o.status ≡ 6) ⊎ Answer file (row_of command.entry) o.status (string_bytes o.text)) }
-    ensures other { IfOk result (λ o. (o.status ≡ 7 → ⊥) × (o.status ≡ 8 → ⊥) × (o.status ≡ 9 → ⊥)) }
+/// The status and the text of the command for the bytes of its files.
+fn ended(alloc: Global, command: Command, files: &[Vec<u8>]) -> Result<Outcome, NoMemory>
+    requires { AreBounded (limits_of command) (map (λ file. file.items) files.now) }
+    ensures { IfOk result (λ o. (ending : EndingData) × (o.status ≡ Status.Ended ending) × Answer command (map (λ file. file.items) files.now) ending o.text.items) }
 {
-    let name = command.file();
-    match read_file(alloc, folder, name, LARGEST_SOURCE) {
-        Ok(bytes) => answer(alloc, command, bytes.as_slice()),
-        Err(ReadEnd::TooLarge) => Ok(Outcome {
-            status: 10,
-            text: too_large_line(alloc, name)?,
+    match answer(alloc, command, files) {
+        Ok(text) => Ok(Outcome {
+            status: Status::Ended(Ending::Done),
+            text,
         }),
-        Err(ReadEnd::Fault) => Ok(Outcome {
-            status: 6,
-            text: cannot_read_line(alloc, name)?,
+        Err(Refusal::Line(ending, line)) => Ok(Outcome {
+            status: Status::Ended(ending),
+            text: line.into_bytes(),
         }),
-        Err(ReadEnd::NoMemory) => Err(NoMemory),
+        Err(Refusal::NoMemory) => Err(NoMemory),
+    }
+}
+
+/// The line for files that weren't read.
+fn unread(alloc: Global, end: Unread<'_>) -> Result<Outcome, NoMemory>
+    ensures { (row : Row) (told : List ℕ → Option (List ℕ)) (before now : List ℕ → ℕ) → IsUnreadFor (limits_of row.command) row.names told before now end.entry →
+        IfOk result (λ o. IsOutcome row told before now o.status o.text.items) }
+{
+    match end {
+        Unread::Fault(name) => Ok(Outcome {
+            status: Status::CannotRead,
+            text: cannot_read_line(alloc, name)?.into_bytes(),
+        }),
+        Unread::TooLarge(name) => Ok(Outcome {
+            status: Status::TooLarge,
+            text: too_large_line(alloc, name)?.into_bytes(),
+        }),
+        Unread::NoMemory => Err(NoMemory),
+    }
+}
+
+/// Reads the files of the row, and does what its command says.
+fn perform<F: Folder>(alloc: Global, folder: &mut F, words: Words<'_>) -> Result<Outcome, NoMemory>
+    requires { length (row_of words).names ≡ length (limits_of words.command) }
+    ensures { IfOk result (λ o. IsOutcome (row_of words.entry) (F.told folder.old) (F.faults folder.old) (F.faults folder.new) o.status o.text.items) }
+{
+    match read_files(alloc, folder, words.command.limits(), words.names) {
+        Ok(files) => ended(alloc, words.command, files.as_slice()),
+        Err(end) => unread(alloc, end),
     }
 }
 
 /// Writes the text, and gives the status, or that of a sink that failed.
-fn say<K: Sink>(sink: &mut K, status: u8, text: &str) -> u8
-    ensures { Says result status text.now (K.written sink.old) (K.written sink.new) (K.faults sink.old) (K.faults sink.new) }
+fn say<K: Sink>(sink: &mut K, status: Status, text: &[u8]) -> u8
+    ensures { Says result (status_of status) text.now (K.written sink.old) (K.written sink.new) (K.faults sink.old) (K.faults sink.new) }
 {
-    match write_all(sink, text.as_bytes()) {
-        Ok(()) => status,
-        Err(Fault) => 7,
+    match write_all(sink, text) {
+        Ok(()) => status.code(),
+        Err(Fault) => Status::CannotWrite.code(),
     }
 }
 
 /// Does what the words say, over this folder and this sink, and answers the exit status.
 ///
-/// The words are the command line without the program's name. Statuses: 0, the source was judged and accepted; 1, the source
-/// is refused as it stands; 2, no assignment of atomicities is admissible; 6, the file can't be read; 7, the text can't be
-/// written; 8, memory was refused; 9, the words are no row; 10, the file is over its limit. Each status but 0, 7 and 8 writes
-/// the one line that says why, and all texts go to the sink.
+/// The words are the command line without the program's name. Statuses: 0, the command was done and its text was written; 1,
+/// the source is refused as it stands; 2, no assignment of atomicities is admissible; 6, a file can't be read; 7, the text
+/// can't be written; 8, memory was refused; 9, the words are no row; 10, a file is over its limit. Each status but 0, 7 and 8
+/// writes the one line that says why, and all texts go to the sink.
 pub fn run<F: Folder, K: Sink>(alloc: Global, words: &[String], folder: &mut F, sink: &mut K) -> u8
     // Words that are no row: this path takes no memory, so it never answers 8.
     ensures usage { IsNoRow (map string_bytes words.now) → Says result 9 usage_line (K.written sink.old) (K.written sink.new) (K.faults sink.old) (K.faults sink.new) }
     ensures usage_only { result ≡ 9 → IsNoRow (map string_bytes words.now) }
 
     // A file that can't be read, a sink that fails, want of memory.
-    ensures cannot_read { (row : Row) → map string_bytes words.now ≡ words_of row → result ≡ 6 →
-        Rose (F.faults folder.old (file_of row)) (F.faults folder.new (file_of row)) × Appends (K.written sink.old) (K.written sink.new) (cannot_read_line (file_of row)) }
+    ensures cannot_read { (row : Row) → IsRow (map string_bytes words.now) row → result ≡ 6 →
+        WritesUnread row (F.faults folder.old) (F.faults folder.new) (K.written sink.old) (K.written sink.new) }
     ensures cannot_write { result ≡ 7 → Rose (K.faults sink.old) (K.faults sink.new) }
     ensures no_memory { result ≡ 8 → Keeps (K.written sink.old) (K.written sink.new) }
 
-    // The file is told: each status comes exactly where its fact holds, and the text is the one that belongs to it.
-    ensures exact { (row : Row) (file : List ℕ) → map string_bytes words.now ≡ words_of row → F.told folder.old (file_of row) ≡ Some file → IsExact file row result }
-    ensures text { (row : Row) (file : List ℕ) → map string_bytes words.now ≡ words_of row → F.told folder.old (file_of row) ≡ Some file →
-        Yields result ⊎ WritesAnswer file row result (K.written sink.old) (K.written sink.new) }
-    ensures front { (row : Row) (file : List ℕ) → map string_bytes words.now ≡ words_of row → F.told folder.old (file_of row) ≡ Some file → result ≡ 7 →
-        WritesFront file row (K.written sink.old) (K.written sink.new) }
+    // The files are told: each status comes exactly where its fact holds, and the text is the one that belongs to it.
+    ensures exact { (row : Row) (files : List (List ℕ)) → IsAsked (map string_bytes words.now) (F.told folder.old) row files → IsExact row files result }
+    ensures text { (row : Row) (files : List (List ℕ)) → IsAsked (map string_bytes words.now) (F.told folder.old) row files →
+        Yields result ⊎ WritesAnswer row files result (K.written sink.old) (K.written sink.new) }
+    ensures front { (row : Row) (files : List (List ℕ)) → IsAsked (map string_bytes words.now) (F.told folder.old) row files → result ≡ 7 →
+        WritesFront row files (F.faults folder.old) (F.faults folder.new) (K.written sink.old) (K.written sink.new) }
 
-    // Neither count rose or stands at its last value: the answer, or want of memory.
-    ensures complete { (row : Row) (file : List ℕ) → map string_bytes words.now ≡ words_of row → F.told folder.old (file_of row) ≡ Some file →
-        (Rose (F.faults folder.old (file_of row)) (F.faults folder.new (file_of row)) → ⊥) → (Rose (K.faults sink.old) (K.faults sink.new) → ⊥) →
-        (result ≡ 8) ⊎ WritesAnswer file row result (K.written sink.old) (K.written sink.new) }
+    // No count rose or stands at its last value: the answer, or want of memory.
+    ensures complete { (row : Row) (files : List (List ℕ)) → IsAsked (map string_bytes words.now) (F.told folder.old) row files →
+        ((name : List ℕ) → Contains row.names name → Rose (F.faults folder.old name) (F.faults folder.new name) → ⊥) → (Rose (K.faults sink.old) (K.faults sink.new) → ⊥) →
+        (result ≡ 8) ⊎ WritesAnswer row files result (K.written sink.old) (K.written sink.new) }
 {
-    let Some(command) = command_of(words) else {
-        return say(sink, 9, USAGE);
+    let Some(row) = words_of(words) else {
+        return say(sink, Status::Usage, USAGE);
     };
-    match perform(alloc, folder, command) {
-        Ok(outcome) => say(sink, outcome.status, outcome.text.as_str()),
-        Err(NoMemory) => 8,
+    match perform(alloc, folder, row) {
+        Ok(outcome) => say(sink, outcome.status, outcome.text.as_slice()),
+        Err(NoMemory) => Status::NoMemory.code(),
     }
 }

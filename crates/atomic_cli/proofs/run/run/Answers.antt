@@ -1,29 +1,39 @@
 use Rattle.std.proofs.Common.{map, string_bytes, subst}
-use Rattle.atomic_cli.specs.Commands.{row_of}
+use Rattle.atomic_cli.specs.Commands.{row_of, status_of}
 use Rattle.atomic_cli.specs.Said.{Says}
-use Rattle.atomic_cli.proofs.Runs.{Done, exact, answered, front}
+use Rattle.atomic_cli.proofs.Runs.{IsDone, exact, answered, front, unreadable, complete}
 use Rattle.atomic_cli.proofs.run.run.Given.{Over}
 use Rattle.atomic_cli.proofs.run.run.Goals as goal
 
-the_row : (g : Over) (c : goal.After-drop-outcome g) → Done (map string_bytes c.args.words.now) c.say-in-Ok.result (g.F.Folder.told c.args.folder.now) (g.F.Folder.faults c.args.folder.now) (g.F.Folder.faults c.perform.new.folder)
+the_row : (g : Over) (c : goal.After-drop-outcome g) → IsDone (map string_bytes c.args.words.now) c.say-in-Ok.result (g.F.Folder.told c.args.folder.now) (g.F.Folder.faults c.args.folder.now) (g.F.Folder.faults c.perform.new.folder)
     (g.K.Sink.written c.args.sink.now) (g.K.Sink.written c.say-in-Ok.new.sink) (g.K.Sink.faults c.args.sink.now) (g.K.Sink.faults c.say-in-Ok.new.sink)
 the_row g c = record {
-  row = row_of c.in-Some.command;
+  row = row_of c.in-Some.row;
   is_row = c.in-Some.ensures;
   status = c.in-Ok.outcome.status;
-  text = string_bytes c.in-Ok.outcome.text;
-  unreadable = c.in-Ok.ensures.unreadable;
-  answer = c.in-Ok.ensures.answer;
-  other = c.in-Ok.ensures.other;
-  said = subst (λ text. Says c.say-in-Ok.result c.in-Ok.outcome.status text (g.K.Sink.written c.args.sink.now) (g.K.Sink.written c.say-in-Ok.new.sink) (g.K.Sink.faults c.args.sink.now) (g.K.Sink.faults c.say-in-Ok.new.sink))
-      c.as_str.ensures.value c.say-in-Ok.ensures;
+  text = c.in-Ok.outcome.text.items;
+  outcome = c.in-Ok.ensures;
+  said = subst (λ text. Says c.say-in-Ok.result (status_of c.in-Ok.outcome.status) text (g.K.Sink.written c.args.sink.now) (g.K.Sink.written c.say-in-Ok.new.sink) (g.K.Sink.faults c.args.sink.now) (g.K.Sink.faults c.say-in-Ok.new.sink))
+      c.as_slice.ensures.value c.say-in-Ok.ensures;
 }
 
+pub returns-in-Ok-clause-usage : goal.returns-in-Ok-clause-usage
+returns-in-Ok-clause-usage g c = λ none. absurd (none (row_of c.in-Some.row) c.in-Some.ensures)
+
+pub returns-in-Err-clause-usage : goal.returns-in-Err-clause-usage
+returns-in-Err-clause-usage g c = λ none. absurd (none (row_of c.in-Some.row) c.in-Some.ensures)
+
 pub returns-in-Ok-clause-exact : goal.returns-in-Ok-clause-exact
-returns-in-Ok-clause-exact g c = λ row file is_row tells. exact _ _ _ _ _ _ _ _ _ (the_row g c) row file is_row tells
+returns-in-Ok-clause-exact g c = λ row files asked. exact _ _ _ _ _ _ _ _ _ (the_row g c) row files asked
 
 pub returns-in-Ok-clause-text : goal.returns-in-Ok-clause-text
-returns-in-Ok-clause-text g c = λ row file is_row tells. answered _ _ _ _ _ _ _ _ _ (the_row g c) row file is_row tells
+returns-in-Ok-clause-text g c = λ row files asked. answered _ _ _ _ _ _ _ _ _ (the_row g c) row files asked
 
 pub returns-in-Ok-clause-front : goal.returns-in-Ok-clause-front
-returns-in-Ok-clause-front g c = λ row file is_row tells. front _ _ _ _ _ _ _ _ _ (the_row g c) row file is_row tells
+returns-in-Ok-clause-front g c = λ row files asked. front _ _ _ _ _ _ _ _ _ (the_row g c) row files asked
+
+pub returns-in-Ok-clause-cannot_read : goal.returns-in-Ok-clause-cannot_read
+returns-in-Ok-clause-cannot_read g c = λ row is six. unreadable _ _ _ _ _ _ _ _ _ (the_row g c) row is six
+
+pub returns-in-Ok-clause-complete : goal.returns-in-Ok-clause-complete
+returns-in-Ok-clause-complete g c = λ row files asked calm sink_calm. complete _ _ _ _ _ _ _ _ _ (the_row g c) row files asked calm sink_calm

@@ -1,0 +1,24 @@
+-- What it means that code is a program's.
+use Rattle.std.specs.Prelude.{◌≡◌, ℕ, ◌≤◌, List, [], ◌∷◌, length, Some, is_some, slice_get}
+use Rattle.aj_core.specs.Core.{Program, Method}
+use Rattle.aj_core.specs.Typed.{IsTyped}
+use Rattle.aj_state.specs.Work.{St, Act, Ret}
+use Rattle.aj_compile.specs.declared.stack.Code.{Code}
+use Rattle.aj_compile.specs.Standing.{Stands}
+use Rattle.aj_compile.specs.Rooms.{Reached, stmt_room}
+
+-- Lines of code, with each method's entry and room, are the code of a program.
+pub record IsCodeOf (P : Program) (code : List Code) (entry room : List ℕ) : Type 0 where
+  -- each method has an entry and a room, in order
+  pub entries : length entry ≡ length P.methods
+  pub rooms : length room ≡ length P.methods
+  -- the entry, without a taken lock, stands for the method's body and then a return
+  pub stands : (m place : ℕ) (method : Method) → slice_get P.methods m ≡ Some method → slice_get entry m ≡ Some place →
+      Stands (is_some method.result) code place [] (St method.body ∷ Act Ret ∷ [])
+  -- the room is the greatest number of operands that stand while the body is done
+  pub most : (m most : ℕ) (method : Method) → slice_get P.methods m ≡ Some method → slice_get room m ≡ Some most →
+      most ≡ stmt_room method.body
+  -- in the code of a typed program no more operands than that stand at any place that is reached from the entry;
+  -- without typedness there may be no such number, since a loop could leave operands behind in each turn
+  pub bounds : IsTyped P → (m start most place n : ℕ) → slice_get entry m ≡ Some start → slice_get room m ≡ Some most →
+      Reached P code start place n → n ≤ most

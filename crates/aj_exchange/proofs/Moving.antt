@@ -1,0 +1,45 @@
+-- The exchange in runs of typed programs, and what the kinds mean.
+use Rattle.std.proofs.Common.{◌≡◌, ◌≢◌, ℕ, Bool, true, false, ◌||◌, length, refl, ap, Some}
+use Rattle.aj_core.specs.Core.{Program}
+use Rattle.aj_core.specs.Typed.{IsTyped}
+use Rattle.aj_state.specs.declared.value.StepKind.{StepKind}
+use Rattle.aj_state.specs.declared.value.StepKind.TheVariants.{Both, Right, Left, Other, Bare}
+use Rattle.aj_state.specs.States.{State}
+use Rattle.aj_steps.specs.Step.{Move, Moves, outcome, moved}
+use Rattle.aj_steps.specs.Words.{moves_right, moves_left}
+use Rattle.aj_exchange.specs.Movers.{MovesRight, MovesLeft}
+use Rattle.aj_exchange.specs.Sound.{IsSound}
+use Rattle.aj_exchange.specs.Swapped.{MayPass, started, Swapped}
+use Rattle.aj_exchange.proofs.SoundRuns.{final_guards, sound_orderly}
+use Rattle.aj_exchange.proofs.Swap.{swapped}
+
+pub exchange : (P : Program) → IsTyped P → (q : State) → IsSound q → (t u : ℕ) → t ≢ u → (m n : Move) → outcome P q t ≡ Moves m → outcome P (moved t m q) u ≡ Moves n → MayPass m.kind n.kind
+    → started (length q.threads) m.change ≢ Some u → Swapped P q t m u n
+exchange P typed q sound t u other m n first second p fresh = swapped P (final_guards P typed) q (sound_orderly q sound) t u (λ e. absurd (other e)) m n first second p (λ e. absurd (fresh e))
+
+-- what moves isn't Bare
+right_not_bare : (k : StepKind) → moves_right k ≡ true → k ≢ Bare
+right_not_bare Both e = λ b. cc
+right_not_bare Right e = λ b. cc
+right_not_bare Left e = absurd cc
+right_not_bare Other e = absurd cc
+right_not_bare Bare e = absurd cc
+
+left_not_bare : (k : StepKind) → moves_left k ≡ true → k ≢ Bare
+left_not_bare Both e = λ b. cc
+left_not_bare Left e = λ b. cc
+left_not_bare Right e = absurd cc
+left_not_bare Other e = absurd cc
+left_not_bare Bare e = absurd cc
+
+either : (a b : Bool) → b ≡ true → (a || b) ≡ true
+either true b e = refl
+either false b e = e
+
+pub right_mover : (P : Program) → IsTyped P → (q : State) → IsSound q → (t : ℕ) (m : Move) → outcome P q t ≡ Moves m → moves_right m.kind ≡ true → MovesRight P q t m
+right_mover P typed q sound t m first is = λ u n other second bare fresh.
+    exchange P typed q sound t u other m n first second (record { not_bare = right_not_bare m.kind is; also_not_bare = bare; passes = ap (λ b. b || moves_left n.kind) is }) fresh
+
+pub left_mover : (P : Program) → IsTyped P → (q : State) → IsSound q → (u : ℕ) (n : Move) → moves_left n.kind ≡ true → MovesLeft P q u n
+left_mover P typed q sound u n is = λ t m other first second bare fresh.
+    exchange P typed q sound t u other m n first second (record { not_bare = bare; also_not_bare = left_not_bare n.kind is; passes = either (moves_right m.kind) (moves_left n.kind) is }) fresh

@@ -1,0 +1,36 @@
+-- A change, part by part of the state.
+use Rattle.std.specs.Prelude.{ℤ, cond, List, [], ◌∷◌, ◌++◌, Option, Some, option_map}
+use Rattle.std.specs.FinMap as map
+use Rattle.std.specs.Ordering.{eq_by_cmp}
+use Rattle.aj_state.specs.declared.value.Address.{Address}
+use Rattle.aj_state.specs.Memory.{Object, Hold, Heap, Locks, address_cmp, with_value, with_field, with_lock}
+use Rattle.aj_state.specs.States.{Thread, Ready}
+use Rattle.aj_steps.specs.Step.{Change, FieldIs, ObjectIs, LockIs, Prints, Starts}
+
+abbrev pub on_heap : Change → Heap → Heap
+on_heap (FieldIs a i v) heap = with_field a i v heap
+on_heap (ObjectIs a o) heap = map.insert heap a o
+on_heap _ heap = heap
+
+abbrev pub on_locks : Change → Locks → Locks
+on_locks (LockIs a hold) locks = with_lock a hold locks
+on_locks _ locks = locks
+
+abbrev pub on_threads : Change → List Thread → List Thread
+on_threads (Starts a m) threads = threads ++ Ready a m ∷ []
+on_threads _ threads = threads
+
+abbrev pub on_output : Change → List ℤ → List ℤ
+on_output (Prints n) output = output ++ n ∷ []
+on_output _ output = output
+
+-- the object at an address after a change
+abbrev pub on_object : Change → Address → Option Object → Option Object
+on_object (FieldIs a i v) k o = cond (eq_by_cmp address_cmp k a) (option_map (with_value i v) o) o
+on_object (ObjectIs a p) k o = cond (eq_by_cmp address_cmp k a) (Some p) o
+on_object _ k o = o
+
+-- the hold of a lock after a change
+abbrev pub on_hold : Change → Address → Option Hold → Option Hold
+on_hold (LockIs a hold) k o = cond (eq_by_cmp address_cmp k a) hold o
+on_hold _ k o = o

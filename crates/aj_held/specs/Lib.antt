@@ -1,0 +1,1 @@
+-- The contracts of safe runs cite the definitions of the crates below alone.

@@ -1,0 +1,12 @@
+use Rattle.aj_safe.proofs.PhaseLemmas.{after_seq}
+use Rattle.aj_safe.proofs.Frames.{frames_move, frames_unfold}
+use Rattle.aj_safe.proofs.laws.unfolding_laws.Goals as goal
+
+pub returns-clause-sequence : goal.returns-clause-sequence
+returns-clause-sequence c = after_seq
+
+pub returns-clause-moves : goal.returns-clause-moves
+returns-clause-moves c = frames_move
+
+pub returns-clause-unfolds : goal.returns-clause-unfolds
+returns-clause-unfolds c = frames_unfold

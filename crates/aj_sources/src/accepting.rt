@@ -1,0 +1,42 @@
+//! Asks whether the rules accept a well-formed source.
+
+ghost use Rattle.std.specs.Prelude.{◌≡◌, ℕ, List, map, MatchResult};
+ghost use Rattle.aj_classes.specs.Views.{table_data};
+ghost use Rattle.aj_cond.specs.Conditions.{cond_of};
+ghost use Rattle.aj_core.specs.Views.{program_of};
+ghost use Rattle.aj_report.specs.Verdicts.{broken_line};
+ghost use Rattle.aj_sources.specs.Checking.{IsSourceOf};
+ghost use Rattle.aj_sources.specs.Refusals.{IsRight, Tells};
+ghost use Rattle.aj_sources.specs.Verdicts.{IsShownLeast, NoAccepted};
+
+use crate::checking::Source;
+use crate::refusal::{Ending, Refusal};
+use aj_classes::ClassTable;
+use aj_cond::{Tree, Trees};
+use aj_infer::{Broken, Inferred, infer, verdict};
+use aj_report::broken_text;
+use std::alloc::{AllocError as NoMemory, Global};
+
+/// The refusal of a source for a method whose bound is broken.
+fn refuse_broken(alloc: Global, table: &ClassTable, broken: &Broken) -> Refusal
+    ensures { Tells Ending.Inadmissible (broken_line (table_data table.now) broken.now.method broken.now.declared broken.now.found) result }
+{
+    match broken_text(alloc, table, broken) {
+        Ok(line) => Refusal::Line(Ending::Inadmissible, line),
+        Err(NoMemory) => Refusal::NoMemory,
+    }
+}
+
+/// The least closed assignment of an accepted source, as canonical trees; else the first method whose bound it breaks.
+pub fn accepted(alloc: Global, source: &Source) -> Result<Inferred<Tree>, Refusal>
+    requires { (file : List ℕ) × IsSourceOf file source.now }
+    ensures { (file : List ℕ) → IsSourceOf file source.now →
+        MatchResult result (λ inferred. IsShownLeast (program_of source.now.program) (map cond_of inferred.methods.items)) (IsRight (NoAccepted file)) }
+{
+    let mut trees = Trees::new();
+    let inferred = infer(alloc, &source.program, &source.sets, &mut trees)?;
+    match verdict(&source.program, &inferred, &trees) {
+        Ok(()) => Ok(inferred),
+        Err(broken) => Err(refuse_broken(alloc, &source.table, &broken)),
+    }
+}

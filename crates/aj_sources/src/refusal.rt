@@ -1,0 +1,67 @@
+//! How a command on files ends, and a refusal on the way.
+
+ghost use Rattle.std.specs.Prelude.{◌≡◌, ◌≤◌, length};
+ghost use Rattle.aj_report.specs.SourceFaults.{IsTold, source_fault_line};
+ghost use Rattle.aj_sources.specs.Refusals.{Tells};
+
+use aj_report::{SourceFault, source_fault_text};
+use std::alloc::{AllocError, AllocError as NoMemory, Global};
+
+/// How a command on files ends: done, or with the first refusal in the order of work.
+#[derive(Clone, Copy, Debug, PartialEq, Eq)]
+pub enum Ending {
+    /// The command was done.
+    Done,
+    /// The source is refused as it stands.
+    Refused,
+    /// No assignment of atomicities is admissible.
+    Inadmissible,
+}
+
+impl Ending {
+    ghost use Rattle.aj_sources.specs.Refusals.{code_of};
+
+    /// The exit status.
+    pub fn code(self) -> u8
+        ensures { result ≡ code_of self }
+    {
+        match self {
+            Ending::Done => 0,
+            Ending::Refused => 1,
+            Ending::Inadmissible => 2,
+        }
+    }
+}
+
+/// Why a command ends without its own text.
+#[derive(Drop)]
+pub enum Refusal {
+    /// How it ends, and the line that says why.
+    Line(Ending, String),
+    /// Memory was refused.
+    NoMemory,
+}
+
+impl From<AllocError> for Refusal {
+    ghost use Rattle.std.specs.Prelude.{◌≡◌};
+    ghost use Rattle.aj_sources.specs.declared.refusal.Refusal.TheVariants as refusal;
+
+    ghost from_gives = { λ _ e. e ≡ refusal.NoMemory };
+
+    fn from(_error: AllocError) -> Refusal {
+        Refusal::NoMemory
+    }
+}
+
+/// The refusal of a source for a fault of this text.
+pub fn refuse(alloc: Global, text: &str, fault: &SourceFault) -> Refusal
+    requires small { length text.now ≤ 262144 }
+    requires told { IsTold fault.now }
+    ensures line { Tells Ending.Refused (source_fault_line text.now fault.now) result }
+    ensures told { IsTold fault.now }
+{
+    match source_fault_text(alloc, text, fault) {
+        Ok(line) => Refusal::Line(Ending::Refused, line),
+        Err(NoMemory) => Refusal::NoMemory,
+    }
+}

@@ -1,0 +1,316 @@
+// Threads of the machine that runs code.
+ghost use Rattle.std.specs.Prelude.{◌≡◌, ◌<◌, ◌≤◌, ◌+◌, ◌-◌, ◌∷◌, [], max, reverse, length, map, Option, Some, None, true, IsTrue, IsSome, IsOk, IfOk, OnOk, OnErr, OnSome, IfNone, IfSome, slice_get, slice_set, MatchOption};
+ghost use Rattle.std.specs.Option.{option_map, option_copied};
+ghost use Rattle.aj_state.specs.Values.{under};
+ghost use Rattle.aj_state.specs.States.{ThreadOf, Ready, Running, Faulted};
+ghost use Rattle.aj_state.specs.Frames.{CellFrame, code_frame, code_thread, frames_in, top_frame, on_top, status_of, waiting_of, is_running, may_enter, popped, settled, settled_operands, first_frame, rest_of, slots_of, operands_of, taken_of};
+
+use crate::frame::FrameCell;
+use crate::value::{Address, Fault, ThreadState, Value};
+use aj_paths::MethodId;
+use std::alloc::{AllocError as NoMemory, Global};
+use std::marker::Model;
+
+/// A thread: its status, the object and method of a ready one, its innermost frame, and the frames below it, the
+/// outermost first. A contract sees each frame with its spare room.
+#[derive(Drop)]
+pub struct ThreadCell {
+    state: ThreadState,
+    on: Address,
+    method: MethodId,
+    top: Option<FrameCell>,
+    below: Vec<FrameCell>,
+}
+
+impl Model for ThreadCell {
+    ghost use Rattle.std.specs.Prelude.{reverse};
+    ghost use Rattle.aj_state.specs.States.{ThreadOf};
+    ghost use Rattle.aj_state.specs.Frames.{CellFrame, thread_of, frames_from, IsThread};
+    ghost use Rattle.aj_state.specs.Codes.{thread_code};
+
+    ghost Value = { ThreadOf CellFrame };
+
+    ghost coded = { thread_code };
+
+    ghost view = { λ t. thread_of t.state t.on t.method (frames_from t.top (reverse t.below.items)) };
+
+    ghost invariant = { λ t. IsThread t.state t.top t.below.items };
+}
+
+impl ThreadCell {
+    /// A thread that is ready to run a method on an object; takes no memory.
+    pub fn ready(alloc: Global, on: Address, method: MethodId) -> ThreadCell
+        ensures { result ≡ Ready on method }
+    {
+        ThreadCell {
+            state: ThreadState::Ready,
+            on,
+            method,
+            top: None,
+            below: Vec::new(alloc),
+        }
+    }
+
+    /// The status.
+    pub fn state(&self) -> ThreadState
+        ensures { result ≡ status_of self.now }
+    {
+        self.state
+    }
+
+    /// The number of frames.
+    pub fn frames(&self) -> usize
+        ensures { result ≡ length (frames_in self.now) }
+    {
+        match &self.top {
+            Some(_) => self.below.len() + 1,
+            None => 0,
+        }
+    }
+
+    /// The method of the top frame.
+    pub fn top(&self) -> Option<MethodId>
+        ensures { result ≡ option_map (λ f. f.method) (top_frame self.now) }
+    {
+        match &self.top {
+            Some(frame) => Some(frame.method()),
+            None => None,
+        }
+    }
+
+    /// The slots of the top frame; empty where there is none.
+    pub fn slots(&self) -> &[Value]
+        ensures { result.now ≡ slots_of (top_frame self.now) }
+    {
+        match &self.top {
+            Some(frame) => frame.slots(),
+            None => &[],
+        }
+    }
+
+    /// The operands of the top frame, the topmost last; empty where there is none.
+    pub fn operands(&self) -> &[Value]
+        ensures { result.now ≡ reverse (operands_of (top_frame self.now)) }
+    {
+        match &self.top {
+            Some(frame) => frame.operands(),
+            None => &[],
+        }
+    }
+
+    /// The object and the method of a ready thread.
+    pub fn waiting(&self) -> Option<(Address, MethodId)>
+        ensures { result ≡ waiting_of self.now }
+    {
+        match self.state {
+            ThreadState::Ready => Some((self.on, self.method)),
+            _ => None,
+        }
+    }
+
+    /// The place of the top frame in the code.
+    pub fn place(&self) -> Option<u32>
+        ensures { result ≡ option_map (λ f. f.place) (top_frame self.now) }
+    {
+        match &self.top {
+            Some(frame) => Some(frame.place()),
+            None => None,
+        }
+    }
+
+    /// The taken locks of the top frame, the first taken first; empty where there is none.
+    pub fn taken(&self) -> &[Address]
+        ensures { result.now ≡ reverse (taken_of (top_frame self.now)) }
+    {
+        match &self.top {
+            Some(frame) => frame.taken(),
+            None => &[],
+        }
+    }
+
+    /// The method of a frame; the outermost has the depth 0.
+    pub fn method_at(&self, depth: usize) -> Option<MethodId>
+        ensures { result ≡ option_map (λ f. f.method) (slice_get (reverse (frames_in self.now)) depth) }
+    {
+        match self.below.get(depth) {
+            Some(frame) => Some(frame.method()),
+            None if depth == self.below.len() => self.top(),
+            None => None,
+        }
+    }
+
+    /// A ready or running thread gets a frame more, with this much spare room, and runs.
+    pub fn push_frame(
+        &mut self,
+        alloc: Global,
+        method: MethodId,
+        slots: Vec<Value>,
+        place: u32,
+        room: u32,
+    ) -> Result<(), NoMemory>
+        requires { may_enter self.old ≡ true }
+        ensures ok { OnOk result (self.new ≡ Running (record { method = method; slots = slots.items; operands = []; place = place; taken = []; room = room } ∷ frames_in self.old)) }
+        ensures err { OnErr result (self.new ≡ self.old) }
+    {
+        let frame = FrameCell::new(alloc, method, slots, place, room)?;
+        if let Some(old) = self.top.take() {
+            if let Err(failed) = self.below.push(old) {
+                self.top = Some(failed.value);
+                return Err(NoMemory);
+            }
+        }
+        self.top = Some(frame);
+        self.state = ThreadState::Running;
+        Ok(())
+    }
+
+    /// A running thread loses its top frame; it is done where that was the last.
+    pub fn pop_frame(&mut self)
+        requires { is_running self.old ≡ true }
+        ensures { self.new ≡ popped self.old }
+    {
+        self.top = self.below.pop();
+        if self.top.is_none() {
+            self.state = ThreadState::Done;
+        }
+    }
+
+    /// A running thread is faulted and keeps its frames.
+    pub fn fault(&mut self, kind: Fault)
+        requires { is_running self.old ≡ true }
+        ensures { self.new ≡ Faulted kind (frames_in self.old) }
+    {
+        self.state = ThreadState::Faulted(kind);
+    }
+
+    /// The top frame goes on at a place.
+    pub fn go(&mut self, place: u32)
+        requires { IsSome (top_frame self.old) }
+        ensures { self.new ≡ on_top (λ f. record f { place = place }) self.old }
+    {
+        if let Some(frame) = &mut self.top {
+            frame.go(place);
+        }
+    }
+
+    /// Writes a slot that the top frame has.
+    pub fn set_slot(&mut self, slot: u16, v: Value)
+        requires { slot < length (slots_of (top_frame self.old)) }
+        ensures { self.new ≡ on_top (λ f. record f { slots = slice_set f.slots slot v }) self.old }
+    {
+        if let Some(frame) = &mut self.top {
+            frame.set_slot(slot, v);
+        }
+    }
+
+    /// Makes the spare room of the top frame at least n.
+    pub fn make_room(&mut self, n: u32) -> Result<(), NoMemory>
+        requires { IsSome (top_frame self.old) }
+        ensures ok { OnOk result (self.new ≡ on_top (λ f. record f { room = max n f.room }) self.old) }
+        ensures err { OnErr result (self.new ≡ self.old) }
+    {
+        match &mut self.top {
+            Some(frame) => frame.make_room(n),
+            None => Ok(()),
+        }
+    }
+
+    /// Puts a value on top of the operands of the top frame; takes no memory where there is spare room.
+    pub fn push(&mut self, v: Value) -> Result<(), NoMemory>
+        requires { IsSome (top_frame self.old) }
+        ensures ok { OnOk result (self.new ≡ on_top (λ f. record f { operands = v ∷ f.operands; room = f.room - 1 }) self.old) }
+        ensures err { OnErr result (self.new ≡ self.old) }
+        ensures spare { (f : CellFrame) → top_frame self.old ≡ Some f → 0 < f.room → IsOk result }
+    {
+        match &mut self.top {
+            Some(frame) => frame.push(v),
+            None => Ok(()),
+        }
+    }
+
+    /// Takes the topmost operand of the top frame.
+    pub fn pop(&mut self) -> Option<Value>
+        ensures value { result ≡ first_frame (operands_of (top_frame self.old)) }
+        ensures some { OnSome result (self.new ≡ on_top (λ f. record f { operands = under f.operands; room = f.room + 1 }) self.old) }
+        ensures none { IfNone result (self.new ≡ self.old) }
+    {
+        match &mut self.top {
+            Some(frame) => frame.pop(),
+            None => None,
+        }
+    }
+
+    /// The top frame drops its topmost operands, is given a value or none, and goes on at a place; takes no memory where
+    /// its operands and its spare room are enough for those that stand afterwards.
+    pub fn settle(&mut self, drops: usize, gives: Option<Value>, place: u32) -> Result<(), NoMemory>
+        requires { IsSome (top_frame self.old) }
+        ensures ok { OnOk result (self.new ≡ on_top (settled drops gives place) self.old) }
+        ensures err { OnErr result (self.new ≡ self.old) }
+        ensures spare { (f : CellFrame) → top_frame self.old ≡ Some f →
+            length (settled_operands drops gives f) ≤ length f.operands + f.room → IsOk result }
+    {
+        match &mut self.top {
+            Some(frame) => frame.settle(drops, gives, place),
+            None => Ok(()),
+        }
+    }
+
+    /// A lock becomes the last taken one of the top frame.
+    pub fn lock_taken(&mut self, a: Address) -> Result<(), NoMemory>
+        requires { IsSome (top_frame self.old) }
+        ensures ok { OnOk result (self.new ≡ on_top (λ f. record f { taken = a ∷ f.taken }) self.old) }
+        ensures err { OnErr result (self.new ≡ self.old) }
+    {
+        match &mut self.top {
+            Some(frame) => frame.lock_taken(a),
+            None => Ok(()),
+        }
+    }
+
+    /// Takes the last taken lock of the top frame off.
+    pub fn lock_given(&mut self) -> Option<Address>
+        ensures value { result ≡ first_frame (taken_of (top_frame self.old)) }
+        ensures new { self.new ≡ on_top (λ f. record f { taken = rest_of f.taken }) self.old }
+    {
+        match &mut self.top {
+            Some(frame) => frame.lock_given(),
+            None => None,
+        }
+    }
+
+    /// An equal thread, but for the spare rooms of its frames.
+    pub fn copy(&self, alloc: Global) -> Result<ThreadCell, NoMemory>
+        ensures { IfOk result (λ t. code_thread t ≡ code_thread self.now) }
+    {
+        let top = copy_top(alloc, self.top.as_ref())?;
+        let below = copy_frames(alloc, self.below.as_slice())?;
+        Ok(ThreadCell {
+            state: self.state,
+            on: self.on,
+            method: self.method,
+            top,
+            below,
+        })
+    }
+}
+
+/// An equal frame or none, but for its spare room.
+fn copy_top(alloc: Global, top: Option<&FrameCell>) -> Result<Option<FrameCell>, NoMemory>
+    ensures { IfOk result (λ o. option_map code_frame o ≡ option_map code_frame (option_copied top.entry)) }
+{
+    match top {
+        Some(frame) => Ok(Some(frame.copy(alloc)?)),
+        None => Ok(None),
+    }
+}
+
+/// Equal frames, but for their spare rooms.
+fn copy_frames(alloc: Global, frames: &[FrameCell]) -> Result<Vec<FrameCell>, NoMemory>
+    ensures { IfOk result (λ v. map code_frame v.items ≡ map code_frame frames.now) }
+{
+    let mut copies = Vec::with_capacity(alloc, frames.len())?;
+    for frame in frames {
+        copies.push(frame.copy(alloc)?)?;
+    }
+    Ok(copies)
+}
