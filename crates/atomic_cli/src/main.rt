@@ -9,6 +9,8 @@ mod print;
 mod run;
 mod status;
 #[cfg(test)]
+mod source_tests;
+#[cfg(test)]
 mod tests;
 
 use crate::run::run;
