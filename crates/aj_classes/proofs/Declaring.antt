@@ -39,15 +39,17 @@ right P (x ∷ xs) ys a = right P xs ys a.1
 module _ (P : Name → Type 0) where
   params_kept : (ps : List Param) → Each P (flat_map names_of_param ps) → Each P (param_names ps)
   params_kept [] a = tt
-  params_kept (p ∷ ps) a =
-      ((right P (names_of_type p.ty) (p.name ∷ []) (left P (names_of_param p) (flat_map names_of_param ps) a)).0,
-      params_kept ps (right P (names_of_param p) (flat_map names_of_param ps) a))
+  params_kept (p ∷ ps) a = (
+    (right P (names_of_type p.ty) (p.name ∷ []) (left P (names_of_param p) (flat_map names_of_param ps) a)).0,
+    params_kept ps (right P (names_of_param p) (flat_map names_of_param ps) a),
+  )
 
   own_fields_kept : (ms : List MemberTree) → Each P (flat_map names_of_member ms) → Each P (field_names ms)
   own_fields_kept [] a = tt
-  own_fields_kept (FieldM f ∷ ms) a =
-      ((right P (names_of_type f.ty) (f.name ∷ names_of_guard f.guard) (left P (names_of_member (FieldM f)) (flat_map names_of_member ms) a)).0,
-      own_fields_kept ms (right P (names_of_member (FieldM f)) (flat_map names_of_member ms) a))
+  own_fields_kept (FieldM f ∷ ms) a = (
+    (right P (names_of_type f.ty) (f.name ∷ names_of_guard f.guard) (left P (names_of_member (FieldM f)) (flat_map names_of_member ms) a)).0,
+    own_fields_kept ms (right P (names_of_member (FieldM f)) (flat_map names_of_member ms) a),
+  )
   own_fields_kept (CtorM n params sets ∷ ms) a = own_fields_kept ms (right P (names_of_member (CtorM n params sets)) (flat_map names_of_member ms) a)
   own_fields_kept (MethodM m ∷ ms) a = own_fields_kept ms (right P (names_of_member (MethodM m)) (flat_map names_of_member ms) a)
 
@@ -195,10 +197,13 @@ module _ (source : List ℕ) (tree : ProgramTree) (a : All (IsSliced source) (na
       (ap (λ z. slice_get z k) (sym (params_are names 0 tree)) ∙ mapped_at (λ m. m.params) (all_methods names 0 tree) k m.0 m.1) in
       let behind : (slot == 0) ≡ false = grind (arith, nat_tests) in
       let own : option_map (λ p. p.name) (slice_get m.0.params (slot - 1)) ≡ Some text =
-      subst (λ b. (if b then Some (codes "this") else option_map (λ p. p.name) (slice_get m.0.params (slot - 1))) ≡ Some text) behind m.2 in
-      (p.0, p.1, declared_at source (param_names p.0) (slot - 1) text (each_at (λ ps. Each (IsSliced source) (param_names ps)) (declared_params tree) k p.0 (all_params_kept (IsSliced source) tree sliced) p.1)
-      (ap (λ z. slice_get z (slot - 1)) (sym (param_texts names p.0)) ∙ ap (λ z. slice_get (map (λ p. p.name) z) (slot - 1)) p.2
-      ∙ slice_get-map (λ p. p.name) m.0.params (slot - 1) ∙ own))
+      subst (λ b. (if b then Some (codes "this") else option_map (λ p. p.name) (slice_get m.0.params (slot - 1))) ≡ Some text) behind m.2 in (
+        p.0,
+        p.1,
+        declared_at source (param_names p.0) (slot - 1) text (each_at (λ ps. Each (IsSliced source) (param_names ps)) (declared_params tree) k p.0 (all_params_kept (IsSliced source) tree sliced) p.1)
+            (ap (λ z. slice_get z (slot - 1)) (sym (param_texts names p.0)) ∙ ap (λ z. slice_get (map (λ p. p.name) z) (slot - 1)) p.2
+            ∙ slice_get-map (λ p. p.name) m.0.params (slot - 1) ∙ own),
+      )
 
 pub this_declared : (t : TableData) (k : ℕ) (text : List ℕ) → slot_title t k 0 ≡ Some text → text ≡ codes "this"
 this_declared t k text e = let m = and_then (slot_of 0) (slice_get t.methods k) text e in sym (some_same (codes "this") text m.2)

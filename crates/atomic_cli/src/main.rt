@@ -7,9 +7,9 @@ mod files;
 mod lines;
 mod print;
 mod run;
-mod status;
 #[cfg(test)]
 mod source_tests;
+mod status;
 #[cfg(test)]
 mod tests;
 
