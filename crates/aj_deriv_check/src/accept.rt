@@ -4,7 +4,7 @@ ghost use Rattle.aj_core.specs.Typed.{IsTyped};
 ghost use Rattle.aj_core.specs.Views.{program_of};
 ghost use Rattle.aj_deriv.specs.Books.{Book};
 ghost use Rattle.aj_deriv.specs.Views.{IsCursorAt};
-ghost use Rattle.aj_rules.specs.Near.{AreRelevant, AreFew, rel_of};
+ghost use Rattle.aj_rules.specs.Near.{AreRelevant, rel_of};
 ghost use Rattle.aj_deriv.specs.Faults.{first_fault};
 ghost use Rattle.aj_deriv.specs.Texts.{IsTextOf};
 ghost use Rattle.aj_deriv.specs.declared.stop.BookFault.{BookFault};
@@ -89,7 +89,6 @@ pub fn accept_text(
     requires short { length bytes.now ≤ 16777216 }
     requires typed { IsTyped (program_of program) }
     requires relevant { AreRelevant (program_of program) sets }
-    requires few { AreFew sets }
 
     // The program is checked, or the refusal hands it back with its cause.
     ensures checked { IfOk result (λ checked. checked ≡ (program, sets)) }
@@ -106,6 +105,7 @@ pub fn accept_text(
     ensures only_good { (book : Book) → IsTextOf bytes.now book → IsGoodBook (program_of program) (rel_of sets) book →
         IfErr result (λ refused. refused.why ≡ TextWrong.Wrong Wrong.Memory) }
 {
+    sets.few();
     match judged(alloc, &program, &sets, bytes) {
         Ok(()) => Ok(Checked { program, sets }),
         Err(why) => Err(RefusedText { program, sets, why }),

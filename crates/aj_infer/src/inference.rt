@@ -6,7 +6,7 @@ ghost use Rattle.aj_algebra.specs.HeldPaths.{Held};
 ghost use Rattle.aj_algebra.specs.Values.{Keeps};
 ghost use Rattle.aj_core.specs.Typed.{IsTyped};
 ghost use Rattle.aj_core.specs.Views.{program_of};
-ghost use Rattle.aj_rules.specs.Near.{AreRelevant, AreFew, rel_of};
+ghost use Rattle.aj_rules.specs.Near.{AreRelevant, rel_of};
 ghost use Rattle.aj_infer.specs.Tables.{assigned};
 ghost use Rattle.aj_infer.specs.Cells.{at_parts, tables_in, all_const};
 ghost use Rattle.aj_infer.specs.Least.{IsLeast};
@@ -35,7 +35,6 @@ pub fn infer<G: Algebra>(
 ) -> Result<Inferred<G::A>, NoMemory>
     requires count { length (program_of program.now).methods ≤ 2 ^ 32 }
     requires relevant { AreRelevant (program_of program.now) sets.now }
-    requires few { AreFew sets.now }
     ensures count { IfOk result (λ inferred. length inferred.methods.items ≡ length (program_of program.now).methods) }
     ensures known { IfOk result (λ inferred. AreKnown G.IsKnown algebra.new inferred.methods.items) }
     ensures least { IfOk result (λ inferred. IsTyped (program_of program.now) →
@@ -56,11 +55,11 @@ fn least_tables<'a, G: Algebra>(
 ) -> Result<Vec<Table>, NoMemory>
     requires count { length (program_of program.now).methods ≤ 2 ^ 32 }
     requires relevant { AreRelevant (program_of program.now) sets.now }
-    requires few { AreFew sets.now }
     ensures count { IfOk result (λ tables. length tables.items ≡ length (program_of program.now).methods) }
     ensures least { IfOk result (λ tables. IsTyped (program_of program.now) →
         IsLeast (program_of program.now) (rel_of sets.now) (assigned (rel_of sets.now) tables.items)) }
 {
+    sets.few();
     let tables = const_tables(alloc, sets, program.methods().len())?;
     let count = tables.len();
     let room = MOST_RISES * count as u64;

@@ -7,7 +7,7 @@ ghost use Rattle.aj_rules.specs.Limits.{IsFirstCrowded, is_crowded, parted_from}
 
 use crate::clauses::clauses_of;
 use crate::search::{near_paths, row};
-use crate::sets::{PathsOfMethod, RelevantSets};
+use crate::sets::{PartedPaths, PathsOfMethod, RelevantSets};
 use aj_core::CoreProgram;
 use aj_paths::{MethodId, Path};
 use std::alloc::{AllocError, AllocError as NoMemory, Global};
@@ -58,12 +58,12 @@ pub fn relevant(alloc: Global, program: &CoreProgram) -> Result<RelevantSets, Ru
     let sets = sets_of(alloc, program)?;
     match first_crowded(&sets, program.methods().len()) {
         Some(method) => Err(RuleEnd::TooManyLocks { method }),
-        None => Ok(sets),
+        None => Ok(RelevantSets { paths: sets }),
     }
 }
 
 /// The relevant sets, however large.
-fn sets_of(alloc: Global, program: &CoreProgram) -> Result<RelevantSets, NoMemory>
+fn sets_of(alloc: Global, program: &CoreProgram) -> Result<PartedPaths, NoMemory>
     requires { length (program_of program.now).methods ≤ 2 ^ 32 }
     ensures { IfOk result (λ sets. AreRelevant (program_of program.now) sets) }
 {
@@ -77,7 +77,7 @@ fn parted_sets(
     alloc: Global,
     program: &CoreProgram,
     near: &[Vec<Path>],
-) -> Result<RelevantSets, NoMemory>
+) -> Result<PartedPaths, NoMemory>
     ensures { IfOk result (λ sets. sets ≡ parted_from (rows_of near.now) 0 (program_of program.now).methods) }
 {
     let mut sets = Vec::new(alloc);
@@ -86,7 +86,7 @@ fn parted_sets(
         let params = methods[place].params.len();
         sets.push(parted(alloc, params, row(near, place))?)?;
     }
-    Ok(RelevantSets { methods: sets })
+    Ok(PartedPaths { methods: sets })
 }
 
 /// The near paths of a method with so many parameters, by their roots.
@@ -127,7 +127,7 @@ fn inner_paths(alloc: Global, params: usize, near: &[Path]) -> Result<Vec<Path>,
 }
 
 /// The first of so many methods that is past the limit.
-fn first_crowded(sets: &RelevantSets, count: usize) -> Option<MethodId>
+fn first_crowded(sets: &PartedPaths, count: usize) -> Option<MethodId>
     requires { count ≤ 2 ^ 32 }
     ensures crowded { IfSome result (λ m. (m < count) × (is_crowded sets.now m ≡ true)) }
     ensures before { IfSome result (λ m. (k : ℕ) → k < m → is_crowded sets.now k ≡ false) }
@@ -142,7 +142,7 @@ fn first_crowded(sets: &RelevantSets, count: usize) -> Option<MethodId>
     None
 }
 
-fn is_crowded(sets: &RelevantSets, method: MethodId) -> bool
+fn is_crowded(sets: &PartedPaths, method: MethodId) -> bool
     ensures { result ≡ is_crowded sets.now method }
 {
     MOST_LOCKS < sets.rel(method).len() || MOST_LOCKS < sets.loc(method).len()

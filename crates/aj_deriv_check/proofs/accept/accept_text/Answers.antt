@@ -11,8 +11,8 @@ invariant_of-result c =
     record {
       typed = c.requires.typed;
       relevant = c.requires.relevant;
-      few = c.requires.few;
-      accepted = book_accepts (program_of c.args.program) c.args.sets judged.0 c.requires.relevant c.requires.few judged.2;
+      few = c.few.ensures;
+      accepted = book_accepts (program_of c.args.program) c.args.sets judged.0 c.requires.relevant c.few.ensures judged.2;
     }
 
 pub returns-in-Ok-clause-only_fault : goal.returns-in-Ok-clause-only_fault

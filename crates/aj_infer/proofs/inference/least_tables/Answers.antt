@@ -30,7 +30,7 @@ invariant_of-cells-2 g c =
     let o = c.in_ok-tables.tables.ok in
     let len : c.len-count.result ≡ length tables = omega (arith, o, c.len-count.ensures) in
     let room = 1024 * c.len-count.result in
-    let cells = start_cells P c.args.sets.now tables (length c.methods.result.now) c.in_ok-tables.ensures all c.requires.count c.requires.few c.len-count.result room len refl in
+    let cells = start_cells P c.args.sets.now tables (length c.methods.result.now) c.in_ok-tables.ensures all c.requires.count c.few.ensures c.len-count.result room len refl in
     record {
       sound = subst (λ left. AreCells P rel tables room left c.in_ok-asked.asked.items) (sym c.in_ok-left.ensures)
           (subst (λ asked. AreCells P rel tables room (replicate c.len-count.result room) asked) (sym c.in_ok-asked.ensures) cells);
