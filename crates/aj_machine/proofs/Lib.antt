@@ -2,3 +2,5 @@ pub mod Simulation
 pub mod Runs
 mod Operands
 mod Lists
+mod Threads
+mod KindLemmas

@@ -5,3 +5,6 @@ pub mod Likeness
 pub mod Seen
 pub mod Listed
 pub mod Deeds
+pub mod Turns
+pub mod MachineValue
+pub mod Standing

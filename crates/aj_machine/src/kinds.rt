@@ -4,6 +4,7 @@ ghost use Rattle.std.specs.Option.{option_copied};
 ghost use Rattle.aj_core.specs.Views.{field_of};
 ghost use Rattle.aj_steps.specs.Step.{next_at, followed, holds_object, some_address, guarded_kind, mutable_kind, access_kind};
 ghost use Rattle.aj_machine.specs.CodeMachine.{deed_kind};
+ghost use Rattle.aj_machine.specs.Turns.{kind_done};
 ghost use Rattle.aj_machine.specs.Seen.{program_in, shared_in};
 
 use crate::decide::value_at;
@@ -119,5 +120,15 @@ pub(crate) fn deed_kind(seen: &Seen<'_>, deed: Deed) -> StepKind
         Deed::Gives { frees: true, .. } => StepKind::Left,
         Deed::Prints { .. } | Deed::Starts { .. } => StepKind::Other,
         _ => StepKind::Both,
+    }
+}
+
+/// The kind of what is done; none where the thread waits.
+fn kind_done(seen: &Seen<'_>, deed: Deed) -> Option<StepKind>
+    ensures { result ≡ kind_done (program_in seen.now) (shared_in seen.now) seen.now.thread deed }
+{
+    match deed {
+        Deed::Waits { .. } => None,
+        other => Some(deed_kind(seen, other)),
     }
 }
