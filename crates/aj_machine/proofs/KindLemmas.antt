@@ -1,18 +1,19 @@
 -- The kind of a turn, from a thread as it is kept.
-use Rattle.std.proofs.Common.{◌≡◌, ℕ, suc, List, [], ◌∷◌, length, refl, sym, ap, ◌∙◌}
+use Rattle.std.proofs.Common.{◌≡◌, ℕ, suc, List, [], ◌∷◌, length, refl, ap, ◌∙◌}
 use Rattle.std.specs.Prelude.{Option, Some, None, map, slice_get}
 use Rattle.aj_core.specs.Core.{Program, Method}
 use Rattle.aj_state.specs.declared.value.Address.{Address}
-use Rattle.aj_state.specs.declared.value.StepKind.{StepKind}
 use Rattle.aj_state.specs.declared.value.StepKind.TheVariants.{Both}
 use Rattle.aj_state.specs.States.{ThreadOf, Ready, Running, Done, Faulted}
-use Rattle.aj_state.specs.Frames.{CellFrame, CodeFrame, code_frame, code_thread}
+use Rattle.aj_state.specs.Frames.{CellFrame, CodeFrame, code_frame, code_thread, status_of}
 use Rattle.aj_compile.specs.declared.stack.Code.{Code}
 use Rattle.aj_steps.specs.Step.{Shared, kind_in}
 use Rattle.aj_machine.specs.declared.deed.Deed.{Deed}
 use Rattle.aj_machine.specs.declared.deed.Deed.TheVariants as deed
 use Rattle.aj_machine.specs.CodeMachine.{done, enter_first, code_turn, deed_at}
-use Rattle.aj_machine.specs.Turns.{cell_deed, line_deed, kind_done}
+use Rattle.aj_machine.specs.Turns.{cell_deed, line_deed, kind_done, cell_kind}
+use Rattle.aj_state.specs.declared.value.Fault.{Fault}
+use Rattle.aj_state.specs.declared.value.ThreadState.TheVariants as status
 
 done_kind : (P : Program) (see : Shared) (t : ℕ) (f : CodeFrame) (below : List CodeFrame) (d : Deed) → kind_in (done P see t f below d) ≡ kind_done P see t d
 done_kind P see t f below (deed.Fails kind) = refl
@@ -52,3 +53,37 @@ first_kind a m (Some method) (Some place) = refl
 
 pub ready_kind : (P : Program) (code : List Code) (entry room : List ℕ) (see : Shared) (t : ℕ) (a : Address) (m : ℕ) → kind_in (code_turn P code entry room see t (Some (Ready a m))) ≡ Some Both
 ready_kind P code entry room see t a m = first_kind a m (slice_get P.methods m) (slice_get entry m)
+
+-- by the status of the thread
+pub kind_ready : (P : Program) (code : List Code) (entry room : List ℕ) (see : Shared) (t : ℕ) (c : ThreadOf CellFrame) → status_of c ≡ status.Ready → cell_kind P code entry room see t c ≡ Some Both
+kind_ready P code entry room see t (Ready a m) e = refl
+kind_ready P code entry room see t (Running fs) e = absurd cc
+kind_ready P code entry room see t Done e = absurd cc
+kind_ready P code entry room see t (Faulted kind fs) e = absurd cc
+
+pub kind_running : (P : Program) (code : List Code) (entry room : List ℕ) (see : Shared) (t : ℕ) (c : ThreadOf CellFrame) → status_of c ≡ status.Running
+    → cell_kind P code entry room see t c ≡ kind_done P see t (cell_deed P code entry room see t c)
+kind_running P code entry room see t (Ready a m) e = absurd cc
+kind_running P code entry room see t (Running fs) e = refl
+kind_running P code entry room see t Done e = absurd cc
+kind_running P code entry room see t (Faulted kind fs) e = absurd cc
+
+pub kind_done_thread : (P : Program) (code : List Code) (entry room : List ℕ) (see : Shared) (t : ℕ) (c : ThreadOf CellFrame) → status_of c ≡ status.Done → cell_kind P code entry room see t c ≡ None
+kind_done_thread P code entry room see t (Ready a m) e = absurd cc
+kind_done_thread P code entry room see t (Running fs) e = absurd cc
+kind_done_thread P code entry room see t Done e = refl
+kind_done_thread P code entry room see t (Faulted kind fs) e = refl
+
+pub kind_faulted : (P : Program) (code : List Code) (entry room : List ℕ) (see : Shared) (t : ℕ) (k : Fault) (c : ThreadOf CellFrame) → status_of c ≡ status.Faulted k → cell_kind P code entry room see t c ≡ None
+kind_faulted P code entry room see t k (Ready a m) e = absurd cc
+kind_faulted P code entry room see t k (Running fs) e = absurd cc
+kind_faulted P code entry room see t k Done e = refl
+kind_faulted P code entry room see t k (Faulted kind fs) e = refl
+
+-- the kind of a turn is that of the thread as it is kept
+pub turn_kind : (P : Program) (code : List Code) (entry room : List ℕ) (see : Shared) (t : ℕ) (c : ThreadOf CellFrame)
+    → kind_in (code_turn P code entry room see t (Some (code_thread c))) ≡ cell_kind P code entry room see t c
+turn_kind P code entry room see t (Ready a m) = ready_kind P code entry room see t a m
+turn_kind P code entry room see t (Running fs) = running_kind P code entry room see t fs
+turn_kind P code entry room see t Done = refl
+turn_kind P code entry room see t (Faulted kind fs) = refl

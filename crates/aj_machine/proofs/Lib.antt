@@ -4,3 +4,4 @@ mod Operands
 mod Lists
 mod Threads
 mod KindLemmas
+mod KindOf

@@ -1,12 +1,11 @@
 -- Threads with and without the rooms of their frames.
-use Rattle.std.proofs.Common.{◌≡◌, ℕ, ◌+◌, List, [], ◌∷◌, refl, sym, ap, subst, ◌∙◌}
+use Rattle.std.proofs.Common.{◌≡◌, ℕ, ◌+◌, List, [], ◌∷◌, refl, sym, ap, ◌∙◌}
 use Rattle.std.specs.declared.alloc.AllocError.{AllocError}
 use Rattle.std.specs.Prelude.{Result, Ok, Err, OnOk, Option, Some, None, map}
 use Rattle.aj_core.specs.Core.{Method}
 use Rattle.aj_state.specs.declared.value.Value.{Value}
 use Rattle.aj_state.specs.States.{ThreadOf, Ready, Running, Done, Faulted, new_slots}
-use Rattle.aj_state.specs.Frames.{CellFrame, CodeFrame, code_frame, code_thread, frames_in, top_frame, on_first, on_top, popped, given, settled, operands_of}
-use Rattle.aj_machine.specs.CodeMachine.{code_frame_at}
+use Rattle.aj_state.specs.Frames.{CellFrame, code_frame, code_thread, frames_in, top_frame, on_first, on_top, popped, given, settled, operands_of}
 use Rattle.aj_state.specs.declared.value.Address.{Address}
 use Rattle.aj_machine.specs.Listed.{listed}
 use Rattle.aj_machine.specs.Turns.{first_thread}

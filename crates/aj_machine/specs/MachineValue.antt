@@ -1,6 +1,6 @@
 -- How a contract sees the machine: the program, its code, the state and the number of steps that were made.
-use Rattle.std.specs.Prelude.{◌≡◌, ℕ, ℤ, List, refl, map}
-use Rattle.std.specs.Coded.{Coded, code_by, coded×, coded_ℕ, coded_ℤ, coded_list}
+use Rattle.std.specs.Prelude.{ℕ, ℤ, List, refl, map}
+use Rattle.std.specs.Coded.{Coded, code_by, coded×, coded_ℤ, coded_list}
 use Rattle.std.specs.FinMap as finite
 use Rattle.aj_core.specs.declared.program.CoreProgram.{CoreProgram}
 use Rattle.aj_state.specs.Memory.{Heap, Locks}

@@ -1,5 +1,5 @@
 -- What the machine stands for, and what comes of a turn.
-use Rattle.std.specs.Prelude.{◌≡◌, ℕ, Result, Ok, Err, MatchResult}
+use Rattle.std.specs.Prelude.{◌≡◌, ℕ, Result, Err, MatchResult}
 use Rattle.aj_core.specs.Core.{Program}
 use Rattle.aj_core.specs.Views.{program_of}
 use Rattle.aj_state.specs.States.{State}

@@ -13,5 +13,5 @@ mod perform;
 mod seen;
 mod turn;
 
-pub(crate) use deed::Deed;
 pub use laws::code_laws;
+pub use machine::{Machine, StepEnd};

@@ -3,14 +3,15 @@ ghost use Rattle.std.specs.Prelude.{◌≡◌, ◌++◌, ◌∷◌, [], ◌+◌,
 ghost use Rattle.aj_core.specs.Views.{program_of};
 ghost use Rattle.aj_state.specs.States.{State, initial};
 ghost use Rattle.aj_compile.specs.IsCode.{IsCodeOf};
-ghost use Rattle.aj_steps.specs.Step.{outcome};
-ghost use Rattle.aj_machine.specs.MachineValue.{code_state};
-ghost use Rattle.aj_machine.specs.Standing.{program_run, StandsFor, IsTurn};
+ghost use Rattle.aj_steps.specs.Step.{kind_of};
+ghost use Rattle.aj_machine.specs.Standing.{program_run, StandsFor};
 
 use crate::act::object_values;
+use crate::kinds::cell_kind;
+use crate::seen::Seen;
 use aj_compile::CodeTable;
 use aj_core::CoreProgram;
-use aj_state::{Address, Fault, Heap, Locks, ThreadCell};
+use aj_state::{Address, Fault, Heap, Locks, StepKind, ThreadCell};
 use std::alloc::{AllocError as NoMemory, Global};
 use std::marker::Model;
 
@@ -49,10 +50,10 @@ impl<'p> Model for Machine<'p> {
     ghost coded = { Prim.hlevel (codes, statement.the_row.coded, state_code) };
 
     ghost view = { λ m. record {
-        program = m.program.now;
-        code = m.code.now;
-        state = record { heap = m.heap; locks = m.locks; threads = m.threads.items; output = m.output.items };
-        made = m.made;
+      program = m.program.now;
+      code = m.code.now;
+      state = record { heap = m.heap; locks = m.locks; threads = m.threads.items; output = m.output.items };
+      made = m.made;
     } };
 
     ghost invariant = { λ m. IsCodeOf (program_of m.program.now) m.code.now.code.items m.code.now.entry.items m.code.now.room.items };
@@ -123,6 +124,23 @@ impl<'p> Machine<'p> {
         ensures { result.now ≡ self.now.state.output }
     {
         self.output.as_slice()
+    }
+
+    /// The kind of a thread's next step; none exactly where it has none.
+    pub fn kind(&self, thread: u32) -> Option<StepKind>
+        ensures { (q : State) → StandsFor self.now q → result ≡ kind_of (program_run self.now) q thread }
+    {
+        let seen = Seen {
+            program: self.program,
+            code: self.code,
+            heap: &self.heap,
+            locks: &self.locks,
+            thread,
+        };
+        match self.threads.get(thread as usize) {
+            Some(cell) => cell_kind(&seen, cell),
+            None => None,
+        }
     }
 
     /// The number of steps that were made.

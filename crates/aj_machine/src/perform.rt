@@ -33,7 +33,13 @@ fn enters_found(
     if arguments == usize::MAX {
         return Err(NoMemory);
     }
-    let slots = slots_of(alloc, found.slots, Value::Ref(address), cell.operands(), arguments)?;
+    let slots = slots_of(
+        alloc,
+        found.slots,
+        Value::Ref(address),
+        cell.operands(),
+        arguments,
+    )?;
     cell.call(alloc, arguments + 1, place, method, slots, entry, room)
 }
 

@@ -13,4 +13,4 @@ returns-clause-ok c =
     let method = method_of c.args.found.now in
     let this = value.Ref c.args.address in
     entered_ok c.call.result c.args.method method this c.args.arguments c.args.place c.args.entry c.args.room c.in_ok-slots.slots.items c.args.cell.now c.call.new.self c.call.ensures.ok
-        (c.in_ok-slots.ensures method refl ∙ ap (λ ops. new_slots method this (listed c.args.arguments ops)) (ap reverse c.operands.ensures ∙ reverse-reverse (operands_of (top_frame c.args.cell.now))))
+    (c.in_ok-slots.ensures method refl ∙ ap (λ ops. new_slots method this (listed c.args.arguments ops)) (ap reverse c.operands.ensures ∙ reverse-reverse (operands_of (top_frame c.args.cell.now))))

@@ -7,4 +7,4 @@ use Rattle.aj_machine.proofs.turn.enters_first.Goals as goal
 pub returns-clause-ok : goal.returns-clause-ok
 returns-clause-ok c =
     first_ok c.push_frame.result c.args.address c.args.method (method_of c.args.found.now) (value.Ref c.args.address) c.args.entry c.args.room c.in_ok-slots.slots.items c.args.cell.now c.push_frame.new.self
-        c.requires c.push_frame.ensures.ok (c.in_ok-slots.ensures (method_of c.args.found.now) refl)
+    c.requires c.push_frame.ensures.ok (c.in_ok-slots.ensures (method_of c.args.found.now) refl)
