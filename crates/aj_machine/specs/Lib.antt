@@ -1,5 +1,5 @@
--- What the contracts of the machine cite. A reader of the public calls needs Likeness alone; CodeMachine has the machine
--- over code as definitions, on which its private functions stand.
+-- What the contracts of the machine cite. A reader of the public calls needs Likeness, MachineValue and Standing, in this
+-- order; the others have the machine over code as definitions, on which its private functions stand.
 pub mod CodeMachine
 pub mod Likeness
 pub mod Seen
