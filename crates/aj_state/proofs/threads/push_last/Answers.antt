@@ -1,4 +1,4 @@
-use Rattle.std.proofs.Common.{◌≡◌, ◌+◌, ◌-◌, length, vec_len, refl, arith}
+use Rattle.std.proofs.Common.{◌-◌, vec_len, refl, arith}
 use Rattle.aj_state.proofs.FrameLemmas.{given_last}
 use Rattle.aj_state.proofs.threads.push_last.Goals as goal
 
