@@ -3,3 +3,4 @@ mod Tables
 mod Titles
 mod Leasts
 mod Noting
+pub mod Declaring

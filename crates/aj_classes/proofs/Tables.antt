@@ -11,7 +11,8 @@ use Rattle.aj_syntax.specs.Trees.{MemberTree, FieldM, CtorM, MethodM, ClassTree,
 use Rattle.aj_classes.specs.Names.{has_text, texts_of, repeats, repeats_after, distinct_after, distinct}
 use Rattle.aj_classes.specs.Members.{class_names, field_names, method_names}
 use Rattle.aj_classes.specs.Faults.{twice_faults, class_faults, missing_main, faults_of}
-use Rattle.aj_classes.specs.Table.{ClassData, FieldData, MethodData, TableData, fields_of, methods_of, all_fields, all_methods, classes_from, table_of}
+use Rattle.aj_classes.specs.Seen.{FieldData}
+use Rattle.aj_classes.specs.Table.{ClassData, MethodData, TableData, fields_of, methods_of, all_fields, all_methods, classes_from, table_of}
 use Rattle.aj_classes.specs.Building.{PartsData, class_at, with_class, with_classes, no_parts}
 
 -- ---- nothing in a list
@@ -66,13 +67,13 @@ classes_are is_class f m (c ∷ cs) h =
 
 count_fields : (names : List (List ℕ)) (k : ℕ) (ms : List MemberTree) → length (fields_of names k ms) ≡ length (field_names ms)
 count_fields names k [] = refl
-count_fields names k (FieldM fin ty n guard ∷ ms) = ap suc (count_fields names k ms)
+count_fields names k (FieldM f ∷ ms) = ap suc (count_fields names k ms)
 count_fields names k (CtorM n params sets ∷ ms) = count_fields names k ms
 count_fields names k (MethodM m ∷ ms) = count_fields names k ms
 
 count_methods : (names : List (List ℕ)) (k : ℕ) (ms : List MemberTree) → length (methods_of names k ms) ≡ length (method_names ms)
 count_methods names k [] = refl
-count_methods names k (FieldM fin ty n guard ∷ ms) = count_methods names k ms
+count_methods names k (FieldM f ∷ ms) = count_methods names k ms
 count_methods names k (CtorM n params sets ∷ ms) = count_methods names k ms
 count_methods names k (MethodM m ∷ ms) = ap suc (count_methods names k ms)
 
@@ -125,7 +126,7 @@ table_is tree names p none names_are p_is =
 
 owned_by : (bound k : ℕ) (names : List (List ℕ)) (ms : List MemberTree) → k < bound → list_all (λ d. nat_lt d.class bound) (methods_of names k ms) ≡ true
 owned_by bound k names [] h = refl
-owned_by bound k names (FieldM fin ty n guard ∷ ms) h = owned_by bound k names ms h
+owned_by bound k names (FieldM f ∷ ms) h = owned_by bound k names ms h
 owned_by bound k names (CtorM n params sets ∷ ms) h = owned_by bound k names ms h
 owned_by bound k names (MethodM m ∷ ms) h =
     let e : nat_lt k bound ≡ true = grind (arith, nat_tests) in

@@ -4,8 +4,9 @@ use Rattle.aj_syntax.specs.Trees.{ClassTree, ProgramTree}
 use Rattle.aj_classes.specs.declared.build.Parts.{Parts}
 use Rattle.aj_classes.specs.Names.{distinct}
 use Rattle.aj_classes.specs.Members.{field_names, method_names}
-use Rattle.aj_classes.specs.Table.{ClassData, FieldData, MethodData, fields_of, methods_of}
-use Rattle.aj_classes.specs.Views.{class_data, field_data, method_data}
+use Rattle.aj_classes.specs.Seen.{FieldData}
+use Rattle.aj_classes.specs.Table.{ClassData, MethodData, fields_of, methods_of}
+use Rattle.aj_classes.specs.Views.{class_data, method_data}
 
 pub record PartsData : Type 0 where
   pub classes : List ClassData
@@ -15,7 +16,7 @@ pub record PartsData : Type 0 where
 abbrev pub parts_data : Parts → PartsData
 parts_data p = record {
   classes = map class_data p.classes.items;
-  fields = map field_data p.fields.items;
+  fields = p.fields.items;
   methods = map method_data p.methods.items;
 }
 

@@ -40,7 +40,7 @@ params_faults is_class params =
 
 -- of a member by itself
 abbrev pub member_faults : (List ℕ → Bool) → MemberTree → List ClassFault
-member_faults is_class (FieldM fin ty n guard) = type_faults is_class ty
+member_faults is_class (FieldM f) = type_faults is_class f.ty
 member_faults is_class (CtorM n params sets) = params_faults is_class params
 member_faults is_class (MethodM m) = result_faults is_class m.returns ++ params_faults is_class m.params
 
@@ -52,7 +52,7 @@ is_right class finals n params sets =
 -- of the constructors: each that isn't right, and each after a first one
 abbrev pub constructor_faults : Name → List (TypeName × Name) → Bool → List MemberTree → List ClassFault
 constructor_faults class finals later [] = []
-constructor_faults class finals later (FieldM fin ty n guard ∷ ms) = constructor_faults class finals later ms
+constructor_faults class finals later (FieldM f ∷ ms) = constructor_faults class finals later ms
 constructor_faults class finals later (CtorM n params sets ∷ ms) =
     if not later && is_right class finals n params sets
     then constructor_faults class finals true ms

@@ -3,6 +3,9 @@ pub mod Members
 pub mod Faults
 pub mod Noted
 pub mod Finals
+pub mod Seen
+pub mod Shows
 pub mod Table
 pub mod Views
 pub mod Building
+pub mod Declarations

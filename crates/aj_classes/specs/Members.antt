@@ -1,5 +1,5 @@
 -- The members of a class, by kind, in the order in which they are written.
-use Rattle.std.specs.Prelude.{ℕ, Bool, true, false, ◌&&◌, List, [], ◌∷◌, is_none, map, codes, bytes_eq}
+use Rattle.std.specs.Prelude.{ℕ, Bool, true, false, ◌&&◌, List, [], ◌∷◌, is_none, map, codes, bytes_eq, if◌then◌else◌}
 use Rattle.std.specs.List.{list_any}
 use Rattle.aj_syntax.specs.declared.tree.Name.{Name}
 use Rattle.aj_syntax.specs.declared.tree.Param.{Param}
@@ -18,14 +18,14 @@ class_names tree = map (λ c. c.name) tree
 -- the names of the fields
 abbrev pub field_names : List MemberTree → List Name
 field_names [] = []
-field_names (FieldM fin ty n guard ∷ ms) = n ∷ field_names ms
+field_names (FieldM f ∷ ms) = f.name ∷ field_names ms
 field_names (CtorM n params sets ∷ ms) = field_names ms
 field_names (MethodM m ∷ ms) = field_names ms
 
 -- the names of the methods
 abbrev pub method_names : List MemberTree → List Name
 method_names [] = []
-method_names (FieldM fin ty n guard ∷ ms) = method_names ms
+method_names (FieldM f ∷ ms) = method_names ms
 method_names (CtorM n params sets ∷ ms) = method_names ms
 method_names (MethodM m ∷ ms) = m.name ∷ method_names ms
 
@@ -36,14 +36,13 @@ param_names params = map (λ p. p.name) params
 -- the types and names of the final fields
 abbrev pub finals_of : List MemberTree → List (TypeName × Name)
 finals_of [] = []
-finals_of (FieldM true ty n guard ∷ ms) = (ty, n) ∷ finals_of ms
-finals_of (FieldM false ty n guard ∷ ms) = finals_of ms
+finals_of (FieldM f ∷ ms) = if f.is_final then (f.ty, f.name) ∷ finals_of ms else finals_of ms
 finals_of (CtorM n params sets ∷ ms) = finals_of ms
 finals_of (MethodM m ∷ ms) = finals_of ms
 
 -- whether a member is a constructor
 abbrev pub is_constructor : MemberTree → Bool
-is_constructor (FieldM fin ty n guard) = false
+is_constructor (FieldM f) = false
 is_constructor (CtorM n params sets) = true
 is_constructor (MethodM m) = false
 
@@ -74,7 +73,7 @@ is_bare m = is_none m.returns && (is_empty m.params && is_empty m.locks)
 
 -- whether a member is a method of this name that a thread can begin with
 abbrev pub is_entry : List ℕ → MemberTree → Bool
-is_entry text (FieldM fin ty n guard) = false
+is_entry text (FieldM f) = false
 is_entry text (CtorM n params sets) = false
 is_entry text (MethodM m) = bytes_eq m.name.text text && is_bare m
 

@@ -9,6 +9,7 @@ use Rattle.aj_syntax.specs.declared.tree.TypeName.TheVariants as Y
 use Rattle.aj_syntax.specs.Trees.{MemberTree, FieldM, CtorM, MethodM, ProgramTree}
 use Rattle.aj_classes.specs.Names.{texts_of}
 use Rattle.aj_classes.specs.Members.{class_names, field_names, method_names}
+pub use Rattle.aj_classes.specs.Seen.{FieldData, ParamData}
 
 -- a class: the number of its first field and of its first method, and the names of both in order
 pub record ClassData : Type 0 where
@@ -17,19 +18,6 @@ pub record ClassData : Type 0 where
   pub field_names : List (List ℕ)
   pub first_method : ℕ
   pub method_names : List (List ℕ)
-
--- a field, with the number of its class
-pub record FieldData : Type 0 where
-  pub class : ℕ
-  pub name : List ℕ
-  pub is_final : Bool
-  pub ty : CoreType
-
--- a parameter of a method
-pub record ParamData : Type 0 where
-  pub name : List ℕ
-  pub is_final : Bool
-  pub ty : CoreType
 
 -- a method, with the number of its class; no result is `void`
 pub record MethodData : Type 0 where
@@ -59,15 +47,15 @@ param_of classes p = record { name = p.name.text; is_final = p.is_final; ty = ty
 -- the fields of the class with number k
 abbrev pub fields_of : List (List ℕ) → ℕ → List MemberTree → List FieldData
 fields_of classes k [] = []
-fields_of classes k (FieldM fin ty n guard ∷ ms) =
-    record { class = k; name = n.text; is_final = fin; ty = type_of classes ty } ∷ fields_of classes k ms
+fields_of classes k (FieldM f ∷ ms) =
+    record { class = k; name = f.name.text; is_final = f.is_final; ty = type_of classes f.ty } ∷ fields_of classes k ms
 fields_of classes k (CtorM n params sets ∷ ms) = fields_of classes k ms
 fields_of classes k (MethodM m ∷ ms) = fields_of classes k ms
 
 -- the methods of the class with number k
 abbrev pub methods_of : List (List ℕ) → ℕ → List MemberTree → List MethodData
 methods_of classes k [] = []
-methods_of classes k (FieldM fin ty n guard ∷ ms) = methods_of classes k ms
+methods_of classes k (FieldM f ∷ ms) = methods_of classes k ms
 methods_of classes k (CtorM n params sets ∷ ms) = methods_of classes k ms
 methods_of classes k (MethodM m ∷ ms) =
     record { class = k; name = m.name.text; params = map (param_of classes) m.params; returns = option_map (type_of classes) m.returns }

@@ -5,7 +5,7 @@ ghost use Rattle.aj_syntax.specs.Views.{member_of, class_of};
 ghost use Rattle.aj_classes.specs.Names.{distinct};
 ghost use Rattle.aj_classes.specs.Members.{field_names, method_names};
 ghost use Rattle.aj_classes.specs.Table.{type_of, param_of, fields_of, methods_of};
-ghost use Rattle.aj_classes.specs.Views.{class_data, field_data, param_data, method_data};
+ghost use Rattle.aj_classes.specs.Views.{class_data, method_data};
 ghost use Rattle.aj_classes.specs.Building.{parts_data, class_at, with_class, with_classes, no_parts};
 
 use crate::entries::{ClassEntry, FieldEntry, MethodEntry, ParamEntry};
@@ -43,7 +43,7 @@ fn core_type(names: &NameSet, ty: &TypeName) -> Result<CoreType, NoMemory>
         TypeName::Int => Ok(CoreType::Int),
         TypeName::Boolean => Ok(CoreType::Boolean),
         TypeName::Class(name) => {
-            let index = names.number_of(name.text.as_str()).unwrap_or(0);
+            let index = names.number_of(name.text).unwrap_or(0);
             Ok(CoreType::Class(ClassId(number(index)?)))
         }
     }
@@ -58,11 +58,11 @@ fn result_type(names: &NameSet, returns: &Option<TypeName>) -> Result<Option<Cor
     }
 }
 
-fn param_entry(alloc: Global, names: &NameSet, param: &Param) -> Result<ParamEntry, NoMemory>
-    ensures { IfOk result (λ p. param_data p ≡ param_of names.now param.now) }
+fn param_entry<'a>(names: &NameSet, param: &Param<'a>) -> Result<ParamEntry<'a>, NoMemory>
+    ensures { IfOk result (λ p. p ≡ param_of names.now param.now) }
 {
     let ty = core_type(names, &param.ty)?;
-    let name = param.name.text.copy(alloc)?;
+    let name = param.name.text;
     Ok(ParamEntry {
         name,
         is_final: param.is_final,
@@ -70,32 +70,32 @@ fn param_entry(alloc: Global, names: &NameSet, param: &Param) -> Result<ParamEnt
     })
 }
 
-fn param_entries(
+fn param_entries<'a>(
     alloc: Global,
     names: &NameSet,
-    params: &[Param],
-) -> Result<Vec<ParamEntry>, NoMemory>
-    ensures { IfOk result (λ ps. map param_data ps.items ≡ map (param_of names.now) params.now) }
+    params: &[Param<'a>],
+) -> Result<Vec<ParamEntry<'a>>, NoMemory>
+    ensures { IfOk result (λ ps. ps.items ≡ map (param_of names.now) params.now) }
 {
     let mut entries = Vec::new(alloc);
     for param in params {
-        entries.push(param_entry(alloc, names, param)?)?;
+        let entry = param_entry(names, param)?;
+        entries.push(entry)?;
     }
     Ok(entries)
 }
 
-fn field_entry(
-    alloc: Global,
+fn field_entry<'a>(
     names: &NameSet,
     class: ClassId,
     is_final: bool,
     ty: &TypeName,
-    name: &Name,
-) -> Result<FieldEntry, NoMemory>
-    ensures { IfOk result (λ f. field_data f ≡ record { class = class; name = name.now.text; is_final = is_final; ty = type_of names.now ty.now }) }
+    name: &Name<'a>,
+) -> Result<FieldEntry<'a>, NoMemory>
+    ensures { IfOk result (λ f. f ≡ record { class = class; name = name.now.text; is_final = is_final; ty = type_of names.now ty.now }) }
 {
     let ty = core_type(names, ty)?;
-    let name = name.text.copy(alloc)?;
+    let name = name.text;
     Ok(FieldEntry {
         class,
         name,
@@ -104,19 +104,19 @@ fn field_entry(
     })
 }
 
-fn method_entry(
+fn method_entry<'a>(
     alloc: Global,
     names: &NameSet,
     class: ClassId,
-    name: &Name,
-    params: &[Param],
+    name: &Name<'a>,
+    params: &[Param<'a>],
     returns: &Option<TypeName>,
-) -> Result<MethodEntry, NoMemory>
+) -> Result<MethodEntry<'a>, NoMemory>
     ensures { IfOk result (λ m. method_data m ≡ record { class = class; name = name.now.text; params = map (param_of names.now) params.now; returns = option_map (type_of names.now) returns.now }) }
 {
     let returns = result_type(names, returns)?;
     let params = param_entries(alloc, names, params)?;
-    let name = name.text.copy(alloc)?;
+    let name = name.text;
     Ok(MethodEntry {
         class,
         name,
@@ -125,14 +125,13 @@ fn method_entry(
     })
 }
 
-fn add_fields(
-    alloc: Global,
+fn add_fields<'a>(
     names: &NameSet,
     class: ClassId,
-    members: &[Member],
-    fields: &mut Vec<FieldEntry>,
+    members: &[Member<'a>],
+    fields: &mut Vec<FieldEntry<'a>>,
 ) -> Result<(), NoMemory>
-    ensures { OnOk result (map field_data fields.new.items ≡ map field_data fields.old.items ++ fields_of names.now class (map member_of members.now)) }
+    ensures { OnOk result (fields.new.items ≡ fields.old.items ++ fields_of names.now class (map member_of members.now)) }
 {
     for member in members {
         if let Member::Field {
@@ -142,18 +141,19 @@ fn add_fields(
             ..
         } = member
         {
-            fields.push(field_entry(alloc, names, class, *is_final, ty, name)?)?;
+            let entry = field_entry(names, class, *is_final, ty, name)?;
+            fields.push(entry)?;
         }
     }
     Ok(())
 }
 
-fn add_methods(
+fn add_methods<'a>(
     alloc: Global,
     names: &NameSet,
     class: ClassId,
-    members: &[Member],
-    methods: &mut Vec<MethodEntry>,
+    members: &[Member<'a>],
+    methods: &mut Vec<MethodEntry<'a>>,
 ) -> Result<(), NoMemory>
     ensures { OnOk result (map method_data methods.new.items ≡ map method_data methods.old.items ++ methods_of names.now class (map member_of members.now)) }
 {
@@ -165,43 +165,44 @@ fn add_methods(
             ..
         } = member
         {
-            methods.push(method_entry(alloc, names, class, name, params.as_slice(), returns)?)?;
+            let entry = method_entry(alloc, names, class, name, params.as_slice(), returns)?;
+            methods.push(entry)?;
         }
     }
     Ok(())
 }
 
-fn field_set(alloc: Global, members: &[Member]) -> Result<NameSet, NoMemory>
+fn field_set<'a>(alloc: Global, members: &[Member<'a>]) -> Result<NameSet<'a>, NoMemory>
     ensures { IfOk result (λ s. s ≡ distinct (field_names (map member_of members.now))) }
 {
     let mut names = NameSet::new(alloc);
     for member in members {
         if let Member::Field { name, .. } = member {
-            names.add(alloc, name.text.as_str())?;
+            names.add(name.text)?;
         }
     }
     Ok(names)
 }
 
-fn method_set(alloc: Global, members: &[Member]) -> Result<NameSet, NoMemory>
+fn method_set<'a>(alloc: Global, members: &[Member<'a>]) -> Result<NameSet<'a>, NoMemory>
     ensures { IfOk result (λ s. s ≡ distinct (method_names (map member_of members.now))) }
 {
     let mut names = NameSet::new(alloc);
     for member in members {
         if let Member::Method { name, .. } = member {
-            names.add(alloc, name.text.as_str())?;
+            names.add(name.text)?;
         }
     }
     Ok(names)
 }
 
 // A class, where so many fields and methods stand before.
-fn class_entry(
+fn class_entry<'a>(
     alloc: Global,
-    class: &Class,
+    class: &Class<'a>,
     first_field: u32,
     first_method: u32,
-) -> Result<ClassEntry, NoMemory>
+) -> Result<ClassEntry<'a>, NoMemory>
     ensures { IfOk result (λ c. class_data c ≡ class_at first_field first_method (class_of class.now)) }
 {
     let members = class.members.as_slice();
@@ -220,14 +221,14 @@ fn class_entry(
 
 /// The parts of a table while classes are added.
 #[derive(Drop)]
-pub(crate) struct Parts {
-    pub(crate) classes: Vec<ClassEntry>,
-    pub(crate) fields: Vec<FieldEntry>,
-    pub(crate) methods: Vec<MethodEntry>,
+pub(crate) struct Parts<'a> {
+    pub(crate) classes: Vec<ClassEntry<'a>>,
+    pub(crate) fields: Vec<FieldEntry<'a>>,
+    pub(crate) methods: Vec<MethodEntry<'a>>,
 }
 
-impl Parts {
-    fn add(&mut self, alloc: Global, names: &NameSet, class: &Class) -> Result<(), NoMemory>
+impl<'a> Parts<'a> {
+    fn add(&mut self, alloc: Global, names: &NameSet, class: &Class<'a>) -> Result<(), NoMemory>
         ensures { OnOk result (parts_data self.new ≡ with_class names.now (class_of class.now) (parts_data self.old)) }
     {
         let id = ClassId(number(self.classes.len())?);
@@ -235,7 +236,7 @@ impl Parts {
         let first_method = number(self.methods.len())?;
         let entry = class_entry(alloc, class, first_field, first_method)?;
         let members = class.members.as_slice();
-        add_fields(alloc, names, id, members, &mut self.fields)?;
+        add_fields(names, id, members, &mut self.fields)?;
         add_methods(alloc, names, id, members, &mut self.methods)?;
         self.classes.push(entry)?;
         Ok(())
@@ -243,7 +244,11 @@ impl Parts {
 }
 
 /// The parts of the table of these classes.
-pub(crate) fn parts_of(alloc: Global, names: &NameSet, classes: &[Class]) -> Result<Parts, NoMemory>
+pub(crate) fn parts_of<'a>(
+    alloc: Global,
+    names: &NameSet,
+    classes: &[Class<'a>],
+) -> Result<Parts<'a>, NoMemory>
     ensures { IfOk result (λ p. parts_data p ≡ with_classes names.now no_parts (map class_of classes.now)) }
 {
     let mut parts = Parts {

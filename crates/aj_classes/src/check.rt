@@ -22,16 +22,15 @@ const MOST_FIELDS: usize = 32;
 const MOST_PARAMS: usize = 16;
 
 // Adds a name to those that were seen. A name that was seen before is a fault.
-fn see(
-    alloc: Global,
-    seen: &mut NameSet,
-    name: &Name,
+fn see<'a>(
+    seen: &mut NameSet<'a>,
+    name: &Name<'a>,
     first: Option<ClassFault>,
 ) -> Result<Option<ClassFault>, NoMemory>
     ensures fault { IfOk result (λ f. f ≡ (if has_text seen.old name.now.text then Some (earlier first (kind.Twice name.now.at)) else first)) }
     ensures seen { OnOk result (seen.new ≡ with_text seen.old name.now.text) }
 {
-    let is_new = seen.add(alloc, name.text.as_str())?;
+    let is_new = seen.add(name.text)?;
     if is_new {
         Ok(first)
     } else {
@@ -50,7 +49,7 @@ fn note_fields(
     let mut found = first;
     for member in members {
         if let Member::Field { name, .. } = member {
-            found = see(alloc, &mut seen, name, found)?;
+            found = see(&mut seen, name, found)?;
         }
     }
     Ok(found)
@@ -67,7 +66,7 @@ fn note_methods(
     let mut found = first;
     for member in members {
         if let Member::Method { name, .. } = member {
-            found = see(alloc, &mut seen, name, found)?;
+            found = see(&mut seen, name, found)?;
         }
     }
     Ok(found)
@@ -83,7 +82,7 @@ fn note_names(
     let mut seen = NameSet::new(alloc);
     let mut found = first;
     for param in params {
-        found = see(alloc, &mut seen, &param.name, found)?;
+        found = see(&mut seen, &param.name, found)?;
     }
     Ok(found)
 }
@@ -93,7 +92,7 @@ fn note_type(classes: &NameSet, ty: &TypeName, first: Option<ClassFault>) -> Opt
     ensures { result ≡ noted first (type_faults (has_text classes.now) ty.now) }
 {
     match ty {
-        TypeName::Class(name) if !classes.contains(name.text.as_str()) => {
+        TypeName::Class(name) if !classes.contains(name.text) => {
             ClassFault::UnknownClass(name.at).or_earlier(first)
         }
         _ => first,
@@ -133,7 +132,7 @@ fn note_excess(name: Option<&Name>, first: Option<ClassFault>) -> Option<ClassFa
 }
 
 // The name of the parameter with this number, counted from 0.
-fn param_at(params: &[Param], number: usize) -> Option<&Name>
+fn param_at<'p, 'a>(params: &'p [Param<'a>], number: usize) -> Option<&'p Name<'a>>
     ensures { option_map (λ n. n.now) result ≡ slice_get (param_names params.now) number }
 {
     match params.get(number) {
@@ -196,7 +195,7 @@ fn note_members(
 }
 
 // The field with this number, counted from 0.
-fn field_at(members: &[Member], number: usize) -> Option<&Name>
+fn field_at<'m, 'a>(members: &'m [Member<'a>], number: usize) -> Option<&'m Name<'a>>
     ensures { option_map (λ n. n.now) result ≡ slice_get (field_names (map member_of members.now)) number }
 {
     let mut left = number;
@@ -213,12 +212,15 @@ fn field_at(members: &[Member], number: usize) -> Option<&Name>
 
 /// A final field, which the constructor of its class assigns.
 #[derive(Clone, Copy)]
-struct FinalField<'a> {
-    ty: &'a TypeName,
-    name: &'a Name,
+struct FinalField<'m, 'a> {
+    ty: &'m TypeName<'a>,
+    name: &'m Name<'a>,
 }
 
-fn final_fields<'a>(alloc: Global, members: &'a [Member]) -> Result<Vec<FinalField<'a>>, NoMemory>
+fn final_fields<'m, 'a>(
+    alloc: Global,
+    members: &'m [Member<'a>],
+) -> Result<Vec<FinalField<'m, 'a>>, NoMemory>
     ensures { IfOk result (λ fs. map final_of fs.items ≡ finals_of (map member_of members.entry.now)) }
 {
     let mut finals = Vec::new(alloc);
@@ -241,7 +243,7 @@ fn is_same(one: &TypeName, other: &TypeName) -> bool
 {
     match (one, other) {
         (TypeName::Int, TypeName::Int) | (TypeName::Boolean, TypeName::Boolean) => true,
-        (TypeName::Class(m), TypeName::Class(n)) => m.text.is(n.text.as_str()),
+        (TypeName::Class(m), TypeName::Class(n)) => m.text == n.text,
         _ => false,
     }
 }
@@ -251,10 +253,11 @@ fn match_params(finals: &[FinalField], params: &[Param]) -> bool
 {
     let mut rest = params;
     for field in finals {
-        let Some((param, more)) = rest.split_first() else {
+        let [param, more @ ..] = rest else {
             return false;
         };
-        if !is_same(field.ty, &param.ty) || !field.name.text.is(param.name.text.as_str()) {
+        let name = field.name;
+        if !is_same(field.ty, &param.ty) || name.text != param.name.text {
             return false;
         }
         rest = more;
@@ -267,10 +270,11 @@ fn match_sets(finals: &[FinalField], sets: &[(Name, Name)]) -> bool
 {
     let mut rest = sets;
     for field in finals {
-        let Some(((target, value), more)) = rest.split_first() else {
+        let [(target, value), more @ ..] = rest else {
             return false;
         };
-        if !field.name.text.is(target.text.as_str()) || !field.name.text.is(value.text.as_str()) {
+        let name = field.name;
+        if name.text != target.text || name.text != value.text {
             return false;
         }
         rest = more;
@@ -289,7 +293,7 @@ fn is_right_constructor(
     ensures { result ≡ is_right class.now (map final_of finals.now) name.now params.now sets.now }
 {
     !finals.is_empty()
-        && name.text.is(class.text.as_str())
+        && name.text == class.text
         && match_params(finals, params)
         && match_sets(finals, sets)
 }
@@ -342,7 +346,7 @@ fn has_entry(members: &[Member], text: &str) -> bool
             ..
         } = member
         {
-            if name.text.is(text) && params.is_empty() && locks.is_empty() {
+            if name.text == text && params.is_empty() && locks.is_empty() {
                 return true;
             }
         }
@@ -425,7 +429,7 @@ fn begins_program(class: &Class) -> bool
     ensures { result ≡ is_main (class_of class.now) }
 {
     let members = class.members.as_slice();
-    class.name.text.is("Main") && !has_finals(members) && has_entry(members, "main")
+    class.name.text == "Main" && !has_finals(members) && has_entry(members, "main")
 }
 
 fn note_missing_main(classes: &[Class], first: Option<ClassFault>) -> Option<ClassFault>
@@ -440,10 +444,9 @@ fn note_missing_main(classes: &[Class], first: Option<ClassFault>) -> Option<Cla
 }
 
 // The names of classes that stand again. The set has then the names of all classes.
-fn note_class_names(
-    alloc: Global,
-    classes: &[Class],
-    names: &mut NameSet,
+fn note_class_names<'a>(
+    classes: &[Class<'a>],
+    names: &mut NameSet<'a>,
 ) -> Result<Option<ClassFault>, NoMemory>
     requires { names.old ≡ [] }
     ensures fault { IfOk result (λ f. f ≡ noted None (twice_faults (class_names (map class_of classes.now)))) }
@@ -451,24 +454,24 @@ fn note_class_names(
 {
     let mut found = None;
     for class in classes {
-        found = see(alloc, names, &class.name, found)?;
+        found = see(names, &class.name, found)?;
     }
     Ok(found)
 }
 
 /// The first fault of a program, if it has one. The set has then the names of its classes, each once, in order of
 /// first appearance.
-pub(crate) fn first_fault(
+pub(crate) fn first_fault<'a>(
     alloc: Global,
-    program: &Program,
-    names: &mut NameSet,
+    program: &Program<'a>,
+    names: &mut NameSet<'a>,
 ) -> Result<Option<ClassFault>, NoMemory>
     requires { names.old ≡ [] }
     ensures fault { IfOk result (λ f. f ≡ noted None (faults_of (program_of program.now))) }
     ensures names { OnOk result (names.new ≡ distinct (class_names (program_of program.now))) }
 {
     let classes = program.classes.as_slice();
-    let found = note_class_names(alloc, classes, names)?;
+    let found = note_class_names(classes, names)?;
     let found = note_classes(alloc, names, classes, found)?;
     Ok(note_missing_main(classes, found))
 }

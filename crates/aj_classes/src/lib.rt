@@ -5,11 +5,13 @@ mod build;
 mod check;
 mod entries;
 mod fault;
+mod laws;
 mod lookup;
 mod make;
 mod names;
 
 pub use entries::{ClassEntry, ClassTable, FieldEntry, MethodEntry, ParamEntry};
 pub use fault::ClassFault;
+pub use laws::declaration_laws;
 pub use make::table;
 pub use names::NameSet;

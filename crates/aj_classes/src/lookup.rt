@@ -2,12 +2,12 @@
 
 ghost use Rattle.std.specs.Prelude.{◌≡◌, ◌^◌, ◌<◌, length, map, slice_get, option_map, is_some, nat_lt};
 ghost use Rattle.aj_classes.specs.Table.{class_number, field_number, method_number, method_title, slot_title, field_in, method_in, slot_of};
-ghost use Rattle.aj_classes.specs.Views.{class_data, field_data, method_data, table_data};
+ghost use Rattle.aj_classes.specs.Views.{class_data, method_data, table_data};
 
 use crate::entries::{ClassEntry, ClassTable, FieldEntry, MethodEntry};
 use aj_paths::{ClassId, FieldId, MethodId};
 
-impl ClassEntry {
+impl<'a> ClassEntry<'a> {
     /// The number of the field with this name.
     pub(crate) fn field_named(&self, name: &str) -> Option<FieldId>
         ensures { result ≡ field_in name.now (class_data self.now) }
@@ -53,20 +53,20 @@ impl ClassEntry {
     }
 }
 
-impl MethodEntry {
+impl<'a> MethodEntry<'a> {
     /// The name of a slot: `this`, then the parameters.
-    pub(crate) fn slot_name(&self, slot: u16) -> Option<&str>
+    pub(crate) fn slot_name(&self, slot: u16) -> Option<&'a str>
         ensures { option_map (λ n. n.now) result ≡ slot_of slot (method_data self.now) }
     {
         if slot == 0 {
             return Some("this");
         }
         let param = self.params.get(slot as usize - 1)?;
-        Some(param.name.as_str())
+        Some(param.name)
     }
 }
 
-impl ClassTable {
+impl<'a> ClassTable<'a> {
     /// The class with this name.
     pub fn class_named(&self, name: &str) -> Option<ClassId>
         ensures { result ≡ class_number (table_data self.now) name.now }
@@ -90,59 +90,59 @@ impl ClassTable {
     }
 
     /// The classes, by their numbers.
-    pub fn classes(&self) -> &[ClassEntry]
+    pub fn classes(&self) -> &[ClassEntry<'a>]
         ensures { map class_data result.now ≡ (table_data self.now).classes }
     {
         self.classes.as_slice()
     }
 
     /// The fields of all classes, by their numbers.
-    pub fn fields(&self) -> &[FieldEntry]
-        ensures { map field_data result.now ≡ (table_data self.now).fields }
+    pub fn fields(&self) -> &[FieldEntry<'a>]
+        ensures { result.now ≡ (table_data self.now).fields }
     {
         self.fields.as_slice()
     }
 
     /// The methods of all classes, by their numbers.
-    pub fn methods(&self) -> &[MethodEntry]
+    pub fn methods(&self) -> &[MethodEntry<'a>]
         ensures { map method_data result.now ≡ (table_data self.now).methods }
     {
         self.methods.as_slice()
     }
 
     /// The name of a class.
-    pub fn class_name(&self, id: ClassId) -> Option<&str>
+    pub fn class_name(&self, id: ClassId) -> Option<&'a str>
         ensures { option_map (λ n. n.now) result ≡ slice_get (table_data self.now).names id }
     {
         self.names.name_at(id.0 as usize)
     }
 
     /// The name of a field.
-    pub fn field_name(&self, id: FieldId) -> Option<&str>
+    pub fn field_name(&self, id: FieldId) -> Option<&'a str>
         ensures { option_map (λ n. n.now) result ≡ option_map (λ f. f.name) (slice_get (table_data self.now).fields id) }
     {
         let field = self.fields.get(id.0 as usize)?;
-        Some(field.name.as_str())
+        Some(field.name)
     }
 
     /// The names of a method's class and of the method.
-    pub fn method_name(&self, id: MethodId) -> Option<(&str, &str)>
+    pub fn method_name(&self, id: MethodId) -> Option<(&'a str, &'a str)>
         ensures names { option_map (λ n. (n.0.now, n.1.now)) result ≡ method_title (table_data self.now) id }
         ensures found { is_some result ≡ nat_lt id (length (table_data self.now).methods) }
     {
         self.title(id)
     }
 
-    fn title(&self, id: MethodId) -> Option<(&str, &str)>
+    fn title(&self, id: MethodId) -> Option<(&'a str, &'a str)>
         ensures { option_map (λ n. (n.0.now, n.1.now)) result ≡ method_title (table_data self.now) id }
     {
         let method = self.methods.get(id.0 as usize)?;
         let class = self.class_name(method.class)?;
-        Some((class, method.name.as_str()))
+        Some((class, method.name))
     }
 
     /// The name of a slot of a method: `this` for slot 0, then the parameters.
-    pub fn slot_name(&self, method: MethodId, slot: u16) -> Option<&str>
+    pub fn slot_name(&self, method: MethodId, slot: u16) -> Option<&'a str>
         ensures { option_map (λ n. n.now) result ≡ slot_title (table_data self.now) method slot }
     {
         let method = self.methods.get(method.0 as usize)?;

@@ -20,7 +20,11 @@ use aj_syntax::Program;
 use std::alloc::{AllocError as NoMemory, Global};
 
 // The table of a program without faults, whose classes have these names.
-fn build(alloc: Global, program: &Program, names: NameSet) -> Result<ClassTable, NoMemory>
+fn build<'a>(
+    alloc: Global,
+    program: &Program<'a>,
+    names: NameSet<'a>,
+) -> Result<ClassTable<'a>, NoMemory>
     requires no_faults { faults_of (program_of program.now) ≡ [] }
     requires names { names ≡ distinct (class_names (program_of program.now)) }
     ensures { IfOk result (λ t. table_data t ≡ table_of (program_of program.now)) }
@@ -43,7 +47,7 @@ fn build(alloc: Global, program: &Program, names: NameSet) -> Result<ClassTable,
 /// The class table of a program, or its first fault: the one with the least offset, at one offset the one that
 /// `ClassFault` lists first but for `NoMain`, which is told only where there is no other. A program with more than
 /// 4294967295 classes, fields or methods has no room for their numbers: it is answered with `NoMemory`.
-pub fn table(alloc: Global, program: &Program) -> Result<ClassTable, ClassFault>
+pub fn table<'a>(alloc: Global, program: &Program<'a>) -> Result<ClassTable<'a>, ClassFault>
     ensures exact { MatchResult result (λ t. (faults_of (program_of program.now) ≡ []) × (table_data t ≡ table_of (program_of program.now))) (λ e. (e ≡ OutOfMemory) ⊎ IsFirstFault (program_of program.now) e) }
     ensures table_given { faults_of (program_of program.now) ≡ [] → MatchResult result (λ t. table_data t ≡ table_of (program_of program.now)) (λ e. e ≡ OutOfMemory) }
     ensures fault_given { (f : ClassFault) → IsFirstFault (program_of program.now) f → MatchResult result (λ _. ⊥) (λ e. (e ≡ f) ⊎ (e ≡ OutOfMemory)) }

@@ -7,22 +7,23 @@ use indexmap::IndexSet;
 use std::alloc::{AllocError as NoMemory, Global};
 use std::marker::Model;
 
-/// A set of names, seen in contracts as their texts in order of first appearance.
+/// A set of names, slices of the source, seen in contracts as their texts in order of first appearance.
 #[derive(Drop)]
-pub struct NameSet {
-    names: IndexSet<String>,
+pub struct NameSet<'a> {
+    names: IndexSet<&'a str>,
 }
 
-impl Model for NameSet {
-    ghost use Rattle.std.specs.Prelude.{ℕ, List, map, string_bytes};
+impl<'a> Model for NameSet<'a> {
+    ghost use Rattle.std.specs.Prelude.{ℕ, List, map};
+    ghost use Rattle.aj_classes.specs.Shows.{shows};
 
     ghost Value = { List (List ℕ) };
 
-    ghost view = { λ s. map string_bytes s.names.keys };
+    ghost view = { λ s. map shows s.names.keys };
 }
 
-impl NameSet {
-    pub fn new(alloc: Global) -> NameSet
+impl<'a> NameSet<'a> {
+    pub fn new(alloc: Global) -> NameSet<'a>
         ensures { result ≡ [] }
     {
         NameSet {
@@ -31,13 +32,12 @@ impl NameSet {
     }
 
     /// Adds a name, and says whether it is new. On `Err` the set is as before.
-    pub fn add(&mut self, alloc: Global, text: &str) -> Result<bool, NoMemory>
+    pub fn add(&mut self, text: &'a str) -> Result<bool, NoMemory>
         ensures is_new { IfOk result (λ is_new. is_new ≡ not (has_text self.old text.now)) }
         ensures names { OnOk result (self.new ≡ with_text self.old text.now) }
         ensures err { OnErr result (self.new ≡ self.old) }
     {
-        let name = String::from_str(alloc, text)?;
-        Ok(self.names.insert(name)?)
+        Ok(self.names.insert(text)?)
     }
 
     pub fn contains(&self, text: &str) -> bool
@@ -54,11 +54,11 @@ impl NameSet {
     }
 
     /// The name with this number.
-    pub fn name_at(&self, index: usize) -> Option<&str>
+    pub fn name_at(&self, index: usize) -> Option<&'a str>
         ensures { option_map (λ n. n.now) result ≡ slice_get self.now index }
     {
         let name = self.names.get_index(index)?;
-        Some(name.as_str())
+        Some(*name)
     }
 
     pub fn len(&self) -> usize

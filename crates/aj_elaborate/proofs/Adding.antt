@@ -5,11 +5,11 @@ use Rattle.aj_syntax.specs.declared.tree.Class.{Class}
 use Rattle.aj_syntax.specs.declared.tree.Member.{Member}
 use Rattle.aj_syntax.specs.Trees.{MemberTree, FieldM, CtorM, MethodM}
 use Rattle.aj_syntax.specs.Views.{member_of, class_of}
-use Rattle.aj_classes.specs.Table.{TableData, type_of}
+use Rattle.aj_classes.specs.Table.{TableData}
 use Rattle.aj_elaborate.specs.declared.fault.TypeFault.{TypeFault}
 use Rattle.aj_elaborate.specs.Gathered.{appended, with_field, with_method, index_after}
 use Rattle.aj_elaborate.specs.Noted.{noted}
-use Rattle.aj_elaborate.specs.Programs.{all_there, guard_path, method_core, fields_core, methods_core, member_faults, faults_from, all_fields, all_methods}
+use Rattle.aj_elaborate.specs.Programs.{all_there, guard_path, field_node, method_core, fields_core, methods_core, member_faults, faults_from, all_fields, all_methods}
 use Rattle.aj_elaborate.proofs.Called.{item_at}
 use Rattle.aj_elaborate.proofs.Gathering.{appended_more, appended_assoc, all_there_append}
 use Rattle.aj_elaborate.proofs.Noting.{noted_append}
@@ -17,14 +17,14 @@ use Rattle.aj_elaborate.proofs.Noting.{noted_append}
 module _ (t : TableData) where
   one_field : (k i : ℕ) (m : MemberTree) (ms : List MemberTree) (g : Option (List Field))
       → appended (with_field t k i m g) (all_there (fields_core t k (index_after m i) ms)) ≡ appended g (all_there (fields_core t k i (m ∷ ms)))
-  one_field k i (FieldM fin ty n guard) ms g =
-      appended_more g (option_map (λ p. record { class = k; index = i; is_final = fin; ty = type_of t.names ty; guard = p; writes_only = false }) (guard_path t k guard)) (all_there (fields_core t k (i + 1) ms))
+  one_field k i (FieldM f) ms g =
+      appended_more g (option_map (field_node t k i f) (guard_path t k f.guard)) (all_there (fields_core t k (i + 1) ms))
   one_field k i (CtorM n params sets) ms g = refl
   one_field k i (MethodM m) ms g = refl
 
   one_method : (k : ℕ) (m : MemberTree) (ms : List MemberTree) (g : Option (List Method))
       → appended (with_method t k m g) (all_there (methods_core t k ms)) ≡ appended g (all_there (methods_core t k (m ∷ ms)))
-  one_method k (FieldM fin ty n guard) ms g = refl
+  one_method k (FieldM f) ms g = refl
   one_method k (CtorM n params sets) ms g = refl
   one_method k (MethodM m) ms g = appended_more g (method_core t k m) (all_there (methods_core t k ms))
 

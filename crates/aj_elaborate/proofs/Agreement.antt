@@ -21,7 +21,7 @@ use Rattle.aj_classes.specs.Table.{TableData, ClassData, FieldData, MethodData, 
 use Rattle.aj_elaborate.specs.Rulings.{gain}
 use Rattle.aj_elaborate.specs.Locks.{lock_rule}
 use Rattle.aj_elaborate.specs.Rules.{field_named, numbered_field, method_named, numbered_method, parameter_types, final_types, fields_in}
-use Rattle.aj_elaborate.specs.Programs.{all_there, ascending, guard_path, method_scope, run_of}
+use Rattle.aj_elaborate.specs.Programs.{all_there, field_node, ascending, guard_path, method_scope, run_of}
 use Rattle.aj_elaborate.proofs.Complete.{front_empty, back_empty}
 use Rattle.aj_elaborate.proofs.Inversions.{same_some, map_of, and_then_of, and_of}
 use Rattle.aj_elaborate.proofs.TypedExprs.{IsFieldOf, IsMethodOf, IsMade, Agrees}
@@ -144,7 +144,7 @@ module _ (tree : ProgramTree) (P : Program) (b : IsBuilt tree P) where
         let class_of : FieldAt → ℕ = λ d. d.class in
         let all : map (λ f. f.class) P.fields ≡ map class_of (fields_at 0 tree) =
         told_alike (core_field the_table) (λ f. f.class) class_of
-        (λ d x h. ap (λ z. z.class) (sym (map_of (λ g. record { class = d.class; index = d.index; is_final = d.is_final; ty = type_of the_table.names d.ty; guard = g; writes_only = false }) (guard_path the_table d.class d.guard) x h).2))
+        (λ d x h. ap (λ z. z.class) (sym (map_of (field_node the_table d.class d.index d.field) (guard_path the_table d.class d.field.guard) x h).2))
         (fields_at 0 tree) P.fields b.fields in
         let before = map class_of place.fields_before in
         let middle = map class_of own in

@@ -15,11 +15,12 @@ use Rattle.aj_syntax.specs.declared.tree.Param.{Param}
 use Rattle.aj_syntax.specs.Trees.{MemberTree, FieldM, CtorM, MethodM, ClassTree, ProgramTree}
 use Rattle.aj_classes.specs.Names.{texts_of, has_text, repeats, repeats_after}
 use Rattle.aj_classes.specs.Members.{is_empty, is_bare, is_entry}
-use Rattle.aj_classes.specs.Table.{TableData, FieldData, type_of, param_of, table_of}
+use Rattle.aj_classes.specs.Seen.{FieldData}
+use Rattle.aj_classes.specs.Table.{TableData, type_of, param_of, table_of}
 use Rattle.aj_elaborate.specs.Rulings.{gain, both}
 use Rattle.aj_elaborate.specs.Locks.{lock_rule}
 use Rattle.aj_elaborate.specs.Stmts.{block_core}
-use Rattle.aj_elaborate.specs.Programs.{all_there, guard_path, method_scope, method_result, method_node, all_fields, all_methods, all_classes, run_of, main_class, main_method, program_node, core_of}
+use Rattle.aj_elaborate.specs.Programs.{all_there, guard_path, field_node, method_scope, method_result, method_node, all_fields, all_methods, all_classes, run_of, main_class, main_method, program_node, core_of}
 use Rattle.aj_elaborate.proofs.Inversions.{same_some, both_of, map_of, and_of}
 use Rattle.aj_elaborate.proofs.Parts.{Each, nothing_at, mapped_at, before_mapped, any_position, there_are}
 use Rattle.aj_elaborate.proofs.Places.{FieldAt, MethodAt, own_methods, fields_at, methods_at, field_entry, core_field, core_method, field_cores, method_cores, count_up}
@@ -72,17 +73,14 @@ pub record IsField (t : TableData) (P : Program) (n : ℕ) (d : FieldAt) : Type 
   pub is : slice_get P.fields n ≡ Some field
   pub class : field.class ≡ d.class
   pub index : field.index ≡ d.index
-  pub finality : field.is_final ≡ d.is_final
-  pub ty : field.ty ≡ type_of t.names d.ty
-  pub guard : guard_path t d.class d.guard ≡ Some field.guard
-  pub writes : field.writes_only ≡ false
-
-abbrev field_node : TableData → FieldAt → Option PathData → Field
-field_node t d g = record { class = d.class; index = d.index; is_final = d.is_final; ty = type_of t.names d.ty; guard = g; writes_only = false }
+  pub finality : field.is_final ≡ d.field.is_final
+  pub ty : field.ty ≡ type_of t.names d.field.ty
+  pub guard : guard_path t d.class d.field.guard ≡ Some field.guard
+  pub writes : field.writes_only ≡ d.field.writes_only
 
 abbrev pub field_is : (t : TableData) (P : Program) (n : ℕ) (d : FieldAt) (x : Field) → slice_get P.fields n ≡ Some x → core_field t d ≡ Some x → IsField t P n d
 field_is t P n d x is h =
-    let g = map_of (field_node t d) (guard_path t d.class d.guard) x h in
+    let g = map_of (field_node t d.class d.index d.field) (guard_path t d.class d.field.guard) x h in
     record {
       field = x;
       is = is;
@@ -123,7 +121,7 @@ params_alike names (p ∷ ps) = ap (λ z. type_of names p.ty ∷ z) (params_alik
 -- the numbers from this one on are those of these fields
 abbrev pub Reads : (ℕ → Bool) → (ℕ → Option CoreType) → List (List ℕ) → ℕ → List FieldAt → Type 0
 Reads p g names n [] = Unit {0}
-Reads p g names n (d ∷ ds) = (p n ≡ d.is_final) × (g n ≡ Some (type_of names d.ty)) × Reads p g names (n + 1) ds
+Reads p g names n (d ∷ ds) = (p n ≡ d.field.is_final) × (g n ≡ Some (type_of names d.field.ty)) × Reads p g names (n + 1) ds
 
 types_kept : (g : ℕ → Option CoreType) (n : ℕ) (ty : CoreType) (rest : List ℕ) (types : List CoreType) (entry : FieldData) (entries : List FieldData) (x y : Bool)
     → x ≡ y → g n ≡ Some ty → entry.ty ≡ ty → filter_map g rest ≡ map (λ f. f.ty) entries
@@ -137,8 +135,8 @@ pub types_read : (p : ℕ → Bool) (g : ℕ → Option CoreType) (names : List 
     → filter_map g (filter p (count_up n (length ds))) ≡ map (λ f. f.ty) (filter (λ f. f.is_final) (map (field_entry names) ds))
 types_read p g names n [] h = refl
 types_read p g names n (d ∷ ds) h =
-    types_kept g n (type_of names d.ty) (filter p (count_up (n + 1) (length ds))) [] (field_entry names d)
-    (filter (λ f. f.is_final) (map (field_entry names) ds)) (p n) d.is_final h.0 h.1 refl (types_read p g names (n + 1) ds h.2)
+    types_kept g n (type_of names d.field.ty) (filter p (count_up (n + 1) (length ds))) [] (field_entry names d)
+    (filter (λ f. f.is_final) (map (field_entry names) ds)) (p n) d.field.is_final h.0 h.1 refl (types_read p g names (n + 1) ds h.2)
 
 pub reads : (t : TableData) (P : Program) (n : ℕ) (ds : List FieldAt) → ((i m : ℕ) (d : FieldAt) → m ≡ n + i → slice_get ds i ≡ Some d → IsField t P m d)
     → Reads (λ f. is_final_at (slice_get P.fields f)) (λ f. field_type (slice_get P.fields f)) t.names n ds
@@ -148,7 +146,7 @@ reads t P n (d ∷ ds) h =
     (ap is_final_at k.is ∙ k.finality, ap field_type k.is ∙ ap Some k.ty, reads t P (n + 1) ds (λ i m e at h2. h (suc i) m e (omega (arith, at)) h2))
 
 pub none_final : (p : ℕ → Bool) (g : ℕ → Option CoreType) (names : List (List ℕ)) (n : ℕ) (ds : List FieldAt) → Reads p g names n ds
-    → Each (λ d. d.is_final ≡ false) ds → filter p (count_up n (length ds)) ≡ []
+    → Each (λ d. d.field.is_final ≡ false) ds → filter p (count_up n (length ds)) ≡ []
 none_final p g names n [] h k = refl
 none_final p g names n (d ∷ ds) h k =
     ap (λ b. cond b (n ∷ filter p (count_up (n + 1) (length ds))) (filter p (count_up (n + 1) (length ds)))) (h.0 ∙ k.0)
@@ -233,7 +231,7 @@ none_is (Some a) h = absurd (let e : false ≡ true = h in cc)
 pub entry_at : (text : List ℕ) (k : ℕ) (ms : List MemberTree) → list_any (is_entry text) ms ≡ true
     → (j : ℕ) × (d : MethodAt) × (slice_get (own_methods k ms) j ≡ Some d) × (d.method.name.text ≡ text) × (is_bare d.method ≡ true)
 entry_at text k [] = λ h. absurd (let e : false ≡ true = h in cc)
-entry_at text k (FieldM fin ty n guard ∷ ms) = entry_at text k ms
+entry_at text k (FieldM f ∷ ms) = entry_at text k ms
 entry_at text k (CtorM n params sets ∷ ms) = entry_at text k ms
 entry_at text k (MethodM m ∷ ms) =
     elim (is_entry text (MethodM m))

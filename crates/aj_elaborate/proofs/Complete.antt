@@ -263,16 +263,16 @@ module _ (t : TableData) where
 
   pub fields_there : (k i : ℕ) (ms : List MemberTree) → flat_map (member_faults t k) ms ≡ [] → AllSome (fields_core t k i ms)
   fields_there k i [] h = tt
-  fields_there k i (FieldM fin ty n guard ∷ ms) h = (
-    mapped_some _ (guard_path t k guard) (guard_there k guard (front_empty (guard_faults t k guard) (flat_map (member_faults t k) ms) h)),
-    fields_there k (i + 1) ms (back_empty (guard_faults t k guard) (flat_map (member_faults t k) ms) h),
+  fields_there k i (FieldM f ∷ ms) h = (
+    mapped_some _ (guard_path t k f.guard) (guard_there k f.guard (front_empty (guard_faults t k f.guard) (flat_map (member_faults t k) ms) h)),
+    fields_there k (i + 1) ms (back_empty (guard_faults t k f.guard) (flat_map (member_faults t k) ms) h),
   )
   fields_there k i (CtorM n params sets ∷ ms) h = fields_there k i ms h
   fields_there k i (MethodM m ∷ ms) h = fields_there k i ms (back_empty (method_faults t k m) (flat_map (member_faults t k) ms) h)
 
   pub methods_there : (k : ℕ) (ms : List MemberTree) → flat_map (member_faults t k) ms ≡ [] → AllSome (methods_core t k ms)
   methods_there k [] h = tt
-  methods_there k (FieldM fin ty n guard ∷ ms) h = methods_there k ms (back_empty (guard_faults t k guard) (flat_map (member_faults t k) ms) h)
+  methods_there k (FieldM f ∷ ms) h = methods_there k ms (back_empty (guard_faults t k f.guard) (flat_map (member_faults t k) ms) h)
   methods_there k (CtorM n params sets ∷ ms) h = methods_there k ms h
   methods_there k (MethodM m ∷ ms) h = (
     method_there k m (front_empty (method_faults t k m) (flat_map (member_faults t k) ms) h),

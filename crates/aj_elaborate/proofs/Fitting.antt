@@ -23,8 +23,3 @@ fit_end f none args xs i whole empty past so is =
     ∙ ap (fit_each (types_of args)) (sym none)
     ∙ ap (λ z. fit_each (types_of args) (f z)) (sym (drop_of_length-le xs past))
     ∙ so
-
--- some elements of a mapped list
-pub window_map : {A B : Type 0} (f : A → B) (all own : List A) (start count : ℕ) → own ≡ take count (drop start all) → map f own ≡ take count (drop start (map f all))
-window_map f all own start count is =
-    ap (map f) is ∙ sym (take-map f count (drop start all)) ∙ ap (take count) (sym (drop-map f start all))

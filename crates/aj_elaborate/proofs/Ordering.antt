@@ -10,7 +10,7 @@ use Rattle.aj_paths.specs.Paths.{PathData}
 use Rattle.aj_syntax.specs.Trees.{MemberTree, FieldM, CtorM, MethodM, ProgramTree}
 use Rattle.aj_classes.specs.Table.{TableData, type_of}
 use Rattle.aj_elaborate.specs.Order.{Ascends}
-use Rattle.aj_elaborate.specs.Programs.{all_there, guard_path, fields_core, all_fields, all_classes, run_of}
+use Rattle.aj_elaborate.specs.Programs.{all_there, field_node, guard_path, fields_core, all_fields, all_classes, run_of}
 use Rattle.aj_elaborate.proofs.Called.{item_at}
 use Rattle.aj_elaborate.specs.Rulings.{both}
 
@@ -83,8 +83,8 @@ field_ascends t k i fin (Some g) rest make same h = (omega (arith, same g), subs
 
 members_ascend : (t : TableData) (k i : ℕ) (ms : List MemberTree) (rest : List (Option Field)) → AllAscend k rest → AllAscend k (fields_core t k i ms ++ rest)
 members_ascend t k i [] rest h = h
-members_ascend t k i (FieldM fin ty n guard ∷ ms) rest h =
-    field_ascends t k i fin (guard_path t k guard) (fields_core t k (i + 1) ms ++ rest) (λ g. record { class = k; index = i; is_final = fin; ty = type_of t.names ty; guard = g; writes_only = false }) (λ g. refl) (members_ascend t k (i + 1) ms rest h)
+members_ascend t k i (FieldM f ∷ ms) rest h =
+    field_ascends t k i f.is_final (guard_path t k f.guard) (fields_core t k (i + 1) ms ++ rest) (field_node t k i f) (λ g. refl) (members_ascend t k (i + 1) ms rest h)
 members_ascend t k i (CtorM n params sets ∷ ms) rest h = members_ascend t k i ms rest h
 members_ascend t k i (MethodM m ∷ ms) rest h = members_ascend t k i ms rest h
 

@@ -7,12 +7,13 @@ use Rattle.aj_core.specs.Core.{Field, Method}
 use Rattle.aj_core.specs.Typed.{fields_from}
 use Rattle.aj_syntax.specs.declared.tree.Name.{Name}
 use Rattle.aj_syntax.specs.declared.tree.TypeName.{TypeName}
-use Rattle.aj_syntax.specs.Trees.{LockTree, MethodTree, MemberTree, FieldM, CtorM, MethodM, ClassTree, ProgramTree}
+use Rattle.aj_syntax.specs.Trees.{LockTree, MethodTree, FieldTree, MemberTree, FieldM, CtorM, MethodM, ClassTree, ProgramTree}
 use Rattle.aj_classes.specs.Names.{texts_of}
 use Rattle.aj_classes.specs.Members.{field_names, method_names}
-use Rattle.aj_classes.specs.Table.{TableData, ClassData, FieldData, MethodData, type_of, param_of, fields_of, methods_of, classes_from, table_of}
+use Rattle.aj_classes.specs.Table.{TableData, ClassData, MethodData, type_of, param_of, fields_of, methods_of, classes_from, table_of}
+use Rattle.aj_classes.specs.Seen.{FieldData}
 use Rattle.aj_classes.specs.Table as table
-use Rattle.aj_elaborate.specs.Programs.{guard_path, method_core, fields_core, methods_core, all_fields, all_methods}
+use Rattle.aj_elaborate.specs.Programs.{guard_path, field_node, method_core, fields_core, methods_core, all_fields, all_methods}
 use Rattle.aj_elaborate.proofs.Inversions.{same_some}
 use Rattle.aj_elaborate.proofs.Parts.{Each, each_both, each_along, nothing_at}
 
@@ -22,17 +23,14 @@ use Rattle.aj_elaborate.proofs.Parts.{Each, each_both, each_along, nothing_at}
 pub record FieldAt : Type 0 where
   pub class : ℕ
   pub index : ℕ
-  pub is_final : Bool
-  pub ty : TypeName
-  pub name : Name
-  pub guard : Option LockTree
+  pub field : FieldTree
 
 pub record MethodAt : Type 0 where
   pub class : ℕ
   pub method : MethodTree
 
-abbrev field_at : ℕ → ℕ → Bool → TypeName → Name → Option LockTree → FieldAt
-field_at k i fin ty n guard = record { class = k; index = i; is_final = fin; ty = ty; name = n; guard = guard }
+abbrev field_at : ℕ → ℕ → FieldTree → FieldAt
+field_at k i f = record { class = k; index = i; field = f }
 
 abbrev method_at : ℕ → MethodTree → MethodAt
 method_at k m = record { class = k; method = m }
@@ -40,14 +38,13 @@ method_at k m = record { class = k; method = m }
 -- the fields of the class with number k, the first of which has this index
 abbrev pub own_fields : ℕ → ℕ → List MemberTree → List FieldAt
 own_fields k i [] = []
-own_fields k i (FieldM fin ty n guard ∷ ms) =
-    record { class = k; index = i; is_final = fin; ty = ty; name = n; guard = guard } ∷ own_fields k (i + 1) ms
+own_fields k i (FieldM f ∷ ms) = record { class = k; index = i; field = f } ∷ own_fields k (i + 1) ms
 own_fields k i (CtorM n params sets ∷ ms) = own_fields k i ms
 own_fields k i (MethodM m ∷ ms) = own_fields k i ms
 
 abbrev pub own_methods : ℕ → List MemberTree → List MethodAt
 own_methods k [] = []
-own_methods k (FieldM fin ty n guard ∷ ms) = own_methods k ms
+own_methods k (FieldM f ∷ ms) = own_methods k ms
 own_methods k (CtorM n params sets ∷ ms) = own_methods k ms
 own_methods k (MethodM m ∷ ms) = record { class = k; method = m } ∷ own_methods k ms
 
@@ -63,7 +60,7 @@ methods_at k (c ∷ cs) = own_methods k c.members ++ methods_at (k + 1) cs
 -- ---- what they are in the table and in the core
 
 abbrev pub field_entry : List (List ℕ) → FieldAt → FieldData
-field_entry names d = record { class = d.class; name = d.name.text; is_final = d.is_final; ty = type_of names d.ty }
+field_entry names d = record { class = d.class; name = d.field.name.text; is_final = d.field.is_final; ty = type_of names d.field.ty }
 
 abbrev pub method_entry : List (List ℕ) → MethodAt → MethodData
 method_entry names d = record {
@@ -75,14 +72,14 @@ method_entry names d = record {
 
 abbrev pub core_field : TableData → FieldAt → Option Field
 core_field t d =
-    option_map (λ g. record { class = d.class; index = d.index; is_final = d.is_final; ty = type_of t.names d.ty; guard = g; writes_only = false }) (guard_path t d.class d.guard)
+    option_map (field_node t d.class d.index d.field) (guard_path t d.class d.field.guard)
 
 abbrev pub core_method : TableData → MethodAt → Option Method
 core_method t d = method_core t d.class d.method
 
 own_entries : (names : List (List ℕ)) (k i : ℕ) (ms : List MemberTree) → fields_of names k ms ≡ map (field_entry names) (own_fields k i ms)
 own_entries names k i [] = refl
-own_entries names k i (FieldM fin ty n guard ∷ ms) = ap (λ z. field_entry names (field_at k i fin ty n guard) ∷ z) (own_entries names k (i + 1) ms)
+own_entries names k i (FieldM f ∷ ms) = ap (λ z. field_entry names (field_at k i f) ∷ z) (own_entries names k (i + 1) ms)
 own_entries names k i (CtorM n params sets ∷ ms) = own_entries names k i ms
 own_entries names k i (MethodM m ∷ ms) = own_entries names k i ms
 
@@ -94,7 +91,7 @@ field_entries names k (c ∷ cs) =
 
 own_method_entries : (names : List (List ℕ)) (k : ℕ) (ms : List MemberTree) → methods_of names k ms ≡ map (method_entry names) (own_methods k ms)
 own_method_entries names k [] = refl
-own_method_entries names k (FieldM fin ty n guard ∷ ms) = own_method_entries names k ms
+own_method_entries names k (FieldM f ∷ ms) = own_method_entries names k ms
 own_method_entries names k (CtorM n params sets ∷ ms) = own_method_entries names k ms
 own_method_entries names k (MethodM m ∷ ms) = ap (λ z. method_entry names (method_at k m) ∷ z) (own_method_entries names k ms)
 
@@ -106,7 +103,7 @@ method_entries names k (c ∷ cs) =
 
 own_cores : (t : TableData) (k i : ℕ) (ms : List MemberTree) → fields_core t k i ms ≡ map (core_field t) (own_fields k i ms)
 own_cores t k i [] = refl
-own_cores t k i (FieldM fin ty n guard ∷ ms) = ap (λ z. core_field t (field_at k i fin ty n guard) ∷ z) (own_cores t k (i + 1) ms)
+own_cores t k i (FieldM f ∷ ms) = ap (λ z. core_field t (field_at k i f) ∷ z) (own_cores t k (i + 1) ms)
 own_cores t k i (CtorM n params sets ∷ ms) = own_cores t k i ms
 own_cores t k i (MethodM m ∷ ms) = own_cores t k i ms
 
@@ -118,7 +115,7 @@ field_cores t k (c ∷ cs) =
 
 own_method_cores : (t : TableData) (k : ℕ) (ms : List MemberTree) → methods_core t k ms ≡ map (core_method t) (own_methods k ms)
 own_method_cores t k [] = refl
-own_method_cores t k (FieldM fin ty n guard ∷ ms) = own_method_cores t k ms
+own_method_cores t k (FieldM f ∷ ms) = own_method_cores t k ms
 own_method_cores t k (CtorM n params sets ∷ ms) = own_method_cores t k ms
 own_method_cores t k (MethodM m ∷ ms) = ap (λ z. core_method t (method_at k m) ∷ z) (own_method_cores t k ms)
 
@@ -130,20 +127,20 @@ method_cores t k (c ∷ cs) =
 
 -- ---- names and lengths
 
-pub own_field_names : (k i : ℕ) (ms : List MemberTree) → map (λ d. d.name) (own_fields k i ms) ≡ field_names ms
+pub own_field_names : (k i : ℕ) (ms : List MemberTree) → map (λ d. d.field.name) (own_fields k i ms) ≡ field_names ms
 own_field_names k i [] = refl
-own_field_names k i (FieldM fin ty n guard ∷ ms) = ap (λ z. n ∷ z) (own_field_names k (i + 1) ms)
+own_field_names k i (FieldM f ∷ ms) = ap (λ z. f.name ∷ z) (own_field_names k (i + 1) ms)
 own_field_names k i (CtorM n params sets ∷ ms) = own_field_names k i ms
 own_field_names k i (MethodM m ∷ ms) = own_field_names k i ms
 
 pub own_method_names : (k : ℕ) (ms : List MemberTree) → map (λ d. d.method.name) (own_methods k ms) ≡ method_names ms
 own_method_names k [] = refl
-own_method_names k (FieldM fin ty n guard ∷ ms) = own_method_names k ms
+own_method_names k (FieldM f ∷ ms) = own_method_names k ms
 own_method_names k (CtorM n params sets ∷ ms) = own_method_names k ms
 own_method_names k (MethodM m ∷ ms) = ap (λ z. m.name ∷ z) (own_method_names k ms)
 
 pub own_fields_long : (k i : ℕ) (ms : List MemberTree) → length (own_fields k i ms) ≡ length (field_names ms)
-own_fields_long k i ms = sym (length-map (own_fields k i ms) (λ d. d.name)) ∙ ap length (own_field_names k i ms)
+own_fields_long k i ms = sym (length-map (own_fields k i ms) (λ d. d.field.name)) ∙ ap length (own_field_names k i ms)
 
 pub own_methods_long : (k : ℕ) (ms : List MemberTree) → length (own_methods k ms) ≡ length (method_names ms)
 own_methods_long k ms = sym (length-map (own_methods k ms) (λ d. d.method.name)) ∙ ap length (own_method_names k ms)
@@ -152,23 +149,23 @@ own_methods_long k ms = sym (length-map (own_methods k ms) (λ d. d.method.name)
 
 pub own_class : (k i : ℕ) (ms : List MemberTree) → Each (λ d. d.class ≡ k) (own_fields k i ms)
 own_class k i [] = tt
-own_class k i (FieldM fin ty n guard ∷ ms) = (refl, own_class k (i + 1) ms)
+own_class k i (FieldM f ∷ ms) = (refl, own_class k (i + 1) ms)
 own_class k i (CtorM n params sets ∷ ms) = own_class k i ms
 own_class k i (MethodM m ∷ ms) = own_class k i ms
 
 pub own_method_class : (k : ℕ) (ms : List MemberTree) → Each (λ d. d.class ≡ k) (own_methods k ms)
 own_method_class k [] = tt
-own_method_class k (FieldM fin ty n guard ∷ ms) = own_method_class k ms
+own_method_class k (FieldM f ∷ ms) = own_method_class k ms
 own_method_class k (CtorM n params sets ∷ ms) = own_method_class k ms
 own_method_class k (MethodM m ∷ ms) = (refl, own_method_class k ms)
 
 pub own_index : (k i : ℕ) (ms : List MemberTree) (j : ℕ) (d : FieldAt) → slice_get (own_fields k i ms) j ≡ Some d → d.index ≡ i + j
 own_index k i [] j d e = absurd (nothing_at j d e)
-own_index k i (FieldM fin ty n guard ∷ ms) zero d e = ap (λ z. z.index) (sym (same_some _ d e)) ∙ add-nothing i
+own_index k i (FieldM f ∷ ms) zero d e = ap (λ z. z.index) (sym (same_some _ d e)) ∙ add-nothing i
   where
     add-nothing : (i : ℕ) → i ≡ i + 0
     add-nothing i = omega arith
-own_index k i (FieldM fin ty n guard ∷ ms) (suc j) d e = omega (arith, own_index k (i + 1) ms j d e)
+own_index k i (FieldM f ∷ ms) (suc j) d e = omega (arith, own_index k (i + 1) ms j d e)
 own_index k i (CtorM n params sets ∷ ms) j d e = own_index k i ms j d e
 own_index k i (MethodM m ∷ ms) j d e = own_index k i ms j d e
 

@@ -1,10 +1,10 @@
 -- A tree's core nodes are no more than its tokens.
-use Rattle.std.proofs.Common.{◌≡◌, ℕ, ◌+◌, ◌≤◌, true, false, List, [], ◌∷◌, ◌++◌, length, Some, None, sym, subst, arith, length-append}
+use Rattle.std.proofs.Common.{◌≡◌, ℕ, ◌+◌, ◌≤◌, Bool, true, false, List, [], ◌∷◌, ◌++◌, length, Some, None, sym, subst, arith, length-append}
 use Rattle.aj_lexer.specs.declared.tokens.Token.{Token}
 use Rattle.aj_syntax.specs.declared.terminal.Terminal.TheVariants as T
 use Rattle.aj_syntax.specs.Tokens.{token, name_token, number_token}
-use Rattle.aj_syntax.specs.Grammar.{Spells, SpellsArgs, SpellsMoreArgs, SpellsStmt, SpellsStmts, SpellsBare, SpellsMember, SpellsClass, Repeats, sign_of}
-use Rattle.aj_syntax.specs.Trees.{ExprTree, ExprTrees, NumberE, LeastE, TruthE, NullE, ThisE, VarE, ParenE, NotE, NegE, BinaryE, GetE, CallE, NewE, no_exprs, more_exprs, StmtTree, StmtTrees, EmptyS, BlockS, LocalS, SetVarS, SetFieldS, DoS, IfS, IfElseS, WhileS, SyncS, ReturnS, PrintS, StartS, no_stmts, more_stmts, MemberTree, FieldM, CtorM, MethodM, ProgramTree}
+use Rattle.aj_syntax.specs.Grammar.{Spells, SpellsArgs, SpellsMoreArgs, SpellsStmt, SpellsStmts, SpellsField, SpellsBare, SpellsMember, SpellsClass, Repeats, sign_of}
+use Rattle.aj_syntax.specs.Trees.{ExprTree, ExprTrees, NumberE, LeastE, TruthE, NullE, ThisE, VarE, ParenE, NotE, NegE, BinaryE, GetE, CallE, NewE, no_exprs, more_exprs, StmtTree, StmtTrees, EmptyS, BlockS, LocalS, SetVarS, SetFieldS, DoS, IfS, IfElseS, WhileS, SyncS, ReturnS, PrintS, StartS, no_stmts, more_stmts, FieldTree, MemberTree, FieldM, CtorM, MethodM, ProgramTree}
 use Rattle.aj_elaborate.proofs.Shapes.{size, sizes}
 use Rattle.aj_elaborate.proofs.TypedStmts.{stmt_size, stmt_sizes}
 
@@ -130,7 +130,7 @@ mutual
 
 -- a field, or a method and its nodes
 abbrev pub member_size : MemberTree → ℕ
-member_size (FieldM fin ty n guard) = 1
+member_size (FieldM f) = 1
 member_size (CtorM n params sets) = 0
 member_size (MethodM m) = 2 + stmt_sizes m.body
 
@@ -143,11 +143,14 @@ abbrev pub program_size : ProgramTree → ℕ
 program_size [] = 0
 program_size (c ∷ cs) = 1 + (members_size c.members + program_size cs)
 
+field_long : (fin : Bool) (f : FieldTree) (ts : List Token) → SpellsField fin f ts → 1 ≤ length ts
+field_long true f ts (x, d, c, type_is, none, plain, is) =
+    long 1 ts (token T.Final d ∷ x ∷ name_token f.name ∷ token T.Semicolon c ∷ []) is (omega arith)
+field_long false f ts (x, gs, c, type_is, guard_is, is) =
+    long 1 ts (x ∷ name_token f.name ∷ gs ++ (token T.Semicolon c ∷ [])) is (omega arith)
+
 bare_long : (m : MemberTree) (ts : List Token) → SpellsBare m ts → member_size m ≤ length ts
-bare_long (FieldM true ty n (Some l)) ts h = absurd h
-bare_long (FieldM true ty n None) ts (x, d, c, type_is, is) = long 1 ts (token T.Final d ∷ x ∷ name_token n ∷ token T.Semicolon c ∷ []) is (omega arith)
-bare_long (FieldM false ty n guard) ts (x, gs, c, type_is, guard_is, is) =
-    long 1 ts (x ∷ name_token n ∷ gs ++ (token T.Semicolon c ∷ [])) is (omega arith)
+bare_long (FieldM f) ts h = field_long f.is_final f ts h
 bare_long (CtorM n params sets) ts h = omega arith
 bare_long (MethodM m) ts (fs, xs, rs, ys, x, o, c, b, flag, result, params, locks, body, is) =
     let last = token T.OpenBrace b ∷ ys ++ (token T.CloseBrace m.end ∷ []) in

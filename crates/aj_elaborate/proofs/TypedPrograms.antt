@@ -1,5 +1,5 @@
 -- The core program of a program without faults is typed.
-use Rattle.std.proofs.Common.{Result, Ok, Err, MatchResult, IfOk, ◌≡◌, ℕ, ◌+◌, ◌<◌, ◌≤◌, Bool, true, false, ◌&&◌, List, [], ◌∷◌, ◌++◌, map, flat_map, length, filter, Option, Some, None, is_some, refl, ap, sym, ◌∙◌, subst, inl, inr, slice_get, position, bytes_eq, arith, option_map, unwrap_or, if◌then◌else◌, length-append, IfSome, sum_by, max, Contains}
+use Rattle.std.proofs.Common.{Result, Ok, Err, MatchResult, IfOk, ◌≡◌, ℕ, ◌+◌, ◌<◌, ◌≤◌, Bool, true, false, ◌&&◌, List, [], ◌∷◌, ◌++◌, map, flat_map, length, filter, Option, Some, None, is_some, refl, ap, sym, ◌∙◌, subst, inl, inr, slice_get, position, bytes_eq, arith, option_map, unwrap_or, if◌then◌else◌, length-append, IfSome, IsSome, sum_by, max, Contains}
 use Rattle.std.specs.Prelude.{codes}
 use Rattle.std.specs.List.{list_any}
 use Rattle.std.proofs.lemmas.List.{length-map}
@@ -14,7 +14,7 @@ use Rattle.aj_core.specs.Typed.{fields_from, is_final_at, IsEntry, IsRunnable}
 use Rattle.aj_syntax.specs.declared.tree.Name.{Name}
 use Rattle.aj_syntax.specs.declared.tree.Param.{Param}
 use Rattle.aj_syntax.specs.declared.tree.TypeName.{TypeName}
-use Rattle.aj_syntax.specs.Trees.{LockTree, MethodTree, MemberTree, FieldM, CtorM, MethodM, ClassTree, ProgramTree}
+use Rattle.aj_syntax.specs.Trees.{LockTree, MethodTree, FieldTree, MemberTree, FieldM, CtorM, MethodM, ClassTree, ProgramTree}
 use Rattle.aj_classes.specs.Names.{has_text}
 use Rattle.aj_classes.specs.Members.{is_empty, finals_of, class_names, field_names, is_entry, is_main}
 use Rattle.aj_classes.specs.Faults.{twice_faults, class_faults, missing_run, missing_main}
@@ -32,7 +32,7 @@ use Rattle.aj_elaborate.proofs.Built.{class_node, IsBuilt, built, field_is, meth
 use Rattle.std.proofs.lemmas.List.Sums.{sum_by-cons}
 use Rattle.aj_lexer.specs.declared.tokens.Token.{Token}
 use Rattle.aj_syntax.specs.declared.tree.TypeName.TheVariants as Y
-use Rattle.aj_syntax.specs.Grammar.{Grammar, Repeats, SpellsMember, SpellsBare, SpellsClass}
+use Rattle.aj_syntax.specs.Grammar.{Grammar, Repeats, SpellsGuard, SpellsField, SpellsMember, SpellsClass}
 use Rattle.aj_syntax.specs.Heights.{stmt_heights, highest_member, highest_body}
 use Rattle.aj_core.specs.Types.{Variable}
 use Rattle.aj_core.specs.Sizes.{stmt_nodes}
@@ -58,24 +58,35 @@ use Rattle.aj_elaborate.proofs.Agreement.{IsSound, AreSound, all_sound, known_in
 
 -- ---- what the grammar tells of members
 
-abbrev IsUnguarded : FieldAt → Type 0
-IsUnguarded d = d.is_final ≡ true → d.guard ≡ None
+-- a final field has no guard, and a field that is guarded for writing only has one
+pub record IsWellGuarded (d : FieldAt) : Type 0 where
+  pub plain : d.field.is_final ≡ true → d.field.guard ≡ None
+  pub writes : d.field.writes_only ≡ true → IsSome d.field.guard
 
-unguarded : (fin : Bool) (ty : TypeName) (n : Name) (guard : Option LockTree) (ts : List Token) → SpellsBare (FieldM fin ty n guard) ts → fin ≡ true → guard ≡ None
-unguarded true ty n None ts h is = refl
-unguarded true ty n (Some l) ts h is = absurd h
-unguarded false ty n guard ts h is = absurd (let e : false ≡ true = is in cc)
+guard_stands : (writes_only : Bool) (guard : Option LockTree) (ts : List Token) → SpellsGuard writes_only guard ts → writes_only ≡ true → IsSome guard
+guard_stands writes_only None ts h is = absurd (let e : false ≡ true = sym h.0 ∙ is in cc)
+guard_stands writes_only (Some l) ts h is = refl
 
-own_unguarded : (k i : ℕ) (ms : List MemberTree) (ts : List Token) → Repeats SpellsMember ms ts → Each IsUnguarded (own_fields k i ms)
-own_unguarded k i [] ts h = tt
-own_unguarded k i (FieldM fin ty n guard ∷ ms) ts (xs, ys, (ps, zs, public_is, one, is_own), rest, is) = (unguarded fin ty n guard zs one, own_unguarded k (i + 1) ms ys rest)
-own_unguarded k i (CtorM n params sets ∷ ms) ts (xs, ys, one, rest, is) = own_unguarded k i ms ys rest
-own_unguarded k i (MethodM m ∷ ms) ts (xs, ys, one, rest, is) = own_unguarded k i ms ys rest
+well_guarded : (k i : ℕ) (fin : Bool) (f : FieldTree) (ts : List Token) → f.is_final ≡ fin → SpellsField fin f ts → IsWellGuarded (record { class = k; index = i; field = f })
+well_guarded k i true f ts final_is (x, d, c, type_is, none, plain, is) = record {
+  plain = λ h. none;
+  writes = λ set. absurd (let e : false ≡ true = sym plain ∙ set in cc);
+}
+well_guarded k i false f ts final_is (x, gs, c, type_is, guard_is, is) = record {
+  plain = λ h. absurd (let e : false ≡ true = sym final_is ∙ h in cc);
+  writes = guard_stands f.writes_only f.guard gs guard_is;
+}
 
-all_unguarded : (k : ℕ) (cs : ProgramTree) (ts : List Token) → Repeats SpellsClass cs ts → Each IsUnguarded (fields_at k cs)
-all_unguarded k [] ts h = tt
-all_unguarded k (c ∷ cs) ts (us, vs, (ps, rs, xs, d, b, e, public_is, runnable_is, members, is_own), rest, is) =
-    each_both IsUnguarded (own_fields k 0 c.members) (fields_at (k + 1) cs) (own_unguarded k 0 c.members xs members) (all_unguarded (k + 1) cs vs rest)
+own_guarded : (k i : ℕ) (ms : List MemberTree) (ts : List Token) → Repeats SpellsMember ms ts → Each IsWellGuarded (own_fields k i ms)
+own_guarded k i [] ts h = tt
+own_guarded k i (FieldM f ∷ ms) ts (xs, ys, (ps, zs, public_is, one, is_own), rest, is) = (well_guarded k i f.is_final f zs refl one, own_guarded k (i + 1) ms ys rest)
+own_guarded k i (CtorM n params sets ∷ ms) ts (xs, ys, one, rest, is) = own_guarded k i ms ys rest
+own_guarded k i (MethodM m ∷ ms) ts (xs, ys, one, rest, is) = own_guarded k i ms ys rest
+
+all_guarded : (k : ℕ) (cs : ProgramTree) (ts : List Token) → Repeats SpellsClass cs ts → Each IsWellGuarded (fields_at k cs)
+all_guarded k [] ts h = tt
+all_guarded k (c ∷ cs) ts (us, vs, (ps, rs, xs, d, b, e, public_is, runnable_is, members, is_own), rest, is) =
+    each_both IsWellGuarded (own_fields k 0 c.members) (fields_at (k + 1) cs) (own_guarded k 0 c.members xs members) (all_guarded (k + 1) cs vs rest)
 
 abbrev IsLow : MethodAt → Type 0
 IsLow d = 1 + stmt_heights d.method.body ≤ 64
@@ -88,7 +99,7 @@ max_right a b n h = grind arith
 
 own_low : (k : ℕ) (ms : List MemberTree) → highest_member ms ≤ 64 → Each IsLow (own_methods k ms)
 own_low k [] h = tt
-own_low k (FieldM fin ty n guard ∷ ms) h = own_low k ms (max_right 0 (highest_member ms) 64 h)
+own_low k (FieldM f ∷ ms) h = own_low k ms (max_right 0 (highest_member ms) 64 h)
 own_low k (CtorM n params sets ∷ ms) h = own_low k ms (max_right 0 (highest_member ms) 64 h)
 own_low k (MethodM m ∷ ms) h =
     (max_left (1 + stmt_heights m.body) (highest_member ms) 64 h, own_low k ms (max_right (1 + stmt_heights m.body) (highest_member ms) 64 h))
@@ -103,7 +114,7 @@ all_low k (c ∷ cs) h =
 -- ---- what the class faults tell of members
 
 abbrev IsKnownField : (List ℕ → Bool) → FieldAt → Type 0
-IsKnownField known d = class_fault.type_faults known d.ty ≡ []
+IsKnownField known d = class_fault.type_faults known d.field.ty ≡ []
 
 pub record IsKnownMethod (known : List ℕ → Bool) (d : MethodAt) : Type 0 where
   pub result : class_fault.result_faults known d.method.returns ≡ []
@@ -125,9 +136,9 @@ known_method known k m h =
 
 own_known : (known : List ℕ → Bool) (k i : ℕ) (ms : List MemberTree) → flat_map (class_fault.member_faults known) ms ≡ [] → Each (IsKnownField known) (own_fields k i ms)
 own_known known k i [] h = tt
-own_known known k i (FieldM fin ty n guard ∷ ms) h = (
-  front_empty (class_fault.type_faults known ty) (flat_map (class_fault.member_faults known) ms) h,
-  own_known known k (i + 1) ms (back_empty (class_fault.type_faults known ty) (flat_map (class_fault.member_faults known) ms) h),
+own_known known k i (FieldM f ∷ ms) h = (
+  front_empty (class_fault.type_faults known f.ty) (flat_map (class_fault.member_faults known) ms) h,
+  own_known known k (i + 1) ms (back_empty (class_fault.type_faults known f.ty) (flat_map (class_fault.member_faults known) ms) h),
 )
 own_known known k i (CtorM n params sets ∷ ms) h =
     own_known known k i ms (back_empty (class_fault.params_faults known params) (flat_map (class_fault.member_faults known) ms) h)
@@ -136,8 +147,8 @@ own_known known k i (MethodM m ∷ ms) h =
 
 own_known_methods : (known : List ℕ → Bool) (k : ℕ) (ms : List MemberTree) → flat_map (class_fault.member_faults known) ms ≡ [] → Each (IsKnownMethod known) (own_methods k ms)
 own_known_methods known k [] h = tt
-own_known_methods known k (FieldM fin ty n guard ∷ ms) h =
-    own_known_methods known k ms (back_empty (class_fault.type_faults known ty) (flat_map (class_fault.member_faults known) ms) h)
+own_known_methods known k (FieldM f ∷ ms) h =
+    own_known_methods known k ms (back_empty (class_fault.type_faults known f.ty) (flat_map (class_fault.member_faults known) ms) h)
 own_known_methods known k (CtorM n params sets ∷ ms) h =
     own_known_methods known k ms (back_empty (class_fault.params_faults known params) (flat_map (class_fault.member_faults known) ms) h)
 own_known_methods known k (MethodM m ∷ ms) h = (
@@ -162,7 +173,7 @@ IsFaultless t d = method_faults t d.class d.method ≡ []
 
 own_faultless : (t : TableData) (k : ℕ) (ms : List MemberTree) → flat_map (member_faults t k) ms ≡ [] → Each (IsFaultless t) (own_methods k ms)
 own_faultless t k [] h = tt
-own_faultless t k (FieldM fin ty n guard ∷ ms) h = own_faultless t k ms (back_empty (member_faults t k (FieldM fin ty n guard)) (flat_map (member_faults t k) ms) h)
+own_faultless t k (FieldM f ∷ ms) h = own_faultless t k ms (back_empty (member_faults t k (FieldM f)) (flat_map (member_faults t k) ms) h)
 own_faultless t k (CtorM n params sets ∷ ms) h = own_faultless t k ms h
 own_faultless t k (MethodM m ∷ ms) h =
     (front_empty (method_faults t k m) (flat_map (member_faults t k) ms) h, own_faultless t k ms (back_empty (method_faults t k m) (flat_map (member_faults t k) ms) h))
@@ -186,7 +197,7 @@ bodies_both (x ∷ xs) ys = omega (arith, bodies_both xs ys)
 
 own_size : (k i : ℕ) (ms : List MemberTree) → length (own_fields k i ms) + length (own_methods k ms) + bodies_size (own_methods k ms) ≡ members_size ms
 own_size k i [] = refl
-own_size k i (FieldM fin ty n guard ∷ ms) = omega (arith, own_size k (i + 1) ms)
+own_size k i (FieldM f ∷ ms) = omega (arith, own_size k (i + 1) ms)
 own_size k i (CtorM n params sets ∷ ms) = omega (arith, own_size k i ms)
 own_size k i (MethodM m ∷ ms) = omega (arith, own_size k i ms)
 
@@ -231,10 +242,14 @@ some_mapped : {A B : Type 0} (f : A → B) (o : Option A) → is_some (option_ma
 some_mapped f (Some a) h = refl
 some_mapped f None h = h
 
-none_are_final : (k i : ℕ) (ms : List MemberTree) → is_empty (finals_of ms) ≡ true → Each (λ d. d.is_final ≡ false) (own_fields k i ms)
+plain_first : {A : Type 0} (fin : Bool) (x : A) (rest : List A) → is_empty (if fin then x ∷ rest else rest) ≡ true → (fin ≡ false) × (is_empty rest ≡ true)
+plain_first true x rest h = absurd (let e : false ≡ true = h in cc)
+plain_first false x rest h = (refl, h)
+
+none_are_final : (k i : ℕ) (ms : List MemberTree) → is_empty (finals_of ms) ≡ true → Each (λ d. d.field.is_final ≡ false) (own_fields k i ms)
 none_are_final k i [] h = tt
-none_are_final k i (FieldM true ty n guard ∷ ms) h = absurd (let e : false ≡ true = h in cc)
-none_are_final k i (FieldM false ty n guard ∷ ms) h = (refl, none_are_final k (i + 1) ms h)
+none_are_final k i (FieldM f ∷ ms) h =
+    let p = plain_first f.is_final (f.ty, f.name) (finals_of ms) h in (p.0, none_are_final k (i + 1) ms p.1)
 none_are_final k i (CtorM n params sets ∷ ms) h = none_are_final k i ms h
 none_are_final k i (MethodM m ∷ ms) h = none_are_final k i ms h
 
@@ -300,6 +315,10 @@ module _ (tree : ProgramTree) (P : Program) (b : IsBuilt tree P) (s : AreSound t
       subst (λ z. IfSome z (IsLock P k [])) p.2
       (lock_holds t P (agrees tree P b s) k [] [] no_more_seen l p.0 (gain_of (lock_rule t k [] l) p.0 p.1))
 
+  guard_kept : (k : ℕ) (guard : Option LockTree) (g : Option PathData) → IsSome guard → guard_path t k guard ≡ Some g → IsSome g
+  guard_kept k None g some h = absurd (let e : false ≡ true = some in cc)
+  guard_kept k (Some l) g some h = let p = map_of Some (gain (lock_rule t k [] l)) g h in subst (λ z. IsSome z) p.2 refl
+
   -- the index of a field is its place among those of its class
   index_is : (c : ℕ) (C : ClassTree) (at : slice_get tree c ≡ Some C) (f : ℕ) (d : FieldAt) → d.class ≡ c → slice_get (fields_at 0 tree) f ≡ Some d
       → slice_get (fields_from c 0 P.fields) d.index ≡ Some f
@@ -318,7 +337,7 @@ module _ (tree : ProgramTree) (P : Program) (b : IsBuilt tree P) (s : AreSound t
         ]
       ]
 
-  module _ (plain : Each IsUnguarded (fields_at 0 tree)) where
+  module _ (guarded : Each IsWellGuarded (fields_at 0 tree)) where
     pub field_typed : (f : ℕ) (field : Field) → slice_get P.fields f ≡ Some field → IsTypedField P f field
     field_typed f field at =
         let r = part_at (core_field t) (fields_at 0 tree) P.fields b.fields f field at in
@@ -330,12 +349,14 @@ module _ (tree : ProgramTree) (P : Program) (b : IsBuilt tree P) (s : AreSound t
           class = class_node t P.fields d.class C.0;
           of_class = ap (slice_get P.classes) is.class ∙ class_there tree P b d.class C.0 C.1;
           index = ap (slice_get (fields_from d.class 0 P.fields)) is.index ∙ index_is d.class C.0 C.1 f d refl r.1;
-          ty = subst (IsType P) (sym is.ty) (type_known d.ty (each_at (IsKnownField (known_in tree)) (fields_at 0 tree) f d (all_known (known_in tree) 0 tree s.classes) r.1));
-          guard = subst (λ k. IfSome field.guard (IsLock P k [])) (sym is.class) (guard_is_lock d.class d.guard field.guard is.guard);
+          ty = subst (IsType P) (sym is.ty) (type_known d.field.ty (each_at (IsKnownField (known_in tree)) (fields_at 0 tree) f d (all_known (known_in tree) 0 tree s.classes) r.1));
+          guard = subst (λ k. IfSome field.guard (IsLock P k [])) (sym is.class) (guard_is_lock d.class d.field.guard field.guard is.guard);
           unguarded = λ final_is.
-              let none : d.guard ≡ None = each_at IsUnguarded (fields_at 0 tree) f d plain r.1 (sym is.finality ∙ final_is) in
+              let none : d.field.guard ≡ None = (each_at IsWellGuarded (fields_at 0 tree) f d guarded r.1).plain (sym is.finality ∙ final_is) in
               same_some field.guard None (sym is.guard ∙ ap (guard_path t d.class) none);
-          writes = λ set. absurd (let e : false ≡ true = sym is.writes ∙ set in cc);
+          writes = λ set.
+              let some : IsSome d.field.guard = (each_at IsWellGuarded (fields_at 0 tree) f d guarded r.1).writes (sym is.writes ∙ set) in
+              guard_kept d.class d.field.guard field.guard some is.guard;
         }
 
   -- ---- classes
@@ -499,7 +520,7 @@ core_is_typed tree P ts sound_tree core grammar few =
     let s = all_sound tree sound_tree in
     record {
       classes = class_typed tree P b s;
-      fields = field_typed tree P b s (all_unguarded 0 tree ts grammar.0);
+      fields = field_typed tree P b s (all_guarded 0 tree ts grammar.0);
       methods = method_typed tree P b s (all_low 0 tree grammar.1) (all_faultless (table_of tree) 0 tree core.faultless);
       main = (main_is_there tree P b s).entry;
       no_finals = no_finals tree P b s;

@@ -2,12 +2,12 @@
 use Rattle.std.specs.Prelude.{false, ℕ, ◌+◌, Bool, List, [], ◌∷◌, ◌++◌, Option, Some, None, option_map, if◌then◌else◌}
 use Rattle.aj_core.specs.Core.{Field, Method}
 use Rattle.aj_syntax.specs.Trees.{MemberTree, FieldM, CtorM, MethodM}
-use Rattle.aj_classes.specs.Table.{TableData, type_of}
+use Rattle.aj_classes.specs.Table.{TableData}
 use Rattle.aj_elaborate.specs.declared.fault.TypeFault.{TypeFault}
 use Rattle.aj_elaborate.specs.declared.fault.TypeFault.TheVariants.{MissingReturn}
 use Rattle.aj_elaborate.specs.declared.gather.Gathered.{Gathered}
 use Rattle.aj_elaborate.specs.Rulings.{both}
-use Rattle.aj_elaborate.specs.Programs.{guard_path, method_core, method_faults}
+use Rattle.aj_elaborate.specs.Programs.{guard_path, field_node, method_core, method_faults}
 
 -- the parts so far, where none was missing
 abbrev pub gathered : {T : Type 0} → Gathered T → Option (List T)
@@ -25,32 +25,32 @@ appended parts more = option_map (λ p. p.0 ++ p.1) (both parts more)
 
 -- the fields so far, with that of a member of the class with number k, in which so many fields stand before it
 abbrev pub with_field : TableData → ℕ → ℕ → MemberTree → Option (List Field) → Option (List Field)
-with_field t k i (FieldM fin ty n guard) fields =
-    one_more fields (option_map (λ g. record { class = k; index = i; is_final = fin; ty = type_of t.names ty; guard = g; writes_only = false }) (guard_path t k guard))
+with_field t k i (FieldM f) fields =
+    one_more fields (option_map (field_node t k i f) (guard_path t k f.guard))
 with_field t k i (CtorM n params sets) fields = fields
 with_field t k i (MethodM m) fields = fields
 
 -- the methods so far, with that of a member of the class with number k
 abbrev pub with_method : TableData → ℕ → MemberTree → Option (List Method) → Option (List Method)
-with_method t k (FieldM fin ty n guard) methods = methods
+with_method t k (FieldM f) methods = methods
 with_method t k (CtorM n params sets) methods = methods
 with_method t k (MethodM m) methods = one_more methods (method_core t k m)
 
 -- how many fields stand before the next member
 abbrev pub index_after : MemberTree → ℕ → ℕ
-index_after (FieldM fin ty n guard) i = i + 1
+index_after (FieldM f) i = i + 1
 index_after (CtorM n params sets) i = i
 index_after (MethodM m) i = i
 
 -- the core method of a member that is a method
 abbrev pub method_in : TableData → ℕ → MemberTree → Option Method
-method_in t k (FieldM fin ty n guard) = None
+method_in t k (FieldM f) = None
 method_in t k (CtorM n params sets) = None
 method_in t k (MethodM m) = method_core t k m
 
 -- the faults of a member that is a method
 abbrev pub faults_in_method : TableData → ℕ → MemberTree → List TypeFault
-faults_in_method t k (FieldM fin ty n guard) = []
+faults_in_method t k (FieldM f) = []
 faults_in_method t k (CtorM n params sets) = []
 faults_in_method t k (MethodM m) = method_faults t k m
 

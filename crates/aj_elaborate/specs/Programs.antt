@@ -6,7 +6,7 @@ use Rattle.aj_paths.specs.Paths.{PathData, path_order}
 use Rattle.aj_core.specs.declared.types.CoreType.{CoreType}
 use Rattle.aj_core.specs.Core.{Program, Class, Field, Method, Stmts, BlockS}
 use Rattle.aj_core.specs.Typed.{fields_from, is_final_at}
-use Rattle.aj_syntax.specs.Trees.{LockTree, MethodTree, MemberTree, FieldM, CtorM, MethodM, ClassTree, ProgramTree}
+use Rattle.aj_syntax.specs.Trees.{LockTree, MethodTree, FieldTree, MemberTree, FieldM, CtorM, MethodM, ClassTree, ProgramTree}
 use Rattle.aj_classes.specs.Table.{TableData, type_of, class_number, method_number, table_of}
 use Rattle.aj_elaborate.specs.declared.fault.TypeFault.{TypeFault}
 use Rattle.aj_elaborate.specs.declared.fault.TypeFault.TheVariants.{MissingReturn}
@@ -95,7 +95,7 @@ module _ (t : TableData) where
 
   -- the faults of a member of the class with number k; a constructor has none
   abbrev pub member_faults : ℕ → MemberTree → List TypeFault
-  member_faults k (FieldM fin ty n guard) = guard_faults k guard
+  member_faults k (FieldM f) = guard_faults k f.guard
   member_faults k (CtorM n params sets) = []
   member_faults k (MethodM m) = method_faults k m
 
@@ -104,19 +104,29 @@ module _ (t : TableData) where
   faults_from k [] = []
   faults_from k (c ∷ cs) = flat_map (member_faults k) c.members ++ faults_from (k + 1) cs
 
+  -- the core field of a field of the class with number k, with its index and the path of its guard
+  abbrev pub field_node : ℕ → ℕ → FieldTree → Option PathData → Field
+  field_node k i f g = record {
+    class = k;
+    index = i;
+    is_final = f.is_final;
+    ty = type_of t.names f.ty;
+    guard = g;
+    writes_only = f.writes_only;
+  }
+
   -- the core fields of the class with number k, the first of which has this index
   abbrev pub fields_core : ℕ → ℕ → List MemberTree → List (Option Field)
   fields_core k i [] = []
-  fields_core k i (FieldM fin ty n guard ∷ ms) =
-      option_map (λ g. record { class = k; index = i; is_final = fin; ty = type_of t.names ty; guard = g; writes_only = false }) (guard_path k guard)
-      ∷ fields_core k (i + 1) ms
+  fields_core k i (FieldM f ∷ ms) =
+      option_map (field_node k i f) (guard_path k f.guard) ∷ fields_core k (i + 1) ms
   fields_core k i (CtorM n params sets ∷ ms) = fields_core k i ms
   fields_core k i (MethodM m ∷ ms) = fields_core k i ms
 
   -- the core methods of the class with number k
   abbrev pub methods_core : ℕ → List MemberTree → List (Option Method)
   methods_core k [] = []
-  methods_core k (FieldM fin ty n guard ∷ ms) = methods_core k ms
+  methods_core k (FieldM f ∷ ms) = methods_core k ms
   methods_core k (CtorM n params sets ∷ ms) = methods_core k ms
   methods_core k (MethodM m ∷ ms) = method_core k m ∷ methods_core k ms
 

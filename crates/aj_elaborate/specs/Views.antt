@@ -5,8 +5,9 @@ use Rattle.aj_paths.specs.declared.ids.FieldId.{FieldId}
 use Rattle.aj_paths.specs.declared.ids.MethodId.{MethodId}
 use Rattle.aj_classes.specs.declared.entries.FieldEntry.{FieldEntry}
 use Rattle.aj_classes.specs.declared.entries.MethodEntry.{MethodEntry}
-use Rattle.aj_classes.specs.Table.{FieldData, MethodData}
-use Rattle.aj_classes.specs.Views.{field_data, method_data}
+use Rattle.aj_classes.specs.Seen.{FieldData}
+use Rattle.aj_classes.specs.Table.{MethodData}
+use Rattle.aj_classes.specs.Views.{method_data}
 use Rattle.aj_elaborate.specs.declared.lock.ReachTo.{ReachTo}
 use Rattle.aj_elaborate.specs.Locks.{Reach}
 use Rattle.aj_core.specs.Core.{Expr, Field, Method}
@@ -18,9 +19,7 @@ use Rattle.aj_elaborate.specs.declared.types.ExprType.{ExprType}
 use Rattle.aj_elaborate.specs.declared.types.ExprType.TheVariants as ty
 use Rattle.aj_elaborate.specs.declared.types.TypedExpr.{TypedExpr}
 use Rattle.aj_core.specs.declared.tree.CoreExpr.{CoreExpr}
-use Rattle.aj_elaborate.specs.declared.scope.Bound.{Bound}
 use Rattle.aj_elaborate.specs.Rules.{TypedData, TypedList}
-use Rattle.aj_elaborate.specs.Scopes.{Binding, Scope}
 
 abbrev pub type_data : ExprType → NodeType
 type_data (ty.Value t) = ValueT t
@@ -39,14 +38,8 @@ nodes_of = map (λ e. e.node)
 abbrev pub typed_list : List TypedExpr → TypedList
 typed_list es = record { types = types_of es; nodes = exprs_from (nodes_of es) }
 
-abbrev pub binding_of : Bound → Binding
-binding_of b = record { name = b.name; variable = record { slot = b.slot; is_final = b.is_final; ty = b.ty } }
-
-abbrev pub scope_of : List Bound → Scope
-scope_of bound = map binding_of bound
-
 abbrev pub field_found : FieldId × Bor FieldEntry → ℕ × FieldData
-field_found f = (f.0, field_data f.1.now)
+field_found f = (f.0, f.1.now)
 
 abbrev pub method_found : MethodId × Bor MethodEntry → ℕ × MethodData
 method_found m = (m.0, method_data m.1.now)

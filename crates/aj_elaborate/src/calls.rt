@@ -1,7 +1,7 @@
 //! The rules of calls and of `new`.
 
 ghost use Rattle.std.specs.Prelude.{◌≡◌, map, filter, take, drop, slice_get, option_map, IfOk, OnOk};
-ghost use Rattle.aj_classes.specs.Views.{table_data, class_data, field_data, param_data};
+ghost use Rattle.aj_classes.specs.Views.{table_data, class_data};
 ghost use Rattle.aj_core.specs.Core.{CallE, NewE};
 ghost use Rattle.aj_core.specs.Types.{result_type};
 ghost use Rattle.aj_core.specs.Views.{expr_of, exprs_from};
@@ -23,12 +23,12 @@ use aj_syntax::Name;
 use std::alloc::{AllocError as NoMemory, Global};
 
 /// The method that a name means for a receiver of this type.
-pub(crate) fn method_rule<'t>(
-    table: &'t ClassTable,
+pub(crate) fn method_rule<'t, 'a>(
+    table: &'t ClassTable<'a>,
     name: &Name,
     receiver: ExprType,
     first: &mut FirstFault,
-) -> Option<(MethodId, &'t MethodEntry)>
+) -> Option<(MethodId, &'t MethodEntry<'a>)>
     ensures method { option_map method_found result ≡ gain (method_rule (table_data table.now) name.now (type_data receiver)) }
     ensures fault { first.new ≡ noted first.old (loss (method_rule (table_data table.now) name.now (type_data receiver))) }
 {
@@ -36,7 +36,7 @@ pub(crate) fn method_rule<'t>(
         first.note(TypeFault::NoRule(name.at));
         return None;
     };
-    let found = method_named(table, class, name.text.as_str());
+    let found = method_named(table, class, name.text);
     if found.is_none() {
         first.note(TypeFault::UnknownName(name.at));
     }
@@ -50,13 +50,13 @@ fn note_unknown_method(table: &ClassTable, name: &Name, receiver: ExprType, firs
     let Some(class) = receiver.class() else {
         return;
     };
-    if method_named(table, class, name.text.as_str()).is_none() {
+    if method_named(table, class, name.text).is_none() {
         first.note(TypeFault::UnknownName(name.at));
     }
 }
 
 fn fit_params(args: &[TypedExpr], params: &[ParamEntry]) -> bool
-    ensures { result ≡ fit_each (types_of args.now) (map (λ p. p.ty) (map param_data params.now)) }
+    ensures { result ≡ fit_each (types_of args.now) (map (λ p. p.ty) params.now) }
 {
     let mut rest = args;
     for param in params {
@@ -73,7 +73,7 @@ fn fit_params(args: &[TypedExpr], params: &[ParamEntry]) -> bool
 
 // Whether arguments fit the final ones of these fields.
 fn fit_finals(args: &[TypedExpr], fields: &[FieldEntry]) -> bool
-    ensures { result ≡ fit_each (types_of args.now) (map (λ f. f.ty) (filter (λ f. f.is_final) (map field_data fields.now))) }
+    ensures { result ≡ fit_each (types_of args.now) (map (λ f. f.ty) (filter (λ f. f.is_final) fields.now)) }
 {
     let mut rest = args;
     for field in fields {
@@ -92,7 +92,7 @@ fn fit_finals(args: &[TypedExpr], fields: &[FieldEntry]) -> bool
 }
 
 // So many fields from a place on; fewer where they end before.
-fn window(all: &[FieldEntry], start: usize, count: usize) -> &[FieldEntry]
+fn window<'t, 'a>(all: &'t [FieldEntry<'a>], start: usize, count: usize) -> &'t [FieldEntry<'a>]
     ensures { result.now ≡ take count (drop start all.now) }
 {
     let (_, later) = all.split_at(start.min(all.len()));
@@ -100,26 +100,26 @@ fn window(all: &[FieldEntry], start: usize, count: usize) -> &[FieldEntry]
     own
 }
 
-fn class_entry(table: &ClassTable, class: ClassId) -> Option<&ClassEntry>
+fn class_entry<'t, 'a>(table: &'t ClassTable<'a>, class: ClassId) -> Option<&'t ClassEntry<'a>>
     ensures { option_map (λ e. class_data e.now) result ≡ slice_get (table_data table.now).classes class }
 {
     table.classes().get(class.0 as usize)
 }
 
-fn entry_fields<'t>(table: &'t ClassTable, entry: &ClassEntry) -> &'t [FieldEntry]
-    ensures { map field_data result.now ≡ fields_in (table_data table.now) (class_data entry.now) }
+fn entry_fields<'t, 'a>(table: &'t ClassTable<'a>, entry: &ClassEntry) -> &'t [FieldEntry<'a>]
+    ensures { result.now ≡ fields_in (table_data table.now) (class_data entry.now) }
 {
     let start = entry.first_field().0 as usize;
     window(table.fields(), start, entry.field_count())
 }
 
 // The fields of a class.
-fn fields_of(table: &ClassTable, class: ClassId) -> &[FieldEntry]
-    ensures { map field_data result.now ≡ class_fields (table_data table.now) class }
+fn fields_of<'t, 'a>(table: &'t ClassTable<'a>, class: ClassId) -> &'t [FieldEntry<'a>]
+    ensures { result.now ≡ class_fields (table_data table.now) class }
 {
     match class_entry(table, class) {
         Some(entry) => entry_fields(table, entry),
-        None => &[],
+        None => window(table.fields(), 0, 0),
     }
 }
 

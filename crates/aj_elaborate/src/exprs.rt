@@ -6,7 +6,7 @@ ghost use Rattle.aj_classes.specs.Views.{table_data};
 ghost use Rattle.aj_syntax.specs.Views.{expr_of, exprs_from};
 ghost use Rattle.aj_elaborate.specs.Exprs.{elaborated, elaborated_each, expr_faults, each_faults};
 ghost use Rattle.aj_elaborate.specs.Noted.{noted};
-ghost use Rattle.aj_elaborate.specs.Views.{typed_data, typed_list, scope_of};
+ghost use Rattle.aj_elaborate.specs.Views.{typed_data, typed_list};
 
 use crate::calls::{call_rule, new_rule};
 use crate::first::FirstFault;
@@ -32,8 +32,8 @@ pub(crate) fn expr(
     e: &Expr,
     first: &mut FirstFault,
 ) -> Result<Option<TypedExpr>, NoMemory>
-    ensures typed { IfOk result (λ r. option_map typed_data r ≡ elaborated (table_data table.now) class (scope_of scope.now) (expr_of e.now)) }
-    ensures fault { OnOk result (first.new ≡ noted first.old (expr_faults (table_data table.now) class (scope_of scope.now) (expr_of e.now))) }
+    ensures typed { IfOk result (λ r. option_map typed_data r ≡ elaborated (table_data table.now) class scope.now (expr_of e.now)) }
+    ensures fault { OnOk result (first.new ≡ noted first.old (expr_faults (table_data table.now) class scope.now (expr_of e.now))) }
 {
     match e {
         Expr::Number(number, at) => Ok(number_rule(*number, *at, first)),
@@ -84,8 +84,8 @@ fn arguments(
     args: &[Expr],
     first: &mut FirstFault,
 ) -> Result<Option<Vec<TypedExpr>>, NoMemory>
-    ensures typed { IfOk result (λ r. option_map (λ a. typed_list a.items) r ≡ elaborated_each (table_data table.now) class (scope_of scope.now) (exprs_from (map expr_of args.now))) }
-    ensures fault { OnOk result (first.new ≡ noted first.old (each_faults (table_data table.now) class (scope_of scope.now) (exprs_from (map expr_of args.now)))) }
+    ensures typed { IfOk result (λ r. option_map (λ a. typed_list a.items) r ≡ elaborated_each (table_data table.now) class scope.now (exprs_from (map expr_of args.now))) }
+    ensures fault { OnOk result (first.new ≡ noted first.old (each_faults (table_data table.now) class scope.now (exprs_from (map expr_of args.now)))) }
 {
     let mut parts = Gathered::new(alloc);
     for arg in args {

@@ -3,12 +3,12 @@
 ghost use Rattle.std.specs.Prelude.{◌≡◌, ◌∷◌, [], option_map};
 ghost use Rattle.aj_paths.specs.Paths.{extended_some};
 ghost use Rattle.aj_syntax.specs.Views.{lock_of};
-ghost use Rattle.aj_classes.specs.Views.{table_data, field_data};
+ghost use Rattle.aj_classes.specs.Views.{table_data};
 ghost use Rattle.aj_elaborate.specs.Noted.{noted};
 ghost use Rattle.aj_elaborate.specs.Rulings.{gain, loss};
 ghost use Rattle.aj_elaborate.specs.Locks.{reach_of, through, lock_field, along, lock_end, root_rule, lock_rule};
 ghost use Rattle.aj_elaborate.specs.Names.{variable_of};
-ghost use Rattle.aj_elaborate.specs.Views.{scope_of, field_found, reach_data};
+ghost use Rattle.aj_elaborate.specs.Views.{field_found, reach_data};
 
 use crate::fault::TypeFault;
 use crate::first::FirstFault;
@@ -48,7 +48,7 @@ fn extended(path: &Option<Path>, field: FieldId) -> Option<Path>
 }
 
 fn through(reach: ReachTo, id: FieldId, field: &FieldEntry) -> ReachTo
-    ensures { reach_data result ≡ through (reach_data reach) (id, field_data field.now) }
+    ensures { reach_data result ≡ through (reach_data reach) (id, field.now) }
 {
     ReachTo {
         path: extended(&reach.path, id),
@@ -58,13 +58,13 @@ fn through(reach: ReachTo, id: FieldId, field: &FieldEntry) -> ReachTo
 }
 
 // The field that a name means in a lock whose first token stands at `at`.
-fn lock_field<'t>(
-    table: &'t ClassTable,
+fn lock_field<'t, 'a>(
+    table: &'t ClassTable<'a>,
     at: u32,
     reach: &ReachTo,
     name: &Name,
     first: &mut FirstFault,
-) -> Option<(FieldId, &'t FieldEntry)>
+) -> Option<(FieldId, &'t FieldEntry<'a>)>
     ensures field { option_map field_found result ≡ gain (lock_field (table_data table.now) at (reach_data reach.now) name.now) }
     ensures fault { first.new ≡ noted first.old (loss (lock_field (table_data table.now) at (reach_data reach.now) name.now)) }
 {
@@ -72,7 +72,7 @@ fn lock_field<'t>(
         first.note(TypeFault::NotALock(at));
         return None;
     };
-    let found = field_named(table, class, name.text.as_str());
+    let found = field_named(table, class, name.text);
     if found.is_none() {
         first.note(TypeFault::UnknownName(name.at));
     }
@@ -133,8 +133,8 @@ fn root(
     root: &Option<Name>,
     first: &mut FirstFault,
 ) -> Option<Slot>
-    ensures variable { option_map variable_of result ≡ gain (root_rule class (scope_of scope.now) root.now) }
-    ensures fault { first.new ≡ noted first.old (loss (root_rule class (scope_of scope.now) root.now)) }
+    ensures variable { option_map variable_of result ≡ gain (root_rule class scope.now root.now) }
+    ensures fault { first.new ≡ noted first.old (loss (root_rule class scope.now root.now)) }
 {
     match root {
         None => Some(Slot {
@@ -143,7 +143,7 @@ fn root(
             ty: CoreType::Class(class),
         }),
         Some(name) => {
-            let found = find(scope, name.text.as_str());
+            let found = find(scope, name.text);
             if found.is_none() {
                 first.note(TypeFault::UnknownName(name.at));
             }
@@ -160,8 +160,8 @@ pub(crate) fn lock_path(
     lock: &Lock,
     first: &mut FirstFault,
 ) -> Option<Path>
-    ensures path { result ≡ gain (lock_rule (table_data table.now) class (scope_of scope.now) (lock_of lock.now)) }
-    ensures fault { first.new ≡ noted first.old (loss (lock_rule (table_data table.now) class (scope_of scope.now) (lock_of lock.now))) }
+    ensures path { result ≡ gain (lock_rule (table_data table.now) class scope.now (lock_of lock.now)) }
+    ensures fault { first.new ≡ noted first.old (loss (lock_rule (table_data table.now) class scope.now (lock_of lock.now))) }
 {
     let variable = root(class, scope, &lock.root, first)?;
     let reach = along(

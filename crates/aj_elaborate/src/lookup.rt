@@ -9,11 +9,11 @@ use aj_classes::{ClassTable, FieldEntry, MethodEntry};
 use aj_paths::{ClassId, FieldId, MethodId};
 
 /// The field of this name in a class.
-pub(crate) fn field_named<'t>(
-    table: &'t ClassTable,
+pub(crate) fn field_named<'t, 'a>(
+    table: &'t ClassTable<'a>,
     class: ClassId,
     name: &str,
-) -> Option<(FieldId, &'t FieldEntry)>
+) -> Option<(FieldId, &'t FieldEntry<'a>)>
     ensures { option_map field_found result ≡ field_named (table_data table.now) class name.now }
 {
     let id = table.field_named(class, name)?;
@@ -22,11 +22,11 @@ pub(crate) fn field_named<'t>(
 }
 
 /// The method of this name in a class.
-pub(crate) fn method_named<'t>(
-    table: &'t ClassTable,
+pub(crate) fn method_named<'t, 'a>(
+    table: &'t ClassTable<'a>,
     class: ClassId,
     name: &str,
-) -> Option<(MethodId, &'t MethodEntry)>
+) -> Option<(MethodId, &'t MethodEntry<'a>)>
     ensures { option_map method_found result ≡ method_named (table_data table.now) class name.now }
 {
     let id = table.method_named(class, name)?;

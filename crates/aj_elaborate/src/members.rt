@@ -53,8 +53,9 @@ fn field(
     is_final: bool,
     ty: &TypeName,
     guard: Option<Option<Path>>,
+    writes_only: bool,
 ) -> Option<CoreField>
-    ensures { option_map field_of result ≡ option_map (λ g. record { class = class; index = index; is_final = is_final; ty = type_of (table_data table.now).names ty.now; guard = g; writes_only = false }) guard }
+    ensures { option_map field_of result ≡ option_map (λ g. record { class = class; index = index; is_final = is_final; ty = type_of (table_data table.now).names ty.now; guard = g; writes_only = writes_only }) guard }
 {
     let guard = guard?;
     Some(CoreField {
@@ -63,7 +64,7 @@ fn field(
         is_final,
         ty: core_type(table, ty),
         guard,
-        writes_only: false,
+        writes_only,
     })
 }
 
@@ -97,12 +98,12 @@ fn add_member(
             is_final,
             ty,
             guard,
+            writes_only,
             name: _,
         } => {
             let guard = guard_path(table, class, guard, first);
-            parts
-                .fields
-                .add(field(table, class, index, *is_final, ty, guard))?;
+            let field = field(table, class, index, *is_final, ty, guard, *writes_only);
+            parts.fields.add(field)?;
             next_index(index)
         }
         Member::Ctor { .. } => Ok(index),

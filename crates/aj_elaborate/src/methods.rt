@@ -1,31 +1,33 @@
 //! Methods: their parameters, locks and bodies.
 #![tactic(auto, using(crate::proofs::Noting::noted_append))]
 
-ghost use Rattle.std.specs.Prelude.{◌≡◌, ◌+◌, length, map, flat_map, option_map, is_some, IfOk, OnOk, ◌&&◌};
+ghost use Rattle.std.specs.Prelude.{true, ◌≡◌, ◌+◌, length, map, flat_map, option_map, is_some, IfOk, OnOk, ◌&&◌};
 ghost use Rattle.aj_classes.specs.Table.{type_of};
 ghost use Rattle.aj_classes.specs.Views.{table_data};
 ghost use Rattle.aj_core.specs.Views.{method_of, stmt_of};
-ghost use Rattle.aj_syntax.specs.Views.{lock_of, member_of};
+ghost use Rattle.aj_core.specs.Core.{BlockS};
+ghost use Rattle.aj_syntax.specs.Views.{lock_of, member_of, stmt_of as tree_of, stmts_from};
+ghost use Rattle.aj_elaborate.specs.Stmts.{block_core, block_faults};
 ghost use Rattle.aj_elaborate.specs.Completion.{locals_in_each, completes_each};
 ghost use Rattle.aj_elaborate.specs.Gathered.{method_in, faults_in_method, return_faults};
 ghost use Rattle.aj_elaborate.specs.Locks.{lock_rule};
-ghost use Rattle.aj_elaborate.specs.Making.{method_from};
+ghost use Rattle.aj_elaborate.specs.Making.{method_with};
 ghost use Rattle.aj_elaborate.specs.Noted.{noted};
 ghost use Rattle.aj_elaborate.specs.Programs.{all_there, ascending};
 ghost use Rattle.aj_elaborate.specs.Rulings.{gain, loss, both};
 ghost use Rattle.aj_elaborate.specs.Scopes.{parameters_from};
-ghost use Rattle.aj_elaborate.specs.Views.{scope_of};
 
 use crate::fault::TypeFault;
 use crate::first::FirstFault;
 use crate::gather::Gathered;
 use crate::lock::lock_path;
+use crate::nodes::StmtPart;
 use crate::scope::Bound;
 use crate::stmts::{Signature, block};
 use aj_classes::ClassTable;
-use aj_core::{CoreMethod, CoreStmt, CoreType};
+use aj_core::{CoreMethod, CoreType};
 use aj_paths::{ClassId, Path};
-use aj_syntax::{Lock, Member, Param, TypeName};
+use aj_syntax::{Lock, Member, Param, Stmt, TypeName};
 use std::alloc::{AllocError as NoMemory, Global};
 use std::collections::BTreeSet;
 
@@ -37,7 +39,7 @@ pub(crate) fn core_type(table: &ClassTable, ty: &TypeName) -> CoreType
         TypeName::Int => CoreType::Int,
         TypeName::Boolean => CoreType::Boolean,
         TypeName::Class(name) => {
-            CoreType::Class(table.class_named(name.text.as_str()).unwrap_or(ClassId(0)))
+            CoreType::Class(table.class_named(name.text).unwrap_or(ClassId(0)))
         }
     }
 }
@@ -61,19 +63,23 @@ fn next_slot(slot: u16) -> Result<u16, NoMemory>
     }
 }
 
-fn parameters(alloc: Global, table: &ClassTable, params: &[Param]) -> Result<Vec<Bound>, NoMemory>
-    ensures { IfOk result (λ scope. scope_of scope.items ≡ parameters_from (table_data table.now) 1 params.now) }
+fn parameters<'a>(
+    alloc: Global,
+    table: &ClassTable,
+    params: &[Param<'a>],
+) -> Result<Vec<Bound<'a>>, NoMemory>
+    ensures { IfOk result (λ scope. scope.items ≡ parameters_from (table_data table.now) 1 params.now) }
 {
     let mut scope = Vec::new(alloc);
     let mut slot = 1;
     for param in params {
-        let name = param.name.text.copy(alloc)?;
-        scope.push(Bound {
-            name,
+        let bound = Bound {
+            name: param.name.text,
             slot,
             is_final: param.is_final,
             ty: core_type(table, &param.ty),
-        })?;
+        };
+        scope.push(bound)?;
         slot = next_slot(slot)?;
     }
     Ok(scope)
@@ -125,8 +131,8 @@ fn required(
     locks: &[Lock],
     first: &mut FirstFault,
 ) -> Result<Option<Vec<Path>>, NoMemory>
-    ensures paths { IfOk result (λ paths. option_map (λ v. v.items) paths ≡ all_there (map (λ l. gain (lock_rule (table_data table.now) class (scope_of scope.now) l)) (map lock_of locks.now))) }
-    ensures fault { OnOk result (first.new ≡ noted first.old (flat_map (λ l. loss (lock_rule (table_data table.now) class (scope_of scope.now) l)) (map lock_of locks.now))) }
+    ensures paths { IfOk result (λ paths. option_map (λ v. v.items) paths ≡ all_there (map (λ l. gain (lock_rule (table_data table.now) class scope.now l)) (map lock_of locks.now))) }
+    ensures fault { OnOk result (first.new ≡ noted first.old (flat_map (λ l. loss (lock_rule (table_data table.now) class scope.now l)) (map lock_of locks.now))) }
 {
     let mut paths = Gathered::new(alloc);
     for lock in locks {
@@ -156,24 +162,52 @@ fn note_missing_return(returns: bool, completes: bool, at: u32, first: &mut Firs
     }
 }
 
-// The core method of these parts. None where one is missing.
-fn core_method(
+/// The locks that a method requires, where each is one, and what its body gives.
+#[derive(Drop)]
+struct LocksAndBody {
+    locks: Option<Vec<Path>>,
+    body: StmtPart,
+}
+
+// The locks and the body of a method with these parameters.
+fn locks_and_body<'a>(
     alloc: Global,
     table: &ClassTable,
     method: &Signature,
+    params: &[Param<'a>],
+    locks: &[Lock],
+    body: &[Stmt<'a>],
+    first: &mut FirstFault,
+) -> Result<LocksAndBody, NoMemory>
+    ensures locks { IfOk result (λ made. option_map (λ v. v.items) made.locks ≡ all_there (map (λ l. gain (lock_rule (table_data table.now) method.now.class (parameters_from (table_data table.now) 1 params.now) l)) (map lock_of locks.now))) }
+    ensures node { IfOk result (λ made. option_map stmt_of made.body.node ≡ option_map BlockS (block_core (table_data table.now) method.now.class method.now.returns method.now.first_local (parameters_from (table_data table.now) 1 params.now) 0 (stmts_from (map tree_of body.now)))) }
+    ensures locals { IfOk result (λ made. made.body.locals ≡ locals_in_each (stmts_from (map tree_of body.now))) }
+    ensures completes { IfOk result (λ made. made.body.completes ≡ completes_each (stmts_from (map tree_of body.now))) }
+    ensures fault { OnOk result (first.new ≡ noted (noted first.old (flat_map (λ l. loss (lock_rule (table_data table.now) method.now.class (parameters_from (table_data table.now) 1 params.now) l)) (map lock_of locks.now))) (block_faults (table_data table.now) method.now.class method.now.returns method.now.first_local (parameters_from (table_data table.now) 1 params.now) 0 true (stmts_from (map tree_of body.now)))) }
+{
+    let mut scope = parameters(alloc, table, params)?;
+    let locks = required(alloc, table, method.class, scope.as_slice(), locks, first)?;
+    let body = block(alloc, table, method, &mut scope, 0, body, first)?;
+    Ok(LocksAndBody { locks, body })
+}
+
+// The core method of these parts. None where one is missing.
+fn core_method(
+    alloc: Global,
+    method: Signature,
     atomic: bool,
     place_at: u32,
-    params: &[Param],
-    locks: Option<Vec<Path>>,
-    body: Option<CoreStmt>,
-    locals: usize,
+    types: Vec<(bool, CoreType)>,
+    made: LocksAndBody,
 ) -> Result<Option<CoreMethod>, NoMemory>
-    ensures { IfOk result (λ m. option_map method_of m ≡ option_map (method_from (table_data table.now) method.now.class method.now.returns method.now.first_local atomic place_at params.now locals) (both (option_map (λ v. v.items) locks) (option_map stmt_of body))) }
+    ensures { IfOk result (λ m. option_map method_of m ≡ option_map (method_with method.class method.returns method.first_local atomic place_at types.items made.body.locals) (both (option_map (λ v. v.items) made.locks) (option_map stmt_of made.body.node))) }
 {
+    let LocksAndBody { locks, body } = made;
+    let locals = body.locals;
     let Some(locks) = locks else {
         return Ok(None);
     };
-    let Some(body) = body else {
+    let Some(body) = body.node else {
         return Ok(None);
     };
     Ok(Some(CoreMethod {
@@ -181,7 +215,7 @@ fn core_method(
         place_at,
         annotated: atomic,
         requires_: ascending(alloc, locks)?,
-        params: param_types(alloc, table, params)?,
+        params: types,
         result: method.returns,
         slots: slots(method.first_local, locals)?,
         body,
@@ -212,31 +246,21 @@ pub(crate) fn method(
         return Ok(None);
     };
     let params = params.as_slice();
-    let mut scope = parameters(alloc, table, params)?;
     let method = Signature {
         class,
         returns: result_of(table, returns),
         first_local: first_local(params)?,
     };
-    let locks = required(
-        alloc,
-        table,
-        class,
-        scope.as_slice(),
-        requires_.as_slice(),
-        first,
-    )?;
-    let body = block(alloc, table, &method, &mut scope, 0, body.as_slice(), first)?;
-    note_missing_return(returns.is_some(), body.completes, *at, first);
-    core_method(
+    let made = locks_and_body(
         alloc,
         table,
         &method,
-        *atomic,
-        name.at,
         params,
-        locks,
-        body.node,
-        body.locals,
-    )
+        requires_.as_slice(),
+        body.as_slice(),
+        first,
+    )?;
+    note_missing_return(returns.is_some(), made.body.completes, *at, first);
+    let types = param_types(alloc, table, params)?;
+    core_method(alloc, method, *atomic, name.at, types, made)
 }

@@ -8,7 +8,7 @@ ghost use Rattle.aj_elaborate.specs.Exprs.{variable_rule};
 ghost use Rattle.aj_elaborate.specs.Noted.{noted};
 ghost use Rattle.aj_elaborate.specs.Rulings.{gain, loss, given, broken, both};
 ghost use Rattle.aj_elaborate.specs.Rules.{typed, number_rule, least_typed, not_rule, neg_rule, operator_rule, logical_node, logical_rule, binary_rule, field_rule, class_rule, get_rule};
-ghost use Rattle.aj_elaborate.specs.Views.{typed_data, type_data, field_found, scope_of};
+ghost use Rattle.aj_elaborate.specs.Views.{typed_data, type_data, field_found};
 
 use crate::fault::TypeFault;
 use crate::first::FirstFault;
@@ -55,10 +55,10 @@ pub(crate) fn variable_rule(
     name: &Name,
     first: &mut FirstFault,
 ) -> Option<TypedExpr>
-    ensures typed { option_map typed_data result ≡ gain (variable_rule (scope_of scope.now) name.now) }
-    ensures fault { first.new ≡ noted first.old (loss (variable_rule (scope_of scope.now) name.now)) }
+    ensures typed { option_map typed_data result ≡ gain (variable_rule scope.now name.now) }
+    ensures fault { first.new ≡ noted first.old (loss (variable_rule scope.now name.now)) }
 {
-    let Some(variable) = find(scope, name.text.as_str()) else {
+    let Some(variable) = find(scope, name.text) else {
         first.note(TypeFault::UnknownName(name.at));
         return None;
     };
@@ -211,12 +211,12 @@ pub(crate) fn binary_rule(
 }
 
 /// The field that a name means for a receiver of this type.
-pub(crate) fn field_rule<'t>(
-    table: &'t ClassTable,
+pub(crate) fn field_rule<'t, 'a>(
+    table: &'t ClassTable<'a>,
     name: &Name,
     receiver: ExprType,
     first: &mut FirstFault,
-) -> Option<(FieldId, &'t FieldEntry)>
+) -> Option<(FieldId, &'t FieldEntry<'a>)>
     ensures field { option_map field_found result ≡ gain (field_rule (table_data table.now) name.now (type_data receiver)) }
     ensures fault { first.new ≡ noted first.old (loss (field_rule (table_data table.now) name.now (type_data receiver))) }
 {
@@ -224,7 +224,7 @@ pub(crate) fn field_rule<'t>(
         first.note(TypeFault::NoRule(name.at));
         return None;
     };
-    let found = field_named(table, class, name.text.as_str());
+    let found = field_named(table, class, name.text);
     if found.is_none() {
         first.note(TypeFault::UnknownName(name.at));
     }
@@ -236,7 +236,7 @@ pub(crate) fn class_rule(table: &ClassTable, name: &Name, first: &mut FirstFault
     ensures class { result ≡ gain (class_rule (table_data table.now) name.now) }
     ensures fault { first.new ≡ noted first.old (loss (class_rule (table_data table.now) name.now)) }
 {
-    let found = table.class_named(name.text.as_str());
+    let found = table.class_named(name.text);
     if found.is_none() {
         first.note(TypeFault::UnknownName(name.at));
     }

@@ -2,19 +2,26 @@
 
 ghost use Rattle.std.specs.Prelude.{◌≡◌, option_map};
 ghost use Rattle.aj_elaborate.specs.Scopes.{variable};
-ghost use Rattle.aj_elaborate.specs.Views.{scope_of};
 ghost use Rattle.aj_elaborate.specs.Names.{variable_of};
 
 use aj_core::CoreType;
-use aj_lexer::Text;
+use std::marker::Model;
 
-/// A parameter or local in scope.
+/// A parameter or local in scope, whose name is a slice of the source.
 #[derive(Drop)]
-pub(crate) struct Bound {
-    pub(crate) name: Text,
+pub(crate) struct Bound<'a> {
+    pub(crate) name: &'a str,
     pub(crate) slot: u16,
     pub(crate) is_final: bool,
     pub(crate) ty: CoreType,
+}
+
+impl<'a> Model for Bound<'a> {
+    ghost use Rattle.aj_elaborate.specs.Scopes.{Binding};
+
+    ghost Value = { Binding };
+
+    ghost view = { λ b. record { name = b.name.now; variable = record { slot = b.slot; is_final = b.is_final; ty = b.ty } } };
 }
 
 /// The slot, finality and type of a variable.
@@ -27,10 +34,10 @@ pub(crate) struct Slot {
 
 /// The variable of this name.
 pub(crate) fn find(scope: &[Bound], name: &str) -> Option<Slot>
-    ensures { option_map variable_of result ≡ variable (scope_of scope.now) name.now }
+    ensures { option_map variable_of result ≡ variable scope.now name.now }
 {
     for b in scope {
-        if b.name.as_str() == name {
+        if b.name == name {
             return Some(Slot {
                 slot: b.slot,
                 is_final: b.is_final,

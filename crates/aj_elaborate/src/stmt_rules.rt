@@ -10,7 +10,7 @@ ghost use Rattle.aj_elaborate.specs.Noted.{noted};
 ghost use Rattle.aj_elaborate.specs.Rulings.{gain, loss, given, broken, both};
 ghost use Rattle.aj_elaborate.specs.Rules.{type_rule, fit_rule};
 ghost use Rattle.aj_elaborate.specs.Stmts.{local_rule, target_rule, set_rule, field_target, put_rule, do_rule, condition_rule, return_rule, value_rule, print_rule, is_runnable, start_rule, too_many, redeclared};
-ghost use Rattle.aj_elaborate.specs.Views.{typed_data, type_data, scope_of, target_data};
+ghost use Rattle.aj_elaborate.specs.Views.{typed_data, type_data, target_data};
 
 use crate::fault::TypeFault;
 use crate::first::FirstFault;
@@ -39,7 +39,7 @@ pub(crate) fn type_rule(
         TypeName::Int => Some(CoreType::Int),
         TypeName::Boolean => Some(CoreType::Boolean),
         TypeName::Class(name) => {
-            let Some(class) = table.class_named(name.text.as_str()) else {
+            let Some(class) = table.class_named(name.text) else {
                 first.note(TypeFault::UnknownName(name.at));
                 return None;
             };
@@ -109,9 +109,9 @@ fn note_too_many(before: usize, name: &Name, first: &mut FirstFault)
 }
 
 fn note_redeclared(scope: &[Bound], name: &Name, first: &mut FirstFault)
-    ensures { first.new ≡ noted first.old (redeclared (scope_of scope.now) name.now) }
+    ensures { first.new ≡ noted first.old (redeclared scope.now name.now) }
 {
-    if find(scope, name.text.as_str()).is_some() {
+    if find(scope, name.text).is_some() {
         first.note(TypeFault::Redeclared(name.at));
     }
 }
@@ -119,7 +119,7 @@ fn note_redeclared(scope: &[Bound], name: &Name, first: &mut FirstFault)
 /// What is wrong with the name of a declaration, where so many locals stand before it.
 #[tactic(auto, using(crate::proofs::Noting::noted_append))]
 pub(crate) fn note_declaration(scope: &[Bound], before: usize, name: &Name, first: &mut FirstFault)
-    ensures { first.new ≡ noted first.old (too_many before name.now ++ redeclared (scope_of scope.now) name.now) }
+    ensures { first.new ≡ noted first.old (too_many before name.now ++ redeclared scope.now name.now) }
 {
     note_too_many(before, name, first);
     note_redeclared(scope, name, first);
@@ -127,10 +127,10 @@ pub(crate) fn note_declaration(scope: &[Bound], before: usize, name: &Name, firs
 
 /// The variable that is assigned.
 pub(crate) fn target_rule(scope: &[Bound], name: &Name, first: &mut FirstFault) -> Option<Slot>
-    ensures variable { option_map variable_of result ≡ gain (target_rule (scope_of scope.now) name.now) }
-    ensures fault { first.new ≡ noted first.old (loss (target_rule (scope_of scope.now) name.now)) }
+    ensures variable { option_map variable_of result ≡ gain (target_rule scope.now name.now) }
+    ensures fault { first.new ≡ noted first.old (loss (target_rule scope.now name.now)) }
 {
-    let Some(variable) = find(scope, name.text.as_str()) else {
+    let Some(variable) = find(scope, name.text) else {
         first.note(TypeFault::UnknownName(name.at));
         return None;
     };
@@ -166,12 +166,12 @@ pub(crate) fn set_rule(
 }
 
 /// The receiver and the field that are assigned.
-pub(crate) fn field_target<'t>(
-    table: &'t ClassTable,
+pub(crate) fn field_target<'t, 'a>(
+    table: &'t ClassTable<'a>,
     name: &Name,
     receiver: Option<TypedExpr>,
     first: &mut FirstFault,
-) -> Option<(CoreExpr, (FieldId, &'t FieldEntry))>
+) -> Option<(CoreExpr, (FieldId, &'t FieldEntry<'a>))>
     ensures target { option_map target_data result ≡ given (field_target (table_data table.now) name.now) (option_map typed_data receiver) }
     ensures fault { first.new ≡ noted first.old (broken (field_target (table_data table.now) name.now) (option_map typed_data receiver)) }
 {

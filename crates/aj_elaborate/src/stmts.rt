@@ -12,7 +12,6 @@ ghost use Rattle.aj_elaborate.specs.Noted.{noted};
 ghost use Rattle.aj_elaborate.specs.Rulings.{gain};
 ghost use Rattle.aj_elaborate.specs.Rules.{type_rule};
 ghost use Rattle.aj_elaborate.specs.Stmts.{scope_after, stmt_core, block_core, stmt_faults, block_faults, unreachable};
-ghost use Rattle.aj_elaborate.specs.Views.{scope_of};
 ghost use Rattle.aj_elaborate.specs.declared.scope.Bound.{Bound};
 
 use crate::completion::{begins_at, is_true_literal};
@@ -66,8 +65,8 @@ fn local(
     value: &Expr,
     first: &mut FirstFault,
 ) -> Result<Option<CoreStmt>, NoMemory>
-    ensures node { IfOk result (λ s. option_map core.stmt_of s ≡ stmt_core (table_data table.now) method.now.class method.now.returns method.now.first_local (scope_of scope.now) before (tree.LocalS is_final ty.now name.now (expr_of value.now) 0)) }
-    ensures fault { OnOk result (first.new ≡ noted first.old (stmt_faults (table_data table.now) method.now.class method.now.returns method.now.first_local (scope_of scope.now) before (tree.LocalS is_final ty.now name.now (expr_of value.now) 0))) }
+    ensures node { IfOk result (λ s. option_map core.stmt_of s ≡ stmt_core (table_data table.now) method.now.class method.now.returns method.now.first_local scope.now before (tree.LocalS is_final ty.now name.now (expr_of value.now) 0)) }
+    ensures fault { OnOk result (first.new ≡ noted first.old (stmt_faults (table_data table.now) method.now.class method.now.returns method.now.first_local scope.now before (tree.LocalS is_final ty.now name.now (expr_of value.now) 0))) }
 {
     let ty = type_rule(table, ty, first);
     let value = expr(alloc, table, method.class, scope, value, first)?;
@@ -86,8 +85,8 @@ fn set_var(
     at: u32,
     first: &mut FirstFault,
 ) -> Result<Option<CoreStmt>, NoMemory>
-    ensures node { IfOk result (λ s. option_map core.stmt_of s ≡ stmt_core (table_data table.now) method.now.class method.now.returns method.now.first_local (scope_of scope.now) 0 (tree.SetVarS name.now (expr_of value.now) at)) }
-    ensures fault { OnOk result (first.new ≡ noted first.old (stmt_faults (table_data table.now) method.now.class method.now.returns method.now.first_local (scope_of scope.now) 0 (tree.SetVarS name.now (expr_of value.now) at))) }
+    ensures node { IfOk result (λ s. option_map core.stmt_of s ≡ stmt_core (table_data table.now) method.now.class method.now.returns method.now.first_local scope.now 0 (tree.SetVarS name.now (expr_of value.now) at)) }
+    ensures fault { OnOk result (first.new ≡ noted first.old (stmt_faults (table_data table.now) method.now.class method.now.returns method.now.first_local scope.now 0 (tree.SetVarS name.now (expr_of value.now) at))) }
 {
     let target = target_rule(scope, name, first);
     let value = expr(alloc, table, method.class, scope, value, first)?;
@@ -105,8 +104,8 @@ fn set_field(
     at: u32,
     first: &mut FirstFault,
 ) -> Result<Option<CoreStmt>, NoMemory>
-    ensures node { IfOk result (λ s. option_map core.stmt_of s ≡ stmt_core (table_data table.now) method.now.class method.now.returns method.now.first_local (scope_of scope.now) 0 (tree.SetFieldS (expr_of receiver.now) name.now (expr_of value.now) at)) }
-    ensures fault { OnOk result (first.new ≡ noted first.old (stmt_faults (table_data table.now) method.now.class method.now.returns method.now.first_local (scope_of scope.now) 0 (tree.SetFieldS (expr_of receiver.now) name.now (expr_of value.now) at))) }
+    ensures node { IfOk result (λ s. option_map core.stmt_of s ≡ stmt_core (table_data table.now) method.now.class method.now.returns method.now.first_local scope.now 0 (tree.SetFieldS (expr_of receiver.now) name.now (expr_of value.now) at)) }
+    ensures fault { OnOk result (first.new ≡ noted first.old (stmt_faults (table_data table.now) method.now.class method.now.returns method.now.first_local scope.now 0 (tree.SetFieldS (expr_of receiver.now) name.now (expr_of value.now) at))) }
 {
     let receiver = expr(alloc, table, method.class, scope, receiver, first)?;
     let target = field_target(table, name, receiver, first);
@@ -123,8 +122,8 @@ fn return_stmt(
     at: u32,
     first: &mut FirstFault,
 ) -> Result<Option<CoreStmt>, NoMemory>
-    ensures node { IfOk result (λ s. option_map core.stmt_of s ≡ stmt_core (table_data table.now) method.now.class method.now.returns method.now.first_local (scope_of scope.now) 0 (tree.ReturnS (option_map (λ b. expr_of b.value) value.now) at)) }
-    ensures fault { OnOk result (first.new ≡ noted first.old (stmt_faults (table_data table.now) method.now.class method.now.returns method.now.first_local (scope_of scope.now) 0 (tree.ReturnS (option_map (λ b. expr_of b.value) value.now) at))) }
+    ensures node { IfOk result (λ s. option_map core.stmt_of s ≡ stmt_core (table_data table.now) method.now.class method.now.returns method.now.first_local scope.now 0 (tree.ReturnS (option_map (λ b. expr_of b.value) value.now) at)) }
+    ensures fault { OnOk result (first.new ≡ noted first.old (stmt_faults (table_data table.now) method.now.class method.now.returns method.now.first_local scope.now 0 (tree.ReturnS (option_map (λ b. expr_of b.value) value.now) at))) }
 {
     let Some(value) = value else {
         return Ok(return_rule(at, method.returns, first));
@@ -150,22 +149,21 @@ fn type_named(table: &ClassTable, ty: &TypeName) -> Option<CoreType>
         TypeName::Int => Some(CoreType::Int),
         TypeName::Boolean => Some(CoreType::Boolean),
         TypeName::Class(name) => {
-            let class = table.class_named(name.text.as_str())?;
+            let class = table.class_named(name.text)?;
             Some(CoreType::Class(class))
         }
     }
 }
 
 // Puts what a statement declares into scope, where so many locals stand before it.
-fn declare(
-    alloc: Global,
+fn declare<'a>(
     table: &ClassTable,
     method: &Signature,
     before: usize,
-    s: &Stmt,
-    scope: &mut Vec<Bound>,
+    s: &Stmt<'a>,
+    scope: &mut Vec<Bound<'a>>,
 ) -> Result<(), NoMemory>
-    ensures scope { OnOk result (scope_of scope.new.items ≡ scope_after (table_data table.now) method.now.class method.now.returns method.now.first_local (scope_of scope.old.items) before (stmt_of s.now)) }
+    ensures scope { OnOk result (scope.new.items ≡ scope_after (table_data table.now) method.now.class method.now.returns method.now.first_local scope.old.items before (stmt_of s.now)) }
     ensures kept { OnOk result ((more : List Bound) × (scope.new.items ≡ scope.old.items ++ more)) }
 {
     let Stmt::Local {
@@ -183,32 +181,32 @@ fn declare(
     if before >= MOST_LOCALS {
         return Ok(());
     }
-    let name = name.text.copy(alloc)?;
-    scope.push(Bound {
-        name,
+    let bound = Bound {
+        name: name.text,
         slot: method.first_local as u16 + before as u16,
         is_final: *is_final,
         ty,
-    })?;
+    };
+    scope.push(bound)?;
     Ok(())
 }
 
 /// A statement of a method, with these variables in scope and so many locals declared before it.
 #[cycle(statements)]
-fn stmt(
+fn stmt<'a>(
     alloc: Global,
     table: &ClassTable,
     method: &Signature,
-    scope: &mut Vec<Bound>,
+    scope: &mut Vec<Bound<'a>>,
     before: usize,
-    s: &Stmt,
+    s: &Stmt<'a>,
     first: &mut FirstFault,
 ) -> Result<StmtPart, NoMemory>
-    ensures node { IfOk result (λ p. option_map core.stmt_of p.node ≡ stmt_core (table_data table.now) method.now.class method.now.returns method.now.first_local (scope_of scope.old.items) before (stmt_of s.now)) }
+    ensures node { IfOk result (λ p. option_map core.stmt_of p.node ≡ stmt_core (table_data table.now) method.now.class method.now.returns method.now.first_local scope.old.items before (stmt_of s.now)) }
     ensures scope { OnOk result (scope.new.items ≡ scope.old.items) }
     ensures locals { IfOk result (λ p. p.locals ≡ locals_in (stmt_of s.now)) }
     ensures completes { IfOk result (λ p. p.completes ≡ completes (stmt_of s.now)) }
-    ensures fault { OnOk result (first.new ≡ noted first.old (stmt_faults (table_data table.now) method.now.class method.now.returns method.now.first_local (scope_of scope.old.items) before (stmt_of s.now))) }
+    ensures fault { OnOk result (first.new ≡ noted first.old (stmt_faults (table_data table.now) method.now.class method.now.returns method.now.first_local scope.old.items before (stmt_of s.now))) }
 {
     match s {
         Stmt::Empty(_) => Ok(simple(Some(CoreStmt::Empty))),
@@ -335,20 +333,20 @@ fn stmt(
 
 /// The statements of a block, the first of which can be reached.
 #[cycle(statements)]
-pub(crate) fn block(
+pub(crate) fn block<'a>(
     alloc: Global,
     table: &ClassTable,
     method: &Signature,
-    scope: &mut Vec<Bound>,
+    scope: &mut Vec<Bound<'a>>,
     before: usize,
-    stmts: &[Stmt],
+    stmts: &[Stmt<'a>],
     first: &mut FirstFault,
 ) -> Result<StmtPart, NoMemory>
-    ensures node { IfOk result (λ p. option_map core.stmt_of p.node ≡ option_map BlockS (block_core (table_data table.now) method.now.class method.now.returns method.now.first_local (scope_of scope.old.items) before (stmts_from (map stmt_of stmts.now)))) }
+    ensures node { IfOk result (λ p. option_map core.stmt_of p.node ≡ option_map BlockS (block_core (table_data table.now) method.now.class method.now.returns method.now.first_local scope.old.items before (stmts_from (map stmt_of stmts.now)))) }
     ensures scope { OnOk result (scope.new.items ≡ scope.old.items) }
     ensures locals { IfOk result (λ p. p.locals ≡ locals_in_each (stmts_from (map stmt_of stmts.now))) }
     ensures completes { IfOk result (λ p. p.completes ≡ completes_each (stmts_from (map stmt_of stmts.now))) }
-    ensures fault { OnOk result (first.new ≡ noted first.old (block_faults (table_data table.now) method.now.class method.now.returns method.now.first_local (scope_of scope.old.items) before true (stmts_from (map stmt_of stmts.now)))) }
+    ensures fault { OnOk result (first.new ≡ noted first.old (block_faults (table_data table.now) method.now.class method.now.returns method.now.first_local scope.old.items before true (stmts_from (map stmt_of stmts.now)))) }
 {
     let variables = scope.len();
     let mut nodes = Gathered::new(alloc);
@@ -358,7 +356,7 @@ pub(crate) fn block(
         note_unreachable(live, s, first);
         let before_s = total(before, locals)?;
         let part = stmt(alloc, table, method, scope, before_s, s, first)?;
-        declare(alloc, table, method, before_s, s, scope)?;
+        declare(table, method, before_s, s, scope)?;
         nodes.add(part.node)?;
         locals = total(locals, part.locals)?;
         live &= part.completes;

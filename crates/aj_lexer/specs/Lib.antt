@@ -2,5 +2,6 @@ pub mod Pieces
 pub mod Places
 pub mod Reading
 pub mod Reserved
+pub mod Seen
 pub mod Tokens
 pub mod Written

@@ -11,7 +11,7 @@ ghost use Rattle.aj_lexer.specs.Reading.{front as find, IsCut, tokens_of};
 
 use crate::faults::LexFault;
 use crate::pieces::{Front, Piece, find_front};
-use crate::tokens::{Text, Token, TokenKind};
+use crate::tokens::{Token, TokenKind};
 use std::alloc::{AllocError as NoMemory, Global};
 
 /// The greatest number that a source may write.
@@ -20,73 +20,85 @@ const GREATEST_LITERAL: u32 = 2_147_483_648;
 /// How many bytes a word may have.
 const LONGEST_WORD: usize = 64;
 
-const RESERVED: [&str; 60] = [
-    "abstract",
-    "assert",
-    "boolean",
-    "break",
-    "byte",
-    "case",
-    "catch",
-    "char",
-    "class",
-    "const",
-    "continue",
-    "default",
-    "do",
-    "double",
-    "else",
-    "enum",
-    "extends",
-    "final",
-    "finally",
-    "float",
-    "for",
-    "goto",
+// The reserved words, by their first letters.
+const FROM_A: [&str; 3] = ["abstract", "assert", "atomic"];
+
+const FROM_B: [&str; 3] = ["boolean", "break", "byte"];
+
+const FROM_C: [&str; 6] = ["case", "catch", "char", "class", "const", "continue"];
+
+const FROM_D: [&str; 3] = ["default", "do", "double"];
+
+const FROM_E: [&str; 3] = ["else", "enum", "extends"];
+
+const FROM_F: [&str; 5] = ["final", "finally", "float", "for", "false"];
+
+const FROM_G: [&str; 2] = ["goto", "guarded_by"];
+
+const FROM_I: [&str; 6] = [
     "if",
     "implements",
     "import",
     "instanceof",
     "int",
     "interface",
-    "long",
-    "native",
-    "new",
-    "package",
-    "private",
-    "protected",
-    "public",
-    "return",
+];
+
+const FROM_L: [&str; 1] = ["long"];
+
+const FROM_N: [&str; 3] = ["native", "new", "null"];
+
+const FROM_P: [&str; 4] = ["package", "private", "protected", "public"];
+
+const FROM_R: [&str; 2] = ["return", "requires"];
+
+const FROM_S: [&str; 6] = [
     "short",
     "static",
     "strictfp",
     "super",
     "switch",
     "synchronized",
-    "this",
-    "throw",
-    "throws",
-    "transient",
-    "try",
-    "void",
-    "volatile",
-    "while",
-    "true",
-    "false",
-    "null",
-    "atomic",
-    "guarded_by",
-    "requires",
-    "write_guarded_by",
-    "System",
-    "Thread",
-    "Runnable",
 ];
 
+const FROM_T: [&str; 6] = ["this", "throw", "throws", "transient", "try", "true"];
+
+const FROM_V: [&str; 2] = ["void", "volatile"];
+
+const FROM_W: [&str; 2] = ["while", "write_guarded_by"];
+
+const FROM_CAPITAL_R: [&str; 1] = ["Runnable"];
+
+const FROM_CAPITAL_S: [&str; 1] = ["System"];
+
+const FROM_CAPITAL_T: [&str; 1] = ["Thread"];
+
+/// Whether a word is reserved: its first letter leaves at most six words to compare it with.
 fn is_reserved(word: &str) -> bool
     ensures { result ≡ is_reserved word.now }
 {
-    RESERVED.contains(&word)
+    match word.as_bytes() {
+        [b'a', ..] => FROM_A.contains(&word),
+        [b'b', ..] => FROM_B.contains(&word),
+        [b'c', ..] => FROM_C.contains(&word),
+        [b'd', ..] => FROM_D.contains(&word),
+        [b'e', ..] => FROM_E.contains(&word),
+        [b'f', ..] => FROM_F.contains(&word),
+        [b'g', ..] => FROM_G.contains(&word),
+        [b'i', ..] => FROM_I.contains(&word),
+        [b'l', ..] => FROM_L.contains(&word),
+        [b'n', ..] => FROM_N.contains(&word),
+        [b'p', ..] => FROM_P.contains(&word),
+        [b'r', ..] => FROM_R.contains(&word),
+        [b's', ..] => FROM_S.contains(&word),
+        [b't', ..] => FROM_T.contains(&word),
+        [b'v', ..] => FROM_V.contains(&word),
+        [b'w', ..] => FROM_W.contains(&word),
+        [b'R', ..] => FROM_CAPITAL_R.contains(&word),
+        [b'S', ..] => FROM_CAPITAL_S.contains(&word),
+        [b'T', ..] => FROM_CAPITAL_T.contains(&word),
+        _ => false,
+    }
 }
 
 /// The number that the digits write, where it isn't too large.
@@ -163,18 +175,18 @@ fn first_cut(text: &str, at: u32) -> Result<Cut<'_>, LexFault>
 }
 
 /// Adds the token that a piece is, if it is one.
-fn keep(alloc: Global, tokens: &mut Vec<Token>, cut: &Cut<'_>, at: u32) -> Result<(), NoMemory>
+fn keep<'a>(tokens: &mut Vec<Token<'a>>, cut: &Cut<'a>, at: u32) -> Result<(), NoMemory>
     ensures { OnOk result (tokens.new.items ≡ tokens.old.items ++ tokens_of cut.now.token cut.now.piece.now at) }
 {
     if let Some(kind) = cut.token {
-        let text = Text::new(alloc, cut.piece)?;
+        let text = cut.piece;
         tokens.push(Token { kind, text, at })?;
     }
     Ok(())
 }
 
 /// Cuts a text from the left, piece by piece.
-fn cut_all(alloc: Global, text: &str) -> Result<Vec<Token>, LexFault>
+fn cut_all<'a>(alloc: Global, text: &'a str) -> Result<Vec<Token<'a>>, LexFault>
     requires { length text.now ≤ 262144 }
     ensures tokens { IfOk result (λ ts. Tokens text.now ts.items) }
     ensures fault { IfErr result (λ e. (e ≡ LexFault.NoMemory) ⊎ FirstFault text.now e) }
@@ -184,7 +196,7 @@ fn cut_all(alloc: Global, text: &str) -> Result<Vec<Token>, LexFault>
     let mut at: u32 = 0;
     while !rest.is_empty() {
         let cut = first_cut(rest, at)?;
-        keep(alloc, &mut tokens, &cut, at)?;
+        keep(&mut tokens, &cut, at)?;
         at += cut.piece.len() as u32;
         rest = cut.rest;
     }
@@ -192,9 +204,9 @@ fn cut_all(alloc: Global, text: &str) -> Result<Vec<Token>, LexFault>
 }
 
 /// The tokens of a source, or its first fault. As in Java's lexical grammar, the longest piece is cut off each time.
-/// Offsets count bytes from 0. Blanks and comments give no token.
-/// Takes memory for the tokens alone, and time linear in the source.
-pub fn lex(alloc: Global, text: &str) -> Result<Vec<Token>, LexFault>
+/// Offsets count bytes from 0. Blanks and comments give no token. The text of each token is a slice of the source.
+/// Takes memory for the list alone, and time linear in the source.
+pub fn lex<'a>(alloc: Global, text: &'a str) -> Result<Vec<Token<'a>>, LexFault>
     requires { length text.now ≤ 262144 }
     ensures tokens { IfOk result (λ found. Tokens text.now found.items) }
     ensures tokens_given { (ts : List Token) → Tokens text.now ts → MatchResult result (λ found. found.items ≡ ts) (λ e. e ≡ LexFault.NoMemory) }

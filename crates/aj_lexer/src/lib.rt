@@ -13,5 +13,5 @@ pub use faults::LexFault;
 pub use laws::{token_laws, writing_laws};
 pub use lexer::lex;
 pub use places::{Place, place_of};
-pub use tokens::{Text, Token, TokenKind};
+pub use tokens::{Token, TokenKind};
 pub use utf8::{NotText, utf8_text};

@@ -37,7 +37,7 @@ module _ (P : Program) (code : List Code) where
   moved_stands n move other c q same one h =
       subst (λ x. StateStands P code (moved n move c) (changed x (record q { threads = slice_set q.threads n other.thread }))) same
       (changed_stands move.change (record c { threads = slice_set c.threads n move.thread }) (record q { threads = slice_set q.threads n other.thread })
-        (record { heap = h.heap; locks = h.locks; threads = set_stands n move.thread other.thread c.threads q.threads one h.threads; output = h.output }))
+      (record { heap = h.heap; locks = h.locks; threads = set_stands n move.thread other.thread c.threads q.threads one h.threads; output = h.output }))
 
   after_stands : (n : ℕ) (c : StateOf CodeFrame) (q : State) (o : OutcomeOf CodeFrame) (p : Outcome) → StateStands P code c q → OutcomeStands P code o p → SomeStands P code (state_after c n o) (state_after q n p)
   after_stands n c q _ _ h (both_move kind d u change one) = moved_stands n (record { kind = kind; thread = d; change = change }) (record { kind = kind; thread = u; change = change }) c q refl one h

@@ -69,11 +69,11 @@ module _ (P : Program) (code : List Code) (entry room : List ℕ) (is_code : IsC
     -- the frame goes on
     goes : (kind : StepKind) (slots ops : List Value) (place : ℕ) (locks : List Address) (more : List Item) (change : Change) → Stands R code place locks more
         → OutcomeStands P code
-          (Moves (record { kind = kind; thread = Running (record f { slots = slots; operands = ops; place = place; taken = locks } ∷ fs); change = change }))
-          (Moves (record { kind = kind; thread = Running (record g { slots = slots; operands = ops; work = more } ∷ gs); change = change }))
+        (Moves (record { kind = kind; thread = Running (record f { slots = slots; operands = ops; place = place; taken = locks } ∷ fs); change = change }))
+        (Moves (record { kind = kind; thread = Running (record g { slots = slots; operands = ops; work = more } ∷ gs); change = change }))
     goes kind slots ops place locks more change k =
         both_move kind (Running (record f { slots = slots; operands = ops; place = place; taken = locks } ∷ fs)) (Running (record g { slots = slots; operands = ops; work = more } ∷ gs)) change
-            (running_stands _ _ (more_frames (record f { slots = slots; operands = ops; place = place; taken = locks }) more fs gs k stand))
+        (running_stands _ _ (more_frames (record f { slots = slots; operands = ops; place = place; taken = locks }) more fs gs k stand))
 
     module _ (rest : List Item) (next : ℕ) where
       load_like : (o : Option Value) → Stands R code next f.taken rest → Like (C.pushes next o) (D.load P see t g gs rest o)
@@ -141,9 +141,9 @@ module _ (P : Program) (code : List Code) (entry room : List ℕ) (is_code : IsC
           let begins = subst (λ b. Stands b code place [] (St method.body ∷ Act W.Ret ∷ [])) (sym (ap has_result there)) (is_code.stands m place method there at) in
           let frames = more_frames callee (St method.body ∷ Act W.Ret ∷ []) (caller ∷ fs) (with_work caller rest ∷ gs) begins (more_frames caller rest fs gs k stand) in
           subst (λ o. OutcomeStands P code
-            (Moves (record { kind = Both; thread = C.entered m o (value.Ref a) (taken n [] f.operands) place (caller ∷ fs); change = Nothing }))
-            (D.enter P see t g gs rest m method a true)) (sym there)
-            (both_move Both (Running (callee ∷ caller ∷ fs)) (Running (new_frame m method (value.Ref a) (taken n [] f.operands) ∷ with_work caller rest ∷ gs)) Nothing (running_stands _ _ frames))
+          (Moves (record { kind = Both; thread = C.entered m o (value.Ref a) (taken n [] f.operands) place (caller ∷ fs); change = Nothing }))
+          (D.enter P see t g gs rest m method a true)) (sym there)
+          (both_move Both (Running (callee ∷ caller ∷ fs)) (Running (new_frame m method (value.Ref a) (taken n [] f.operands) ∷ with_work caller rest ∷ gs)) Nothing (running_stands _ _ frames))
 
       depth_like : (m : ℕ) (method : Method) (a : Address) (b : Bool) → slice_get P.methods m ≡ Some method → Stands R code next f.taken rest
           → Like (C.enters entry room next m method a b) (D.enter P see t g gs rest m method a b)
@@ -201,8 +201,8 @@ module _ (P : Program) (code : List Code) (entry room : List ℕ) (is_code : IsC
       -- a lock that is given back
       give_kind : (a : Address) (hold : Hold) (b : Bool) → Stands R code next (rest_of f.taken) rest
           → OutcomeStands P code
-            (Moves (record { kind = C.deed_kind P see t (deed.Gives a (not b) next); thread = C.thread_after P see t f fs (deed.Gives a (not b) next); change = LockIs a (if b then Some hold else None) }))
-            (D.goes_on P see t g gs rest (release_kind (if b then Some hold else None)) f.operands rest (LockIs a (if b then Some hold else None)))
+          (Moves (record { kind = C.deed_kind P see t (deed.Gives a (not b) next); thread = C.thread_after P see t f fs (deed.Gives a (not b) next); change = LockIs a (if b then Some hold else None) }))
+          (D.goes_on P see t g gs rest (release_kind (if b then Some hold else None)) f.operands rest (LockIs a (if b then Some hold else None)))
       give_kind a hold true k = goes Both f.slots f.operands next (rest_of f.taken) rest (LockIs a (Some hold)) k
       give_kind a hold false k = goes Left f.slots f.operands next (rest_of f.taken) rest (LockIs a None) k
 
@@ -211,8 +211,8 @@ module _ (P : Program) (code : List Code) (entry room : List ℕ) (is_code : IsC
       give_held_like a hold false lock k = faults_like fault.Null
       give_held_like a hold true lock k =
           subst (λ o. OutcomeStands P code
-            (Moves (record { kind = C.deed_kind P see t (deed.Gives a (not (nat_lt 1 hold.count)) next); thread = C.thread_after P see t f fs (deed.Gives a (not (nat_lt 1 hold.count)) next); change = LockIs a (S.given_back o) }))
-            (D.release_held P see t g gs rest a hold true)) (sym lock)
+          (Moves (record { kind = C.deed_kind P see t (deed.Gives a (not (nat_lt 1 hold.count)) next); thread = C.thread_after P see t f fs (deed.Gives a (not (nat_lt 1 hold.count)) next); change = LockIs a (S.given_back o) }))
+          (D.release_held P see t g gs rest a hold true)) (sym lock)
           (give_kind a (record hold { count = hold.count - 1 }) (nat_lt 1 hold.count) k)
 
       give_like : (a : Address) (o : Option Hold) → see.lock_at a ≡ o → Stands R code next (rest_of f.taken) rest
@@ -295,7 +295,7 @@ module _ (P : Program) (code : List Code) (entry room : List ℕ) (is_code : IsC
       let begins = subst (λ b. Stands b code e.0 [] (St method.body ∷ Act W.Ret ∷ [])) (sym (ap has_result there)) (is_code.stands m e.0 method there e.1) in
       subst (λ o. OutcomeStands P code (C.enter_first a m (Some method) o) (D.enter_first P see t a m (Some method))) (sym e.1)
       (both_move Both (Running (callee ∷ [])) (Running (new_frame m method (value.Ref a) [] ∷ [])) Nothing
-        (running_stands _ _ (more_frames callee (St method.body ∷ Act W.Ret ∷ []) [] [] begins no_frames)))
+      (running_stands _ _ (more_frames callee (St method.body ∷ Act W.Ret ∷ []) [] [] begins no_frames)))
 
   -- threads that may be absent
   abbrev pub MaybeStands : Option (ThreadOf CodeFrame) → Option Thread → Type 0

@@ -41,7 +41,12 @@ pub(crate) fn drops(cell: &mut ThreadCell, count: usize, place: u32)
 }
 
 /// A slot that is there gets a value.
-pub(crate) fn stores(cell: &mut ThreadCell, slot: u16, value: Value, place: u32) -> Result<(), NoMemory>
+pub(crate) fn stores(
+    cell: &mut ThreadCell,
+    slot: u16,
+    value: Value,
+    place: u32,
+) -> Result<(), NoMemory>
     requires { IsSome (top_frame cell.old) }
     ensures ok { OnOk result (code_thread cell.new ≡ on_top (stores_on slot value place) (code_thread cell.old)) }
     ensures err { OnErr result (cell.new ≡ cell.old) }

@@ -14,7 +14,11 @@ pub(crate) enum Deed {
         place: u32,
     },
     /// A slot gets the topmost operand, which is dropped.
-    Stores { slot: u16, value: Value, place: u32 },
+    Stores {
+        slot: u16,
+        value: Value,
+        place: u32,
+    },
     /// A field is read, and its value takes the place of the object.
     Reads {
         address: Address,
@@ -52,7 +56,10 @@ pub(crate) enum Deed {
         place: u32,
     },
     /// Another thread holds the lock that the thread wants.
-    Waits { address: Address, holder: u32 },
+    Waits {
+        address: Address,
+        holder: u32,
+    },
     /// The last taken lock is given back; `frees` where it is free then.
     Gives {
         address: Address,
@@ -60,9 +67,14 @@ pub(crate) enum Deed {
         place: u32,
     },
     /// The frame is taken away; the one below gets the result or none.
-    Returns { gives: Option<Value> },
+    Returns {
+        gives: Option<Value>,
+    },
     /// A number is printed.
-    Prints { number: i32, place: u32 },
+    Prints {
+        number: i32,
+        place: u32,
+    },
     /// A thread is started on an object.
     Starts {
         address: Address,

@@ -104,7 +104,13 @@ fn field_kind(seen: &Seen<'_>, writes: bool, address: Address, field: &CoreField
     if field.is_final {
         StepKind::Both
     } else {
-        mutable_kind(seen, field.writes_only, writes, address, field.guard.as_ref())
+        mutable_kind(
+            seen,
+            field.writes_only,
+            writes,
+            address,
+            field.guard.as_ref(),
+        )
     }
 }
 

@@ -85,7 +85,12 @@ pub(crate) fn values_of(
 }
 
 /// The value of one field, and how many arguments are left after it.
-fn next_value(program: &CoreProgram, field: FieldId, operands: &[Value], left: usize) -> (Value, usize)
+fn next_value(
+    program: &CoreProgram,
+    field: FieldId,
+    operands: &[Value],
+    left: usize,
+) -> (Value, usize)
     ensures value { result.0 ≡ new_value (slice_get (program_of program.now).fields field) (top (listed left (reverse operands.now))) }
     ensures rest { listed result.1 (reverse operands.now) ≡ left_after (slice_get (program_of program.now).fields field) (listed left (reverse operands.now)) }
 {

@@ -7,10 +7,11 @@ use Rattle.aj_syntax.specs.declared.tree.Name.{Name}
 use Rattle.aj_syntax.specs.declared.tree.Param.{Param}
 use Rattle.aj_syntax.specs.declared.tree.TypeName.{TypeName}
 use Rattle.aj_syntax.specs.declared.tree.TypeName.TheVariants as Y
-use Rattle.aj_syntax.specs.Grammar.{SpellsStmts, SpellsLock, IsType, IsFlag, IsOptional, IsResultType, SpellsSet, SpellsGuard, SpellsRequires, SpellsBare, SpellsMember, SpellsRunnable, SpellsClass, Separates, Follows, Repeats, Wide}
+use Rattle.aj_syntax.specs.Grammar.{SpellsStmts, SpellsLock, IsType, IsFlag, IsOptional, IsResultType, SpellsSet, SpellsGuard, SpellsField, SpellsRequires, SpellsBare, SpellsMember, SpellsRunnable, SpellsClass, Separates, Follows, Repeats, Wide}
 use Rattle.aj_syntax.specs.Heights.{stmt_heights, body_height, highest_member, highest_body}
 use Rattle.aj_syntax.specs.Tokens.{is, token, name_token}
-use Rattle.aj_syntax.specs.Trees.{LockTree, StmtTrees, MethodTree, MemberTree, FieldM, CtorM, MethodM, ClassTree, ProgramTree}
+use Rattle.aj_syntax.proofs.Fields.{final_field as final_tree, mutable_field as mutable_tree, each_field}
+use Rattle.aj_syntax.specs.Trees.{LockTree, StmtTrees, MethodTree, FieldTree, MemberTree, FieldM, CtorM, MethodM, ClassTree, ProgramTree}
 use Rattle.aj_syntax.specs.Views.{stmts_from}
 use Rattle.aj_parser.proofs.Complete.{Same, same, same_along, same_then, same_bind, at_list}
 use Rattle.aj_parser.proofs.CompleteStatements.{lock_read, type_read, block_read, items_read}
@@ -203,30 +204,37 @@ typed_member Y.Int x ts i e = ap (λ z. bare_member (z ∷ ts)) i ∙ ap (λ r. 
 typed_member Y.Boolean x ts i e = ap (λ z. bare_member (z ∷ ts)) i ∙ ap (λ r. r >>= λ t ts. typed_rest t ts) (type_read Y.Boolean (token T.Boolean x.at) ts refl)
 typed_member (Y.Class n) x ts i e = ap (λ z. bare_member (z ∷ ts)) i ∙ if_false (starts (is T.OpenParen) ts) _ _ e
 
-guard_read : (g : Option LockTree) (gs f : List Token) (c : ℕ) → SpellsGuard g gs → guard (gs ++ (token T.Semicolon c ∷ f)) ≡ Ok (g, token T.Semicolon c ∷ f)
-unfolding guard
-guard_read None gs f c s = ap (λ z. guard (z ++ (token T.Semicolon c ∷ f))) s
-guard_read (Some l) gs f c s =
-    ap (λ z. guard (z ++ (token T.Semicolon c ∷ f))) s.3 ∙ ap (λ r. r >>= λ l ts. Ok (Some l, ts)) (lock_read l s.0 (token T.Semicolon c ∷ f) s.2 refl)
+no_guard : List Token → Bool → Res (Option LockTree × Bool)
+no_guard ts writes_only = Ok ((None, writes_only), ts)
 
-guard_first : (g : Option LockTree) (gs f : List Token) (c : ℕ) → SpellsGuard g gs → starts (is T.OpenParen) (gs ++ (token T.Semicolon c ∷ f)) ≡ false
-guard_first None gs f c s = ap (λ z. starts (is T.OpenParen) (z ++ (token T.Semicolon c ∷ f))) s
-guard_first (Some l) gs f c s = ap (λ z. starts (is T.OpenParen) (z ++ (token T.Semicolon c ∷ f))) s.3
+guard_read : (w : Bool) (g : Option LockTree) (gs f : List Token) (c : ℕ) → SpellsGuard w g gs
+    → guard (gs ++ (token T.Semicolon c ∷ f)) ≡ Ok ((g, w), token T.Semicolon c ∷ f)
+unfolding guard no_guard
+guard_read w None gs f c s = ap (λ z. guard (z ++ (token T.Semicolon c ∷ f))) s.1 ∙ ap (no_guard (token T.Semicolon c ∷ f)) (sym s.0)
+guard_read false (Some l) gs f c s =
+    ap (λ z. guard (z ++ (token T.Semicolon c ∷ f))) s.3 ∙ ap (λ r. r >>= λ l ts. Ok ((Some l, false), ts)) (lock_read l s.0 (token T.Semicolon c ∷ f) s.2 refl)
+guard_read true (Some l) gs f c s =
+    ap (λ z. guard (z ++ (token T.Semicolon c ∷ f))) s.3 ∙ ap (λ r. r >>= λ l ts. Ok ((Some l, true), ts)) (lock_read l s.0 (token T.Semicolon c ∷ f) s.2 refl)
 
-read_final : (ty : TypeName) (n : Name) → BareRead (FieldM true ty n None)
+guard_first : (w : Bool) (g : Option LockTree) (gs f : List Token) (c : ℕ) → SpellsGuard w g gs → starts (is T.OpenParen) (gs ++ (token T.Semicolon c ∷ f)) ≡ false
+guard_first w None gs f c s = ap (λ z. starts (is T.OpenParen) (z ++ (token T.Semicolon c ∷ f))) s.1
+guard_first false (Some l) gs f c s = ap (λ z. starts (is T.OpenParen) (z ++ (token T.Semicolon c ∷ f))) s.3
+guard_first true (Some l) gs f c s = ap (λ z. starts (is T.OpenParen) (z ++ (token T.Semicolon c ∷ f))) s.3
+
+read_final : (ty : TypeName) (n : Name) → BareRead (FieldM (final_tree ty n))
 unfolding bare_member final_field
 read_final ty n zs f s =
-    same (ap (λ z. bare_member (z ++ f)) s.4
-    ∙ ap (λ r. r >>= λ t ts. first a_name ts >>= λ n ts. take_one T.Semicolon ts >>= λ c ts. Ok (FieldM true t n None, ts)) (type_read ty s.0 (name_token n ∷ token T.Semicolon s.2 ∷ f) s.3))
+    same (ap (λ z. bare_member (z ++ f)) s.6
+    ∙ ap (λ r. r >>= λ t ts. first a_name ts >>= λ n ts. take_one T.Semicolon ts >>= λ c ts. Ok (FieldM (final_tree t n), ts)) (type_read ty s.0 (name_token n ∷ token T.Semicolon s.2 ∷ f) s.3))
 
-read_field : (ty : TypeName) (n : Name) (g : Option LockTree) → BareRead (FieldM false ty n g)
+read_field : (ty : TypeName) (n : Name) (w : Bool) (g : Option LockTree) → BareRead (FieldM (mutable_tree ty n w g))
 unfolding typed_rest field_rest
-read_field ty n g zs f s =
+read_field ty n w g zs f s =
     let end1 = token T.Semicolon s.2 ∷ f in
     same (ap (λ z. bare_member (z ++ f)) s.5 ∙ ap (λ z. bare_member (s.0 ∷ name_token n ∷ z)) (append_assoc s.1 (token T.Semicolon s.2 ∷ []) f)
     ∙ typed_member ty s.0 (name_token n ∷ s.1 ++ end1) s.3 refl
-    ∙ if_false (starts (is T.OpenParen) (s.1 ++ end1)) _ _ (guard_first g s.1 f s.2 s.4)
-    ∙ ap (λ r. r >>= λ g ts. take_one T.Semicolon ts >>= λ c ts. Ok (FieldM false ty n g, ts)) (guard_read g s.1 f s.2 s.4))
+    ∙ if_false (starts (is T.OpenParen) (s.1 ++ end1)) _ _ (guard_first w g s.1 f s.2 s.4)
+    ∙ ap (λ r. r >>= λ g ts. take_one T.Semicolon ts >>= λ c ts. Ok (FieldM (mutable_tree ty n g.1 g.0), ts)) (guard_read w g s.1 f s.2 s.4))
 
 read_ctor : (n : Name) (ps : List Param) (ss : List (Name × Name)) → BareRead (CtorM n ps ss)
 unfolding bare_member named_member ctor_rest
@@ -272,9 +280,9 @@ read_method m zs f s =
     (method_read m.atomic m.returns m.name m.params m.locks m.body s.1 s.2 s.3 f s.5 s.6 s.7 m.end s.10 s.11 s.12))
 
 bare_read : (m : MemberTree) → BareRead m
-bare_read (FieldM true ty n None) = read_final ty n
-bare_read (FieldM true ty n (Some g)) = λ zs f s. absurd s
-bare_read (FieldM false ty n g) = read_field ty n g
+bare_read (FieldM t) = λ zs f s.
+    each_field (λ ts m. (f : List Token) → Same (body_height m ≤ 64) (bare_member (ts ++ f)) (Ok (m, f)))
+    (λ ty n ts s f. read_final ty n ts f s) (λ ty n w g ts s f. read_field ty n w g ts f s) t zs s f
 bare_read (CtorM n ps ss) = read_ctor n ps ss
 bare_read (MethodM m) = read_method m
 
@@ -286,10 +294,12 @@ module _ (test : Token → Bool) (v : Bool) (final : (d : ℕ) → test (token T
   front_first false None fs x ys a i = ap (λ z. starts test (z ++ (x ∷ ys))) a ∙ ap test i ∙ void x.at
   front_first false (Some ty) fs x ys a i = ap (λ z. starts test (z ++ (x ∷ ys))) a ∙ type_first test v int boolean name ty x i
 
+  field_first : (fin : Bool) (t : FieldTree) (zs f : List Token) → SpellsField fin t zs → starts test (zs ++ f) ≡ v
+  field_first true t zs f s = ap (λ z. starts test (z ++ f)) s.6 ∙ final s.1
+  field_first false t zs f s = ap (λ z. starts test (z ++ f)) s.5 ∙ type_first test v int boolean name t.ty s.0 s.3
+
   bare_first : (m : MemberTree) (zs f : List Token) → SpellsBare m zs → starts test (zs ++ f) ≡ v
-  bare_first (FieldM true ty n None) zs f s = ap (λ z. starts test (z ++ f)) s.4 ∙ final s.1
-  bare_first (FieldM true ty n (Some g)) zs f s = absurd s
-  bare_first (FieldM false ty n g) zs f s = ap (λ z. starts test (z ++ f)) s.5 ∙ type_first test v int boolean name ty s.0 s.3
+  bare_first (FieldM t) zs f s = field_first t.is_final t zs f s
   bare_first (CtorM n ps ss) zs f s = ap (λ z. starts test (z ++ f)) s.8 ∙ name n
   bare_first (MethodM m) zs f s =
       let t = name_token m.name ∷ token T.OpenParen s.5 ∷ s.1 ++ (token T.CloseParen s.6 ∷ s.2 ++ (token T.OpenBrace s.7 ∷ s.3 ++ (token T.CloseBrace m.end ∷ []))) in

@@ -7,10 +7,11 @@ use Rattle.aj_syntax.specs.declared.tree.Name.{Name}
 use Rattle.aj_syntax.specs.declared.tree.Param.{Param}
 use Rattle.aj_syntax.specs.declared.tree.TypeName.{TypeName}
 use Rattle.aj_syntax.specs.declared.tree.TypeName.TheVariants as Y
-use Rattle.aj_syntax.specs.Grammar.{SpellsLock, IsType, IsFlag, IsOptional, IsResultType, SpellsParam, SpellsCtorParam, SpellsSet, SpellsGuard, SpellsRequires, SpellsBare, SpellsMember, SpellsRunnable, SpellsClass, Separates, Follows, Repeats, Wide}
+use Rattle.aj_syntax.specs.Grammar.{SpellsLock, IsType, IsFlag, IsOptional, IsResultType, SpellsParam, SpellsCtorParam, SpellsSet, SpellsGuard, SpellsField, SpellsRequires, SpellsBare, SpellsMember, SpellsRunnable, SpellsClass, Separates, Follows, Repeats, Wide}
 use Rattle.aj_syntax.specs.Heights.{body_height, highest_member, highest_body}
 use Rattle.aj_syntax.specs.Tokens.{token, name_token}
-use Rattle.aj_syntax.specs.Trees.{LockTree, StmtTree, StmtTrees, no_stmts, MemberTree, FieldM, CtorM, MethodM, ClassTree, ProgramTree}
+use Rattle.aj_syntax.proofs.Fields.{final_field as final_tree, mutable_field as mutable_tree}
+use Rattle.aj_syntax.specs.Trees.{LockTree, StmtTree, StmtTrees, no_stmts, FieldTree, MemberTree, FieldM, CtorM, MethodM, ClassTree, ProgramTree}
 use Rattle.aj_syntax.specs.Views.{stmts_from}
 use Rattle.aj_parser.proofs.Expressions.{right_field}
 use Rattle.aj_parser.proofs.Lists.{right_several, right_separated}
@@ -218,19 +219,22 @@ right_ctor_rest n ts =
 
 -- fields
 
-right_guard : (ts : List Token) → Right guard (λ zs g. SpellsGuard g zs) Any ts
+right_guard : (ts : List Token) → Right guard (λ zs g. SpellsGuard g.1 g.0 zs) Any ts
 unfolding guard
 right_guard ts =
-    right_if (λ e. right_tok T.GuardedBy (λ d. (token T.This 0 ∷ [], Some this_lock, (token T.This 0 ∷ [], d, this_is, refl))) (λ d r.
-    right_seq (right_lock r) (λ l. ([], Some l, λ xs p. (xs, d, p, ap (λ z. token T.GuardedBy d ∷ z) (append-nil xs)))) (λ l r _.
+    right_if (λ e. right_tok T.GuardedBy (λ d. (token T.This 0 ∷ [], (Some this_lock, false), (token T.This 0 ∷ [], d, this_is, refl))) (λ d r.
+    right_seq (right_lock r) (λ l. ([], (Some l, false), λ xs p. (xs, d, p, ap (λ z. token T.GuardedBy d ∷ z) (append-nil xs)))) (λ l r _.
     right_done (λ xs p. (xs, d, p, ap (λ z. token T.GuardedBy d ∷ z) (append-nil xs))) tt)))
-    (λ e. right_done refl tt)
+    (λ e. right_if (λ e. right_tok T.WriteGuardedBy (λ d. (token T.This 0 ∷ [], (Some this_lock, true), (token T.This 0 ∷ [], d, this_is, refl))) (λ d r.
+    right_seq (right_lock r) (λ l. ([], (Some l, true), λ xs p. (xs, d, p, ap (λ z. token T.WriteGuardedBy d ∷ z) (append-nil xs)))) (λ l r _.
+    right_done (λ xs p. (xs, d, p, ap (λ z. token T.WriteGuardedBy d ∷ z) (append-nil xs))) tt)))
+    (λ e. right_done (refl, refl) tt))
 
 right_field_rest : (ty : TypeName) (n : Name) (ts : List Token) → Right (field_rest ty n) (λ ys m. (x : Token) → IsType ty x → SpellsBare m (x ∷ name_token n ∷ ys)) LowMember ts
 unfolding field_rest
 right_field_rest ty n ts =
-    right_seq (right_guard ts) (λ g. (token T.Semicolon 0 ∷ [], FieldM false ty n g, λ gs p x q. (x, gs, 0, q, p, refl))) (λ g r _.
-    right_tok T.Semicolon (λ c. ([], FieldM false ty n g, λ gs p x q. (x, gs, c, q, p, refl))) (λ c r.
+    right_seq (right_guard ts) (λ g. (token T.Semicolon 0 ∷ [], FieldM (mutable_tree ty n g.1 g.0), λ gs p x q. (x, gs, 0, q, p, refl))) (λ g r _.
+    right_tok T.Semicolon (λ c. ([], FieldM (mutable_tree ty n g.1 g.0), λ gs p x q. (x, gs, c, q, p, refl))) (λ c r.
     right_done (λ gs p x q. (x, gs, c, q, p, refl)) (omega arith)))
 
 abbrev TypedRest : TypeName → List Token → MemberTree → Type 0
@@ -239,18 +243,18 @@ TypedRest ty ys m = (x : Token) → IsType ty x → SpellsBare m (x ∷ ys)
 right_typed_rest : (ty : TypeName) (ts : List Token) → Right (typed_rest ty) (TypedRest ty) LowMember ts
 unfolding typed_rest
 right_typed_rest ty ts =
-    right_name (λ n. (token T.Semicolon 0 ∷ [], FieldM false ty n None, λ x q. (x, [], 0, q, refl, refl))) (λ n r.
+    right_name (λ n. (token T.Semicolon 0 ∷ [], FieldM (mutable_tree ty n false None), λ x q. (x, [], 0, q, (refl, refl), refl))) (λ n r.
     right_if (λ e. right_weaker (λ ys m k x q. k [] x refl q) (λ m r k. k) (right_method_rest false (Some ty) n r))
     (λ e. right_weaker (λ ys m k. k) (λ m r k. k) (right_field_rest ty n r)))
 
 right_final_field : (ts : List Token) → Right final_field (λ zs m. SpellsBare m zs) LowMember ts
 unfolding final_field
 right_final_field ts =
-    right_tok T.Final (λ d. (token T.Int 0 ∷ name_token x_name ∷ token T.Semicolon 0 ∷ [], FieldM true Y.Int x_name None, (token T.Int 0, d, 0, refl, refl))) (λ d r.
-    right_one (right_type r) (λ ty. (name_token x_name ∷ token T.Semicolon 0 ∷ [], FieldM true ty x_name None, λ x q. (x, d, 0, q, refl))) (λ ty r.
-    right_name (λ n. (token T.Semicolon 0 ∷ [], FieldM true ty n None, λ x q. (x, d, 0, q, refl))) (λ n r.
-    right_tok T.Semicolon (λ c. ([], FieldM true ty n None, λ x q. (x, d, c, q, refl))) (λ c r.
-    right_done (λ x q. (x, d, c, q, refl)) (omega arith)))))
+    right_tok T.Final (λ d. (token T.Int 0 ∷ name_token x_name ∷ token T.Semicolon 0 ∷ [], FieldM (final_tree Y.Int x_name), (token T.Int 0, d, 0, refl, refl, refl, refl))) (λ d r.
+    right_one (right_type r) (λ ty. (name_token x_name ∷ token T.Semicolon 0 ∷ [], FieldM (final_tree ty x_name), λ x q. (x, d, 0, q, refl, refl, refl))) (λ ty r.
+    right_name (λ n. (token T.Semicolon 0 ∷ [], FieldM (final_tree ty n), λ x q. (x, d, 0, q, refl, refl, refl))) (λ n r.
+    right_tok T.Semicolon (λ c. ([], FieldM (final_tree ty n), λ x q. (x, d, c, q, refl, refl, refl))) (λ c r.
+    right_done (λ x q. (x, d, c, q, refl, refl, refl)) (omega arith)))))
 
 abbrev ResultToken : Token → Option TypeName → Type 0
 ResultToken x r = IsResultType r x
@@ -270,7 +274,7 @@ right_plain_method atomic ts =
     right_weaker (λ ys m k x q fs p. k fs x p q) (λ m r k. k) (right_method_rest atomic r n ts)))
 
 field_some : (ty : TypeName) → Some_of (TypedRest ty)
-field_some ty = (name_token x_name ∷ token T.Semicolon 0 ∷ [], FieldM false ty x_name None, λ x q. (x, [], 0, q, refl, refl))
+field_some ty = (name_token x_name ∷ token T.Semicolon 0 ∷ [], FieldM (mutable_tree ty x_name false None), λ x q. (x, [], 0, q, (refl, refl), refl))
 
 right_named_member : (ts : List Token) → Right named_member (λ zs m. SpellsBare m zs) LowMember ts
 unfolding named_member
@@ -294,10 +298,12 @@ right_member ts =
     right_seq (right_flag T.Public ts) (λ f. let s = field_some Y.Int in (token T.Int 0 ∷ s.0, s.1, λ ps p. (ps, token T.Int 0 ∷ s.0, flag_optional T.Public f ps p, s.2 (token T.Int 0) refl, refl))) (λ f r _.
     right_weaker (λ ys m k ps p. (ps, ys, flag_optional T.Public f ps p, k, refl)) (λ m r k. k) (right_bare_member r))
 
+whole_field_long : (fin : Bool) (t : FieldTree) (zs : List Token) → SpellsField fin t zs → 0 < length zs
+whole_field_long true t zs p = long_is zs _ p.6 (omega arith)
+whole_field_long false t zs p = long_is zs _ p.5 (omega arith)
+
 bare_long : (m : MemberTree) (zs : List Token) → SpellsBare m zs → 0 < length zs
-bare_long (FieldM true ty n (Some l)) zs p = absurd p
-bare_long (FieldM true ty n None) zs p = long_is zs _ p.4 (omega arith)
-bare_long (FieldM false ty n g) zs p = long_is zs _ p.5 (omega arith)
+bare_long (FieldM t) zs p = whole_field_long t.is_final t zs p
 bare_long (CtorM n ps ss) zs p = long_is zs _ p.8 (omega arith)
 bare_long (MethodM m) zs p = long_is zs _ p.13 (long_left p.0 _ _)
 
@@ -307,8 +313,8 @@ member_long zs m p = long_is zs _ p.4 (let k = bare_long m p.1 p.3 in omega (ari
 pub member_example : Some_of (λ zs m. SpellsMember m zs)
 member_example = (
   token T.Int 0 ∷ name_token x_name ∷ token T.Semicolon 0 ∷ [],
-  FieldM false Y.Int x_name None,
-  ([], token T.Int 0 ∷ name_token x_name ∷ token T.Semicolon 0 ∷ [], inl refl, (token T.Int 0, [], 0, refl, refl, refl), refl),
+  FieldM (mutable_tree Y.Int x_name false None),
+  ([], token T.Int 0 ∷ name_token x_name ∷ token T.Semicolon 0 ∷ [], inl refl, (token T.Int 0, [], 0, refl, (refl, refl), refl), refl),
 )
 
 more_members : (so : List MemberTree) (m : MemberTree) → body_height m ≤ 64 → highest_member so ≤ 64 → highest_member (so ++ (m ∷ [])) ≤ 64

@@ -1,9 +1,13 @@
 -- The laws of the whole program, as the contract of the parser states them.
 use Rattle.std.proofs.Common.{◌≡◌, ℕ, zero, suc, ◌<◌, ◌≤◌, ◌+◌, true, false, List, [], ◌∷◌, ◌++◌, length, take, Ok, Err, refl, sym, ◌∙◌, ap, subst, append-nil, arith, length-append}
+use Rattle.std.specs.List.{All, Contains}
 use Rattle.aj_lexer.specs.declared.tokens.Token.{Token}
 use Rattle.aj_syntax.specs.Faults.{Through, IsUnexpected, IsTooDeep}
 use Rattle.aj_syntax.specs.Grammar.{Wide, Grammar}
 use Rattle.aj_syntax.specs.Heights.{highest_body}
+use Rattle.aj_syntax.specs.Names.{names_of_program}
+use Rattle.aj_syntax.specs.Tokens.{name_token}
+use Rattle.aj_syntax.proofs.Naming.{names_are_tokens}
 use Rattle.aj_syntax.specs.Trees.{ProgramTree}
 use Rattle.aj_parser.proofs.Complete.{IsDeep, Same, same, deep}
 use Rattle.aj_parser.proofs.CompleteMembers.{program_read}
@@ -44,6 +48,10 @@ read_right ts t r e =
     let g = right_ok ts t r (program ts) (right_program ts).at e in
     let whole : g.front ≡ ts = sym (g.whole ∙ ap (λ z. g.front ++ z) (none_left r g.after.1) ∙ append-nil g.front) in
     (subst (λ z. Wide z t) whole g.spelled, g.after.0)
+
+-- the names of what is read are the texts of tokens
+pub named_right : (ts : List Token) (t : ProgramTree) (r : List Token) → program ts ≡ Ok (t, r) → All (λ n. Contains ts (name_token n)) (names_of_program t)
+named_right ts t r e = names_are_tokens t ts (read_right ts t r e).0
 
 same_low : (low : Type 0) (r s : Res ProgramTree) → Same low r s → low → r ≡ s
 same_low low r s (same e) l = e

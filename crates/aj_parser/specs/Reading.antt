@@ -370,11 +370,16 @@ ctor_rest n ts =
     params true ts >>= λ ps ts. take_one T.OpenBrace ts >>= λ b ts. several goes_on set ts >>= λ ss ts. take_one T.CloseBrace ts >>= λ c ts.
     Ok (CtorM n ps ss, ts)
 
-unfoldable pub guard : List Token → Res (Option LockTree)
-guard ts = if starts (is T.GuardedBy) ts then (take_one T.GuardedBy ts >>= λ d ts. lock ts >>= λ l ts. Ok (Some l, ts)) else Ok (None, ts)
+-- a guard, if there is one, and whether it is one of writes alone
+unfoldable pub guard : List Token → Res (Option LockTree × Bool)
+guard ts =
+    if starts (is T.GuardedBy) ts then (take_one T.GuardedBy ts >>= λ d ts. lock ts >>= λ l ts. Ok ((Some l, false), ts))
+    else if starts (is T.WriteGuardedBy) ts then (take_one T.WriteGuardedBy ts >>= λ d ts. lock ts >>= λ l ts. Ok ((Some l, true), ts))
+    else Ok ((None, false), ts)
 
 unfoldable pub field_rest : TypeName → Name → List Token → Res MemberTree
-field_rest ty n ts = guard ts >>= λ g ts. take_one T.Semicolon ts >>= λ c ts. Ok (FieldM false ty n g, ts)
+field_rest ty n ts = guard ts >>= λ g ts. take_one T.Semicolon ts >>= λ c ts.
+    Ok (FieldM record { is_final = false; ty = ty; name = n; guard = g.0; writes_only = g.1 }, ts)
 
 unfoldable pub typed_rest : TypeName → List Token → Res MemberTree
 typed_rest ty ts = first a_name ts >>= λ n ts.
@@ -383,7 +388,7 @@ typed_rest ty ts = first a_name ts >>= λ n ts.
 unfoldable pub final_field : List Token → Res MemberTree
 final_field ts =
     take_one T.Final ts >>= λ d ts. type_name ts >>= λ t ts. first a_name ts >>= λ n ts. take_one T.Semicolon ts >>= λ c ts.
-    Ok (FieldM true t n None, ts)
+    Ok (FieldM record { is_final = true; ty = t; name = n; guard = None; writes_only = false }, ts)
 
 unfoldable pub result_type : List Token → Res (Option TypeName)
 result_type ts = if starts (is T.Void) ts then (take_one T.Void ts >>= λ d ts. Ok (None, ts)) else (type_name ts >>= λ t ts. Ok (Some t, ts))

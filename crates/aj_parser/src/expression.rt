@@ -2,7 +2,7 @@
 
 ghost use Rattle.std.specs.Prelude.{◌≡◌, ℕ, suc, ◌+◌, ◌-◌, ◌<◌, ◌≤◌, map, length, IfOk};
 ghost use Rattle.aj_syntax.specs.Heights.{height as height_of, heights};
-ghost use Rattle.aj_syntax.specs.Trees.{CallE, NewE};
+ghost use Rattle.aj_syntax.specs.Trees.{BinaryE, CallE, NewE};
 ghost use Rattle.aj_syntax.specs.Views.{expr_of, exprs_from};
 ghost use Rattle.aj_parser.specs.Answer.{Gives};
 ghost use Rattle.aj_parser.specs.Combine.{comma_step};
@@ -14,7 +14,7 @@ use crate::tokens::{
     operator, take,
 };
 use aj_lexer::Token;
-use aj_syntax::{Expr, Name, Terminal};
+use aj_syntax::{Expr, Name, Op, Terminal};
 use std::alloc::Global;
 
 /// The levels of binary operators.
@@ -22,22 +22,22 @@ pub const LEVELS: u32 = 6;
 
 /// An expression, its height, and the tokens behind it.
 #[derive(Drop)]
-pub struct Parsed<'a> {
-    pub tree: Expr,
+pub struct Parsed<'t, 'a> {
+    pub tree: Expr<'a>,
     pub height: u32,
-    pub rest: &'a [Token],
+    pub rest: &'t [Token<'a>],
 }
 
 /// Arguments, the height of the highest, and the tokens behind them.
 #[derive(Drop)]
-pub struct Arguments<'a> {
-    pub items: Vec<Expr>,
+pub struct Arguments<'t, 'a> {
+    pub items: Vec<Expr<'a>>,
     pub height: u32,
-    pub rest: &'a [Token],
+    pub rest: &'t [Token<'a>],
 }
 
-fn leaf_of<'a>(tree: Expr, rest: &'a [Token]) -> Parsed<'a>
-    ensures tree { expr_of result.tree ≡ expr_of tree }
+fn leaf_of<'t, 'a>(tree: Expr<'a>, rest: &'t [Token<'a>]) -> Parsed<'t, 'a>
+    ensures tree { expr_of result.tree ≡ expr_of tree.entry }
     ensures height { result.height ≡ 1 }
     ensures rest { result.rest.now ≡ rest.now }
 {
@@ -50,7 +50,7 @@ fn leaf_of<'a>(tree: Expr, rest: &'a [Token]) -> Parsed<'a>
 
 /// A number, a truth value, `null`, `this` or a name.
 #[tactic(auto, unfolding(crate::specs::Reading::leaf))]
-pub fn leaf<'a>(alloc: Global, tokens: &'a [Token]) -> Result<Parsed<'a>, Stop<'a>>
+pub fn leaf<'t, 'a>(tokens: &'t [Token<'a>]) -> Result<Parsed<'t, 'a>, Stop<'t, 'a>>
     ensures tree { Gives (λ x. (expr_of x.tree, x.rest.now)) result (leaf_at tokens.now) }
     ensures height { IfOk result (λ x. x.height ≡ height_of (expr_of x.tree)) }
     ensures limit { IfOk result (λ x. x.height ≡ 1) }
@@ -75,27 +75,35 @@ pub fn leaf<'a>(alloc: Global, tokens: &'a [Token]) -> Result<Parsed<'a>, Stop<'
         let (at, rest) = take(tokens, Terminal::This)?;
         return Ok(leaf_of(Expr::This(at), rest));
     }
-    let (variable, rest) = name(alloc, tokens)?;
+    let (variable, rest) = name(tokens)?;
     Ok(leaf_of(Expr::Var(variable), rest))
 }
 
 /// A dot and a name.
 #[tactic(auto, unfolding(crate::specs::Reading::field_name))]
-pub fn field_name<'a>(alloc: Global, tokens: &'a [Token]) -> Result<(Name, &'a [Token]), Stop<'a>>
+pub fn field_name<'t, 'a>(
+    tokens: &'t [Token<'a>],
+) -> Result<(Name<'a>, &'t [Token<'a>]), Stop<'t, 'a>>
     ensures { Gives (λ x. (x.0, x.1.now)) result (field_name_at tokens.now) }
 {
     let (_, rest) = take(tokens, Terminal::Dot)?;
-    name(alloc, rest)
+    name(rest)
 }
 
-fn make_call(receiver: Box<Expr>, method: Name, arguments: Vec<Expr>) -> Expr
-    ensures { expr_of result ≡ CallE (expr_of receiver.value) method (exprs_from (map expr_of arguments.items)) }
+fn make_call<'a>(receiver: Box<Expr<'a>>, method: Name<'a>, arguments: Vec<Expr<'a>>) -> Expr<'a>
+    ensures { expr_of result ≡ CallE (expr_of receiver.entry.value) method.entry (exprs_from (map expr_of arguments.entry.items)) }
 {
     Expr::Call(receiver, method, arguments)
 }
 
-fn make_new(class: Name, arguments: Vec<Expr>, at: u32) -> Expr
-    ensures { expr_of result ≡ NewE class (exprs_from (map expr_of arguments.items)) at }
+fn make_binary<'a>(op: Op, left: Box<Expr<'a>>, right: Box<Expr<'a>>, at: u32) -> Expr<'a>
+    ensures { expr_of result ≡ BinaryE op (expr_of left.entry.value) (expr_of right.entry.value) at }
+{
+    Expr::Binary(op, left, right, at)
+}
+
+fn make_new<'a>(class: Name<'a>, arguments: Vec<Expr<'a>>, at: u32) -> Expr<'a>
+    ensures { expr_of result ≡ NewE class.entry (exprs_from (map expr_of arguments.entry.items)) at }
 {
     Expr::New(class, arguments, at)
 }
@@ -103,11 +111,11 @@ fn make_new(class: Name, arguments: Vec<Expr>, at: u32) -> Expr
 /// One argument more, behind its comma.
 #[cycle(expression)]
 #[tactic(auto, using(crate::proofs::Loops::take_shorter, crate::proofs::Loops::chain_shorter, crate::proofs::Loops::heights_pushed))]
-fn next_argument<'a>(
+fn next_argument<'t, 'a>(
     alloc: Global,
-    so_far: Arguments<'a>,
+    so_far: Arguments<'t, 'a>,
     high: u32,
-) -> Result<Arguments<'a>, Stop<'a>>
+) -> Result<Arguments<'t, 'a>, Stop<'t, 'a>>
     requires high { high ≤ 64 }
     requires positive { 0 < high }
     requires height { so_far.height ≡ heights (exprs_from (map expr_of so_far.items.items)) }
@@ -135,11 +143,11 @@ fn next_argument<'a>(
 /// Arguments up to the closing parenthesis.
 #[cycle(expression)]
 #[tactic(auto, unfolding(crate::specs::Reading::arguments), using(crate::proofs::Loops::argument_more, crate::proofs::Loops::argument_done))]
-fn argument_list<'a>(
+fn argument_list<'t, 'a>(
     alloc: Global,
-    tokens: &'a [Token],
+    tokens: &'t [Token<'a>],
     high: u32,
-) -> Result<Arguments<'a>, Stop<'a>>
+) -> Result<Arguments<'t, 'a>, Stop<'t, 'a>>
     requires high { high ≤ 64 }
     requires positive { 0 < high }
     ensures tree { Gives (λ x. (map expr_of x.items.items, x.rest.now)) result (arguments_at high (below high) tokens.now) }
@@ -167,11 +175,11 @@ fn argument_list<'a>(
 /// Arguments in parentheses.
 #[cycle(expression)]
 #[tactic(auto, unfolding(crate::specs::Reading::call_arguments))]
-fn arguments_in_parentheses<'a>(
+fn arguments_in_parentheses<'t, 'a>(
     alloc: Global,
-    tokens: &'a [Token],
+    tokens: &'t [Token<'a>],
     high: u32,
-) -> Result<Arguments<'a>, Stop<'a>>
+) -> Result<Arguments<'t, 'a>, Stop<'t, 'a>>
     requires high { high ≤ 64 }
     requires positive { 0 < high }
     ensures tree { Gives (λ x. (map expr_of x.items.items, x.rest.now)) result (call_arguments high (below high) tokens.now) }
@@ -196,19 +204,19 @@ fn arguments_in_parentheses<'a>(
 /// What stands behind `new`, which is at the offset `at`.
 #[cycle(expression)]
 #[tactic(auto, unfolding(crate::specs::Reading::new_rest))]
-pub fn new_rest<'a>(
+pub fn new_rest<'t, 'a>(
     alloc: Global,
-    tokens: &'a [Token],
+    tokens: &'t [Token<'a>],
     high: u32,
     at: u32,
-) -> Result<Parsed<'a>, Stop<'a>>
+) -> Result<Parsed<'t, 'a>, Stop<'t, 'a>>
     requires high { high ≤ 64 }
     requires positive { 0 < high }
     ensures tree { Gives (λ x. (expr_of x.tree, x.rest.now)) result (new_rest_at high (below high) at tokens.now) }
     ensures height { IfOk result (λ x. x.height ≡ height_of (expr_of x.tree)) }
     ensures limit { IfOk result (λ x. x.height ≤ high) }
 {
-    let (class, rest) = name(alloc, tokens)?;
+    let (class, rest) = name(tokens)?;
     let Arguments {
         items,
         height,
@@ -224,7 +232,11 @@ pub fn new_rest<'a>(
 /// An expression in parentheses.
 #[cycle(expression)]
 #[tactic(auto, unfolding(crate::specs::Reading::parenthesised))]
-fn parenthesised<'a>(alloc: Global, tokens: &'a [Token], high: u32) -> Result<Parsed<'a>, Stop<'a>>
+fn parenthesised<'t, 'a>(
+    alloc: Global,
+    tokens: &'t [Token<'a>],
+    high: u32,
+) -> Result<Parsed<'t, 'a>, Stop<'t, 'a>>
     requires high { high ≤ 64 }
     requires positive { 0 < high }
     ensures tree { Gives (λ x. (expr_of x.tree, x.rest.now)) result (parenthesised_at high (below high) tokens.now) }
@@ -243,7 +255,11 @@ fn parenthesised<'a>(alloc: Global, tokens: &'a [Token], high: u32) -> Result<Pa
 
 #[cycle(expression)]
 #[tactic(auto, unfolding(crate::specs::Reading::primary))]
-pub fn primary<'a>(alloc: Global, tokens: &'a [Token], high: u32) -> Result<Parsed<'a>, Stop<'a>>
+pub fn primary<'t, 'a>(
+    alloc: Global,
+    tokens: &'t [Token<'a>],
+    high: u32,
+) -> Result<Parsed<'t, 'a>, Stop<'t, 'a>>
     requires high { high ≤ 64 }
     requires positive { 0 < high }
     ensures tree { Gives (λ x. (expr_of x.tree, x.rest.now)) result (primary_at high (below high) tokens.now) }
@@ -257,24 +273,24 @@ pub fn primary<'a>(alloc: Global, tokens: &'a [Token], high: u32) -> Result<Pars
         let (at, rest) = take(tokens, Terminal::New)?;
         return new_rest(alloc, rest, high, at);
     }
-    leaf(alloc, tokens)
+    leaf(tokens)
 }
 
 /// What stands behind a dot and a name: arguments, or nothing.
 #[cycle(expression)]
 #[tactic(auto, unfolding(crate::specs::Reading::member_rest))]
-fn member_rest<'a>(
+fn member_rest<'t, 'a>(
     alloc: Global,
-    receiver: Parsed<'a>,
-    member: Name,
-    tokens: &'a [Token],
+    receiver: Parsed<'t, 'a>,
+    member: Name<'a>,
+    tokens: &'t [Token<'a>],
     high: u32,
-) -> Result<Parsed<'a>, Stop<'a>>
+) -> Result<Parsed<'t, 'a>, Stop<'t, 'a>>
     requires high { high ≤ 64 }
     requires positive { 0 < high }
     requires height { receiver.height ≡ height_of (expr_of receiver.tree) }
     requires limit { receiver.height < high }
-    ensures tree { Gives (λ x. (expr_of x.tree, x.rest.now)) result (member_rest_at high (below high) (expr_of receiver.entry.tree) member tokens.now) }
+    ensures tree { Gives (λ x. (expr_of x.tree, x.rest.now)) result (member_rest_at high (below high) (expr_of receiver.entry.tree) member.entry tokens.now) }
     ensures height { IfOk result (λ x. x.height ≡ height_of (expr_of x.tree)) }
     ensures limit { IfOk result (λ x. x.height ≤ high) }
     ensures grows { IfOk result (λ x. receiver.entry.height < x.height) }
@@ -308,7 +324,11 @@ fn member_rest<'a>(
 /// A field or a call behind a receiver.
 #[cycle(expression)]
 #[tactic(auto, unfolding(crate::specs::Reading::member_step))]
-fn member<'a>(alloc: Global, receiver: Parsed<'a>, high: u32) -> Result<Parsed<'a>, Stop<'a>>
+fn member<'t, 'a>(
+    alloc: Global,
+    receiver: Parsed<'t, 'a>,
+    high: u32,
+) -> Result<Parsed<'t, 'a>, Stop<'t, 'a>>
     requires high { high ≤ 64 }
     requires positive { 0 < high }
     requires height { receiver.height ≡ height_of (expr_of receiver.tree) }
@@ -320,14 +340,18 @@ fn member<'a>(alloc: Global, receiver: Parsed<'a>, high: u32) -> Result<Parsed<'
     if high <= receiver.height {
         return Err(Stop::Fault(Fault::TooDeep, receiver.rest));
     }
-    let (member, rest) = field_name(alloc, receiver.rest)?;
+    let (member, rest) = field_name(receiver.rest)?;
     member_rest(alloc, receiver, member, rest, high)
 }
 
 /// The fields and calls behind an expression.
 #[cycle(expression)]
 #[tactic(auto, unfolding(crate::specs::Reading::dots), using(crate::proofs::Loops::member_more, crate::proofs::Loops::member_done))]
-pub fn dots<'a>(alloc: Global, front: Parsed<'a>, high: u32) -> Result<Parsed<'a>, Stop<'a>>
+pub fn dots<'t, 'a>(
+    alloc: Global,
+    front: Parsed<'t, 'a>,
+    high: u32,
+) -> Result<Parsed<'t, 'a>, Stop<'t, 'a>>
     requires high { high ≤ 64 }
     requires positive { 0 < high }
     requires height { front.height ≡ height_of (expr_of front.tree) }
@@ -345,7 +369,11 @@ pub fn dots<'a>(alloc: Global, front: Parsed<'a>, high: u32) -> Result<Parsed<'a
 
 #[cycle(expression)]
 #[tactic(auto, unfolding(crate::specs::Reading::postfix))]
-fn postfix<'a>(alloc: Global, tokens: &'a [Token], high: u32) -> Result<Parsed<'a>, Stop<'a>>
+fn postfix<'t, 'a>(
+    alloc: Global,
+    tokens: &'t [Token<'a>],
+    high: u32,
+) -> Result<Parsed<'t, 'a>, Stop<'t, 'a>>
     requires high { high ≤ 64 }
     requires positive { 0 < high }
     ensures tree { Gives (λ x. (expr_of x.tree, x.rest.now)) result (postfix_at high (below high) tokens.now) }
@@ -359,12 +387,12 @@ fn postfix<'a>(alloc: Global, tokens: &'a [Token], high: u32) -> Result<Parsed<'
 /// What stands behind a `-` at the offset `at`.
 #[cycle(expression)]
 #[tactic(auto, unfolding(crate::specs::Reading::negated))]
-fn negated<'a>(
+fn negated<'t, 'a>(
     alloc: Global,
-    tokens: &'a [Token],
+    tokens: &'t [Token<'a>],
     high: u32,
     at: u32,
-) -> Result<Parsed<'a>, Stop<'a>>
+) -> Result<Parsed<'t, 'a>, Stop<'t, 'a>>
     requires high { high ≤ 64 }
     requires positive { 0 < high }
     ensures tree { Gives (λ x. (expr_of x.tree, x.rest.now)) result (negated_at high (below high) at tokens.now) }
@@ -385,7 +413,11 @@ fn negated<'a>(
 
 #[cycle(expression)]
 #[tactic(auto, unfolding(crate::specs::Reading::unary))]
-fn unary<'a>(alloc: Global, tokens: &'a [Token], high: u32) -> Result<Parsed<'a>, Stop<'a>>
+fn unary<'t, 'a>(
+    alloc: Global,
+    tokens: &'t [Token<'a>],
+    high: u32,
+) -> Result<Parsed<'t, 'a>, Stop<'t, 'a>>
     requires high { high ≤ 64 }
     requires positive { 0 < high }
     ensures tree { Gives (λ x. (expr_of x.tree, x.rest.now)) result (unary_at high (below high) tokens.now) }
@@ -411,12 +443,12 @@ fn unary<'a>(alloc: Global, tokens: &'a [Token], high: u32) -> Result<Parsed<'a>
 /// An operator and its right operand, behind the left one.
 #[cycle(expression)]
 #[tactic(auto, unfolding(crate::specs::Reading::op_step))]
-fn operation<'a>(
+fn operation<'t, 'a>(
     alloc: Global,
-    left: Parsed<'a>,
+    left: Parsed<'t, 'a>,
     high: u32,
     levels: u32,
-) -> Result<Parsed<'a>, Stop<'a>>
+) -> Result<Parsed<'t, 'a>, Stop<'t, 'a>>
     requires high { high ≤ 64 }
     requires positive { 0 < high }
     requires levels { levels < 6 }
@@ -438,7 +470,7 @@ fn operation<'a>(
         rest,
     } = right;
     Ok(Parsed {
-        tree: Expr::Binary(op, Box::new(alloc, tree)?, Box::new(alloc, operand)?, at),
+        tree: make_binary(op, Box::new(alloc, tree)?, Box::new(alloc, operand)?, at),
         height: height.max(other) + 1,
         rest,
     })
@@ -447,12 +479,12 @@ fn operation<'a>(
 /// Operands with operators of the first levels between them.
 #[cycle(expression)]
 #[tactic(auto, using(crate::proofs::Loops::operation_more, crate::proofs::Loops::operation_done, crate::proofs::Loops::chain_none, crate::proofs::Loops::chain_next))]
-fn operations<'a>(
+fn operations<'t, 'a>(
     alloc: Global,
-    tokens: &'a [Token],
+    tokens: &'t [Token<'a>],
     high: u32,
     levels: u32,
-) -> Result<Parsed<'a>, Stop<'a>>
+) -> Result<Parsed<'t, 'a>, Stop<'t, 'a>>
     requires high { high ≤ 64 }
     requires positive { 0 < high }
     requires levels { levels ≤ 6 }
@@ -473,12 +505,12 @@ fn operations<'a>(
 /// An expression at most `high` nodes high, whose operators are of the first levels.
 #[cycle(expression)]
 #[tactic(auto, using(crate::proofs::Loops::chain_zero, crate::proofs::Loops::chain_positive))]
-pub fn chain<'a>(
+pub fn chain<'t, 'a>(
     alloc: Global,
-    tokens: &'a [Token],
+    tokens: &'t [Token<'a>],
     high: u32,
     levels: u32,
-) -> Result<Parsed<'a>, Stop<'a>>
+) -> Result<Parsed<'t, 'a>, Stop<'t, 'a>>
     requires high { high ≤ 64 }
     requires levels { levels ≤ 6 }
     ensures tree { Gives (λ x. (expr_of x.tree, x.rest.now)) result (chain_at high levels tokens.now) }

@@ -21,16 +21,15 @@ pub const MAX_HEIGHT: u32 = 64;
 
 /// A parameter. A constructor's is never final, whatever its text says.
 #[tactic(auto, unfolding(crate::specs::Reading::param))]
-fn param<'a>(
-    alloc: Global,
-    tokens: &'a [Token],
+fn param<'t, 'a>(
+    tokens: &'t [Token<'a>],
     of_ctor: bool,
-) -> Result<(Param, &'a [Token]), Stop<'a>>
+) -> Result<(Param<'a>, &'t [Token<'a>]), Stop<'t, 'a>>
     ensures { Gives (λ x. (x.0, x.1.now)) result (param_at of_ctor tokens.now) }
 {
     let (says_final, rest) = flag(tokens, Terminal::Final);
-    let (ty, rest) = type_name(alloc, rest)?;
-    let (name, rest) = name(alloc, rest)?;
+    let (ty, rest) = type_name(rest)?;
+    let (name, rest) = name(rest)?;
     Ok((
         Param {
             is_final: says_final && !of_ctor,
@@ -43,50 +42,49 @@ fn param<'a>(
 
 /// One parameter more, behind its comma.
 #[tactic(auto, using(crate::proofs::MemberLoops::param_shorter, crate::proofs::Loops::take_shorter))]
-fn next_param<'a>(
-    alloc: Global,
-    so_far: (Vec<Param>, &'a [Token]),
+fn next_param<'t, 'a>(
+    so_far: (Vec<Param<'a>>, &'t [Token<'a>]),
     of_ctor: bool,
-) -> Result<(Vec<Param>, &'a [Token]), Stop<'a>>
+) -> Result<(Vec<Param<'a>>, &'t [Token<'a>]), Stop<'t, 'a>>
     ensures tree { Gives (λ x. (x.0.items, x.1.now)) result (comma_step (param_at of_ctor) so_far.entry.0.items so_far.entry.1.now) }
     ensures shorter { IfOk result (λ x. length x.1.now < length so_far.entry.1.now) }
 {
     let (mut items, rest) = so_far;
     let (_, rest) = take(rest, Terminal::Comma)?;
-    let (item, rest) = param(alloc, rest, of_ctor)?;
+    let (item, rest) = param(rest, of_ctor)?;
     items.push(item)?;
     Ok((items, rest))
 }
 
 /// Parameters with commas between them, or none.
 #[tactic(auto, unfolding(crate::specs::Reading::param_list), using(crate::proofs::MemberLoops::param_more, crate::proofs::MemberLoops::param_done))]
-fn param_list<'a>(
+fn param_list<'t, 'a>(
     alloc: Global,
-    tokens: &'a [Token],
+    tokens: &'t [Token<'a>],
     of_ctor: bool,
-) -> Result<(Vec<Param>, &'a [Token]), Stop<'a>>
+) -> Result<(Vec<Param<'a>>, &'t [Token<'a>]), Stop<'t, 'a>>
     ensures { Gives (λ x. (x.0.items, x.1.now)) result (param_list_at of_ctor tokens.now) }
 {
     let mut list = (Vec::new(alloc), tokens);
     if begins(tokens, Terminal::CloseParen) {
         return Ok(list);
     }
-    let (first, rest) = param(alloc, tokens, of_ctor)?;
+    let (first, rest) = param(tokens, of_ctor)?;
     list.0.push(first)?;
     list.1 = rest;
     while begins(list.1, Terminal::Comma) {
-        list = next_param(alloc, list, of_ctor)?;
+        list = next_param(list, of_ctor)?;
     }
     Ok(list)
 }
 
 /// Parameters in parentheses.
 #[tactic(auto, unfolding(crate::specs::Reading::params))]
-fn params<'a>(
+fn params<'t, 'a>(
     alloc: Global,
-    tokens: &'a [Token],
+    tokens: &'t [Token<'a>],
     of_ctor: bool,
-) -> Result<(Vec<Param>, &'a [Token]), Stop<'a>>
+) -> Result<(Vec<Param<'a>>, &'t [Token<'a>]), Stop<'t, 'a>>
     ensures { Gives (λ x. (x.0.items, x.1.now)) result (params_at of_ctor tokens.now) }
 {
     let (_, rest) = take(tokens, Terminal::OpenParen)?;
@@ -97,10 +95,10 @@ fn params<'a>(
 
 /// One required lock more, behind its comma.
 #[tactic(auto, using(crate::proofs::MemberLoops::lock_shorter, crate::proofs::Loops::take_shorter))]
-fn next_lock<'a>(
+fn next_lock<'t, 'a>(
     alloc: Global,
-    so_far: (Vec<Lock>, &'a [Token]),
-) -> Result<(Vec<Lock>, &'a [Token]), Stop<'a>>
+    so_far: (Vec<Lock<'a>>, &'t [Token<'a>]),
+) -> Result<(Vec<Lock<'a>>, &'t [Token<'a>]), Stop<'t, 'a>>
     ensures tree { Gives (λ x. (map lock_of x.0.items, x.1.now)) result (comma_step lock_at (map lock_of so_far.entry.0.items) so_far.entry.1.now) }
     ensures shorter { IfOk result (λ x. length x.1.now < length so_far.entry.1.now) }
 {
@@ -113,7 +111,10 @@ fn next_lock<'a>(
 
 /// The locks that a method requires, or none.
 #[tactic(auto, unfolding(crate::specs::Reading::required), using(crate::proofs::MemberLoops::lock_more, crate::proofs::MemberLoops::lock_done))]
-fn required<'a>(alloc: Global, tokens: &'a [Token]) -> Result<(Vec<Lock>, &'a [Token]), Stop<'a>>
+fn required<'t, 'a>(
+    alloc: Global,
+    tokens: &'t [Token<'a>],
+) -> Result<(Vec<Lock<'a>>, &'t [Token<'a>]), Stop<'t, 'a>>
     ensures { Gives (λ x. (map lock_of x.0.items, x.1.now)) result (required_at tokens.now) }
 {
     let mut list = (Vec::new(alloc), tokens);
@@ -132,14 +133,14 @@ fn required<'a>(alloc: Global, tokens: &'a [Token]) -> Result<(Vec<Lock>, &'a [T
 
 /// What stands behind the name of a method.
 #[tactic(auto, unfolding(crate::specs::Reading::method_rest))]
-fn method_rest<'a>(
+fn method_rest<'t, 'a>(
     alloc: Global,
     atomic: bool,
-    returns: Option<TypeName>,
-    name: Name,
-    tokens: &'a [Token],
-) -> Result<(Member, &'a [Token]), Stop<'a>>
-    ensures { Gives (λ x. (member_of x.0, x.1.now)) result (method_rest_at atomic returns name tokens.now) }
+    returns: Option<TypeName<'a>>,
+    name: Name<'a>,
+    tokens: &'t [Token<'a>],
+) -> Result<(Member<'a>, &'t [Token<'a>]), Stop<'t, 'a>>
+    ensures { Gives (λ x. (member_of x.0, x.1.now)) result (method_rest_at atomic returns.entry name.entry tokens.now) }
 {
     let (params, rest) = params(alloc, tokens, false)?;
     let (requires_, rest) = required(alloc, rest)?;
@@ -165,54 +166,55 @@ fn method_rest<'a>(
 
 /// An assignment of a constructor: the field, and the parameter.
 #[tactic(auto, unfolding(crate::specs::Reading::set))]
-fn set<'a>(alloc: Global, tokens: &'a [Token]) -> Result<((Name, Name), &'a [Token]), Stop<'a>>
+fn set<'t, 'a>(
+    tokens: &'t [Token<'a>],
+) -> Result<((Name<'a>, Name<'a>), &'t [Token<'a>]), Stop<'t, 'a>>
     ensures { Gives (λ x. (x.0, x.1.now)) result (set_at tokens.now) }
 {
     let (_, rest) = take(tokens, Terminal::This)?;
-    let (field, rest) = field_name(alloc, rest)?;
+    let (field, rest) = field_name(rest)?;
     let (_, rest) = take(rest, Terminal::Assign)?;
-    let (parameter, rest) = name(alloc, rest)?;
+    let (parameter, rest) = name(rest)?;
     let (_, rest) = take(rest, Terminal::Semicolon)?;
     Ok(((field, parameter), rest))
 }
 
 /// One assignment more of a constructor.
 #[tactic(auto, using(crate::proofs::MemberLoops::set_shorter))]
-fn next_set<'a>(
-    alloc: Global,
-    so_far: (Vec<(Name, Name)>, &'a [Token]),
-) -> Result<(Vec<(Name, Name)>, &'a [Token]), Stop<'a>>
+fn next_set<'t, 'a>(
+    so_far: (Vec<(Name<'a>, Name<'a>)>, &'t [Token<'a>]),
+) -> Result<(Vec<(Name<'a>, Name<'a>)>, &'t [Token<'a>]), Stop<'t, 'a>>
     ensures tree { Gives (λ x. (x.0.items, x.1.now)) result (item_step set_at so_far.entry.0.items so_far.entry.1.now) }
     ensures shorter { IfOk result (λ x. length x.1.now < length so_far.entry.1.now) }
 {
     let (mut items, rest) = so_far;
-    let (item, rest) = set(alloc, rest)?;
+    let (item, rest) = set(rest)?;
     items.push(item)?;
     Ok((items, rest))
 }
 
 #[tactic(auto, using(crate::proofs::MemberLoops::set_more, crate::proofs::MemberLoops::set_done))]
-fn sets<'a>(
+fn sets<'t, 'a>(
     alloc: Global,
-    tokens: &'a [Token],
-) -> Result<(Vec<(Name, Name)>, &'a [Token]), Stop<'a>>
+    tokens: &'t [Token<'a>],
+) -> Result<(Vec<(Name<'a>, Name<'a>)>, &'t [Token<'a>]), Stop<'t, 'a>>
     ensures { Gives (λ x. (x.0.items, x.1.now)) result (several may_go_on set_at tokens.now) }
 {
     let mut list = (Vec::new(alloc), tokens);
     while goes_on(list.1) {
-        list = next_set(alloc, list)?;
+        list = next_set(list)?;
     }
     Ok(list)
 }
 
 /// What stands behind the name of a constructor.
 #[tactic(auto, unfolding(crate::specs::Reading::ctor_rest))]
-fn ctor_rest<'a>(
+fn ctor_rest<'t, 'a>(
     alloc: Global,
-    name: Name,
-    tokens: &'a [Token],
-) -> Result<(Member, &'a [Token]), Stop<'a>>
-    ensures { Gives (λ x. (member_of x.0, x.1.now)) result (ctor_rest_at name tokens.now) }
+    name: Name<'a>,
+    tokens: &'t [Token<'a>],
+) -> Result<(Member<'a>, &'t [Token<'a>]), Stop<'t, 'a>>
+    ensures { Gives (λ x. (member_of x.0, x.1.now)) result (ctor_rest_at name.entry tokens.now) }
 {
     let (params, rest) = params(alloc, tokens, true)?;
     let (_, rest) = take(rest, Terminal::OpenBrace)?;
@@ -221,30 +223,38 @@ fn ctor_rest<'a>(
     Ok((Member::Ctor { name, params, sets }, rest))
 }
 
-/// The lock that guards a field, or none.
+/// The lock that guards a field, or none, and whether it guards writes alone.
 #[tactic(auto, unfolding(crate::specs::Reading::guard))]
-fn guard<'a>(alloc: Global, tokens: &'a [Token]) -> Result<(Option<Lock>, &'a [Token]), Stop<'a>>
-    ensures { Gives (λ x. (option_map lock_of x.0, x.1.now)) result (guard_at tokens.now) }
+fn guard<'t, 'a>(
+    alloc: Global,
+    tokens: &'t [Token<'a>],
+) -> Result<((Option<Lock<'a>>, bool), &'t [Token<'a>]), Stop<'t, 'a>>
+    ensures { Gives (λ x. ((option_map lock_of x.0.0, x.0.1), x.1.now)) result (guard_at tokens.now) }
 {
     if begins(tokens, Terminal::GuardedBy) {
         let (_, rest) = take(tokens, Terminal::GuardedBy)?;
         let (held, rest) = lock(alloc, rest)?;
-        return Ok((Some(held), rest));
+        return Ok(((Some(held), false), rest));
     }
-    Ok((None, tokens))
+    if begins(tokens, Terminal::WriteGuardedBy) {
+        let (_, rest) = take(tokens, Terminal::WriteGuardedBy)?;
+        let (held, rest) = lock(alloc, rest)?;
+        return Ok(((Some(held), true), rest));
+    }
+    Ok(((None, false), tokens))
 }
 
 /// What stands behind the name of a field.
 #[tactic(auto, unfolding(crate::specs::Reading::field_rest))]
-fn field_rest<'a>(
+fn field_rest<'t, 'a>(
     alloc: Global,
-    ty: TypeName,
-    name: Name,
-    tokens: &'a [Token],
-) -> Result<(Member, &'a [Token]), Stop<'a>>
-    ensures { Gives (λ x. (member_of x.0, x.1.now)) result (field_rest_at ty name tokens.now) }
+    ty: TypeName<'a>,
+    name: Name<'a>,
+    tokens: &'t [Token<'a>],
+) -> Result<(Member<'a>, &'t [Token<'a>]), Stop<'t, 'a>>
+    ensures { Gives (λ x. (member_of x.0, x.1.now)) result (field_rest_at ty.entry name.entry tokens.now) }
 {
-    let (guard, rest) = guard(alloc, tokens)?;
+    let ((guard, writes_only), rest) = guard(alloc, tokens)?;
     let (_, rest) = take(rest, Terminal::Semicolon)?;
     Ok((
         Member::Field {
@@ -252,6 +262,7 @@ fn field_rest<'a>(
             ty,
             name,
             guard,
+            writes_only,
         },
         rest,
     ))
@@ -259,14 +270,14 @@ fn field_rest<'a>(
 
 /// What stands behind the type of a field or a method.
 #[tactic(auto, unfolding(crate::specs::Reading::typed_rest))]
-fn typed_rest<'a>(
+fn typed_rest<'t, 'a>(
     alloc: Global,
-    ty: TypeName,
-    tokens: &'a [Token],
-) -> Result<(Member, &'a [Token]), Stop<'a>>
-    ensures { Gives (λ x. (member_of x.0, x.1.now)) result (typed_rest_at ty tokens.now) }
+    ty: TypeName<'a>,
+    tokens: &'t [Token<'a>],
+) -> Result<(Member<'a>, &'t [Token<'a>]), Stop<'t, 'a>>
+    ensures { Gives (λ x. (member_of x.0, x.1.now)) result (typed_rest_at ty.entry tokens.now) }
 {
-    let (name, rest) = name(alloc, tokens)?;
+    let (name, rest) = name(tokens)?;
     if begins(rest, Terminal::OpenParen) {
         return method_rest(alloc, false, Some(ty), name, rest);
     }
@@ -274,12 +285,14 @@ fn typed_rest<'a>(
 }
 
 #[tactic(auto, unfolding(crate::specs::Reading::final_field))]
-fn final_field<'a>(alloc: Global, tokens: &'a [Token]) -> Result<(Member, &'a [Token]), Stop<'a>>
+fn final_field<'t, 'a>(
+    tokens: &'t [Token<'a>],
+) -> Result<(Member<'a>, &'t [Token<'a>]), Stop<'t, 'a>>
     ensures { Gives (λ x. (member_of x.0, x.1.now)) result (final_field_at tokens.now) }
 {
     let (_, rest) = take(tokens, Terminal::Final)?;
-    let (ty, rest) = type_name(alloc, rest)?;
-    let (name, rest) = name(alloc, rest)?;
+    let (ty, rest) = type_name(rest)?;
+    let (name, rest) = name(rest)?;
     let (_, rest) = take(rest, Terminal::Semicolon)?;
     Ok((
         Member::Field {
@@ -287,6 +300,7 @@ fn final_field<'a>(alloc: Global, tokens: &'a [Token]) -> Result<(Member, &'a [T
             ty,
             name,
             guard: None,
+            writes_only: false,
         },
         rest,
     ))
@@ -294,39 +308,41 @@ fn final_field<'a>(alloc: Global, tokens: &'a [Token]) -> Result<(Member, &'a [T
 
 /// The type of a result, or `void`.
 #[tactic(auto, unfolding(crate::specs::Reading::result_type))]
-fn result_type<'a>(
-    alloc: Global,
-    tokens: &'a [Token],
-) -> Result<(Option<TypeName>, &'a [Token]), Stop<'a>>
+fn result_type<'t, 'a>(
+    tokens: &'t [Token<'a>],
+) -> Result<(Option<TypeName<'a>>, &'t [Token<'a>]), Stop<'t, 'a>>
     ensures { Gives (λ x. (x.0, x.1.now)) result (result_type_at tokens.now) }
 {
     if begins(tokens, Terminal::Void) {
         let (_, rest) = take(tokens, Terminal::Void)?;
         return Ok((None, rest));
     }
-    let (ty, rest) = type_name(alloc, tokens)?;
+    let (ty, rest) = type_name(tokens)?;
     Ok((Some(ty), rest))
 }
 
 #[tactic(auto, unfolding(crate::specs::Reading::plain_method))]
-fn plain_method<'a>(
+fn plain_method<'t, 'a>(
     alloc: Global,
     atomic: bool,
-    tokens: &'a [Token],
-) -> Result<(Member, &'a [Token]), Stop<'a>>
+    tokens: &'t [Token<'a>],
+) -> Result<(Member<'a>, &'t [Token<'a>]), Stop<'t, 'a>>
     ensures { Gives (λ x. (member_of x.0, x.1.now)) result (plain_method_at atomic tokens.now) }
 {
-    let (returns, rest) = result_type(alloc, tokens)?;
-    let (name, rest) = name(alloc, rest)?;
+    let (returns, rest) = result_type(tokens)?;
+    let (name, rest) = name(rest)?;
     method_rest(alloc, atomic, returns, name, rest)
 }
 
 /// A constructor, or a member whose type is a class.
 #[tactic(auto, unfolding(crate::specs::Reading::named_member))]
-fn named_member<'a>(alloc: Global, tokens: &'a [Token]) -> Result<(Member, &'a [Token]), Stop<'a>>
+fn named_member<'t, 'a>(
+    alloc: Global,
+    tokens: &'t [Token<'a>],
+) -> Result<(Member<'a>, &'t [Token<'a>]), Stop<'t, 'a>>
     ensures { Gives (λ x. (member_of x.0, x.1.now)) result (named_member_at tokens.now) }
 {
-    let (first, rest) = name(alloc, tokens)?;
+    let (first, rest) = name(tokens)?;
     if begins(rest, Terminal::OpenParen) {
         return ctor_rest(alloc, first, rest);
     }
@@ -335,11 +351,14 @@ fn named_member<'a>(alloc: Global, tokens: &'a [Token]) -> Result<(Member, &'a [
 
 /// A member behind its `public`.
 #[tactic(auto, unfolding(crate::specs::Reading::bare_member))]
-fn bare_member<'a>(alloc: Global, tokens: &'a [Token]) -> Result<(Member, &'a [Token]), Stop<'a>>
+fn bare_member<'t, 'a>(
+    alloc: Global,
+    tokens: &'t [Token<'a>],
+) -> Result<(Member<'a>, &'t [Token<'a>]), Stop<'t, 'a>>
     ensures { Gives (λ x. (member_of x.0, x.1.now)) result (bare_member_at tokens.now) }
 {
     if begins(tokens, Terminal::Final) {
-        return final_field(alloc, tokens);
+        return final_field(tokens);
     }
     if begins(tokens, Terminal::Atomic) {
         let (_, rest) = take(tokens, Terminal::Atomic)?;
@@ -351,12 +370,15 @@ fn bare_member<'a>(alloc: Global, tokens: &'a [Token]) -> Result<(Member, &'a [T
     if begins_name(tokens) {
         return named_member(alloc, tokens);
     }
-    let (ty, rest) = type_name(alloc, tokens)?;
+    let (ty, rest) = type_name(tokens)?;
     typed_rest(alloc, ty, rest)
 }
 
 #[tactic(auto, unfolding(crate::specs::Reading::member))]
-fn member<'a>(alloc: Global, tokens: &'a [Token]) -> Result<(Member, &'a [Token]), Stop<'a>>
+fn member<'t, 'a>(
+    alloc: Global,
+    tokens: &'t [Token<'a>],
+) -> Result<(Member<'a>, &'t [Token<'a>]), Stop<'t, 'a>>
     ensures { Gives (λ x. (member_of x.0, x.1.now)) result (member_at tokens.now) }
 {
     let (_, rest) = flag(tokens, Terminal::Public);
@@ -365,10 +387,10 @@ fn member<'a>(alloc: Global, tokens: &'a [Token]) -> Result<(Member, &'a [Token]
 
 /// One member more of a class.
 #[tactic(auto, using(crate::proofs::MemberLoops::member_shorter))]
-fn next_member<'a>(
+fn next_member<'t, 'a>(
     alloc: Global,
-    so_far: (Vec<Member>, &'a [Token]),
-) -> Result<(Vec<Member>, &'a [Token]), Stop<'a>>
+    so_far: (Vec<Member<'a>>, &'t [Token<'a>]),
+) -> Result<(Vec<Member<'a>>, &'t [Token<'a>]), Stop<'t, 'a>>
     ensures tree { Gives (λ x. (map member_of x.0.items, x.1.now)) result (item_step member_at (map member_of so_far.entry.0.items) so_far.entry.1.now) }
     ensures shorter { IfOk result (λ x. length x.1.now < length so_far.entry.1.now) }
 {
@@ -379,7 +401,10 @@ fn next_member<'a>(
 }
 
 #[tactic(auto, using(crate::proofs::MemberLoops::member_more, crate::proofs::MemberLoops::member_done))]
-fn members<'a>(alloc: Global, tokens: &'a [Token]) -> Result<(Vec<Member>, &'a [Token]), Stop<'a>>
+fn members<'t, 'a>(
+    alloc: Global,
+    tokens: &'t [Token<'a>],
+) -> Result<(Vec<Member<'a>>, &'t [Token<'a>]), Stop<'t, 'a>>
     ensures { Gives (λ x. (map member_of x.0.items, x.1.now)) result (several may_go_on member_at tokens.now) }
 {
     let mut list = (Vec::new(alloc), tokens);
@@ -391,7 +416,7 @@ fn members<'a>(alloc: Global, tokens: &'a [Token]) -> Result<(Vec<Member>, &'a [
 
 /// `implements Runnable`, or nothing.
 #[tactic(auto, unfolding(crate::specs::Reading::runnable))]
-fn runnable<'a>(tokens: &'a [Token]) -> Result<(bool, &'a [Token]), Stop<'a>>
+fn runnable<'t, 'a>(tokens: &'t [Token<'a>]) -> Result<(bool, &'t [Token<'a>]), Stop<'t, 'a>>
     ensures { Gives (λ x. (x.0, x.1.now)) result (runnable_at tokens.now) }
 {
     if begins(tokens, Terminal::Implements) {
@@ -403,12 +428,15 @@ fn runnable<'a>(tokens: &'a [Token]) -> Result<(bool, &'a [Token]), Stop<'a>>
 }
 
 #[tactic(auto, unfolding(crate::specs::Reading::class_at))]
-fn class<'a>(alloc: Global, tokens: &'a [Token]) -> Result<(Class, &'a [Token]), Stop<'a>>
+fn class<'t, 'a>(
+    alloc: Global,
+    tokens: &'t [Token<'a>],
+) -> Result<(Class<'a>, &'t [Token<'a>]), Stop<'t, 'a>>
     ensures { Gives (λ x. (class_of x.0, x.1.now)) result (class_at tokens.now) }
 {
     let (_, rest) = flag(tokens, Terminal::Public);
     let (_, rest) = take(rest, Terminal::Class)?;
-    let (name, rest) = name(alloc, rest)?;
+    let (name, rest) = name(rest)?;
     let (runnable, rest) = runnable(rest)?;
     let (_, rest) = take(rest, Terminal::OpenBrace)?;
     let (members, rest) = members(alloc, rest)?;
@@ -425,10 +453,10 @@ fn class<'a>(alloc: Global, tokens: &'a [Token]) -> Result<(Class, &'a [Token]),
 
 /// One class more.
 #[tactic(auto, using(crate::proofs::MemberLoops::class_shorter))]
-fn next_class<'a>(
+fn next_class<'t, 'a>(
     alloc: Global,
-    so_far: (Vec<Class>, &'a [Token]),
-) -> Result<(Vec<Class>, &'a [Token]), Stop<'a>>
+    so_far: (Vec<Class<'a>>, &'t [Token<'a>]),
+) -> Result<(Vec<Class<'a>>, &'t [Token<'a>]), Stop<'t, 'a>>
     ensures tree { Gives (λ x. (map class_of x.0.items, x.1.now)) result (item_step class_at (map class_of so_far.entry.0.items) so_far.entry.1.now) }
     ensures shorter { IfOk result (λ x. length x.1.now < length so_far.entry.1.now) }
 {
@@ -440,10 +468,10 @@ fn next_class<'a>(
 
 /// The classes, up to the end of the tokens.
 #[tactic(auto, unfolding(crate::specs::Reading::program), using(crate::proofs::MemberLoops::class_more, crate::proofs::MemberLoops::class_done))]
-pub fn classes<'a>(
+pub fn classes<'t, 'a>(
     alloc: Global,
-    tokens: &'a [Token],
-) -> Result<(Vec<Class>, &'a [Token]), Stop<'a>>
+    tokens: &'t [Token<'a>],
+) -> Result<(Vec<Class<'a>>, &'t [Token<'a>]), Stop<'t, 'a>>
     ensures { Gives (λ x. (map class_of x.0.items, x.1.now)) result (program_at tokens.now) }
 {
     let mut list = (Vec::new(alloc), tokens);

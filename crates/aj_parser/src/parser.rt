@@ -1,9 +1,12 @@
 //! From tokens to a tree.
 
 ghost use Rattle.std.specs.Prelude.{◌≡◌, ℕ, ◌≤◌, length, List, IfOk, IsErrOf, MatchResult};
+ghost use Rattle.std.specs.List.{All, Contains};
 ghost use Rattle.aj_lexer.specs.declared.tokens.Token.{Token as TokenData};
 ghost use Rattle.aj_syntax.specs.Faults.{IsTooDeep, IsUnexpected};
 ghost use Rattle.aj_syntax.specs.Grammar.{Grammar};
+ghost use Rattle.aj_syntax.specs.Names.{names_of_program};
+ghost use Rattle.aj_syntax.specs.Tokens.{name_token};
 ghost use Rattle.aj_syntax.specs.Trees.{ProgramTree};
 ghost use Rattle.aj_syntax.specs.Views.{program_of};
 
@@ -20,13 +23,15 @@ use std::alloc::Global;
 /// nearest `if`. A text may have both faults, at different places; then either may be told. The depth of the recursion is
 /// bounded by the limit of height, and the work is linear in the number of tokens.
 #[tactic(auto, using(crate::proofs::Whole::read_right, crate::proofs::Whole::read_only, crate::proofs::Whole::unexpected_right, crate::proofs::Whole::deep_right, crate::proofs::Whole::place_fits))]
-pub fn parse(alloc: Global, tokens: &[Token]) -> Result<Program, ParseFault>
+pub fn parse<'a>(alloc: Global, tokens: &[Token<'a>]) -> Result<Program<'a>, ParseFault>
     requires { length tokens.now ≤ 262144 }
     // What is answered is in the grammar.
     ensures found { IfOk result (λ program. Grammar tokens.now (program_of program)) }
     // What is in the grammar is answered, unless memory runs out.
     ensures only { (tree : ProgramTree) → Grammar tokens.now tree →
         MatchResult result (λ program. program_of program ≡ tree) (λ fault. fault ≡ ParseFault.NoMemory) }
+    // Each name is the text of a token at its offset, and so a slice of the source.
+    ensures names { IfOk result (λ program. All (λ n. Contains tokens.now (name_token n)) (names_of_program (program_of program))) }
     ensures unexpected { (place : ℕ) → IsErrOf result (ParseFault.Unexpected place) → IsUnexpected tokens.now place }
     ensures too_deep { (place : ℕ) → IsErrOf result (ParseFault.TooDeep place) → IsTooDeep tokens.now place }
 {

@@ -22,17 +22,16 @@ use std::alloc::Global;
 
 /// A block: the offsets of its braces, and its statements.
 #[derive(Drop)]
-pub struct Braces {
+pub struct Braces<'a> {
     pub at: u32,
-    pub statements: Vec<Stmt>,
+    pub statements: Vec<Stmt<'a>>,
     pub end: u32,
 }
 
 #[tactic(auto, unfolding(crate::specs::Reading::type_name))]
-pub fn type_name<'a>(
-    alloc: Global,
-    tokens: &'a [Token],
-) -> Result<(TypeName, &'a [Token]), Stop<'a>>
+pub fn type_name<'t, 'a>(
+    tokens: &'t [Token<'a>],
+) -> Result<(TypeName<'a>, &'t [Token<'a>]), Stop<'t, 'a>>
     ensures { Gives (λ x. (x.0, x.1.now)) result (type_name_at tokens.now) }
 {
     if begins(tokens, Terminal::Int) {
@@ -43,27 +42,44 @@ pub fn type_name<'a>(
         let (_, rest) = take(tokens, Terminal::Boolean)?;
         return Ok((TypeName::Boolean, rest));
     }
-    let (class, rest) = name(alloc, tokens)?;
+    let (class, rest) = name(tokens)?;
     Ok((TypeName::Class(class), rest))
 }
 
+/// One field more behind the root of a lock.
+#[tactic(auto, using(crate::proofs::StatementLoops::field_shorter))]
+fn next_field<'t, 'a>(
+    so_far: (Vec<Name<'a>>, &'t [Token<'a>]),
+) -> Result<(Vec<Name<'a>>, &'t [Token<'a>]), Stop<'t, 'a>>
+    ensures tree { Gives (λ x. (x.0.items, x.1.now)) result (item_step field_name_at so_far.entry.0.items so_far.entry.1.now) }
+    ensures shorter { IfOk result (λ x. length x.1.now < length so_far.entry.1.now) }
+{
+    let (mut items, rest) = so_far;
+    let (item, rest) = field_name(rest)?;
+    items.push(item)?;
+    Ok((items, rest))
+}
+
 /// The fields behind the root of a lock.
-#[tactic(auto, using(crate::proofs::StatementLoops::field_more, crate::proofs::StatementLoops::field_done, crate::proofs::StatementLoops::field_shorter))]
-fn fields<'a>(alloc: Global, tokens: &'a [Token]) -> Result<(Vec<Name>, &'a [Token]), Stop<'a>>
+#[tactic(auto, using(crate::proofs::StatementLoops::field_more, crate::proofs::StatementLoops::field_done))]
+fn fields<'t, 'a>(
+    alloc: Global,
+    tokens: &'t [Token<'a>],
+) -> Result<(Vec<Name<'a>>, &'t [Token<'a>]), Stop<'t, 'a>>
     ensures { Gives (λ x. (x.0.items, x.1.now)) result (several (is Terminal.Dot) field_name_at tokens.now) }
 {
-    let mut names = Vec::new(alloc);
-    let mut rest = tokens;
-    while begins(rest, Terminal::Dot) {
-        let (field, behind) = field_name(alloc, rest)?;
-        names.push(field)?;
-        rest = behind;
+    let mut list = (Vec::new(alloc), tokens);
+    while begins(list.1, Terminal::Dot) {
+        list = next_field(list)?;
     }
-    Ok((names, rest))
+    Ok(list)
 }
 
 #[tactic(auto, unfolding(crate::specs::Reading::lock))]
-pub fn lock<'a>(alloc: Global, tokens: &'a [Token]) -> Result<(Lock, &'a [Token]), Stop<'a>>
+pub fn lock<'t, 'a>(
+    alloc: Global,
+    tokens: &'t [Token<'a>],
+) -> Result<(Lock<'a>, &'t [Token<'a>]), Stop<'t, 'a>>
     ensures { Gives (λ x. (lock_of x.0, x.1.now)) result (lock_at tokens.now) }
 {
     if begins(tokens, Terminal::This) {
@@ -78,7 +94,7 @@ pub fn lock<'a>(alloc: Global, tokens: &'a [Token]) -> Result<(Lock, &'a [Token]
             rest,
         ));
     }
-    let (root, rest) = name(alloc, tokens)?;
+    let (root, rest) = name(tokens)?;
     let at = root.at;
     let (fields, rest) = fields(alloc, rest)?;
     Ok((
@@ -92,11 +108,11 @@ pub fn lock<'a>(alloc: Global, tokens: &'a [Token]) -> Result<(Lock, &'a [Token]
 }
 
 /// An expression that is a part of a node at most `high` nodes high.
-fn expression<'a>(
+fn expression<'t, 'a>(
     alloc: Global,
-    tokens: &'a [Token],
+    tokens: &'t [Token<'a>],
     high: u32,
-) -> Result<(Expr, &'a [Token]), Stop<'a>>
+) -> Result<(Expr<'a>, &'t [Token<'a>]), Stop<'t, 'a>>
     requires high { high ≤ 64 }
     requires positive { 0 < high }
     ensures { Gives (λ x. (expr_of x.0, x.1.now)) result (expression_at high tokens.now) }
@@ -111,11 +127,11 @@ fn expression<'a>(
 
 /// An expression in parentheses.
 #[tactic(auto, unfolding(crate::specs::Reading::condition))]
-fn condition<'a>(
+fn condition<'t, 'a>(
     alloc: Global,
-    tokens: &'a [Token],
+    tokens: &'t [Token<'a>],
     high: u32,
-) -> Result<(Expr, &'a [Token]), Stop<'a>>
+) -> Result<(Expr<'a>, &'t [Token<'a>]), Stop<'t, 'a>>
     requires high { high ≤ 64 }
     requires positive { 0 < high }
     ensures { Gives (λ x. (expr_of x.0, x.1.now)) result (condition_at high tokens.now) }
@@ -127,11 +143,11 @@ fn condition<'a>(
 }
 
 #[tactic(auto, unfolding(crate::specs::Reading::return_statement))]
-fn return_statement<'a>(
+fn return_statement<'t, 'a>(
     alloc: Global,
-    tokens: &'a [Token],
+    tokens: &'t [Token<'a>],
     high: u32,
-) -> Result<(Stmt, &'a [Token]), Stop<'a>>
+) -> Result<(Stmt<'a>, &'t [Token<'a>]), Stop<'t, 'a>>
     requires high { high ≤ 64 }
     requires positive { 0 < high }
     ensures { Gives (λ x. (stmt_of x.0, x.1.now)) result (return_statement_at high tokens.now) }
@@ -147,11 +163,11 @@ fn return_statement<'a>(
 }
 
 #[tactic(auto, unfolding(crate::specs::Reading::print_statement))]
-fn print_statement<'a>(
+fn print_statement<'t, 'a>(
     alloc: Global,
-    tokens: &'a [Token],
+    tokens: &'t [Token<'a>],
     high: u32,
-) -> Result<(Stmt, &'a [Token]), Stop<'a>>
+) -> Result<(Stmt<'a>, &'t [Token<'a>]), Stop<'t, 'a>>
     requires high { high ≤ 64 }
     requires positive { 0 < high }
     ensures { Gives (λ x. (stmt_of x.0, x.1.now)) result (print_statement_at high tokens.now) }
@@ -168,12 +184,12 @@ fn print_statement<'a>(
 
 /// The start of a thread, behind its `new`, which is at the offset `at`.
 #[tactic(auto, unfolding(crate::specs::Reading::start_rest))]
-fn start_rest<'a>(
+fn start_rest<'t, 'a>(
     alloc: Global,
-    tokens: &'a [Token],
+    tokens: &'t [Token<'a>],
     high: u32,
     at: u32,
-) -> Result<(Stmt, &'a [Token]), Stop<'a>>
+) -> Result<(Stmt<'a>, &'t [Token<'a>]), Stop<'t, 'a>>
     requires high { high ≤ 64 }
     requires positive { 0 < high }
     ensures { Gives (λ x. (stmt_of x.0, x.1.now)) result (start_rest_at high at tokens.now) }
@@ -190,11 +206,11 @@ fn start_rest<'a>(
 
 /// The value of an assignment, behind its target, with the offset of the `=`.
 #[tactic(auto, unfolding(crate::specs::Reading::assigned))]
-fn assigned<'a>(
+fn assigned<'t, 'a>(
     alloc: Global,
-    tokens: &'a [Token],
+    tokens: &'t [Token<'a>],
     high: u32,
-) -> Result<((Box<Expr>, u32), &'a [Token]), Stop<'a>>
+) -> Result<((Box<Expr<'a>>, u32), &'t [Token<'a>]), Stop<'t, 'a>>
     requires high { high ≤ 64 }
     requires positive { 0 < high }
     ensures { Gives (λ x. ((expr_of x.0.0.value, x.0.1), x.1.now)) result (assigned_at high tokens.now) }
@@ -207,19 +223,19 @@ fn assigned<'a>(
 
 /// The name and the value of a declaration, whose first token is at the offset `at`.
 #[tactic(auto, unfolding(crate::specs::Reading::local_rest, crate::specs::Reading::assign))]
-fn local_rest<'a>(
+fn local_rest<'t, 'a>(
     alloc: Global,
     is_final: bool,
-    ty: TypeName,
+    ty: TypeName<'a>,
     at: u32,
-    tokens: &'a [Token],
+    tokens: &'t [Token<'a>],
     high: u32,
-) -> Result<(Stmt, &'a [Token]), Stop<'a>>
+) -> Result<(Stmt<'a>, &'t [Token<'a>]), Stop<'t, 'a>>
     requires high { high ≤ 64 }
     requires positive { 0 < high }
-    ensures { Gives (λ x. (stmt_of x.0, x.1.now)) result (local_rest_at high is_final ty at tokens.now) }
+    ensures { Gives (λ x. (stmt_of x.0, x.1.now)) result (local_rest_at high is_final ty.entry at tokens.now) }
 {
-    let (name, rest) = name(alloc, tokens)?;
+    let (name, rest) = name(tokens)?;
     let ((value, _), rest) = assigned(alloc, rest, high)?;
     Ok((
         Stmt::Local {
@@ -235,18 +251,18 @@ fn local_rest<'a>(
 
 /// A declaration whose type isn't a class, or that says `final`.
 #[tactic(auto, unfolding(crate::specs::Reading::local_statement))]
-fn local_statement<'a>(
+fn local_statement<'t, 'a>(
     alloc: Global,
-    tokens: &'a [Token],
+    tokens: &'t [Token<'a>],
     high: u32,
-) -> Result<(Stmt, &'a [Token]), Stop<'a>>
+) -> Result<(Stmt<'a>, &'t [Token<'a>]), Stop<'t, 'a>>
     requires high { high ≤ 64 }
     requires positive { 0 < high }
     ensures { Gives (λ x. (stmt_of x.0, x.1.now)) result (local_statement_at high tokens.now) }
 {
     if begins(tokens, Terminal::Final) {
         let (at, rest) = take(tokens, Terminal::Final)?;
-        let (ty, rest) = type_name(alloc, rest)?;
+        let (ty, rest) = type_name(rest)?;
         return local_rest(alloc, true, ty, at, rest, high);
     }
     if begins(tokens, Terminal::Int) {
@@ -286,11 +302,11 @@ fn is_statement(expr: &Expr) -> bool
 
 /// The end of a call or `new` that stands as a statement.
 #[tactic(auto, unfolding(crate::specs::Reading::call_end))]
-fn call_end<'a>(
+fn call_end<'t, 'a>(
     alloc: Global,
-    front: Parsed<'a>,
+    front: Parsed<'t, 'a>,
     high: u32,
-) -> Result<(Stmt, &'a [Token]), Stop<'a>>
+) -> Result<(Stmt<'a>, &'t [Token<'a>]), Stop<'t, 'a>>
     requires height { front.height ≡ height_of (expr_of front.tree) }
     ensures { Gives (λ x. (stmt_of x.0, x.1.now)) result (call_end_at high (expr_of front.entry.tree) front.entry.rest.now) }
 {
@@ -308,15 +324,15 @@ fn call_end<'a>(
 
 /// An assignment to what was read.
 #[tactic(auto, unfolding(crate::specs::Reading::assign))]
-fn target<'a>(
+fn target<'t, 'a>(
     alloc: Global,
-    tree: Expr,
-    tokens: &'a [Token],
+    tree: Expr<'a>,
+    tokens: &'t [Token<'a>],
     high: u32,
-) -> Result<(Stmt, &'a [Token]), Stop<'a>>
+) -> Result<(Stmt<'a>, &'t [Token<'a>]), Stop<'t, 'a>>
     requires high { high ≤ 64 }
     requires positive { 0 < high }
-    ensures { Gives (λ x. (stmt_of x.0, x.1.now)) result (target_at high (expr_of tree) tokens.now) }
+    ensures { Gives (λ x. (stmt_of x.0, x.1.now)) result (target_at high (expr_of tree.entry) tokens.now) }
 {
     match tree {
         Expr::Var(name) => {
@@ -333,7 +349,11 @@ fn target<'a>(
 
 /// What stands behind a postfix that begins a statement.
 #[tactic(auto, unfolding(crate::specs::Reading::finish))]
-fn finish<'a>(alloc: Global, front: Parsed<'a>, high: u32) -> Result<(Stmt, &'a [Token]), Stop<'a>>
+fn finish<'t, 'a>(
+    alloc: Global,
+    front: Parsed<'t, 'a>,
+    high: u32,
+) -> Result<(Stmt<'a>, &'t [Token<'a>]), Stop<'t, 'a>>
     requires high { high ≤ 64 }
     requires positive { 0 < high }
     requires height { front.height ≡ height_of (expr_of front.tree) }
@@ -352,11 +372,11 @@ fn finish<'a>(alloc: Global, front: Parsed<'a>, high: u32) -> Result<(Stmt, &'a 
 
 /// What stands behind a primary that begins a statement.
 #[tactic(auto, unfolding(crate::specs::Reading::finish_from))]
-fn finish_from<'a>(
+fn finish_from<'t, 'a>(
     alloc: Global,
-    front: Parsed<'a>,
+    front: Parsed<'t, 'a>,
     high: u32,
-) -> Result<(Stmt, &'a [Token]), Stop<'a>>
+) -> Result<(Stmt<'a>, &'t [Token<'a>]), Stop<'t, 'a>>
     requires high { high ≤ 64 }
     requires positive { 0 < high }
     requires height { front.height ≡ height_of (expr_of front.tree) }
@@ -368,11 +388,11 @@ fn finish_from<'a>(
 }
 
 #[tactic(auto, unfolding(crate::specs::Reading::new_statement))]
-fn new_statement<'a>(
+fn new_statement<'t, 'a>(
     alloc: Global,
-    tokens: &'a [Token],
+    tokens: &'t [Token<'a>],
     high: u32,
-) -> Result<(Stmt, &'a [Token]), Stop<'a>>
+) -> Result<(Stmt<'a>, &'t [Token<'a>]), Stop<'t, 'a>>
     requires high { high ≤ 64 }
     requires positive { 0 < high }
     ensures { Gives (λ x. (stmt_of x.0, x.1.now)) result (new_statement_at high tokens.now) }
@@ -387,17 +407,17 @@ fn new_statement<'a>(
 
 /// A declaration whose type is a class, or a statement that begins with a variable.
 #[tactic(auto, unfolding(crate::specs::Reading::name_statement))]
-fn name_statement<'a>(
+fn name_statement<'t, 'a>(
     alloc: Global,
-    tokens: &'a [Token],
+    tokens: &'t [Token<'a>],
     high: u32,
     in_block: bool,
-) -> Result<(Stmt, &'a [Token]), Stop<'a>>
+) -> Result<(Stmt<'a>, &'t [Token<'a>]), Stop<'t, 'a>>
     requires high { high ≤ 64 }
     requires positive { 0 < high }
     ensures { Gives (λ x. (stmt_of x.0, x.1.now)) result (name_statement_at high in_block tokens.now) }
 {
-    let (first, rest) = name(alloc, tokens)?;
+    let (first, rest) = name(tokens)?;
     if begins_second_name(rest, in_block) {
         let at = first.at;
         return local_rest(alloc, false, TypeName::Class(first), at, rest, high);
@@ -411,11 +431,11 @@ fn name_statement<'a>(
 }
 
 #[tactic(auto, unfolding(crate::specs::Reading::expression_statement))]
-fn expression_statement<'a>(
+fn expression_statement<'t, 'a>(
     alloc: Global,
-    tokens: &'a [Token],
+    tokens: &'t [Token<'a>],
     high: u32,
-) -> Result<(Stmt, &'a [Token]), Stop<'a>>
+) -> Result<(Stmt<'a>, &'t [Token<'a>]), Stop<'t, 'a>>
     requires high { high ≤ 64 }
     requires positive { 0 < high }
     ensures { Gives (λ x. (stmt_of x.0, x.1.now)) result (expression_statement_at high tokens.now) }
@@ -426,12 +446,12 @@ fn expression_statement<'a>(
 
 /// The statements without parts of their own kind.
 #[tactic(auto, unfolding(crate::specs::Reading::plain_statement))]
-fn plain_statement<'a>(
+fn plain_statement<'t, 'a>(
     alloc: Global,
-    tokens: &'a [Token],
+    tokens: &'t [Token<'a>],
     high: u32,
     in_block: bool,
-) -> Result<(Stmt, &'a [Token]), Stop<'a>>
+) -> Result<(Stmt<'a>, &'t [Token<'a>]), Stop<'t, 'a>>
     requires high { high ≤ 64 }
     requires positive { 0 < high }
     ensures { Gives (λ x. (stmt_of x.0, x.1.now)) result (plain_statement_at high in_block tokens.now) }
@@ -458,26 +478,31 @@ fn plain_statement<'a>(
     expression_statement(alloc, tokens, high)
 }
 
-fn make_block(statements: Vec<Stmt>, at: u32) -> Stmt
-    ensures { stmt_of result ≡ BlockS (stmts_from (map stmt_of statements.items)) at }
+fn make_block<'a>(statements: Vec<Stmt<'a>>, at: u32) -> Stmt<'a>
+    ensures { stmt_of result ≡ BlockS (stmts_from (map stmt_of statements.entry.items)) at }
 {
     Stmt::Block(statements, at)
 }
 
-fn make_sync(lock: Lock, statements: Vec<Stmt>, at: u32) -> Stmt
-    ensures { stmt_of result ≡ SyncS (lock_of lock) (stmts_from (map stmt_of statements.items)) at }
+fn make_sync<'a>(lock: Lock<'a>, statements: Vec<Stmt<'a>>, at: u32) -> Stmt<'a>
+    ensures { stmt_of result ≡ SyncS (lock_of lock.entry) (stmts_from (map stmt_of statements.entry.items)) at }
 {
     Stmt::Sync(lock, statements, at)
 }
 
-fn make_if(condition: Box<Expr>, then: Box<Stmt>, at: u32) -> Stmt
-    ensures { stmt_of result ≡ IfS (expr_of condition.value) (stmt_of then.value) at }
+fn make_if<'a>(condition: Box<Expr<'a>>, then: Box<Stmt<'a>>, at: u32) -> Stmt<'a>
+    ensures { stmt_of result ≡ IfS (expr_of condition.entry.value) (stmt_of then.entry.value) at }
 {
     Stmt::If(condition, then, None, at)
 }
 
-fn make_if_else(condition: Box<Expr>, then: Box<Stmt>, other: Box<Stmt>, at: u32) -> Stmt
-    ensures { stmt_of result ≡ IfElseS (expr_of condition.value) (stmt_of then.value) (stmt_of other.value) at }
+fn make_if_else<'a>(
+    condition: Box<Expr<'a>>,
+    then: Box<Stmt<'a>>,
+    other: Box<Stmt<'a>>,
+    at: u32,
+) -> Stmt<'a>
+    ensures { stmt_of result ≡ IfElseS (expr_of condition.entry.value) (stmt_of then.entry.value) (stmt_of other.entry.value) at }
 {
     Stmt::If(condition, then, Some(other), at)
 }
@@ -485,17 +510,17 @@ fn make_if_else(condition: Box<Expr>, then: Box<Stmt>, other: Box<Stmt>, at: u32
 /// The `else` of an `if`, where there is one.
 #[cycle(statement)]
 #[tactic(auto, unfolding(crate::specs::Reading::else_part))]
-fn else_part<'a>(
+fn else_part<'t, 'a>(
     alloc: Global,
-    condition: Box<Expr>,
-    branch: Box<Stmt>,
+    condition: Box<Expr<'a>>,
+    branch: Box<Stmt<'a>>,
     at: u32,
-    tokens: &'a [Token],
+    tokens: &'t [Token<'a>],
     high: u32,
-) -> Result<(Stmt, &'a [Token]), Stop<'a>>
+) -> Result<(Stmt<'a>, &'t [Token<'a>]), Stop<'t, 'a>>
     requires high { high ≤ 64 }
     requires positive { 0 < high }
-    ensures { Gives (λ x. (stmt_of x.0, x.1.now)) result (else_part_at high (statement_at (high - 1)) (block_at (high - 1)) at (expr_of condition.value) (stmt_of branch.value) tokens.now) }
+    ensures { Gives (λ x. (stmt_of x.0, x.1.now)) result (else_part_at high (statement_at (high - 1)) (block_at (high - 1)) at (expr_of condition.entry.value) (stmt_of branch.entry.value) tokens.now) }
 {
     if begins(tokens, Terminal::Else) {
         let (_, rest) = take(tokens, Terminal::Else)?;
@@ -508,11 +533,11 @@ fn else_part<'a>(
 
 #[cycle(statement)]
 #[tactic(auto, unfolding(crate::specs::Reading::if_statement))]
-fn if_statement<'a>(
+fn if_statement<'t, 'a>(
     alloc: Global,
-    tokens: &'a [Token],
+    tokens: &'t [Token<'a>],
     high: u32,
-) -> Result<(Stmt, &'a [Token]), Stop<'a>>
+) -> Result<(Stmt<'a>, &'t [Token<'a>]), Stop<'t, 'a>>
     requires high { high ≤ 64 }
     requires positive { 0 < high }
     ensures { Gives (λ x. (stmt_of x.0, x.1.now)) result (if_statement_at high (statement_at (high - 1)) (block_at (high - 1)) tokens.now) }
@@ -527,11 +552,11 @@ fn if_statement<'a>(
 
 #[cycle(statement)]
 #[tactic(auto, unfolding(crate::specs::Reading::while_statement))]
-fn while_statement<'a>(
+fn while_statement<'t, 'a>(
     alloc: Global,
-    tokens: &'a [Token],
+    tokens: &'t [Token<'a>],
     high: u32,
-) -> Result<(Stmt, &'a [Token]), Stop<'a>>
+) -> Result<(Stmt<'a>, &'t [Token<'a>]), Stop<'t, 'a>>
     requires high { high ≤ 64 }
     requires positive { 0 < high }
     ensures { Gives (λ x. (stmt_of x.0, x.1.now)) result (while_statement_at high (statement_at (high - 1)) (block_at (high - 1)) tokens.now) }
@@ -547,11 +572,11 @@ fn while_statement<'a>(
 
 #[cycle(statement)]
 #[tactic(auto, unfolding(crate::specs::Reading::sync_statement))]
-fn sync_statement<'a>(
+fn sync_statement<'t, 'a>(
     alloc: Global,
-    tokens: &'a [Token],
+    tokens: &'t [Token<'a>],
     high: u32,
-) -> Result<(Stmt, &'a [Token]), Stop<'a>>
+) -> Result<(Stmt<'a>, &'t [Token<'a>]), Stop<'t, 'a>>
     requires high { high ≤ 64 }
     requires positive { 0 < high }
     ensures { Gives (λ x. (stmt_of x.0, x.1.now)) result (sync_statement_at high (statement_at (high - 1)) (block_at (high - 1)) tokens.now) }
@@ -572,11 +597,11 @@ fn sync_statement<'a>(
 /// One statement more of a block.
 #[cycle(statement)]
 #[tactic(auto, using(crate::proofs::StatementLoops::statement_shorter))]
-fn next_statement<'a>(
+fn next_statement<'t, 'a>(
     alloc: Global,
-    so_far: (Vec<Stmt>, &'a [Token]),
+    so_far: (Vec<Stmt<'a>>, &'t [Token<'a>]),
     high: u32,
-) -> Result<(Vec<Stmt>, &'a [Token]), Stop<'a>>
+) -> Result<(Vec<Stmt<'a>>, &'t [Token<'a>]), Stop<'t, 'a>>
     requires high { high < 64 }
     ensures tree { Gives (λ x. (map stmt_of x.0.items, x.1.now)) result (item_step (statement_at high true) (map stmt_of so_far.entry.0.items) so_far.entry.1.now) }
     ensures shorter { IfOk result (λ x. length x.1.now < length so_far.entry.1.now) }
@@ -590,11 +615,11 @@ fn next_statement<'a>(
 /// The statements up to the closing brace.
 #[cycle(statement)]
 #[tactic(auto, using(crate::proofs::StatementLoops::statement_more, crate::proofs::StatementLoops::statement_done))]
-fn statements<'a>(
+fn statements<'t, 'a>(
     alloc: Global,
-    tokens: &'a [Token],
+    tokens: &'t [Token<'a>],
     high: u32,
-) -> Result<(Vec<Stmt>, &'a [Token]), Stop<'a>>
+) -> Result<(Vec<Stmt<'a>>, &'t [Token<'a>]), Stop<'t, 'a>>
     requires high { high < 64 }
     ensures { Gives (λ x. (map stmt_of x.0.items, x.1.now)) result (several may_go_on (statement_at high true) tokens.now) }
 {
@@ -608,11 +633,11 @@ fn statements<'a>(
 /// A block that counts as one node, at most `high` nodes high.
 #[cycle(statement)]
 #[tactic(auto, unfolding(crate::specs::Reading::braces), using(crate::proofs::StatementLoops::block_zero, crate::proofs::StatementLoops::block_positive))]
-pub fn block<'a>(
+pub fn block<'t, 'a>(
     alloc: Global,
-    tokens: &'a [Token],
+    tokens: &'t [Token<'a>],
     high: u32,
-) -> Result<(Braces, &'a [Token]), Stop<'a>>
+) -> Result<(Braces<'a>, &'t [Token<'a>]), Stop<'t, 'a>>
     requires high { high ≤ 64 }
     ensures { Gives (λ x. ((x.0.at, map stmt_of x.0.statements.items, x.0.end), x.1.now)) result (block_at high tokens.now) }
 {
@@ -638,12 +663,12 @@ pub fn block<'a>(
 /// A statement at most `high` nodes high; in a block it may be a declaration.
 #[cycle(statement)]
 #[tactic(auto, unfolding(crate::specs::Reading::statement_with), using(crate::proofs::StatementLoops::statement_zero, crate::proofs::StatementLoops::statement_positive, crate::proofs::StatementLoops::block_statement_is))]
-pub fn statement<'a>(
+pub fn statement<'t, 'a>(
     alloc: Global,
-    tokens: &'a [Token],
+    tokens: &'t [Token<'a>],
     high: u32,
     in_block: bool,
-) -> Result<(Stmt, &'a [Token]), Stop<'a>>
+) -> Result<(Stmt<'a>, &'t [Token<'a>]), Stop<'t, 'a>>
     requires high { high ≤ 64 }
     ensures { Gives (λ x. (stmt_of x.0, x.1.now)) result (statement_at high in_block tokens.now) }
 {

@@ -13,27 +13,27 @@ pub enum Fault {
 
 /// Want of memory, or a fault and the tokens from the faulty one on.
 #[derive(Drop)]
-pub enum Stop<'a> {
+pub enum Stop<'t, 'a> {
     Memory,
-    Fault(Fault, &'a [Token]),
+    Fault(Fault, &'t [Token<'a>]),
 }
 
-impl<'a> From<AllocError> for Stop<'a> {
+impl<'t, 'a> From<AllocError> for Stop<'t, 'a> {
     ghost use Rattle.aj_parser.specs.declared.stop.Stop.TheVariants.{Memory};
 
     ghost from_gives = { λ _ e. e ≡ Memory };
 
-    fn from(_error: AllocError) -> Stop<'a> {
+    fn from(_error: AllocError) -> Stop<'t, 'a> {
         Stop::Memory
     }
 }
 
-impl<'a, T: Drop> From<AllocFailed<T>> for Stop<'a> {
+impl<'t, 'a, T: Drop> From<AllocFailed<T>> for Stop<'t, 'a> {
     ghost use Rattle.aj_parser.specs.declared.stop.Stop.TheVariants.{Memory};
 
     ghost from_gives = { λ _ e. e ≡ Memory };
 
-    fn from(_error: AllocFailed<T>) -> Stop<'a> {
+    fn from(_error: AllocFailed<T>) -> Stop<'t, 'a> {
         Stop::Memory
     }
 }

@@ -10,9 +10,9 @@ ghost use Rattle.aj_parser.specs.Reading.{a_least, a_name, a_number, an_op, begi
 use crate::stop::{Fault, Stop};
 use aj_lexer::{Token, TokenKind};
 use aj_syntax::{Name, Op, Terminal};
-use std::alloc::Global;
 
 /// Whether the terminal stands first.
+#[inline(always)]
 pub fn begins(tokens: &[Token], terminal: Terminal) -> bool
     ensures { result ≡ starts (is terminal) tokens.now }
 {
@@ -23,7 +23,11 @@ pub fn begins(tokens: &[Token], terminal: Terminal) -> bool
 }
 
 /// Takes the terminal, and gives its offset.
-pub fn take<'a>(tokens: &'a [Token], terminal: Terminal) -> Result<(u32, &'a [Token]), Stop<'a>>
+#[inline(always)]
+pub fn take<'t, 'a>(
+    tokens: &'t [Token<'a>],
+    terminal: Terminal,
+) -> Result<(u32, &'t [Token<'a>]), Stop<'t, 'a>>
     ensures { Gives (λ x. (x.0, x.1.now)) result (take_one terminal tokens.now) }
 {
     match tokens {
@@ -33,7 +37,8 @@ pub fn take<'a>(tokens: &'a [Token], terminal: Terminal) -> Result<(u32, &'a [To
 }
 
 /// Takes the terminal where it stands first.
-pub fn flag<'a>(tokens: &'a [Token], terminal: Terminal) -> (bool, &'a [Token])
+#[inline(always)]
+pub fn flag<'t, 'a>(tokens: &'t [Token<'a>], terminal: Terminal) -> (bool, &'t [Token<'a>])
     ensures { (result.0, result.1.now) ≡ flag_at terminal tokens.now }
 {
     match tokens {
@@ -107,12 +112,12 @@ pub fn begins_least(tokens: &[Token]) -> bool
     }
 }
 
-pub fn name<'a>(alloc: Global, tokens: &'a [Token]) -> Result<(Name, &'a [Token]), Stop<'a>>
+pub fn name<'t, 'a>(tokens: &'t [Token<'a>]) -> Result<(Name<'a>, &'t [Token<'a>]), Stop<'t, 'a>>
     ensures { Gives (λ x. (x.0, x.1.now)) result (first a_name tokens.now) }
 {
     match tokens {
         [token, rest @ ..] if is_name_token(token) => {
-            let text = token.text.copy(alloc)?;
+            let text = token.text;
             Ok((Name { text, at: token.at }, rest))
         }
         _ => Err(Stop::Fault(Fault::Unexpected, tokens)),
@@ -120,7 +125,9 @@ pub fn name<'a>(alloc: Global, tokens: &'a [Token]) -> Result<(Name, &'a [Token]
 }
 
 /// Takes a number up to 2147483647, and gives it and its offset.
-pub fn number<'a>(tokens: &'a [Token]) -> Result<((u32, u32), &'a [Token]), Stop<'a>>
+pub fn number<'t, 'a>(
+    tokens: &'t [Token<'a>],
+) -> Result<((u32, u32), &'t [Token<'a>]), Stop<'t, 'a>>
     ensures { Gives (λ x. (x.0, x.1.now)) result (first a_number tokens.now) }
 {
     match tokens {
@@ -132,7 +139,7 @@ pub fn number<'a>(tokens: &'a [Token]) -> Result<((u32, u32), &'a [Token]), Stop
     }
 }
 
-pub fn least<'a>(tokens: &'a [Token]) -> Result<(u32, &'a [Token]), Stop<'a>>
+pub fn least<'t, 'a>(tokens: &'t [Token<'a>]) -> Result<(u32, &'t [Token<'a>]), Stop<'t, 'a>>
     ensures { Gives (λ x. (x.0, x.1.now)) result (first a_least tokens.now) }
 {
     match tokens {
@@ -215,7 +222,10 @@ pub fn begins_operator(tokens: &[Token], levels: u32) -> bool
 }
 
 /// Takes an operator of the level, and gives it and its offset.
-pub fn operator<'a>(tokens: &'a [Token], levels: u32) -> Result<((Op, u32), &'a [Token]), Stop<'a>>
+pub fn operator<'t, 'a>(
+    tokens: &'t [Token<'a>],
+    levels: u32,
+) -> Result<((Op, u32), &'t [Token<'a>]), Stop<'t, 'a>>
     ensures { Gives (λ x. (x.0, x.1.now)) result (first (an_op levels) tokens.now) }
 {
     match tokens {

@@ -27,16 +27,16 @@ use aj_rules::{RelevantSets, RuleEnd, relevant};
 use aj_syntax::Program;
 use std::alloc::Global;
 
-/// A well-formed source: its class table, its core program and the locks that matter for each method.
+/// A well-formed source: its class table, which lends slices of the source, its core program and the locks that matter for each method.
 #[derive(Drop)]
-pub struct Source {
-    pub table: ClassTable,
+pub struct Source<'a> {
+    pub table: ClassTable<'a>,
     pub program: CoreProgram,
     pub sets: RelevantSets,
 }
 
 /// The class table of the tree of this text.
-fn class_table(alloc: Global, text: &str, tree: &Program) -> Result<ClassTable, Refusal>
+fn class_table<'a>(alloc: Global, text: &str, tree: &Program<'a>) -> Result<ClassTable<'a>, Refusal>
     requires small { length text.now ≤ 262144 }
     requires program { IsProgram text.now (tree_of tree.now) }
     ensures { MatchResult result (λ t. (faults_of (tree_of tree.now) ≡ []) × (table_data t ≡ table_of (tree_of tree.now))) (IsRight (NoSource text.now)) }
@@ -108,7 +108,7 @@ fn relevant_sets(alloc: Global, text: &str, program: &CoreProgram) -> Result<Rel
 }
 
 /// Checks the tree of this text: its classes, its types, and how many locks matter.
-pub fn well_formed(alloc: Global, text: &str, tree: &Program) -> Result<Source, Refusal>
+pub fn well_formed<'a>(alloc: Global, text: &str, tree: &Program<'a>) -> Result<Source<'a>, Refusal>
     requires small { length text.now ≤ 262144 }
     requires program { IsProgram text.now (tree_of tree.now) }
     ensures { MatchResult result (IsSource text.now (tree_of tree.now)) (IsRight (NoSource text.now)) }
@@ -125,7 +125,7 @@ pub fn well_formed(alloc: Global, text: &str, tree: &Program) -> Result<Source, 
 
 /// The well-formed source that these bytes are.
 #[tactic(auto, using(crate::proofs::Told::refused_source))]
-pub fn read_source(alloc: Global, bytes: &[u8]) -> Result<Source, Refusal>
+pub fn read_source<'a>(alloc: Global, bytes: &'a [u8]) -> Result<Source<'a>, Refusal>
     requires { length bytes.now ≤ 262144 }
     ensures { MatchResult result (IsSourceOf bytes.now) (IsRight (NoSource bytes.now)) }
 {

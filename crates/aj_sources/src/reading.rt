@@ -46,7 +46,7 @@ fn no_tokens(alloc: Global, text: &str, fault: LexFault) -> Refusal
 }
 
 /// The tokens of a text.
-fn tokens_of(alloc: Global, text: &str) -> Result<Vec<Token>, Refusal>
+fn tokens_of<'a>(alloc: Global, text: &'a str) -> Result<Vec<Token<'a>>, Refusal>
     requires { length text.now ≤ 262144 }
     ensures { MatchResult result (λ tokens. Tokens text.now tokens.items) (IsRight (NoProgram text.now)) }
 {
@@ -80,7 +80,7 @@ fn no_tree(alloc: Global, text: &str, tokens: &[Token], fault: ParseFault, place
 }
 
 /// The tree that the grammar relates to the tokens of a text.
-pub fn tree_of(alloc: Global, text: &str) -> Result<Program, Refusal>
+pub fn tree_of<'a>(alloc: Global, text: &'a str) -> Result<Program<'a>, Refusal>
     requires { length text.now ≤ 262144 }
     ensures { MatchResult result (λ tree. IsProgram text.now (program_of tree)) (IsRight (NoProgram text.now)) }
 {

@@ -54,10 +54,9 @@ last_set xs k old v is found =
     let below : k < length xs = omega arith in
     let gone : drop (suc k) xs ≡ [] = nothing_left (suc k) xs (omega arith) in
     let there = sym found in
-    let rest : drop k xs ≡ old ∷ [] = drop-cons xs k old below ∙ (λ j. there j ∷ gone j) in
-    (
+    let rest : drop k xs ≡ old ∷ [] = drop-cons xs k old below ∙ (λ j. there j ∷ gone j) in (
       ap reverse (set_split xs k v below ∙ (λ j. take k xs ++ v ∷ gone j)) ∙ reverse-append (take k xs) (v ∷ []),
-      ap reverse (sym (take-append-drop k xs) ∙ (λ j. take k xs ++ rest j)) ∙ reverse-append (take k xs) (old ∷ [])
+      ap reverse (sym (take-append-drop k xs) ∙ (λ j. take k xs ++ rest j)) ∙ reverse-append (take k xs) (old ∷ []),
     )
 
 pub on_last : {A : Type 0} (xs : List A) (k : ℕ) (old v : A) (g : A → A) → k + 1 ≡ length xs → old ≡ get_or xs k old → v ≡ g old → reverse (set xs k v) ≡ on_first g (reverse xs)

@@ -18,12 +18,13 @@ use Rattle.aj_syntax.specs.declared.tree.Op.{Op}
 use Rattle.aj_syntax.specs.declared.tree.Param.{Param}
 use Rattle.aj_syntax.specs.declared.tree.TypeName.{TypeName}
 use Rattle.aj_syntax.specs.declared.tree.TypeName.TheVariants as Y
-use Rattle.aj_syntax.specs.Grammar.{sign_of, level, loose, is_postfix, is_call, is_local, open_if, offset, IsFlag, IsOptional, IsType, IsResultType, SpellsFields, SpellsRoot, SpellsLock, Spells, SpellsArgs, SpellsMoreArgs, SpellsStmt, SpellsStmts, Repeats, Follows, Separates, SpellsParam, SpellsCtorParam, SpellsSet, SpellsGuard, SpellsRequires, SpellsBare, SpellsMember, SpellsRunnable, SpellsClass, Wide}
+use Rattle.aj_syntax.specs.Grammar.{sign_of, level, loose, is_postfix, is_call, is_local, open_if, offset, IsFlag, IsOptional, IsType, IsResultType, SpellsFields, SpellsRoot, SpellsLock, Spells, SpellsArgs, SpellsMoreArgs, SpellsStmt, SpellsStmts, Repeats, Follows, Separates, SpellsParam, SpellsCtorParam, SpellsSet, SpellsGuard, SpellsFinalField, SpellsMutableField, SpellsRequires, SpellsBare, SpellsMember, SpellsRunnable, SpellsClass, Wide}
 use Rattle.aj_syntax.specs.Layout.{Lexeme, Fixed, Named, Numeral, lexeme_text, token_at}
 use Rattle.aj_syntax.specs.Printing.{all_lexemes, further_lexemes, listed_lexemes, flag_lexemes, name_lexeme, type_lexeme, result_lexeme, dotted_lexemes, root_lexeme, lock_lexemes, expr_lexemes, args_lexemes, more_args_lexemes, stmt_lexemes, stmts_lexemes, param_lexemes, set_lexemes, guard_lexemes, requires_lexemes, member_lexemes, method_lexemes, runnable_lexemes, class_lexemes, program_lexemes}
 use Rattle.aj_syntax.specs.Reprinted.{AreLexemes, lexeme_kind}
-use Rattle.aj_syntax.specs.Tokens.{kind_of, spelling, token, name_token, number_token}
-use Rattle.aj_syntax.specs.Trees.{LockTree, ExprTree, ExprTrees, NumberE, LeastE, TruthE, NullE, ThisE, VarE, ParenE, NotE, NegE, BinaryE, GetE, CallE, NewE, no_exprs, more_exprs, StmtTree, StmtTrees, EmptyS, BlockS, LocalS, SetVarS, SetFieldS, DoS, IfS, IfElseS, WhileS, SyncS, ReturnS, PrintS, StartS, no_stmts, more_stmts, MethodTree, MemberTree, FieldM, CtorM, MethodM, ClassTree, ProgramTree}
+use Rattle.aj_syntax.specs.Tokens.{kind_of, spelling, token, name_token, number_token, guard_word}
+use Rattle.aj_syntax.specs.Trees.{LockTree, ExprTree, ExprTrees, NumberE, LeastE, TruthE, NullE, ThisE, VarE, ParenE, NotE, NegE, BinaryE, GetE, CallE, NewE, no_exprs, more_exprs, StmtTree, StmtTrees, EmptyS, BlockS, LocalS, SetVarS, SetFieldS, DoS, IfS, IfElseS, WhileS, SyncS, ReturnS, PrintS, StartS, no_stmts, more_stmts, MethodTree, FieldTree, MemberTree, FieldM, CtorM, MethodM, ClassTree, ProgramTree}
+use Rattle.aj_syntax.proofs.Fields.{final_field, mutable_field, each_field}
 use Rattle.aj_syntax.specs.Unplaced.{bare_name, bare_type, bare_lock, bare_expr, bare_exprs, bare_stmt, bare_stmts, bare_param, bare_set, bare_member, bare_class, without_offsets}
 
 -- the tokens, the first at the offset with the number k, and so on
@@ -760,12 +761,13 @@ set_law p ts (t, d, e, c, eq) kn =
           ((named p.0 (f k2), named p.1 (f k4)), (f k, f (suc k), f (suc k2), f (suc k4), refl), refl);
     }
 
-guard_law : (guard : Option LockTree) (ts : List Token) → SpellsGuard guard ts → Known ts → Law SpellsGuard guard_lexemes (option_map bare_lock) guard
-guard_law None ts s kn = record { known = tt; moved = λ f k. (None, refl, refl) }
-guard_law (Some l) ts (xs, d, s, eq) kn =
+guard_law : (writes_only : Bool) (guard : Option LockTree) (ts : List Token) → SpellsGuard writes_only guard ts → Known ts
+    → Law (SpellsGuard writes_only) (guard_lexemes writes_only) (option_map bare_lock) guard
+guard_law writes_only None ts (is, s) kn = record { known = tt; moved = λ f k. (None, (is, refl), refl) }
+guard_law writes_only (Some l) ts (xs, d, s, eq) kn =
     let a = lock_law l xs s (subst Known eq kn).1 in
     record {
-      known = (spelled T.GuardedBy, a.known);
+      known = (spelled (guard_word writes_only), a.known);
       moved = λ f k. let m = a.moved f (suc k) in (Some m.0, (placed f (suc k) (lock_lexemes l), f k, m.1, refl), ap Some m.2);
     }
 
@@ -783,36 +785,48 @@ requires_law (l ∷ ls) ts (xs, d, s, eq) kn =
       moved = λ f k. let m = a.moved f (suc k) in requires_from l ls m.0 (f k) (placed f (suc k) (listed_lexemes lock_lexemes (l ∷ ls))) m.1 m.2;
     }
 
-bare_law : (m : MemberTree) (ts : List Token) → SpellsBare m ts → Known ts → Law SpellsBare member_lexemes bare_member m
-bare_law (FieldM true ty n (Some l)) ts s kn = absurd s
-bare_law (FieldM true ty n None) ts (x, d, c, t, eq) kn =
+abbrev IsLawful : List Token → MemberTree → Type 0
+IsLawful ts m = Known ts → Law SpellsBare member_lexemes bare_member m
+
+final_law : (ty : TypeName) (n : Name) (ts : List Token) → SpellsFinalField (final_field ty n) ts → IsLawful ts (FieldM (final_field ty n))
+final_law ty n ts (x, d, c, t, g, w, eq) kn =
     let kn2 = (subst Known eq kn).1 in
     let a = type_law ty x t kn2.0 in
     record {
       known = (spelled T.Final, (a.known, (kn2.1.0, (spelled T.Semicolon, tt))));
-      moved = λ f k. let j = suc k in let b = a.moved (f j) in
-          (FieldM true b.0 (named n (f (suc j))) None, (token_at (f j) (type_lexeme ty), f k, f (suc (suc j)), b.1, refl), ap (λ z. FieldM true z (bare_name n) None) b.2);
-    }
-bare_law (FieldM false ty n guard) ts (x, gs, c, t, g, eq) kn =
-    let kn2 = subst Known eq kn in
-    let a = type_law ty x t kn2.0 in
-    let l = guard_law guard gs g (front gs (token T.Semicolon c ∷ []) kn2.1.1) in
-    record {
-      known = (a.known, (kn2.1.0, together (guard_lexemes guard) end_of l.known (spelled T.Semicolon, tt)));
-      moved = λ f k. let i = suc (suc k) in let b = a.moved (f k) in let m = l.moved f i in (
-        FieldM false b.0 (named n (f (suc k))) m.0,
-        (
-          token_at (f k) (type_lexeme ty),
-          placed f i (guard_lexemes guard),
-          f (after i (guard_lexemes guard)),
-          b.1,
-          m.1,
-          ap (λ z. token_at (f k) (type_lexeme ty) ∷ name_token (named n (f (suc k))) ∷ z) (placed_both f i (guard_lexemes guard) end_of),
-        ),
-        ap₂ (λ y z. FieldM false y (bare_name n) z) b.2 m.2,
+      moved = λ f k. let j = suc k in let b = a.moved (f j) in (
+        FieldM (final_field b.0 (named n (f (suc j)))),
+        (token_at (f j) (type_lexeme ty), f k, f (suc (suc j)), b.1, refl, refl, refl),
+        ap (λ z. FieldM (final_field z (bare_name n))) b.2,
       );
     }
-bare_law (CtorM n params sets) ts (xs, ys, o, c, b, d, ps, ss, eq) kn =
+
+mutable_law : (ty : TypeName) (n : Name) (writes_only : Bool) (guard : Option LockTree) (ts : List Token)
+    → SpellsMutableField (mutable_field ty n writes_only guard) ts → IsLawful ts (FieldM (mutable_field ty n writes_only guard))
+mutable_law ty n writes_only guard ts (x, gs, c, t, g, eq) kn =
+    let kn2 = subst Known eq kn in
+    let a = type_law ty x t kn2.0 in
+    let l = guard_law writes_only guard gs g (front gs (token T.Semicolon c ∷ []) kn2.1.1) in
+    let guards = guard_lexemes writes_only guard in
+    record {
+      known = (a.known, (kn2.1.0, together guards end_of l.known (spelled T.Semicolon, tt)));
+      moved = λ f k. let i = suc (suc k) in let b = a.moved (f k) in let m = l.moved f i in (
+        FieldM (mutable_field b.0 (named n (f (suc k))) writes_only m.0),
+        (
+          token_at (f k) (type_lexeme ty),
+          placed f i guards,
+          f (after i guards),
+          b.1,
+          m.1,
+          ap (λ z. token_at (f k) (type_lexeme ty) ∷ name_token (named n (f (suc k))) ∷ z) (placed_both f i guards end_of),
+        ),
+        ap₂ (λ y z. FieldM (mutable_field y (bare_name n) writes_only z)) b.2 m.2,
+      );
+    }
+
+bare_law : (m : MemberTree) (ts : List Token) → SpellsBare m ts → IsLawful ts m
+bare_law (FieldM t) ts s = each_field IsLawful final_law mutable_law t ts s
+bare_law (CtorM n params sets) ts (xs, ys, o, c, b, d, ps, ss, eq) = λ kn.
     let kn2 = subst Known eq kn in
     let tail = token T.CloseParen c ∷ token T.OpenBrace b ∷ ys ++ (token T.CloseBrace d ∷ []) in
     let l = separates_law SpellsCtorParam (param_lexemes false) bare_param ctor_param_law params xs ps (front xs tail kn2.1.1) in
@@ -839,7 +853,7 @@ bare_law (CtorM n params sets) ts (xs, ys, o, c, b, d, ps, ss, eq) kn =
         ap₂ (λ y z. CtorM (bare_name n) y z) m.2 q.2,
       );
     }
-bare_law (MethodM m) ts (fs, xs, rs, ys, x, o, c, b, fl, ty, ps, rq, ss, eq) kn =
+bare_law (MethodM m) ts (fs, xs, rs, ys, x, o, c, b, fl, ty, ps, rq, ss, eq) = λ kn.
     let inner = token T.OpenBrace b ∷ ys ++ (token T.CloseBrace m.end ∷ []) in
     let tail = token T.CloseParen c ∷ rs ++ inner in
     let kn2 = back fs (x ∷ name_token m.name ∷ token T.OpenParen o ∷ xs ++ tail) (subst Known eq kn) in

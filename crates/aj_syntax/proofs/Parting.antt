@@ -126,18 +126,20 @@ mutual
 param_parted : (keeps : Bool) (p : Param) → Parted false (param_lexemes keeps p)
 param_parted keeps p = flag_parted (keeps && p.is_final) (type_lexeme p.ty ∷ name_lexeme p.name ∷ []) (type_parted p.ty (name_lexeme p.name ∷ []) (never, refl))
 
-guard_parted : (guard : Option LockTree) → Parted false (guard_lexemes guard)
-guard_parted None = refl
-guard_parted (Some l) = (never, lock_parted l)
+guard_parted : (writes_only : Bool) (guard : Option LockTree) → Parted false (guard_lexemes writes_only guard)
+guard_parted writes_only None = refl
+guard_parted false (Some l) = (never, lock_parted l)
+guard_parted true (Some l) = (never, lock_parted l)
 
 requires_parted : (locks : List LockTree) → Parted false (requires_lexemes locks)
 requires_parted [] = refl
 requires_parted (l ∷ ls) = (never, listed_parted lock_lexemes lock_parted (l ∷ ls))
 
 member_parted : (m : MemberTree) → Parted false (member_lexemes m)
-member_parted (FieldM fin ty n guard) =
-    flag_parted fin (type_lexeme ty ∷ name_lexeme n ∷ guard_lexemes guard ++ (Fixed T.Semicolon ∷ []))
-    (type_parted ty (name_lexeme n ∷ guard_lexemes guard ++ (Fixed T.Semicolon ∷ [])) (never, both false (guard_lexemes guard) (Fixed T.Semicolon ∷ []) (guard_parted guard) (never, refl)))
+member_parted (FieldM f) =
+    let guard = guard_lexemes f.writes_only f.guard in
+    flag_parted f.is_final (type_lexeme f.ty ∷ name_lexeme f.name ∷ guard ++ (Fixed T.Semicolon ∷ []))
+    (type_parted f.ty (name_lexeme f.name ∷ guard ++ (Fixed T.Semicolon ∷ [])) (never, both false guard (Fixed T.Semicolon ∷ []) (guard_parted f.writes_only f.guard) (never, refl)))
 member_parted (CtorM n params sets) = (
   never,
   (

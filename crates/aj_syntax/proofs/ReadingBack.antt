@@ -63,7 +63,7 @@ mutual
   talls (more_stmts s ss) = ap₂ max (tall s) (talls ss)
 
 member_height : (m : MemberTree) → body_height (bare_member m) ≡ body_height m
-member_height (FieldM fin ty n guard) = refl
+member_height (FieldM f) = refl
 member_height (CtorM n params sets) = refl
 member_height (MethodM m) = up (talls m.body)
 

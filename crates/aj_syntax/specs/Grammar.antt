@@ -10,8 +10,8 @@ use Rattle.aj_syntax.specs.declared.tree.Param.{Param}
 use Rattle.aj_syntax.specs.declared.tree.TypeName.{TypeName}
 use Rattle.aj_syntax.specs.declared.tree.TypeName.TheVariants as Y
 use Rattle.aj_syntax.specs.Heights.{highest_body}
-use Rattle.aj_syntax.specs.Tokens.{token, name_token, number_token}
-use Rattle.aj_syntax.specs.Trees.{LockTree, ExprTree, ExprTrees, NumberE, LeastE, TruthE, NullE, ThisE, VarE, ParenE, NotE, NegE, BinaryE, GetE, CallE, NewE, no_exprs, more_exprs, StmtTree, StmtTrees, EmptyS, BlockS, LocalS, SetVarS, SetFieldS, DoS, IfS, IfElseS, WhileS, SyncS, ReturnS, PrintS, StartS, no_stmts, more_stmts, MemberTree, FieldM, CtorM, MethodM, ClassTree, ProgramTree}
+use Rattle.aj_syntax.specs.Tokens.{token, name_token, number_token, guard_word}
+use Rattle.aj_syntax.specs.Trees.{LockTree, ExprTree, ExprTrees, NumberE, LeastE, TruthE, NullE, ThisE, VarE, ParenE, NotE, NegE, BinaryE, GetE, CallE, NewE, no_exprs, more_exprs, StmtTree, StmtTrees, EmptyS, BlockS, LocalS, SetVarS, SetFieldS, DoS, IfS, IfElseS, WhileS, SyncS, ReturnS, PrintS, StartS, no_stmts, more_stmts, FieldTree, MemberTree, FieldM, CtorM, MethodM, ClassTree, ProgramTree}
 
 -- the offset of the first token, or 0
 abbrev pub offset : List Token → ℕ
@@ -292,24 +292,36 @@ abbrev pub SpellsSet : (Name × Name) → List Token → Type 0
 SpellsSet p ts =
     (t d e c : ℕ) × (ts ≡ token T.This t ∷ token T.Dot d ∷ name_token p.0 ∷ token T.Assign e ∷ name_token p.1 ∷ token T.Semicolon c ∷ [])
 
--- [ "guarded_by" lock ]
-abbrev pub SpellsGuard : Option LockTree → List Token → Type 0
-SpellsGuard None ts = ts ≡ []
-SpellsGuard (Some l) ts = (xs : List Token) × (d : ℕ) × SpellsLock l xs × (ts ≡ token T.GuardedBy d ∷ xs)
+-- [ ( "guarded_by" | "write_guarded_by" ) lock ]
+abbrev pub SpellsGuard : Bool → Option LockTree → List Token → Type 0
+SpellsGuard writes_only None ts = (writes_only ≡ false) × (ts ≡ [])
+SpellsGuard writes_only (Some l) ts = (xs : List Token) × (d : ℕ) × SpellsLock l xs × (ts ≡ token (guard_word writes_only) d ∷ xs)
 
 -- [ "requires" lock { "," lock } ]
 abbrev pub SpellsRequires : List LockTree → List Token → Type 0
 SpellsRequires [] ts = ts ≡ []
 SpellsRequires (l ∷ ls) ts = (xs : List Token) × (d : ℕ) × Separates SpellsLock (l ∷ ls) xs × (ts ≡ token T.Requires d ∷ xs)
 
--- field, ctor or method. A final field has no guard
+-- "final" type Name ";". A final field has no guard
+abbrev pub SpellsFinalField : FieldTree → List Token → Type 0
+SpellsFinalField f ts =
+    (x : Token) × (d c : ℕ) × IsType f.ty x × (f.guard ≡ None) × (f.writes_only ≡ false)
+    × (ts ≡ token T.Final d ∷ x ∷ name_token f.name ∷ token T.Semicolon c ∷ [])
+
+-- type Name [ ( "guarded_by" | "write_guarded_by" ) lock ] ";"
+abbrev pub SpellsMutableField : FieldTree → List Token → Type 0
+SpellsMutableField f ts =
+    (x : Token) × (gs : List Token) × (c : ℕ) × IsType f.ty x × SpellsGuard f.writes_only f.guard gs
+    × (ts ≡ x ∷ name_token f.name ∷ gs ++ (token T.Semicolon c ∷ []))
+
+-- field: final or not
+abbrev pub SpellsField : Bool → FieldTree → List Token → Type 0
+SpellsField true f ts = SpellsFinalField f ts
+SpellsField false f ts = SpellsMutableField f ts
+
+-- field, ctor or method
 abbrev pub SpellsBare : MemberTree → List Token → Type 0
--- "final" type Name ";"
-SpellsBare (FieldM true ty n (Some l)) ts = ⊥
-SpellsBare (FieldM true ty n None) ts = (x : Token) × (d c : ℕ) × IsType ty x × (ts ≡ token T.Final d ∷ x ∷ name_token n ∷ token T.Semicolon c ∷ [])
--- type Name [ "guarded_by" lock ] ";"
-SpellsBare (FieldM false ty n guard) ts =
-    (x : Token) × (gs : List Token) × (c : ℕ) × IsType ty x × SpellsGuard guard gs × (ts ≡ x ∷ name_token n ∷ gs ++ (token T.Semicolon c ∷ []))
+SpellsBare (FieldM f) ts = SpellsField f.is_final f ts
 -- Name "(" [ params ] ")" "{" { "this" "." Name "=" Name ";" } "}"
 SpellsBare (CtorM n params sets) ts =
     (xs ys : List Token) × (o c b d : ℕ) × Separates SpellsCtorParam params xs × Repeats SpellsSet sets ys

@@ -47,7 +47,7 @@ abbrev mutual
 
 -- the height of a member's body, which counts as one block; 0 where there is none
 abbrev pub body_height : MemberTree → ℕ
-body_height (FieldM fin ty n guard) = 0
+body_height (FieldM f) = 0
 body_height (CtorM n params sets) = 0
 body_height (MethodM m) = 1 + stmt_heights m.body
 

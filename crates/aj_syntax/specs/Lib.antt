@@ -2,8 +2,10 @@ pub mod Faults
 pub mod Grammar
 pub mod Heights
 pub mod Layout
+pub mod Names
 pub mod Printing
 pub mod Reprinted
+pub mod Seen
 pub mod Tokens
 pub mod Trees
 pub mod Unplaced

@@ -8,7 +8,8 @@ use Rattle.aj_syntax.specs.declared.tree.TypeName.{TypeName}
 use Rattle.aj_syntax.specs.declared.tree.TypeName.TheVariants as Y
 use Rattle.aj_syntax.specs.Grammar.{sign_of}
 use Rattle.aj_syntax.specs.Layout.{Lexeme, Fixed, Named, Numeral, laid_out}
-use Rattle.aj_syntax.specs.Trees.{LockTree, ExprTree, ExprTrees, NumberE, LeastE, TruthE, NullE, ThisE, VarE, ParenE, NotE, NegE, BinaryE, GetE, CallE, NewE, no_exprs, more_exprs, StmtTree, StmtTrees, EmptyS, BlockS, LocalS, SetVarS, SetFieldS, DoS, IfS, IfElseS, WhileS, SyncS, ReturnS, PrintS, StartS, no_stmts, more_stmts, MethodTree, MemberTree, FieldM, CtorM, MethodM, ClassTree, ProgramTree}
+use Rattle.aj_syntax.specs.Tokens.{guard_word}
+use Rattle.aj_syntax.specs.Trees.{LockTree, ExprTree, ExprTrees, NumberE, LeastE, TruthE, NullE, ThisE, VarE, ParenE, NotE, NegE, BinaryE, GetE, CallE, NewE, no_exprs, more_exprs, StmtTree, StmtTrees, EmptyS, BlockS, LocalS, SetVarS, SetFieldS, DoS, IfS, IfElseS, WhileS, SyncS, ReturnS, PrintS, StartS, no_stmts, more_stmts, MethodTree, FieldTree, MemberTree, FieldM, CtorM, MethodM, ClassTree, ProgramTree}
 
 -- several parts, one after another
 abbrev pub all_lexemes : {A : Type 0} → (A → List Lexeme) → List A → List Lexeme
@@ -115,9 +116,9 @@ param_lexemes keeps p = flag_lexemes T.Final (keeps && p.is_final) ++ (type_lexe
 abbrev pub set_lexemes : (Name × Name) → List Lexeme
 set_lexemes p = Fixed T.This ∷ Fixed T.Dot ∷ name_lexeme p.0 ∷ Fixed T.Assign ∷ name_lexeme p.1 ∷ Fixed T.Semicolon ∷ []
 
-abbrev pub guard_lexemes : Option LockTree → List Lexeme
-guard_lexemes None = []
-guard_lexemes (Some l) = Fixed T.GuardedBy ∷ lock_lexemes l
+abbrev pub guard_lexemes : Bool → Option LockTree → List Lexeme
+guard_lexemes writes_only None = []
+guard_lexemes writes_only (Some l) = Fixed (guard_word writes_only) ∷ lock_lexemes l
 
 abbrev pub requires_lexemes : List LockTree → List Lexeme
 requires_lexemes [] = []
@@ -129,10 +130,14 @@ method_lexemes atomic returns n params locks body =
     ∷ listed_lexemes (param_lexemes true) params
     ++ (Fixed T.CloseParen ∷ requires_lexemes locks ++ (Fixed T.OpenBrace ∷ stmts_lexemes body ++ (Fixed T.CloseBrace ∷ []))))
 
+abbrev pub field_lexemes : FieldTree → List Lexeme
+field_lexemes f =
+    flag_lexemes T.Final f.is_final
+    ++ (type_lexeme f.ty ∷ name_lexeme f.name ∷ guard_lexemes f.writes_only f.guard ++ (Fixed T.Semicolon ∷ []))
+
 -- a field, constructor or method, without `public`; a constructor's parameters without `final`
 abbrev pub member_lexemes : MemberTree → List Lexeme
-member_lexemes (FieldM fin ty n guard) =
-    flag_lexemes T.Final fin ++ (type_lexeme ty ∷ name_lexeme n ∷ guard_lexemes guard ++ (Fixed T.Semicolon ∷ []))
+member_lexemes (FieldM f) = field_lexemes f
 member_lexemes (CtorM n params sets) =
     name_lexeme n ∷ Fixed T.OpenParen ∷ listed_lexemes (param_lexemes false) params
     ++ (Fixed T.CloseParen ∷ Fixed T.OpenBrace ∷ all_lexemes set_lexemes sets ++ (Fixed T.CloseBrace ∷ []))

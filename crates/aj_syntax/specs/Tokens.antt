@@ -16,6 +16,7 @@ spelling T.Implements = codes "implements"
 spelling T.Runnable = codes "Runnable"
 spelling T.Final = codes "final"
 spelling T.GuardedBy = codes "guarded_by"
+spelling T.WriteGuardedBy = codes "write_guarded_by"
 spelling T.This = codes "this"
 spelling T.Atomic = codes "atomic"
 spelling T.Void = codes "void"
@@ -92,6 +93,7 @@ kind_of T.Implements = K.Word
 kind_of T.Runnable = K.Word
 kind_of T.Final = K.Word
 kind_of T.GuardedBy = K.Word
+kind_of T.WriteGuardedBy = K.Word
 kind_of T.This = K.Word
 kind_of T.Atomic = K.Word
 kind_of T.Void = K.Word
@@ -109,6 +111,11 @@ kind_of T.Thread = K.Word
 kind_of T.True = K.Word
 kind_of T.False = K.Word
 kind_of T.Null = K.Word
+
+-- the word before a guard: one of all accesses, or one of writes alone
+abbrev pub guard_word : Bool → Terminal
+guard_word false = T.GuardedBy
+guard_word true = T.WriteGuardedBy
 
 -- whether two kinds are one kind that is no number
 abbrev pub same_kind : TokenKind → TokenKind → Bool

@@ -65,9 +65,17 @@ pub record MethodTree : Type 0 where
   pub body : StmtTrees
   pub end : ℕ
 
+-- a field; its guard holds for writes alone where `writes_only` is true
+pub record FieldTree : Type 0 where
+  pub is_final : Bool
+  pub ty : TypeName
+  pub name : Name
+  pub guard : Option LockTree
+  pub writes_only : Bool
+
 -- a member of a class
 pub data MemberTree : Type 0 where
-  FieldM : Bool → TypeName → Name → Option LockTree → MemberTree
+  FieldM : FieldTree → MemberTree
   CtorM : Name → List Param → List (Name × Name) → MemberTree
   MethodM : MethodTree → MemberTree
 

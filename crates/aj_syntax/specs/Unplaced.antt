@@ -67,7 +67,14 @@ abbrev pub bare_set : (Name × Name) → (Name × Name)
 bare_set p = (bare_name p.0, bare_name p.1)
 
 abbrev pub bare_member : MemberTree → MemberTree
-bare_member (FieldM fin ty n guard) = FieldM fin (bare_type ty) (bare_name n) (option_map bare_lock guard)
+bare_member (FieldM f) =
+    FieldM record {
+      is_final = f.is_final;
+      ty = bare_type f.ty;
+      name = bare_name f.name;
+      guard = option_map bare_lock f.guard;
+      writes_only = f.writes_only;
+    }
 bare_member (CtorM n params sets) = CtorM (bare_name n) (map bare_param params) (map bare_set sets)
 bare_member (MethodM m) =
     MethodM record {

@@ -69,7 +69,8 @@ stmts_from (s ∷ ss) = more_stmts s (stmts_from ss)
 
 -- a member of a class as plain data
 abbrev pub member_of : Member → MemberTree
-member_of (M.Field fin ty n guard) = FieldM fin ty n (option_map lock_of guard)
+member_of (M.Field fin ty n guard writes_only) =
+    FieldM record { is_final = fin; ty = ty; name = n; guard = option_map lock_of guard; writes_only = writes_only }
 member_of (M.Ctor n params sets) = CtorM n params.items sets.items
 member_of (M.Method atomic returns n params locks body end) =
     MethodM record {

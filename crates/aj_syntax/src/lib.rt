@@ -1,6 +1,7 @@
 //! The syntax of the language: its trees, the grammar that relates them to lists of tokens, and their canonical text.
 #![tactic(auto)]
 
+mod laws;
 mod page;
 mod print;
 mod print_laws;
@@ -10,6 +11,7 @@ mod tree;
 ghost use Rattle.aj_syntax.specs.Faults.{IsTooDeep, IsUnexpected};
 ghost use Rattle.aj_syntax.specs.Views.{program_of};
 
+pub use laws::name_laws;
 pub use print::print_program;
 pub use print_laws::printing_laws;
 pub use terminal::Terminal;

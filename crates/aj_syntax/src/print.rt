@@ -8,8 +8,9 @@ ghost use Rattle.aj_lexer.specs.Tokens.{Tokens};
 ghost use Rattle.aj_syntax.specs.Grammar.{Grammar, sign_of};
 ghost use Rattle.aj_syntax.specs.Reprinted.{ReadsBack};
 ghost use Rattle.aj_syntax.specs.Layout.{Fixed, put, writes};
-ghost use Rattle.aj_syntax.specs.Printing.{all_lexemes, args_lexemes, canonical, class_lexemes, dotted_lexemes, expr_lexemes, flag_lexemes, further_lexemes, guard_lexemes, listed_lexemes, lock_lexemes, member_lexemes, method_lexemes, more_args_lexemes, name_lexeme, param_lexemes, requires_lexemes, result_lexeme, root_lexeme, runnable_lexemes, set_lexemes, stmt_lexemes, stmts_lexemes, type_lexeme};
-ghost use Rattle.aj_syntax.specs.Trees.{BlockS, CtorM, FieldM, ParenE, PrintS, ReturnS, SetVarS, StartS};
+ghost use Rattle.aj_syntax.specs.Printing.{all_lexemes, args_lexemes, canonical, class_lexemes, dotted_lexemes, expr_lexemes, field_lexemes, flag_lexemes, further_lexemes, guard_lexemes, listed_lexemes, lock_lexemes, member_lexemes, method_lexemes, more_args_lexemes, name_lexeme, param_lexemes, requires_lexemes, result_lexeme, root_lexeme, runnable_lexemes, set_lexemes, stmt_lexemes, stmts_lexemes, type_lexeme};
+ghost use Rattle.aj_syntax.specs.Trees.{BlockS, CtorM, ParenE, PrintS, ReturnS, SetVarS, StartS};
+ghost use Rattle.aj_syntax.specs.Tokens.{guard_word as word_of};
 ghost use Rattle.aj_syntax.specs.declared.terminal.Terminal.TheVariants as terminals;
 ghost use Rattle.aj_syntax.specs.Views.{class_of, expr_of, exprs_from, lock_of, member_of, program_of, stmt_of, stmts_from};
 
@@ -78,7 +79,8 @@ fn write_member(to: &mut Printer, member: &Member) -> Result<(), NoMemory>
             ty,
             name,
             guard,
-        } => write_field(to, *is_final, ty, name, guard),
+            writes_only,
+        } => write_field(to, *is_final, ty, name, guard, *writes_only),
         Member::Ctor { name, params, sets } => write_constructor(to, name, params, sets),
         Member::Method {
             atomic,
@@ -98,13 +100,14 @@ fn write_field(
     ty: &TypeName,
     name: &Name,
     guard: &Option<Lock>,
+    writes_only: bool,
 ) -> Result<(), NoMemory>
-    ensures { OnOk result (to.new ≡ writes to.old (member_lexemes (FieldM is_final ty.now name.now (option_map lock_of guard.now)))) }
+    ensures { OnOk result (to.new ≡ writes to.old (field_lexemes record { is_final = is_final; ty = ty.now; name = name.now; guard = option_map lock_of guard.now; writes_only = writes_only })) }
 {
     write_flag(to, Terminal::Final, is_final)?;
     write_type(to, ty)?;
     write_name(to, name)?;
-    write_guard(to, guard)?;
+    write_guard(to, guard, writes_only)?;
     to.terminal(Terminal::Semicolon)
 }
 
@@ -160,7 +163,7 @@ fn write_flag(to: &mut Printer, terminal: Terminal, stands: bool) -> Result<(), 
 fn write_name(to: &mut Printer, name: &Name) -> Result<(), NoMemory>
     ensures { OnOk result (to.new ≡ put to.old (name_lexeme name.now)) }
 {
-    to.name(name.text.as_str())
+    to.name(name.text)
 }
 
 fn write_type(to: &mut Printer, ty: &TypeName) -> Result<(), NoMemory>
@@ -236,13 +239,24 @@ fn write_set(to: &mut Printer, set: &(Name, Name)) -> Result<(), NoMemory>
     to.terminal(Terminal::Semicolon)
 }
 
-fn write_guard(to: &mut Printer, guard: &Option<Lock>) -> Result<(), NoMemory>
-    ensures { OnOk result (to.new ≡ writes to.old (guard_lexemes (option_map lock_of guard.now))) }
+/// The word before a guard.
+fn guard_word(writes_only: bool) -> Terminal
+    ensures { result ≡ word_of writes_only }
+{
+    if writes_only {
+        Terminal::WriteGuardedBy
+    } else {
+        Terminal::GuardedBy
+    }
+}
+
+fn write_guard(to: &mut Printer, guard: &Option<Lock>, writes_only: bool) -> Result<(), NoMemory>
+    ensures { OnOk result (to.new ≡ writes to.old (guard_lexemes writes_only (option_map lock_of guard.now))) }
 {
     let Some(lock) = guard else {
         return Ok(());
     };
-    to.terminal(Terminal::GuardedBy)?;
+    to.terminal(guard_word(writes_only))?;
     write_lock(to, lock)
 }
 

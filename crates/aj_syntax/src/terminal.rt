@@ -14,6 +14,7 @@ pub enum Terminal {
     Runnable,
     Final,
     GuardedBy,
+    WriteGuardedBy,
     This,
     Atomic,
     Void,
@@ -60,6 +61,7 @@ pub enum Terminal {
 
 impl Terminal {
     /// The text of the terminal.
+    #[inline(always)]
     pub fn text(self) -> &'static str
         ensures { result.now ≡ spelling self }
     {
@@ -70,6 +72,7 @@ impl Terminal {
             Terminal::Runnable => "Runnable",
             Terminal::Final => "final",
             Terminal::GuardedBy => "guarded_by",
+            Terminal::WriteGuardedBy => "write_guarded_by",
             Terminal::This => "this",
             Terminal::Atomic => "atomic",
             Terminal::Void => "void",
@@ -115,6 +118,7 @@ impl Terminal {
         }
     }
 
+    #[inline(always)]
     fn kind(self) -> TokenKind
         ensures { result ≡ kind_of self }
     {
@@ -146,14 +150,16 @@ impl Terminal {
         }
     }
 
-    /// Whether a token is this terminal's.
+    /// Whether a token is this terminal's. At a given terminal this is two comparisons of numbers and one of a few bytes.
+    #[inline(always)]
     pub fn matches(self, token: &Token) -> bool
         ensures { result ≡ is self token.now }
     {
-        is_same_kind(token.kind, self.kind()) && token.text.is(self.text())
+        is_same_kind(token.kind, self.kind()) && token.text == self.text()
     }
 }
 
+#[inline(always)]
 fn is_same_kind(one: TokenKind, other: TokenKind) -> bool
     ensures { result ≡ same_kind one other }
 {

@@ -7,6 +7,8 @@ mod files;
 mod lines;
 mod print;
 mod run;
+#[cfg(test)]
+mod source_tests;
 mod status;
 #[cfg(test)]
 mod tests;

@@ -19,7 +19,7 @@ fn words_of(alloc: Global, words: &[&str]) -> Result<Vec<String>, Fail> {
 }
 
 /// The status and the text of the words, where the file `a` has these bytes.
-fn answer(alloc: Global, words: &[&str], bytes: &[u8]) -> Result<(u8, Vec<u8>), Fail> {
+pub fn answer(alloc: Global, words: &[&str], bytes: &[u8]) -> Result<(u8, Vec<u8>), Fail> {
     let mut files = Vec::new(alloc);
     files.push((String::from_str(alloc, "a")?, bytes.to_vec(alloc)?))?;
     let mut folder = MemFolder::new(alloc, files, 4096, Vec::new(alloc))?;
@@ -38,7 +38,7 @@ fn padded(alloc: Global, source: &str, len: usize) -> Result<Vec<u8>, Fail> {
     Ok(bytes)
 }
 
-fn expect(
+pub fn expect(
     rt: &impl Abort,
     alloc: Global,
     words: &[&str],

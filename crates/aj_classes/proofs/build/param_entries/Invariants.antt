@@ -1,8 +1,7 @@
 use Rattle.std.proofs.Common.{◌≡◌, ◌++◌, drop, map}
 use Rattle.aj_classes.specs.Table.{param_of}
-use Rattle.aj_classes.specs.Views.{param_data}
 use Rattle.aj_classes.proofs.build.param_entries.Given as goal
 
 abbrev pub invariant-loop-param : goal.invariant-loop-param
 invariant-loop-param l =
-    map param_data l.entries.items ++ map (param_of l.names) (drop l.param-index l.params) ≡ map (param_of l.names) l.params
+    l.entries.items ++ map (param_of l.names) (drop l.param-index l.params) ≡ map (param_of l.names) l.params

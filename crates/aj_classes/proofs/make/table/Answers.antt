@@ -13,10 +13,10 @@ pub returns-in-Some-clause-fault_given : goal.returns-in-Some-clause-fault_given
 returns-in-Some-clause-fault_given c f h =
     inl (one_first (program_of c.args.program.now) c.in-Some.fault f (first_is (program_of c.args.program.now) c.in-Some.fault (sym c.in_ok-fault.ensures.fault ∙ c.in-Some.is)) h)
 
-pub returns-in_ok-build-in-None-clause-exact : goal.returns-in_ok-build-in-None-clause-exact
-returns-in_ok-build-in-None-clause-exact c =
+pub returns-clause-exact : goal.returns-clause-exact
+returns-clause-exact c =
     (none_is (program_of c.args.program.now) (sym c.in_ok-fault.ensures.fault ∙ c.in-None.is), c.in_ok-build-in-None.ensures)
 
-pub returns-in_ok-build-in-None-clause-fault_given : goal.returns-in_ok-build-in-None-clause-fault_given
-returns-in_ok-build-in-None-clause-fault_given c f h =
+pub returns-clause-fault_given : goal.returns-clause-fault_given
+returns-clause-fault_given c f h =
     no_first (program_of c.args.program.now) f (none_is (program_of c.args.program.now) (sym c.in_ok-fault.ensures.fault ∙ c.in-None.is)) h

@@ -1,5 +1,4 @@
 use Rattle.std.proofs.Common.{filter, map, refl}
-use Rattle.aj_classes.specs.Views.{field_data}
 use Rattle.aj_elaborate.specs.Rules.{fit_each}
 use Rattle.aj_elaborate.specs.Views.{types_of}
 use Rattle.aj_elaborate.proofs.Fitting.{fit_end}
@@ -7,6 +6,6 @@ use Rattle.aj_elaborate.proofs.calls.fit_finals.Goals as goal
 
 pub returns : goal.returns
 returns c =
-    fit_end (λ fs. map (λ f. f.ty) (filter (λ f. f.is_final) (map field_data fs))) refl c.loop-field.rest.now c.args.fields.now c.loop-field.field-index
-    (fit_each (types_of c.args.args.now) (map (λ f. f.ty) (filter (λ f. f.is_final) (map field_data c.args.fields.now)))) c.is_empty.result
+    fit_end (λ fs. map (λ f. f.ty) (filter (λ f. f.is_final) fs)) refl c.loop-field.rest.now c.args.fields.now c.loop-field.field-index
+    (fit_each (types_of c.args.args.now) (map (λ f. f.ty) (filter (λ f. f.is_final) c.args.fields.now))) c.is_empty.result
     c.loop-field-test.false c.loop-field.invariant c.is_empty.ensures

@@ -1,5 +1,4 @@
 use Rattle.std.proofs.Common.{map, refl}
-use Rattle.aj_classes.specs.Views.{param_data}
 use Rattle.aj_elaborate.specs.Rules.{fit_each}
 use Rattle.aj_elaborate.specs.Views.{types_of}
 use Rattle.aj_elaborate.proofs.Fitting.{fit_end}
@@ -7,6 +6,6 @@ use Rattle.aj_elaborate.proofs.calls.fit_params.Goals as goal
 
 pub returns : goal.returns
 returns c =
-    fit_end (λ ps. map (λ p. p.ty) (map param_data ps)) refl c.loop-param.rest.now c.args.params.now c.loop-param.param-index
-    (fit_each (types_of c.args.args.now) (map (λ p. p.ty) (map param_data c.args.params.now))) c.is_empty.result
+    fit_end (λ ps. map (λ p. p.ty) ps) refl c.loop-param.rest.now c.args.params.now c.loop-param.param-index
+    (fit_each (types_of c.args.args.now) (map (λ p. p.ty) c.args.params.now)) c.is_empty.result
     c.loop-param-test.false c.loop-param.invariant c.is_empty.ensures

@@ -4,7 +4,7 @@ use Rattle.aj_elaborate.specs.Locks.{along, lock_end, root_rule, reach_of}
 use Rattle.aj_elaborate.specs.Names.{variable_of}
 use Rattle.aj_elaborate.specs.Noted.{noted}
 use Rattle.aj_elaborate.specs.Rulings.{gain, loss, then_rule}
-use Rattle.aj_elaborate.specs.Views.{scope_of, reach_data}
+use Rattle.aj_elaborate.specs.Views.{reach_data}
 use Rattle.aj_elaborate.proofs.Steps.{later_fault}
 use Rattle.aj_elaborate.proofs.lock.lock_path.Goals as goal
 
@@ -18,5 +18,5 @@ returns-clause-fault c =
     c.lock_end.ensures.fault
     ∙ later_fault steps (reach_data c.in_ok-reach.reach) (lock_end at) c.root.new.first c.along.new.first
     (c.in_ok-reach.ensures.reach ∙ ap gain same) (c.in_ok-reach.ensures.fault ∙ ap (λ z. noted c.root.new.first (loss z)) same)
-    ∙ later_fault (root_rule c.args.class (scope_of c.args.scope.now) c.args.lock.now.root) v (λ v. then_rule (along t at (reach_of v) c.args.lock.now.fields.items) (lock_end at)) c.args.first.now c.root.new.first
+    ∙ later_fault (root_rule c.args.class c.args.scope.now c.args.lock.now.root) v (λ v. then_rule (along t at (reach_of v) c.args.lock.now.fields.items) (lock_end at)) c.args.first.now c.root.new.first
     c.in_ok-variable.ensures.variable c.in_ok-variable.ensures.fault

@@ -7,13 +7,12 @@ use Rattle.aj_syntax.specs.Views.{lock_of, member_of, stmt_of, stmts_from}
 use Rattle.aj_elaborate.specs.Completion.{completes_each, locals_in_each}
 use Rattle.aj_elaborate.specs.Gathered.{method_in, faults_in_method, return_faults}
 use Rattle.aj_elaborate.specs.Locks.{lock_rule}
-use Rattle.aj_elaborate.specs.Making.{method_from}
+use Rattle.aj_elaborate.specs.Making.{method_with, types_in}
 use Rattle.aj_elaborate.specs.Noted.{noted}
 use Rattle.aj_elaborate.specs.Programs.{all_there}
 use Rattle.aj_elaborate.specs.Rulings.{gain, loss, both}
 use Rattle.aj_elaborate.specs.Scopes.{parameters_from}
 use Rattle.aj_elaborate.specs.Stmts.{block_core, block_faults}
-use Rattle.aj_elaborate.specs.Views.{scope_of}
 use Rattle.aj_elaborate.proofs.Bodies.{faults_told, node_made, on_ok}
 use Rattle.aj_elaborate.proofs.methods.method.Goals as goal
 
@@ -21,30 +20,30 @@ pub returns-clause-node : goal.returns-clause-node
 returns-clause-node c =
     let T = table_data c.args.table.now in
     let k = c.args.class in
-    let params = c.in-Method.params.items in
     let m : MethodTree = record {
       atomic = c.in-Method.atomic;
       returns = c.in-Method.returns;
       name = c.in-Method.name;
-      params = params;
+      params = c.in-Method.params.items;
       locks = map lock_of c.in-Method.requires_.items;
       body = stmts_from (map stmt_of c.in-Method.body.items);
       end = c.in-Method.at;
     } in
-    let scope = scope_of c.in_ok-scope.scope.items in
+    let scope = parameters_from T 1 c.as_slice-params.result.now in
     let returns = c.result_of.result in
     let first = c.in_ok-first_local.field-0 in
+    let made = c.in_ok-made.made in
     subst (λ z. IfOk c.core_method.result (λ r. option_map core.method_of r ≡ z))
-    (ap (λ z. option_map (method_from T k returns first c.in-Method.atomic c.in-Method.name.at z c.in_ok-body.body.locals) (both (option_map (λ v. v.items) c.in_ok-locks.locks) (option_map core.stmt_of c.in_ok-body.body.node))) c.as_slice-params.ensures.value
-    ∙ node_made T k m scope returns first (option_map (λ v. v.items) c.in_ok-locks.locks) (option_map core.stmt_of c.in_ok-body.body.node) c.in_ok-body.body.locals
-    (c.in_ok-scope.ensures ∙ ap (parameters_from T 1) c.as_slice-params.ensures.value)
+    (ap (λ z. option_map (method_with k returns first c.in-Method.atomic z.at c.in_ok-types.types.items made.body.locals) (both (option_map (λ v. v.items) made.locks) (option_map core.stmt_of made.body.node))) c.name.view_is
+    ∙ ap (λ z. option_map (method_with k returns first c.in-Method.atomic c.in-Method.name.at z made.body.locals) (both (option_map (λ v. v.items) made.locks) (option_map core.stmt_of made.body.node)))
+    (c.in_ok-types.ensures ∙ ap (types_in T) c.as_slice-params.ensures.value)
+    ∙ node_made T k m scope returns first (option_map (λ v. v.items) made.locks) (option_map core.stmt_of made.body.node) made.body.locals
+    (ap (parameters_from T 1) c.as_slice-params.ensures.value)
     c.result_of.ensures
     (c.in_ok-first_local.ensures ∙ ap (λ z. 1 + length z) c.as_slice-params.ensures.value)
-    (c.in_ok-locks.ensures.paths
-    ∙ ap (λ z. all_there (map (λ l. gain (lock_rule T k (scope_of z) l)) (map lock_of c.as_slice-2.result.now))) c.as_slice.ensures.value
-    ∙ ap (λ z. all_there (map (λ l. gain (lock_rule T k scope l)) (map lock_of z))) c.as_slice-2.ensures.value)
-    (c.in_ok-body.ensures.node ∙ ap (λ z. option_map BlockS (block_core T k returns first scope 0 (stmts_from (map stmt_of z)))) c.as_slice-3.ensures.value)
-    (c.in_ok-body.ensures.locals ∙ ap (λ z. locals_in_each (stmts_from (map stmt_of z))) c.as_slice-3.ensures.value)
+    (c.in_ok-made.ensures.locks ∙ ap (λ z. all_there (map (λ l. gain (lock_rule T k scope l)) (map lock_of z))) c.as_slice.ensures.value)
+    (c.in_ok-made.ensures.node ∙ ap (λ z. option_map BlockS (block_core T k returns first scope 0 (stmts_from (map stmt_of z)))) c.as_slice-2.ensures.value)
+    (c.in_ok-made.ensures.locals ∙ ap (λ z. locals_in_each (stmts_from (map stmt_of z))) c.as_slice-2.ensures.value)
     ∙ ap (method_in T k) (sym (ap member_of c.in-Method.is)))
     c.core_method.ensures
 
@@ -52,29 +51,27 @@ pub returns-clause-fault : goal.returns-clause-fault
 returns-clause-fault c =
     let T = table_data c.args.table.now in
     let k = c.args.class in
-    let params = c.in-Method.params.items in
     let m : MethodTree = record {
       atomic = c.in-Method.atomic;
       returns = c.in-Method.returns;
       name = c.in-Method.name;
-      params = params;
+      params = c.in-Method.params.items;
       locks = map lock_of c.in-Method.requires_.items;
       body = stmts_from (map stmt_of c.in-Method.body.items);
       end = c.in-Method.at;
     } in
-    let scope = scope_of c.in_ok-scope.scope.items in
+    let scope = parameters_from T 1 c.as_slice-params.result.now in
     let returns = c.result_of.result in
     let first = c.in_ok-first_local.field-0 in
+    let locks = noted c.args.first.now (flat_map (λ l. loss (lock_rule T k scope l)) (map lock_of c.as_slice.result.now)) in
     on_ok c.core_method.result
-    (faults_told T k m scope returns first c.args.first.now c.required.new.first c.block.new.first c.note_missing_return.new.first
-    (c.in_ok-scope.ensures ∙ ap (parameters_from T 1) c.as_slice-params.ensures.value)
+    (faults_told T k m scope returns first c.args.first.now locks c.locks_and_body.new.first c.note_missing_return.new.first
+    (ap (parameters_from T 1) c.as_slice-params.ensures.value)
     c.result_of.ensures
     (c.in_ok-first_local.ensures ∙ ap (λ z. 1 + length z) c.as_slice-params.ensures.value)
-    (c.in_ok-locks.ensures.fault
-    ∙ ap (λ z. noted c.args.first.now (flat_map (λ l. loss (lock_rule T k (scope_of z) l)) (map lock_of c.as_slice-2.result.now))) c.as_slice.ensures.value
-    ∙ ap (λ z. noted c.args.first.now (flat_map (λ l. loss (lock_rule T k scope l)) (map lock_of z))) c.as_slice-2.ensures.value)
-    (c.in_ok-body.ensures.fault ∙ ap (λ z. noted c.required.new.first (block_faults T k returns first scope 0 true (stmts_from (map stmt_of z)))) c.as_slice-3.ensures.value)
+    (ap (λ z. noted c.args.first.now (flat_map (λ l. loss (lock_rule T k scope l)) (map lock_of z))) c.as_slice.ensures.value)
+    (c.in_ok-made.ensures.fault ∙ ap (λ z. noted locks (block_faults T k returns first scope 0 true (stmts_from (map stmt_of z)))) c.as_slice-2.ensures.value)
     (c.note_missing_return.ensures
-    ∙ ap (λ z. noted c.block.new.first (return_faults (z && c.in_ok-body.body.completes) c.in-Method.at)) c.is_some.ensures
-    ∙ ap (λ z. noted c.block.new.first (return_faults (is_some c.in-Method.returns && z) c.in-Method.at)) (c.in_ok-body.ensures.completes ∙ ap (λ z. completes_each (stmts_from (map stmt_of z))) c.as_slice-3.ensures.value))
+    ∙ ap (λ z. noted c.locks_and_body.new.first (return_faults (z && c.in_ok-made.made.body.completes) c.in-Method.at)) c.is_some.ensures
+    ∙ ap (λ z. noted c.locks_and_body.new.first (return_faults (is_some c.in-Method.returns && z) c.in-Method.at)) (c.in_ok-made.ensures.completes ∙ ap (λ z. completes_each (stmts_from (map stmt_of z))) c.as_slice-2.ensures.value))
     ∙ ap (λ z. noted c.args.first.now (faults_in_method T k z)) (sym (ap member_of c.in-Method.is)))

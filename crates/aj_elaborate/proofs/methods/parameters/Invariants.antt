@@ -1,9 +1,8 @@
 use Rattle.std.proofs.Common.{◌≡◌, ◌++◌, drop}
 use Rattle.aj_classes.specs.Views.{table_data}
 use Rattle.aj_elaborate.specs.Scopes.{parameters_from}
-use Rattle.aj_elaborate.specs.Views.{scope_of}
 use Rattle.aj_elaborate.proofs.methods.parameters.Given as goal
 
 abbrev pub invariant-loop-param : goal.invariant-loop-param
 invariant-loop-param l =
-    scope_of l.scope.items ++ parameters_from (table_data l.table) l.slot (drop l.param-index l.params) ≡ parameters_from (table_data l.table) 1 l.params
+    l.scope.items ++ parameters_from (table_data l.table) l.slot (drop l.param-index l.params) ≡ parameters_from (table_data l.table) 1 l.params

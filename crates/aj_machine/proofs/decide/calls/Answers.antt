@@ -18,7 +18,7 @@ returns-in-Some c =
     subst (λ o. c.calls_on.result ≡ calls (entry_in c.args.seen.now) (room_in c.args.seen.now) c.args.depth c.args.next (reverse c.args.operands.now) c.args.method o) (sym there)
     (c.calls_on.ensures (method_of found) many
     ∙ ap (calls_on (entry_in c.args.seen.now) (room_in c.args.seen.now) c.args.depth c.args.next c.args.method (method_of found))
-        (c.address_of-receiver.ensures ∙ ap address_of (c.operand.ensures ∙ ap (λ n. top (dropped n (reverse c.args.operands.now))) (sym many))))
+    (c.address_of-receiver.ensures ∙ ap address_of (c.operand.ensures ∙ ap (λ n. top (dropped n (reverse c.args.operands.now))) (sym many))))
 
 pub returns-in-None : goal.returns-in-None
 returns-in-None c =

@@ -7,4 +7,4 @@ use Rattle.aj_machine.proofs.make.fill.Goals as goal
 pub loop-into-preserved : goal.loop-into-preserved
 loop-into-preserved c =
     one_zero c.loop-into.into.items c.push.new.self.items _ (c.args.length - vec_len c.push.new.self) (c.args.length - vec_len c.loop-into.into) (value.Int (pos 0))
-        (omega (arith, c.in_ok-push.ensures.len)) c.in_ok-push.ensures.items c.loop-into.invariant
+    (omega (arith, c.in_ok-push.ensures.len)) c.in_ok-push.ensures.items c.loop-into.invariant

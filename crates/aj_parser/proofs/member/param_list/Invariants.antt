@@ -5,8 +5,8 @@ use Rattle.aj_parser.specs.Combine.{comma_step, loop}
 use Rattle.aj_parser.specs.Reading.{param, param_list}
 use Rattle.aj_parser.proofs.member.param_list.Given as goal
 
-abbrev pub invariant-loop-alloc : goal.invariant-loop-alloc
-invariant-loop-alloc l = loop (is T.Comma) (comma_step (param l.of_ctor)) l.list.0.items l.list.1.now ≡ param_list l.of_ctor l.tokens
+abbrev pub invariant-loop-list : goal.invariant-loop-list
+invariant-loop-list l = loop (is T.Comma) (comma_step (param l.of_ctor)) l.list.0.items l.list.1.now ≡ param_list l.of_ctor l.tokens
 
-abbrev pub decreases-loop-alloc : goal.decreases-loop-alloc
-decreases-loop-alloc l = length l.list.1.now
+abbrev pub decreases-loop-list : goal.decreases-loop-list
+decreases-loop-list l = length l.list.1.now

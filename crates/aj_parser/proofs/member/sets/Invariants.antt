@@ -3,8 +3,8 @@ use Rattle.aj_parser.specs.Combine.{item_step, loop, several}
 use Rattle.aj_parser.specs.Reading.{goes_on, set}
 use Rattle.aj_parser.proofs.member.sets.Given as goal
 
-abbrev pub invariant-loop-alloc : goal.invariant-loop-alloc
-invariant-loop-alloc l = loop goes_on (item_step set) l.list.0.items l.list.1.now ≡ several goes_on set l.tokens
+abbrev pub invariant-loop-list : goal.invariant-loop-list
+invariant-loop-list l = loop goes_on (item_step set) l.list.0.items l.list.1.now ≡ several goes_on set l.tokens
 
-abbrev pub decreases-loop-alloc : goal.decreases-loop-alloc
-decreases-loop-alloc l = length l.list.1.now
+abbrev pub decreases-loop-list : goal.decreases-loop-list
+decreases-loop-list l = length l.list.1.now

@@ -5,8 +5,8 @@ use Rattle.aj_parser.specs.Combine.{item_step, loop, several}
 use Rattle.aj_parser.specs.Reading.{field_name}
 use Rattle.aj_parser.proofs.statement.fields.Given as goal
 
-abbrev pub invariant-loop-alloc : goal.invariant-loop-alloc
-invariant-loop-alloc l = loop (is T.Dot) (item_step field_name) l.names.items l.rest ≡ several (is T.Dot) field_name l.tokens
+abbrev pub invariant-loop-list : goal.invariant-loop-list
+invariant-loop-list l = loop (is T.Dot) (item_step field_name) l.list.0.items l.list.1.now ≡ several (is T.Dot) field_name l.tokens
 
-abbrev pub decreases-loop-alloc : goal.decreases-loop-alloc
-decreases-loop-alloc l = length l.rest
+abbrev pub decreases-loop-list : goal.decreases-loop-list
+decreases-loop-list l = length l.list.1.now

@@ -1,0 +1,6 @@
+-- The text that a reference lends.
+use Rattle.std.specs.Prelude.{ℕ, List}
+use Rattle.std.specs.Borrow.{Bor}
+
+abbrev pub shows : Bor (List ℕ) → List ℕ
+shows text = text.now

@@ -1,0 +1,38 @@
+use Rattle.std.proofs.Common.{true, map, flat_map, ap, ◌∙◌, option_map}
+use Rattle.aj_classes.specs.Views.{table_data}
+use Rattle.aj_core.specs.Core.{BlockS}
+use Rattle.aj_syntax.specs.Views.{lock_of, stmt_of, stmts_from}
+use Rattle.aj_elaborate.specs.Locks.{lock_rule}
+use Rattle.aj_elaborate.specs.Noted.{noted}
+use Rattle.aj_elaborate.specs.Programs.{all_there}
+use Rattle.aj_elaborate.specs.Rulings.{gain, loss}
+use Rattle.aj_elaborate.specs.Scopes.{parameters_from}
+use Rattle.aj_elaborate.specs.Stmts.{block_core, block_faults}
+use Rattle.aj_elaborate.proofs.methods.locks_and_body.Goals as goal
+
+pub returns-clause-locks : goal.returns-clause-locks
+returns-clause-locks c =
+    let T = table_data c.args.table.now in
+    let k = c.args.method.now.class in
+    c.in_ok-locks.ensures.paths
+    ∙ ap (λ z. all_there (map (λ l. gain (lock_rule T k z l)) (map lock_of c.args.locks.now))) (c.as_slice.ensures.value ∙ c.in_ok-scope.ensures)
+
+pub returns-clause-node : goal.returns-clause-node
+returns-clause-node c =
+    let T = table_data c.args.table.now in
+    let M = c.args.method.now in
+    c.in_ok-body.ensures.node
+    ∙ ap (λ z. option_map BlockS (block_core T M.class M.returns M.first_local z 0 (stmts_from (map stmt_of c.args.body.now)))) c.in_ok-scope.ensures
+
+pub returns-clause-fault : goal.returns-clause-fault
+returns-clause-fault c =
+    let T = table_data c.args.table.now in
+    let M = c.args.method.now in
+    let body = stmts_from (map stmt_of c.args.body.now) in
+    let scope = parameters_from T 1 c.args.params.now in
+    let locks = noted c.args.first.now (flat_map (λ l. loss (lock_rule T M.class scope l)) (map lock_of c.args.locks.now)) in
+    c.in_ok-body.ensures.fault
+    ∙ ap (λ z. noted z (block_faults T M.class M.returns M.first_local c.in_ok-scope.scope.items 0 true body))
+    (c.in_ok-locks.ensures.fault
+    ∙ ap (λ z. noted c.args.first.now (flat_map (λ l. loss (lock_rule T M.class z l)) (map lock_of c.args.locks.now))) (c.as_slice.ensures.value ∙ c.in_ok-scope.ensures))
+    ∙ ap (λ z. noted locks (block_faults T M.class M.returns M.first_local z 0 true body)) c.in_ok-scope.ensures

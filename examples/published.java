@@ -1,0 +1,15 @@
+class Gauge {
+    int level write_guarded_by this;
+    atomic int read() {
+        return this.level;
+    }
+    atomic void raise() {
+        this.level = this.level + 1;
+    }
+}
+
+class Main {
+    void main() {
+        new Gauge().raise();
+    }
+}
