@@ -1,9 +1,9 @@
 -- The operand under some others, where the topmost stands last.
-use Rattle.std.proofs.Common.{◌≡◌, ℕ, zero, suc, ◌+◌, ◌-◌, ◌<◌, ◌≤◌, List, [], ◌∷◌, ◌++◌, length, reverse, get_or, refl, sym, ap, subst, ◌∙◌, arith, length-append}
+use Rattle.std.proofs.Common.{◌≡◌, ℕ, zero, suc, ◌+◌, ◌-◌, ◌<◌, ◌≤◌, List, [], ◌∷◌, ◌++◌, length, reverse, get_or, refl, sym, ap, ◌∙◌, arith}
 use Rattle.std.proofs.lemmas.List.{reverse-append, length-reverse}
 use Rattle.aj_state.specs.declared.value.Value.{Value}
 use Rattle.aj_state.specs.declared.value.Value.TheVariants.{Null}
-use Rattle.aj_state.specs.Values.{top, under, dropped}
+use Rattle.aj_state.specs.Values.{top, dropped}
 
 none_left : (n : ℕ) → top (dropped n []) ≡ Null
 none_left zero = refl

@@ -1,6 +1,6 @@
 -- Steps, and what the state of the machine over code stands for after them.
-use Rattle.std.proofs.Common.{◌≡◌, ℕ, zero, suc, ◌+◌, List, [], ◌∷◌, ◌++◌, length, refl, sym, ap, subst, ◌∙◌}
-use Rattle.std.specs.Prelude.{Bool, Option, Some, None, slice_get, slice_set, position}
+use Rattle.std.proofs.Common.{◌≡◌, ℕ, zero, suc, List, [], ◌∷◌, ◌++◌, refl, sym, ap, subst}
+use Rattle.std.specs.Prelude.{slice_get, slice_set}
 use Rattle.std.specs.FinMap as map
 use Rattle.aj_core.specs.Core.{Program}
 use Rattle.aj_state.specs.Memory.{made_by, with_field, with_lock}
@@ -8,7 +8,7 @@ use Rattle.aj_state.specs.States.{Frame, ThreadOf, Thread, Ready, StateOf, State
 use Rattle.aj_state.specs.Frames.{CodeFrame}
 use Rattle.aj_compile.specs.declared.stack.Code.{Code}
 use Rattle.aj_compile.specs.IsCode.{IsCodeOf}
-use Rattle.aj_steps.specs.Step.{Shared, Change, Nothing, FieldIs, ObjectIs, LockIs, Prints, Starts, MoveOf, OutcomeOf, Outcome, Moves, Absent, IsDone, HadFaulted, Waits, seen_by, turn, changed, moved, outcome, step, state_after, kind_in, kind_of}
+use Rattle.aj_steps.specs.Step.{Shared, Change, Nothing, FieldIs, ObjectIs, LockIs, Prints, Starts, MoveOf, OutcomeOf, Outcome, seen_by, turn, changed, moved, outcome, step, state_after, kind_in, kind_of}
 use Rattle.aj_machine.specs.CodeMachine.{code_turn, code_outcome, code_step, code_initial}
 use Rattle.aj_machine.specs.Likeness.{ThreadStands, ready_stands, ThreadsStand, no_threads, more_threads, StateStands, SomeStands}
 use Rattle.aj_machine.proofs.Simulation.{OutcomeStands, both_move, both_absent, both_done, both_faulted, both_wait, MaybeStands, turn_like}

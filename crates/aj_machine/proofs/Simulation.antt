@@ -1,8 +1,7 @@
 -- Each turn of the machine over code is a turn of the definition.
-use Rattle.std.proofs.Common.{◌≡◌, ℕ, zero, suc, ◌+◌, ◌-◌, ◌<◌, List, [], ◌∷◌, ◌++◌, length, refl, sym, ap, subst, ◌∙◌, arith}
-use Rattle.std.specs.Prelude.{Bool, true, false, not, ◌==◌, nat_lt, Option, Some, None, is_some, slice_get, slice_set, if◌then◌else◌}
-use Rattle.std.specs.FinMap as map
-use Rattle.aj_core.specs.Core.{Program, Class, Field, Method, Expr, Stmt, WhileS}
+use Rattle.std.proofs.Common.{◌≡◌, ℕ, zero, suc, ◌+◌, ◌-◌, List, [], ◌∷◌, length, refl, sym, ap, subst, ◌∙◌, arith}
+use Rattle.std.specs.Prelude.{Bool, true, false, not, ◌==◌, nat_lt, Option, Some, None, slice_get, slice_set, if◌then◌else◌}
+use Rattle.aj_core.specs.Core.{Program, Class, Method, Expr, Stmt, WhileS}
 use Rattle.aj_state.specs.declared.value.Address.{Address}
 use Rattle.aj_state.specs.declared.value.Value.{Value}
 use Rattle.aj_state.specs.declared.value.Value.TheVariants as value
@@ -11,17 +10,15 @@ use Rattle.aj_state.specs.declared.value.Fault.TheVariants as fault
 use Rattle.aj_state.specs.declared.value.StepKind.{StepKind}
 use Rattle.aj_state.specs.declared.value.StepKind.TheVariants.{Both, Right, Left, Other}
 use Rattle.aj_state.specs.Values.{top, under, taken, dropped, as_int, as_truth, address_of, unary_value, binary_value}
-use Rattle.aj_state.specs.Memory.{Object, Hold, made_by}
+use Rattle.aj_state.specs.Memory.{Hold}
 use Rattle.aj_state.specs.Work as W
 use Rattle.aj_state.specs.Work.{Action, Item, Ex, St, Act, Next, unfolded}
-use Rattle.aj_state.specs.States.{Frame, ThreadOf, Thread, Ready, Running, Done, Faulted, StateOf, State, new_frame, initial, main_address}
-use Rattle.aj_state.specs.Frames.{CodeFrame, given, rest_of, first_frame}
+use Rattle.aj_state.specs.States.{Frame, ThreadOf, Thread, Running, Done, Faulted, new_frame}
+use Rattle.aj_state.specs.Frames.{CodeFrame, rest_of, first_frame}
 use Rattle.aj_state.specs.Stored as S
 use Rattle.aj_state.specs.Stored.{taken_by}
-use Rattle.aj_compile.specs.declared.stack.Instr.{Instr}
-use Rattle.aj_compile.specs.declared.stack.Instr.TheVariants as i
 use Rattle.aj_compile.specs.declared.stack.Code.{Code}
-use Rattle.aj_compile.specs.Standing.{Agree, StandsOnce, Stands}
+use Rattle.aj_compile.specs.Standing.{Agree, Stands}
 use Rattle.aj_compile.specs.IsCode.{IsCodeOf}
 use Rattle.aj_compile.proofs.Depth.{stands_once}
 use Rattle.aj_steps.specs.Step as D
@@ -30,7 +27,7 @@ use Rattle.aj_machine.specs.declared.deed.Deed.{Deed}
 use Rattle.aj_machine.specs.declared.deed.Deed.TheVariants as deed
 use Rattle.aj_machine.specs.CodeMachine as C
 use Rattle.aj_machine.specs.CodeMachine.{code_frame_at, deed_of, deed_at, done, code_turn, code_outcome, code_step, code_initial}
-use Rattle.aj_machine.specs.Likeness.{with_work, IsLeft, FramesStand, no_frames, more_frames, ThreadStands, ready_stands, running_stands, done_stands, faulted_stands, ThreadsStand, no_threads, more_threads, StateStands}
+use Rattle.aj_machine.specs.Likeness.{with_work, IsLeft, FramesStand, no_frames, more_frames, ThreadStands, ready_stands, running_stands, done_stands, faulted_stands}
 
 -- outcomes that stand for outcomes: of the same kind and change, with threads that stand for threads
 pub data OutcomeStands (P : Program) (code : List Code) : OutcomeOf CodeFrame → Outcome → Type 0 where

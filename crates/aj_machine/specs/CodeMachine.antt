@@ -1,10 +1,9 @@
 -- The machine that runs code, as definitions: what a thread does next, and what comes of it.
-use Rattle.std.specs.Prelude.{ℕ, ◌+◌, Bool, true, false, not, ◌==◌, nat_lt, ℤ, List, [], ◌∷◌, length, Option, Some, None, slice_get, slice_set}
-use Rattle.aj_core.specs.Core.{Program, Class, Field, Method}
+use Rattle.std.specs.Prelude.{ℕ, Bool, true, false, not, ◌==◌, nat_lt, List, [], ◌∷◌, length, Option, Some, None, slice_get, slice_set}
+use Rattle.aj_core.specs.Core.{Program, Class, Method}
 use Rattle.aj_state.specs.declared.value.Address.{Address}
 use Rattle.aj_state.specs.declared.value.Value.{Value}
 use Rattle.aj_state.specs.declared.value.Value.TheVariants as value
-use Rattle.aj_state.specs.declared.value.Fault.{Fault}
 use Rattle.aj_state.specs.declared.value.Fault.TheVariants as fault
 use Rattle.aj_state.specs.declared.value.StepKind.{StepKind}
 use Rattle.aj_state.specs.declared.value.StepKind.TheVariants.{Both, Right, Left, Other}
@@ -16,7 +15,7 @@ use Rattle.aj_state.specs.Stored.{taken_by, given_back}
 use Rattle.aj_compile.specs.declared.stack.Instr.{Instr}
 use Rattle.aj_compile.specs.declared.stack.Instr.TheVariants as i
 use Rattle.aj_compile.specs.declared.stack.Code.{Code}
-use Rattle.aj_steps.specs.Step.{Shared, Change, Nothing, FieldIs, ObjectIs, LockIs, Prints, Starts, MoveOf, OutcomeOf, Moves, Absent, IsDone, HadFaulted, Waits, value_at, access_kind, unless_final, index_of, run_of, class_finals, most_frames, seen_by, state_after}
+use Rattle.aj_steps.specs.Step.{Shared, Change, Nothing, FieldIs, ObjectIs, LockIs, Prints, Starts, OutcomeOf, Moves, Absent, IsDone, HadFaulted, Waits, value_at, access_kind, unless_final, index_of, run_of, class_finals, most_frames, seen_by, state_after}
 use Rattle.aj_machine.specs.declared.deed.Deed.{Deed}
 use Rattle.aj_machine.specs.declared.deed.Deed.TheVariants as deed
 

@@ -3,7 +3,7 @@ use Rattle.std.specs.Prelude.{ℕ, ℤ, ◌+◌, List, [], ◌∷◌, ◌++◌, 
 use Rattle.std.specs.FinMap as map
 use Rattle.aj_core.specs.Core.{Program, Method}
 use Rattle.aj_state.specs.declared.value.Value.TheVariants as value
-use Rattle.aj_state.specs.Memory.{Heap, Locks, Hold, made_by, with_field, with_lock, new_values}
+use Rattle.aj_state.specs.Memory.{Heap, Locks, made_by, with_field, with_lock, new_values}
 use Rattle.aj_state.specs.Stored.{taken_by, given_back}
 use Rattle.aj_state.specs.States.{ThreadOf, Running, Faulted, fields_of}
 use Rattle.aj_steps.specs.Step.{Shared}

@@ -11,6 +11,9 @@ use Rattle.aj_machine.specs.declared.seen.Seen.{Seen}
 abbrev pub program_in : Seen → Program
 program_in s = program_of s.program.now
 
+abbrev pub lines_in : Seen → List Code
+lines_in s = s.code.now.code.items
+
 abbrev pub entry_in : Seen → List ℕ
 entry_in s = s.code.now.entry.items
 

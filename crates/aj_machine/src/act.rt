@@ -282,7 +282,7 @@ pub(crate) fn makes_next(
 }
 
 /// The values of a new object of a class.
-fn object_values(
+pub(crate) fn object_values(
     alloc: Global,
     program: &CoreProgram,
     class: ClassId,

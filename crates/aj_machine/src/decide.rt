@@ -6,15 +6,16 @@ ghost use Rattle.aj_core.specs.Views.{program_of};
 ghost use Rattle.aj_state.specs.Memory.{lists, field_value};
 ghost use Rattle.aj_steps.specs.Step.{value_at, unless_final, index_of, run_of_class, run_of, most_frames};
 ghost use Rattle.aj_machine.specs.CodeMachine.{pushes, stores, combines, and_then, or_else, branches, reads, writes, makes, enters, calls_on, calls, acquires, releases, returns, starts, deed_of};
-ghost use Rattle.aj_machine.specs.Seen.{program_in, entry_in, room_in, shared_in};
+ghost use Rattle.aj_machine.specs.Seen.{program_in, lines_in, entry_in, room_in, shared_in};
+ghost use Rattle.aj_machine.specs.Turns.{cell_deed, line_deed};
 
 use crate::deed::Deed;
 use crate::operators::{address_of, as_int, as_truth, binary_value, operand, unary_value};
 use crate::seen::Seen;
-use aj_compile::Instr;
+use aj_compile::{Code, Instr};
 use aj_core::CoreProgram;
 use aj_paths::{ClassId, FieldId, MethodId};
-use aj_state::{Address, Fault, Value};
+use aj_state::{Address, Fault, ThreadCell, Value};
 
 /// One operand more.
 fn pushes(next: u32, found: Option<Value>) -> Deed
@@ -448,4 +449,39 @@ pub(crate) fn deed_of(
         },
         Instr::Start => starts(seen, next, address_of(operand(operands, 0))),
     }
+}
+
+/// What a running thread does next.
+pub(crate) fn next_deed(seen: &Seen<'_>, cell: &ThreadCell) -> Deed
+    ensures { result ≡ cell_deed (program_in seen.now) (lines_in seen.now) (entry_in seen.now) (room_in seen.now) (shared_in seen.now) seen.now.thread cell.now }
+{
+    let Some(place) = cell.place() else {
+        return Deed::Fails(Fault::Null);
+    };
+    line_deed(seen, cell, place)
+}
+
+/// What the line at a place does.
+fn line_deed(seen: &Seen<'_>, cell: &ThreadCell, place: u32) -> Deed
+    ensures { result ≡ line_deed (program_in seen.now) (entry_in seen.now) (room_in seen.now) (shared_in seen.now) seen.now.thread cell.now (slice_get (lines_in seen.now) place) }
+{
+    match seen.code.code.get(place as usize) {
+        Some(line) => deed_in(seen, cell, line),
+        None => Deed::Fails(Fault::Null),
+    }
+}
+
+/// What a line does.
+fn deed_in(seen: &Seen<'_>, cell: &ThreadCell, line: &Code) -> Deed
+    ensures { result ≡ line_deed (program_in seen.now) (entry_in seen.now) (room_in seen.now) (shared_in seen.now) seen.now.thread cell.now (Some line.now) }
+{
+    deed_of(
+        seen,
+        cell.slots(),
+        cell.operands(),
+        cell.taken(),
+        cell.frames(),
+        line.next,
+        line.instr,
+    )
 }

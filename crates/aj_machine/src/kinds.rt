@@ -4,15 +4,16 @@ ghost use Rattle.std.specs.Option.{option_copied};
 ghost use Rattle.aj_core.specs.Views.{field_of};
 ghost use Rattle.aj_steps.specs.Step.{next_at, followed, holds_object, some_address, guarded_kind, mutable_kind, access_kind};
 ghost use Rattle.aj_machine.specs.CodeMachine.{deed_kind};
-ghost use Rattle.aj_machine.specs.Seen.{program_in, shared_in};
+ghost use Rattle.aj_machine.specs.Turns.{kind_done, cell_kind};
+ghost use Rattle.aj_machine.specs.Seen.{program_in, lines_in, entry_in, room_in, shared_in};
 
-use crate::decide::value_at;
+use crate::decide::{next_deed, value_at};
 use crate::deed::Deed;
 use crate::operators::address_of;
 use crate::seen::Seen;
 use aj_core::CoreField;
 use aj_paths::{FieldId, Path};
-use aj_state::{Address, StepKind, Value};
+use aj_state::{Address, StepKind, ThreadCell, ThreadState, Value};
 
 /// The value of a field of what a value refers to.
 fn next_at(seen: &Seen<'_>, v: Value, field: FieldId) -> Option<Value>
@@ -125,5 +126,27 @@ pub(crate) fn deed_kind(seen: &Seen<'_>, deed: Deed) -> StepKind
         Deed::Gives { frees: true, .. } => StepKind::Left,
         Deed::Prints { .. } | Deed::Starts { .. } => StepKind::Other,
         _ => StepKind::Both,
+    }
+}
+
+/// The kind of what is done; none where the thread waits.
+fn kind_done(seen: &Seen<'_>, deed: Deed) -> Option<StepKind>
+    ensures { result ≡ kind_done (program_in seen.now) (shared_in seen.now) seen.now.thread deed }
+{
+    match deed {
+        Deed::Waits { .. } => None,
+        other => Some(deed_kind(seen, other)),
+    }
+}
+
+/// The kind of a thread's next step; none where it has none.
+pub(crate) fn cell_kind(seen: &Seen<'_>, cell: &ThreadCell) -> Option<StepKind>
+    ensures { result ≡ cell_kind (program_in seen.now) (lines_in seen.now) (entry_in seen.now) (room_in seen.now) (shared_in seen.now) seen.now.thread cell.now }
+{
+    match cell.state() {
+        ThreadState::Ready => Some(StepKind::Both),
+        ThreadState::Running => kind_done(seen, next_deed(seen, cell)),
+        ThreadState::Done => None,
+        ThreadState::Faulted(_) => None,
     }
 }

@@ -6,9 +6,12 @@ mod decide;
 mod deed;
 mod kinds;
 mod laws;
+mod machine;
 mod make;
 mod operators;
+mod perform;
 mod seen;
+mod turn;
 
-pub(crate) use deed::Deed;
 pub use laws::code_laws;
+pub use machine::{Machine, StepEnd};

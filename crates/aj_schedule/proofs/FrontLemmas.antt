@@ -96,7 +96,7 @@ group_front text tail thread size count digits at within found rest counted =
     take-drop-length text n within = grind (arith, common_steps)
 
 -- the tests of an entry's fault, one after another
-fault_cases : (ended writes behind star : Bool) (size offset : ℕ) (count : Option ℕ) → ended ≡ false → writes ≡ true → behind ≡ false → star ≡ true → count ≡ Some offset →
+pub fault_cases : (ended writes behind star : Bool) (size offset : ℕ) (count : Option ℕ) → ended ≡ false → writes ≡ true → behind ≡ false → star ≡ true → count ≡ Some offset →
     (if ended then None else (if not writes then Some 0 else (if behind then None else (if star then option_map (λ n. (size + 1) + n) count else Some size)))) ≡ Some ((size + 1) + offset)
 fault_cases ended writes behind star size offset count e w b s c = rw (e, w, b, s, c) refl
 

@@ -3,4 +3,5 @@ mod NumberLemmas
 mod FrontLemmas
 mod ReadLemmas
 mod UniqueLemmas
+mod FormLemmas
 mod WrittenLemmas

@@ -36,7 +36,7 @@ first_of p (x ∷ xs) ys all stop =
     let parts = and_both (p x) (list_all p xs) all in
     take_while-cons p x (xs ++ ys) ∙ while_step p x (take_while p (xs ++ ys)) (p x) refl parts.0 ∙ ap (λ t. x ∷ t) (first_of p xs ys parts.1 stop)
 
-digits_all : (ds : List ℕ) → all_ascii_digits ds ≡ true → list_all is_ascii_digit ds ≡ true
+pub digits_all : (ds : List ℕ) → all_ascii_digits ds ≡ true → list_all is_ascii_digit ds ≡ true
 digits_all [] all = refl
 digits_all (d ∷ ds) all =
     let parts = and_both (is_ascii_digit d) (all_ascii_digits ds) all in
@@ -58,11 +58,11 @@ digit_goes : (byte : ℕ) → is_ascii_digit byte ≡ true → (is_blank byte ||
 digit_goes byte e = grind (arith, nat_tests)
 
 -- digits end no entry
-front_digit : (ds more : List ℕ) → all_ascii_digits ds ≡ true → 0 < length ds → ends_entry (ds ++ more) ≡ false
+pub front_digit : (ds more : List ℕ) → all_ascii_digits ds ≡ true → 0 < length ds → ends_entry (ds ++ more) ≡ false
 front_digit [] more all some = absurd (omega arith)
 front_digit (d ∷ ds) more all some = digit_goes d (and_both (is_ascii_digit d) (all_ascii_digits ds) all).0
 
-drop-front : (xs ys : List ℕ) → drop (length xs) (xs ++ ys) ≡ ys
+pub drop-front : (xs ys : List ℕ) → drop (length xs) (xs ++ ys) ≡ ys
 drop-front xs ys = grind (arith, common_steps)
 
 -- a number before something that is no digit
@@ -118,10 +118,10 @@ fault_count : (writes behind : Bool) (size : ℕ) → writes ≡ true → behind
 fault_count writes behind size w b = rw (w, b) refl
 
 -- what a text is that begins with a piece
-record Reads (piece : Piece) (text : List ℕ) : Type 0 where
+pub record Reads (piece : Piece) (text : List ℕ) : Type 0 where
   decoded : piece_at text ≡ piece
-  sound : form_fault text ≡ None
-  some : 0 < length text
+  pub sound : form_fault text ≡ None
+  pub some : 0 < length text
 
 reads_single : (thread : ℕ) (more : List ℕ) → thread < 2 ^ 32 → ends_entry more ≡ true → Reads (single thread) (decimal thread ++ more)
 unfolding entry_at
@@ -162,14 +162,14 @@ comment_ends : (more : List ℕ) → ends_comment more ≡ true → begins_with 
 comment_ends [] e = refl
 comment_ends (byte ∷ more) e = rw e refl
 
-reads_of : (piece : Piece) (more : List ℕ) → IsPiece piece more → Reads piece (spelled piece ++ more)
+pub reads_of : (piece : Piece) (more : List ℕ) → IsPiece piece more → Reads piece (spelled piece ++ more)
 unfolding piece_at
 reads_of (blank byte) more is = record { decoded = rw is refl; sound = rw is refl; some = omega arith }
 reads_of (comment text) more is = record { decoded = ap comment (first_of (λ c. not (c == 10)) text more is.0 (comment_ends more is.1)); sound = refl; some = omega arith }
 reads_of (single thread) more is = reads_single thread more is.0 is.1
 reads_of (group thread count) more is = subst (Reads (group thread count)) (sym (append_assoc (decimal thread) (42 ∷ decimal count) more)) (reads_group_at thread count more is.0 is.1 is.2 is.3)
 
-same_piece : (p q : Piece) (text : List ℕ) → Reads p text → Reads q text → p ≡ q
+pub same_piece : (p q : Piece) (text : List ℕ) → Reads p text → Reads q text → p ≡ q
 same_piece p q text one other = sym one.decoded ∙ other.decoded
 
 -- how a text ends behind its pieces

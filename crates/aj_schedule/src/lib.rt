@@ -4,10 +4,12 @@
 //! line) stand between entries.
 #![tactic(auto)]
 
+mod laws;
 mod numbers;
 mod reader;
 mod writer;
 
+pub use laws::form_laws;
 pub use reader::{SchedFault, read_schedule};
 pub use writer::write_schedule;
 

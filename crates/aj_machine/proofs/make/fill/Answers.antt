@@ -1,4 +1,4 @@
-use Rattle.std.proofs.Common.{◌≡◌, ◌-◌, suc, vec_len, arith}
+use Rattle.std.proofs.Common.{◌-◌, vec_len, arith}
 use Rattle.std.specs.Prelude.{pos}
 use Rattle.aj_state.specs.declared.value.Value.TheVariants as value
 use Rattle.aj_machine.proofs.Lists.{one_zero}

@@ -1,5 +1,4 @@
-use Rattle.std.proofs.Common.{◌≡◌, ◌+◌, ◌-◌, ◌++◌, ◌∷◌, [], suc, reverse, sym, ap, subst, ◌∙◌, arith}
-use Rattle.aj_machine.specs.Listed.{listed}
+use Rattle.std.proofs.Common.{◌-◌, reverse, arith}
 use Rattle.aj_machine.proofs.Lists.{one_operand}
 use Rattle.aj_machine.proofs.make.put_operands.Goals as goal
 

@@ -1,0 +1,33 @@
+-- The kind of a thread's next step, where the machine stands for a state.
+use Rattle.std.proofs.Common.{◌≡◌, ℕ, List, refl, sym, ap, ◌∙◌}
+use Rattle.std.specs.Prelude.{Option, Some, None, slice_get}
+use Rattle.std.specs.Option.{option_map}
+use Rattle.std.proofs.lemmas.Option.{slice_get-map}
+use Rattle.aj_core.specs.Core.{Program}
+use Rattle.aj_state.specs.declared.value.StepKind.{StepKind}
+use Rattle.aj_state.specs.States.{ThreadOf, StateOf, State}
+use Rattle.aj_state.specs.Frames.{CellFrame, code_thread}
+use Rattle.aj_compile.specs.declared.stack.Code.{Code}
+use Rattle.aj_compile.specs.IsCode.{IsCodeOf}
+use Rattle.aj_steps.specs.Step.{seen_by, kind_in, kind_of}
+use Rattle.aj_machine.specs.CodeMachine.{code_turn}
+use Rattle.aj_machine.specs.Likeness.{StateStands}
+use Rattle.aj_machine.specs.MachineValue.{code_state}
+use Rattle.aj_machine.specs.Turns.{cell_kind}
+use Rattle.aj_machine.proofs.KindLemmas.{turn_kind}
+use Rattle.aj_machine.proofs.Runs.{kind_like}
+
+module _ (P : Program) (code : List Code) (entry room : List ℕ) (s : StateOf CellFrame) (t : ℕ) where
+  -- the kind of a thread that may be absent
+  abbrev pub some_kind : Option (ThreadOf CellFrame) → Option StepKind
+  some_kind None = None
+  some_kind (Some c) = cell_kind P code entry room (seen_by t (code_state s)) t c
+
+  some_turn : (o : Option (ThreadOf CellFrame)) → kind_in (code_turn P code entry room (seen_by t (code_state s)) t (option_map code_thread o)) ≡ some_kind o
+  some_turn None = refl
+  some_turn (Some c) = turn_kind P code entry room (seen_by t (code_state s)) t c
+
+  pub kind_at : IsCodeOf P code entry room → (q : State) (o : Option (ThreadOf CellFrame)) → slice_get s.threads t ≡ o → StateStands P code (code_state s) q → some_kind o ≡ kind_of P q t
+  kind_at is_code q o there h =
+      sym (ap (λ x. kind_in (code_turn P code entry room (seen_by t (code_state s)) t x)) (slice_get-map code_thread s.threads t ∙ ap (option_map code_thread) there) ∙ some_turn o)
+      ∙ kind_like P code entry room is_code (code_state s) q t h

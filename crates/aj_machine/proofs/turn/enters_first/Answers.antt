@@ -1,0 +1,10 @@
+use Rattle.std.proofs.Common.{refl}
+use Rattle.aj_core.specs.Views.{method_of}
+use Rattle.aj_state.specs.declared.value.Value.TheVariants as value
+use Rattle.aj_machine.proofs.Threads.{first_ok}
+use Rattle.aj_machine.proofs.turn.enters_first.Goals as goal
+
+pub returns-clause-ok : goal.returns-clause-ok
+returns-clause-ok c =
+    first_ok c.push_frame.result c.args.address c.args.method (method_of c.args.found.now) (value.Ref c.args.address) c.args.entry c.args.room c.in_ok-slots.slots.items c.args.cell.now c.push_frame.new.self
+    c.requires c.push_frame.ensures.ok (c.in_ok-slots.ensures (method_of c.args.found.now) refl)

@@ -1,0 +1,2 @@
+-- What the contracts of the written order cite.
+pub mod Sorted
