@@ -4,7 +4,7 @@
 use crate::tests::{answer, expect};
 use aj_lexer::{Token, lex};
 use aj_parser::parse;
-use aj_syntax::{Member, Name, Program, Stmt};
+use aj_syntax::{Member, Program, Stmt};
 use std::alloc::Global;
 use std::test::Fail;
 
@@ -260,35 +260,6 @@ fn else_belongs_to_the_nearest_if(rt: HostRuntime) -> Result<(), Fail> {
         "class A { void m() { if (a) if (b) ; else ; } }",
     )?;
     assert!(rt; outer_has_no_else(&program));
-    Ok(())
-}
-
-/// Whether a name is the slice of the source at this offset, and not only of the same text.
-fn is_slice_at(source: &str, name: &Name, text: &str, at: usize) -> bool {
-    let Some(rest) = source.as_bytes().get(at..) else {
-        return false;
-    };
-    name.text == text && name.at as usize == at && name.text.as_ptr() == rest.as_ptr()
-}
-
-/// The name of the first class, and that of its first field.
-fn first_names<'p, 'a>(program: &'p Program<'a>) -> Option<(&'p Name<'a>, &'p Name<'a>)> {
-    let class = program.classes.first()?;
-    let Some(Member::Field { name, .. }) = class.members.first() else {
-        return None;
-    };
-    Some((&class.name, name))
-}
-
-#[test]
-fn names_are_slices_of_the_source(rt: HostRuntime) -> Result<(), Fail> {
-    let source = "class Main { int v; void main() { } }";
-    let program = tree_of(rt.alloc(), source)?;
-    let Some((class, field)) = first_names(&program) else {
-        return Err("there is no field")?;
-    };
-    assert!(rt; is_slice_at(source, class, "Main", 6));
-    assert!(rt; is_slice_at(source, field, "v", 17));
     Ok(())
 }
 
