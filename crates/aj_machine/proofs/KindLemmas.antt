@@ -34,7 +34,7 @@ same_length : (fs : List CellFrame) → length (map code_frame fs) ≡ length fs
 same_length [] = refl
 same_length (f ∷ fs) = ap suc (same_length fs)
 
-line_same : (P : Program) (entry room : List ℕ) (see : Shared) (t : ℕ) (f : CellFrame) (fs : List CellFrame) (o : Option Code)
+pub line_same : (P : Program) (entry room : List ℕ) (see : Shared) (t : ℕ) (f : CellFrame) (fs : List CellFrame) (o : Option Code)
     → deed_at P entry room see t (code_frame f) (length (map code_frame (f ∷ fs))) o ≡ line_deed P entry room see t (Running (f ∷ fs)) o
 line_same P entry room see t f fs None = refl
 line_same P entry room see t f fs (Some c) = ap (λ n. deed_at P entry room see t (code_frame f) n (Some c)) (same_length (f ∷ fs))

@@ -5,3 +5,14 @@ mod Lists
 mod Threads
 mod KindLemmas
 mod KindOf
+mod TurnLemmas
+mod Taking
+mod Cells
+mod Turned
+mod Insides
+mod Schedules
+mod RoomLemmas
+mod Following
+mod Reaching
+mod Starting
+mod Counting

@@ -39,7 +39,7 @@ pub data OutcomeStands (P : Program) (code : List Code) : OutcomeOf CodeFrame �
   both_wait : (a : Address) (holder : ℕ) → OutcomeStands P code (Waits a holder) (Waits a holder)
 
 -- a list of the same length has an element at each place
-same_place : {A B : Type 0} (xs : List A) (ys : List B) (m : ℕ) (x : A) → length ys ≡ length xs → slice_get xs m ≡ Some x → (y : B) × (slice_get ys m ≡ Some y)
+pub same_place : {A B : Type 0} (xs : List A) (ys : List B) (m : ℕ) (x : A) → length ys ≡ length xs → slice_get xs m ≡ Some x → (y : B) × (slice_get ys m ≡ Some y)
 same_place [] ys m x e is = absurd cc
 same_place (z ∷ xs) [] m x e is = absurd (omega arith)
 same_place (z ∷ xs) (y ∷ ys) zero x e is = (y, refl)

@@ -1,7 +1,8 @@
 -- Threads with and without the rooms of their frames.
 use Rattle.std.proofs.Common.{◌≡◌, ℕ, ◌+◌, List, [], ◌∷◌, refl, sym, ap, ◌∙◌}
 use Rattle.std.specs.declared.alloc.AllocError.{AllocError}
-use Rattle.std.specs.Prelude.{Result, Ok, Err, OnOk, Option, Some, None, map}
+use Rattle.std.specs.Prelude.{Result, Ok, Err, OnOk, Option, Some, None, map, slice_get, slice_set}
+use Rattle.std.proofs.lemmas.List.{map-set}
 use Rattle.aj_core.specs.Core.{Method}
 use Rattle.aj_state.specs.declared.value.Value.{Value}
 use Rattle.aj_state.specs.States.{ThreadOf, Ready, Running, Done, Faulted, new_slots}
@@ -65,3 +66,10 @@ pub first_ok : (r : Result (Unit {0}) AllocError) (a : Address) (m : ℕ) (metho
 first_ok (Ok u) a m method this at most slots old new ready is slots_is =
     ap code_thread (is ∙ (λ j. Running (record { method = m; slots = slots_is j; operands = []; place = at; taken = []; room = most } ∷ frames_in (ready j))))
 first_ok (Err e) a m method this at most slots old new ready is slots_is = tt
+
+pub first_set : (r : Result (Unit {0}) AllocError) (ts : List (ThreadOf CellFrame)) (t : ℕ) (after : ThreadOf CellFrame) (methods : List Method) (m : ℕ) (method : Method) (n : ℕ) (this : Value) (at : ℕ)
+    → slice_get methods m ≡ Some method → OnOk r (code_thread after ≡ first_thread n method this at)
+    → OnOk r ((other : Method) → slice_get methods m ≡ Some other → map code_thread (slice_set ts t after) ≡ slice_set (map code_thread ts) t (first_thread n other this at))
+first_set (Ok u) ts t after methods m method n this at there is =
+    λ other found. map-set code_thread ts t after ∙ ap (slice_set (map code_thread ts) t) (is ∙ ap (λ x. first_thread n x this at) (let same : method ≡ other = cc in same))
+first_set (Err e) ts t after methods m method n this at there is = tt

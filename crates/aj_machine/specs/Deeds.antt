@@ -1,9 +1,9 @@
 -- What is done to a thread's top frame.
-use Rattle.std.specs.Prelude.{ℕ, ℤ, ◌+◌, List, [], ◌∷◌, ◌++◌, Option, Some, None, slice_get, slice_set}
+use Rattle.std.specs.Prelude.{◌≡◌, ℕ, ℤ, ◌+◌, ◌<◌, List, [], ◌∷◌, ◌++◌, length, Option, Some, None, IsSome, option_and_then, slice_get, slice_set}
 use Rattle.std.specs.FinMap as map
 use Rattle.aj_core.specs.Core.{Program, Method}
 use Rattle.aj_state.specs.declared.value.Value.TheVariants as value
-use Rattle.aj_state.specs.Memory.{Heap, Locks, made_by, with_field, with_lock, new_values}
+use Rattle.aj_state.specs.Memory.{Heap, Hold, Locks, made_by, with_field, with_lock, new_values}
 use Rattle.aj_state.specs.Stored.{taken_by, given_back}
 use Rattle.aj_state.specs.States.{ThreadOf, Running, Faulted, fields_of}
 use Rattle.aj_steps.specs.Step.{Shared}
@@ -84,3 +84,18 @@ deed_output _ output = output
 -- what a thread sees of a heap and locks
 abbrev pub seen_of : ℕ → Heap → Locks → Shared
 seen_of t heap locks = record { object_at = map.get heap; lock_at = map.get locks; made = made_by t heap }
+
+-- no other thread holds the lock
+abbrev pub IsOwned : ℕ → Option Hold → Type 0
+IsOwned t None = Unit {0}
+IsOwned t (Some hold) = hold.holder ≡ t
+
+-- What is there wherever a deed is decided, for the slots of the thread's top frame: the slot or the field that is written,
+-- the method that is entered, and the lock that is given back; and no other thread holds the lock that is taken.
+abbrev pub Can : Program → Shared → ℕ → List Value → Deed → Type 0
+Can P see t slots (deed.Stores x v place) = x < length slots
+Can P see t slots (deed.Writes a x index v place) = IsSome (option_and_then (λ o. slice_get o.values index) (see.object_at a))
+Can P see t slots (deed.Enters m n a place at most) = IsSome (slice_get P.methods m)
+Can P see t slots (deed.Takes a again place) = IsOwned t (see.lock_at a)
+Can P see t slots (deed.Gives a frees place) = IsSome (see.lock_at a)
+Can P see t slots _ = Unit {0}

@@ -1,13 +1,16 @@
--- What the machine stands for, and what comes of a turn.
-use Rattle.std.specs.Prelude.{◌≡◌, ℕ, Result, Err, MatchResult}
+-- What the machine stands for, and what comes of a turn and of a schedule.
+use Rattle.std.specs.Prelude.{◌≡◌, ◌≢◌, ℕ, ◌+◌, List, Some, Result, Err, MatchResult, take, slice_get}
 use Rattle.aj_core.specs.Core.{Program}
 use Rattle.aj_core.specs.Views.{program_of}
 use Rattle.aj_state.specs.States.{State}
-use Rattle.aj_steps.specs.Step.{Outcome, Moves, Absent, IsDone, HadFaulted, Waits, moved}
+use Rattle.aj_steps.specs.Step.{Outcome, Moves, Absent, IsDone, HadFaulted, Waits, moved, outcome}
+use Rattle.aj_steps.specs.Run.{run_from}
 use Rattle.aj_machine.specs.declared.machine.StepEnd.{StepEnd}
+use Rattle.aj_machine.specs.declared.machine.Stopped.{Stopped}
 use Rattle.aj_machine.specs.declared.machine.StepEnd.TheVariants as ends
 use Rattle.aj_machine.specs.MachineValue.{MachineValue, code_state}
 use Rattle.aj_machine.specs.Likeness.{StateStands}
+use Rattle.aj_machine.specs.Reasons.{IsReason}
 
 -- the program that a machine runs
 abbrev pub program_run : MachineValue → Program
@@ -25,3 +28,33 @@ IsTurn t result m q Absent = result ≡ Err ends.Absent
 IsTurn t result m q IsDone = result ≡ Err ends.Done
 IsTurn t result m q (HadFaulted kind) = result ≡ Err (ends.Faulted kind)
 IsTurn t result m q (Waits a holder) = result ≡ Err (ends.Waits a holder)
+
+-- two machines are the same, but for the spare rooms of frames
+pub record IsSame (m n : MachineValue) : Type 0 where
+  pub program : m.program ≡ n.program
+  pub code : m.code ≡ n.code
+  pub state : code_state m.state ≡ code_state n.state
+  pub made : m.made ≡ n.made
+
+-- A schedule from a state stops at its entry of this number, counted from 1, in this state: the entries before it run to the
+-- state, in which the entry's thread has no step for the reason that is told, or memory was wanting.
+pub record IsStop (P : Program) (q : State) (schedule : List ℕ) (stopped : Stopped) (before : State) : Type 0 where
+  pub place : ℕ
+  pub entry : stopped.entry ≡ place + 1
+  pub thread : slice_get schedule place ≡ Some stopped.thread
+  pub ran : run_from P q (take place schedule) ≡ Some before
+  pub why : IsReason stopped.why (outcome P before stopped.thread)
+
+-- The schedule stops so, whatever memory there is: its first entry that has no step is this one.
+pub record IsStopped (P : Program) (q : State) (schedule : List ℕ) (stopped : Stopped) : Type 0 where
+  pub before : State
+  pub stop : IsStop P q schedule stopped before
+  pub refused : stopped.why ≢ ends.NoMemory
+
+-- the machine stands for the state that a schedule runs to from this one
+abbrev pub HasRun : MachineValue → Program → State → List ℕ → Type 0
+HasRun m P q schedule = (r : State) × (run_from P q schedule ≡ Some r) × StandsFor m r
+
+-- the machine stands for the state in which a schedule from this one stops
+abbrev pub HasStopped : MachineValue → Program → State → List ℕ → Stopped → Type 0
+HasStopped m P q schedule stopped = (before : State) × IsStop P q schedule stopped before × StandsFor m before

@@ -1,15 +1,24 @@
 -- A turn of a thread as it is kept.
-use Rattle.std.specs.Prelude.{ℕ, List, [], ◌∷◌, length, Option, Some, None, slice_get}
+use Rattle.std.specs.Prelude.{◌≡◌, ℕ, ℤ, List, [], ◌∷◌, length, Option, Some, None, Result, Ok, Err, slice_get}
 use Rattle.std.specs.Option.{option_map}
+use Rattle.std.specs.declared.alloc.AllocError.{AllocError}
 use Rattle.aj_core.specs.Core.{Program, Method}
 use Rattle.aj_state.specs.declared.value.Value.{Value}
 use Rattle.aj_state.specs.declared.value.Fault.TheVariants as fault
-use Rattle.aj_state.specs.States.{ThreadOf, Ready, Running, Done, Faulted}
+use Rattle.aj_state.specs.Memory.{Heap, Locks}
+use Rattle.aj_state.specs.States.{ThreadOf, Ready, Running, Done, Faulted, StateOf}
 use Rattle.aj_state.specs.Frames.{CellFrame, CodeFrame, top_frame, frames_in, slots_of, operands_of, taken_of}
 use Rattle.aj_compile.specs.declared.stack.Code.{Code}
-use Rattle.aj_steps.specs.Step.{Shared}
+use Rattle.aj_steps.specs.Step.{Shared, OutcomeOf, Moves, moved}
+use Rattle.aj_machine.specs.declared.machine.StepEnd.{StepEnd}
+use Rattle.aj_machine.specs.MachineValue.{code_state}
+use Rattle.aj_machine.specs.Reasons.{IsReason}
 use Rattle.aj_machine.specs.declared.deed.Deed.{Deed}
 use Rattle.aj_machine.specs.declared.deed.Deed.TheVariants as deed
+use Rattle.aj_machine.specs.declared.deed.Turn.{Turn}
+use Rattle.aj_machine.specs.declared.deed.Turn.TheVariants as turn
+use Rattle.aj_machine.specs.declared.machine.StepEnd.TheVariants as ends
+use Rattle.aj_state.specs.declared.value.Address.{Address}
 use Rattle.aj_machine.specs.CodeMachine.{deed_of, code_frame_at, deed_kind}
 use Rattle.aj_state.specs.declared.value.StepKind.{StepKind}
 use Rattle.aj_state.specs.declared.value.StepKind.TheVariants.{Both}
@@ -43,3 +52,45 @@ cell_kind P code entry room see t (Ready a m) = Some Both
 cell_kind P code entry room see t (Running fs) = kind_done P see t (cell_deed P code entry room see t (Running fs))
 cell_kind P code entry room see t Done = None
 cell_kind P code entry room see t (Faulted kind fs) = None
+
+-- a ready thread enters its method, where it is there and begins at a place; else it faults
+abbrev pub first_turn : Address → ℕ → Option Method → (entry room : Option ℕ) → Turn
+first_turn a m None entry room = turn.Fails fault.Null
+first_turn a m (Some method) None room = turn.Fails fault.Null
+first_turn a m (Some method) (Some entry) None = turn.Enters a m entry 0
+first_turn a m (Some method) (Some entry) (Some most) = turn.Enters a m entry most
+
+-- what a running thread's turn comes to, by what it does next
+abbrev pub deed_turn : Deed → Turn
+deed_turn (deed.Fails kind) = turn.Fails kind
+deed_turn (deed.Waits a holder) = turn.Ends (ends.Waits a holder)
+deed_turn (deed.Starts a m place) = turn.Starts a m place
+deed_turn d = turn.Does d
+
+-- what a thread's turn comes to, by its status
+abbrev pub cell_turn : Program → List Code → (entry room : List ℕ) → Shared → ℕ → ThreadOf CellFrame → Turn
+cell_turn P code entry room see t (Ready a m) = first_turn a m (slice_get P.methods m) (slice_get entry m) (slice_get room m)
+cell_turn P code entry room see t (Running fs) = deed_turn (cell_deed P code entry room see t (Running fs))
+cell_turn P code entry room see t Done = turn.Ends ends.Done
+cell_turn P code entry room see t (Faulted kind fs) = turn.Ends (ends.Faulted kind)
+
+-- the same of a thread that may be absent
+abbrev pub next_turn : Program → List Code → (entry room : List ℕ) → Shared → ℕ → Option (ThreadOf CellFrame) → Turn
+next_turn P code entry room see t None = turn.Ends ends.Absent
+next_turn P code entry room see t (Some thread) = cell_turn P code entry room see t thread
+
+-- the state of these parts, without the rooms of its frames
+abbrev pub state_in : Heap → Locks → List (ThreadOf CellFrame) → List ℤ → StateOf CodeFrame
+state_in heap locks threads output = code_state (record { heap = heap; locks = locks; threads = threads; output = output })
+
+-- what a step answers, where want of memory is all that could keep it
+abbrev pub step_result : Result (Unit {0}) AllocError → Result (Unit {0}) StepEnd
+step_result (Ok u) = Ok u
+step_result (Err e) = Err ends.NoMemory
+
+-- The answer of a turn that comes to this outcome, and the state after it: after a step the one that it leads to, else the
+-- same, and the reason is told.
+abbrev pub IsTaken : ℕ → Result (Unit {0}) StepEnd → (new old : StateOf CodeFrame) → OutcomeOf CodeFrame → Type 0
+IsTaken t (Ok u) new old (Moves move) = new ≡ moved t move old
+IsTaken t (Ok u) new old _ = ⊥
+IsTaken t (Err why) new old outcome = (new ≡ old) × IsReason why outcome

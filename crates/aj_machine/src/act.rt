@@ -1,15 +1,16 @@
 // What is done, on one thread and what all threads share.
-ghost use Rattle.std.specs.Prelude.{◌≡◌, ◌++◌, ◌∷◌, [], ◌-◌, reverse, map, Option, Some, None, true, IsSome, OnOk, OnErr, IfOk, slice_get, slice_set};
+ghost use Rattle.std.specs.Prelude.{◌≡◌, ◌<◌, ◌≤◌, ◌+◌, ℕ, List, IsOk, ◌++◌, ◌∷◌, [], ◌-◌, length, reverse, map, Option, Some, None, true, IsSome, OnOk, OnErr, IfOk, slice_get, slice_set};
 ghost use Rattle.std.specs.FinMap as map;
 ghost use Rattle.aj_state.specs.Values.{under};
 ghost use Rattle.std.specs.Bool.{OnTrue};
 ghost use Rattle.aj_core.specs.Views.{program_of};
-ghost use Rattle.aj_state.specs.Memory.{with_field, with_lock, made_by, new_values};
+ghost use Rattle.aj_state.specs.Memory.{IsNumbered, with_field, with_lock, made_by, new_values};
 ghost use Rattle.aj_state.specs.States.{fields_of};
 ghost use Rattle.aj_machine.specs.Listed.{listed};
 ghost use Rattle.aj_state.specs.Stored.{HasField, MayTake, taken_by, given_back};
 ghost use Rattle.aj_state.specs.declared.value.Value.TheVariants as value;
-ghost use Rattle.aj_state.specs.Frames.{code_thread, top_frame, on_top, operands_of};
+ghost use Rattle.aj_state.specs.Frames.{CellFrame, code_thread, top_frame, on_top, operands_of, slots_of, settled_operands};
+ghost use Rattle.aj_machine.specs.Rooms.{StaysRoomy};
 ghost use Rattle.aj_machine.specs.Deeds.{goes_on, stores_on, takes_on, gives_on};
 
 use crate::make::values_of;
@@ -28,6 +29,8 @@ pub(crate) fn goes(
     requires { IsSome (top_frame cell.old) }
     ensures ok { OnOk result (code_thread cell.new ≡ on_top (goes_on drops gives place) (code_thread cell.old)) }
     ensures err { OnErr result (cell.new ≡ cell.old) }
+    ensures roomy { (rooms : List ℕ) → StaysRoomy rooms cell.old cell.new }
+    ensures lean { (f : CellFrame) → top_frame cell.old ≡ Some f → length (settled_operands drops gives f) ≤ length f.operands + f.room → IsOk result }
 {
     cell.settle(drops, gives, place)
 }
@@ -35,29 +38,21 @@ pub(crate) fn goes(
 /// The top frame drops operands and goes on, which takes no memory.
 pub(crate) fn drops(cell: &mut ThreadCell, count: usize, place: u32)
     requires { IsSome (top_frame cell.old) }
-    ensures { code_thread cell.new ≡ on_top (goes_on count None place) (code_thread cell.old) }
+    ensures thread { code_thread cell.new ≡ on_top (goes_on count None place) (code_thread cell.old) }
+    ensures roomy { (rooms : List ℕ) → StaysRoomy rooms cell.old cell.new }
 {
     cell.drop_to(count, place);
 }
 
 /// A slot that is there gets a value.
-pub(crate) fn stores(
-    cell: &mut ThreadCell,
-    slot: u16,
-    value: Value,
-    place: u32,
-) -> Result<(), NoMemory>
-    requires { IsSome (top_frame cell.old) }
-    ensures ok { OnOk result (code_thread cell.new ≡ on_top (stores_on slot value place) (code_thread cell.old)) }
-    ensures err { OnErr result (cell.new ≡ cell.old) }
+pub(crate) fn stores(cell: &mut ThreadCell, slot: u16, value: Value, place: u32)
+    requires top { IsSome (top_frame cell.old) }
+    requires slot { slot < length (slots_of (top_frame cell.old)) }
+    ensures thread { code_thread cell.new ≡ on_top (stores_on slot value place) (code_thread cell.old) }
+    ensures roomy { (rooms : List ℕ) → StaysRoomy rooms cell.old cell.new }
 {
-    if (slot as usize) < cell.slots().len() {
-        cell.set_slot(slot, value);
-        cell.drop_to(1, place);
-        Ok(())
-    } else {
-        Err(NoMemory)
-    }
+    cell.set_slot(slot, value);
+    cell.drop_to(1, place);
 }
 
 /// A lock that no other thread holds is taken once more.
@@ -75,6 +70,7 @@ pub(crate) fn takes(
     ensures lock { OnOk result (locks.new ≡ map.insert locks.old address (taken_by thread (map.get locks.old address))) }
     ensures err { OnErr result (cell.new ≡ cell.old) }
     ensures kept { OnErr result (locks.new ≡ locks.old) }
+    ensures roomy { (rooms : List ℕ) → StaysRoomy rooms cell.old cell.new }
 {
     cell.lock_taken(address)?;
     if locks.take(alloc, address, thread).is_err() {
@@ -91,6 +87,7 @@ pub(crate) fn gives(locks: &mut Locks, cell: &mut ThreadCell, address: Address, 
     requires held { IsSome (map.get locks.old address) }
     ensures frame { code_thread cell.new ≡ on_top (gives_on place) (code_thread cell.old) }
     ensures lock { locks.new ≡ with_lock address (given_back (map.get locks.old address)) locks.old }
+    ensures roomy { (rooms : List ℕ) → StaysRoomy rooms cell.old cell.new }
 {
     let _ = cell.lock_given();
     cell.go(place);
@@ -114,6 +111,7 @@ pub(crate) fn makes(
     ensures object { OnOk result (heap.new ≡ map.insert heap.old address (record { class = class; values = values.items })) }
     ensures err { OnErr result (code_thread cell.new ≡ code_thread cell.old) }
     ensures kept { OnErr result (heap.new ≡ heap.old) }
+    ensures roomy { (rooms : List ℕ) → StaysRoomy rooms cell.old cell.new }
 {
     cell.make_room(1)?;
     heap.add(alloc, address, class, values)?;
@@ -133,6 +131,7 @@ pub(crate) fn prints(
     ensures printed { OnOk result (output.new.items ≡ output.old.items ++ number ∷ []) }
     ensures err { OnErr result (cell.new ≡ cell.old) }
     ensures kept { OnErr result (output.new.items ≡ output.old.items) }
+    ensures roomy { (rooms : List ℕ) → StaysRoomy rooms cell.old cell.new }
 {
     output.push(number)?;
     cell.drop_to(1, place);
@@ -147,111 +146,26 @@ pub(crate) fn writes(
     index: u16,
     value: Value,
     place: u32,
-) -> Result<(), NoMemory>
-    requires { IsSome (top_frame cell.old) }
-    ensures ok { OnOk result (code_thread cell.new ≡ on_top (goes_on 2 None place) (code_thread cell.old)) }
-    ensures field { OnOk result (heap.new ≡ with_field address index value heap.old) }
-    ensures err { OnErr result (cell.new ≡ cell.old) }
-    ensures kept { OnErr result (heap.new ≡ heap.old) }
+)
+    requires top { IsSome (top_frame cell.old) }
+    requires field { HasField heap.old address index }
+    ensures cell { code_thread cell.new ≡ on_top (goes_on 2 None place) (code_thread cell.old) }
+    ensures heap { heap.new ≡ with_field address index value heap.old }
+    ensures roomy { (rooms : List ℕ) → StaysRoomy rooms cell.old cell.new }
 {
-    if has_field(heap, address, index) {
-        heap.set(address, index, value);
-        cell.drop_to(2, place);
-        Ok(())
-    } else {
-        Err(NoMemory)
-    }
-}
-
-/// Whether there is an object at an address with a field at this index.
-fn has_field(heap: &Heap, address: Address, index: u16) -> bool
-    ensures { OnTrue result (HasField heap.now address index) }
-{
-    match heap.find(address) {
-        Some((_, values)) => (index as usize) < values.len(),
-        None => false,
-    }
-}
-
-/// Whether a thread may take a lock: no other thread holds it, and its count can rise.
-fn may_take(locks: &Locks, thread: u32, address: Address) -> bool
-    ensures { OnTrue result (MayTake thread (map.get locks.now address)) }
-{
-    match locks.find(address) {
-        Some((holder, count)) => holder == thread && count < u32::MAX,
-        None => true,
-    }
-}
-
-/// A lock is taken once more, where it may be.
-pub(crate) fn takes_free(
-    alloc: Global,
-    locks: &mut Locks,
-    cell: &mut ThreadCell,
-    thread: u32,
-    address: Address,
-    place: u32,
-) -> Result<(), NoMemory>
-    requires { IsSome (top_frame cell.old) }
-    ensures ok { OnOk result (code_thread cell.new ≡ on_top (takes_on address place) (code_thread cell.old)) }
-    ensures lock { OnOk result (locks.new ≡ map.insert locks.old address (taken_by thread (map.get locks.old address))) }
-    ensures err { OnErr result (cell.new ≡ cell.old) }
-    ensures kept { OnErr result (locks.new ≡ locks.old) }
-{
-    if may_take(locks, thread, address) {
-        takes(alloc, locks, cell, thread, address, place)
-    } else {
-        Err(NoMemory)
-    }
-}
-
-/// The last taken lock is given back, where it is held.
-pub(crate) fn gives_held(
-    locks: &mut Locks,
-    cell: &mut ThreadCell,
-    address: Address,
-    place: u32,
-) -> Result<(), NoMemory>
-    requires { IsSome (top_frame cell.old) }
-    ensures ok { OnOk result (code_thread cell.new ≡ on_top (gives_on place) (code_thread cell.old)) }
-    ensures lock { OnOk result (locks.new ≡ with_lock address (given_back (map.get locks.old address)) locks.old) }
-    ensures err { OnErr result (cell.new ≡ cell.old) }
-    ensures kept { OnErr result (locks.new ≡ locks.old) }
-{
-    if is_held(locks, address) {
-        gives(locks, cell, address, place);
-        Ok(())
-    } else {
-        Err(NoMemory)
-    }
-}
-
-/// Whether a lock is held.
-fn is_held(locks: &Locks, address: Address) -> bool
-    ensures { OnTrue result (IsSome (map.get locks.now address)) }
-{
-    match locks.find(address) {
-        Some(_) => true,
-        None => false,
-    }
-}
-
-/// Whether there is no object at an address.
-fn is_free(heap: &Heap, address: Address) -> bool
-    ensures { OnTrue result (map.get heap.now address ≡ None) }
-{
-    match heap.find(address) {
-        Some(_) => false,
-        None => true,
-    }
+    heap.set(address, index, value);
+    cell.drop_to(2, place);
 }
 
 /// The address of a thread's next object.
-fn next_address(heap: &Heap, thread: u32) -> Result<Address, NoMemory>
-    ensures { IfOk result (λ a. a ≡ record { thread = thread; count = made_by thread heap.now }) }
+fn next_address(heap: &Heap, thread: u32) -> Address
+    requires { made_by thread heap.now < 4294967296 }
+    ensures { result ≡ record { thread = thread; count = made_by thread heap.now } }
 {
-    let count = u32::try_from(heap.made(thread)).map_err(|_| NoMemory)?;
-    Ok(Address { thread, count })
+    Address {
+        thread,
+        count: heap.made(thread) as u32,
+    }
 }
 
 /// An object of a class is made, from the topmost operands as the arguments for its final fields.
@@ -265,20 +179,19 @@ pub(crate) fn makes_next(
     arguments: usize,
     place: u32,
 ) -> Result<(), NoMemory>
-    requires { IsSome (top_frame cell.old) }
+    requires top { IsSome (top_frame cell.old) }
+    requires numbered { IsNumbered heap.old }
+    requires few { made_by thread heap.old < 4294967296 }
     ensures ok { OnOk result (code_thread cell.new ≡ on_top (goes_on arguments (Some (value.Ref (record { thread = thread; count = made_by thread heap.old }))) place) (code_thread cell.old)) }
     ensures object { OnOk result (heap.new ≡ map.insert heap.old (record { thread = thread; count = made_by thread heap.old })
         (record { class = class; values = new_values (program_of program.now) (fields_of (slice_get (program_of program.now).classes class)) (listed arguments (operands_of (top_frame cell.old))) })) }
     ensures err { OnErr result (code_thread cell.new ≡ code_thread cell.old) }
     ensures kept { OnErr result (heap.new ≡ heap.old) }
+    ensures roomy { (rooms : List ℕ) → StaysRoomy rooms cell.old cell.new }
 {
-    let address = next_address(heap, thread)?;
+    let address = next_address(heap, thread);
     let values = object_values(alloc, program, class, cell.operands(), arguments)?;
-    if is_free(heap, address) {
-        makes(alloc, heap, cell, address, class, values, arguments, place)
-    } else {
-        Err(NoMemory)
-    }
+    makes(alloc, heap, cell, address, class, values, arguments, place)
 }
 
 /// The values of a new object of a class.

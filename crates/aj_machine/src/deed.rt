@@ -1,4 +1,5 @@
 // What a thread does next.
+use crate::machine::StepEnd;
 use aj_paths::{ClassId, FieldId, MethodId};
 use aj_state::{Address, Fault, Value};
 
@@ -81,4 +82,28 @@ pub(crate) enum Deed {
         method: MethodId,
         place: u32,
     },
+}
+
+/// What a thread's turn comes to, decided before anything is changed.
+#[derive(Clone, Copy, PartialEq, Eq, Debug)]
+pub(crate) enum Turn {
+    /// There is no step.
+    Ends(StepEnd),
+    /// The thread faults.
+    Fails(Fault),
+    /// A ready thread enters its method, which begins at this place and wants this much room.
+    Enters {
+        address: Address,
+        method: MethodId,
+        entry: u32,
+        room: u32,
+    },
+    /// A running thread starts another on an object; `place` is where its own frame goes on.
+    Starts {
+        address: Address,
+        method: MethodId,
+        place: u32,
+    },
+    /// A running thread does something else.
+    Does(Deed),
 }

@@ -4,6 +4,7 @@
 mod act;
 mod decide;
 mod deed;
+mod inside;
 mod kinds;
 mod laws;
 mod machine;
@@ -14,4 +15,4 @@ mod seen;
 mod turn;
 
 pub use laws::code_laws;
-pub use machine::{Machine, StepEnd};
+pub use machine::{Machine, StepEnd, Stopped};

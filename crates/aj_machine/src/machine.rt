@@ -1,14 +1,21 @@
 // The machine.
-ghost use Rattle.std.specs.Prelude.{◌≡◌, ◌++◌, ◌∷◌, [], ◌+◌, Some, None, OnOk, OnErr, IfOk, IfErr, slice_get};
+ghost use Rattle.std.specs.Prelude.{◌≡◌, ◌≢◌, false, Err, ◌<◌, ◌≤◌, ◌++◌, ◌∷◌, [], ◌+◌, length, Some, None, OnOk, OnErr, IfOk, IfErr, MatchResult, slice_get};
+ghost use Rattle.std.specs.Option.{option_map};
 ghost use Rattle.aj_core.specs.Views.{program_of};
+ghost use Rattle.aj_core.specs.Typed.{IsTyped};
 ghost use Rattle.aj_state.specs.States.{State, initial};
 ghost use Rattle.aj_compile.specs.IsCode.{IsCodeOf};
-ghost use Rattle.aj_steps.specs.Step.{kind_of};
-ghost use Rattle.aj_machine.specs.Standing.{program_run, StandsFor};
+ghost use Rattle.aj_steps.specs.Step.{outcome, kind_of};
+ghost use Rattle.aj_steps.specs.Run.{is_inside, open_thread};
+ghost use Rattle.aj_machine.specs.declared.machine.StepEnd.TheVariants as ends;
+ghost use Rattle.aj_machine.specs.Lean.{step_takes};
+ghost use Rattle.aj_machine.specs.Standing.{program_run, StandsFor, IsTurn, IsSame, HasRun, HasStopped};
 
 use crate::act::object_values;
+use crate::inside::{first_inside, stands_inside};
 use crate::kinds::cell_kind;
 use crate::seen::Seen;
+use crate::turn::take_turn;
 use aj_compile::CodeTable;
 use aj_core::CoreProgram;
 use aj_state::{Address, Fault, Heap, Locks, StepKind, ThreadCell};
@@ -26,6 +33,14 @@ pub enum StepEnd {
     NoMemory,
 }
 
+/// Where a schedule stops: at its first entry, counted from 1, that doesn't step; the entry's thread; and why.
+#[derive(Clone, Copy, PartialEq, Eq, Debug)]
+pub struct Stopped {
+    pub entry: u32,
+    pub thread: u32,
+    pub why: StepEnd,
+}
+
 /// A machine that runs a program's code. A contract sees the program, the code, the state and the number of steps made.
 #[derive(Drop)]
 pub struct Machine<'p> {
@@ -39,11 +54,14 @@ pub struct Machine<'p> {
 }
 
 impl<'p> Model for Machine<'p> {
+    ghost use Rattle.std.specs.Prelude.{◌<◌, ◌≤◌, ◌+◌, ◌^◌, length};
     ghost use Rattle.aj_core.specs.Views.{program_of};
     ghost use Rattle.aj_core.specs.contracts.tree.CoreStmt as statement;
     ghost use Rattle.std.specs.Coded.{codes};
     ghost use Rattle.aj_compile.specs.IsCode.{IsCodeOf};
     ghost use Rattle.aj_machine.specs.MachineValue.{MachineValue, state_code};
+    ghost use Rattle.aj_machine.specs.Reaching.{IsKept};
+    ghost use Rattle.aj_machine.specs.Counts.{IsCounted};
 
     ghost Value = { MachineValue };
 
@@ -56,7 +74,11 @@ impl<'p> Model for Machine<'p> {
       made = m.made;
     } };
 
-    ghost invariant = { λ m. IsCodeOf (program_of m.program.now) m.code.now.code.items m.code.now.entry.items m.code.now.room.items };
+    ghost invariant = { λ m. IsCodeOf (program_of m.program.now) m.code.now.code.items m.code.now.entry.items m.code.now.room.items
+        × (length m.threads.items ≤ m.made + 1) × (m.made < 2 ^ 32)
+        × IsKept (program_of m.program.now) m.code.now.code.items m.code.now.entry.items m.code.now.room.items
+        (record { heap = m.heap; locks = m.locks; threads = m.threads.items; output = m.output.items })
+        × IsCounted m.made m.heap m.locks };
 }
 
 impl<'p> Machine<'p> {
@@ -139,6 +161,83 @@ impl<'p> Machine<'p> {
         };
         match self.threads.get(thread as usize) {
             Some(cell) => cell_kind(&seen, cell),
+            None => None,
+        }
+    }
+
+    /// One step of a thread. Each refusal comes exactly where the definition gives it, and leaves the machine as it was, as
+    /// does want of memory. A step that faults its thread is Ok. A step that makes no frame, object, thread, hold of a lock or
+    /// printed number takes no memory.
+    pub fn step(&mut self, alloc: Global, thread: u32) -> Result<(), StepEnd>
+        requires { self.old.made < 4294967295 }
+        ensures turn { (q : State) → StandsFor self.old q → IsTurn thread result self.new q (outcome (program_run self.old) q thread) }
+        ensures kept { OnErr result (IsSame self.new self.old) }
+        ensures lean { IsTyped (program_run self.old) → (q : State) → StandsFor self.old q → step_takes (slice_get q.threads thread) ≡ false → result ≢ Err ends.NoMemory }
+        ensures counted { OnOk result (self.new.made ≡ self.old.made + 1) }
+        ensures program { self.new.program ≡ self.old.program }
+        ensures code { self.new.code ≡ self.old.code }
+    {
+        match take_turn(
+            alloc,
+            self.program,
+            self.code,
+            &mut self.heap,
+            &mut self.locks,
+            &mut self.output,
+            &mut self.threads,
+            thread,
+        ) {
+            Ok(()) => {
+                self.made += 1;
+                Ok(())
+            }
+            Err(why) => Err(why),
+        }
+    }
+
+    /// Steps of the threads of a schedule, one after the other, up to the first that doesn't step. The machine then stands
+    /// after the entries before it.
+    pub fn run(&mut self, alloc: Global, schedule: &[u32]) -> Result<(), Stopped>
+        requires { self.old.made + length schedule.now ≤ 4294967295 }
+        ensures ran { OnOk result ((q : State) → StandsFor self.old q → HasRun self.new (program_run self.old) q schedule.now) }
+        ensures stopped { IfErr result (λ s. (q : State) → StandsFor self.old q → HasStopped self.new (program_run self.old) q schedule.now s) }
+        ensures counted { MatchResult result (λ _. self.new.made ≡ self.old.made + length schedule.now) (λ s. self.new.made + 1 ≡ self.old.made + s.entry) }
+        ensures program { self.new.program ≡ self.old.program }
+        ensures code { self.new.code ≡ self.old.code }
+    {
+        let mut entry = 0;
+        for thread in schedule {
+            entry += 1;
+            match self.step(alloc, *thread) {
+                Ok(()) => {}
+                Err(why) => {
+                    return Err(Stopped {
+                        entry,
+                        thread: *thread,
+                        why,
+                    });
+                }
+            }
+        }
+        Ok(())
+    }
+
+    /// The least number of a thread that stands inside an atomic call; none exactly where there is none.
+    pub fn open_thread(&self) -> Option<u32>
+        ensures { (q : State) → StandsFor self.now q → result ≡ open_thread (program_run self.now) q }
+    {
+        match first_inside(self.program, self.threads.as_slice()) {
+            Some(place) => Some(place as u32),
+            None => None,
+        }
+    }
+
+    /// Whether the thread of this number stands inside an atomic call; none exactly where there is no such thread.
+    pub fn inside(&self, thread: u32) -> Option<bool>
+        ensures { (q : State) → StandsFor self.now q → result ≡ option_map (is_inside (program_run self.now)) (slice_get q.threads thread) }
+    {
+        match self.threads.get(thread as usize) {
+            Some(cell) => Some(stands_inside(self.program, cell)),
             None => None,
         }
     }

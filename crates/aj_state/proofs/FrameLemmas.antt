@@ -1,12 +1,12 @@
 -- Threads without the rooms of their frames.
-use Rattle.std.proofs.Common.{◌≡◌, ℕ, zero, suc, ◌+◌, ◌-◌, ◌<◌, ◌≤◌, List, [], ◌∷◌, ◌++◌, length, take, drop, get_or, reverse, refl, sym, ap, ◌∙◌, arith, drop-cons}
+use Rattle.std.proofs.Common.{◌≡◌, ℕ, zero, suc, ◌+◌, ◌-◌, ◌<◌, ◌≤◌, List, [], ◌∷◌, ◌++◌, length, take, drop, get_or, reverse, refl, sym, ap, subst, ◌∙◌, arith, drop-cons}
 use Rattle.std.proofs.Math.ListN.{set}
 use Rattle.std.specs.Prelude.{Result, Ok, Err, IsOk, OnOk, Option, Some, None, map}
 use Rattle.std.specs.Option.{option_map}
 use Rattle.aj_state.specs.declared.value.Address.{Address}
 use Rattle.aj_state.specs.declared.value.ThreadState.{ThreadState}
 use Rattle.aj_state.specs.declared.value.ThreadState.TheVariants as status
-use Rattle.aj_state.specs.Frames.{CellFrame, code_frame, code_thread, frames_from, thread_of, on_first}
+use Rattle.aj_state.specs.Frames.{CellFrame, code_frame, code_thread, frames_from, thread_of, on_first, HasSpare}
 use Rattle.std.proofs.lemmas.List.{reverse-append, take-append-drop, set_split}
 use Rattle.std.specs.declared.alloc.AllocError.{AllocError}
 use Rattle.aj_state.specs.declared.value.Value.{Value}
@@ -94,3 +94,12 @@ dropped_shorter (suc n) (v ∷ ops) = let p = dropped_shorter n ops in omega ari
 pub ok_then : {A E P : Type 0} (r : Result A E) → IsOk r → OnOk r P → P
 ok_then (Ok x) h p = p
 ok_then (Err e) h p = absurd cc
+
+pub on_last_ok : (r : Result (Unit {0}) AllocError) (xs : List CellFrame) (k : ℕ) (old v : CellFrame) (g : CellFrame → CellFrame) → k + 1 ≡ length xs → old ≡ get_or xs k old
+    → OnOk r (v ≡ g old) → OnOk r (reverse (set xs k v) ≡ on_first g (reverse xs))
+on_last_ok (Err e) xs k old v g is found h = tt
+on_last_ok (Ok u) xs k old v g is found h = on_last xs k old v g is found h
+
+-- the room of the last of some frames
+pub last_spare : (xs : List CellFrame) (k : ℕ) (old : CellFrame) (value : Value) → k + 1 ≡ length xs → old ≡ get_or xs k old → HasSpare (Some value) (reverse xs) → 0 < old.room
+last_spare xs k old value is found spare = subst (HasSpare (Some value)) (last_set xs k old old is found).1 spare

@@ -117,6 +117,16 @@ settled drops gives place f = record f {
   room = length f.operands + f.room - length (settled_operands drops gives f);
 }
 
+-- a frame that is given a result or none
+abbrev pub with_given : Option Value → CellFrame → CellFrame
+with_given None f = f
+with_given (Some v) f = record f { operands = v ∷ f.operands; room = f.room - 1 }
+
+-- the innermost of some frames can be given a result or none without memory
+abbrev pub HasSpare : Option Value → List CellFrame → Type 0
+HasSpare (Some v) (f ∷ fs) = 0 < f.room
+HasSpare _ _ = Unit {0}
+
 -- the parts of a frame that may be missing
 abbrev pub slots_of : Option CellFrame → List Value
 slots_of None = []

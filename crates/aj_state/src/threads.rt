@@ -3,7 +3,7 @@ ghost use Rattle.std.specs.Prelude.{◌≡◌, ◌<◌, ◌≤◌, ◌+◌, ◌-
 ghost use Rattle.std.specs.Option.{option_map, option_copied};
 ghost use Rattle.aj_state.specs.Values.{under};
 ghost use Rattle.aj_state.specs.States.{ThreadOf, Ready, Running, Faulted};
-ghost use Rattle.aj_state.specs.Frames.{CellFrame, code_frame, code_thread, frames_in, top_frame, on_top, status_of, waiting_of, is_running, may_enter, popped, settled, settled_operands, HasRoom, first_frame, rest_of, on_first, given, slots_of, operands_of, taken_of};
+ghost use Rattle.aj_state.specs.Frames.{CellFrame, code_frame, code_thread, frames_in, top_frame, on_top, status_of, waiting_of, is_running, may_enter, popped, settled, settled_operands, with_given, HasRoom, HasSpare, first_frame, rest_of, on_first, given, slots_of, operands_of, taken_of};
 
 use crate::frame::FrameCell;
 use crate::value::{Address, Fault, ThreadState, Value};
@@ -187,11 +187,13 @@ impl ThreadCell {
     }
 
     /// A running thread returns: its top frame is taken away, and the one below is given the result or none; the thread is
-    /// done where it was the last.
+    /// done where it was the last. Takes no memory where the frame below has spare room.
     pub fn give_result(&mut self, gives: Option<Value>) -> Result<(), NoMemory>
         requires { is_running self.old ≡ true }
         ensures ok { OnOk result (code_thread self.new ≡ code_thread (on_top (λ f. record f { operands = given gives f.operands }) (popped self.old))) }
+        ensures frames { OnOk result (frames_in self.new ≡ on_first (with_given gives) (rest_of (frames_in self.old))) }
         ensures err { OnErr result (self.new ≡ self.old) }
+        ensures spare { HasSpare gives (rest_of (frames_in self.old)) → IsOk result }
     {
         if let Some(value) = gives {
             push_last(&mut self.below, value)?;
@@ -211,9 +213,9 @@ impl ThreadCell {
         }
     }
 
-    /// A running thread is faulted and keeps its frames.
+    /// A ready or running thread is faulted and keeps its frames.
     pub fn fault(&mut self, kind: Fault)
-        requires { is_running self.old ≡ true }
+        requires { may_enter self.old ≡ true }
         ensures { self.new ≡ Faulted kind (frames_in self.old) }
     {
         self.state = ThreadState::Faulted(kind);
@@ -384,7 +386,9 @@ fn settle_last(frames: &mut Vec<FrameCell>, drops: usize, place: u32)
 /// The last frame, where there is one, is given a value.
 fn push_last(frames: &mut Vec<FrameCell>, value: Value) -> Result<(), NoMemory>
     ensures ok { OnOk result (map code_frame (reverse frames.new.items) ≡ on_first (λ f. record f { operands = value ∷ f.operands }) (map code_frame (reverse frames.old.items))) }
+    ensures frames { OnOk result (reverse frames.new.items ≡ on_first (with_given (Some value)) (reverse frames.old.items)) }
     ensures err { OnErr result (frames.new.items ≡ frames.old.items) }
+    ensures spare { HasSpare (Some value) (reverse frames.old.items) → IsOk result }
 {
     match frames.last_mut() {
         Some(frame) => frame.push(value),

@@ -1,0 +1,20 @@
+-- Who stands inside an atomic call, of threads as they are kept.
+use Rattle.std.specs.Prelude.{ℕ, Bool, false, Option, Some, None, slice_get}
+use Rattle.std.specs.List.{list_any}
+use Rattle.aj_core.specs.Core.{Program}
+use Rattle.aj_state.specs.States.{ThreadOf}
+use Rattle.aj_state.specs.Frames.{CellFrame, frames_in}
+use Rattle.aj_steps.specs.Run.{is_annotated}
+
+-- whether a frame belongs to an annotated method
+abbrev pub frame_inside : Program → CellFrame → Bool
+frame_inside P f = is_annotated (slice_get P.methods f.method)
+
+-- whether a frame that may be missing, of this method, does
+abbrev pub method_inside : Program → Option ℕ → Bool
+method_inside P None = false
+method_inside P (Some m) = is_annotated (slice_get P.methods m)
+
+-- whether some frame of a thread does
+abbrev pub cell_inside : Program → ThreadOf CellFrame → Bool
+cell_inside P thread = list_any (frame_inside P) (frames_in thread)

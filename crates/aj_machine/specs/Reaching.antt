@@ -1,0 +1,40 @@
+-- What holds of the machine's state along every run: the operands of each frame are those with which its place is reached,
+-- there is room for those of its method, and the state stands for one of the definition.
+use Rattle.std.specs.Prelude.{◌≡◌, ℕ, List, [], ◌∷◌, length, map, Option, Some, slice_get}
+use Rattle.aj_core.specs.Core.{Program, Method}
+use Rattle.aj_state.specs.States.{ThreadOf, StateOf, State}
+use Rattle.aj_state.specs.Frames.{CellFrame, CodeFrame, code_thread, frames_in}
+use Rattle.aj_compile.specs.declared.stack.Code.{Code}
+use Rattle.aj_compile.specs.Rooms.{Reached, after_call}
+use Rattle.aj_machine.specs.Likeness.{StateStands}
+use Rattle.aj_machine.specs.MachineValue.{code_state}
+use Rattle.aj_machine.specs.Rooms.{AllRoomy}
+
+module _ (P : Program) (code : List Code) (entry room : List ℕ) where
+  -- the frame's place is reached from the entry of its method with so many operands
+  pub record HasReached (f : CodeFrame) (n : ℕ) : Type 0 where
+    pub start : ℕ
+    pub most : ℕ
+    pub begins : slice_get entry f.method ≡ Some start
+    pub wants : slice_get room f.method ≡ Some most
+    pub reached : Reached P code start f.place n
+
+  -- frames below one of a method: each is reached with the operands that stand when the call above it is over
+  abbrev pub BelowReached : Option Method → List CodeFrame → Type 0
+  BelowReached above [] = Unit {0}
+  BelowReached above (g ∷ more) = HasReached g (after_call above (length g.operands)) × BelowReached (slice_get P.methods g.method) more
+
+  -- the frames of a thread, the innermost first
+  abbrev pub AreReached : List CodeFrame → Type 0
+  AreReached [] = Unit {0}
+  AreReached (f ∷ below) = HasReached f (length f.operands) × BelowReached (slice_get P.methods f.method) below
+
+  abbrev pub AllReached : List (ThreadOf CodeFrame) → Type 0
+  AllReached [] = Unit {0}
+  AllReached (c ∷ cs) = AreReached (frames_in c) × AllReached cs
+
+  pub record IsKept (s : StateOf CellFrame) : Type 0 where
+    pub reached : AllReached (map code_thread s.threads)
+    pub roomy : AllRoomy room s.threads
+    pub stood : State
+    pub stands : StateStands P code (code_state s) stood
