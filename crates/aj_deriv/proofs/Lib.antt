@@ -5,8 +5,9 @@ mod Sound
 mod SoundTrees
 mod Several
 mod PassLemmas
-mod Complete
+pub mod Complete
 mod PassBooks
 pub mod BookLaws
 pub mod CursorLaws
 pub mod TableLaws
+pub mod MemoryLemmas

@@ -1,20 +1,22 @@
 -- Premises as nodes, and tables built from their text.
-use Rattle.std.proofs.Common.{◌≡◌, ℕ, zero, suc, ◌-◌, ◌<◌, ◌^◌, Bool, true, false, List, [], ◌∷◌, ◌++◌, map, length, codes, Some, Ok, Err, if◌then◌else◌, refl, sym, ◌∙◌, ap, subst, arith, append_assoc}
+use Rattle.std.proofs.Common.{◌≡◌, ℕ, zero, suc, ◌-◌, ◌<◌, ◌^◌, Bool, true, false, List, [], ◌∷◌, ◌++◌, map, length, codes, Some, None, Ok, Err, if◌then◌else◌, refl, sym, ◌∙◌, ap, subst, arith, append_assoc}
 use Rattle.std.proofs.lemmas.List.{map-append}
 use Rattle.aj_cond.specs.Conditions.{Cond, cond_of}
 use Rattle.aj_cond.specs.declared.tree.Tree.{Tree}
 use Rattle.aj_deriv.specs.declared.stop.Kind.TheVariants.{Form}
 use Rattle.aj_deriv.specs.declared.cursor.NodeView.{NodeView}
 use Rattle.aj_deriv.specs.declared.cursor.Premises.{Premises}
+use Rattle.aj_deriv.specs.declared.cursor.MethodView.{MethodView}
 use Rattle.aj_deriv.specs.declared.cursor.BookCursor.{BookCursor}
 use Rattle.aj_deriv.specs.Derivations.{Node, node, Nodes, no_nodes, and_node, premises_of, word_at, number_of}
-use Rattle.aj_deriv.specs.Books.{Book, is_canonical, most_height}
+use Rattle.aj_deriv.specs.Books.{Line, Book, IsLine, AreLines, is_canonical, most_height}
 use Rattle.aj_deriv.specs.Texts.{newline, table_text}
 use Rattle.aj_deriv.specs.Combine.{Res, ◌>>=◌, expect, exactly}
 use Rattle.aj_deriv.specs.Reading.{node_at, tree_at, canonical_at, table_line}
-use Rattle.aj_deriv.specs.Views.{IsViewOf, ArePremises, IsNext, IsCursorAt, nodes_of, nodes_in, plain_line, after_those, IsReadAs}
+use Rattle.aj_deriv.specs.Views.{IsViewOf, ArePremises, IsNext, IsNextLine, IsCursorAt, IsAtSome, nodes_of, nodes_in, lines_of, lines_in, plain_line, after_those, IsReadAs}
 use Rattle.aj_deriv.proofs.Complete.{complete_node, complete_several, from_list}
-use Rattle.aj_deriv.proofs.BookLaws.{after_ok, complete_table}
+use Rattle.aj_deriv.proofs.BookLaws.{after_ok, complete_table, complete_lines}
+use Rattle.aj_deriv.proofs.CursorLaws.{widened_one}
 
 -- premises
 
@@ -44,6 +46,55 @@ first_is (and_node d ds) view inner new next premises =
       inner_are = subst (ArePremises inner) (sym inner_is) are;
       new_are = subst (ArePremises new) (sym new_is) next.1;
     }
+
+-- the method lines of a cursor are those of its text
+lines_wider : (count : ℕ) → count < 2 ^ 32 → (ls : List Line) → AreLines count ls → AreLines (2 ^ 32) ls
+lines_wider count small [] are = tt
+lines_wider count small (line ∷ ls) are = (
+  record {
+    id = are.0.id;
+    number = omega (arith, are.0.number, small);
+    numbered = widened_one count (2 ^ 32) (omega (arith, small)) line.body are.0.numbered;
+    high = are.0.high;
+  },
+  lines_wider count small ls are.1,
+)
+
+pub lines_are : (cursor : BookCursor) (book : Book) → IsCursorAt cursor book → lines_in cursor.lines.now ≡ book.lines
+lines_are cursor book at =
+    ap lines_in at.lines ∙ ap lines_of (complete_lines (2 ^ 32) (omega arith) book.lines (lines_wider (length book.table) at.book_is.few book.lines at.book_is.lines))
+
+-- the table and the method lines that stand at a cursor are the book
+pub book_is : (cursor : BookCursor) (book : Book) (table : List Cond) (lines : List Line) → IsCursorAt cursor book → table ≡ book.table → lines ≡ lines_in cursor.lines.now →
+    record { table = table; lines = lines } ≡ book
+book_is cursor book table lines at same_table same_lines = let all = same_lines ∙ lines_are cursor book at in λ i. record { table = same_table i; lines = all i }
+
+pub at_some : (cursor : BookCursor) (book : Book) → IsCursorAt cursor book → IsAtSome cursor
+at_some cursor book at =
+    record { table = book.table; at = subst (λ ls. IsCursorAt cursor (record { table = book.table; lines = ls })) (sym (lines_are cursor book at)) (record { trees = at.trees; table = at.table; lines = at.lines; book_is = at.book_is }) }
+
+-- the first of some method lines, with the others
+pub record IsFirstLine (lines : List Line) (view : MethodView) (premises : Premises) (new : BookCursor) : Type 0 where
+  pub is : lines ≡ record { id = view.id; number = view.number; body = node view.node.word view.node.number (nodes_in premises.rest.now) } ∷ lines_in new.lines.now
+  pub premises_are : ArePremises premises (nodes_in premises.rest.now)
+  pub new_is : IsAtSome new
+
+pub first_line_is : (book : Book) (lines : List Line) (view : MethodView) (premises : Premises) (new : BookCursor) → IsNextLine book lines (Some view) new →
+    ((d : Node) → IsViewOf view.node d → ArePremises premises (premises_of d)) → IsFirstLine lines view premises new
+first_line_is book [] view premises new next are = absurd next
+first_line_is book (line ∷ lines) view premises new next are =
+    let inner = are line.body next.0.node in
+    let inner_is = nodes_are premises (premises_of line.body) inner in
+    let body = node_is line.body view.node (nodes_in premises.rest.now) next.0.node.word next.0.node.number inner_is in
+    record {
+      is = (λ i. record { id = sym next.0.id i; number = sym next.0.number i; body = body i } ∷ sym (lines_are new (record { table = book.table; lines = lines }) next.1) i);
+      premises_are = subst (ArePremises premises) (sym inner_is) inner;
+      new_is = at_some new (record { table = book.table; lines = lines }) next.1;
+    }
+
+pub no_line : (book : Book) (lines : List Line) (new : BookCursor) → IsNextLine book lines None new → lines ≡ []
+no_line book [] new next = refl
+no_line book (line ∷ lines) new next = absurd next
 
 -- tables
 

@@ -1,6 +1,7 @@
 -- What the contracts of derivations and their books cite. To read the contract: Derivations, Books, Texts, then Reading, which says
 -- what a text is read as and where its first fault stands.
 pub mod Derivations
+pub mod Memory
 pub mod Books
 pub mod Texts
 pub mod Combine

@@ -9,7 +9,7 @@ use Rattle.aj_deriv.specs.Derivations.{Node, Nodes, no_nodes, and_node, nodes_fr
 use Rattle.aj_deriv.specs.Books.{Line, Book, IsBook, IsNumbered, AreNumbered, node_high, nodes_high, most_height}
 use Rattle.aj_deriv.specs.Texts.{newline, node_text, nodes_text, lines_text, table_text}
 use Rattle.aj_deriv.specs.Combine.{Res, ◌>>=◌, expect, several}
-use Rattle.aj_deriv.specs.Reading.{number_at, word_at_front, premise_with, node_at, tree_at}
+use Rattle.aj_deriv.specs.Reading.{number_at, word_at_front, premise_with, node_at, tree_at, lines_at}
 use Rattle.aj_cond.specs.Conditions.{Cond}
 use Rattle.aj_deriv.specs.Passing.{pass_node}
 
@@ -86,6 +86,20 @@ nodes_of (Err e) = no_nodes
 -- the nodes that a text of premises has
 abbrev pub nodes_in : List ℕ → Nodes
 nodes_in ts = nodes_of (several 32 (premise_with (node_at (2 ^ 32) most_height)) ts)
+
+-- method lines as they are read; none where they can't be
+abbrev pub lines_of : Res (List Line) → List Line
+lines_of (Ok y) = y.0
+lines_of (Err e) = []
+
+-- the method lines that a text has, up to the end of the book
+abbrev pub lines_in : List ℕ → List Line
+lines_in ts = lines_of (lines_at (2 ^ 32) ts)
+
+-- a cursor stands at some book with the method lines that its text has
+pub record IsAtSome (cursor : BookCursor) : Type 0 where
+  pub table : List Cond
+  pub at : IsCursorAt cursor (record { table = table; lines = lines_in cursor.lines.now })
 
 -- a line of the table, canonical or not
 abbrev pub plain_line : List ℕ → Res Cond

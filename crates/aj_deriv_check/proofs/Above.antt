@@ -134,7 +134,7 @@ module _ (P : Program) (rel : ℕ → List PathData) (A : Assignment) where
   two a b H = ap (λ z. seq_of (expr_effect P rel A a H) z) (one b H)
 
   -- the rule over the effects of the parts is the effect
-  rule_is : (x : Part) (H : Held) → rule_of P rel A x (effects_of (parts_of x)) H ≡ part_effect x H
+  pub rule_is : (x : Part) (H : Held) → rule_of P rel A x (effects_of (parts_of x)) H ≡ part_effect x H
   rule_is (ExprP (IntE n)) H = refl
   rule_is (ExprP (TruthE b)) H = refl
   rule_is (ExprP NullE) H = refl

@@ -1,9 +1,9 @@
 -- The lemmas that several proofs share.
-mod Laws
-mod Lists
-mod Above
+pub mod Laws
+pub mod Lists
+pub mod Above
 mod Admissible
-mod NameLemmas
+pub mod NameLemmas
 mod RuleLemmas
 mod WalkLemmas
 mod AskedLemmas

@@ -2,13 +2,11 @@
 use Rattle.std.proofs.Common.{◌≡◌, ℕ, zero, suc, ◌+◌, ◌<◌, ◌≤◌, ◌⊎◌, inl, inr, List, [], ◌∷◌, ◌++◌, map, length, drop, get_or, slice_get, Option, Some, None, Ok, Err, refl, sym, ◌∙◌, ap, subst, arith}
 use Rattle.std.proofs.lemmas.Option.{slice_get_cases, slice_get_past}
 use Rattle.aj_paths.specs.Paths.{PathData}
+use Rattle.aj_cond.specs.Conditions.{Cond}
 use Rattle.aj_core.specs.Core.{Program, Method}
 use Rattle.aj_core.specs.declared.program.CoreMethod.{CoreMethod}
 use Rattle.aj_core.specs.Views.{method_of}
 use Rattle.aj_deriv.specs.Books.{Line, Book}
-use Rattle.aj_deriv.specs.Views.{IsCursorAt, IsNextLine}
-use Rattle.aj_deriv.specs.declared.cursor.MethodView.{MethodView}
-use Rattle.aj_deriv.specs.declared.cursor.BookCursor.{BookCursor}
 use Rattle.aj_deriv_check.specs.declared.judge.Judge.{Judge}
 use Rattle.aj_deriv_check.specs.declared.wrong.Wrong.{Wrong}
 use Rattle.aj_deriv_check.specs.declared.wrong.Wrong.TheVariants as wrong
@@ -51,12 +49,15 @@ past_of [] (suc m) within e = absurd (omega (arith, within))
 past_of (x ∷ xs) zero within e = absurd (let no_end : x ∷ xs ≡ [] = e in cc)
 past_of (x ∷ xs) (suc m) within e = let p = past_of xs m (omega (arith, within)) e in (p.0, omega (arith, p.1))
 
--- the first pass so far
-pub record ShapesSoFar (methods : List Method) (book : Book) (m : ℕ) (numbers : List ℕ) (cursor : BookCursor) : Type 0 where
-  pub within : m ≤ length book.lines
-  pub at : IsCursorAt cursor (record { table = book.table; lines = drop m book.lines })
-  pub counted : numbers ++ numbers_of (drop m book.lines) ≡ numbers_of book.lines
-  pub shaped : (k : ℕ) → k < m → IsShapedAt k (slice_get methods k) (slice_get book.lines k)
+-- the first pass so far, with the lines that are then still to come
+pub record ShapesSoFar (methods : List Method) (lines : List Line) (m : ℕ) (numbers : List ℕ) (rest : List Line) : Type 0 where
+  pub within : m ≤ length lines
+  pub at : rest ≡ drop m lines
+  pub counted : numbers ++ numbers_of (drop m lines) ≡ numbers_of lines
+  pub shaped : (k : ℕ) → k < m → IsShapedAt k (slice_get methods k) (slice_get lines k)
+
+pub no_shapes : (methods : List Method) (lines : List Line) → ShapesSoFar methods lines 0 [] lines
+no_shapes methods lines = record { within = omega arith; at = refl; counted = refl; shaped = λ k below. absurd (omega (arith, below)) }
 
 below_or : (k m : ℕ) → k < m + 1 → (k < m) ⊎ (k ≡ m)
 below_or zero zero h = inr refl
@@ -88,17 +89,16 @@ numbers_step old new n m line lines behind all pushed is rest counted =
     moved [] n ks = refl
     moved (k ∷ old) n ks = ap (λ z. k ∷ z) (moved old n ks)
 
-pub shape_more : (methods : List Method) (book : Book) (m n : ℕ) (old new : List ℕ) (cursor next : BookCursor) (method : Method) (rest : List Line) → rest ≡ drop m book.lines →
-    ShapesSoFar methods book m old cursor → slice_get methods m ≡ Some method → new ≡ old ++ (n ∷ []) →
-    IsShapeStep m method (record { table = book.table; lines = drop m book.lines }) rest (Ok n) next → ShapesSoFar methods book (m + 1) new next
-shape_more methods book m n old new cursor next method [] e so_far is pushed step = absurd step
-shape_more methods book m n old new cursor next method (line ∷ behind) e so_far is pushed step =
-    let f = front_of book.lines m line behind (sym e) in
+pub shape_more : {S : Type 0} (view : S → List Line) (methods : List Method) (lines : List Line) (m : ℕ) (old new : List ℕ) (rest : List Line) (x : ℕ × S) (method : Method) →
+    ShapesSoFar methods lines m old rest → slice_get methods m ≡ Some method → new ≡ old ++ (x.0 ∷ []) → IsShapeStep view m method rest (Ok x) → ShapesSoFar methods lines (m + 1) new (view x.1)
+shape_more view methods lines m old new [] x method so_far is pushed step = absurd step
+shape_more view methods lines m old new (line ∷ behind) x method so_far is pushed step =
+    let f = front_of lines m line behind (sym so_far.at) in
     record {
       within = omega (arith, f.below);
-      at = subst (λ ls. IsCursorAt next (record { table = book.table; lines = ls })) (sym f.behind) step.2;
-      counted = numbers_step old new n m line book.lines behind (numbers_of book.lines) pushed step.0 f.behind (ap (λ ls. old ++ numbers_of ls) e ∙ so_far.counted);
-      shaped = shaped_more methods book.lines m method line is f.here step.1 so_far.shaped;
+      at = step.2 ∙ sym f.behind;
+      counted = numbers_step old new x.0 m line lines behind (numbers_of lines) pushed step.0 f.behind (ap (λ ls. old ++ numbers_of ls) so_far.at ∙ so_far.counted);
+      shaped = shaped_more methods lines m method line is f.here step.1 so_far.shaped;
     }
 
 fault_here : (P : Program) (rel : ℕ → List PathData) (book : Book) (m : ℕ) (method : Option Method) (line : Option Line) (fault : Wrong) → slice_get P.methods m ≡ method → slice_get book.lines m ≡ line →
@@ -111,13 +111,12 @@ fault_here P rel book m method line (wrong.Table k) is at before f = absurd f
 fault_here P rel book m method line (wrong.Step k node) is at before f = absurd f
 fault_here P rel book m method line (wrong.Bound k) is at before f = absurd f
 
-pub shape_wrong : (P : Program) (rel : ℕ → List PathData) (book : Book) (m : ℕ) (numbers : List ℕ) (cursor next : BookCursor) (method : Method) (rest : List Line) (fault : Wrong) → rest ≡ drop m book.lines →
-    ShapesSoFar P.methods book m numbers cursor → slice_get P.methods m ≡ Some method →
-    IsShapeStep m method (record { table = book.table; lines = drop m book.lines }) rest (Err fault) next → IsWrong P rel book fault
-shape_wrong P rel book m numbers cursor next method [] fault e so_far is step =
-    fault_here P rel book m (Some method) None fault is (past_of book.lines m so_far.within (sym e)).0 so_far.shaped step
-shape_wrong P rel book m numbers cursor next method (line ∷ behind) fault e so_far is step =
-    fault_here P rel book m (Some method) (Some line) fault is (front_of book.lines m line behind (sym e)).here so_far.shaped step
+pub shape_wrong : {S : Type 0} (view : S → List Line) (P : Program) (rel : ℕ → List PathData) (book : Book) (m : ℕ) (numbers : List ℕ) (method : Method) (rest : List Line) (fault : Wrong) →
+    ShapesSoFar P.methods book.lines m numbers rest → slice_get P.methods m ≡ Some method → IsShapeStep view m method rest (Err fault) → IsWrong P rel book fault
+shape_wrong view P rel book m numbers method [] fault so_far is step =
+    fault_here P rel book m (Some method) None fault is (past_of book.lines m so_far.within (sym so_far.at)).0 so_far.shaped step
+shape_wrong view P rel book m numbers method (line ∷ behind) fault so_far is step =
+    fault_here P rel book m (Some method) (Some line) fault is (front_of book.lines m line behind (sym so_far.at)).here so_far.shaped step
 
 -- behind the last method
 nil : (xs : List ℕ) → xs ++ [] ≡ xs
@@ -133,26 +132,26 @@ shaped_past methods lines m size size_too before k = chosen (slice_get_cases met
     chosen (inl f) = before k (omega (arith, f.1, size))
     chosen (inr p) = subst (λ o. IsShapedAt k o (slice_get lines k)) (sym p.1) (subst (λ o. IsShapedAt k None o) (sym (slice_get_past lines k (omega (arith, p.0, size, size_too)))) tt)
 
-pub shapes_done : (P : Program) (rel : ℕ → List PathData) (book : Book) (m : ℕ) (numbers : List ℕ) (cursor next : BookCursor) (rest : List Line) → rest ≡ drop m book.lines →
-    ShapesSoFar P.methods book m numbers cursor → m ≡ length P.methods → IsNextLine (record { table = book.table; lines = drop m book.lines }) rest None next →
-    (numbers ≡ numbers_of book.lines) × (length book.lines ≡ length P.methods) × AreShaped P rel book
-shapes_done P rel book m numbers cursor next [] e so_far size step =
+pub shapes_done : (P : Program) (rel : ℕ → List PathData) (book : Book) (m : ℕ) (numbers : List ℕ) (rest : List Line) → rest ≡ [] →
+    ShapesSoFar P.methods book.lines m numbers rest → m ≡ length P.methods → (numbers ≡ numbers_of book.lines) × (length book.lines ≡ length P.methods) × AreShaped P rel book
+shapes_done P rel book m numbers rest none so_far size =
+    let e : [] ≡ drop m book.lines = sym none ∙ so_far.at in
     let past = past_of book.lines m so_far.within (sym e) in
     (sym (nil numbers) ∙ ap (λ ls. numbers ++ numbers_of ls) e ∙ so_far.counted, sym past.1 ∙ size, shaped_past P.methods book.lines m size past.1 so_far.shaped)
-shapes_done P rel book m numbers cursor next (line ∷ behind) e so_far size step = absurd step
 
-pub shapes_more_lines : (P : Program) (rel : ℕ → List PathData) (book : Book) (m : ℕ) (numbers : List ℕ) (cursor next : BookCursor) (view : MethodView) (rest : List Line) → rest ≡ drop m book.lines →
-    ShapesSoFar P.methods book m numbers cursor → m ≡ length P.methods → IsNextLine (record { table = book.table; lines = drop m book.lines }) rest (Some view) next →
-    IsWrong P rel book (wrong.Shape m 0)
-shapes_more_lines P rel book m numbers cursor next view [] e so_far size step = absurd step
-shapes_more_lines P rel book m numbers cursor next view (line ∷ behind) e so_far size step =
-    fault_here P rel book m None (Some line) (wrong.Shape m 0) (slice_get_past P.methods m (omega (arith, size))) (front_of book.lines m line behind (sym e)).here so_far.shaped (refl, refl)
+pub shapes_more_lines : (P : Program) (rel : ℕ → List PathData) (book : Book) (m : ℕ) (numbers : List ℕ) (rest behind : List Line) (line : Line) → rest ≡ line ∷ behind →
+    ShapesSoFar P.methods book.lines m numbers rest → m ≡ length P.methods → IsWrong P rel book (wrong.Shape m 0)
+shapes_more_lines P rel book m numbers rest behind line some so_far size =
+    fault_here P rel book m None (Some line) (wrong.Shape m 0) (slice_get_past P.methods m (omega (arith, size))) (front_of book.lines m line behind (sym so_far.at ∙ some)).here so_far.shaped (refl, refl)
 
--- the second pass so far
-pub record LinesSoFar (judge : Judge) (book : Book) (m : ℕ) (cursor : BookCursor) : Type 0 where
-  pub within : m ≤ length book.lines
-  pub at : IsCursorAt cursor (record { table = book.table; lines = drop m book.lines })
-  pub good : AreGoodLines judge book m
+-- the second pass so far, with the lines that are then still to come
+pub record LinesSoFar (judge : Judge) (lines : List Line) (m : ℕ) (rest : List Line) : Type 0 where
+  pub within : m ≤ length lines
+  pub at : rest ≡ drop m lines
+  pub good : AreGoodLines judge (record { table = []; lines = lines }) m
+
+pub no_lines : (judge : Judge) (lines : List Line) → LinesSoFar judge lines 0 lines
+no_lines judge lines = record { within = omega arith; at = refl; good = λ k method line below is at. absurd (omega (arith, below)) }
 
 some_same : {A : Type 0} (x y : A) → Some x ≡ Some y → x ≡ y
 some_same x y e = cc
@@ -171,35 +170,25 @@ good_more judge book m method line is at good before = λ k other own below othe
         (subst (λ x. IsGoodLine (judge_program judge) (judge_rel judge) (judge_table judge) (judge_assignment judge) m x own) same_method
         (subst (λ l. IsGoodLine (judge_program judge) (judge_rel judge) (judge_table judge) (judge_assignment judge) m method l) same_line good))
 
-pub line_more : (judge : Judge) (book : Book) (m : ℕ) (cursor next : BookCursor) (method : Method) (u : Unit {0}) (rest : List Line) → rest ≡ drop m book.lines →
-    LinesSoFar judge book m cursor → slice_get (judge_program judge).methods m ≡ Some method →
-    IsLineStep judge m method (record { table = book.table; lines = drop m book.lines }) rest (Ok u) next → LinesSoFar judge book (m + 1) next
-line_more judge book m cursor next method u [] e so_far is step = absurd step
-line_more judge book m cursor next method u (line ∷ behind) e so_far is step =
-    let f = front_of book.lines m line behind (sym e) in
+pub line_more : {S : Type 0} (view : S → List Line) (judge : Judge) (lines : List Line) (m : ℕ) (method : Method) (rest : List Line) (x : S) →
+    LinesSoFar judge lines m rest → slice_get (judge_program judge).methods m ≡ Some method → IsLineStep view judge m method rest (Ok x) → LinesSoFar judge lines (m + 1) (view x)
+line_more view judge lines m method [] x so_far is step = absurd step
+line_more view judge lines m method (line ∷ behind) x so_far is step =
+    let f = front_of lines m line behind (sym so_far.at) in
     record {
       within = omega (arith, f.below);
-      at = subst (λ ls. IsCursorAt next (record { table = book.table; lines = ls })) (sym f.behind) step.1;
-      good = good_more judge book m method line is f.here step.0 so_far.good;
+      at = step.1 ∙ sym f.behind;
+      good = good_more judge (record { table = []; lines = lines }) m method line is f.here step.0 so_far.good;
     }
 
-pub line_wrong : (judge : Judge) (book : Book) (m : ℕ) (cursor next : BookCursor) (method : Method) (fault : Wrong) (rest : List Line) → rest ≡ drop m book.lines →
-    LinesSoFar judge book m cursor → slice_get (judge_program judge).methods m ≡ Some method →
-    IsLineStep judge m method (record { table = book.table; lines = drop m book.lines }) rest (Err fault) next → (fault ≡ wrong.Memory) ⊎ IsWrongLine judge book fault
-line_wrong judge book m cursor next method fault [] e so_far is step = inl step
-line_wrong judge book m cursor next method fault (line ∷ behind) e so_far is (inl memory) = inl memory
-line_wrong judge book m cursor next method fault (line ∷ behind) e so_far is (inr verdict) =
-    let f = front_of book.lines m line behind (sym e) in
+pub line_wrong : {S : Type 0} (view : S → List Line) (judge : Judge) (table : List Cond) (lines : List Line) (m : ℕ) (method : Method) (rest : List Line) (fault : Wrong) →
+    LinesSoFar judge lines m rest → slice_get (judge_program judge).methods m ≡ Some method → IsLineStep view judge m method rest (Err fault) →
+    (fault ≡ wrong.Memory) ⊎ IsWrongLine judge (record { table = table; lines = lines }) fault
+line_wrong view judge table lines m method [] fault so_far is step = inl step
+line_wrong view judge table lines m method (line ∷ behind) fault so_far is (inl memory) = inl memory
+line_wrong view judge table lines m method (line ∷ behind) fault so_far is (inr verdict) =
+    let f = front_of lines m line behind (sym so_far.at) in
     inr (record { position = m; before = so_far.good; method = method; line = line; method_is = is; line_is = f.here; verdict = verdict })
-
--- a cursor goes on at some book
-pub shape_at : (m n : ℕ) (method : Method) (book : Book) (lines : List Line) (new : BookCursor) → IsShapeStep m method book lines (Ok n) new → (b : Book) × IsCursorAt new b
-shape_at m n method book [] new step = absurd step
-shape_at m n method book (line ∷ lines) new step = (record { table = book.table; lines = lines }, step.2)
-
-pub line_at : (judge : Judge) (m : ℕ) (method : Method) (u : Unit {0}) (book : Book) (lines : List Line) (new : BookCursor) → IsLineStep judge m method book lines (Ok u) new → (b : Book) × IsCursorAt new b
-line_at judge m method u book [] new step = absurd step
-line_at judge m method u book (line ∷ lines) new step = (record { table = book.table; lines = lines }, step.1)
 
 -- the method at a place
 pub method_front : (methods : List Method) (m : ℕ) (rest others : List CoreMethod) (method : CoreMethod) → map method_of rest ≡ drop m methods → rest ≡ method ∷ others →

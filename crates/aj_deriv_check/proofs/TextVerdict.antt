@@ -58,3 +58,22 @@ module _ (P : Program) (rel : ℕ → List PathData) (bytes : List ℕ) where
       chosen : (v ≡ wrong.Memory) ⊎ (v ≢ wrong.Memory) → text.Wrong v ≡ text.Wrong wrong.Memory
       chosen (inl memory) = ap (λ z. text.Wrong z) memory
       chosen (inr other) = absurd (good_no_wrong P rel book v other good (subst (λ b. IsWrong P rel b v) (same_book judged.0 book judged.1 is) judged.2))
+
+-- what was judged of a book is all that is true of it
+module _ (P : Program) (rel : ℕ → List PathData) (book : Book) where
+  pub taken_no_wrong : (w : Wrong) → IsGoodBook P rel book → w ≢ wrong.Memory → IsWrong P rel book w → ⊥
+  taken_no_wrong w good some bad = good_no_wrong P rel book w some good bad
+
+  pub refused_wrong : (v w : Wrong) → IsWrong P rel book v → w ≢ wrong.Memory → IsWrong P rel book w → (v ≡ w) ⊎ (v ≡ wrong.Memory)
+  refused_wrong v w judged some bad = chosen (memory_or v)
+    where
+      chosen : (v ≡ wrong.Memory) ⊎ (v ≢ wrong.Memory) → (v ≡ w) ⊎ (v ≡ wrong.Memory)
+      chosen (inl memory) = inr memory
+      chosen (inr other) = inl (one_wrong P rel book v w other some judged bad)
+
+  pub refused_good : (v : Wrong) → IsWrong P rel book v → IsGoodBook P rel book → v ≡ wrong.Memory
+  refused_good v judged good = chosen (memory_or v)
+    where
+      chosen : (v ≡ wrong.Memory) ⊎ (v ≢ wrong.Memory) → v ≡ wrong.Memory
+      chosen (inl memory) = memory
+      chosen (inr other) = absurd (good_no_wrong P rel book v other good judged)

@@ -4,8 +4,6 @@ use Rattle.std.specs.Global.{Global}
 use Rattle.aj_paths.specs.Paths.{PathData}
 use Rattle.aj_core.specs.Core.{Program, Method}
 use Rattle.aj_deriv.specs.Books.{Line, Book}
-use Rattle.aj_deriv.specs.Views.{IsCursorAt}
-use Rattle.aj_deriv.specs.declared.cursor.BookCursor.{BookCursor}
 use Rattle.aj_deriv_check.specs.declared.wrong.Wrong.{Wrong}
 use Rattle.aj_deriv_check.specs.declared.wrong.Wrong.TheVariants as wrong
 use Rattle.aj_deriv_check.specs.declared.judge.Judge.{Judge}
@@ -21,13 +19,12 @@ IsShapeFault m method line (wrong.Table k) = ⊥
 IsShapeFault m method line (wrong.Step k node) = ⊥
 IsShapeFault m method line (wrong.Bound k) = ⊥
 
--- the shape of the next method line: the number of its tree, and the lines that are then still to come
-abbrev pub IsShapeStep : ℕ → Method → Book → List Line → Result ℕ Wrong → BookCursor → Type 0
-IsShapeStep m method book [] (Ok n) new = ⊥
-IsShapeStep m method book [] (Err fault) new = IsShapeFault m (Some method) None fault
-IsShapeStep m method book (line ∷ lines) (Ok n) new =
-    (n ≡ line.number) × IsShaped m method line × IsCursorAt new (record { table = book.table; lines = lines })
-IsShapeStep m method book (line ∷ lines) (Err fault) new = IsShapeFault m (Some method) (Some line) fault
+-- the shape of the first of some method lines, seen by view: the number of its tree, and the lines that are then still to come
+abbrev pub IsShapeStep : {S : Type 0} → (S → List Line) → ℕ → Method → List Line → Result (ℕ × S) Wrong → Type 0
+IsShapeStep view m method [] (Ok x) = ⊥
+IsShapeStep view m method [] (Err fault) = IsShapeFault m (Some method) None fault
+IsShapeStep view m method (line ∷ lines) (Ok x) = (x.0 ≡ line.number) × IsShaped m method line × (view x.1 ≡ lines)
+IsShapeStep view m method (line ∷ lines) (Err fault) = IsShapeFault m (Some method) (Some line) fault
 
 -- the numbers of the trees of method lines
 abbrev pub numbers_of : List Line → List ℕ
@@ -44,14 +41,13 @@ abbrev pub IsVerdict : Program → (ℕ → List PathData) → Book → Result (
 IsVerdict P rel book (Ok u) = IsGoodBook P rel book
 IsVerdict P rel book (Err fault) = IsWrong P rel book fault
 
--- the judgement of the next method line, and the lines that are then still to come; want of memory says nothing
-abbrev pub IsLineStep : Judge → ℕ → Method → Book → List Line → Result (Unit {0}) Wrong → BookCursor → Type 0
-IsLineStep judge m method book [] (Ok u) new = ⊥
-IsLineStep judge m method book [] (Err fault) new = fault ≡ wrong.Memory
-IsLineStep judge m method book (line ∷ lines) (Ok u) new =
-    IsGoodLine (judge_program judge) (judge_rel judge) (judge_table judge) (judge_assignment judge) m method line
-    × IsCursorAt new (record { table = book.table; lines = lines })
-IsLineStep judge m method book (line ∷ lines) (Err fault) new =
+-- the judgement of the first of some method lines, and the lines that are then still to come; want of memory says nothing
+abbrev pub IsLineStep : {S : Type 0} → (S → List Line) → Judge → ℕ → Method → List Line → Result S Wrong → Type 0
+IsLineStep view judge m method [] (Ok x) = ⊥
+IsLineStep view judge m method [] (Err fault) = fault ≡ wrong.Memory
+IsLineStep view judge m method (line ∷ lines) (Ok x) =
+    IsGoodLine (judge_program judge) (judge_rel judge) (judge_table judge) (judge_assignment judge) m method line × (view x ≡ lines)
+IsLineStep view judge m method (line ∷ lines) (Err fault) =
     (fault ≡ wrong.Memory) ⊎ IsLineVerdict (judge_program judge) (judge_rel judge) (judge_table judge) (judge_assignment judge) m method line (Some fault)
 
 -- every line before this position is good

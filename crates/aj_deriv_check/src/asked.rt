@@ -11,7 +11,7 @@ ghost use Rattle.aj_deriv_check.specs.Walks.{part_of};
 
 use crate::judge::Judge;
 use crate::lookups::conclusion;
-use crate::parts::{BodyPart, inner_parts, same_length, word as word_of};
+use crate::parts::{BodyPart, inner_parts, part_word, same_length};
 use crate::rules::{expr_rule, stmt_rule};
 use crate::values::below;
 use crate::walk::Asked;
@@ -29,7 +29,7 @@ fn fits<F: Nodes>(part: BodyPart<'_>, word: Word, number: u32, premises: F) -> b
     requires { F.AreKept premises }
     ensures { (result ≡ true) ↔ Fits (record { part = part_of part.entry; at = node word number (F.nodes premises) }) }
 {
-    let same_word = word == word_of(part);
+    let same_word = word == part_word(part);
     let same_count = same_length(inner_parts(part), premises);
     same_word && same_count
 }
@@ -66,7 +66,7 @@ fn numbers<F: Nodes>(alloc: Global, nodes: F) -> Result<Vec<u32>, NoMemory>
 }
 
 /// The value that a part's rule gives, from the numbers of its premises' conclusions.
-fn rule(
+pub fn rule(
     alloc: Global,
     judge: &Judge<'_>,
     part: BodyPart<'_>,

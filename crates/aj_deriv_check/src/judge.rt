@@ -5,9 +5,9 @@ use aj_rules::RelevantSets;
 
 /// A program with its relevant sets, the table of a book, and for each method line the number of its tree.
 #[derive(Clone, Copy)]
-pub(crate) struct Judge<'a> {
-    pub(crate) program: &'a CoreProgram,
-    pub(crate) sets: &'a RelevantSets,
-    pub(crate) table: &'a [Tree],
-    pub(crate) lines: &'a [u32],
+pub struct Judge<'a> {
+    pub program: &'a CoreProgram,
+    pub sets: &'a RelevantSets,
+    pub table: &'a [Tree],
+    pub lines: &'a [u32],
 }

@@ -2,7 +2,7 @@
 //! accepted.
 #![tactic(auto)]
 
-mod accept;
+mod acceptance;
 mod asked;
 mod checked;
 mod judge;
@@ -16,6 +16,9 @@ mod values;
 mod walk;
 mod wrong;
 
-pub use accept::{RefusedText, accept_text};
+pub use acceptance::{Refused, RefusedText, accept, accept_text};
+pub use asked::rule;
 pub use checked::Checked;
+pub use judge::Judge;
+pub use parts::{BodyPart, Parts, inner_parts, part_word};
 pub use wrong::{TextWrong, Wrong};

@@ -10,14 +10,14 @@ use aj_deriv::{Nodes, Word};
 
 /// A part of a body.
 #[derive(Clone, Copy)]
-pub(crate) enum BodyPart<'a> {
+pub enum BodyPart<'a> {
     Expr(&'a CoreExpr),
     Stmt(&'a CoreStmt),
 }
 
 /// The parts of a part that are still to come, in order.
 #[derive(Clone, Copy)]
-pub(crate) enum Parts<'a> {
+pub enum Parts<'a> {
     End,
     One(BodyPart<'a>),
     Two(BodyPart<'a>, BodyPart<'a>),
@@ -66,7 +66,7 @@ fn stmt_word(s: &CoreStmt) -> Word
 }
 
 /// The word of a part's node.
-pub(crate) fn word(part: BodyPart<'_>) -> Word
+pub fn part_word(part: BodyPart<'_>) -> Word
     ensures { result ≡ word_of (part_of part.entry) }
 {
     match part {
@@ -118,7 +118,7 @@ fn stmt_parts(s: &CoreStmt) -> Parts<'_>
 }
 
 /// The parts that the premises of a part's node stand for.
-pub(crate) fn inner_parts(part: BodyPart<'_>) -> Parts<'_>
+pub fn inner_parts(part: BodyPart<'_>) -> Parts<'_>
     ensures { list_of result ≡ parts_of (part_of part.entry) }
 {
     match part {
@@ -129,7 +129,7 @@ pub(crate) fn inner_parts(part: BodyPart<'_>) -> Parts<'_>
 
 impl<'a> Parts<'a> {
     /// The first part, and the others.
-    pub(crate) fn first(self) -> Option<(BodyPart<'a>, Parts<'a>)>
+    pub fn first(self) -> Option<(BodyPart<'a>, Parts<'a>)>
         ensures none { IfNone result (list_of self.entry ≡ []) }
         ensures some { IfSome result (λ x. list_of self.entry ≡ part_of x.0 ∷ list_of x.1) }
     {

@@ -1,8 +1,7 @@
 //! The two passes over the method lines of a book: their shapes, and then method by method their trees, steps and bounds.
 ghost use Rattle.std.specs.Prelude.{◌≡◌, ◌↔◌, ◌+◌, ℕ, List, true, IfOk};
 ghost use Rattle.aj_core.specs.Views.{method_of, program_of};
-ghost use Rattle.aj_deriv.specs.Books.{Book};
-ghost use Rattle.aj_deriv.specs.Views.{IsCursorAt};
+ghost use Rattle.aj_cond.specs.Conditions.{Cond};
 ghost use Rattle.aj_paths.specs.Paths.{PathData};
 ghost use Rattle.aj_deriv_check.specs.Judges.{judge_table, AreCanonical};
 ghost use Rattle.aj_deriv_check.specs.Passes.{AreAllShaped, AreLinesJudged, IsLineStep, IsShapeStep};
@@ -14,7 +13,7 @@ use crate::parts::BodyPart;
 use crate::walk::{End, walk_node};
 use crate::wrong::Wrong;
 use aj_core::{CoreMethod, CoreProgram};
-use aj_deriv::BookCursor;
+use aj_deriv::Lines;
 use aj_paths::MethodId;
 use std::alloc::{AllocError as NoMemory, Global};
 
@@ -25,35 +24,28 @@ fn is_method(id: MethodId, m: u32) -> bool
     id == MethodId(m)
 }
 
-/// The number of the tree of the next method line, where it is the line of this method, which has this position, and has the shape
-/// of its body.
-fn next_shape(
+/// The number of the tree of the first method line, and the other lines, where the first is the line of this method, which has this
+/// position, and has the shape of its body.
+fn next_shape<L: Lines>(
     alloc: Global,
     m: u32,
     method: &CoreMethod,
-    cursor: &mut BookCursor<'_>,
-) -> Result<u32, Wrong>
-    requires { (book : Book) × IsCursorAt cursor.old book }
-    ensures { (book : Book) → IsCursorAt cursor.old book → IsShapeStep m (method_of method.now) book book.lines result cursor.new }
+    from: L,
+) -> Result<(u32, L), Wrong>
+    requires { L.AreLinesKept from }
+    ensures step { IsShapeStep L.lines m (method_of method.now) (L.lines from) result }
+    ensures kept { IfOk result (λ x. L.AreLinesKept x.1) }
 {
     let misshaped = Wrong::Shape { method: m, node: 0 };
-    let Some(line) = cursor.next_method() else {
+    let Some(line) = from.first_line() else {
         return Err(misshaped);
     };
     if !is_method(line.id, m) {
         return Err(misshaped);
     }
     let body = BodyPart::Stmt(&method.body);
-    match walk_node(
-        alloc,
-        &Shapes,
-        body,
-        line.node.word,
-        line.node.number,
-        line.node.premises(),
-        0,
-    )? {
-        End::Good(_) => Ok(line.number),
+    match walk_node(alloc, &Shapes, body, line.word, line.node, line.premises, 0)? {
+        End::Good(_) => Ok((line.number, line.rest)),
         End::Bad(node) => Err(Wrong::Shape { method: m, node }),
     }
 }
@@ -69,45 +61,46 @@ fn next_position(m: u32) -> Result<u32, NoMemory>
 }
 
 /// The first pass: the shape of every position. Gives the numbers of the method lines' trees.
-pub(crate) fn shapes(
+pub(crate) fn shapes<L: Lines>(
     alloc: Global,
     program: &CoreProgram,
-    cursor: &BookCursor<'_>,
+    from: L,
 ) -> Result<Vec<u32>, Wrong>
-    requires { (book : Book) × IsCursorAt cursor.now book }
-    ensures { (rel : ℕ → List PathData) (book : Book) → IsCursorAt cursor.now book → AreAllShaped (program_of program.now) rel book result }
+    requires { L.AreLinesKept from }
+    ensures { (rel : ℕ → List PathData) (table : List Cond) → AreAllShaped (program_of program.now) rel (record { table = table; lines = L.lines from }) result }
 {
-    let mut ahead = *cursor;
+    let mut ahead = from;
     let mut numbers = Vec::new(alloc);
     let mut rest = program.methods();
     let mut m = 0;
     'methods: while let Some((method, others)) = rest.split_first() {
-        let number = match next_shape(alloc, m, method, &mut ahead) {
-            Ok(number) => number,
+        let next = match next_shape(alloc, m, method, ahead) {
+            Ok(next) => next,
             Err(wrong) => return Err(wrong),
         };
-        numbers.push(number)?;
+        numbers.push(next.0)?;
+        ahead = next.1;
         rest = others;
         m = next_position(m)?;
     }
-    match ahead.next_method() {
+    match ahead.first_line() {
         None => Ok(numbers),
         Some(_) => Err(Wrong::Shape { method: m, node: 0 }),
     }
 }
 
 /// The second pass: method by method the tree, the steps and the bound of its line.
-pub(crate) fn lines(alloc: Global, judge: &Judge<'_>, cursor: &BookCursor<'_>) -> Result<(), Wrong>
-    requires at { (book : Book) × IsCursorAt cursor.now book }
+pub(crate) fn lines<L: Lines>(alloc: Global, judge: &Judge<'_>, from: L) -> Result<(), Wrong>
+    requires kept { L.AreLinesKept from }
     requires canonical { AreCanonical (judge_table judge.now) }
-    ensures { (book : Book) → IsCursorAt cursor.now book → AreLinesJudged judge.now book result }
+    ensures { (table : List Cond) → AreLinesJudged judge.now (record { table = table; lines = L.lines from }) result }
 {
-    let mut ahead = *cursor;
+    let mut ahead = from;
     let mut rest = judge.program.methods();
     let mut m = 0;
     'methods: while let Some((method, others)) = rest.split_first() {
-        match next_verdict(alloc, judge, m, method, &mut ahead) {
-            Ok(()) => (),
+        match next_verdict(alloc, judge, m, method, ahead) {
+            Ok(behind) => ahead = behind,
             Err(wrong) => return Err(wrong),
         }
         rest = others;
@@ -116,33 +109,33 @@ pub(crate) fn lines(alloc: Global, judge: &Judge<'_>, cursor: &BookCursor<'_>) -
     Ok(())
 }
 
-/// The judgement of the next method line, which is that of this method, at this position.
-fn next_verdict(
+/// The judgement of the first method line, which is that of this method, at this position; and the other lines.
+fn next_verdict<L: Lines>(
     alloc: Global,
     judge: &Judge<'_>,
     m: u32,
     method: &CoreMethod,
-    cursor: &mut BookCursor<'_>,
-) -> Result<(), Wrong>
-    requires at { (book : Book) × IsCursorAt cursor.old book }
+    from: L,
+) -> Result<L, Wrong>
+    requires kept { L.AreLinesKept from }
     requires canonical { AreCanonical (judge_table judge.now) }
-    ensures { (book : Book) → IsCursorAt cursor.old book → IsLineStep judge.now m (method_of method.now) book book.lines result cursor.new }
+    ensures step { IsLineStep L.lines judge.now m (method_of method.now) (L.lines from) result }
+    ensures kept { IfOk result L.AreLinesKept }
 {
-    let Some(line) = cursor.next_method() else {
+    let Some(line) = from.first_line() else {
         return Err(Wrong::Memory);
     };
-    let premises = line.node.premises();
     match line_verdict(
         alloc,
         judge,
         MethodId(m),
         method,
         line.number,
-        line.node.word,
-        line.node.number,
-        premises,
+        line.word,
+        line.node,
+        line.premises,
     )? {
         Some(wrong) => Err(wrong),
-        None => Ok(()),
+        None => Ok(line.rest),
     }
 }

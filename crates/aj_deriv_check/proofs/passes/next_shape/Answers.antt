@@ -1,27 +1,17 @@
--- The shape of the next line.
+-- The least node whose shape is wrong.
 use Rattle.std.proofs.Common.{subst}
 use Rattle.aj_core.specs.Views.{method_of}
+use Rattle.aj_deriv.specs.Books.{Line}
 use Rattle.aj_deriv.specs.Derivations.{node}
-use Rattle.aj_deriv.specs.Views.{nodes_in}
 use Rattle.aj_deriv_check.specs.Parts.{StmtP, places, Fits}
 use Rattle.aj_deriv_check.specs.Walks.{IsEnd}
-use Rattle.aj_deriv_check.proofs.VerdictLemmas.{next_kept, shape_good, shape_bad}
+use Rattle.aj_deriv_check.proofs.VerdictLemmas.{shape_bad}
 use Rattle.aj_deriv_check.proofs.passes.next_shape.Goals as goal
 
-pub walk_node-requires-clause-kept : goal.walk_node-requires-clause-kept
-walk_node-requires-clause-kept c =
-    next_kept c.requires.0 c.requires.0.lines c.in-Some.line c.next_method.new.self c.premises.result (c.in-Some.ensures c.requires.0 c.requires.1) c.premises.ensures
-
-pub returns-in-Good : goal.returns-in-Good
-returns-in-Good c = λ book at.
-    let view = c.in-Some.line in
-    shape_good book book.lines c.args.m c.in-Good.field-0 (method_of c.args.method.now) view c.next_method.new.self c.premises.result (c.in-Some.ensures book at)
-    (c.is_method.ensures.0 c.if-not-is_method.false) c.premises.ensures
-    (subst (λ e. IsEnd Fits (places (StmtP (method_of c.args.method.now).body) (node view.node.word view.node.number (nodes_in c.premises.result.rest.now))) 0 e) c.in-Good.is c.in_ok-walk_node.ensures)
-
-pub returns-in-Bad : goal.returns-in-Bad
-returns-in-Bad c = λ book at.
-    let view = c.in-Some.line in
-    shape_bad book book.lines c.args.m c.in-Bad.node (method_of c.args.method.now) view c.next_method.new.self c.premises.result (c.in-Some.ensures book at)
-    (c.is_method.ensures.0 c.if-not-is_method.false) c.premises.ensures
-    (subst (λ e. IsEnd Fits (places (StmtP (method_of c.args.method.now).body) (node view.node.word view.node.number (nodes_in c.premises.result.rest.now))) 0 e) c.in-Bad.is c.in_ok-walk_node.ensures)
+pub returns-in-Bad-clause-step : goal.returns-in-Bad-clause-step
+returns-in-Bad-clause-step g c =
+    let f = c.in-Some.line in
+    let line : Line = record { id = f.id; number = f.number; body = node f.word f.node (g.L.Premises.Nodes.nodes f.premises) } in
+    let method = method_of c.args.method.now in
+    shape_bad g.L.Lines.lines c.args.m method (g.L.Lines.lines c.args.from) (g.L.Lines.lines f.rest) line c.in-Bad.node c.in-Some.ensures.some (c.is_method.ensures.0 c.if-not-is_method.false)
+    (subst (λ e. IsEnd Fits (places (StmtP method.body) line.body) 0 e) c.in-Bad.is c.in_ok-walk_node.ensures)

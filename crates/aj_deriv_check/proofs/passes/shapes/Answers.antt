@@ -1,48 +1,43 @@
 -- One line more, the first whose shape is wrong, and the end.
-use Rattle.std.proofs.Common.{arith, drop, refl, sym, ◌∙◌, ap, subst}
+use Rattle.std.proofs.Common.{arith, drop, sym, ◌∙◌, ap, subst}
 use Rattle.aj_core.specs.Views.{method_of, program_of}
-use Rattle.aj_deriv_check.proofs.PassLemmas.{ShapesSoFar, shape_more, shape_wrong, shape_at, shapes_done, shapes_more_lines, method_front, methods_end}
+use Rattle.aj_deriv_check.proofs.PassLemmas.{ShapesSoFar, shape_more, shape_wrong, shapes_done, shapes_more_lines, method_front, methods_end}
 use Rattle.aj_deriv_check.proofs.passes.shapes.Goals as goal
 
 pub returns-in-Err : goal.returns-in-Err
-returns-in-Err c = λ rel book at.
-    let P = program_of c.args.program.now in
-    let so_far = c.methods.invariant.goes book at in
-    let front = method_front P.methods c.methods.m c.methods.rest.now c.in-Some.others.now c.in-Some.method.now c.methods.invariant.methods c.in-Some.ensures.cases.0 in
-    shape_wrong P rel book c.methods.m c.methods.numbers.items c.methods.ahead c.next_shape.new.cursor (method_of c.in-Some.method.now) (drop c.methods.m book.lines) c.in-Err.wrong refl so_far front.here
-    (c.in-Err.ensures (record { table = book.table; lines = drop c.methods.m book.lines }) so_far.at)
-
-pub methods-preserved : goal.methods-preserved
-methods-preserved c =
+returns-in-Err g c = λ rel table.
     let P = program_of c.args.program.now in
     let inv = c.methods.invariant in
     let front = method_front P.methods c.methods.m c.methods.rest.now c.in-Some.others.now c.in-Some.method.now inv.methods c.in-Some.ensures.cases.0 in
+    shape_wrong g.L.Lines.lines P rel (record { table = table; lines = g.L.Lines.lines c.args.from }) c.methods.m c.methods.numbers.items (method_of c.in-Some.method.now) (g.L.Lines.lines c.methods.ahead) c.in-Err.wrong
+    inv.so_far front.here c.in-Err.ensures.step
+
+pub methods-preserved : goal.methods-preserved
+methods-preserved g c =
+    let P = program_of c.args.program.now in
+    let inv = c.methods.invariant in
+    let lines = g.L.Lines.lines c.args.from in
+    let front = method_front P.methods c.methods.m c.methods.rest.now c.in-Some.others.now c.in-Some.method.now inv.methods c.in-Some.ensures.cases.0 in
     let one = c.in_ok-m.ensures in
     record {
-      some = shape_at c.methods.m c.in-Ok.number (method_of c.in-Some.method.now) inv.some.0 inv.some.0.lines c.next_shape.new.cursor (c.in-Ok.ensures inv.some.0 inv.some.1);
+      kept = c.in-Ok.ensures.kept;
       methods = sym front.behind ∙ ap (λ k. drop k P.methods) (sym one);
       within = omega (arith, front.below, one);
-      goes = λ book at.
-          let so_far = inv.goes book at in
-          subst (λ k. ShapesSoFar P.methods book k c.push.new.self.items c.next_shape.new.cursor) (sym one)
-          (shape_more P.methods book c.methods.m c.in-Ok.number c.methods.numbers.items c.push.new.self.items c.methods.ahead c.next_shape.new.cursor (method_of c.in-Some.method.now) (drop c.methods.m book.lines) refl
-          so_far front.here c.in_ok-push.ensures.items (c.in-Ok.ensures (record { table = book.table; lines = drop c.methods.m book.lines }) so_far.at));
+      so_far = subst (λ k. ShapesSoFar P.methods lines k c.push.new.self.items (g.L.Lines.lines c.in-Ok.next.1)) (sym one)
+          (shape_more g.L.Lines.lines P.methods lines c.methods.m c.methods.numbers.items c.push.new.self.items (g.L.Lines.lines c.methods.ahead) c.in-Ok.next (method_of c.in-Some.method.now)
+          inv.so_far front.here c.in_ok-push.ensures.items c.in-Ok.ensures.step);
     }
 
 pub returns-in-None : goal.returns-in-None
-returns-in-None c = λ rel book at.
+returns-in-None g c = λ rel table.
     let P = program_of c.args.program.now in
     let inv = c.methods.invariant in
-    let so_far = inv.goes book at in
-    shapes_done P rel book c.methods.m c.methods.numbers.items c.methods.ahead c.next_method.new.self (drop c.methods.m book.lines) refl so_far
+    shapes_done P rel (record { table = table; lines = g.L.Lines.lines c.args.from }) c.methods.m c.methods.numbers.items (g.L.Lines.lines c.methods.ahead) c.in-None.ensures.none inv.so_far
     (methods_end P.methods c.methods.m c.methods.rest.now inv.methods c.in_default.ensures.cases inv.within)
-    (c.in-None.ensures (record { table = book.table; lines = drop c.methods.m book.lines }) so_far.at)
 
-pub returns-in-Some-next_method : goal.returns-in-Some-next_method
-returns-in-Some-next_method c = λ rel book at.
+pub returns-in-Some-first_line : goal.returns-in-Some-first_line
+returns-in-Some-first_line g c = λ rel table.
     let P = program_of c.args.program.now in
     let inv = c.methods.invariant in
-    let so_far = inv.goes book at in
-    shapes_more_lines P rel book c.methods.m c.methods.numbers.items c.methods.ahead c.next_method.new.self _ (drop c.methods.m book.lines) refl so_far
+    shapes_more_lines P rel (record { table = table; lines = g.L.Lines.lines c.args.from }) c.methods.m c.methods.numbers.items (g.L.Lines.lines c.methods.ahead) _ _ c.in-Some-first_line.ensures.some inv.so_far
     (methods_end P.methods c.methods.m c.methods.rest.now inv.methods c.in_default.ensures.cases inv.within)
-    (c.in-Some-next_method.ensures (record { table = book.table; lines = drop c.methods.m book.lines }) so_far.at)

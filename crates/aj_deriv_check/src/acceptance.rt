@@ -1,8 +1,10 @@
 //! Whether the text of a book is good for a program.
-ghost use Rattle.std.specs.Prelude.{◌≡◌, ◌≢◌, ◌≤◌, ◌⊎◌, length, Some, IfOk, IfErr, MatchResult};
+ghost use Rattle.std.specs.Prelude.{◌≡◌, ◌≢◌, ◌≤◌, ◌⊎◌, length, map, Some, IfOk, IfErr, MatchResult};
 ghost use Rattle.aj_core.specs.Typed.{IsTyped};
 ghost use Rattle.aj_core.specs.Views.{program_of};
-ghost use Rattle.aj_deriv.specs.Books.{Book};
+ghost use Rattle.aj_cond.specs.Conditions.{cond_of};
+ghost use Rattle.aj_deriv.specs.Books.{Book, AreTrees};
+ghost use Rattle.aj_deriv.specs.Memory.{book_of};
 ghost use Rattle.aj_deriv.specs.Views.{IsCursorAt};
 ghost use Rattle.aj_rules.specs.Near.{AreRelevant, rel_of};
 ghost use Rattle.aj_deriv.specs.Faults.{first_fault};
@@ -18,8 +20,9 @@ use crate::checked::Checked;
 use crate::judge::Judge;
 use crate::passes::{lines, shapes};
 use crate::wrong::{TextWrong, Wrong};
+use aj_cond::Tree;
 use aj_core::CoreProgram;
-use aj_deriv::BookCursor;
+use aj_deriv::{BookCursor, DerivBook, Lines, LinesInMemory};
 use aj_rules::RelevantSets;
 use std::alloc::Global;
 
@@ -31,31 +34,69 @@ pub struct RefusedText {
     pub why: TextWrong,
 }
 
-/// The judgement of a book for a program.
-fn judged_book(
+/// A program whose book was refused, with its relevant sets and the reason.
+#[derive(Drop)]
+pub struct Refused {
+    pub program: CoreProgram,
+    pub sets: RelevantSets,
+    pub why: Wrong,
+}
+
+/// The judgement of a book for a program, by its table and its method lines.
+fn judged_book<L: Lines>(
     alloc: Global,
     program: &CoreProgram,
     sets: &RelevantSets,
-    cursor: &BookCursor<'_>,
+    table: &[Tree],
+    from: L,
 ) -> Result<(), Wrong>
-    requires { (book : Book) × IsCursorAt cursor.now book }
-    ensures { (book : Book) → IsCursorAt cursor.now book → IsVerdict (program_of program.now) (rel_of sets.now) book result }
+    requires kept { L.AreLinesKept from }
+    requires trees { AreTrees (map cond_of table.now) }
+    ensures { IsVerdict (program_of program.now) (rel_of sets.now) (record { table = map cond_of table.now; lines = L.lines from }) result }
 {
-    let table = match cursor.table(alloc) {
-        Ok(table) => table,
-        Err(_) => return Err(Wrong::Memory),
-    };
-    let numbers = match shapes(alloc, program, cursor) {
+    let numbers = match shapes(alloc, program, from) {
         Ok(numbers) => numbers,
         Err(wrong) => return Err(wrong),
     };
     let judge = Judge {
         program,
         sets,
-        table: table.as_slice(),
+        table,
         lines: numbers.as_slice(),
     };
-    lines(alloc, &judge, cursor)
+    lines(alloc, &judge, from)
+}
+
+/// The judgement of the book at which a cursor stands.
+fn judged_text(
+    alloc: Global,
+    program: &CoreProgram,
+    sets: &RelevantSets,
+    cursor: BookCursor<'_>,
+) -> Result<(), Wrong>
+    requires { (book : Book) × IsCursorAt cursor book }
+    ensures { (book : Book) → IsCursorAt cursor.entry book → IsVerdict (program_of program.now) (rel_of sets.now) book result }
+{
+    let table = match cursor.table(alloc) {
+        Ok(table) => table,
+        Err(_) => return Err(Wrong::Memory),
+    };
+    judged_book(alloc, program, sets, table.as_slice(), cursor)
+}
+
+/// The judgement of a book in memory.
+fn judged_memory(
+    alloc: Global,
+    program: &CoreProgram,
+    sets: &RelevantSets,
+    book: &DerivBook,
+) -> Result<(), Wrong>
+    ensures { IsVerdict (program_of program.now) (rel_of sets.now) (book_of book.now) result }
+{
+    let lines = LinesInMemory {
+        lines: book.methods.as_slice(),
+    };
+    judged_book(alloc, program, sets, book.table.as_slice(), lines)
 }
 
 /// The judgement of a text for a program.
@@ -72,7 +113,7 @@ fn judged(
         Ok(cursor) => cursor,
         Err(fault) => return Err(TextWrong::Book(fault)),
     };
-    match judged_book(alloc, program, sets, &cursor) {
+    match judged_text(alloc, program, sets, cursor) {
         Ok(()) => Ok(()),
         Err(wrong) => Err(TextWrong::Wrong(wrong)),
     }
@@ -109,5 +150,34 @@ pub fn accept_text(
     match judged(alloc, &program, &sets, bytes) {
         Ok(()) => Ok(Checked { program, sets }),
         Err(why) => Err(RefusedText { program, sets, why }),
+    }
+}
+
+/// Checks a program by a book in memory, which may be anyone's. Hands program and sets back where it refuses.
+pub fn accept(
+    alloc: Global,
+    program: CoreProgram,
+    sets: RelevantSets,
+    book: &DerivBook,
+) -> Result<Checked, Refused>
+    requires typed { IsTyped (program_of program) }
+    requires relevant { AreRelevant (program_of program) sets }
+
+    // The program is checked, or the refusal hands it back with its cause.
+    ensures checked { IfOk result (λ checked. checked ≡ (program, sets)) }
+    ensures accepted { IfOk result (λ _. IsGoodBook (program_of program) (rel_of sets) (book_of book.now)) }
+    ensures program_back { IfErr result (λ refused. refused.program ≡ program) }
+    ensures sets_back { IfErr result (λ refused. refused.sets ≡ sets) }
+    ensures refused { IfErr result (λ refused. IsWrong (program_of program) (rel_of sets) (book_of book.now) refused.why) }
+
+    // What is wrong first is told, and a good book is taken, where there is memory.
+    ensures only_wrong { (fault : Wrong) → fault ≢ Wrong.Memory → IsWrong (program_of program) (rel_of sets) (book_of book.now) fault →
+        MatchResult result (λ _. ⊥) (λ refused. (refused.why ≡ fault) ⊎ (refused.why ≡ Wrong.Memory)) }
+    ensures only_good { IsGoodBook (program_of program) (rel_of sets) (book_of book.now) → IfErr result (λ refused. refused.why ≡ Wrong.Memory) }
+{
+    sets.few();
+    match judged_memory(alloc, &program, &sets, book) {
+        Ok(()) => Ok(Checked { program, sets }),
+        Err(why) => Err(Refused { program, sets, why }),
     }
 }

@@ -3,7 +3,7 @@ use Rattle.aj_core.specs.Views.{program_of}
 use Rattle.aj_rules.specs.Near.{rel_of}
 use Rattle.aj_deriv_check.proofs.Admissible.{book_accepts}
 use Rattle.aj_deriv_check.proofs.TextVerdict.{ok_no_fault, ok_no_wrong, err_fault, err_wrong, err_good}
-use Rattle.aj_deriv_check.proofs.accept.accept_text.Goals as goal
+use Rattle.aj_deriv_check.proofs.acceptance.accept_text.Goals as goal
 
 pub invariant_of-result : goal.invariant_of-result
 invariant_of-result c =

@@ -1,0 +1,9 @@
+-- The lemmas that several proofs share.
+mod Rows
+mod PoolLemmas
+mod ConcludeLemmas
+mod MoveLemmas
+mod PartSizes
+mod LineLemmas
+mod Whole
+mod Shown

@@ -1,0 +1,45 @@
+-- The book of all lines.
+use Rattle.std.proofs.Common.{length, map, sym, subst}
+use Rattle.aj_cond.specs.Conditions.{cond_of}
+use Rattle.aj_core.specs.Views.{program_of}
+use Rattle.aj_deriv.specs.Memory.{book_of, line_of}
+use Rattle.aj_deriv_check.specs.Good.{IsGoodBook}
+use Rattle.aj_derive.specs.Derived.{IsDerived}
+use Rattle.aj_derive.specs.Lines.{AreLinesOf}
+use Rattle.aj_derive.specs.Pools.{pool_table}
+use Rattle.aj_derive.proofs.Whole.{derived, written, good}
+use Rattle.aj_infer.proofs.Required.{required_in_rel}
+use Rattle.aj_rules.specs.Near.{rel_of}
+use Rattle.aj_derive.proofs.derive_book.derive.Goals as goal
+
+pub new-requires : goal.new-requires
+new-requires c =
+    let P = program_of c.args.program.now in
+    let rel = rel_of c.args.sets.now in
+    let trees = map cond_of c.args.inferred.now.methods.items in
+    let table = pool_table c.lines.new.pool in
+    let lines = map line_of c.in_ok-methods.methods.items in
+    let pool = c.in_ok-methods.ensures.pool in
+    let made = subst (λ own. AreLinesOf P rel (map cond_of own) (length P.methods) table lines) c.as_slice-own.ensures.value c.in_ok-methods.ensures.lines in
+    written P rel trees table lines made c.requires.count c.requires.typed c.requires.few pool.few pool.trees
+
+pub returns-clause-derived : goal.returns-clause-derived
+returns-clause-derived c =
+    let P = program_of c.args.program.now in
+    let rel = rel_of c.args.sets.now in
+    let trees = map cond_of c.args.inferred.now.methods.items in
+    let table = pool_table c.lines.new.pool in
+    let lines = map line_of c.in_ok-methods.methods.items in
+    let made = subst (λ own. AreLinesOf P rel (map cond_of own) (length P.methods) table lines) c.as_slice-own.ensures.value c.in_ok-methods.ensures.lines in
+    subst (λ book. IsDerived P rel trees (book_of book)) (sym c.new.ensures) (derived P rel trees table lines made c.requires.count c.in_ok-methods.ensures.pool.distinct)
+
+pub returns-clause-good : goal.returns-clause-good
+returns-clause-good c = λ keeps.
+    let P = program_of c.args.program.now in
+    let rel = rel_of c.args.sets.now in
+    let trees = map cond_of c.args.inferred.now.methods.items in
+    let table = pool_table c.lines.new.pool in
+    let lines = map line_of c.in_ok-methods.methods.items in
+    let made = subst (λ own. AreLinesOf P rel (map cond_of own) (length P.methods) table lines) c.as_slice-own.ensures.value c.in_ok-methods.ensures.lines in
+    subst (λ book. IsGoodBook P rel (book_of book)) (sym c.new.ensures)
+    (good P rel trees table lines made c.requires.count (λ m method is. required_in_rel P c.args.sets.now c.requires.relevant c.requires.typed m method is) c.requires.canonical keeps)

@@ -1,0 +1,48 @@
+-- What nodes conclude exactly.
+use Rattle.std.specs.Prelude.{◌≡◌, ℕ, zero, suc, ◌<◌, List, [], ◌∷◌, ◌++◌, map, length}
+use Rattle.aj_paths.specs.Paths.{PathData}
+use Rattle.aj_core.specs.Core.{Program}
+use Rattle.aj_core.specs.Views.{program_of}
+use Rattle.aj_cond.specs.Conditions.{Cond, cond_of}
+use Rattle.aj_rules.specs.Effect.{Assignment}
+use Rattle.aj_rules.specs.Near.{rel_of}
+use Rattle.aj_deriv.specs.Derivations.{Node, node, Nodes, no_nodes, and_node}
+use Rattle.aj_deriv_check.specs.Parts.{Part, parts_of, Fits}
+use Rattle.aj_deriv_check.specs.Good.{table_value, IsExact}
+use Rattle.aj_derive.specs.declared.basis.Basis.{Basis}
+use Rattle.aj_derive.specs.Derived.{trees_assign}
+
+module _ (P : Program) (rel : ℕ → List PathData) (A : Assignment) (table : List Cond) where
+  abbrev mutual
+    -- each node stands for its part, has a number in the table, and concludes exactly its rule's value
+    pub Concludes : Part → Node → Type 0
+    Concludes part (node w n ds) =
+        (n < length table) × Fits (record { part = part; at = node w n ds }) × IsExact P rel (table_value table) A (record { part = part; at = node w n ds })
+        × ConcludeAll (parts_of part) ds
+
+    pub ConcludeAll : List Part → Nodes → Type 0
+    ConcludeAll [] no_nodes = Unit {0}
+    ConcludeAll [] (and_node d ds) = ⊥
+    ConcludeAll (x ∷ xs) no_nodes = ⊥
+    ConcludeAll (x ∷ xs) (and_node d ds) = Concludes x d × ConcludeAll xs ds
+
+-- so many numbers from this one on
+abbrev pub numbers_from : ℕ → ℕ → List ℕ
+numbers_from first zero = []
+numbers_from first (suc count) = first ∷ numbers_from (suc first) count
+
+-- the trees that are assigned to the methods
+abbrev pub own_trees : Basis → List Cond
+own_trees basis = map cond_of basis.own.now
+
+-- a table begins with these trees
+pub record BeginsWith (front table : List Cond) : Type 0 where
+  pub behind : List Cond
+  pub is : table ≡ front ++ behind
+
+-- a part of a body is concluded over the trees of a basis
+abbrev pub ConcludesOn : Basis → List Cond → Part → Node → Type 0
+ConcludesOn basis table part d = Concludes (program_of basis.program.now) (rel_of basis.sets.now) (trees_assign (own_trees basis)) table part d
+
+abbrev pub ConcludeAllOn : Basis → List Cond → List Part → Nodes → Type 0
+ConcludeAllOn basis table parts ds = ConcludeAll (program_of basis.program.now) (rel_of basis.sets.now) (trees_assign (own_trees basis)) table parts ds

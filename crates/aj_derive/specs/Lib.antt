@@ -1,0 +1,7 @@
+-- What the contracts of deriving books cite. To read the contract: Derived. The others are what the private functions cite: Pools,
+-- Concluded, Moved, Lines.
+pub mod Derived
+pub mod Pools
+pub mod Concluded
+pub mod Moved
+pub mod Lines

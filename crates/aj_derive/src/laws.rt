@@ -1,0 +1,16 @@
+//! The law of the trees from which good books are derived.
+ghost use Rattle.std.specs.Prelude.{◌≡◌, ℕ, List, length, Some, slice_get};
+ghost use Rattle.aj_paths.specs.Paths.{PathData};
+ghost use Rattle.aj_algebra.specs.HeldPaths.{Held};
+ghost use Rattle.aj_core.specs.Core.{Program};
+ghost use Rattle.aj_cond.specs.Conditions.{Cond, value_of};
+ghost use Rattle.aj_rules.specs.Effect.{Assignment};
+ghost use Rattle.aj_infer.specs.Least.{IsLeast};
+ghost use Rattle.aj_infer.specs.Verdicts.{HoldBounds};
+ghost use Rattle.aj_derive.specs.Derived.{trees_assign, KeepsRules};
+
+/// Trees that show the least closed assignment keep the rules where it keeps every bound: so a good book is derived of them.
+pub fn shown_trees_law()
+    ensures { (P : Program) (rel : ℕ → List PathData) (A : Assignment) (trees : List Cond) → IsLeast P rel A → HoldBounds P A → length trees ≡ length P.methods →
+        ((m : ℕ) (tree : Cond) → slice_get trees m ≡ Some tree → (H : Held) → value_of tree H ≡ A m H) → KeepsRules P rel (trees_assign trees) }
+{}

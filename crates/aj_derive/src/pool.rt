@@ -1,0 +1,88 @@
+//! Trees, each once, in order of first use.
+ghost use Rattle.std.specs.Prelude.{◌≡◌, ◌^◌, [], true, nat_lt, IfOk, OnOk};
+ghost use Rattle.std.specs.List.{list_all};
+ghost use Rattle.aj_cond.specs.Conditions.{cond_of, IsCanonical};
+ghost use Rattle.aj_deriv.specs.Books.{IsPath};
+ghost use Rattle.aj_derive.specs.Pools.{pool_table, IsAtMost, IsNumberIn, IsPool};
+
+use aj_cond::{Tree, tree_text};
+use aj_paths::{FieldId, Path};
+use indexmap::IndexSet;
+use std::alloc::{AllocError as NoMemory, Global};
+
+/// How many tests a tree of a table has within each other, at most; and one more.
+const BEYOND_HEIGHT: u32 = 65;
+
+/// Where the range of 32 bits ends.
+const NUMBERS_END: u64 = 1 << 32;
+
+/// Trees, each once, in order of first use, and the texts by which they are found.
+#[derive(Drop)]
+pub(crate) struct Pool {
+    pub(crate) trees: Vec<Tree>,
+    pub(crate) texts: IndexSet<String>,
+}
+
+/// Whether all numbers fit 32 bits, as they do.
+fn fields_fit(fields: &[FieldId]) -> bool
+    ensures { result ≡ list_all (λ f. nat_lt f (2 ^ 32)) fields.now }
+{
+    fields.iter().all(|field| (field.0 as u64) < NUMBERS_END)
+}
+
+/// Whether a path can be written.
+fn path_fits(path: &Path) -> bool
+    ensures { result ≡ true → IsPath path.now }
+{
+    let _root = path.root;
+    fields_fit(path.fields.as_slice())
+}
+
+/// Whether a tree has fewer than `room` tests within each other, on paths that can be written.
+fn fits(t: &Tree, room: u32) -> bool
+    ensures { result ≡ true → IsAtMost room (cond_of t.now) }
+{
+    if room == 0 {
+        return false;
+    }
+    match t {
+        Tree::Leaf(_) => true,
+        Tree::Test(path, a, b) => path_fits(path) && fits(a, room - 1) && fits(b, room - 1),
+    }
+}
+
+impl Pool {
+    /// No trees.
+    pub(crate) fn new(alloc: Global) -> Pool
+        ensures pool { IsPool result }
+        ensures none { pool_table result ≡ [] }
+    {
+        Pool {
+            trees: Vec::new(alloc),
+            texts: IndexSet::new(alloc),
+        }
+    }
+
+    /// The number of a tree, which is added where it isn't there. Want of memory is also the answer to a tree with more than 64 tests
+    /// within each other, and where no number is left.
+    pub(crate) fn number_of(&mut self, alloc: Global, tree: &Tree) -> Result<u32, NoMemory>
+        requires pool { IsPool self.old }
+        requires known { IsCanonical (cond_of tree.now) }
+        ensures pool { OnOk result (IsPool self.new) }
+        ensures number { IfOk result (λ n. IsNumberIn (pool_table self.old) (cond_of tree.now) n (pool_table self.new)) }
+    {
+        if !fits(tree, BEYOND_HEIGHT) {
+            return Err(NoMemory);
+        }
+        let number = self.trees.len();
+        if number >= u32::MAX as usize {
+            return Err(NoMemory);
+        }
+        let (place, is_new) = self.texts.insert_full(tree_text(alloc, tree)?)?;
+        if !is_new {
+            return Ok(place as u32);
+        }
+        self.trees.push(tree.copy(alloc)?)?;
+        Ok(number as u32)
+    }
+}
