@@ -3,3 +3,4 @@ pub mod SafeSteps
 pub mod UnitWords
 pub mod SafeRuns
 pub mod Theorem
+mod WatchedSteps

@@ -1,1 +1,2 @@
--- The contracts of safe runs cite the definitions of the crates below alone.
+-- The contracts of the laws cite the definitions of the crates below alone; those of `Watched` cite Watching.
+pub mod Watching

@@ -4,5 +4,7 @@
 
 pub mod examples;
 mod laws;
+mod watched;
 
 pub use laws::{guards_held, phases_give_words, reducible_words, safe_states};
+pub use watched::Watched;

@@ -1,0 +1,117 @@
+// A machine that runs a checked program, and the list of its steps.
+ghost use Rattle.std.specs.Prelude.{◌≡◌, ◌≢◌, ◌++◌, ◌∷◌, [], ◌<◌, ℕ, List, OnOk, OnErr, IfOk, IfErr};
+ghost use Rattle.aj_core.specs.Views.{program_of};
+ghost use Rattle.aj_state.specs.declared.value.StepKind.TheVariants.{Bare};
+ghost use Rattle.aj_state.specs.States.{State};
+ghost use Rattle.aj_compile.specs.IsCode.{IsCodeOf};
+ghost use Rattle.aj_steps.specs.Step.{outcome};
+ghost use Rattle.aj_machine.specs.declared.machine.StepEnd.TheVariants as ends;
+ghost use Rattle.aj_machine.specs.Standing.{program_run, StandsFor, IsSame};
+ghost use Rattle.aj_held.specs.Watching.{IsGuarded, IsWatchedTurn};
+
+use aj_compile::CodeTable;
+use aj_deriv_check::Checked;
+use aj_machine::{Machine, StepEnd};
+use aj_state::StepKind;
+use std::alloc::{AllocError as NoMemory, Global};
+use std::marker::Model;
+
+/// One more thread at the end of a list.
+fn list(steps: &mut Vec<u32>, thread: u32) -> Result<(), StepEnd>
+    ensures ok { OnOk result (steps.new.items ≡ steps.old.items ++ thread ∷ []) }
+    ensures kept { OnErr result (steps.new.items ≡ steps.old.items) }
+    ensures memory { IfErr result (λ e. e ≡ ends.NoMemory) }
+{
+    match steps.push(thread) {
+        Ok(()) => Ok(()),
+        Err(_) => Err(StepEnd::NoMemory),
+    }
+}
+
+/// The last thread of a list is taken off.
+fn unlist(steps: &mut Vec<u32>)
+    ensures { (before : List ℕ) (thread : ℕ) → steps.old.items ≡ before ++ thread ∷ [] → steps.new.items ≡ before }
+{
+    let _ = steps.pop();
+}
+
+/// A machine that runs a checked program, and the list of the steps that it made. Along that list no guard is missing, and
+/// the kinds of each atomic call's steps are a reducible word (Lipton 1975; Flanagan and Qadeer 2003).
+#[derive(Drop)]
+pub struct Watched<'p> {
+    machine: Machine<'p>,
+    steps: Vec<u32>,
+}
+
+impl<'p> Model for Watched<'p> {
+    ghost use Rattle.aj_core.specs.contracts.tree.CoreStmt as statement;
+    ghost use Rattle.std.specs.Coded.{codes};
+    ghost use Rattle.aj_machine.specs.MachineValue.{state_code};
+    ghost use Rattle.aj_held.specs.Watching.{WatchedValue, IsWatched};
+
+    ghost Value = { WatchedValue };
+
+    ghost coded = { Prim.hlevel (codes, statement.the_row.coded, state_code) };
+
+    ghost view = { λ w. (w.machine, w.steps.items) };
+
+    ghost invariant = { λ w. IsWatched w.machine w.steps.items };
+}
+
+impl<'p> Watched<'p> {
+    /// The machine of a checked program at the start, and no step.
+    pub fn start(
+        alloc: Global,
+        checked: &'p Checked,
+        code: &'p CodeTable,
+    ) -> Result<Watched<'p>, NoMemory>
+        requires { IsCodeOf (program_of checked.now.0) code.now.code.items code.now.entry.items code.now.room.items }
+        ensures program { IfOk result (λ w. program_run w.0 ≡ program_of checked.now.0) }
+        ensures steps { IfOk result (λ w. w.1 ≡ []) }
+    {
+        let machine = Machine::start(alloc, checked.program(), code)?;
+        Ok(Watched {
+            machine,
+            steps: Vec::new(alloc),
+        })
+    }
+
+    /// One step of a thread, and its kind, which is never Bare. A refusal leaves machine and list as they were.
+    pub fn step(&mut self, alloc: Global, thread: u32) -> Result<StepKind, StepEnd>
+        requires { self.old.0.made < 4294967295 }
+        ensures turn { (q : State) → StandsFor self.old.0 q → IsWatchedTurn thread result self.new.0 q (outcome (program_run self.old.0) q thread) }
+        ensures guarded { IfOk result (λ kind. kind ≢ Bare) }
+        ensures listed { OnOk result (self.new.1 ≡ self.old.1 ++ thread ∷ []) }
+        ensures kept { OnErr result (IsSame self.new.0 self.old.0) }
+        ensures unlisted { OnErr result (self.new.1 ≡ self.old.1) }
+        ensures program { self.new.0.program ≡ self.old.0.program }
+        ensures shown { IsGuarded self.new.0 self.new.1 }
+    {
+        let Some(kind) = self.machine.kind(thread) else {
+            return Err(self.machine.step(alloc, thread).unwrap_err());
+        };
+        list(&mut self.steps, thread)?;
+        match self.machine.step(alloc, thread) {
+            Ok(()) => Ok(kind),
+            Err(why) => {
+                unlist(&mut self.steps);
+                Err(why)
+            }
+        }
+    }
+
+    /// The threads whose steps were made, in order.
+    pub fn steps(&self) -> &[u32]
+        ensures steps { result.now ≡ self.now.1 }
+        ensures shown { IsGuarded self.now.0 self.now.1 }
+    {
+        self.steps.as_slice()
+    }
+
+    /// The machine.
+    pub fn machine(&self) -> &Machine<'p>
+        ensures { result.now ≡ self.now.0 }
+    {
+        &self.machine
+    }
+}
