@@ -6,13 +6,13 @@ use Rattle.aj_core.specs.Core.{Program}
 use Rattle.aj_state.specs.States.{State, initial}
 use Rattle.aj_steps.specs.Step.{Outcome, Moves, Absent, IsDone, HadFaulted, Waits, outcome, moved}
 use Rattle.aj_steps.specs.Units.{Entry, entry_then, entries_from, entries, added, is_of_thread, is_commit, units, commit_place, in_order, schedule_of, written_order}
-use Rattle.aj_order.specs.Sorted.{stands_at, commit_at, sorted_order}
+use Rattle.aj_order.specs.Sorted.{stands_at, commit_at, sort_by, sorted_order}
 use Rattle.aj_order.proofs.Insertions.{Each, each_more, each_left, each_right, each_both}
 use Rattle.aj_order.proofs.Blocks.{flat, IsSome, Keyed, Apart, order_flat, units_sorted}
 
 -- Places of a run ascend by one.
 
-abbrev Rises : ℕ → List Entry → Type 0
+abbrev pub Rises : ℕ → List Entry → Type 0
 Rises n [] = Unit {0}
 Rises n (e ∷ es) = (e.place ≡ n) × Rises (n + 1) es
 
@@ -29,7 +29,7 @@ entries_rise P q n (t ∷ s) = by (outcome P q t) (λ next. entries_rise P next 
 
 -- Units have entries, and different units different places.
 
-abbrev AllApart : List (List Entry) → Type 0
+abbrev pub AllApart : List (List Entry) → Type 0
 AllApart us = Apart (λ (e : Entry). e.place) us
 
 added_some : (e : Entry) (us : List (List Entry)) → Each IsSome us → Each IsSome (added e us)
@@ -85,7 +85,7 @@ less_next m n p e h = omega (arith, e, h)
 at_least : (m n : ℕ) → m ≡ n → n ≤ m
 at_least m n e = omega (arith, e)
 
-units_well : (es : List Entry) (n : ℕ) → Rises n es → Well n (units es)
+pub units_well : (es : List Entry) (n : ℕ) → Rises n es → Well n (units es)
 units_well [] n r = record { some = tt; above = tt; apart = tt }
 units_well (e ∷ es) n r = by e.inside (units_well es (n + 1) r.1)
   where
@@ -191,14 +191,18 @@ schedule_flat : (us : List (List Entry)) → schedule_of us ≡ map (λ (e : Ent
 schedule_flat [] = refl
 schedule_flat (u ∷ us) = ap (λ l. map (λ (e : Entry). e.thread) u ++ l) (schedule_flat us) ∙ sym (map_both u (flat us))
 
+-- Units in order are the entries sorted by any key that is the commit place of each entry's unit.
+pub units_by_key : (key : Entry → ℕ) (es : List Entry) → Rises 0 es → Each (Keyed key) (units es) → schedule_of (in_order (units es)) ≡ map (λ (e : Entry). e.thread) (sort_by key es)
+units_by_key key es r keyed =
+    let w = units_well es 0 r in
+    schedule_flat (in_order (units es)) ∙ ap (map (λ (e : Entry). e.thread)) (sym (order_flat key (units es) keyed) ∙ units_sorted key es (keys_apart key (units es) keyed w.apart))
+
 -- entries whose places ascend
 sorted_units : (es : List Entry) → Rises 0 es → schedule_of (in_order (units es)) ≡ sorted_order es
 sorted_units es r =
     let w = units_well es 0 r in
-    let keyed = keys_in (units es) (commit_at (units es)) w.some w.apart (each_all (λ (x : Entry). commit_at (units es) x.place ≡ commit_at (units es) x.place) (λ x. refl) (flat (units es))) in
-    schedule_flat (in_order (units es))
-    ∙ ap (map (λ (e : Entry). e.thread)) (sym (order_flat (λ (e : Entry). commit_at (units es) e.place) (units es) keyed)
-    ∙ units_sorted (λ (e : Entry). commit_at (units es) e.place) es (keys_apart (λ (e : Entry). commit_at (units es) e.place) (units es) keyed w.apart))
+    units_by_key (λ (e : Entry). commit_at (units es) e.place) es r
+    (keys_in (units es) (commit_at (units es)) w.some w.apart (each_all (λ (x : Entry). commit_at (units es) x.place ≡ commit_at (units es) x.place) (λ x. refl) (flat (units es))))
 
 pub written_sorted : (P : Program) (s : List ℕ) → written_order P s ≡ sorted_order (entries P s)
 written_sorted P s = sorted_units (entries P s) (entries_rise P (initial P) 0 s)

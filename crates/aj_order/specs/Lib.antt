@@ -1,2 +1,2 @@
--- What the contracts of the written order cite.
+-- What the contracts of the written order cite. The lemma files of proofs/ are public: crates above cite them.
 pub mod Sorted

@@ -1,0 +1,6 @@
+-- Lemmas on rewriting.
+mod Found
+mod StableSorts
+mod Endings
+mod Running
+mod Results

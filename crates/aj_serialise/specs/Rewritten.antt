@@ -1,0 +1,31 @@
+-- What comes of a schedule: it is rewritten, it stops, or it ends with a thread inside an atomic call.
+use Rattle.std.specs.Prelude.{◌≡◌, ℕ, List, Some, None}
+use Rattle.aj_core.specs.Core.{Program}
+use Rattle.aj_state.specs.States.{State, initial}
+use Rattle.aj_steps.specs.Run.{run, open_thread}
+use Rattle.aj_steps.specs.Units.{written_order}
+use Rattle.aj_rewrite.specs.Serial.{IsSerial}
+use Rattle.aj_machine.specs.Standing.{IsStopped}
+use Rattle.aj_serialise.specs.declared.serial_end.SerialEnd.{SerialEnd}
+use Rattle.aj_serialise.specs.declared.serial_end.SerialEnd.TheVariants as ends
+
+-- The schedule runs to a state with no thread inside an atomic call, and r is its written order: a rearrangement that runs to
+-- the same state, interrupts no atomic call, and leads every thread through the same frames and statuses.
+pub record IsRewritten (P : Program) (s r : List ℕ) : Type 0 where
+  pub end : State
+  pub ran : run P s ≡ Some end
+  pub closed : open_thread P end ≡ None
+  pub written : r ≡ written_order P s
+  pub serial : IsSerial P s r end
+
+-- the schedule runs to a state in which this is the least thread inside an atomic call
+pub record EndsInside (P : Program) (s : List ℕ) (thread : ℕ) : Type 0 where
+  pub end : State
+  pub ran : run P s ≡ Some end
+  pub least : open_thread P end ≡ Some thread
+
+-- when each refusal comes; of want of memory nothing is said
+abbrev pub IsRefused : Program → List ℕ → SerialEnd → Type 0
+IsRefused P s (ends.Stopped stopped) = IsStopped P (initial P) s stopped
+IsRefused P s (ends.Open thread) = EndsInside P s thread
+IsRefused P s ends.NoMemory = Unit {0}

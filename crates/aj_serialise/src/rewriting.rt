@@ -1,0 +1,89 @@
+// Rewriting a schedule.
+ghost use Rattle.std.specs.Prelude.{◌≡◌, ◌⊎◌, ◌≤◌, ℕ, length, Some, None, IfOk, IfErr, MatchResult};
+ghost use Rattle.aj_core.specs.Views.{program_of};
+ghost use Rattle.aj_core.specs.Typed.{IsTyped};
+ghost use Rattle.aj_rules.specs.Rules.{IsAccepted};
+ghost use Rattle.aj_state.specs.States.{State, initial};
+ghost use Rattle.aj_compile.specs.IsCode.{IsCodeOf};
+ghost use Rattle.aj_steps.specs.Run.{run, open_thread};
+ghost use Rattle.aj_machine.specs.declared.machine.Stopped.{Stopped};
+ghost use Rattle.aj_machine.specs.Standing.{IsStopped};
+ghost use Rattle.aj_serialise.specs.declared.serial_end.SerialEnd.TheVariants as ends;
+ghost use Rattle.aj_serialise.specs.Rewritten.{IsRewritten, EndsInside, IsRefused};
+
+use crate::order::in_order;
+use crate::run::run_noted;
+use crate::serial_end::SerialEnd;
+use aj_compile::CodeTable;
+use aj_core::CoreProgram;
+use aj_deriv_check::Checked;
+use aj_machine::Machine;
+use std::alloc::Global;
+
+/// Runs a schedule, and puts it in its written order.
+fn rewrite(
+    alloc: Global,
+    program: &CoreProgram,
+    code: &CodeTable,
+    schedule: &[u32],
+) -> Result<Vec<u32>, SerialEnd>
+    requires code { IsCodeOf (program_of program.now) code.now.code.items code.now.entry.items code.now.room.items }
+    requires typed { IsTyped (program_of program.now) }
+    requires accepted { IsAccepted (program_of program.now) }
+    requires size { length schedule.now ≤ 200000 }
+    ensures rewritten { IfOk result (λ r. IsRewritten (program_of program.now) schedule.now r.items) }
+    ensures refused { IfErr result (IsRefused (program_of program.now) schedule.now) }
+{
+    let mut machine = Machine::start(alloc, program, code)?;
+    let steps = run_noted(alloc, &mut machine, schedule)?;
+    match machine.open_thread() {
+        Some(thread) => Err(SerialEnd::Open { thread }),
+        None => Ok(in_order(alloc, &steps)?),
+    }
+}
+
+/// The written order of a schedule of an accepted program: the schedule with each atomic call in one piece, and the same end.
+/// The entries of a stop are counted from 1. A schedule that stops, or that ends with a thread inside an atomic call, isn't
+/// rewritten.
+pub fn rewritten(
+    alloc: Global,
+    program: &CoreProgram,
+    code: &CodeTable,
+    schedule: &[u32],
+) -> Result<Vec<u32>, SerialEnd>
+    requires code { IsCodeOf (program_of program.now) code.now.code.items code.now.entry.items code.now.room.items }
+    requires typed { IsTyped (program_of program.now) }
+    requires accepted { IsAccepted (program_of program.now) }
+    requires size { length schedule.now ≤ 200000 }
+    ensures rewritten { IfOk result (λ r. IsRewritten (program_of program.now) schedule.now r.items) }
+    ensures refused { IfErr result (IsRefused (program_of program.now) schedule.now) }
+    ensures rewrites { (q : State) → run (program_of program.now) schedule.now ≡ Some q → open_thread (program_of program.now) q ≡ None →
+        MatchResult result (λ r. IsRewritten (program_of program.now) schedule.now r.items) (λ e. e ≡ ends.NoMemory) }
+    ensures stops { (stopped : Stopped) → IsStopped (program_of program.now) (initial (program_of program.now)) schedule.now stopped →
+        MatchResult result (λ _. ⊥) (λ e. (e ≡ ends.Stopped stopped) ⊎ (e ≡ ends.NoMemory)) }
+    ensures opens { (thread : ℕ) → EndsInside (program_of program.now) schedule.now thread →
+        MatchResult result (λ _. ⊥) (λ e. (e ≡ ends.Open thread) ⊎ (e ≡ ends.NoMemory)) }
+{
+    rewrite(alloc, program, code, schedule)
+}
+
+/// The written order of a schedule of a checked program, as `rewritten` gives it.
+pub fn serialise(
+    alloc: Global,
+    checked: &Checked,
+    code: &CodeTable,
+    schedule: &[u32],
+) -> Result<Vec<u32>, SerialEnd>
+    requires code { IsCodeOf (program_of checked.now.0) code.now.code.items code.now.entry.items code.now.room.items }
+    requires size { length schedule.now ≤ 200000 }
+    ensures rewritten { IfOk result (λ r. IsRewritten (program_of checked.now.0) schedule.now r.items) }
+    ensures refused { IfErr result (IsRefused (program_of checked.now.0) schedule.now) }
+    ensures rewrites { (q : State) → run (program_of checked.now.0) schedule.now ≡ Some q → open_thread (program_of checked.now.0) q ≡ None →
+        MatchResult result (λ r. IsRewritten (program_of checked.now.0) schedule.now r.items) (λ e. e ≡ ends.NoMemory) }
+    ensures stops { (stopped : Stopped) → IsStopped (program_of checked.now.0) (initial (program_of checked.now.0)) schedule.now stopped →
+        MatchResult result (λ _. ⊥) (λ e. (e ≡ ends.Stopped stopped) ⊎ (e ≡ ends.NoMemory)) }
+    ensures opens { (thread : ℕ) → EndsInside (program_of checked.now.0) schedule.now thread →
+        MatchResult result (λ _. ⊥) (λ e. (e ≡ ends.Open thread) ⊎ (e ≡ ends.NoMemory)) }
+{
+    rewritten(alloc, checked.program(), code, schedule)
+}
