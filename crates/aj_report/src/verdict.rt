@@ -43,7 +43,7 @@ pub fn broken_text(alloc: Global, table: &ClassTable, broken: &Broken) -> Result
 }
 
 /// Writes a method's class and name with a point between, or nothing for a method that the table hasn't.
-fn write_title(line: &mut String, table: &ClassTable, method: MethodId) -> Result<(), NoMemory>
+pub fn write_title(line: &mut String, table: &ClassTable, method: MethodId) -> Result<(), NoMemory>
     ensures { OnOk result (string_bytes line.new ≡ string_bytes line.old ++ title_text (table_data table.now) method) }
 {
     let Some((class, name)) = table.method_name(method) else {

@@ -1,7 +1,8 @@
--- The lemmas that several proofs share.
+-- The lemmas that several proofs share. UniqueLemmas is public: crates above cite it.
 mod NumberLemmas
 mod FrontLemmas
 mod ReadLemmas
-mod UniqueLemmas
+pub mod UniqueLemmas
 mod FormLemmas
 mod WrittenLemmas
+mod CommentLemmas

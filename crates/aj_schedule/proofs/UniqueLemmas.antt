@@ -15,6 +15,7 @@ use Rattle.aj_schedule.specs.Text.{Piece, blank, comment, single, group, spelled
 use Rattle.aj_schedule.specs.Faults.{writes_number, first_digits, after_digits, begins_count, count_fault, form_fault, HasFormFault, HasLengthFault, IsAnswer}
 use Rattle.aj_schedule.specs.declared.reader.SchedFault.{SchedFault}
 use Rattle.aj_schedule.specs.declared.reader.SchedFault.TheVariants as faults
+use Rattle.aj_schedule.proofs.ReadLemmas.{length-steps}
 use Rattle.aj_schedule.proofs.NumberLemmas.{numerals, is_number, and_both}
 
 abbrev pub begins_with : (ℕ → Bool) → List ℕ → Bool
@@ -229,6 +230,10 @@ same_cut (p ∷ ps) (q ∷ qs) done m n r s a b mt nt mf nf same pr qr one other
 same_end : (text : List ℕ) (ps qs : List Piece) (r s : List ℕ) (a b : Stop) → Begins text ps r → Begins text qs s → Stops (total ps) r a → Stops (total qs) s b → (ps ≡ qs) × (a ≡ b)
 same_end text ps qs r s a b one other ends stops =
     same_cut ps qs 0 (total ps) (total qs) r s a b (omega arith) (omega arith) one.within other.within (sym one.whole ∙ other.whole) one.pieces_are other.pieces_are ends stops
+
+-- a text's schedule has at most 200,000 steps
+pub short_schedule : (text s : List ℕ) → IsSchedule text s → length s ≤ 200000
+short_schedule text s is = let count = ap length is.steps_are ∙ length-steps is.pieces in omega (arith, count, is.begins.within)
 
 pub one_schedule : (text s t : List ℕ) → IsSchedule text s → IsSchedule text t → s ≡ t
 unfolding Stops

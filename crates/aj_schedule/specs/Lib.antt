@@ -3,3 +3,4 @@ pub mod Text
 pub mod Faults
 pub mod Fronts
 pub mod Written
+pub mod Comments

@@ -4,12 +4,14 @@
 //! line) stand between entries.
 #![tactic(auto)]
 
+mod comments;
 mod laws;
 mod numbers;
 mod reader;
 mod writer;
 
-pub use laws::form_laws;
+pub use comments::add_comments;
+pub use laws::{comment_laws, form_laws};
 pub use reader::{SchedFault, read_schedule};
 pub use writer::write_schedule;
 

@@ -4,7 +4,7 @@ use Rattle.aj_core.specs.Core.{Program}
 use Rattle.aj_rules.specs.Rules.{IsAccepted}
 use Rattle.aj_syntax.specs.Trees.{ProgramTree}
 use Rattle.aj_sources.specs.declared.refusal.Ending.{Ending}
-use Rattle.aj_sources.specs.declared.refusal.Ending.TheVariants.{Done, Refused, Inadmissible}
+use Rattle.aj_sources.specs.declared.refusal.Ending.TheVariants.{Refused, Inadmissible}
 use Rattle.aj_sources.specs.Programs.{IsProgram}
 use Rattle.aj_sources.specs.Checking.{IsWellFormedSource}
 
@@ -30,6 +30,6 @@ IsAcceptedSource file = (tree : ProgramTree) × (P : Program) × IsWellFormedSou
 
 -- what an ending says of a file that is no accepted source
 abbrev pub RefusedAs : List ℕ → Ending → Type 0
-RefusedAs file Done = ⊥
 RefusedAs file Refused = IsNotWellFormed file
 RefusedAs file Inadmissible = HasNoAssignment file
+RefusedAs file _ = ⊥

@@ -1,7 +1,7 @@
 -- How commands on files end, and when a refusal is right.
 use Rattle.std.specs.Prelude.{◌≡◌, ℕ, List, string_bytes}
 use Rattle.aj_sources.specs.declared.refusal.Ending.{Ending}
-use Rattle.aj_sources.specs.declared.refusal.Ending.TheVariants.{Done, Refused, Inadmissible}
+use Rattle.aj_sources.specs.declared.refusal.Ending.TheVariants.{Done, Refused, Inadmissible, NoSchedule, Stopped, Open, BookRefused}
 use Rattle.aj_sources.specs.declared.refusal.Refusal.{Refusal}
 use Rattle.aj_sources.specs.declared.refusal.Refusal.TheVariants.{Line, NoMemory}
 
@@ -10,6 +10,10 @@ abbrev pub code_of : Ending → ℕ
 code_of Done = 0
 code_of Refused = 1
 code_of Inadmissible = 2
+code_of NoSchedule = 3
+code_of Stopped = 4
+code_of Open = 5
+code_of BookRefused = 11
 
 -- the texts that belong to each ending
 abbrev pub Texts : Type 1

@@ -16,6 +16,14 @@ pub enum Ending {
     Refused,
     /// No assignment of atomicities is admissible.
     Inadmissible,
+    /// The text of the schedule is none.
+    NoSchedule,
+    /// An entry of the schedule can't step.
+    Stopped,
+    /// The schedule ends with a thread inside an atomic call.
+    Open,
+    /// The text of the book is none, or its book is wrong for the source.
+    BookRefused,
 }
 
 impl Ending {
@@ -29,6 +37,10 @@ impl Ending {
             Ending::Done => 0,
             Ending::Refused => 1,
             Ending::Inadmissible => 2,
+            Ending::NoSchedule => 3,
+            Ending::Stopped => 4,
+            Ending::Open => 5,
+            Ending::BookRefused => 11,
         }
     }
 }

@@ -1,0 +1,28 @@
+//! Comments behind a schedule.
+ghost use Rattle.std.specs.Prelude.{◌≡◌, ◌++◌, [], codes, if◌then◌else◌, OnOk};
+ghost use Rattle.aj_schedule.specs.Comments.{commented};
+
+use std::alloc::AllocError as NoMemory;
+
+/// Adds each line of a comment behind `# ` to a text.
+pub fn add_comments(text: &mut Vec<u8>, comment: &[u8]) -> Result<(), NoMemory>
+    ensures { OnOk result (text.new.items ≡ text.old.items ++ commented comment.now) }
+{
+    let mut begins = true;
+    for byte in comment {
+        begin_line(text, begins)?;
+        text.push(*byte)?;
+        begins = *byte == b'\n';
+    }
+    Ok(())
+}
+
+/// Adds `# ` where a line begins.
+fn begin_line(text: &mut Vec<u8>, begins: bool) -> Result<(), NoMemory>
+    ensures { OnOk result (text.new.items ≡ text.old.items ++ (if begins then codes "# " else [])) }
+{
+    if begins {
+        return text.extend_from_slice(b"# ");
+    }
+    Ok(())
+}
