@@ -20,11 +20,15 @@ use Rattle.aj_sources.specs.Verdicts.{NoAccepted, no_source, IsShownLeast}
 use Rattle.aj_sources.proofs.Told.{right_of_more}
 use Rattle.aj_sources.proofs.Verdicts.{well_formed_source, few_methods}
 use Rattle.atomic_cli.specs.declared.command.Command.{Command}
-use Rattle.atomic_cli.specs.declared.command.Command.TheVariants.{Check, Print}
+use Rattle.atomic_cli.specs.declared.command.Command.TheVariants.{Check, Print, Run, Serialise, Derive, Verify}
 use Rattle.atomic_cli.specs.Files.{AreBounded, file_at}
 use Rattle.atomic_cli.specs.Answers.{Answer}
 use Rattle.atomic_cli.specs.Check.{CheckAnswer, not_accepted, judged, report_from}
 use Rattle.atomic_cli.specs.Print.{PrintAnswer, no_program, printed}
+use Rattle.atomic_cli.specs.Run.{RunAnswer}
+use Rattle.atomic_cli.specs.Serialise.{SerialiseAnswer}
+use Rattle.atomic_cli.specs.Derive.{DeriveAnswer}
+use Rattle.atomic_cli.specs.Verify.{VerifyAnswer}
 
 pub source_refused : (file : List ℕ) (r : Refusal) → IsRight (NoSource file) r → IsRight (CheckAnswer file) r
 source_refused file r is = right_of_more (NoSource file) (CheckAnswer file) (λ ending line i. not_accepted (no_source i)) r is
@@ -63,6 +67,29 @@ pub print_answers : (command : Command) (files : List (List ℕ)) (bytes : List 
     → MatchResult r (λ text. PrintAnswer bytes Done text.items) (IsRight (PrintAnswer bytes)) → MatchResult r (λ text. Answer command files Done text.items) (IsRight (Answer command files))
 print_answers command files bytes r e at is = subst (λ c. MatchResult r (λ text. Answer c files Done text.items) (IsRight (Answer c files))) (sym e)
     (subst (λ b. MatchResult r (λ text. PrintAnswer b Done text.items) (IsRight (PrintAnswer b))) at is)
+
+pub run_answers : (command : Command) (files : List (List ℕ)) (file text : List ℕ) (r : Result (Vec ℕ Global) Refusal) → command ≡ Run → file ≡ file_at files 0 → text ≡ file_at files 1
+    → MatchResult r (λ out. RunAnswer file text Done out.items) (IsRight (RunAnswer file text)) → MatchResult r (λ out. Answer command files Done out.items) (IsRight (Answer command files))
+run_answers command files file text r e first second is = subst (λ c. MatchResult r (λ out. Answer c files Done out.items) (IsRight (Answer c files))) (sym e)
+    (subst (λ b. MatchResult r (λ out. RunAnswer b (file_at files 1) Done out.items) (IsRight (RunAnswer b (file_at files 1)))) first
+    (subst (λ b. MatchResult r (λ out. RunAnswer file b Done out.items) (IsRight (RunAnswer file b))) second is))
+
+pub serialise_answers : (command : Command) (files : List (List ℕ)) (file text : List ℕ) (r : Result (Vec ℕ Global) Refusal) → command ≡ Serialise → file ≡ file_at files 0 → text ≡ file_at files 1
+    → MatchResult r (λ out. SerialiseAnswer file text Done out.items) (IsRight (SerialiseAnswer file text)) → MatchResult r (λ out. Answer command files Done out.items) (IsRight (Answer command files))
+serialise_answers command files file text r e first second is = subst (λ c. MatchResult r (λ out. Answer c files Done out.items) (IsRight (Answer c files))) (sym e)
+    (subst (λ b. MatchResult r (λ out. SerialiseAnswer b (file_at files 1) Done out.items) (IsRight (SerialiseAnswer b (file_at files 1)))) first
+    (subst (λ b. MatchResult r (λ out. SerialiseAnswer file b Done out.items) (IsRight (SerialiseAnswer file b))) second is))
+
+pub derive_answers : (command : Command) (files : List (List ℕ)) (bytes : List ℕ) (r : Result (Vec ℕ Global) Refusal) → command ≡ Derive → bytes ≡ file_at files 0
+    → MatchResult r (λ text. DeriveAnswer bytes Done text.items) (IsRight (DeriveAnswer bytes)) → MatchResult r (λ text. Answer command files Done text.items) (IsRight (Answer command files))
+derive_answers command files bytes r e at is = subst (λ c. MatchResult r (λ text. Answer c files Done text.items) (IsRight (Answer c files))) (sym e)
+    (subst (λ b. MatchResult r (λ text. DeriveAnswer b Done text.items) (IsRight (DeriveAnswer b))) at is)
+
+pub verify_answers : (command : Command) (files : List (List ℕ)) (file text : List ℕ) (r : Result (Vec ℕ Global) Refusal) → command ≡ Verify → file ≡ file_at files 0 → text ≡ file_at files 1
+    → MatchResult r (λ out. VerifyAnswer file text Done out.items) (IsRight (VerifyAnswer file text)) → MatchResult r (λ out. Answer command files Done out.items) (IsRight (Answer command files))
+verify_answers command files file text r e first second is = subst (λ c. MatchResult r (λ out. Answer c files Done out.items) (IsRight (Answer c files))) (sym e)
+    (subst (λ b. MatchResult r (λ out. VerifyAnswer b (file_at files 1) Done out.items) (IsRight (VerifyAnswer b (file_at files 1)))) first
+    (subst (λ b. MatchResult r (λ out. VerifyAnswer file b Done out.items) (IsRight (VerifyAnswer file b))) second is))
 
 -- the one file of a row is within its limit
 pub within_limit : (limit : ℕ) (files : List (List ℕ)) → AreBounded (limit ∷ []) files → length (file_at files 0) ≤ limit

@@ -3,22 +3,34 @@ use Rattle.std.specs.Prelude.{◌≡◌, ℕ, List, Some, IsSome, ◌⊎◌}
 use Rattle.aj_sources.specs.declared.refusal.Ending.{Ending}
 use Rattle.aj_sources.specs.Refusals.{code_of}
 use Rattle.atomic_cli.specs.declared.command.Command.{Command}
-use Rattle.atomic_cli.specs.declared.command.Command.TheVariants.{Check, Print}
+use Rattle.atomic_cli.specs.declared.command.Command.TheVariants.{Check, Print, Run, Serialise, Derive, Verify}
 use Rattle.atomic_cli.specs.Lines.{too_large_line}
 use Rattle.atomic_cli.specs.Rows.{Row}
 use Rattle.atomic_cli.specs.Files.{first_too_large, AreWithin, file_at}
 use Rattle.atomic_cli.specs.Check.{CheckAnswer, CheckFact}
 use Rattle.atomic_cli.specs.Print.{PrintAnswer, PrintFact}
+use Rattle.atomic_cli.specs.Run.{RunAnswer, RunFact}
+use Rattle.atomic_cli.specs.Serialise.{SerialiseAnswer, SerialiseFact}
+use Rattle.atomic_cli.specs.Derive.{DeriveAnswer, DeriveFact}
+use Rattle.atomic_cli.specs.Verify.{VerifyAnswer, VerifyFact}
 
 -- the texts that belong to each ending of a command
 abbrev pub Answer : Command → List (List ℕ) → Ending → List ℕ → Type 0
 Answer Check files = CheckAnswer (file_at files 0)
 Answer Print files = PrintAnswer (file_at files 0)
+Answer Run files = RunAnswer (file_at files 0) (file_at files 1)
+Answer Serialise files = SerialiseAnswer (file_at files 0) (file_at files 1)
+Answer Derive files = DeriveAnswer (file_at files 0)
+Answer Verify files = VerifyAnswer (file_at files 0) (file_at files 1)
 
 -- when a command ends how
 abbrev pub Fact : Command → List (List ℕ) → Ending → Type 0
 Fact Check files = CheckFact (file_at files 0)
 Fact Print files = PrintFact (file_at files 0)
+Fact Run files = RunFact (file_at files 0) (file_at files 1)
+Fact Serialise files = SerialiseFact (file_at files 0) (file_at files 1)
+Fact Derive files = DeriveFact (file_at files 0)
+Fact Verify files = VerifyFact (file_at files 0) (file_at files 1)
 
 -- the status and the text that belong to a row and the bytes of its files
 pub data Belongs (row : Row) (files : List (List ℕ)) : ℕ → List ℕ → Type 0 where

@@ -26,3 +26,4 @@ abbrev pub CheckFact : List ℕ → Ending → Type 0
 CheckFact file Refused = IsNotWellFormed file
 CheckFact file Inadmissible = HasNoAssignment file
 CheckFact file Done = IsAcceptedSource file
+CheckFact file _ = ⊥

@@ -4,7 +4,7 @@ use Rattle.aj_syntax.specs.Printing.{canonical}
 use Rattle.aj_syntax.specs.Reprinted.{ReadsBack}
 use Rattle.aj_syntax.specs.Trees.{ProgramTree}
 use Rattle.aj_sources.specs.declared.refusal.Ending.{Ending}
-use Rattle.aj_sources.specs.declared.refusal.Ending.TheVariants.{Done, Refused, Inadmissible}
+use Rattle.aj_sources.specs.declared.refusal.Ending.TheVariants.{Done, Refused}
 use Rattle.aj_sources.specs.Programs.{IsProgram, NoProgram}
 use Rattle.aj_sources.specs.Facts.{IsProgramText, IsNoProgram}
 
@@ -16,5 +16,5 @@ pub data PrintAnswer (file : List ℕ) : Ending → List ℕ → Type 0 where
 -- when `print` ends how
 abbrev pub PrintFact : List ℕ → Ending → Type 0
 PrintFact file Refused = IsNoProgram file
-PrintFact file Inadmissible = ⊥
 PrintFact file Done = IsProgramText file
+PrintFact file _ = ⊥

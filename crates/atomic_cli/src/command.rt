@@ -7,6 +7,12 @@ ghost use Rattle.atomic_cli.specs.Rows.{IsRow, IsNoRow};
 /// The most bytes that a source may have.
 const LARGEST_SOURCE: u32 = 262_144;
 
+/// The most bytes that the text of a schedule may have.
+const LARGEST_SCHEDULE: u32 = 16_777_216;
+
+/// The most bytes that the text of a book may have.
+const LARGEST_BOOK: u32 = 16_777_216;
+
 /// What is to be done with the named files.
 #[derive(Clone, Copy, Debug, PartialEq, Eq)]
 pub enum Command {
@@ -14,6 +20,14 @@ pub enum Command {
     Check,
     /// Writes a source in canonical layout.
     Print,
+    /// Runs a schedule of a source.
+    Run,
+    /// Writes a schedule of a source with each atomic call in one piece.
+    Serialise,
+    /// Writes the book of a source.
+    Derive,
+    /// Checks a source by a book.
+    Verify,
 }
 
 impl Command {
@@ -26,6 +40,10 @@ impl Command {
         match word {
             "check" => Some(Command::Check),
             "print" => Some(Command::Print),
+            "run" => Some(Command::Run),
+            "serialise" => Some(Command::Serialise),
+            "derive" => Some(Command::Derive),
+            "verify" => Some(Command::Verify),
             _ => None,
         }
     }
@@ -35,7 +53,9 @@ impl Command {
         ensures { result.now ≡ limits_of self }
     {
         match self {
-            Command::Check | Command::Print => &[LARGEST_SOURCE],
+            Command::Check | Command::Print | Command::Derive => &[LARGEST_SOURCE],
+            Command::Run | Command::Serialise => &[LARGEST_SOURCE, LARGEST_SCHEDULE],
+            Command::Verify => &[LARGEST_SOURCE, LARGEST_BOOK],
         }
     }
 }

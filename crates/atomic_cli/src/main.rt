@@ -1,17 +1,28 @@
 //! The program `atomic`: the words of the command line, real files and standard output, and the exit status.
 #![tactic(auto)]
 
+#[cfg(test)]
+mod book_tests;
 mod check;
 mod command;
+mod derive_book;
 mod files;
 mod lines;
+#[cfg(test)]
+mod machine_tests;
 mod print;
 mod run;
+mod run_schedule;
+#[cfg(test)]
+mod schedule_tests;
+mod schedules;
+mod serialise;
 #[cfg(test)]
 mod source_tests;
 mod status;
 #[cfg(test)]
 mod tests;
+mod verify_book;
 
 use crate::run::run;
 use crate::status::Status;

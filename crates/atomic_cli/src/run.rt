@@ -11,14 +11,20 @@ ghost use Rattle.atomic_cli.specs.Files.{IsAsked, AreBounded};
 ghost use Rattle.atomic_cli.specs.Answers.{Answer, Yields, IsExact};
 ghost use Rattle.atomic_cli.specs.Said.{Says, WritesUnread, WritesAnswer, WritesFront};
 ghost use Rattle.atomic_cli.specs.Commands.{row_of, status_of};
+ghost use Rattle.atomic_cli.specs.Headline.{Headline, call_of};
+ghost use Rattle.atomic_cli.specs.Books.{Books};
 ghost use Rattle.atomic_cli.specs.Outcomes.{IsUnreadFor, IsOutcome};
 
 use crate::check::check;
 use crate::command::{Command, Words, words_of};
+use crate::derive_book::derive_book;
 use crate::files::{Unread, file_at, read_files};
 use crate::lines::{USAGE, cannot_read_line, too_large_line};
 use crate::print::print;
+use crate::run_schedule::run_schedule;
+use crate::serialise::serialise;
 use crate::status::Status;
+use crate::verify_book::verify_book;
 use aj_edge::{Fault, Folder, Sink, write_all};
 use aj_sources::{Ending, Refusal};
 use std::alloc::{AllocError as NoMemory, Global};
@@ -38,6 +44,10 @@ fn answer(alloc: Global, command: Command, files: &[Vec<u8>]) -> Result<Vec<u8>,
     match command {
         Command::Check => check(alloc, file_at(files, 0)),
         Command::Print => print(alloc, file_at(files, 0)),
+        Command::Run => run_schedule(alloc, file_at(files, 0), file_at(files, 1)),
+        Command::Serialise => serialise(alloc, file_at(files, 0), file_at(files, 1)),
+        Command::Derive => derive_book(alloc, file_at(files, 0)),
+        Command::Verify => verify_book(alloc, file_at(files, 0), file_at(files, 1)),
     }
 }
 
@@ -101,9 +111,10 @@ fn say<K: Sink>(sink: &mut K, status: Status, text: &[u8]) -> u8
 /// Does what the words say, over this folder and this sink, and answers the exit status.
 ///
 /// The words are the command line without the program's name. Statuses: 0, the command was done and its text was written; 1,
-/// the source is refused as it stands; 2, no assignment of atomicities is admissible; 6, a file can't be read; 7, the text
-/// can't be written; 8, memory was refused; 9, the words are no row; 10, a file is over its limit. Each status but 0, 7 and 8
-/// writes the one line that says why, and all texts go to the sink.
+/// the source is refused as it stands; 2, no assignment of atomicities is admissible; 3, the text of the schedule is none; 4, an
+/// entry of the schedule can't step; 5, the schedule ends with a thread inside an atomic call; 6, a file can't be read; 7, the text
+/// can't be written; 8, memory was refused; 9, the words are no row; 10, a file is over its limit; 11, the text of the book is none,
+/// or its book is wrong for the source. Each status but 0, 7 and 8 writes the one line that says why, and all texts go to the sink.
 pub fn run<F: Folder, K: Sink>(alloc: Global, words: &[String], folder: &mut F, sink: &mut K) -> u8
     // Words that are no row: this path takes no memory, so it never answers 8.
     ensures usage { IsNoRow (map string_bytes words.now) → Says result 9 usage_line (K.written sink.old) (K.written sink.new) (K.faults sink.old) (K.faults sink.new) }
@@ -126,6 +137,14 @@ pub fn run<F: Folder, K: Sink>(alloc: Global, words: &[String], folder: &mut F, 
     ensures complete { (row : Row) (files : List (List ℕ)) → IsAsked (map string_bytes words.now) (F.told folder.old) row files →
         ((name : List ℕ) → Contains row.names name → Rose (F.faults folder.old name) (F.faults folder.new name) → ⊥) → (Rose (K.faults sink.old) (K.faults sink.new) → ⊥) →
         (result ≡ 8) ⊎ WritesAnswer row files result (K.written sink.old) (K.written sink.new) }
+
+    // The sentence that the program is for, derived from these.
+    ensures headline { Headline (call_of (map string_bytes words.now) (F.told folder.old) (F.faults folder.old) (F.faults folder.new)
+        (K.faults sink.old) (K.faults sink.new) (K.written sink.old) (K.written sink.new) result) }
+
+    // What books are for, derived from these too.
+    ensures books { Books (call_of (map string_bytes words.now) (F.told folder.old) (F.faults folder.old) (F.faults folder.new)
+        (K.faults sink.old) (K.faults sink.new) (K.written sink.old) (K.written sink.new) result) }
 {
     let Some(row) = words_of(words) else {
         return say(sink, Status::Usage, USAGE);

@@ -7,10 +7,10 @@ use std::alloc::Global;
 use std::process::Abort;
 use std::test::Fail;
 
-const LOCKED: &str =
+pub const LOCKED: &str =
     "class Main { int v guarded_by this; atomic void main() { synchronized (this) { this.v = 7; } } }";
 
-fn words_of(alloc: Global, words: &[&str]) -> Result<Vec<String>, Fail> {
+pub fn words_of(alloc: Global, words: &[&str]) -> Result<Vec<String>, Fail> {
     let mut list = Vec::new(alloc);
     for word in words {
         list.push(String::from_str(alloc, word)?)?;
@@ -67,7 +67,7 @@ fn with_body(alloc: Global, before: &str, times: u32, after: &str) -> Result<Str
 
 /// The counter program: a cell, workers that raise it, and a `main` that starts two of them. More members of the cell,
 /// more statements of `main` and more classes may be put in.
-fn counter(alloc: Global, in_cell: &str, in_main: &str, behind: &str) -> Result<String, Fail> {
+pub fn counter(alloc: Global, in_cell: &str, in_main: &str, behind: &str) -> Result<String, Fail> {
     let mut source = String::from_str(
         alloc,
         "class Cell { int v guarded_by this; atomic void inc() { synchronized (this) { this.v = this.v + 1; } } ",
@@ -200,13 +200,13 @@ const APPEND: &str =
     class Main { void main() { } }";
 
 /// The same with both locks.
-const APPEND_LOCKED: &str =
+pub const APPEND_LOCKED: &str =
     "class Buf { int n guarded_by this; atomic int length() { synchronized (this) { return this.n; } } \
     atomic int get(int k) { synchronized (this) { return this.n - k; } } \
     atomic void append(final Buf sb) { synchronized (this) { synchronized (sb) { int k = sb.length(); this.n = this.n + sb.get(k); } } } } \
     class Main { void main() { } }";
 
-const EIGHT_LOCKS: &str =
+pub const EIGHT_LOCKS: &str =
     "class L { } class Main { void m(final L a, final L b, final L c, final L d, final L e, final L f, final L g, final L h) \
     { synchronized (a) { } synchronized (b) { } synchronized (c) { } synchronized (d) { } synchronized (e) { } synchronized (f) { } \
     synchronized (g) { } synchronized (h) { } } void main() { } }";
@@ -546,7 +546,7 @@ fn each_row_of_words_has_its_status(rt: HostRuntime) -> Result<(), Fail> {
     expect(
         &rt,
         rt.alloc(),
-        &["derive", "a"],
+        &["generate", "a"],
         LOCKED.as_bytes(),
         9,
         usage,

@@ -1,6 +1,9 @@
-use Rattle.std.proofs.Common.{map, string_bytes, subst}
+use Rattle.std.proofs.Common.{map, string_bytes, subst, inl, inr}
 use Rattle.atomic_cli.specs.Commands.{row_of, status_of}
 use Rattle.atomic_cli.specs.Said.{Says}
+use Rattle.atomic_cli.proofs.Headlines.{headline_of}
+use Rattle.atomic_cli.proofs.Certified.{books_of}
+use Rattle.atomic_cli.proofs.Endings.{exact_yield}
 use Rattle.atomic_cli.proofs.Runs.{IsDone, exact, answered, front, unreadable, complete}
 use Rattle.atomic_cli.proofs.run.run.Given.{Over}
 use Rattle.atomic_cli.proofs.run.run.Goals as goal
@@ -37,3 +40,21 @@ returns-in-Ok-clause-cannot_read g c = λ row is six. unreadable _ _ _ _ _ _ _ _
 
 pub returns-in-Ok-clause-complete : goal.returns-in-Ok-clause-complete
 returns-in-Ok-clause-complete g c = λ row files asked calm sink_calm. complete _ _ _ _ _ _ _ _ _ (the_row g c) row files asked calm sink_calm
+
+pub returns-in-Ok-clause-headline : goal.returns-in-Ok-clause-headline
+returns-in-Ok-clause-headline g c = headline_of _ (λ row files asked calm. complete _ _ _ _ _ _ _ _ _ (the_row g c) row files asked calm.files calm.sink)
+
+pub returns-in-Err-clause-headline : goal.returns-in-Err-clause-headline
+returns-in-Err-clause-headline g c = headline_of _ (λ row files asked calm. inl c.code.ensures)
+
+pub returns-in_default-clause-headline : goal.returns-in_default-clause-headline
+returns-in_default-clause-headline g c = headline_of _ (λ row files asked calm. absurd (c.in_default.ensures row asked.is_row))
+
+pub returns-in-Ok-clause-books : goal.returns-in-Ok-clause-books
+returns-in-Ok-clause-books g c = books_of _ (λ row files asked. exact _ _ _ _ _ _ _ _ _ (the_row g c) row files asked) (λ row files asked calm. complete _ _ _ _ _ _ _ _ _ (the_row g c) row files asked calm.files calm.sink)
+
+pub returns-in-Err-clause-books : goal.returns-in-Err-clause-books
+returns-in-Err-clause-books g c = books_of _ (λ row files asked. exact_yield row files c.code.result (inr (inr c.code.ensures))) (λ row files asked calm. inl c.code.ensures)
+
+pub returns-in_default-clause-books : goal.returns-in_default-clause-books
+returns-in_default-clause-books g c = books_of _ (λ row files asked. absurd (c.in_default.ensures row asked.is_row)) (λ row files asked calm. absurd (c.in_default.ensures row asked.is_row))

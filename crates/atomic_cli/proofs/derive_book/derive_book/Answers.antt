@@ -1,0 +1,36 @@
+-- The exits of `derive`, what deriving asks, and the text of the book.
+use Rattle.std.proofs.Common.{map}
+use Rattle.std.proofs.lemmas.Result.{err_from_is_err_and}
+use Rattle.aj_cond.specs.Conditions.{cond_of}
+use Rattle.aj_core.specs.Views.{program_of}
+use Rattle.aj_deriv.specs.Memory.{book_of}
+use Rattle.aj_sources.specs.Verdicts.{NoAccepted}
+use Rattle.aj_sources.proofs.Verdicts.{few_methods}
+use Rattle.atomic_cli.specs.Derive.{DeriveAnswer}
+use Rattle.atomic_cli.proofs.BookRows.{not_accepted_derive, source_keeps, derived_text}
+use Rattle.atomic_cli.proofs.ScheduleRows.{more_refused}
+use Rattle.atomic_cli.proofs.derive_book.derive_book.Goals as goal
+
+pub returns-in_err-inferred : goal.returns-in_err-inferred
+returns-in_err-inferred c =
+    let p = err_from_is_err_and c.from_residual-in_err-inferred.result c.from_residual-in_err-inferred.ensures.1 in
+    more_refused (NoAccepted c.args.bytes.now) (DeriveAnswer c.args.bytes.now) _ c.from_residual-in_err-inferred.result p.0 c.in_err-inferred.field-0.0 p.1 p.2
+    (not_accepted_derive c.args.bytes.now) (c.in_err-inferred.ensures c.args.bytes.now c.in_ok-source.ensures)
+
+pub derive-requires-clause-few : goal.derive-requires-clause-few
+derive-requires-clause-few c = few_methods (program_of c.in_ok-source.source.program) c.in_ok-source.ensures.1.typed
+
+pub derive-requires-clause-count : goal.derive-requires-clause-count
+derive-requires-clause-count c = (c.in_ok-inferred.ensures c.args.bytes.now c.in_ok-source.ensures).shown.count
+
+pub derive-requires-clause-canonical : goal.derive-requires-clause-canonical
+derive-requires-clause-canonical c = (c.in_ok-inferred.ensures c.args.bytes.now c.in_ok-source.ensures).shown.canonical
+
+pub returns : goal.returns
+returns c =
+    let source = c.in_ok-source.source in
+    let is = c.in_ok-source.ensures in
+    let trees = map cond_of c.in_ok-inferred.inferred.methods.items in
+    let least = c.in_ok-inferred.ensures c.args.bytes.now is in
+    derived_text c.args.bytes.now source trees (book_of c.in_ok-book.book) c.in_ok-text.text.items is least c.in_ok-book.ensures.derived
+    (c.in_ok-book.ensures.good (source_keeps (program_of source.program) source.sets trees is.1.typed is.1.relevant least)) c.in_ok-text.ensures

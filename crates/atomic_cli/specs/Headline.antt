@@ -1,0 +1,97 @@
+-- The sentence that the program is for:
+-- for every accepted source and every schedule that runs on it to a state with no thread inside an atomic call, `serialise`
+-- writes, unless memory is refused, a rearrangement of that schedule that runs to the same heap, locks, threads and output and
+-- interrupts no atomic call; and `check` refuses a well-formed source exactly where no assignment of atomicities is admissible,
+-- naming a method whose bound every closed assignment breaks.
+use Rattle.std.specs.Prelude.{◌≡◌, ℕ, ◌≤◌, List, [], ◌∷◌, Option, Some, None, Contains, length, codes, ◌⊎◌}
+use Rattle.std.specs.Io.KnownBytes.{Appends}
+use Rattle.aj_algebra.specs.declared.basic.Basic.{Basic}
+use Rattle.aj_classes.specs.Table.{TableData, table_of}
+use Rattle.aj_core.specs.Core.{Program}
+use Rattle.aj_edge.specs.Faults.{Rose}
+use Rattle.aj_infer.specs.Verdicts.{IsBrokenByAll}
+use Rattle.aj_report.specs.Verdicts.{broken_line}
+use Rattle.aj_rules.specs.Near.{MethodPaths, AreRelevant, rel_of}
+use Rattle.aj_rules.specs.Rules.{IsAccepted}
+use Rattle.aj_schedule.specs.Text.{IsSchedule}
+use Rattle.aj_sources.specs.Checking.{IsWellFormedSource}
+use Rattle.aj_state.specs.States.{State}
+use Rattle.aj_steps.specs.Run.{run, open_thread, IsRearrangement, IsUninterrupted}
+use Rattle.aj_syntax.specs.Trees.{ProgramTree}
+
+-- a call of the program: its words, what the folder tells, the counts of faults of each file and of the sink before and after,
+-- what the sink has written before and after, and the exit status
+pub record Call : Type 0 where
+  pub words : List (List ℕ)
+  pub told : List ℕ → Option (List ℕ)
+  pub files_before : List ℕ → ℕ
+  pub files_after : List ℕ → ℕ
+  pub sink_before : ℕ
+  pub sink_after : ℕ
+  pub written_before : Option (List ℕ)
+  pub written_after : Option (List ℕ)
+  pub status : ℕ
+
+-- the call with these parts
+abbrev pub call_of : List (List ℕ) → (List ℕ → Option (List ℕ)) → (files_before files_after : List ℕ → ℕ) → (sink_before sink_after : ℕ) → (written_before written_after : Option (List ℕ)) → ℕ → Call
+call_of words told files_before files_after sink_before sink_after written_before written_after status = record {
+  words = words;
+  told = told;
+  files_before = files_before;
+  files_after = files_after;
+  sink_before = sink_before;
+  sink_after = sink_after;
+  written_before = written_before;
+  written_after = written_after;
+  status = status;
+}
+
+-- no count of these files rose or stands at its last value, nor does the sink's
+pub record IsCalm (call : Call) (names : List (List ℕ)) : Type 0 where
+  pub files : (name : List ℕ) → Contains names name → Rose (call.files_before name) (call.files_after name) → ⊥
+  pub sink : Rose call.sink_before call.sink_after → ⊥
+
+-- the bytes that the call wrote are the text of a rearrangement of the schedule, which runs to the same heap, locks, threads and
+-- output and interrupts no atomic call
+pub record WritesRearrangement (call : Call) (P : Program) (s : List ℕ) (q : State) : Type 0 where
+  pub status : call.status ≡ 0
+  pub out : List ℕ
+  pub written : Appends call.written_before call.written_after out
+  pub order : List ℕ
+  pub spells : IsSchedule out order
+  pub rearranges : IsRearrangement s order
+  pub same_state : run P order ≡ Some q
+  pub uninterrupted : IsUninterrupted P order
+
+-- the line that the call wrote names a method whose bound every closed assignment breaks
+pub record NamesBroken (call : Call) (P : Program) (table : TableData) : Type 0 where
+  pub method : ℕ
+  pub declared : Basic
+  pub found : Basic
+  pub written : Appends call.written_before call.written_after (broken_line table method declared found)
+  pub sets : List MethodPaths
+  pub relevant : AreRelevant P sets
+  pub broken : IsBrokenByAll P (rel_of sets) method
+
+-- the call refuses exactly where no assignment is admissible, and names such a method
+pub record RefusesExactly (call : Call) (P : Program) (table : TableData) : Type 0 where
+  pub only : call.status ≡ 2 → IsAccepted P → ⊥
+  pub all : (IsAccepted P → ⊥) → call.status ≡ 2
+  pub names : call.status ≡ 2 → NamesBroken call P table
+
+pub record Headline (call : Call) : Type 0 where
+  -- `serialise`, on files that are told and within their limits, where nothing failed
+  pub serialise : (source_name schedule_name file text : List ℕ) → call.words ≡ codes "serialise" ∷ source_name ∷ schedule_name ∷ []
+      → call.told source_name ≡ Some file → call.told schedule_name ≡ Some text → length file ≤ 262144 → length text ≤ 16777216
+      → IsCalm call (source_name ∷ schedule_name ∷ [])
+      -- for every accepted source
+      → (tree : ProgramTree) (P : Program) → IsWellFormedSource file tree P → IsAccepted P
+      -- and every schedule that runs on it to a state with no thread inside an atomic call
+      → (s : List ℕ) (q : State) → IsSchedule text s → run P s ≡ Some q → open_thread P q ≡ None
+      -- writes, unless memory is refused, such a rearrangement
+      → (call.status ≡ 8) ⊎ WritesRearrangement call P s q
+  -- `check`, on a file that is told and within its limit, where nothing failed
+  pub check : (name file : List ℕ) → call.words ≡ codes "check" ∷ name ∷ [] → call.told name ≡ Some file → length file ≤ 262144
+      → IsCalm call (name ∷ [])
+      -- refuses a well-formed source exactly where no assignment is admissible, unless memory is refused
+      → (tree : ProgramTree) (P : Program) → IsWellFormedSource file tree P → (call.status ≡ 8) ⊎ RefusesExactly call P (table_of tree)

@@ -1,0 +1,201 @@
+//! The exchange of neighbours and watched machines, which no row of the program reaches.
+
+ghost use Rattle.std.specs.Prelude.{◌≡◌, ◌≤◌, ℕ, List, length, IfOk};
+ghost use Rattle.aj_core.specs.Views.{program_of};
+ghost use Rattle.aj_compile.specs.IsCode.{IsCodeOf};
+ghost use Rattle.aj_steps.specs.Run.{Runs};
+ghost use Rattle.aj_sources.specs.Checking.{IsSourceOf};
+
+use aj_compile::{CodeTable, compile};
+use aj_core::CoreProgram;
+use aj_deriv_check::{Checked, accept_text};
+use aj_held::Watched;
+use aj_machine::{Machine, StepEnd};
+use aj_sources::{Source, read_source};
+use aj_state::StepKind;
+use aj_swap::{SwapEnd, swap_at};
+use std::alloc::Global;
+use std::process::Abort;
+use std::test::Fail;
+
+const COUNTER: &str =
+    "class Cell { int v guarded_by this; atomic void inc() { synchronized (this) { this.v = this.v + 1; } } } \
+    class W implements Runnable { final Cell c; W(Cell c) { this.c = c; } public void run() { this.c.inc(); } } \
+    class Main { void main() { final Cell c = new Cell(); new Thread(new W(c)).start(); new Thread(new W(c)).start(); } }";
+
+/// The schedule that counts spell: so many entries of each thread in turn.
+fn schedule_of(alloc: Global, groups: &[(u32, u32)]) -> Result<Vec<u32>, Fail> {
+    let mut schedule = Vec::new(alloc);
+    for (thread, count) in groups {
+        for _ in 0..*count {
+            schedule.push(*thread)?;
+        }
+    }
+    Ok(schedule)
+}
+
+/// The schedule was run, and runs.
+fn run_whole(
+    alloc: Global,
+    program: &CoreProgram,
+    code: &CodeTable,
+    schedule: &[u32],
+) -> Result<(), Fail>
+    requires code { IsCodeOf (program_of program.now) code.now.code.items code.now.entry.items code.now.room.items }
+    requires short { length schedule.now ≤ 200000 }
+    ensures { IfOk result (λ _. Runs (program_of program.now) schedule.now) }
+{
+    let mut machine = Machine::start(alloc, program, code)?;
+    match machine.run(alloc, schedule) {
+        Ok(()) => Ok(()),
+        Err(_) => Err(Fail::new("the schedule stops")),
+    }
+}
+
+/// The well-formed source of a text.
+fn source_of<'a>(alloc: Global, text: &'a str) -> Result<Source<'a>, Fail>
+    ensures { IfOk result (λ source. (file : List ℕ) × IsSourceOf file source) }
+{
+    if text.len() > 262144 {
+        return Err(Fail::new("a long source"));
+    }
+    match read_source(alloc, text.as_bytes()) {
+        Ok(source) => Ok(source),
+        Err(_) => Err(Fail::new("no well-formed source")),
+    }
+}
+
+/// The schedule of a source with the entry at a place and the next one exchanged.
+fn exchange(
+    alloc: Global,
+    text: &str,
+    schedule: &[u32],
+    place: u32,
+) -> Result<Result<Vec<u32>, SwapEnd>, Fail> {
+    let source = source_of(alloc, text)?;
+    let code = compile(alloc, &source.program)?;
+    let next = place as usize + 1;
+    if schedule.len() > 200000 || next >= schedule.len() {
+        return Err(Fail::new("no such entry"));
+    }
+    if schedule[place as usize] == schedule[next] {
+        return Err(Fail::new("one thread"));
+    }
+    run_whole(alloc, &source.program, &code, schedule)?;
+    Ok(swap_at(alloc, &source.program, &code, schedule, place))
+}
+
+#[test]
+fn neighbours_change_places_where_they_may(rt: HostRuntime) -> Result<(), Fail> {
+    let alloc = rt.alloc();
+    let movers = schedule_of(alloc, &[(0, 10), (1, 1), (2, 1)])?;
+    let exchanged = schedule_of(alloc, &[(0, 10), (2, 1), (1, 1)])?;
+    match exchange(alloc, COUNTER, movers.as_slice(), 10)? {
+        Ok(given) => assert_eq!(rt; given.as_slice(), exchanged.as_slice()),
+        Err(_) => assert!(rt; false),
+    }
+    let start = schedule_of(alloc, &[(0, 6), (1, 1)])?;
+    assert!(rt;
+        matches!(
+            exchange(alloc, COUNTER, start.as_slice(), 5)?,
+            Err(SwapEnd::Starts)
+        )
+    );
+    let locks = schedule_of(alloc, &[(0, 10), (1, 12), (2, 5), (1, 1), (2, 1)])?;
+    assert!(rt;
+        matches!(
+            exchange(alloc, COUNTER, locks.as_slice(), 27)?,
+            Err(SwapEnd::NotMovers {
+                first: StepKind::Left,
+                second: StepKind::Right
+            })
+        )
+    );
+    Ok(())
+}
+
+/// The book of the counter program, as `derive` writes it.
+const BOOK: &str =
+    "book 7\n(0 mover atomic)\n(0 mover error)\nconst\n(0.1 mover atomic)\ncmpd\nmover\natomic\nmethod 0 0\n\
+    (block 0 (sync 0 (block 1 (put 1 (this 2) (bin 1 (get 1 (this 2)) (lit 2))))))\nmethod 1 3\n(block 3 (do 3 (call 3 (get 2 (this 2)))))\n\
+    method 2 4\n(block 4 (local 5 (new 5)) (start 6 (new 5 (var 2))) (start 6 (new 5 (var 2))))\nend\n";
+
+const WRITE_GUARDED: &str =
+    "class Main { int v write_guarded_by this; void main() { System.out.println(this.v); \
+    synchronized (this) { this.v = 7; System.out.println(this.v); } } }";
+
+const WRITE_GUARDED_BOOK: &str =
+    "book 6\ncmpd\n(0 atomic cmpd)\n(0 mover atomic)\nconst\n(0 cmpd error)\n(0 atomic error)\nmethod 0 0\n\
+    (block 0 (print 1 (get 2 (this 3))) (sync 0 (block 4 (put 5 (this 3) (lit 3)) (print 1 (get 2 (this 3))))))\nend\n";
+
+/// The checked program of a source and a good book of it.
+fn checked_of(alloc: Global, text: &str, book: &str) -> Result<Checked, Fail> {
+    let source = source_of(alloc, text)?;
+    if book.len() > 16777216 {
+        return Err(Fail::new("a long book"));
+    }
+    let Source { program, sets, .. } = source;
+    match accept_text(alloc, program, sets, book.as_bytes()) {
+        Ok(checked) => Ok(checked),
+        Err(_) => Err(Fail::new("no good book")),
+    }
+}
+
+/// One step of a watched machine.
+fn step_of(
+    alloc: Global,
+    watched: &mut Watched<'_>,
+    thread: u32,
+) -> Result<Result<StepKind, StepEnd>, Fail> {
+    if watched.machine().made() == u32::MAX {
+        return Err(Fail::new("too many steps"));
+    }
+    Ok(watched.step(alloc, thread))
+}
+
+/// The steps of a thread have these kinds, one after the other.
+fn expect_kinds(
+    rt: &impl Abort,
+    alloc: Global,
+    watched: &mut Watched<'_>,
+    thread: u32,
+    kinds: &[StepKind],
+) -> Result<(), Fail> {
+    for kind in kinds {
+        assert!(rt; step_of(alloc, watched, thread)? == Ok(*kind));
+    }
+    Ok(())
+}
+
+#[test]
+fn watched_steps_have_their_kinds(rt: HostRuntime) -> Result<(), Fail> {
+    use StepKind::{Both, Left, Right};
+    let alloc = rt.alloc();
+    let checked = checked_of(alloc, COUNTER, BOOK)?;
+    let code = compile(alloc, checked.program())?;
+    let mut watched = Watched::start(alloc, &checked, &code)?;
+    for _ in 0..10 {
+        assert!(rt; step_of(alloc, &mut watched, 0)?.is_ok());
+    }
+    let worker = [
+        Both, Both, Both, Both, Both, Right, Both, Both, Both, Both, Both, Both, Left, Both, Both,
+    ];
+    expect_kinds(&rt, alloc, &mut watched, 1, &worker)?;
+    assert!(rt; step_of(alloc, &mut watched, 5)? == Err(StepEnd::Absent));
+    assert_eq!(rt; watched.steps().len(), 25);
+    assert_eq!(rt; watched.machine().made(), 25);
+    Ok(())
+}
+
+#[test]
+fn watched_writes_are_no_movers(rt: HostRuntime) -> Result<(), Fail> {
+    use StepKind::{Both, Left, Other, Right};
+    let alloc = rt.alloc();
+    let checked = checked_of(alloc, WRITE_GUARDED, WRITE_GUARDED_BOOK)?;
+    let code = compile(alloc, checked.program())?;
+    let mut watched = Watched::start(alloc, &checked, &code)?;
+    let kinds = [
+        Both, Both, Other, Other, Both, Right, Both, Both, Other, Both, Both, Other, Left, Both,
+    ];
+    expect_kinds(&rt, alloc, &mut watched, 0, &kinds)
+}
