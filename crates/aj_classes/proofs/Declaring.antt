@@ -1,21 +1,21 @@
 -- The names of a table are those that the tree declares, in the same order.
-use Rattle.std.proofs.Common.{◌≡◌, ℕ, ◌+◌, ◌<◌, ◌-◌, ◌==◌, zero, suc, Bool, true, false, List, [], ◌∷◌, ◌++◌, map, flat_map, Option, Some, None, refl, ap, ap₂, sym, ◌∙◌, subst, slice_get, option_map, option_and_then, arith, if◌then◌else◌}
+use Rattle.std.proofs.Common.{◌≡◌, ℕ, ◌+◌, ◌<◌, ◌-◌, ◌==◌, zero, suc, false, List, [], ◌∷◌, ◌++◌, map, flat_map, Option, Some, None, refl, ap, ap₂, sym, ◌∙◌, subst, slice_get, option_map, option_and_then, arith, if◌then◌else◌}
 use Rattle.std.specs.Prelude.{codes}
 use Rattle.std.specs.List.{All}
 use Rattle.std.proofs.lemmas.List.{map-append}
 use Rattle.std.proofs.lemmas.List.Elements.{recursion_from_All}
-use Rattle.std.proofs.lemmas.Option.{slice_get-map}
+use Rattle.std.proofs.lemmas.Option.{slice_get-map, same_Some}
 use Rattle.std.proofs.lemmas.Bool.Decides.{nat_tests}
 use Rattle.aj_lexer.specs.Tokens.{IsSlice}
 use Rattle.aj_syntax.specs.declared.tree.Name.{Name}
 use Rattle.aj_syntax.specs.declared.tree.Param.{Param}
-use Rattle.aj_syntax.specs.Names.{names_of_type, names_of_result, names_of_param, names_of_lock, names_of_stmts, names_of_guard, names_of_set, names_of_member, names_of_class, names_of_program}
+use Rattle.aj_syntax.specs.Names.{names_of_type, names_of_result, names_of_param, names_of_lock, names_of_stmts, names_of_guard, names_of_member, names_of_class, names_of_program}
 use Rattle.aj_syntax.specs.Tokens.{name_token}
 use Rattle.aj_syntax.specs.Trees.{MemberTree, FieldM, CtorM, MethodM, ProgramTree}
 use Rattle.aj_classes.specs.Declarations.{IsDeclared, declared_fields, declared_methods, method_params, declared_params}
 use Rattle.aj_classes.specs.Members.{class_names, field_names, method_names, param_names}
 use Rattle.aj_classes.specs.Names.{texts_of}
-use Rattle.aj_classes.specs.Seen.{FieldData, ParamData}
+use Rattle.aj_classes.specs.Seen.{FieldData}
 use Rattle.aj_classes.specs.Table.{TableData, MethodData, param_of, fields_of, methods_of, all_fields, all_methods, table_of, slot_of, slot_title}
 
 -- ---- what holds of each name of a program holds of those that it declares
@@ -88,9 +88,6 @@ module _ (P : Name → Type 0) where
 
 -- ---- elements of lists by their numbers
 
-some_same : {A : Type 0} (x y : A) → Some x ≡ Some y → x ≡ y
-some_same x y e = cc
-
 nothing_at : {A : Type 0} (i : ℕ) (x : A) → slice_get [] i ≡ Some x → ⊥
 nothing_at i x e = let d : None ≡ Some x = e in cc
 
@@ -99,12 +96,12 @@ mapped_at f xs i x e = slice_get-map f xs i ∙ ap (option_map f) e
 
 each_at : {A : Type 0} (P : A → Type 0) (xs : List A) (i : ℕ) (x : A) → Each P xs → slice_get xs i ≡ Some x → P x
 each_at P [] i x a e = absurd (nothing_at i x e)
-each_at P (y ∷ ys) zero x a e = subst P (some_same y x e) a.0
+each_at P (y ∷ ys) zero x a e = subst P (same_Some y x e) a.0
 each_at P (y ∷ ys) (suc i) x a e = each_at P ys i x a.1 e
 
 before_mapped : {A B : Type 0} (f : A → B) (xs : List A) (i : ℕ) (y : B) → slice_get (map f xs) i ≡ Some y → (x : A) × (slice_get xs i ≡ Some x) × (f x ≡ y)
 before_mapped f [] i y e = absurd (nothing_at i y e)
-before_mapped f (x ∷ xs) zero y e = (x, refl, some_same (f x) y e)
+before_mapped f (x ∷ xs) zero y e = (x, refl, same_Some (f x) y e)
 before_mapped f (x ∷ xs) (suc i) y e = before_mapped f xs i y e
 
 and_then : {A B : Type 0} (f : A → Option B) (o : Option A) (b : B) → option_and_then f o ≡ Some b → (a : A) × (o ≡ Some a) × (f a ≡ Some b)
@@ -118,7 +115,7 @@ IsSliced source n = IsSlice source (name_token n)
 
 declared_at : (source : List ℕ) (names : List Name) (k : ℕ) (text : List ℕ) → Each (IsSliced source) names → slice_get (texts_of names) k ≡ Some text → IsDeclared source names k text
 declared_at source [] k text a e = absurd (nothing_at k text e)
-declared_at source (n ∷ ns) zero text a e = record { name = n; there = refl; same = sym (some_same n.text text e); slice = a.0 }
+declared_at source (n ∷ ns) zero text a e = record { name = n; there = refl; same = sym (same_Some n.text text e); slice = a.0 }
 declared_at source (n ∷ ns) (suc k) text a e =
     let d = declared_at source ns k text a.1 e in record { name = d.name; there = d.there; same = d.same; slice = d.slice }
 
@@ -206,4 +203,4 @@ module _ (source : List ℕ) (tree : ProgramTree) (a : All (IsSliced source) (na
       )
 
 pub this_declared : (t : TableData) (k : ℕ) (text : List ℕ) → slot_title t k 0 ≡ Some text → text ≡ codes "this"
-this_declared t k text e = let m = and_then (slot_of 0) (slice_get t.methods k) text e in sym (some_same (codes "this") text m.2)
+this_declared t k text e = let m = and_then (slot_of 0) (slice_get t.methods k) text e in sym (same_Some (codes "this") text m.2)

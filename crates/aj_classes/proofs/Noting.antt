@@ -1,12 +1,13 @@
 -- How the first fault is found, part by part.
-use Rattle.std.proofs.Common.{◌≡◌, ℕ, ◌+◌, ◌<◌, suc, List, [], ◌∷◌, ◌++◌, Option, Some, refl, length, map, flat_map, drop, get_or, ap, sym, ◌∙◌, arith}
+use Rattle.std.proofs.Common.{◌≡◌, ℕ, ◌+◌, ◌<◌, suc, List, ◌∷◌, ◌++◌, Option, length, map, flat_map, drop, get_or, ap, sym, ◌∙◌, arith}
 use Rattle.std.proofs.Math.Seq.{drop-cons}
+use Rattle.aj_faults.proofs.FirstFaults as faults
 use Rattle.aj_classes.specs.declared.fault.ClassFault.{ClassFault}
-use Rattle.aj_classes.specs.Noted.{earlier, noted}
+use Rattle.aj_classes.specs.Faults.{place_of}
+use Rattle.aj_classes.specs.Noted.{noted}
 
 pub noted_append : (first : Option ClassFault) (xs ys : List ClassFault) → noted first (xs ++ ys) ≡ noted (noted first xs) ys
-noted_append first [] ys = refl
-noted_append first (x ∷ xs) ys = noted_append (Some (earlier first x)) xs ys
+noted_append first xs ys = faults.noted_append place_of first xs ys
 
 -- one part more
 pub noted_step : {X Y : Type 0} (g : Y → List ClassFault) (f : X → Y) (xs : List X) (i : ℕ) (x : X) (found next all : Option ClassFault)

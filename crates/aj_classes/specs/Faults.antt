@@ -1,11 +1,13 @@
 -- The faults of a program's classes: which conditions stand, and at which offsets.
-use Rattle.std.specs.Prelude.{◌≡◌, ℕ, ◌^◌, Bool, true, false, not, ◌&&◌, ◌||◌, ◌==◌, nat_lt, List, [], ◌∷◌, ◌++◌, Option, Some, None, map, flat_map, slice_get, codes, bytes_eq, if◌then◌else◌, Contains}
+use Rattle.std.specs.Prelude.{ℕ, ◌^◌, Bool, true, false, not, ◌&&◌, ◌||◌, List, [], ◌∷◌, ◌++◌, Option, Some, None, map, flat_map, slice_get, codes, bytes_eq, if◌then◌else◌}
 use Rattle.std.specs.List.{list_any}
 use Rattle.aj_syntax.specs.declared.tree.Name.{Name}
 use Rattle.aj_syntax.specs.declared.tree.Param.{Param}
 use Rattle.aj_syntax.specs.declared.tree.TypeName.{TypeName}
 use Rattle.aj_syntax.specs.declared.tree.TypeName.TheVariants as Y
 use Rattle.aj_syntax.specs.Trees.{MemberTree, FieldM, CtorM, MethodM, ClassTree, ProgramTree}
+use Rattle.aj_faults.specs.declared.first.Place.{Place}
+use Rattle.aj_faults.specs.First.{IsFirst}
 use Rattle.aj_classes.specs.declared.fault.ClassFault.{ClassFault}
 use Rattle.aj_classes.specs.declared.fault.ClassFault.TheVariants.{Twice, UnknownClass, BadConstructor, NoMain, NoRun, TooMany, NoMemory}
 use Rattle.aj_classes.specs.Names.{texts_of, has_text, repeats}
@@ -31,12 +33,20 @@ abbrev pub result_faults : (List ℕ → Bool) → Option TypeName → List Clas
 result_faults is_class None = []
 result_faults is_class (Some ty) = type_faults is_class ty
 
--- of parameters: a name again, an unknown type, a 17th one
+-- how many parameters a method or a constructor may have
+abbrev pub most_parameters : ℕ
+most_parameters = 16
+
+-- how many fields a class may have
+abbrev pub most_fields : ℕ
+most_fields = 32
+
+-- of parameters: a name again, an unknown type, one too many
 abbrev pub params_faults : (List ℕ → Bool) → List Param → List ClassFault
 params_faults is_class params =
     twice_faults (param_names params)
     ++ flat_map (λ p. type_faults is_class p.ty) params
-    ++ too_many_faults (slice_get (param_names params) 16)
+    ++ too_many_faults (slice_get (param_names params) most_parameters)
 
 -- of a member by itself
 abbrev pub member_faults : (List ℕ → Bool) → MemberTree → List ClassFault
@@ -77,7 +87,7 @@ class_faults is_class c =
     ++ missing_constructor c.name (finals_of c.members) c.members
     ++ constructor_faults c.name (finals_of c.members) false c.members
     ++ missing_run c
-    ++ too_many_faults (slice_get (field_names c.members) 32)
+    ++ too_many_faults (slice_get (field_names c.members) most_fields)
 
 -- of a program without a class to begin with
 abbrev pub missing_main : ProgramTree → List ClassFault
@@ -110,12 +120,10 @@ rank_of (TooMany at) = 4
 rank_of NoMain = 5
 rank_of NoMemory = 6
 
--- whether a fault comes before another: by offset, and at one offset by rank
-abbrev pub is_before : ClassFault → ClassFault → Bool
-is_before f g =
-    nat_lt (offset_of f) (offset_of g) || (offset_of f == offset_of g && nat_lt (rank_of f) (rank_of g))
+-- where a fault stands
+abbrev pub place_of : ClassFault → Place
+place_of f = record { offset = offset_of f; rank = rank_of f }
 
--- the fault of a program's that is told: it is one, and none comes before it
-pub record IsFirstFault (tree : ProgramTree) (f : ClassFault) : Type 0 where
-  pub stands : Contains (faults_of tree) f
-  pub least : (g : ClassFault) → Contains (faults_of tree) g → is_before g f ≡ false
+-- the fault of a program's that is told: the first
+abbrev pub IsFirstFault : ProgramTree → ClassFault → Type 0
+IsFirstFault tree f = IsFirst place_of (faults_of tree) f

@@ -2,9 +2,9 @@
 
 ghost use Rattle.std.specs.Prelude.{◌≡◌, Some};
 ghost use Rattle.aj_classes.specs.declared.fault.ClassFault.TheVariants.{NoMemory as OutOfMemory};
-ghost use Rattle.aj_classes.specs.Faults.{is_before, offset_of, rank_of};
-ghost use Rattle.aj_classes.specs.Noted.{earlier};
+ghost use Rattle.aj_classes.specs.Faults.{offset_of, rank_of, place_of};
 
+use aj_faults::{Fault, Place};
 use std::alloc::{AllocError, AllocFailed};
 
 /// A fault of a program's classes, with the offset in bytes, from 0, at which it stands.
@@ -55,22 +55,15 @@ impl ClassFault {
             ClassFault::NoMemory => 6,
         }
     }
+}
 
-    fn comes_before(self, other: ClassFault) -> bool
-        ensures { result ≡ is_before self other }
-    {
-        let at = self.offset();
-        let other_at = other.offset();
-        at < other_at || (at == other_at && self.rank() < other.rank())
-    }
+impl Fault for ClassFault {
+    ghost place_of = { place_of };
 
-    /// The first of this fault and one that was found before, if any.
-    pub(crate) fn or_earlier(self, first: Option<ClassFault>) -> Option<ClassFault>
-        ensures { result ≡ Some (earlier first self) }
-    {
-        match first {
-            Some(found) if !self.comes_before(found) => Some(found),
-            _ => Some(self),
+    fn place(self) -> Place {
+        Place {
+            offset: self.offset(),
+            rank: self.rank(),
         }
     }
 }

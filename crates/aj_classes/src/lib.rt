@@ -3,11 +3,13 @@
 
 mod build;
 mod check;
+mod constructors;
 mod entries;
 mod fault;
 mod laws;
 mod lookup;
 mod make;
+mod members;
 mod names;
 
 pub use entries::{ClassEntry, ClassTable, FieldEntry, MethodEntry, ParamEntry};

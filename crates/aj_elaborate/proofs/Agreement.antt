@@ -23,11 +23,12 @@ use Rattle.aj_elaborate.specs.Locks.{lock_rule}
 use Rattle.aj_elaborate.specs.Rules.{field_named, numbered_field, method_named, numbered_method, parameter_types, final_types, fields_in}
 use Rattle.aj_elaborate.specs.Programs.{all_there, field_node, ascending, guard_path, method_scope, run_of}
 use Rattle.aj_elaborate.proofs.Complete.{front_empty, back_empty}
-use Rattle.aj_elaborate.proofs.Inversions.{same_some, map_of, and_then_of, and_of}
+use Rattle.aj_elaborate.proofs.Inversions.{map_of, and_then_of}
 use Rattle.aj_elaborate.proofs.TypedExprs.{IsFieldOf, IsMethodOf, IsMade, Agrees}
 use Rattle.aj_elaborate.proofs.Parts.{Each, each_at, each_along, each_mapped, at_left, at_right, there_at, mapped_at, result_at, told_alike, none_mapped, each_faultless}
 use Rattle.aj_elaborate.proofs.Places.{FieldAt, MethodAt, own_fields, own_methods, fields_at, methods_at, field_entry, method_entry, core_field, core_method, field_entries, method_entries, own_method_names, own_fields_long, own_methods_long, own_class, own_method_class, class_entry, IsPlaced, placed, class_of_entry, places, count_up, fields_from_is, places_both, places_none, places_all, other_below, other_above}
-use Rattle.std.proofs.lemmas.Option.{slice_get_cases}
+use Rattle.std.proofs.lemmas.Option.{slice_get_cases, same_Some}
+use Rattle.std.proofs.lemmas.Bool.{and_parts}
 use Rattle.aj_elaborate.proofs.Built.{class_node, IsBuilt, IsField, field_is, IsMethod, method_is, class_at, classes_long, params_alike, Reads, types_read, reads, place_of_name, entry_at, empty_is, none_is}
 
 -- a program's classes without faults
@@ -210,13 +211,13 @@ module _ (tree : ProgramTree) (P : Program) (b : IsBuilt tree P) where
         let number : method_number the_table c text ≡ Some m =
         ap (option_and_then (method_in text)) place.entry ∙ ap (option_map (λ i. place.first_method + i)) position_is in
         let is = own_method_there e.0 m d (omega (arith, place.first_method_is)) e.2 in
-        let bare = and_of (is_none d.method.returns) (is_empty d.method.params && is_empty d.method.locks) e.4 in
-        let bare_rest = and_of (is_empty d.method.params) (is_empty d.method.locks) bare.1 in
+        let bare = and_parts (is_none d.method.returns) (is_empty d.method.params && is_empty d.method.locks) e.4 in
+        let bare_rest = and_parts (is_empty d.method.params) (is_empty d.method.locks) bare.1 in
         let no_params = empty_is d.method.params bare_rest.0 in
         let no_locks = empty_is d.method.locks bare_rest.1 in
         let no_result = none_is d.method.returns bare.0 in
         let paths_none : [] ≡ is.paths =
-        same_some [] is.paths (ap (λ z. all_there (map (λ l. gain (lock_rule the_table d.class (method_scope the_table d.method) l)) z)) (sym no_locks) ∙ is.locks) in (
+        same_Some [] is.paths (ap (λ z. all_there (map (λ l. gain (lock_rule the_table d.class (method_scope the_table d.method) l)) z)) (sym no_locks) ∙ is.locks) in (
           m,
           number,
           record {
@@ -244,7 +245,7 @@ module _ (tree : ProgramTree) (P : Program) (b : IsBuilt tree P) where
 
   same_entry : (c : ℕ) (d : ClassData) (C : ClassTree) (at : slice_get tree c ≡ Some C) → slice_get the_table.classes c ≡ Some d
       → class_entry (place c C at).first_field (place c C at).first_method C ≡ d
-  same_entry c d C at is = same_some (class_entry (place c C at).first_field (place c C at).first_method C) d (sym (place c C at).entry ∙ is)
+  same_entry c d C at is = same_Some (class_entry (place c C at).first_field (place c C at).first_method C) d (sym (place c C at).entry ∙ is)
 
   fields_agree : (c : ℕ) (name : List ℕ) (f : ℕ × FieldData) → field_named the_table c name ≡ Some f → IsFieldOf P c f
   fields_agree c name f h =
@@ -265,7 +266,7 @@ module _ (tree : ProgramTree) (P : Program) (b : IsBuilt tree P) where
       ap (λ z. slice_get z n.0) (field_entries the_table.names 0 tree)
       ∙ mapped_at (field_entry the_table.names) (fields_at 0 tree) n.0 x.0
       (ap (λ z. slice_get z n.0) p.fields ∙ at_right p.fields_before (own c C.0 C.1 ++ p.fields_after) i.0 n.0 number ∙ at_left (own c C.0 C.1) p.fields_after i.0 x.0 x.1) in
-      let data_is : field_entry the_table.names x.0 ≡ d.0 = same_some (field_entry the_table.names x.0) d.0 (sym entry_at_n ∙ d.1) in
+      let data_is : field_entry the_table.names x.0 ≡ d.0 = same_Some (field_entry the_table.names x.0) d.0 (sym entry_at_n ∙ d.1) in
       subst (IsFieldOf P c) d.2 (record {
         field = is.field;
         is = is.is;
@@ -294,7 +295,7 @@ module _ (tree : ProgramTree) (P : Program) (b : IsBuilt tree P) where
       ap (λ z. slice_get z n.0) (method_entries the_table.names 0 tree)
       ∙ mapped_at (method_entry the_table.names) (methods_at 0 tree) n.0 x.0
       (ap (λ z. slice_get z n.0) p.methods ∙ at_right p.methods_before (mine ++ p.methods_after) i.0 n.0 number ∙ at_left mine p.methods_after i.0 x.0 x.1) in
-      let data_is : method_entry the_table.names x.0 ≡ d.0 = same_some (method_entry the_table.names x.0) d.0 (sym entry_at_n ∙ d.1) in
+      let data_is : method_entry the_table.names x.0 ≡ d.0 = same_Some (method_entry the_table.names x.0) d.0 (sym entry_at_n ∙ d.1) in
       subst (IsMethodOf P c) d.2 (record {
         method = is.method;
         is = is.is;

@@ -35,11 +35,6 @@ found_in tree classes t found fields methods whole table one two three = record 
 pub told : (tree : ProgramTree) (f : TypeFault) (fields : Option (List Field)) (methods : Option (List Method)) → Found tree (Some f) fields methods → IsFirstFault tree f
 told tree f fields methods h = first_is tree f (sym h.first)
 
-pub no_core : (tree : ProgramTree) (f : TypeFault) (fields : Option (List Field)) (methods : Option (List Method)) (P : Program) → Found tree (Some f) fields methods → IsCoreOf tree P → ⊥
-no_core tree f fields methods P h core =
-    let none : Some f ≡ None = h.first ∙ ap (noted None) core.faultless in
-    absurd cc
-
 pub made : (tree classes : ProgramTree) (t : TableData) (fields : Option (List Field)) (methods : Option (List Method)) (P : Program)
     → classes ≡ tree → t ≡ table_of tree → Found tree None fields methods
     → Some P ≡ option_map (program_node t classes) (both fields methods)

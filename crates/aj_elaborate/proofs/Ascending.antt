@@ -28,7 +28,3 @@ inserted_all ks (p ∷ ps) = inserted p (inserted_all ks ps)
 pub inserted_last : (ks ps : List PathData) (p : PathData) → inserted_all ks (ps ++ p ∷ []) ≡ inserted_all (inserted p ks) ps
 inserted_last ks [] p = refl
 inserted_last ks (q ∷ ps) p = ap (inserted q) (inserted_last ks ps p)
-
-pub inserted_nothing : (ps : List PathData) → inserted_all [] ps ≡ ascending ps
-inserted_nothing [] = refl
-inserted_nothing (p ∷ ps) = ap (inserted p) (inserted_nothing ps)

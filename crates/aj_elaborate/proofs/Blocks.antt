@@ -33,10 +33,6 @@ all_statements : (nodes : List CoreStmt) → before_rest core.stmt_of link nodes
 all_statements [] = refl
 all_statements (s ∷ nodes) = ap (linked core.stmt_of link (Some s)) (all_statements nodes)
 
-pub statements_end : (nodes : Option (List CoreStmt)) → so_far core.stmt_of link nodes (Some no_stmts) ≡ option_map core.stmts_from nodes
-statements_end None = refl
-statements_end (Some nodes) = all_statements nodes
-
 pub blocks_end : (nodes : Option (List CoreStmt)) → option_map (λ ns. BlockS (core.stmts_from ns)) nodes ≡ option_map BlockS (so_far core.stmt_of link nodes (Some no_stmts))
 blocks_end None = refl
 blocks_end (Some nodes) = ap (option_map BlockS) (sym (all_statements nodes))

@@ -3,8 +3,9 @@ use Rattle.std.proofs.Common.{◌≡◌, ℕ, ◌+◌, zero, suc, Bool, true, fa
 use Rattle.std.specs.List.{list_any, filter_map, cons_option}
 use Rattle.std.proofs.lemmas.List.Quantifiers.{position-Some}
 use Rattle.std.proofs.lemmas.List.Folds.{list_any-append}
-use Rattle.std.proofs.lemmas.Option.{slice_get-get_or}
+use Rattle.std.proofs.lemmas.Option.{slice_get-get_or, same_Some}
 use Rattle.std.proofs.lemmas.Slice.Eq.{bytes_eq-Decides}
+use Rattle.std.proofs.lemmas.Bool.{or_parts, and_parts}
 use Rattle.aj_paths.specs.Paths.{PathData}
 use Rattle.aj_core.specs.declared.types.CoreType.{CoreType}
 use Rattle.aj_core.specs.Core.{Program, Class, Field, Method, Stmts}
@@ -21,7 +22,7 @@ use Rattle.aj_elaborate.specs.Rulings.{gain, both}
 use Rattle.aj_elaborate.specs.Locks.{lock_rule}
 use Rattle.aj_elaborate.specs.Stmts.{block_core}
 use Rattle.aj_elaborate.specs.Programs.{all_there, guard_path, field_node, method_scope, method_result, method_node, all_fields, all_methods, all_classes, run_of, main_class, main_method, program_node, core_of}
-use Rattle.aj_elaborate.proofs.Inversions.{same_some, both_of, map_of, and_of}
+use Rattle.aj_elaborate.proofs.Inversions.{both_of, map_of}
 use Rattle.aj_elaborate.proofs.Parts.{Each, nothing_at, mapped_at, before_mapped, any_position, there_are}
 use Rattle.aj_elaborate.proofs.Places.{FieldAt, MethodAt, own_methods, fields_at, methods_at, field_entry, core_field, core_method, field_cores, method_cores, count_up}
 
@@ -59,7 +60,7 @@ pub class_at : (t : TableData) (fs : List Field) (k : ℕ) (cs : ProgramTree) (c
 class_at t fs k [] c j C number h = absurd (nothing_at c C h)
 class_at t fs k (D ∷ cs) zero j C number h =
     let same : k ≡ j = omega (arith, number) in
-    ap₂ (λ i D. Some (class_node t fs i D)) same (same_some D C h)
+    ap₂ (λ i D. Some (class_node t fs i D)) same (same_Some D C h)
 class_at t fs k (D ∷ cs) (suc c) j C number h = class_at t fs (k + 1) cs c j C (omega (arith, number)) h
 
 pub classes_long : (t : TableData) (fs : List Field) (k : ℕ) (cs : ProgramTree) → length (all_classes t fs k cs) ≡ length cs
@@ -154,10 +155,6 @@ none_final p g names n (d ∷ ds) h k =
 
 -- ---- names that stand once
 
-text_or : (a b : Bool) → (a || b) ≡ false → (a ≡ false) × (b ≡ false)
-text_or false b h = (refl, h)
-text_or true b h = absurd (let e : true ≡ false = h in cc)
-
 no_repeat : (seen : List (List ℕ)) (n : Name) (ns : List Name) → repeats_after seen (n ∷ ns) ≡ []
     → (has_text seen n.text ≡ false) × (repeats_after (seen ++ n.text ∷ []) ns ≡ [])
 no_repeat seen n ns =
@@ -171,15 +168,15 @@ no_repeat seen n ns =
 -- a name after others isn't one of them
 fresh : (seen : List (List ℕ)) (ns : List Name) → repeats_after seen ns ≡ [] → (j : ℕ) (b : Name) → slice_get ns j ≡ Some b → has_text seen b.text ≡ false
 fresh seen [] h j b at = absurd (nothing_at j b at)
-fresh seen (n ∷ ns) h zero b at = subst (λ z. has_text seen z.text ≡ false) (same_some n b at) (no_repeat seen n ns h).0
+fresh seen (n ∷ ns) h zero b at = subst (λ z. has_text seen z.text ≡ false) (same_Some n b at) (no_repeat seen n ns h).0
 fresh seen (n ∷ ns) h (suc j) b at =
-    (text_or (has_text seen b.text) (has_text (n.text ∷ []) b.text)
+    (or_parts (has_text seen b.text) (has_text (n.text ∷ []) b.text)
     (sym (list_any-append (bytes_eq b.text) seen (n.text ∷ [])) ∙ fresh (seen ++ n.text ∷ []) ns (no_repeat seen n ns h).1 j b at)).0
 
 -- what is known of the last one
 fresh_last : (seen : List (List ℕ)) (x : List ℕ) (ns : List Name) → repeats_after (seen ++ x ∷ []) ns ≡ [] → (j : ℕ) (b : Name) → slice_get ns j ≡ Some b → x ≡ b.text → ⊥
 fresh_last seen x ns h j b at same =
-    let none = (text_or (has_text seen b.text) (has_text (x ∷ []) b.text)
+    let none = (or_parts (has_text seen b.text) (has_text (x ∷ []) b.text)
     (sym (list_any-append (bytes_eq b.text) seen (x ∷ [])) ∙ fresh (seen ++ x ∷ []) ns h j b at)).1 in
     let test : bytes_eq b.text x ≡ true = (bytes_eq-Decides b.text x).1 (sym same) in
     let both_ways : true ≡ false = sym (ap (λ z. z || false) test) ∙ none in
@@ -191,15 +188,15 @@ one_place : (seen : List (List ℕ)) (ns : List Name) → repeats_after seen ns 
 one_place seen [] h i j a b at other same = absurd (nothing_at i a at)
 one_place seen (n ∷ ns) h zero zero a b at other same = refl
 one_place seen (n ∷ ns) h zero (suc j) a b at other same =
-    absurd (fresh_last seen n.text ns (no_repeat seen n ns h).1 j b other (ap (λ z. z.text) (same_some n a at) ∙ same))
+    absurd (fresh_last seen n.text ns (no_repeat seen n ns h).1 j b other (ap (λ z. z.text) (same_Some n a at) ∙ same))
 one_place seen (n ∷ ns) h (suc i) zero a b at other same =
-    absurd (fresh_last seen n.text ns (no_repeat seen n ns h).1 i a at (ap (λ z. z.text) (same_some n b other) ∙ sym same))
+    absurd (fresh_last seen n.text ns (no_repeat seen n ns h).1 i a at (ap (λ z. z.text) (same_Some n b other) ∙ sym same))
 one_place seen (n ∷ ns) h (suc i) (suc j) a b at other same =
     ap suc (one_place (seen ++ n.text ∷ []) ns (no_repeat seen n ns h).1 i j a b at other same)
 
 pub any_of : {A : Type 0} (p : A → Bool) (xs : List A) (i : ℕ) (x : A) → slice_get xs i ≡ Some x → p x ≡ true → list_any p xs ≡ true
 any_of p [] i x at h = absurd (nothing_at i x at)
-any_of p (y ∷ ys) zero x at h = ap (λ b. b || list_any p ys) (ap p (same_some y x at) ∙ h)
+any_of p (y ∷ ys) zero x at h = ap (λ b. b || list_any p ys) (ap p (same_Some y x at) ∙ h)
 any_of p (y ∷ ys) (suc i) x at h = ap (λ b. p y || b) (any_of p ys i x at h) ∙ or_right (p y)
   where
     or_right : (b : Bool) → (b || true) ≡ true
@@ -238,7 +235,7 @@ entry_at text k (MethodM m ∷ ms) =
     as (λ b. is_entry text (MethodM m) ≡ b → (b || list_any (is_entry text) ms) ≡ true
     → (j : ℕ) × (d : MethodAt) × (slice_get (own_methods k (MethodM m ∷ ms)) j ≡ Some d) × (d.method.name.text ≡ text) × (is_bare d.method ≡ true)) [
       | true ↦ λ is h.
-          let p = and_of (bytes_eq m.name.text text) (is_bare m) is in
+          let p = and_parts (bytes_eq m.name.text text) (is_bare m) is in
           (0, record { class = k; method = m }, refl, (bytes_eq-Decides m.name.text text).0 p.0, p.1)
       | false ↦ λ is h. let r = entry_at text k ms h in (suc r.0, r.1, r.2, r.3, r.4)
     ] refl

@@ -1,5 +1,6 @@
 -- Where a part of a program has no faults, it has a core node.
 use Rattle.std.proofs.Common.{◌≡◌, ℕ, ◌+◌, Bool, true, false, List, [], ◌∷◌, ◌++◌, Option, Some, None, IsSome, flat_map, map, length, Result, Ok, Err, refl, sym, ◌∙◌, ◌&&◌, nat_lt, option_map, if◌then◌else◌}
+use Rattle.std.proofs.lemmas.Option.{same_Some}
 use Rattle.aj_syntax.specs.declared.tree.Name.{Name}
 use Rattle.aj_syntax.specs.Trees.{ExprTree, ExprTrees, NumberE, LeastE, TruthE, NullE, ThisE, VarE, ParenE, NotE, NegE, BinaryE, GetE, CallE, NewE, no_exprs, more_exprs}
 use Rattle.aj_syntax.specs.Trees.{StmtTree, StmtTrees, EmptyS, BlockS, LocalS, SetVarS, SetFieldS, DoS, IfS, IfElseS, WhileS, SyncS, ReturnS, PrintS, StartS, no_stmts, more_stmts}
@@ -14,7 +15,6 @@ use Rattle.aj_elaborate.specs.Rules.{type_rule}
 use Rattle.aj_elaborate.specs.Locks.{lock_rule}
 use Rattle.aj_elaborate.specs.Completion.{completes, locals_in}
 use Rattle.aj_elaborate.specs.Stmts.{condition_rule, local_rule, too_many, set_rule, target_rule, put_rule, field_target, do_rule, if_node, return_rule, value_rule, print_rule, start_rule, unreachable, scope_after, stmt_core, block_core, stmt_faults, block_faults}
-use Rattle.aj_elaborate.proofs.Inversions.{same_some}
 use Rattle.aj_elaborate.specs.Programs.{all_there, method_scope, method_result, method_faults, method_node, method_core, guard_faults, guard_path, member_faults, faults_from, fields_core, methods_core, all_fields, all_methods, program_node, faults_of, core_of, IsCoreOf}
 use Rattle.aj_elaborate.specs.declared.fault.TypeFault.{TypeFault}
 use Rattle.aj_elaborate.specs.Rulings.{gain, loss, given, broken, both}
@@ -311,4 +311,4 @@ program_there tree h =
 
 -- one without faults has exactly one
 pub one_core : (tree : ProgramTree) (P Q : Program) → IsCoreOf tree P → IsCoreOf tree Q → P ≡ Q
-one_core tree P Q p q = same_some P Q (sym p.core ∙ q.core)
+one_core tree P Q p q = same_Some P Q (sym p.core ∙ q.core)

@@ -43,10 +43,6 @@ appended_more (Some parts) None rest = refl
 appended_more (Some parts) (Some a) None = refl
 appended_more (Some parts) (Some a) (Some rest) = ap Some (append_assoc parts (a ∷ []) rest)
 
-pub appended_none : {T : Type 0} (parts : Option (List T)) → appended parts (Some []) ≡ parts
-appended_none None = refl
-appended_none (Some parts) = ap Some (append-nil parts)
-
 pub none_appended : {T : Type 0} (parts : Option (List T)) → appended (Some []) parts ≡ parts
 none_appended None = refl
 none_appended (Some parts) = refl

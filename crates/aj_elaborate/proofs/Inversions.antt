@@ -1,17 +1,15 @@
 -- What rules gave tells what their parts gave.
 use Rattle.std.proofs.Common.{◌≡◌, Bool, true, false, Option, Some, None, Result, Ok, Err, refl, ap, ◌&&◌, option_map, option_and_then}
 use Rattle.std.specs.Prelude.{ok_or}
+use Rattle.std.proofs.lemmas.Option.{same_Some}
 use Rattle.aj_elaborate.specs.declared.fault.TypeFault.{TypeFault}
 use Rattle.aj_elaborate.specs.Rulings.{gain, given, both, demand, then_rule}
-
-pub same_some : {A : Type 0} (x y : A) → Some x ≡ Some y → x ≡ y
-same_some x y h = cc
 
 pub same_ok : {A : Type 0} (x y : A) → Path (Result A TypeFault) (Ok x) (Ok y) → x ≡ y
 same_ok x y h = cc
 
 pub gain_of : {A : Type 0} (r : Result A TypeFault) (a : A) → gain r ≡ Some a → r ≡ Ok a
-gain_of (Ok b) a h = ap Ok (same_some b a h)
+gain_of (Ok b) a h = ap Ok (same_Some b a h)
 gain_of (Err f) a h = absurd cc
 
 pub given_of : {A B : Type 0} (rule : A → Result B TypeFault) (o : Option A) (b : B) → given rule o ≡ Some b
@@ -20,7 +18,7 @@ given_of rule (Some a) b h = (a, refl, gain_of (rule a) b h)
 given_of rule None b h = absurd cc
 
 pub both_of : {A B : Type 0} (o : Option A) (p : Option B) (x : A × B) → both o p ≡ Some x → (o ≡ Some x.0) × (p ≡ Some x.1)
-both_of (Some a) (Some b) x h = let e = same_some (a, b) x h in (ap (λ z. Some z.0) e, ap (λ z. Some z.1) e)
+both_of (Some a) (Some b) x h = let e = same_Some (a, b) x h in (ap (λ z. Some z.0) e, ap (λ z. Some z.1) e)
 both_of None p x h = absurd cc
 both_of (Some a) None x h = absurd cc
 
@@ -38,13 +36,9 @@ ok_or_of (Some b) f a h = ap Some (same_ok b a h)
 ok_or_of None f a h = absurd cc
 
 pub map_of : {A B : Type 0} (f : A → B) (o : Option A) (b : B) → option_map f o ≡ Some b → (a : A) × (o ≡ Some a) × (f a ≡ b)
-map_of f (Some a) b h = (a, refl, same_some (f a) b h)
+map_of f (Some a) b h = (a, refl, same_Some (f a) b h)
 map_of f None b h = absurd cc
 
 pub and_then_of : {A B : Type 0} (f : A → Option B) (o : Option A) (b : B) → option_and_then f o ≡ Some b → (a : A) × (o ≡ Some a) × (f a ≡ Some b)
 and_then_of f (Some a) b h = (a, refl, h)
 and_then_of f None b h = absurd cc
-
-pub and_of : (a b : Bool) → (a && b) ≡ true → (a ≡ true) × (b ≡ true)
-and_of true b h = (refl, h)
-and_of false b h = absurd (let e : false ≡ true = h in cc)

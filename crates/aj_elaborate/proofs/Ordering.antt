@@ -2,6 +2,7 @@
 use Rattle.std.proofs.Common.{◌≡◌, ℕ, ◌+◌, ◌<◌, ◌≤◌, ◌==◌, Bool, true, false, List, [], ◌∷◌, ◌++◌, Option, Some, None, option_map, map, filter, slice_get, length, drop, get_or, refl, ap, sym, ◌∙◌, arith, if◌then◌else◌, subst}
 use Rattle.std.proofs.lemmas.List.{append_assoc, append-nil}
 use Rattle.std.proofs.lemmas.Bool.Decides.{nat_tests}
+use Rattle.std.proofs.lemmas.Bool.{eqb-true}
 use Rattle.aj_core.specs.Core.{Class, Field}
 use Rattle.aj_core.specs.Typed.{fields_from, is_final_at}
 use Rattle.aj_syntax.specs.declared.tree.Class as source
@@ -13,10 +14,6 @@ use Rattle.aj_elaborate.specs.Order.{Ascends}
 use Rattle.aj_elaborate.specs.Programs.{all_there, field_node, guard_path, fields_core, all_fields, all_classes, run_of}
 use Rattle.aj_elaborate.proofs.Called.{item_at}
 use Rattle.aj_elaborate.specs.Rulings.{both}
-
-pub ascends_from : (j k : ℕ) (fs : List Field) → j ≤ k → Ascends k fs → Ascends j fs
-ascends_from j k [] below h = tt
-ascends_from j k (f ∷ fs) below h = (omega (arith, h.0), h.1)
 
 differs : (a b : ℕ) → a < b → (b == a) ≡ false
 differs a b h = grind (arith, nat_tests)
@@ -108,17 +105,14 @@ own_step k next after ids more f rest whole own so is counted =
     ∙ ap (λ z. ids ++ z) (sym (own_first k next f rest own))
     ∙ so
 
-same_class : (a b : ℕ) → (a == b) ≡ true → a ≡ b
-same_class a b h = grind (arith, nat_tests)
-
 pub ascend_step : (k : ℕ) (f : Field) (rest : List Field) → (f.class == k) ≡ true → Ascends k (f ∷ rest) → Ascends k rest
-ascend_step k f rest own h = subst (λ c. Ascends c rest) (same_class f.class k own) h.1
+ascend_step k f rest own h = subst (λ c. Ascends c rest) (eqb-true f.class k own) h.1
 
 pub later_step : (k next after : ℕ) (f : Field) (rest : List Field) (whole : ℕ → List ℕ)
     → (f.class == k) ≡ true → after ≡ next + 1 → ((c : ℕ) → k < c → fields_from c next (f ∷ rest) ≡ whole c)
     → (c : ℕ) → k < c → fields_from c after rest ≡ whole c
 later_step k next after f rest whole own counted so c later =
-    ap (λ z. fields_from c z rest) counted ∙ sym (other_first k c next f rest (same_class f.class k own) later) ∙ so c later
+    ap (λ z. fields_from c z rest) counted ∙ sym (other_first k c next f rest (eqb-true f.class k own) later) ∙ so c later
 
 -- all fields of a class, where later ones follow
 pub ids_end : (k next : ℕ) (ids whole : List ℕ) (rest : List Field) → Ascends (k + 1) rest → ids ++ fields_from k next rest ≡ whole → ids ≡ whole

@@ -1,13 +1,13 @@
 -- Lists of parts: what holds of each, which one stands where, and lists of parts none of which is missing.
 use Rattle.std.proofs.Common.{◌≡◌, ℕ, ◌+◌, ◌<◌, zero, suc, Bool, true, false, not, cond, ◌||◌, List, [], ◌∷◌, ◌++◌, map, flat_map, length, Option, Some, None, refl, ap, ap₂, sym, ◌∙◌, subst, ◌⊎◌, inl, inr, All, position, slice_get, nat_lt, arith, option_map}
 use Rattle.std.specs.List.{list_any, position_or_len}
-use Rattle.std.proofs.lemmas.Option.{slice_get-map}
+use Rattle.std.proofs.lemmas.Option.{slice_get-map, same_Some}
 use Rattle.std.proofs.lemmas.List.Elements.{All-cons, All-nil}
 use Rattle.std.proofs.lemmas.Bool.Decides.{nat_tests}
 use Rattle.aj_elaborate.specs.Rulings.{both}
 use Rattle.aj_elaborate.specs.Programs.{all_there}
 use Rattle.aj_elaborate.proofs.Complete.{front_empty, back_empty}
-use Rattle.aj_elaborate.proofs.Inversions.{same_some, both_of, map_of}
+use Rattle.aj_elaborate.proofs.Inversions.{both_of, map_of}
 
 -- ---- what holds of each part
 
@@ -21,7 +21,7 @@ each_both P (x ∷ xs) ys h k = (h.0, each_both P xs ys h.1 k)
 
 pub each_at : {A : Type 0} (P : A → Type 0) (xs : List A) (i : ℕ) (x : A) → Each P xs → slice_get xs i ≡ Some x → P x
 each_at P [] i x h e = absurd (let d : None ≡ Some x = e in cc)
-each_at P (y ∷ ys) zero x h e = subst P (same_some y x e) h.0
+each_at P (y ∷ ys) zero x h e = subst P (same_Some y x e) h.0
 each_at P (y ∷ ys) (suc i) x h e = each_at P ys i x h.1 e
 
 pub each_along : {A : Type 0} (P Q : A → Type 0) (xs : List A) → ((x : A) → P x → Q x) → Each P xs → Each Q xs
@@ -96,7 +96,7 @@ any_position p xs h =
 -- ---- lists of parts none of which is missing
 
 pub there_are : {A : Type 0} (os : List (Option A)) (xs : List A) → all_there os ≡ Some xs → os ≡ map Some xs
-there_are [] xs h = ap (map Some) (same_some [] xs h)
+there_are [] xs h = ap (map Some) (same_Some [] xs h)
 there_are {A} (o ∷ os) xs h =
     let cons : A × List A → List A = λ p. p.0 ∷ p.1 in
     let p = map_of cons (both o (all_there os)) xs h in
@@ -104,11 +104,11 @@ there_are {A} (o ∷ os) xs h =
     ap₂ (λ x y. x ∷ y) q.0 (there_are os p.0.1 q.1) ∙ ap (map Some) p.2
 
 met : {D X : Type 0} (f : D → Option X) (o : Option D) (p : Option X) → option_map f o ≡ option_map Some p → (d : D) → o ≡ Some d → (x : X) × (p ≡ Some x) × (f d ≡ Some x)
-met f o (Some x) h d is = (x, refl, same_some (f d) (Some x) (sym (ap (option_map f) is) ∙ h))
+met f o (Some x) h d is = (x, refl, same_Some (f d) (Some x) (sym (ap (option_map f) is) ∙ h))
 met f o None h d is = absurd (let e : Some (f d) ≡ None = sym (ap (option_map f) is) ∙ h in cc)
 
 met_back : {D X : Type 0} (f : D → Option X) (o : Option D) (p : Option X) → option_map f o ≡ option_map Some p → (x : X) → p ≡ Some x → (d : D) × (o ≡ Some d) × (f d ≡ Some x)
-met_back f (Some d) p h x is = (d, refl, same_some (f d) (Some x) (h ∙ ap (option_map Some) is))
+met_back f (Some d) p h x is = (d, refl, same_Some (f d) (Some x) (h ∙ ap (option_map Some) is))
 met_back f None p h x is = absurd (let e : None ≡ Some (Some x) = h ∙ ap (option_map Some) is in cc)
 
 same_at : {D X : Type 0} (f : D → Option X) (ds : List D) (xs : List X) → map f ds ≡ map Some xs → (i : ℕ) → option_map f (slice_get ds i) ≡ option_map Some (slice_get xs i)

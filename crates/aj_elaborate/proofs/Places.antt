@@ -3,6 +3,7 @@
 use Rattle.std.proofs.Common.{◌≡◌, ℕ, ◌+◌, ◌<◌, ◌≤◌, zero, suc, Bool, true, false, List, [], ◌∷◌, ◌++◌, map, length, Option, Some, refl, ap, ap₂, sym, ◌∙◌, subst, slice_get, arith, option_map, ◌==◌, if◌then◌else◌, append_assoc, length-append}
 use Rattle.std.proofs.lemmas.List.{map-append, length-map}
 use Rattle.std.proofs.lemmas.Bool.Decides.{nat_tests}
+use Rattle.std.proofs.lemmas.Option.{same_Some}
 use Rattle.aj_core.specs.Core.{Field, Method}
 use Rattle.aj_core.specs.Typed.{fields_from}
 use Rattle.aj_syntax.specs.declared.tree.Name.{Name}
@@ -14,7 +15,6 @@ use Rattle.aj_classes.specs.Table.{TableData, ClassData, MethodData, type_of, pa
 use Rattle.aj_classes.specs.Seen.{FieldData}
 use Rattle.aj_classes.specs.Table as table
 use Rattle.aj_elaborate.specs.Programs.{guard_path, field_node, method_core, fields_core, methods_core, all_fields, all_methods}
-use Rattle.aj_elaborate.proofs.Inversions.{same_some}
 use Rattle.aj_elaborate.proofs.Parts.{Each, each_both, each_along, nothing_at}
 
 -- ---- fields and methods as they are written, with the number of their class
@@ -161,7 +161,7 @@ own_method_class k (MethodM m ∷ ms) = (refl, own_method_class k ms)
 
 pub own_index : (k i : ℕ) (ms : List MemberTree) (j : ℕ) (d : FieldAt) → slice_get (own_fields k i ms) j ≡ Some d → d.index ≡ i + j
 own_index k i [] j d e = absurd (nothing_at j d e)
-own_index k i (FieldM f ∷ ms) zero d e = ap (λ z. z.index) (sym (same_some _ d e)) ∙ add-nothing i
+own_index k i (FieldM f ∷ ms) zero d e = ap (λ z. z.index) (sym (same_Some _ d e)) ∙ add-nothing i
   where
     add-nothing : (i : ℕ) → i ≡ i + 0
     add-nothing i = omega arith
@@ -220,7 +220,7 @@ pub placed : (k f m : ℕ) (cs : ProgramTree) (c j : ℕ) (C : ClassTree) → j 
 placed k f m [] c j C number h = absurd (nothing_at c C h)
 placed k f m (D ∷ cs) zero j C number h =
     let same : k ≡ j = omega (arith, number) in
-    subst (λ z. IsPlaced k f m (D ∷ cs) zero j z) (same_some D C h)
+    subst (λ z. IsPlaced k f m (D ∷ cs) zero j z) (same_Some D C h)
     (subst (λ z. IsPlaced k f m (D ∷ cs) zero z D) same (record {
       fields_before = [];
       fields_after = fields_at (k + 1) cs;

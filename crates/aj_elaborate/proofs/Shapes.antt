@@ -1,5 +1,6 @@
 -- How large the core node of an expression is, and whether it is the literal `true`.
 use Rattle.std.proofs.Common.{◌≡◌, ℕ, ◌+◌, ◌≤◌, max, Bool, false, Some, Ok, refl, subst, ◌&&◌, arith, option_map}
+use Rattle.std.proofs.lemmas.Option.{same_Some}
 use Rattle.aj_syntax.specs.declared.tree.Name.{Name}
 use Rattle.aj_syntax.specs.declared.tree.Op.{Op}
 use Rattle.aj_syntax.specs.declared.tree.Op.TheVariants as O
@@ -20,7 +21,7 @@ use Rattle.aj_elaborate.specs.Scopes.{Scope, variable}
 use Rattle.aj_elaborate.specs.Completion.{is_true_literal}
 use Rattle.aj_elaborate.specs.Rules.{TypedData, TypedList, typed, with_argument, is_int, is_boolean, number_rule, variable_typed, not_rule, neg_rule, operator_rule, logical_rule, binary_rule, field_rule, method_rule, get_rule, call_rule, class_rule, new_rule, fit_each, final_types, parameter_types}
 use Rattle.aj_elaborate.specs.Exprs.{elaborated, elaborated_each, variable_rule}
-use Rattle.aj_elaborate.proofs.Inversions.{same_some, same_ok, gain_of, given_of, both_of, demand_of, then_of, ok_or_of, map_of}
+use Rattle.aj_elaborate.proofs.Inversions.{same_ok, gain_of, given_of, both_of, demand_of, then_of, ok_or_of, map_of}
 
 abbrev mutual
   -- how many nodes an expression's core node has at most
@@ -124,10 +125,10 @@ module _ (t : TableData) (class : ℕ) (scope : Scope) where
     pub expr_shape : (e : ExprTree) (d : TypedData) → elaborated t class scope e ≡ Some d → IsShape (tree_height.height e) (size e) (is_true_literal e) d.node
     expr_shape (tree.NumberE n at) d h =
         subst (λ z. IsShape 1 1 false z.node) (demand_of _ _ _ d (gain_of (number_rule n at) d h)).1 (record { height = omega arith; nodes = omega arith; literal = refl })
-    expr_shape (tree.LeastE at) d h = subst (λ z. IsShape 1 1 false z.node) (same_some _ d h) (record { height = omega arith; nodes = omega arith; literal = refl })
-    expr_shape (tree.TruthE b at) d h = subst (λ z. IsShape 1 1 b z.node) (same_some _ d h) (record { height = omega arith; nodes = omega arith; literal = refl })
-    expr_shape (tree.NullE at) d h = subst (λ z. IsShape 1 1 false z.node) (same_some _ d h) (record { height = omega arith; nodes = omega arith; literal = refl })
-    expr_shape (tree.ThisE at) d h = subst (λ z. IsShape 1 1 false z.node) (same_some _ d h) (record { height = omega arith; nodes = omega arith; literal = refl })
+    expr_shape (tree.LeastE at) d h = subst (λ z. IsShape 1 1 false z.node) (same_Some _ d h) (record { height = omega arith; nodes = omega arith; literal = refl })
+    expr_shape (tree.TruthE b at) d h = subst (λ z. IsShape 1 1 b z.node) (same_Some _ d h) (record { height = omega arith; nodes = omega arith; literal = refl })
+    expr_shape (tree.NullE at) d h = subst (λ z. IsShape 1 1 false z.node) (same_Some _ d h) (record { height = omega arith; nodes = omega arith; literal = refl })
+    expr_shape (tree.ThisE at) d h = subst (λ z. IsShape 1 1 false z.node) (same_Some _ d h) (record { height = omega arith; nodes = omega arith; literal = refl })
     expr_shape (tree.VarE n) d h =
         let o = map_of variable_typed (variable scope n.text) d (ok_or_of (option_map variable_typed (variable scope n.text)) (UnknownName n.at) d (gain_of (variable_rule scope n) d h)) in
         subst (λ z. IsShape 1 1 false z.node) o.2 (record { height = omega arith; nodes = omega arith; literal = refl })
@@ -168,7 +169,7 @@ module _ (t : TableData) (class : ℕ) (scope : Scope) where
         new_shape (tree_height.heights args) (sizes args) n g.0 d (each_shape args g.0 g.1) g.2
 
     pub each_shape : (es : ExprTrees) (l : TypedList) → elaborated_each t class scope es ≡ Some l → AreShapes (tree_height.heights es) (sizes es) l.nodes
-    each_shape no_exprs l h = subst (λ z. AreShapes 0 0 z.nodes) (same_some _ l h) (record { height = omega arith; nodes = omega arith })
+    each_shape no_exprs l h = subst (λ z. AreShapes 0 0 z.nodes) (same_Some _ l h) (record { height = omega arith; nodes = omega arith })
     each_shape (more_exprs e es) l h =
         let g = map_of with_argument (both (elaborated t class scope e) (elaborated_each t class scope es)) l h in
         let p = both_of (elaborated t class scope e) (elaborated_each t class scope es) g.0 g.1 in

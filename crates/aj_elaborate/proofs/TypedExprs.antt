@@ -1,6 +1,8 @@
 -- The core node of an expression has its type.
 use Rattle.std.proofs.Common.{◌≡◌, ℕ, ◌<◌, true, false, List, [], ◌∷◌, Some, Ok, refl, ap, sym, ◌∙◌, subst, ◌&&◌, Contains, slice_get, option_map}
 use Rattle.std.specs.Prelude.{ok_or}
+use Rattle.std.proofs.lemmas.Option.{same_Some}
+use Rattle.std.proofs.lemmas.Bool.{and_parts}
 use Rattle.aj_syntax.specs.declared.tree.Name.{Name}
 use Rattle.aj_syntax.specs.declared.tree.Op.{Op}
 use Rattle.aj_syntax.specs.declared.tree.Op.TheVariants as O
@@ -21,7 +23,7 @@ use Rattle.aj_elaborate.specs.Rulings.{both, demand}
 use Rattle.aj_elaborate.specs.Scopes.{Scope, variable}
 use Rattle.aj_elaborate.specs.Rules.{TypedData, TypedList, typed, with_argument, is_int, is_boolean, class_in, receiver_class, number_rule, variable_typed, not_rule, neg_rule, operator_rule, logical_rule, binary_rule, field_named, method_named, field_rule, method_rule, get_rule, call_rule, class_rule, new_rule, fit_each, final_types, parameter_types}
 use Rattle.aj_elaborate.specs.Exprs.{elaborated, elaborated_each, variable_rule}
-use Rattle.aj_elaborate.proofs.Inversions.{same_some, same_ok, gain_of, given_of, both_of, demand_of, then_of, ok_or_of, map_of, and_of}
+use Rattle.aj_elaborate.proofs.Inversions.{same_ok, gain_of, given_of, both_of, demand_of, then_of, ok_or_of, map_of}
 
 -- ---- what a table tells of a core program
 
@@ -76,7 +78,7 @@ is_boolean_of NullT h = absurd (let e : false ≡ true = h in cc)
 is_boolean_of VoidT h = absurd (let e : false ≡ true = h in cc)
 
 pub class_in_of : (ty : CoreType) (c : ℕ) → class_in ty ≡ Some c → ty ≡ type.Class c
-class_in_of (type.Class d) c h = ap type.Class (same_some d c h)
+class_in_of (type.Class d) c h = ap type.Class (same_Some d c h)
 class_in_of type.Int c h = absurd cc
 class_in_of type.Boolean c h = absurd cc
 
@@ -124,7 +126,7 @@ module _ (t : TableData) (P : Program) (agrees : Agrees t P) where
     fit_of (core.and_expr e es) [] us h k = absurd h
     fit_of (core.and_expr e es) (T ∷ Ts) [] h k = absurd (let e : false ≡ true = k in cc)
     fit_of (core.and_expr e es) (T ∷ Ts) (u ∷ us) h k =
-        let a = and_of (fits T (ValueT u)) (fit_each Ts us) k in
+        let a = and_parts (fits T (ValueT u)) (fit_each Ts us) k in
         ((T, h.0, a.0), fit_of es Ts us h.1 a.1)
 
     -- ---- the rules
@@ -151,14 +153,14 @@ module _ (t : TableData) (P : Program) (agrees : Agrees t P) where
     and_holds : (at : ℕ) (p : TypedData × TypedData) (d : TypedData) → Holds p.0 → Holds p.1 → logical_rule core.AndE at p ≡ Ok d → Holds d
     and_holds at p d h k is =
         let q = demand_of (is_boolean p.0.ty && is_boolean p.1.ty) (NoRule at) (typed boolean_type (core.AndE p.0.node p.1.node)) d is in
-        let r = and_of (is_boolean p.0.ty) (is_boolean p.1.ty) q.0 in
+        let r = and_parts (is_boolean p.0.ty) (is_boolean p.1.ty) q.0 in
         subst Holds q.1
         (subst (HasType P class vars p.0.node) (is_boolean_of p.0.ty r.0) h, subst (HasType P class vars p.1.node) (is_boolean_of p.1.ty r.1) k, refl)
 
     or_holds : (at : ℕ) (p : TypedData × TypedData) (d : TypedData) → Holds p.0 → Holds p.1 → logical_rule core.OrE at p ≡ Ok d → Holds d
     or_holds at p d h k is =
         let q = demand_of (is_boolean p.0.ty && is_boolean p.1.ty) (NoRule at) (typed boolean_type (core.OrE p.0.node p.1.node)) d is in
-        let r = and_of (is_boolean p.0.ty) (is_boolean p.1.ty) q.0 in
+        let r = and_parts (is_boolean p.0.ty) (is_boolean p.1.ty) q.0 in
         subst Holds q.1
         (subst (HasType P class vars p.0.node) (is_boolean_of p.0.ty r.0) h, subst (HasType P class vars p.1.node) (is_boolean_of p.1.ty r.1) k, refl)
 
@@ -220,10 +222,10 @@ module _ (t : TableData) (P : Program) (agrees : Agrees t P) where
         -- an expression that has a core node is typed
         pub expr_holds : (e : ExprTree) (d : TypedData) → elaborated t class scope e ≡ Some d → Holds d
         expr_holds (tree.NumberE n at) d h = number_holds n at d (gain_of (number_rule n at) d h)
-        expr_holds (tree.LeastE at) d h = subst Holds (same_some _ d h) refl
-        expr_holds (tree.TruthE b at) d h = subst Holds (same_some _ d h) refl
-        expr_holds (tree.NullE at) d h = subst Holds (same_some _ d h) refl
-        expr_holds (tree.ThisE at) d h = subst Holds (same_some _ d h) refl
+        expr_holds (tree.LeastE at) d h = subst Holds (same_Some _ d h) refl
+        expr_holds (tree.TruthE b at) d h = subst Holds (same_Some _ d h) refl
+        expr_holds (tree.NullE at) d h = subst Holds (same_Some _ d h) refl
+        expr_holds (tree.ThisE at) d h = subst Holds (same_Some _ d h) refl
         expr_holds (tree.VarE n) d h = variable_holds n d (gain_of (variable_rule scope n) d h)
         expr_holds (tree.ParenE e at) d h = expr_holds e d h
         expr_holds (tree.NotE e at) d h =
@@ -248,7 +250,7 @@ module _ (t : TableData) (P : Program) (agrees : Agrees t P) where
             new_holds n g.0 d (each_holds args g.0 g.1) g.2
 
         pub each_holds : (es : ExprTrees) (l : TypedList) → elaborated_each t class scope es ≡ Some l → HoldEach l.nodes l.types
-        each_holds no_exprs l h = subst (λ z. HoldEach z.nodes z.types) (same_some _ l h) tt
+        each_holds no_exprs l h = subst (λ z. HoldEach z.nodes z.types) (same_Some _ l h) tt
         each_holds (more_exprs e es) l h =
             let g = map_of with_argument (both (elaborated t class scope e) (elaborated_each t class scope es)) l h in
             let p = both_of (elaborated t class scope e) (elaborated_each t class scope es) g.0 g.1 in

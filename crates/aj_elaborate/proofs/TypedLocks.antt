@@ -2,6 +2,8 @@
 use Rattle.std.proofs.Common.{◌≡◌, ℕ, ◌<◌, ◌≤◌, zero, suc, Bool, true, false, List, [], ◌∷◌, ◌++◌, length, Option, Some, None, Ok, refl, sym, ◌∙◌, subst, ◌&&◌, Contains, slice_get, arith, if◌then◌else◌}
 use Rattle.std.specs.Prelude.{ok_or, nat_le}
 use Rattle.std.proofs.lemmas.Bool.Decides.{nat_tests}
+use Rattle.std.proofs.lemmas.Option.{same_Some}
+use Rattle.std.proofs.lemmas.Bool.{and_parts}
 use Rattle.aj_paths.specs.Paths.{PathData, extended, extended_some, most_fields}
 use Rattle.aj_syntax.specs.declared.tree.Name.{Name}
 use Rattle.aj_syntax.specs.Trees.{LockTree}
@@ -17,7 +19,7 @@ use Rattle.aj_elaborate.specs.Rulings.{demand, then_rule}
 use Rattle.aj_elaborate.specs.Scopes.{Scope, variable, this_variable}
 use Rattle.aj_elaborate.specs.Rules.{class_in, field_named}
 use Rattle.aj_elaborate.specs.Locks.{Reach, reach_of, through, lock_field, along, lock_end, root_rule, lock_rule}
-use Rattle.aj_elaborate.proofs.Inversions.{same_some, same_ok, demand_of, then_of, ok_or_of, and_of}
+use Rattle.aj_elaborate.proofs.Inversions.{same_ok, demand_of, then_of, ok_or_of}
 use Rattle.aj_elaborate.proofs.TypedExprs.{IsFieldOf, Agrees, Seen, class_in_of}
 
 -- from an object of a class along final fields to an object of another
@@ -44,7 +46,7 @@ extension_of q fs p =
     as (λ b. nat_le (length (q.fields ++ fs)) most_fields ≡ b
     → (if b then Some (record { root = q.root; fields = q.fields ++ fs }) else None) ≡ Some p
     → (record { root = q.root; fields = q.fields ++ fs } ≡ p) × (length (q.fields ++ fs) ≤ most_fields)) [
-      | true ↦ λ is h. (same_some _ p h, short_of (length (q.fields ++ fs)) is)
+      | true ↦ λ is h. (same_Some _ p h, short_of (length (q.fields ++ fs)) is)
       | false ↦ λ is h. absurd (let e : None ≡ Some p = h in cc)
     ] refl
   where
@@ -77,12 +79,12 @@ module _ (t : TableData) (P : Program) (agrees : Agrees t P) (class : ℕ) (vars
 
   walks_root : (v : Variable) → CanRoot v → Walks (reach_of v)
   walks_root v can p c final_is path ty =
-      let e : slot_path v.slot ≡ p = same_some (slot_path v.slot) p path in
+      let e : slot_path v.slot ≡ p = same_Some (slot_path v.slot) p path in
       subst (λ q. IsWalk q c) e (record { root_class = c; root = can c final_is ty; leads = refl; short = omega arith })
 
   walks_through : (r : Reach) (d : ℕ) (f : ℕ × FieldData) → Walks r → r.ty ≡ type.Class d → IsFieldOf P d f → Walks (through r f)
   walks_through r d f walks of_class is p c final_is path ty =
-      let finals = and_of r.is_final f.1.is_final final_is in
+      let finals = and_parts r.is_final f.1.is_final final_is in
       more r.path refl finals.0 finals.1 path
     where
       more : (o : Option PathData) → r.path ≡ o → r.is_final ≡ true → f.1.is_final ≡ true → extended_some o (f.0 ∷ []) ≡ Some p → IsWalk p c
@@ -113,7 +115,7 @@ module _ (t : TableData) (P : Program) (agrees : Agrees t P) (class : ℕ) (vars
   end_is_lock at r p walks h =
       let o = then_of (demand (r.is_final && is_class r.ty) (NotALock at) r.path) (λ q. ok_or q (NotALock at)) p h in
       let d = demand_of (r.is_final && is_class r.ty) (NotALock at) r.path o.0 o.1 in
-      let b = and_of r.is_final (is_class r.ty) d.0 in
+      let b = and_parts r.is_final (is_class r.ty) d.0 in
       let c = class_of r.ty b.1 in
       lock_of p c.0 (walks p c.0 b.0 (d.1 ∙ ok_or_of o.0 (NotALock at) p o.2) c.1)
 

@@ -4,7 +4,7 @@ use Rattle.std.specs.Prelude.{codes}
 use Rattle.std.specs.List.{list_any}
 use Rattle.std.proofs.lemmas.List.{length-map}
 use Rattle.std.proofs.lemmas.List.Quantifiers.{position-Some}
-use Rattle.std.proofs.lemmas.Option.{slice_get_within}
+use Rattle.std.proofs.lemmas.Option.{slice_get_within, same_Some}
 use Rattle.std.proofs.lemmas.Slice.Eq.{bytes_eq-Decides}
 use Rattle.aj_paths.specs.Paths.{PathData}
 use Rattle.aj_core.specs.declared.types.CoreType.{CoreType}
@@ -25,11 +25,12 @@ use Rattle.aj_elaborate.specs.Locks.{lock_rule}
 use Rattle.aj_elaborate.specs.Stmts.{block_core}
 use Rattle.aj_elaborate.specs.Programs.{all_there, ascending, guard_path, method_scope, method_result, method_node, run_of}
 use Rattle.aj_elaborate.proofs.Complete.{front_empty, back_empty}
-use Rattle.aj_elaborate.proofs.Inversions.{same_some, both_of, map_of, and_of}
+use Rattle.aj_elaborate.proofs.Inversions.{both_of, map_of}
 use Rattle.aj_elaborate.proofs.Parts.{Each, each_both, each_at, at_either, there_at, mapped_at, any_at, any_position, there_are, part_at, as_many, each_faultless}
 use Rattle.aj_elaborate.proofs.Places.{FieldAt, MethodAt, own_fields, own_methods, fields_at, methods_at, core_field, core_method, own_fields_long}
 use Rattle.aj_elaborate.proofs.Built.{class_node, IsBuilt, built, field_is, method_is, none_final, place_of_name}
 use Rattle.std.proofs.lemmas.List.Sums.{sum_by-cons}
+use Rattle.std.proofs.lemmas.Bool.{and_parts}
 use Rattle.aj_lexer.specs.declared.tokens.Token.{Token}
 use Rattle.aj_syntax.specs.declared.tree.TypeName.TheVariants as Y
 use Rattle.aj_syntax.specs.Grammar.{Grammar, Repeats, SpellsGuard, SpellsField, SpellsMember, SpellsClass}
@@ -264,11 +265,11 @@ no_more_seen = record { seen = λ name v h. absurd (let e : None ≡ Some v = h 
 seen_first : (scope : Scope) (vars : List Variable) (b : Binding) → Seen scope vars → 0 < b.variable.slot → Seen (b ∷ scope) (b.variable ∷ vars)
 seen_first scope vars b s above = record {
   seen = λ name v. elim (bytes_eq b.name name) as (λ x. (if x then Some b.variable else variable scope name) ≡ Some v → Contains (b.variable ∷ vars) v) [
-    | true ↦ λ h. subst (λ z. Contains (b.variable ∷ vars) z) (same_some b.variable v h) (first_in b.variable vars)
+    | true ↦ λ h. subst (λ z. Contains (b.variable ∷ vars) z) (same_Some b.variable v h) (first_in b.variable vars)
     | false ↦ λ h. later_in b.variable vars v (s.seen name v h)
   ];
   above = λ name v. elim (bytes_eq b.name name) as (λ x. (if x then Some b.variable else variable scope name) ≡ Some v → 0 < v.slot) [
-    | true ↦ λ h. subst (λ z. 0 < z.slot) (same_some b.variable v h) above
+    | true ↦ λ h. subst (λ z. 0 < z.slot) (same_Some b.variable v h) above
     | false ↦ λ h. s.above name v h
   ];
 }
@@ -309,7 +310,7 @@ module _ (tree : ProgramTree) (P : Program) (b : IsBuilt tree P) (s : AreSound t
   -- ---- fields
 
   guard_is_lock : (k : ℕ) (guard : Option LockTree) (g : Option PathData) → guard_path t k guard ≡ Some g → IfSome g (IsLock P k [])
-  guard_is_lock k None g h = subst (λ z. IfSome z (IsLock P k [])) (same_some None g h) tt
+  guard_is_lock k None g h = subst (λ z. IfSome z (IsLock P k [])) (same_Some None g h) tt
   guard_is_lock k (Some l) g h =
       let p = map_of Some (gain (lock_rule t k [] l)) g h in
       subst (λ z. IfSome z (IsLock P k [])) p.2
@@ -353,7 +354,7 @@ module _ (tree : ProgramTree) (P : Program) (b : IsBuilt tree P) (s : AreSound t
           guard = subst (λ k. IfSome field.guard (IsLock P k [])) (sym is.class) (guard_is_lock d.class d.field.guard field.guard is.guard);
           unguarded = λ final_is.
               let none : d.field.guard ≡ None = (each_at IsWellGuarded (fields_at 0 tree) f d guarded r.1).plain (sym is.finality ∙ final_is) in
-              same_some field.guard None (sym is.guard ∙ ap (guard_path t d.class) none);
+              same_Some field.guard None (sym is.guard ∙ ap (guard_path t d.class) none);
           writes = λ set.
               let some : IsSome d.field.guard = (each_at IsWellGuarded (fields_at 0 tree) f d guarded r.1).writes (sym is.writes ∙ set) in
               guard_kept d.class d.field.guard field.guard some is.guard;
@@ -375,7 +376,7 @@ module _ (tree : ProgramTree) (P : Program) (b : IsBuilt tree P) (s : AreSound t
       let C = there_at tree c (omega (arith, within, classes_many tree P b)) in
       let p = place tree P b c C.0 C.1 in
       let sound_is = each_at (IsSound (known_in tree)) tree c C.0 s.classes C.1 in
-      subst (IsTypedClass P c) (same_some (class_node t P.fields c C.0) class (sym (class_there tree P b c C.0 C.1) ∙ at)) (record {
+      subst (IsTypedClass P c) (same_Some (class_node t P.fields c C.0) class (sym (class_there tree P b c C.0 C.1) ∙ at)) (record {
         fields = refl;
         finals = refl;
         run = run_is_entry c C.0 C.1 C.0.runnable refl;
@@ -400,8 +401,8 @@ module _ (tree : ProgramTree) (P : Program) (b : IsBuilt tree P) (s : AreSound t
   main_is_there =
       let c = any_at is_main tree s.main in
       let C = c.1 in
-      let named = and_of (bytes_eq C.name.text (codes "Main")) (is_empty (finals_of C.members) && list_any (is_entry (codes "main")) C.members) c.3 in
-      let rest = and_of (is_empty (finals_of C.members)) (list_any (is_entry (codes "main")) C.members) named.1 in
+      let named = and_parts (bytes_eq C.name.text (codes "Main")) (is_empty (finals_of C.members) && list_any (is_entry (codes "main")) C.members) c.3 in
+      let rest = and_parts (is_empty (finals_of C.members)) (list_any (is_entry (codes "main")) C.members) named.1 in
       let text_is : C.name.text ≡ codes "Main" = (bytes_eq-Decides C.name.text (codes "Main")).0 named.0 in
       let number : class_number t (codes "Main") ≡ Some c.0 =
       ap (λ z. position (bytes_eq z) t.names) (sym text_is)
@@ -421,7 +422,7 @@ module _ (tree : ProgramTree) (P : Program) (b : IsBuilt tree P) (s : AreSound t
   no_finals class at =
       let m = main_is_there in
       let p = place tree P b P.main_class m.class m.at in
-      let class_is = same_some (class_node t P.fields P.main_class m.class) class (sym (class_there tree P b P.main_class m.class m.at) ∙ at) in
+      let class_is = same_Some (class_node t P.fields P.main_class m.class) class (sym (class_there tree P b P.main_class m.class m.at) ∙ at) in
       ap (λ z. z.finals) (sym class_is)
       ∙ ap (filter (λ f. is_final_at (slice_get P.fields f))) (numbers tree P b P.main_class m.class m.at)
       ∙ none_final (λ f. is_final_at (slice_get P.fields f)) (λ f. field_type (slice_get P.fields f)) t.names (length p.fields_before) (own_fields P.main_class 0 m.class.members)

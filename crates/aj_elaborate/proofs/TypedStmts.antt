@@ -2,8 +2,9 @@
 use Rattle.std.proofs.Common.{◌≡◌, ℕ, ◌+◌, ◌<◌, ◌≤◌, max, Bool, true, false, not, List, [], ◌∷◌, ◌++◌, Option, Some, None, is_none, Ok, refl, ap, ap₂, sym, ◌∙◌, subst, ◌&&◌, ◌||◌, ◌⊎◌, inl, inr, Contains, slice_get, nat_lt, bytes_eq, arith, option_map, if◌then◌else◌}
 use Rattle.std.specs.Prelude.{ok_or}
 use Rattle.std.proofs.lemmas.Bool.Decides.{nat_tests}
-use Rattle.std.proofs.lemmas.Option.{slice_get_within}
+use Rattle.std.proofs.lemmas.Option.{slice_get_within, same_Some}
 use Rattle.std.proofs.lemmas.List.Elements.{Contains-append_right}
+use Rattle.std.proofs.lemmas.Bool.{not-true}
 use Rattle.aj_syntax.specs.declared.tree.Name.{Name}
 use Rattle.aj_syntax.specs.declared.tree.TypeName.{TypeName}
 use Rattle.aj_syntax.specs.declared.tree.TypeName.TheVariants as Y
@@ -28,7 +29,7 @@ use Rattle.aj_elaborate.specs.Locks.{lock_rule}
 use Rattle.aj_elaborate.specs.Exprs.{elaborated}
 use Rattle.aj_elaborate.specs.Completion.{completes, completes_each, is_true_literal, locals_in, locals_in_each}
 use Rattle.aj_elaborate.specs.Stmts.{local_rule, target_rule, set_rule, field_target, put_rule, do_rule, condition_rule, return_rule, value_rule, print_rule, says_runnable, is_runnable, start_rule, declared, if_node, scope_after, stmt_core, block_core}
-use Rattle.aj_elaborate.proofs.Inversions.{same_some, same_ok, gain_of, given_of, both_of, demand_of, then_of, ok_or_of, map_of}
+use Rattle.aj_elaborate.proofs.Inversions.{same_ok, gain_of, given_of, both_of, demand_of, then_of, ok_or_of, map_of}
 use Rattle.aj_elaborate.proofs.TypedExprs.{Agrees, Seen, is_int_of, is_boolean_of, receiver_of, field_of, expr_holds}
 use Rattle.aj_elaborate.proofs.TypedLocks.{lock_holds}
 use Rattle.aj_elaborate.proofs.Shapes.{max_mono, size, IsShape, expr_shape}
@@ -68,10 +69,6 @@ none_of : {A : Type 0} (o : Option A) → is_none o ≡ true → o ≡ None
 none_of None h = refl
 none_of (Some a) h = absurd (let e : false ≡ true = h in cc)
 
-not_of : (b : Bool) → not b ≡ true → b ≡ false
-not_of false h = refl
-not_of true h = absurd (let e : false ≡ true = h in cc)
-
 pub first_in : {A : Type 0} (x : A) (xs : List A) → Contains (x ∷ xs) x
 first_in x xs = (0, omega arith, refl)
 
@@ -108,7 +105,7 @@ found_in : (scope : Scope) (b : Binding) (name : List ℕ) (v : Variable) → va
     → (variable scope name ≡ Some v) ⊎ (b.variable ≡ v)
 found_in [] b name v =
     elim (bytes_eq b.name name) as (λ x. (if x then Some b.variable else None) ≡ Some v → (None ≡ Some v) ⊎ (b.variable ≡ v)) [
-      | true ↦ λ h. inr (same_some b.variable v h)
+      | true ↦ λ h. inr (same_Some b.variable v h)
       | false ↦ λ h. inl h
     ]
 found_in (a ∷ rest) b name v =
@@ -222,7 +219,7 @@ module _ (t : TableData) (P : Program) (agrees : Agrees t P) (class : ℕ) (retu
         let q = demand_of (not target.0.is_final) (FinalAssigned n.at) target.0 g.0.0 target.2 in
         let is_there : Contains vars g.0.0 =
         subst (Contains vars) q.1 (seen.seen n.text target.0 (ok_or_of (variable scope n.text) (UnknownName n.at) target.0 target.1)) in
-        let open_to : g.0.0.is_final ≡ false = subst (λ z. z.is_final ≡ false) q.1 (not_of target.0.is_final q.0) in
+        let open_to : g.0.0.is_final ≡ false = subst (λ z. z.is_final ≡ false) q.1 (not-true target.0.is_final q.0) in
         let v = then_of (fit_rule at g.0.0.ty g.0.1) (λ v. Ok (core.SetVarS g.0.0.slot v)) s g.2 in
         let k = value_fine e at g.0.0.ty g.0.1 v.0 p.1 v.1 in
         subst (IsFine scope vars before (tree.SetVarS n e at)) (same_ok (core.SetVarS g.0.0.slot v.0) s v.2) (record {
@@ -252,7 +249,7 @@ module _ (t : TableData) (P : Program) (agrees : Agrees t P) (class : ℕ) (retu
         let typed_field : (field : core.Field) × (slice_get P.fields f.0.0 ≡ Some field) × (field.is_final ≡ false) × HasType P class vars a.0.node (class_type field.class) × (field.ty ≡ f.0.1.ty) = (
           is.field,
           is.is,
-          is.finality ∙ not_of f.0.1.is_final q.0,
+          is.finality ∙ not-true f.0.1.is_final q.0,
           subst (HasType P class vars a.0.node) (known.1 ∙ ap class_type (sym is.of_class)) (expr_holds t P agrees class vars scope seen e a.0 a.1),
           is.ty,
         ) in
@@ -363,7 +360,7 @@ module _ (t : TableData) (P : Program) (agrees : Agrees t P) (class : ℕ) (retu
     pub stmt_fine : (scope : Scope) (vars : List Variable) → Seen scope vars → (before : ℕ) (s : StmtTree) (n : Stmt)
         → stmt_core t class returns first scope before s ≡ Some n → IsFine scope vars before s n
     stmt_fine scope vars seen before (tree.EmptyS at) n h =
-        subst (IsFine scope vars before (tree.EmptyS at)) (same_some core.EmptyS n h)
+        subst (IsFine scope vars before (tree.EmptyS at)) (same_Some core.EmptyS n h)
         (record { is_typed = tt; declares = refl; ends = refl; height = omega arith; nodes = omega arith; low = λ b. omega (arith, b); later = seen })
     stmt_fine scope vars seen before (tree.BlockS ss at) n h =
         let b = map_of core.BlockS (block_core t class returns first scope before ss) n h in
@@ -460,7 +457,7 @@ module _ (t : TableData) (P : Program) (agrees : Agrees t P) (class : ℕ) (retu
     pub block_fine : (scope : Scope) (vars : List Variable) → Seen scope vars → (before : ℕ) (ss : StmtTrees) (ns : Stmts)
         → block_core t class returns first scope before ss ≡ Some ns → AreFine vars before ss ns
     block_fine scope vars seen before tree.no_stmts ns h =
-        subst (AreFine vars before tree.no_stmts) (same_some core.no_stmts ns h)
+        subst (AreFine vars before tree.no_stmts) (same_Some core.no_stmts ns h)
         (record { are_typed = tt; declare = refl; ends = refl; height = omega arith; nodes = omega arith; low = λ b. omega (arith, b) })
     block_fine scope vars seen before (more_stmts s ss) ns h =
         let one = stmt_core t class returns first scope before s in

@@ -1,5 +1,6 @@
 -- The order of type faults.
-use Rattle.std.specs.Prelude.{ℕ, ◌^◌, Bool, ◌&&◌, ◌||◌, ◌==◌, nat_lt}
+use Rattle.std.specs.Prelude.{ℕ, ◌^◌}
+use Rattle.aj_faults.specs.declared.first.Place.{Place}
 use Rattle.aj_elaborate.specs.declared.fault.TypeFault.{TypeFault}
 use Rattle.aj_elaborate.specs.declared.fault.TypeFault.TheVariants.{UnknownName, NoRule, FinalAssigned, NotALock, MissingReturn, Unreachable, TooManyLocals, Redeclared, NoMemory}
 
@@ -27,7 +28,6 @@ rank_of (TooManyLocals at) = 7
 rank_of (Redeclared at) = 8
 rank_of NoMemory = 9
 
--- whether a fault comes before another: by offset, and at one offset by rank
-abbrev pub is_before : TypeFault → TypeFault → Bool
-is_before f g =
-    nat_lt (offset_of f) (offset_of g) || (offset_of f == offset_of g && nat_lt (rank_of f) (rank_of g))
+-- where a fault stands
+abbrev pub place_of : TypeFault → Place
+place_of f = record { offset = offset_of f; rank = rank_of f }

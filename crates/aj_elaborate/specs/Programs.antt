@@ -6,11 +6,12 @@ use Rattle.aj_paths.specs.Paths.{PathData, path_order}
 use Rattle.aj_core.specs.declared.types.CoreType.{CoreType}
 use Rattle.aj_core.specs.Core.{Program, Class, Field, Method, Stmts, BlockS}
 use Rattle.aj_core.specs.Typed.{fields_from, is_final_at}
+use Rattle.aj_faults.specs.First.{IsFirst}
 use Rattle.aj_syntax.specs.Trees.{LockTree, MethodTree, FieldTree, MemberTree, FieldM, CtorM, MethodM, ClassTree, ProgramTree}
 use Rattle.aj_classes.specs.Table.{TableData, type_of, class_number, method_number, table_of}
 use Rattle.aj_elaborate.specs.declared.fault.TypeFault.{TypeFault}
 use Rattle.aj_elaborate.specs.declared.fault.TypeFault.TheVariants.{MissingReturn}
-use Rattle.aj_elaborate.specs.Faults.{is_before}
+use Rattle.aj_elaborate.specs.Faults.{place_of}
 use Rattle.aj_elaborate.specs.Rulings.{gain, loss, both}
 use Rattle.aj_elaborate.specs.Scopes.{Scope, parameters_from}
 use Rattle.aj_elaborate.specs.Locks.{lock_rule}
@@ -176,10 +177,9 @@ module _ (t : TableData) where
 abbrev pub faults_of : ProgramTree → List TypeFault
 faults_of tree = faults_from (table_of tree) 0 tree
 
--- the fault of a program's that is told: it is one, and none comes before it
-pub record IsFirstFault (tree : ProgramTree) (f : TypeFault) : Type 0 where
-  pub stands : Contains (faults_of tree) f
-  pub least : (g : TypeFault) → Contains (faults_of tree) g → is_before g f ≡ false
+-- the fault of a program's that is told: the first
+abbrev pub IsFirstFault : ProgramTree → TypeFault → Type 0
+IsFirstFault tree f = IsFirst place_of (faults_of tree) f
 
 -- the core program of a program, where each of its parts has a core node
 abbrev pub core_of : ProgramTree → Option Program

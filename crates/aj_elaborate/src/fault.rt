@@ -2,9 +2,9 @@
 
 ghost use Rattle.std.specs.Prelude.{◌≡◌, Option, Some, IfOk, OnOk, ◌∷◌, []};
 ghost use Rattle.aj_elaborate.specs.declared.fault.TypeFault.TheVariants.{NoMemory as OutOfMemory};
-ghost use Rattle.aj_elaborate.specs.Faults.{is_before, offset_of, rank_of};
-ghost use Rattle.aj_elaborate.specs.Noted.{earlier, noted};
+ghost use Rattle.aj_elaborate.specs.Faults.{offset_of, rank_of, place_of};
 
+use aj_faults::{Fault, Place};
 use std::alloc::{AllocError, AllocFailed};
 
 /// A fault of a program's types, with the offset in bytes, from 0, at which it stands.
@@ -62,22 +62,15 @@ impl TypeFault {
             TypeFault::NoMemory => 9,
         }
     }
+}
 
-    fn comes_before(self, other: TypeFault) -> bool
-        ensures { result ≡ is_before self other }
-    {
-        let at = self.offset();
-        let other_at = other.offset();
-        at < other_at || (at == other_at && self.rank() < other.rank())
-    }
+impl Fault for TypeFault {
+    ghost place_of = { place_of };
 
-    /// The first of this fault and one that was found before, if any.
-    pub(crate) fn or_earlier(self, first: Option<TypeFault>) -> Option<TypeFault>
-        ensures { result ≡ Some (earlier first self) }
-    {
-        match first {
-            Some(found) if !self.comes_before(found) => Some(found),
-            _ => Some(self),
+    fn place(self) -> Place {
+        Place {
+            offset: self.offset(),
+            rank: self.rank(),
         }
     }
 }

@@ -4,6 +4,7 @@ ghost use Rattle.std.specs.Prelude.{◌≡◌, [], ◌∷◌, None};
 ghost use Rattle.aj_elaborate.specs.Noted.{noted};
 
 use crate::fault::TypeFault;
+use aj_faults::first_of;
 use std::marker::Model;
 
 /// The first of the faults that were noted.
@@ -33,6 +34,6 @@ impl FirstFault {
     pub(crate) fn note(&mut self, fault: TypeFault)
         ensures { self.new ≡ noted self.old (fault ∷ []) }
     {
-        self.found = fault.or_earlier(self.found);
+        self.found = first_of(self.found, fault);
     }
 }

@@ -1,0 +1,2 @@
+-- The laws of first faults.
+pub mod FirstFaults
