@@ -4,6 +4,7 @@ use Rattle.std.proofs.lemmas.Bool.Decides.{nat_tests}
 use Rattle.std.specs.Prelude.{Option, slice_get, option_and_then, if◌then◌else◌}
 use Rattle.std.specs.FinMap as M
 use Rattle.std.specs.Ordering.{eq_by_cmp}
+use Rattle.std.proofs.lemmas.Bool.{ne_eqb, eqb-true}
 use Rattle.aj_paths.specs.Paths.{PathData}
 use Rattle.aj_core.specs.Core.{Program, Field, Class}
 use Rattle.aj_state.specs.declared.value.Address.{Address}
@@ -19,16 +20,10 @@ no_field : (P : Program) (x : ℕ) (o : Option Object) → field_value P x o Non
 no_field P x None = refl
 no_field P x (Some o) = refl
 
-not_equal : (a b : ℕ) → a ≢ b → (a == b) ≡ false
-not_equal a b h = grind (arith, nat_tests)
-
-same_number : (a b : ℕ) → (a == b) ≡ true → a ≡ b
-same_number a b e = grind (arith, nat_tests)
-
 -- the field that a class lists at an index is one
 listed_is : (x : ℕ) (o : Option ℕ) → is_field x o ≡ true → o ≡ Some x
 listed_is x None e = absurd cc
-listed_is x (Some y) e = ap Some (same_number y x e)
+listed_is x (Some y) e = ap Some (eqb-true y x e)
 
 pub lists_is : (c : Option Class) (i x : ℕ) → lists c i x ≡ true → (class : Class) × (c ≡ Some class) × (slice_get class.fields i ≡ Some x)
 lists_is None i x e = absurd cc
@@ -40,7 +35,7 @@ has_value false v old e = absurd cc
 
 no_lists : (P : Program) (c : Option Class) (i x y : ℕ) → lists c i x ≡ true → y ≢ x → lists c i y ≡ false
 no_lists P None i x y e other = absurd cc
-no_lists P (Some class) i x y e other = ap (is_field y) (listed_is x (slice_get class.fields i) e) ∙ not_equal x y (λ s. other (sym s))
+no_lists P (Some class) i x y e other = ap (is_field y) (listed_is x (slice_get class.fields i) e) ∙ ne_eqb x y (λ s. other (sym s))
 
 -- Of one object: a write to one field of it leaves each other.
 module _ (P : Program) (x : ℕ) (f : Field) (is : slice_get P.fields x ≡ Some f) (v : Value) where
@@ -67,7 +62,7 @@ module _ (P : Program) (x : ℕ) (f : Field) (is : slice_get P.fields x ≡ Some
     by_field y other (Some g) is_g = by (g.index == f.index) refl
       where
         by : (b : Bool) → (g.index == f.index) ≡ b → value_in P (with_field a f.index v heap) a y ≡ value_in P heap a y
-        by true e = same_index heap a old has y g is_g other (same_number g.index f.index e) (M.get heap a) refl
+        by true e = same_index heap a old has y g is_g other (eqb-true g.index f.index e) (M.get heap a) refl
         by false e = value_in-with_field_at P heap y g is_g a a f.index v (λ s. absurd (let c : true ≡ false = sym (ap (λ n. n == f.index) s ∙ itself f.index) ∙ e in cc))
           where
             itself : (n : ℕ) → (n == n) ≡ true

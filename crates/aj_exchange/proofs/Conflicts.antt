@@ -3,6 +3,8 @@ use Rattle.std.proofs.Common.{◌≡◌, ◌≢◌, ℕ, ◌-◌, ◌==◌, Bool
 use Rattle.std.proofs.lemmas.Bool.Decides.{nat_tests}
 use Rattle.std.specs.Prelude.{Option, is_some, slice_get, option_and_then, cond, nat_lt, if◌then◌else◌}
 use Rattle.std.specs.FinMap as M
+use Rattle.std.proofs.lemmas.Bool.{eqb-true}
+use Rattle.std.proofs.lemmas.Option.{same_Some}
 use Rattle.aj_paths.specs.Paths.{PathData}
 use Rattle.aj_core.specs.Core.{Program, Field, Class}
 use Rattle.aj_state.specs.declared.value.Address.{Address}
@@ -45,13 +47,10 @@ guarded_stay true false true ht false one some p = p.also_not_bare refl
 guarded_stay true false true true true one some p = one refl refl
 guarded_stay true false true false true one some p = others_stay p
 
-same_number : (a b : ℕ) → (a == b) ≡ true → a ≡ b
-same_number a b e = grind (arith, nat_tests)
-
 -- one lock has one holder
 one_holder : (t u : ℕ) → (t ≡ u → ⊥) → (o : Option Hold) → holds t o ≡ true → holds u o ≡ true → ⊥
 one_holder t u other None a b = absurd cc
-one_holder t u other (Some hold) a b = other (sym (same_number hold.holder t a) ∙ same_number hold.holder u b)
+one_holder t u other (Some hold) a b = other (sym (eqb-true hold.holder t a) ∙ eqb-true hold.holder u b)
 
 module _ (P : Program) (heap : Heap) (locks : Locks) (t u : ℕ) where
   -- values lead on the same for both threads
@@ -124,9 +123,6 @@ module _ (P : Program) (heap : Heap) (a : Address) where
   pub object_there : (x : ℕ) → IsSome (value_in P heap a x) → M.get heap a ≢ None
   object_there x has none = absurd (let c : false ≡ true = sym (ap (λ k. is_some (field_value P x k (slice_get P.fields x))) none) ∙ has in cc)
 
-pub same_some : {A : Type 0} (a b : A) → Some a ≡ Some b → a ≡ b
-same_some a b e = cc
-
 -- a lock after a change of it
 lock_after : (a : Address) (hold : Option Hold) (locks : Locks) → M.get (with_lock a hold locks) a ≡ hold
 lock_after a hold locks = get_locks (LockIs a hold) locks a ∙ ap (λ k. cond k hold (M.get locks a)) (alike a)
@@ -144,7 +140,7 @@ module _ (P : Program) (guards : HasFinalGuards P) (heap : Heap) (locks : Locks)
     pass_before : (r : Bool) (b : Address) (y : ℕ) (g : Field) → slice_get P.fields y ≡ Some g → a ≡ b → y ≡ x
         → MayPass (access_kind P (see_in t heap locks) t true a (Some f)) (access_kind P (see_in u (with_field a f.index v heap) locks) u r b (Some g)) → ⊥
     pass_before r b y g is_g e s p =
-        let fields : g ≡ f = same_some g f (sym is_g ∙ ap (slice_get P.fields) s ∙ is) in
+        let fields : g ≡ f = same_Some g f (sym is_g ∙ ap (slice_get P.fields) s ∙ is) in
         let kind : access_kind P (see_in u (with_field a f.index v heap) locks) u r b (Some g) ≡ access_kind P (see_in u heap locks) u r a (Some f) =
         ap (λ k. access_kind P (see_in u (with_field a f.index v heap) locks) u r k (Some g)) (sym e)
         ∙ ap (access_kind P (see_in u (with_field a f.index v heap) locks) u r a) (sym is_g ∙ ap (slice_get P.fields) s)
@@ -197,7 +193,7 @@ module _ (P : Program) (guards : HasFinalGuards P) (heap : Heap) (locks : Locks)
   given_after a hold by = cases (record hold { count = hold.count - 1 }) by (nat_lt 1 hold.count)
     where
       cases : (lesser : Hold) → lesser.holder ≡ t → (b : Bool) → ((h : Hold) → (if b then Some lesser else None) ≡ Some h → h.holder ≡ t) × ((if b then Some lesser else None) ≡ None → release_kind (if b then Some lesser else None) ≡ Left)
-      cases lesser its true = (λ h e. sym (ap (λ (k : Hold). k.holder) (same_some _ h e)) ∙ its, λ e. absurd cc)
+      cases lesser its true = (λ h e. sym (ap (λ (k : Hold). k.holder) (same_Some _ h e)) ∙ its, λ e. absurd cc)
       cases lesser its false = (λ h e. absurd cc, λ e. refl)
 
   -- the first step's change is apart from what the second asks
@@ -206,8 +202,8 @@ module _ (P : Program) (guards : HasFinalGuards P) (heap : Heap) (locks : Locks)
   first_apart _ _ _ (was_read g w is_g has_g) ask l d second p = tt
   first_apart _ _ _ (was_written {a = a} {x = x} f old v is mutable has) ask l d second p = written_apart a x f is mutable old v has ask l d second p
   first_apart _ _ _ (was_made o) ask l d second p = tt
-  first_apart _ _ _ (was_taken {a = a} free) ask l d second p = lock_apart a (Some (record { holder = t; count = 1 })) Right (λ h e. sym (ap (λ (k : Hold). k.holder) (same_some _ h e)), λ e. absurd cc) ask l d second p
-  first_apart _ _ _ (taken_more {a = a} hold held by) ask l d second p = lock_apart a (Some (taken_again hold)) Both (λ h e. sym (ap (λ (k : Hold). k.holder) (same_some _ h e)) ∙ by, λ e. absurd cc) ask l d second p
+  first_apart _ _ _ (was_taken {a = a} free) ask l d second p = lock_apart a (Some (record { holder = t; count = 1 })) Right (λ h e. sym (ap (λ (k : Hold). k.holder) (same_Some _ h e)), λ e. absurd cc) ask l d second p
+  first_apart _ _ _ (taken_more {a = a} hold held by) ask l d second p = lock_apart a (Some (taken_again hold)) Both (λ h e. sym (ap (λ (k : Hold). k.holder) (same_Some _ h e)) ∙ by, λ e. absurd cc) ask l d second p
   first_apart _ _ _ (was_given {a = a} hold held by) ask l d second p = lock_apart a (given_back hold) (release_kind (given_back hold)) (given_after a hold by) ask l d second p
   first_apart _ _ _ (was_started m) ask l d second p = tt
   first_apart _ _ _ (was_printed n) ask l d second p = tt

@@ -1,5 +1,6 @@
 -- The exchange in runs of typed programs, and what the kinds mean.
 use Rattle.std.proofs.Common.{◌≡◌, ◌≢◌, ℕ, Bool, true, false, ◌||◌, length, refl, ap, Some}
+use Rattle.std.proofs.lemmas.Bool.{or_right}
 use Rattle.aj_core.specs.Core.{Program}
 use Rattle.aj_core.specs.Typed.{IsTyped}
 use Rattle.aj_state.specs.declared.value.StepKind.{StepKind}
@@ -32,14 +33,10 @@ left_not_bare Right e = absurd cc
 left_not_bare Other e = absurd cc
 left_not_bare Bare e = absurd cc
 
-either : (a b : Bool) → b ≡ true → (a || b) ≡ true
-either true b e = refl
-either false b e = e
-
 pub right_mover : (P : Program) → IsTyped P → (q : State) → IsSound q → (t : ℕ) (m : Move) → outcome P q t ≡ Moves m → moves_right m.kind ≡ true → MovesRight P q t m
 right_mover P typed q sound t m first is = λ u n other second bare fresh.
     exchange P typed q sound t u other m n first second (record { not_bare = right_not_bare m.kind is; also_not_bare = bare; passes = ap (λ b. b || moves_left n.kind) is }) fresh
 
 pub left_mover : (P : Program) → IsTyped P → (q : State) → IsSound q → (u : ℕ) (n : Move) → moves_left n.kind ≡ true → MovesLeft P q u n
 left_mover P typed q sound u n is = λ t m other first second bare fresh.
-    exchange P typed q sound t u other m n first second (record { not_bare = bare; also_not_bare = left_not_bare n.kind is; passes = either (moves_right m.kind) (moves_left n.kind) is }) fresh
+    exchange P typed q sound t u other m n first second (record { not_bare = bare; also_not_bare = left_not_bare n.kind is; passes = or_right (moves_right m.kind) (moves_left n.kind) is }) fresh

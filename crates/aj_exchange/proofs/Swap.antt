@@ -2,6 +2,7 @@
 use Rattle.std.proofs.Common.{◌≡◌, ◌≢◌, ℕ, zero, suc, ◌<◌, Bool, true, false, List, [], ◌∷◌, ◌++◌, length, refl, sym, ap, subst, ◌∙◌, Some, None, arith, IsSome}
 use Rattle.std.specs.Prelude.{Option, is_some, slice_get, slice_set, if◌then◌else◌}
 use Rattle.std.specs.FinMap as M
+use Rattle.std.proofs.lemmas.Option.{same_Some}
 use Rattle.aj_core.specs.Core.{Program, Field}
 use Rattle.aj_state.specs.declared.value.Address.{Address}
 use Rattle.aj_state.specs.declared.value.Value.{Value}
@@ -22,7 +23,7 @@ use Rattle.aj_steps.proofs.Looks.{turn_same}
 use Rattle.aj_exchange.proofs.Dids.{moves_did}
 use Rattle.aj_exchange.proofs.Commute.{moved_is, moved_swap}
 use Rattle.aj_exchange.proofs.Stable.{stable}
-use Rattle.aj_exchange.proofs.Conflicts.{first_apart, accesses_stay, one_field, object_there, others_stay, same_some}
+use Rattle.aj_exchange.proofs.Conflicts.{first_apart, accesses_stay, one_field, object_there, others_stay}
 
 module _ (P : Program) (heap : Heap) (locks : Locks) (numbered : IsNumbered heap) (t u : ℕ) (other : t ≡ u → ⊥) where
   -- a field that has a value is of no new object
@@ -46,14 +47,14 @@ module _ (P : Program) (heap : Heap) (locks : Locks) (numbered : IsNumbered heap
     read_write : (a : Address) (x : ℕ) (f : Field) → slice_get P.fields x ≡ Some f → MayPass (access_kind P (see_in t heap locks) t false a (Some f)) (access_kind P (see_in u heap locks) u true b (Some g)) → b ≡ a → index_of (slice_get P.fields x) ≡ g.index → IsSome (value_in P heap a x) → ⊥
     read_write a x f is p e i some =
         let s = at_field a x e i some in
-        let fields : f ≡ g = same_some f g (sym is ∙ ap (slice_get P.fields) s ∙ is_g) in
+        let fields : f ≡ g = same_Some f g (sym is ∙ ap (slice_get P.fields) s ∙ is_g) in
         accesses_stay P heap locks t u other false true a g mutable refl
         (subst (λ z. MayPass (access_kind P (see_in t heap locks) t false a (Some z)) (access_kind P (see_in u heap locks) u true a (Some g))) fields
         (subst (λ k. MayPass (access_kind P (see_in t heap locks) t false a (Some f)) (access_kind P (see_in u heap locks) u true k (Some g))) e p))
 
   -- a lock isn't held by both, and not free and held
   both_held : (a b : Address) (h k : Hold) → M.get locks a ≡ Some h → h.holder ≡ t → M.get locks b ≡ Some k → k.holder ≡ u → a ≡ b → ⊥
-  both_held a b h k at_a by_t at_b by_u e = let same : h ≡ k = same_some h k (sym at_a ∙ ap (M.get locks) e ∙ at_b) in other (sym by_t ∙ ap (λ (z : Hold). z.holder) same ∙ by_u)
+  both_held a b h k at_a by_t at_b by_u e = let same : h ≡ k = same_Some h k (sym at_a ∙ ap (M.get locks) e ∙ at_b) in other (sym by_t ∙ ap (λ (z : Hold). z.holder) same ∙ by_u)
 
   free_held : (a b : Address) (h : Hold) → M.get locks a ≡ None → M.get locks b ≡ Some h → a ≡ b → ⊥
   free_held a b h free held e = absurd (let c : None ≡ Some h = sym free ∙ ap (M.get locks) e ∙ held in cc)
@@ -286,7 +287,7 @@ not_started (FieldIs a i v) n t lt e = absurd cc
 not_started (ObjectIs a o) n t lt e = absurd cc
 not_started (LockIs a h) n t lt e = absurd cc
 not_started (Prints k) n t lt e = absurd cc
-not_started (Starts a m) n t lt e = let same : n ≡ t = same_some n t e in omega (arith, lt, same)
+not_started (Starts a m) n t lt e = let same : n ≡ t = same_Some n t e in omega (arith, lt, same)
 
 -- two neighbouring steps that may pass each other change places
 pub swapped : (P : Program) → HasFinalGuards P → (q : State) → IsOrderly q → (t u : ℕ) → (t ≡ u → ⊥) → (m n : Move) → outcome P q t ≡ Moves m → outcome P (moved t m q) u ≡ Moves n → MayPass m.kind n.kind

@@ -19,10 +19,6 @@ pub both_true : (a b : Bool) → a ≡ true → b ≡ true → (a && b) ≡ true
 both_true true b e k = k
 both_true false b e k = absurd cc
 
-true_parts : (a b : Bool) → (a && b) ≡ true → (a ≡ true) × (b ≡ true)
-true_parts true b e = (refl, e)
-true_parts false b e = absurd cc
-
 lefts : (word : List StepKind) → accepts true word ≡ true → list_all moves_left word ≡ true
 lefts [] e = refl
 lefts (Both ∷ ks) e = lefts ks e
@@ -67,13 +63,6 @@ same_thread t v e = grind (arith, nat_tests)
 
 pub itself : (t : ℕ) → (t == t) ≡ true
 itself t = grind (arith, nat_tests)
-
-not_this : (a b v : ℕ) → (a == v) ≡ true → (v == b) ≡ false → (a == b) ≡ false
-not_this a b v e k = grind (arith, nat_tests)
-
-by_cases : (S T : ℕ → Bool) (t : ℕ) → ((v : ℕ) → (v == t) ≡ false → S v ≡ T v) → S t ≡ T t → (v : ℕ) (b : Bool) → (v == t) ≡ b → S v ≡ T v
-by_cases S T t others own v true is = subst (λ w. S w ≡ T w) (sym (same_thread t v is)) own
-by_cases S T t others own v false is = others v is
 
 -- one more entry at the front of the first unit of its thread
 module _ (e : Entry) where

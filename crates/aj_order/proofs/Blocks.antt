@@ -1,9 +1,10 @@
 -- Units in order are their entries sorted, where each entry's key is the commit place of its unit.
 use Rattle.std.proofs.Common.{◌≡◌, ◌≢◌, ℕ, ◌≤◌, Bool, true, false, List, [], ◌∷◌, ◌++◌, refl, sym, ap, ◌∙◌, arith}
 use Rattle.std.specs.Prelude.{nat_le, if◌then◌else◌}
+use Rattle.std.proofs.lemmas.Bool.{leb-true, leb-false}
 use Rattle.aj_steps.specs.Units.{Entry, added, is_of_thread, units, commit_place, placed, in_order}
 use Rattle.aj_order.specs.Sorted.{put_by, sort_by}
-use Rattle.aj_order.proofs.Insertions.{Each, each_more, each_left, each_right, each_both, le_is, le_not, puts, sort_append, puts_swap, Low, puts_low, puts_over}
+use Rattle.aj_order.proofs.Insertions.{Each, each_more, each_left, each_right, each_both, puts, sort_append, puts_swap, Low, puts_low, puts_over}
 
 -- the entries of units, one unit after the other
 abbrev pub flat : List (List Entry) → List Entry
@@ -33,8 +34,8 @@ module _ (key : Entry → ℕ) where
   place_block u (v ∷ vs) k h = by (nat_le (commit_place u) (commit_place v)) refl (place_block u vs k h.1)
     where
       by : (b : Bool) → nat_le (commit_place u) (commit_place v) ≡ b → puts key u (flat vs) ≡ flat (placed u vs) → puts key u (v ++ flat vs) ≡ flat (if b then u ∷ v ∷ vs else v ∷ placed u vs)
-      by true e rest = puts_low key (commit_place u) u (v ++ flat vs) k.keys (low_block (commit_place u) v (flat vs) h.0 (le_is (commit_place u) (commit_place v) e))
-      by false e rest = puts_over key (commit_place u) (commit_place v) u v (flat vs) k.keys (h.0).keys (le_not (commit_place u) (commit_place v) e) ∙ ap (λ l. v ++ l) rest
+      by true e rest = puts_low key (commit_place u) u (v ++ flat vs) k.keys (low_block (commit_place u) v (flat vs) h.0 (leb-true (commit_place u) (commit_place v) e))
+      by false e rest = puts_over key (commit_place u) (commit_place v) u v (flat vs) k.keys (h.0).keys (leb-false (commit_place u) (commit_place v) e) ∙ ap (λ l. v ++ l) rest
 
   each_placed : (u : List Entry) (vs : List (List Entry)) → Keyed u → Each Keyed vs → Each Keyed (placed u vs)
   each_placed u [] k h = (k, tt)

@@ -2,6 +2,7 @@
 use Rattle.std.proofs.Common.{◌≡◌, ◌≢◌, ◌⊎◌, inl, inr, ℕ, ◌<◌, ◌≤◌, Bool, true, false, List, [], ◌∷◌, ◌++◌, refl, sym, ap, ◌∙◌, arith}
 use Rattle.std.specs.Prelude.{nat_le, nat_lt, if◌then◌else◌}
 use Rattle.std.proofs.lemmas.Bool.Decides.{nat_tests}
+use Rattle.std.proofs.lemmas.Bool.{le-leb, lt-leb, leb-true, ltb-true}
 use Rattle.aj_steps.specs.Units.{Entry}
 use Rattle.aj_order.specs.Sorted.{put_by, sort_by}
 
@@ -26,21 +27,6 @@ pub each_both : {A : Type 0} (Q : A → Type 0) (xs ys : List A) → Each Q xs �
 each_both Q [] ys g h = h
 each_both Q (x ∷ xs) ys g h = (g.0, each_both Q xs ys g.1 h)
 
-pub is_le : (m n : ℕ) → m ≤ n → nat_le m n ≡ true
-is_le m n h = grind (arith, nat_tests)
-
-pub not_le : (m n : ℕ) → n < m → nat_le m n ≡ false
-not_le m n h = grind (arith, nat_tests)
-
-pub le_is : (m n : ℕ) → nat_le m n ≡ true → m ≤ n
-le_is m n e = grind (arith, nat_tests)
-
-pub le_not : (m n : ℕ) → nat_le m n ≡ false → n < m
-le_not m n e = grind (arith, nat_tests)
-
-less_is : (m n : ℕ) → nat_lt m n ≡ true → m < n
-less_is m n e = grind (arith, nat_tests)
-
 not_less : (m n : ℕ) → m ≢ n → nat_lt m n ≡ false → n < m
 not_less m n other e = grind (arith, nat_tests)
 
@@ -53,11 +39,11 @@ module _ (key : Entry → ℕ) where
 
   -- insertions of different keys change places
   swap_less : (x y : Entry) → key x < key y → (l : List Entry) → put_by key x (put_by key y l) ≡ put_by key y (put_by key x l)
-  swap_less x y less [] = put_first x y [] (is_le (key x) (key y) (omega (arith, less))) ∙ sym (put_later y x [] (not_le (key y) (key x) less))
+  swap_less x y less [] = put_first x y [] (le-leb (key x) (key y) (omega (arith, less))) ∙ sym (put_later y x [] (lt-leb (key y) (key x) less))
   swap_less x y less (z ∷ l) = by (nat_le (key y) (key z)) refl (nat_le (key x) (key z)) refl (swap_less x y less l)
     where
       y_later : nat_le (key y) (key x) ≡ false
-      y_later = not_le (key y) (key x) less
+      y_later = lt-leb (key y) (key x) less
 
       chain : (a b c : ℕ) → a < b → b ≤ c → a ≤ c
       chain a b c h k = omega (arith, h, k)
@@ -65,8 +51,8 @@ module _ (key : Entry → ℕ) where
       by : (p : Bool) → nat_le (key y) (key z) ≡ p → (r : Bool) → nat_le (key x) (key z) ≡ r → put_by key x (put_by key y l) ≡ put_by key y (put_by key x l)
           → put_by key x (put_by key y (z ∷ l)) ≡ put_by key y (put_by key x (z ∷ l))
       by true ep r er rest =
-          let ex = is_le (key x) (key z) (chain (key x) (key y) (key z) less (le_is (key y) (key z) ep)) in
-          ap (put_by key x) (put_first y z l ep) ∙ put_first x y (z ∷ l) (is_le (key x) (key y) (chain (key x) (key y) (key y) less (omega arith)))
+          let ex = le-leb (key x) (key z) (chain (key x) (key y) (key z) less (leb-true (key y) (key z) ep)) in
+          ap (put_by key x) (put_first y z l ep) ∙ put_first x y (z ∷ l) (le-leb (key x) (key y) (chain (key x) (key y) (key y) less (omega arith)))
           ∙ sym (ap (put_by key y) (put_first x z l ex) ∙ put_later y x (z ∷ l) y_later ∙ ap (λ m. x ∷ m) (put_first y z l ep))
       by false ep true er rest =
           ap (put_by key x) (put_later y z l ep) ∙ put_first x z (put_by key y l) er
@@ -76,7 +62,7 @@ module _ (key : Entry → ℕ) where
           ∙ sym (ap (put_by key y) (put_later x z l er) ∙ put_later y z (put_by key x l) ep)
 
   by_order : (x y : Entry) (l : List Entry) → key x ≢ key y → (b : Bool) → nat_lt (key x) (key y) ≡ b → put_by key x (put_by key y l) ≡ put_by key y (put_by key x l)
-  by_order x y l other true e = swap_less x y (less_is (key x) (key y) e) l
+  by_order x y l other true e = swap_less x y (ltb-true (key x) (key y) e) l
   by_order x y l other false e = sym (swap_less y x (not_less (key x) (key y) other e) l)
 
   pub put_swap : (x y : Entry) → key x ≢ key y → (l : List Entry) → put_by key x (put_by key y l) ≡ put_by key y (put_by key x l)
@@ -102,7 +88,7 @@ module _ (key : Entry → ℕ) where
 
   put_low : (x : Entry) (l : List Entry) → Low (key x) l → put_by key x l ≡ x ∷ l
   put_low x [] low = refl
-  put_low x (y ∷ ys) low = put_first x y ys (is_le (key x) (key y) low)
+  put_low x (y ∷ ys) low = put_first x y ys (le-leb (key x) (key y) low)
 
   low_append : (c : ℕ) (u l : List Entry) → Each (λ e. key e ≡ c) u → Low c l → Low c (u ++ l)
   low_append c [] l h low = low
@@ -117,7 +103,7 @@ module _ (key : Entry → ℕ) where
 
   put_over : (x : Entry) (d : ℕ) (v l : List Entry) → Each (λ e. key e ≡ d) v → d < key x → put_by key x (v ++ l) ≡ v ++ put_by key x l
   put_over x d [] l h less = refl
-  put_over x d (e ∷ v) l h less = put_later x e (v ++ l) (not_le (key x) (key e) (lower (key e) d (key x) h.0 less)) ∙ ap (λ m. e ∷ m) (put_over x d v l h.1 less)
+  put_over x d (e ∷ v) l h less = put_later x e (v ++ l) (lt-leb (key x) (key e) (lower (key e) d (key x) h.0 less)) ∙ ap (λ m. e ∷ m) (put_over x d v l h.1 less)
     where
       lower : (k d c : ℕ) → k ≡ d → d < c → k < c
       lower k d c e less = omega (arith, e, less)

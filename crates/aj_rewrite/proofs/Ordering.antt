@@ -1,8 +1,9 @@
 -- The units in order, when one entry more stands before the run: four equations.
 use Rattle.std.proofs.Common.{◌≡◌, ℕ, ◌<◌, ◌≤◌, Bool, true, false, List, [], ◌∷◌, refl, sym, ap, ◌∙◌, arith}
 use Rattle.std.specs.Prelude.{nat_le, if◌then◌else◌}
+use Rattle.std.proofs.lemmas.Bool.{leb-false, le-leb, lt-leb}
 use Rattle.aj_steps.specs.Units.{Entry, is_of_thread, added, is_commit, commit_place, placed, in_order}
-use Rattle.aj_rewrite.proofs.Shape.{Each, has, got, without, IsFine, IsLater, InTurn, Sorted, commit_added, fine_above, each_in_order, each_more, sorted_in_order, not_less, is_less, is_greater}
+use Rattle.aj_rewrite.proofs.Shape.{Each, has, got, without, IsFine, IsLater, InTurn, Sorted, commit_added, fine_above, each_in_order, each_more, sorted_in_order}
 
 -- an insertion, by its test
 placed_by : (u v : List Entry) (us : List (List Entry)) (b : Bool) → nat_le (commit_place u) (commit_place v) ≡ b → placed u (v ∷ us) ≡ (if b then u ∷ v ∷ us else v ∷ placed u us)
@@ -11,7 +12,7 @@ placed_by u v us b e = ap (λ (x : Bool). if x then u ∷ v ∷ us else v ∷ pl
 -- a unit that commits before all others comes first
 pub least_first : (u : List Entry) (us : List (List Entry)) → Each (λ v. commit_place u ≤ commit_place v) us → placed u us ≡ u ∷ us
 least_first u [] h = refl
-least_first u (v ∷ us) h = placed_by u v us true (is_less (commit_place u) (commit_place v) h.0)
+least_first u (v ∷ us) h = placed_by u v us true (le-leb (commit_place u) (commit_place v) h.0)
 
 -- the first unit of a thread, by whether it is the first of all
 pub added_by : (e : Entry) (u : List Entry) (us : List (List Entry)) (b : Bool) → is_of_thread e.thread u ≡ b → added e (u ∷ us) ≡ (if b then (e ∷ u) ∷ us else u ∷ added e us)
@@ -71,7 +72,7 @@ alone_in_order e n first (v ∷ us) fine none = by (is_of_thread e.thread v) ref
     by : (b : Bool) → is_of_thread e.thread v ≡ b → (has e.thread us ≡ false → in_order (added e us) ≡ (e ∷ []) ∷ in_order us) → in_order (added e (v ∷ us)) ≡ (e ∷ []) ∷ in_order (v ∷ us)
     by true at rest = absurd (let c : true ≡ false = sym (has_by e.thread v us true at) ∙ none in cc)
     by false at rest = ap in_order (added_by e v us false at) ∙ ap (placed v) (rest (sym (has_by e.thread v us false at) ∙ none))
-        ∙ placed_by v (e ∷ []) (in_order us) false (is_greater (commit_place v) e.place (omega (arith, first, fine_above n v fine.0)))
+        ∙ placed_by v (e ∷ []) (in_order us) false (lt-leb (commit_place v) e.place (omega (arith, first, fine_above n v fine.0)))
 
 -- an entry of the thread before units, which commit later than its place
 module _ (e : Entry) where
@@ -84,7 +85,7 @@ module _ (e : Entry) where
       by : (b : Bool) → nat_le (commit_place u) (commit_place v) ≡ b → (c : Bool) → is_of_thread e.thread v ≡ c → placed (e ∷ u) us ≡ added e (placed u us) → placed (e ∷ u) (v ∷ us) ≡ added e (placed u (v ∷ us))
       by true low c at rest = placed_by (e ∷ u) v us true (ap (λ k. nat_le k (commit_place v)) same ∙ low) ∙ sym (added_by e u (v ∷ us) true is) ∙ sym (ap (added e) (placed_by u v us true low))
       by false high false at rest = placed_by (e ∷ u) v us false (ap (λ k. nat_le k (commit_place v)) same ∙ high) ∙ ap (λ xs. v ∷ xs) rest ∙ sym (added_by e v (placed u us) false at) ∙ sym (ap (added e) (placed_by u v us false high))
-      by false high true at rest = absurd (let less = later.0 at in let more = not_less (commit_place u) (commit_place v) high in omega (arith, less, more))
+      by false high true at rest = absurd (let less = later.0 at in let more = leb-false (commit_place u) (commit_place v) high in omega (arith, less, more))
 
   -- a unit of another thread, put in its place
   added_placed_other : (n : ℕ) (v : List Entry) → is_of_thread e.thread v ≡ false → is_commit e.kind ≡ false → (us : List (List Entry)) → Each (IsFine n) us → has e.thread us ≡ true → placed v (added e us) ≡ added e (placed v us)
@@ -126,7 +127,7 @@ module _ (e : Entry) where
         ap (got e.thread) (placed_by u v us false high) ∙ got_by e.thread v (placed u us) false at ∙ rest.0,
         ap (without e.thread) (placed_by u v us false high) ∙ without_by e.thread v (placed u us) false at ∙ ap (λ xs. v ∷ xs) rest.1,
       )
-      by false high true at rest = absurd (let less = later.0 at in let more = not_less (commit_place u) (commit_place v) high in omega (arith, less, more))
+      by false high true at rest = absurd (let less = later.0 at in let more = leb-false (commit_place u) (commit_place v) high in omega (arith, less, more))
 
   -- and among units that another's was put into
   got_other : (v : List Entry) → is_of_thread e.thread v ≡ false → (us : List (List Entry)) → Sorted us → (got e.thread (placed v us) ≡ got e.thread us) × (without e.thread (placed v us) ≡ placed v (without e.thread us))
@@ -179,6 +180,6 @@ module _ (e : Entry) where
           let there = sym (has_by e.thread v us false at) ∙ h in
           let other = got_other v at (in_order us) (sorted_in_order us) in
           ap in_order (added_by e v us false at) ∙ ap (placed v) (rest there)
-          ∙ placed_by v (e ∷ got e.thread (in_order us)) (without e.thread (in_order us)) false (is_greater (commit_place v) (commit_place (e ∷ got e.thread (in_order us)))
+          ∙ placed_by v (e ∷ got e.thread (in_order us)) (without e.thread (in_order us)) false (lt-leb (commit_place v) (commit_place (e ∷ got e.thread (in_order us)))
           (omega (arith, first, low (got e.thread (in_order us)) (got_each (IsFine n) e.thread (in_order us) (each_in_order (IsFine n) us fine.1) (has_in_order e.thread us there)), fine_above n v fine.0)))
           ∙ (λ i. (e ∷ sym other.0 i) ∷ sym other.1 i)

@@ -2,6 +2,7 @@
 use Rattle.std.proofs.Common.{◌≡◌, ℕ, ◌<◌, ◌≤◌, Bool, true, false, ◌==◌, List, [], ◌∷◌, ◌++◌, refl, sym, subst, arith}
 use Rattle.std.proofs.lemmas.Bool.Decides.{nat_tests}
 use Rattle.std.specs.Prelude.{nat_le, if◌then◌else◌}
+use Rattle.std.proofs.lemmas.Bool.{leb-true, leb-false}
 use Rattle.aj_steps.specs.Units.{Entry, is_of_thread, is_commit, commit_place, placed, in_order}
 
 -- each element is so
@@ -54,14 +55,8 @@ pub record IsFine (n : ℕ) (u : List Entry) : Type 0 where
   pub one : Each (IsOf first.thread) u
   pub places : Each (λ e. n ≤ e.place) u
 
-pub same_number : (a b : ℕ) → (a == b) ≡ true → a ≡ b
-same_number a b e = grind (arith, nat_tests)
-
 pub itself : (a : ℕ) → (a == a) ≡ true
 itself a = grind (arith, nat_tests)
-
-pub commit_first : (e f : Entry) (u : List Entry) → commit_place (e ∷ f ∷ u) ≡ (if is_commit e.kind then e.place else commit_place (f ∷ u))
-commit_first e f u = refl
 
 -- a commit place is the place of an entry of the unit
 pub commit_above : (n : ℕ) (e : Entry) (u : List Entry) → n ≤ e.place → Each (λ x. n ≤ x.place) u → n ≤ commit_place (e ∷ u)
@@ -109,26 +104,14 @@ pub each_in_order : (Q : List Entry → Type 0) (us : List (List Entry)) → Eac
 each_in_order Q [] h = tt
 each_in_order Q (u ∷ us) h = each_placed Q u (in_order us) h.0 (each_in_order Q us h.1)
 
-less_equal : (a b : ℕ) → nat_le a b ≡ true → a ≤ b
-less_equal a b e = grind (arith, nat_tests)
-
-pub not_less : (a b : ℕ) → nat_le a b ≡ false → b < a
-not_less a b e = grind (arith, nat_tests)
-
-pub is_less : (a b : ℕ) → a ≤ b → nat_le a b ≡ true
-is_less a b h = grind (arith, nat_tests)
-
-pub is_greater : (a b : ℕ) → b < a → nat_le a b ≡ false
-is_greater a b h = grind (arith, nat_tests)
-
 pub sorted_placed : (u : List Entry) (us : List (List Entry)) → Sorted us → Sorted (placed u us)
 sorted_placed u [] h = (tt, tt)
 sorted_placed u (v ∷ us) h = by (nat_le (commit_place u) (commit_place v)) refl (sorted_placed u us h.1)
   where
     by : (b : Bool) → nat_le (commit_place u) (commit_place v) ≡ b → Sorted (placed u us) → Sorted (if b then u ∷ v ∷ us else v ∷ placed u us)
-    by true e later = let low = less_equal (commit_place u) (commit_place v) e in
+    by true e later = let low = leb-true (commit_place u) (commit_place v) e in
         ((low, each_more (λ w. commit_place v ≤ commit_place w) (λ w. commit_place u ≤ commit_place w) (λ w k. omega (arith, low, k)) us h.0), h)
-    by false e later = let high = not_less (commit_place u) (commit_place v) e in
+    by false e later = let high = leb-false (commit_place u) (commit_place v) e in
         (each_placed (λ w. commit_place v ≤ commit_place w) u us (omega (arith, high)) h.0, later)
 
 pub sorted_in_order : (us : List (List Entry)) → Sorted (in_order us)

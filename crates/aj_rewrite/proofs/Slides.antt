@@ -2,6 +2,7 @@
 use Rattle.std.proofs.Common.{◌≡◌, ◌≢◌, ℕ, suc, zero, ◌<◌, ◌≤◌, ◌==◌, Bool, true, false, ◌⊎◌, inl, inr, List, [], ◌∷◌, ◌++◌, length, refl, sym, ap, subst, ◌∙◌, Some, arith}
 use Rattle.std.proofs.lemmas.Bool.Decides.{nat_tests}
 use Rattle.std.specs.Prelude.{map, slice_get, slice_set, if◌then◌else◌}
+use Rattle.std.proofs.lemmas.Bool.{eqb-true}
 use Rattle.aj_core.specs.Core.{Program}
 use Rattle.aj_core.specs.Typed.{IsTyped}
 use Rattle.aj_state.specs.declared.value.StepKind.{StepKind}
@@ -92,9 +93,6 @@ own_after P q t m e =
     kept (Prints k) xs e = e
     kept (Starts a n) xs e = front xs _ t e
 
-same_number : (a b : ℕ) → (a == b) ≡ true → a ≡ b
-same_number a b e = grind (arith, nat_tests)
-
 -- an entry that may pass another: of another thread, by its kind, and it doesn't start the other's thread
 pub record Passes (q : State) (e f : Entry) : Type 0 where
   pub apart : e.thread ≢ f.thread
@@ -178,7 +176,7 @@ module _ (P : Program) (typed : IsTyped P) where
       both : (k : ℕ) (x : Bool) → (e.thread == k) ≡ x → (y : Bool) → (f.thread == k) ≡ y
           → (if x then Some fe.move.thread ∷ (if y then Some ff.move.thread ∷ own_states P r k more else own_states P r k more) else (if y then Some ff.move.thread ∷ own_states P r k more else own_states P r k more))
           ≡ (if y then Some ff.move.thread ∷ (if x then Some fe.move.thread ∷ own_states P r k more else own_states P r k more) else (if x then Some fe.move.thread ∷ own_states P r k more else own_states P r k more))
-      both k true ex true ey = absurd (p.apart (same_number e.thread k ex ∙ sym (same_number f.thread k ey)))
+      both k true ex true ey = absurd (p.apart (eqb-true e.thread k ex ∙ sym (eqb-true f.thread k ey)))
       both k true ex false ey = refl
       both k false ex true ey = refl
       both k false ex false ey = refl

@@ -2,6 +2,7 @@
 use Rattle.std.proofs.Common.{◌≡◌, ◌≢◌, ℕ, suc, ◌<◌, ◌≤◌, ◌==◌, Bool, true, false, ◌||◌, ◌&&◌, inl, inr, List, [], ◌∷◌, ◌++◌, length, refl, sym, ap, subst, ◌∙◌, arith}
 use Rattle.std.specs.Prelude.{if◌then◌else◌}
 use Rattle.std.specs.List.{list_all}
+use Rattle.std.proofs.lemmas.Bool.{eqb-true, and_parts, or_right}
 use Rattle.aj_core.specs.Core.{Program}
 use Rattle.aj_core.specs.Typed.{IsTyped}
 use Rattle.aj_state.specs.declared.value.StepKind.{StepKind}
@@ -13,7 +14,7 @@ use Rattle.aj_steps.proofs.WordLemmas.{left_reducible}
 use Rattle.aj_exchange.specs.Sound.{IsSound}
 use Rattle.aj_exchange.proofs.Swap.{stepper}
 use Rattle.aj_rewrite.specs.Runs.{Run}
-use Rattle.aj_rewrite.proofs.Shape.{Each, each_more, flat, has, got, without, IsOf, IsFine, IsLater, InTurn, same_number, itself, fine_above, commit_added, each_in_order}
+use Rattle.aj_rewrite.proofs.Shape.{Each, each_more, flat, has, got, without, IsOf, IsFine, IsLater, InTurn, itself, fine_above, commit_added, each_in_order}
 use Rattle.aj_rewrite.proofs.Ordering.{added_by, has_by, got_by, without_by, least_first, added_in_order, commit_in_order, alone_in_order, got_each, has_in_order}
 use Rattle.aj_rewrite.proofs.Slides.{Passes, Becomes, behind, behind_all, becomes_itself, becomes_then, slide, slide_all, sound_fits, fits_grow}
 
@@ -38,7 +39,7 @@ fine_one e = record { first = e; rest = []; is = refl; one = (refl, tt); places 
 
 -- the thread of a unit
 of_first : (t : ℕ) (u : List Entry) (n : ℕ) → (f : IsFine n u) → is_of_thread t u ≡ true → f.first.thread ≡ t
-of_first t u n f is = same_number f.first.thread t (sym (ap (is_of_thread t) f.is) ∙ is)
+of_first t u n f is = eqb-true f.first.thread t (sym (ap (is_of_thread t) f.is) ∙ is)
 
 fine_added : (e : Entry) (u : List Entry) → IsFine (suc e.place) u → is_of_thread e.thread u ≡ true → IsFine e.place (e ∷ u)
 fine_added e u f is = record {
@@ -71,20 +72,16 @@ fine_units (e ∷ es) n rises = by e.inside (fine_units es (suc e.place) rises.1
     by true h = lower (added e (units es)) (each_fine_added e (units es) h)
     by false h = lower ((e ∷ []) ∷ units es) (fine_one e, each_more (IsFine (suc e.place)) (IsFine e.place) (λ v f. fine_more e.place (suc e.place) v (omega arith) f) (units es) h)
 
--- a unit of two threads is of one
-one_thread : (t k : ℕ) (u : List Entry) (n : ℕ) → IsFine n u → is_of_thread t u ≡ true → is_of_thread k u ≡ true → t ≡ k
-one_thread t k u n f a b = sym (of_first t u n f a) ∙ of_first k u n f b
-
 -- each unit that comes later commits later than an entry before all
 all_later : (e : Entry) (c t : ℕ) → c ≤ e.place → (us : List (List Entry)) → Each (IsFine (suc e.place)) us → Each (IsLater t c) us
 all_later e c t low us h = each_more (IsFine (suc e.place)) (IsLater t c) (λ u f is. let above = fine_above (suc e.place) u f in omega (arith, above, low)) us h
 
 later_added : (e : Entry) (k c : ℕ) → (k ≡ e.thread → ⊥) → (us : List (List Entry)) → Each (IsFine (suc e.place)) us → Each (IsLater k c) us → Each (IsLater k c) (added e us)
-later_added e k c other [] fine h = (λ is. absurd (other (sym (same_number e.thread k is))), tt)
+later_added e k c other [] fine h = (λ is. absurd (other (sym (eqb-true e.thread k is))), tt)
 later_added e k c other (u ∷ us) fine h = by (is_of_thread e.thread u) refl (later_added e k c other us fine.1 h.1)
   where
     by : (b : Bool) → is_of_thread e.thread u ≡ b → Each (IsLater k c) (added e us) → Each (IsLater k c) (if b then (e ∷ u) ∷ us else u ∷ added e us)
-    by true is later = ((λ at. absurd (other (sym (same_number e.thread k at)))), h.1)
+    by true is later = ((λ at. absurd (other (sym (eqb-true e.thread k at)))), h.1)
     by false is later = (h.0, later)
 
 turn_added : (e : Entry) (us : List (List Entry)) → Each (IsFine (suc e.place)) us → InTurn us → InTurn (added e us)
@@ -96,7 +93,7 @@ turn_added e (u ∷ us) fine h = by (is_of_thread e.thread u) refl (turn_added e
     commit false is at = subst (λ c. Each (IsLater e.thread c) us) (sym (commit_added e u (suc e.place) fine.0 ∙ ap (λ (x : Bool). if x then e.place else commit_place u) is)) (h.0 e.thread at)
 
     by : (b : Bool) → is_of_thread e.thread u ≡ b → InTurn (added e us) → InTurn (if b then (e ∷ u) ∷ us else u ∷ added e us)
-    by true is later = ((λ t at. subst (λ k. Each (IsLater k (commit_place (e ∷ u))) us) (same_number e.thread t at) (commit (is_commit e.kind) refl is)), h.1)
+    by true is later = ((λ t at. subst (λ k. Each (IsLater k (commit_place (e ∷ u))) us) (eqb-true e.thread t at) (commit (is_commit e.kind) refl is)), h.1)
     by false is later = ((λ t at. later_added e t (commit_place u) (λ s. absurd (let c : true ≡ false = sym at ∙ ap (λ k. is_of_thread k u) s ∙ is in cc)) us fine.1 (h.0 t at)), later)
 
 pub turn_units : (es : List Entry) (n : ℕ) → Rises n es → InTurn (units es)
@@ -156,13 +153,9 @@ left_after Both ks c h = absurd cc
 left_after Right ks c h = absurd cc
 left_after Bare ks c h = absurd cc
 
-both_true : (a b : Bool) → (a && b) ≡ true → (a ≡ true) × (b ≡ true)
-both_true true b e = (refl, e)
-both_true false b e = absurd cc
-
 each_left_mover : (u : List Entry) → list_all moves_left (word_of u) ≡ true → Each (λ e. moves_left e.kind ≡ true) u
 each_left_mover [] h = tt
-each_left_mover (e ∷ u) h = let p = both_true (moves_left e.kind) (list_all moves_left (word_of u)) h in (p.0, each_left_mover u p.1)
+each_left_mover (e ∷ u) h = let p = and_parts (moves_left e.kind) (list_all moves_left (word_of u)) h in (p.0, each_left_mover u p.1)
 
 -- Kinds.
 
@@ -179,10 +172,6 @@ right_no_other Right r e = cc
 right_no_other Left r e = cc
 right_no_other Other r e = cc
 right_no_other Bare r e = cc
-
-either : (a b : Bool) → b ≡ true → (a || b) ≡ true
-either true b e = refl
-either false b e = e
 
 -- entries of a unit of another thread
 others : (t : ℕ) (u : List Entry) (n : ℕ) → IsFine n u → is_of_thread t u ≡ false → Each (λ x. x.thread ≡ t → ⊥) u
@@ -230,7 +219,7 @@ module _ (P : Program) (typed : IsTyped P) where
       each_one (x ∷ xs) o b l = (
         record {
           apart = λ z. absurd (other.0 (z ∙ o.0));
-          kinds = record { not_bare = quiet.0; also_not_bare = b.0; passes = either (moves_right y.kind) (moves_left x.kind) l.0 };
+          kinds = record { not_bare = quiet.0; also_not_bare = b.0; passes = or_right (moves_right y.kind) (moves_left x.kind) l.0 };
           fresh = inr (subst (λ k. k < length q.threads) (sym o.0) there);
         },
         each_one xs o.1 b.1 l.1,

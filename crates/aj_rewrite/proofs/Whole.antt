@@ -4,6 +4,7 @@ use Rattle.std.proofs.lemmas.Bool.Decides.{nat_tests}
 use Rattle.std.proofs.lemmas.Iterator.Adapters.{position_from-zero}
 use Rattle.std.specs.Prelude.{Option, map, slice_get, cond, option_and_then, is_some, if◌then◌else◌}
 use Rattle.std.specs.List.{position_from}
+use Rattle.std.proofs.lemmas.Bool.{eqb-true, and_from, or_right, or_left, eq-eqb}
 use Rattle.aj_core.specs.Core.{Program}
 use Rattle.aj_core.specs.Typed.{IsTyped}
 use Rattle.aj_state.specs.declared.value.StepKind.{StepKind}
@@ -20,7 +21,7 @@ use Rattle.aj_exchange.proofs.SoundRuns.{sound_initial}
 use Rattle.aj_exchange.proofs.Swap.{thread_kept, stepper}
 use Rattle.aj_rewrite.specs.Runs.{Run}
 use Rattle.aj_rewrite.specs.Serial.{IsSerial}
-use Rattle.aj_rewrite.proofs.Shape.{Each, flat, has, IsOf, IsFine, same_number, each_in_order}
+use Rattle.aj_rewrite.proofs.Shape.{Each, flat, has, IsOf, IsFine, each_in_order}
 use Rattle.aj_rewrite.proofs.Slides.{own_after, start_number, fits_grow}
 use Rattle.aj_rewrite.proofs.Sorting.{Rises, NotBare, HasWord, fine_units, words_later, sorted}
 
@@ -95,26 +96,11 @@ schedule_is (u ∷ us) = ap (λ s. map (λ e. e.thread) u ++ s) (schedule_is us)
 abbrev Whole : List Entry → Type 0
 Whole u = is_whole u ≡ true
 
-true_and : (a b : Bool) → a ≡ true → b ≡ true → (a && b) ≡ true
-true_and true b e h = h
-true_and false b e h = absurd cc
-
-either : (a b : Bool) → b ≡ true → (a || b) ≡ true
-either true b e = refl
-either false b e = e
-
-outside : (a b : Bool) → a ≡ true → (a || b) ≡ true
-outside true b e = refl
-outside false b e = absurd cc
-
-same_test : (a b : ℕ) → a ≡ b → (a == b) ≡ true
-same_test a b e = grind (arith, nat_tests)
-
 unit_kept : (t : ℕ) (u more : List Entry) → Each (IsOf t) u → Whole u → are_kept more ≡ true → are_kept (u ++ more) ≡ true
 unit_kept t [] more one whole kept = kept
 unit_kept t (e ∷ []) [] one whole kept = refl
-unit_kept t (e ∷ []) (f ∷ more) one whole kept = true_and (not e.inside || (f.thread == e.thread)) (are_kept (f ∷ more)) (outside (not e.inside) (f.thread == e.thread) whole) kept
-unit_kept t (e ∷ f ∷ u) more one whole kept = true_and (not e.inside || (f.thread == e.thread)) (are_kept (f ∷ (u ++ more))) (either (not e.inside) (f.thread == e.thread) (same_test f.thread e.thread (one.1.0 ∙ sym one.0))) (unit_kept t (f ∷ u) more one.1 whole kept)
+unit_kept t (e ∷ []) (f ∷ more) one whole kept = and_from (not e.inside || (f.thread == e.thread)) (are_kept (f ∷ more)) (or_left (not e.inside) (f.thread == e.thread) whole) kept
+unit_kept t (e ∷ f ∷ u) more one whole kept = and_from (not e.inside || (f.thread == e.thread)) (are_kept (f ∷ (u ++ more))) (or_right (not e.inside) (f.thread == e.thread) (eq-eqb f.thread e.thread (one.1.0 ∙ sym one.0))) (unit_kept t (f ∷ u) more one.1 whole kept)
 
 flat_kept : (n : ℕ) (us : List (List Entry)) → Each (IsFine n) us → Each Whole us → are_kept (flat us) ≡ true
 flat_kept n [] fine whole = refl
@@ -133,7 +119,7 @@ none_added n t e (u ∷ us) fine h = by (is_of_thread e.thread u) refl h (λ g. 
     by : (b : Bool) → is_of_thread e.thread u ≡ b → has t (if b then (e ∷ u) ∷ us else u ∷ added e us) ≡ false → (has t (added e us) ≡ false → ((e.thread == t) ≡ false) × (has t us ≡ false)) → ((e.thread == t) ≡ false) × (has t (u ∷ us) ≡ false)
     by true is g later =
         let p = test_or (e.thread == t) (has t us) g in
-        let mine : is_of_thread t u ≡ false = ap (is_of_thread t) fine.0.is ∙ ap (λ k. k == t) (same_number fine.0.first.thread e.thread (sym (ap (is_of_thread e.thread) fine.0.is) ∙ is)) ∙ p.0 in
+        let mine : is_of_thread t u ≡ false = ap (is_of_thread t) fine.0.is ∙ ap (λ k. k == t) (eqb-true fine.0.first.thread e.thread (sym (ap (is_of_thread e.thread) fine.0.is) ∙ is)) ∙ p.0 in
         (p.0, ap (λ (b : Bool). if b then true else has t us) mine ∙ p.1)
     by false is g later = let p = test_or (is_of_thread t u) (has t (added e us)) g in let q = later p.1 in (q.0, ap (λ (b : Bool). if b then true else has t us) p.0 ∙ q.1)
 
@@ -142,7 +128,7 @@ none_units t [] n rises h = tt
 none_units t (e ∷ es) n rises h = by e.inside h (λ g. none_units t es (suc e.place) rises.1 g)
   where
     apart : (e.thread == t) ≡ false → e.thread ≡ t → ⊥
-    apart differ same = absurd (let c : true ≡ false = sym (same_test e.thread t same) ∙ differ in cc)
+    apart differ same = absurd (let c : true ≡ false = sym (eq-eqb e.thread t same) ∙ differ in cc)
 
     by : (b : Bool) → has t (if b then added e (units es) else (e ∷ []) ∷ units es) ≡ false → (has t (units es) ≡ false → Each (λ x. x.thread ≡ t → ⊥) es) → Each (λ x. x.thread ≡ t → ⊥) (e ∷ es)
     by true g later = let p = none_added (suc e.place) t e (units es) (fine_units es (suc e.place) rises.1) g in (apart p.0, later p.1)

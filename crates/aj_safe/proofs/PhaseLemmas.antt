@@ -36,17 +36,6 @@ le_itself Free = refl
 le_itself Opened = refl
 le_itself Committed = refl
 
-pub le_chain : (p q r : Phase) → phase_le p q ≡ true → phase_le q r ≡ true → phase_le p r ≡ true
-le_chain Free q r h k = refl
-le_chain Opened Free r h k = absurd cc
-le_chain Opened Opened r h k = k
-le_chain Opened Committed Free h k = absurd cc
-le_chain Opened Committed Opened h k = absurd cc
-le_chain Opened Committed Committed h k = refl
-le_chain Committed Free r h k = absurd cc
-le_chain Committed Opened r h k = absurd cc
-le_chain Committed Committed r h k = k
-
 -- whether the second phase is none, or the first is there and at most that
 abbrev le_some : Option Phase → Option Phase → Bool
 le_some p None = true

@@ -2,6 +2,7 @@
 use Rattle.std.proofs.Common.{◌≡◌, ℕ, Bool, true, false, ◌||◌, ◌==◌, List, ◌++◌, Some, None, refl, sym, ap, subst, ◌∙◌, arith}
 use Rattle.std.specs.Prelude.{Option, length, nat_le, if◌then◌else◌}
 use Rattle.std.proofs.lemmas.Bool.Decides.{nat_tests}
+use Rattle.std.proofs.lemmas.Bool.{eqb-true}
 use Rattle.aj_paths.specs.Paths.{PathData, extended, most_fields}
 use Rattle.aj_algebra.specs.HeldPaths.{Held, holds_at}
 use Rattle.aj_core.specs.Core.{Program, Expr, Stmt, Stmts, EmptyS, BlockS, LocalS, SetVarS, SetFieldS, DoS, IfS, WhileS, SyncS, ReturnS, PrintS, StartS, and_stmt}
@@ -33,9 +34,6 @@ pub holds_some : (o : Option PathData) (H : Held) → holds_at o H ≡ true → 
 holds_some None H e = absurd cc
 holds_some (Some p) H e = (p, refl, e)
 
-pub same_root : (a b : ℕ) → (a == b) ≡ true → a ≡ b
-same_root a b e = grind (arith, nat_tests)
-
 turned : (a b : ℕ) → (a == b) ≡ false → (b == a) ≡ false
 turned a b e = grind (arith, nat_tests)
 
@@ -62,7 +60,7 @@ module _ (P : Program) (h : Memory) (env later : Env) (held : Address → Bool) 
         (at.0, ap (λ v. lead_from P h v q.fields) (ap later rooted ∙ may parts.0 parts.1) ∙ parts.2, at.2)
 
     alias_sound : (p q : PathData) → MayLeadTo P h env (Some p) (later x) → (b : Bool) → (q.root == x) ≡ b → (if b then holds_at (extended p q.fields) H else H q) ≡ true → (a : Address) × (lead P h later q ≡ Some (value.Ref a)) × (held a ≡ true)
-    alias_sound p q may true is has = let r = holds_some (extended p q.fields) H has in renamed_at p q r.0 may (same_root q.root x is) r.1 r.2
+    alias_sound p q may true is has = let r = holds_some (extended p q.fields) H has in renamed_at p q r.0 may (eqb-true q.root x is) r.1 r.2
     alias_sound p q may false is has = kept_at q (kept q.root (turned q.root x is)) (s.at q has)
 
     pub local_sound : (o : Option PathData) → MayLeadTo P h env o (later x) → Sound P h later (after_local H x o) held
@@ -91,7 +89,7 @@ module _ (H : Held) (ss : Stmts) (x : ℕ) (apart : stores_each ss x ≡ false) 
   without_fresh q false is has = fresh q has
 
   alias_fresh : (p q : PathData) (b : Bool) → (q.root == x) ≡ b → (if b then holds_at (extended p q.fields) H else H q) ≡ true → stores_each ss q.root ≡ false
-  alias_fresh p q true is has = subst (λ y. stores_each ss y ≡ false) (sym (same_root q.root x is)) apart
+  alias_fresh p q true is has = subst (λ y. stores_each ss y ≡ false) (sym (eqb-true q.root x is)) apart
   alias_fresh p q false is has = fresh q has
 
   local_fresh : (o : Option PathData) → FreshEach (after_local H x o) ss

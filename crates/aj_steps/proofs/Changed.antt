@@ -4,6 +4,7 @@ use Rattle.std.specs.Prelude.{Option, slice_get, cond, if◌then◌else◌}
 use Rattle.std.proofs.lemmas.Bool.Decides.{nat_tests}
 use Rattle.std.specs.FinMap as M
 use Rattle.std.specs.FinMap.{get-remove}
+use Rattle.std.proofs.lemmas.Bool.{eqb-true, and_parts}
 use Rattle.aj_state.specs.declared.value.Address.{Address}
 use Rattle.aj_state.specs.declared.value.Value.{Value}
 use Rattle.aj_state.specs.Values.{address_eq}
@@ -16,21 +17,14 @@ use Rattle.aj_steps.specs.Changes.{object_with, objects_after, locks_after}
 
 -- Addresses by their test.
 
-pub same_number : (a b : ℕ) → (a == b) ≡ true → a ≡ b
-same_number a b e = grind (arith, nat_tests)
-
 pub other_number : (a b : ℕ) → (a == b) ≡ false → b ≢ a
 other_number a b e = grind (arith, nat_tests)
-
-pub and_parts : (a b : Bool) → (a && b) ≡ true → (a ≡ true) × (b ≡ true)
-and_parts true b e = (refl, e)
-and_parts false b e = absurd cc
 
 pub same_address : (a b : Address) → address_eq a b ≡ true → a ≡ b
 same_address a b e =
     let parts = and_parts (a.thread == b.thread) (a.count == b.count) e in
-    let first = same_number a.thread b.thread parts.0 in
-    let second = same_number a.count b.count parts.1 in
+    let first = eqb-true a.thread b.thread parts.0 in
+    let second = eqb-true a.count b.count parts.1 in
     λ i. record { thread = first i; count = second i }
 
 number_itself : (n : ℕ) → (n == n) ≡ true

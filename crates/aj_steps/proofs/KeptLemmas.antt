@@ -1,7 +1,7 @@
 -- The test for uninterrupted schedules is exact.
 use Rattle.std.proofs.Common.{◌≡◌, ℕ, zero, suc, ◌+◌, Bool, true, false, not, List, [], ◌∷◌, Some, refl, sym, ap, ◌∙◌, arith, ◌==◌, ◌&&◌, ◌||◌}
 use Rattle.std.specs.Prelude.{take, slice_get, option_and_then, IsSome}
-use Rattle.std.proofs.lemmas.Bool.Decides.{nat_tests}
+use Rattle.std.proofs.lemmas.Bool.{eqb-true, eq-eqb, and_from}
 use Rattle.aj_core.specs.Core.{Program}
 use Rattle.aj_state.specs.States.{State, initial}
 use Rattle.aj_steps.specs.Step.{Outcome, Moves, Absent, IsDone, HadFaulted, Waits, outcome, moved, state_after}
@@ -12,12 +12,6 @@ use Rattle.aj_steps.specs.Units.{Entry, entry_then, entries_from, entries, are_k
 abbrev Kept : Program → State → List ℕ → Type 0
 Kept P q s = (place t u : ℕ) (r : State) → slice_get s place ≡ Some t → slice_get s (suc place) ≡ Some u → run_from P q (take (suc place) s) ≡ Some r → inside P r t ≡ true → u ≡ t
 
-same_test : (a b : ℕ) → (a == b) ≡ true → a ≡ b
-same_test a b e = grind (arith, nat_tests)
-
-test_same : (a b : ℕ) → a ≡ b → (a == b) ≡ true
-test_same a b e = grind (arith, nat_tests)
-
 first_of_both : (a b : Bool) → (a && b) ≡ true → a ≡ true
 first_of_both true b h = refl
 first_of_both false b h = absurd cc
@@ -25,10 +19,6 @@ first_of_both false b h = absurd cc
 second_of_both : (a b : Bool) → (a && b) ≡ true → b ≡ true
 second_of_both true b h = h
 second_of_both false b h = absurd cc
-
-both_true : (a b : Bool) → a ≡ true → b ≡ true → (a && b) ≡ true
-both_true true b h k = k
-both_true false b h k = absurd cc
 
 unless : (a b : Bool) → (not a || b) ≡ true → a ≡ true → b ≡ true
 unless true b h e = h
@@ -64,7 +54,7 @@ module _ (P : Program) where
         let same_t : t0 ≡ t = cc in
         let same_u : t1 ≡ u = cc in
         let stands : e.inside ≡ true = inside_is ∙ ap (λ x. inside P x t0) same_r ∙ ap (inside P r) same_t ∙ is in
-        let same = same_test _ _ (unless e.inside (first.0.thread == e.thread) (first_of_both (not e.inside || (first.0.thread == e.thread)) (are_kept (entries_from P q1 place (t1 ∷ s))) tests) stands) in
+        let same = eqb-true _ _ (unless e.inside (first.0.thread == e.thread) (first_of_both (not e.inside || (first.0.thread == e.thread)) (are_kept (entries_from P q1 place (t1 ∷ s))) tests) stands) in
         sym same_u ∙ sym first.3 ∙ same ∙ thread_is ∙ same_t
     kept_step further kept (suc k) t u r here next ran is =
         let first = first_entry q1 place t1 s runs in
@@ -77,8 +67,8 @@ module _ (P : Program) where
     test_step further kept =
         let first = first_entry q1 place t1 s runs in
         test_kept e _ first.1 first.0 first.2
-        ∙ both_true (not e.inside || (first.0.thread == e.thread)) (are_kept (entries_from P q1 place (t1 ∷ s)))
-        (unless_true e.inside (first.0.thread == e.thread) (λ stands. test_same _ _ (first.3 ∙ kept 0 t0 t1 q1 refl refl refl (sym inside_is ∙ stands) ∙ sym thread_is)))
+        ∙ and_from (not e.inside || (first.0.thread == e.thread)) (are_kept (entries_from P q1 place (t1 ∷ s)))
+        (unless_true e.inside (first.0.thread == e.thread) (λ stands. eq-eqb _ _ (first.3 ∙ kept 0 t0 t1 q1 refl refl refl (sym inside_is ∙ stands) ∙ sym thread_is)))
         (further (λ k t u r here next ran is. kept (suc k) t u r here next ran is))
 
   kept_is : (s : List ℕ) (q : State) (place : ℕ) → IsSome (run_from P q s) → are_kept (entries_from P q place s) ≡ true → Kept P q s

@@ -1,8 +1,9 @@
 -- What a thread's turn can come to, and why.
-use Rattle.std.proofs.Common.{◌≡◌, ◌≢◌, ◌⊎◌, ◌==◌, inl, inr, ℕ, Bool, true, false, List, [], ◌∷◌, Some, None, refl, sym, ap, subst, ◌∙◌, arith}
+use Rattle.std.proofs.Common.{◌≡◌, ◌⊎◌, ◌==◌, inl, inr, ℕ, Bool, true, false, List, [], ◌∷◌, Some, None, refl, sym, ap, subst, ◌∙◌, arith}
 use Rattle.std.proofs.lemmas.Bool.Decides.{nat_tests}
 use Rattle.std.specs.Prelude.{Option, slice_get}
 use Rattle.std.specs.FinMap as map
+use Rattle.std.proofs.lemmas.Bool.{ne_eqb}
 use Rattle.aj_core.specs.Core.{Program, Class, Field, Method, Expr, Stmt}
 use Rattle.aj_state.specs.declared.value.Address.{Address}
 use Rattle.aj_state.specs.declared.value.Value.{Value}
@@ -169,9 +170,6 @@ module _ (P : Program) (q : State) (t : ℕ) where
   pub outcome_case : Case q t (outcome P q t)
   outcome_case = turn_case _ refl
 
-other_test : (a b : ℕ) → a ≢ b → (a == b) ≡ false
-other_test a b h = grind (arith, nat_tests)
-
 -- the reason of an outcome: of each kind of outcome what stands in the state
 module _ (q : State) (t : ℕ) where
   absent_case : (o : Outcome) → Case q t o → o ≡ Absent → slice_get q.threads t ≡ None
@@ -223,7 +221,7 @@ module _ (P : Program) (q : State) (t : ℕ) where
       ∙ ap (act_next P (seen_by t q) t w.frame w.below) w.acquires
       ∙ ap (acquire P (seen_by t q) t w.frame w.below w.rest w.part) w.operand
       ∙ ap (take P (seen_by t q) t w.frame w.below w.rest w.part a) w.held
-      ∙ waiting w.frame w.below w.rest w.part a w.hold _ (other_test _ _ (λ e. w.another (sym w.by ∙ e)))
+      ∙ waiting w.frame w.below w.rest w.part a w.hold _ (ne_eqb _ _ (λ e. w.another (sym w.by ∙ e)))
       ∙ ap (Waits a) w.by
 
   -- an outcome without a step

@@ -8,9 +8,6 @@ use Rattle.aj_steps.specs.Step.{Moves, Absent, IsDone, HadFaulted, Waits, outcom
 use Rattle.aj_steps.specs.Run.{run_from, Runs, IsRearrangement}
 use Rattle.aj_steps.specs.Units.{Entry, entry_then, entries_from, entries, added, is_of_thread, units, commit_place, placed, in_order, schedule_of, written_order}
 
-threads_of : List Entry → List ℕ
-threads_of es = map (λ e. e.thread) es
-
 module _ (t : ℕ) where
   -- how often a number stands in a schedule
   abbrev count : List ℕ → ℕ

@@ -12,7 +12,8 @@ use Rattle.aj_syntax.specs.Reprinted.{AreTokensOf, ReadsBack}
 use Rattle.aj_syntax.specs.Trees.{ExprTree, ExprTrees, NumberE, LeastE, TruthE, NullE, ThisE, VarE, ParenE, NotE, NegE, BinaryE, GetE, CallE, NewE, no_exprs, more_exprs, StmtTree, StmtTrees, EmptyS, BlockS, LocalS, SetVarS, SetFieldS, DoS, IfS, IfElseS, WhileS, SyncS, ReturnS, PrintS, StartS, no_stmts, more_stmts, MethodTree, MemberTree, FieldM, CtorM, MethodM, ClassTree, ProgramTree}
 use Rattle.aj_syntax.specs.Unplaced.{bare_expr, bare_exprs, bare_stmt, bare_stmts, bare_member, bare_class, without_offsets}
 use Rattle.aj_syntax.proofs.Cutting.{cut}
-use Rattle.aj_syntax.proofs.Moving.{placed, known_all, program_law}
+use Rattle.aj_syntax.proofs.Placing.{placed, known_all}
+use Rattle.aj_syntax.proofs.Moving.{program_law}
 use Rattle.aj_syntax.proofs.Parting.{program_parted}
 
 up : {a b : ℕ} → a ≡ b → 1 + a ≡ 1 + b

@@ -41,9 +41,6 @@ scope_more scope next n later is s = record {
   low = let l = s.low in omega (arith, l, is);
 }
 
-less_not_same : (n m : ℕ) → n < m → n ≡ m → ⊥
-less_not_same n m less same = omega (arith, less, same)
-
 pub scope_local : (x : ℕ) (is_final : Bool) (ty : CoreType) (scope : List Variable) (next : ℕ) → x ≡ next → Scope scope next → Scope (record { slot = x; is_final = is_final; ty = ty } ∷ scope) (next + 1)
 scope_local x is_final ty scope next is s = record {
   below = λ v has. elim (contains_cases (record { slot = x; is_final = is_final; ty = ty }) v scope has) as (λ _. v.slot < next + 1) [

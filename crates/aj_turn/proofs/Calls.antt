@@ -2,6 +2,7 @@
 use Rattle.std.proofs.Common.{◌≡◌, ℕ, zero, suc, ◌+◌, Bool, true, false, ◌||◌, ◌&&◌, List, [], ◌∷◌, ◌++◌, Some, None, refl, sym, ap, subst, ◌∙◌, arith}
 use Rattle.std.specs.Prelude.{Option, slice_get, unwrap_or, nat_lt, length, replicate, ◌-◌, if◌then◌else◌}
 use Rattle.std.specs.List.{list_all}
+use Rattle.std.proofs.lemmas.Bool.{and_parts}
 use Rattle.aj_paths.specs.Paths.{PathData, path_eq, extended, extended_some}
 use Rattle.aj_paths.specs.Renamings.{argument_at, passed, under_call}
 use Rattle.aj_paths.proofs.PathOrder.{eq_is}
@@ -32,10 +33,6 @@ use Rattle.aj_safe.proofs.SetLemmas.{extended_is, holds_some}
 use Rattle.aj_turn.specs.Turn.{Accepted, Fine}
 use Rattle.aj_turn.proofs.FrameLemmas.{found_before}
 use Rattle.aj_turn.proofs.Actions.{fault_fine, list_falls, address_is}
-
-and_parts : (a b : Bool) → (a && b) ≡ true → (a ≡ true) × (b ≡ true)
-and_parts true b e = (refl, e)
-and_parts false b e = absurd cc
 
 held_here : (H : Held) (p q : PathData) (b later : Bool) → path_eq p q ≡ b → H p ≡ true → (later ≡ true → H q ≡ true) → (b || later) ≡ true → H q ≡ true
 held_here H p q true later same here rest has = ap H (sym (eq_is p q same)) ∙ here

@@ -2,6 +2,7 @@
 use Rattle.std.proofs.Common.{◌≡◌, ◌≢◌, ℕ, zero, suc, ◌+◌, Bool, true, false, ◌||◌, ◌==◌, List, [], ◌∷◌, ◌++◌, Some, None, refl, sym, ap, ◌∙◌, arith}
 use Rattle.std.specs.Prelude.{Option, slice_get, slice_set, unwrap_or, nat_lt, if◌then◌else◌}
 use Rattle.std.proofs.lemmas.Bool.Decides.{nat_tests}
+use Rattle.std.proofs.lemmas.Bool.{eqb-true, and_parts}
 use Rattle.aj_core.specs.Core as core
 use Rattle.aj_core.specs.Core.{Program}
 use Rattle.aj_core.specs.Locks.{leads_on}
@@ -18,12 +19,9 @@ use Rattle.aj_safe.specs.Leads.{env_of, with_slot, memory_of, Grows}
 use Rattle.aj_safe.specs.Fits.{has_release, count_release}
 use Rattle.aj_safe.specs.Safe.{held_by, count_frames}
 use Rattle.aj_steps.specs.Changes.{object_with}
-use Rattle.aj_steps.proofs.Changed.{and_parts, same_number, other_number, same_address}
+use Rattle.aj_steps.proofs.Changed.{other_number, same_address}
 
 -- Releases.
-
-more_later : (n m : ℕ) → n ≡ m → nat_lt 0 n ≡ nat_lt 0 m
-more_later n m e = ap (nat_lt 0) e
 
 one_counts : (b : Bool) (h : Bool) (n : ℕ) → h ≡ nat_lt 0 n → (b || h) ≡ nat_lt 0 (if b then 1 + n else n)
 one_counts true h n e = grind (arith, nat_tests)
@@ -69,7 +67,7 @@ held_counts a more fs = both_count (has_release a more) (held_by fs a) (count_re
 
 slot_at : (slots : List Value) (x y : ℕ) (v old : Value) → slice_get slots x ≡ Some old → (b : Bool) → (x == y) ≡ b → unwrap_or (slice_get (slice_set slots x v) y) value.Null ≡ (if b then v else env_of slots y)
 slot_at slots x y v old is true same =
-    ap (λ o. unwrap_or o value.Null) (ap (λ z. slice_get (slice_set slots x v) z) (sym (same_number x y same)) ∙ set_same slots x v old is)
+    ap (λ o. unwrap_or o value.Null) (ap (λ z. slice_get (slice_set slots x v) z) (sym (eqb-true x y same)) ∙ set_same slots x v old is)
 slot_at slots x y v old is false other = ap (λ o. unwrap_or o value.Null) (set_other slots x y v (other_number x y other))
 
 -- a stored slot
@@ -85,7 +83,7 @@ found_before (z ∷ zs) ys (suc k) x e = found_before zs ys k x e
 
 some_field : (f : ℕ) (o : Option ℕ) → is_field f o ≡ true → o ≡ Some f
 some_field f None e = absurd cc
-some_field f (Some g) e = ap Some (same_number g f e)
+some_field f (Some g) e = ap Some (eqb-true g f e)
 
 if_taken : {A : Type 0} (b : Bool) (o : Option A) (x : A) → (if b then o else None) ≡ Some x → (b ≡ true) × (o ≡ Some x)
 if_taken true o x e = (refl, e)
