@@ -1,9 +1,10 @@
 -- One turn of each loop, and its end, as the functions of the parser use them.
-use Rattle.std.proofs.Common.{◌≡◌, ℕ, zero, suc, ◌<◌, ◌≤◌, ◌-◌, true, false, List, [], ◌∷◌, ◌++◌, map, max, length, length-append, Option, Some, None, Ok, Err, refl, sym, ap, subst, arith}
+use Rattle.std.proofs.Common.{◌≡◌, ℕ, zero, suc, ◌<◌, ◌≤◌, ◌+◌, ◌-◌, true, false, List, [], ◌∷◌, ◌++◌, map, max, length, length-append, Option, Some, None, Ok, Err, is_some, ◌∙◌, refl, sym, ap, subst, arith}
 use Rattle.aj_lexer.specs.declared.tokens.Token.{Token}
 use Rattle.aj_syntax.specs.Heights.{height, heights}
 use Rattle.aj_syntax.specs.Views.{expr_of, exprs_from}
 use Rattle.aj_syntax.specs.declared.tree.Expr.{Expr}
+use Rattle.aj_syntax.specs.declared.tree.Op.{Op}
 use Rattle.aj_syntax.specs.Trees.{ExprTree, VarE}
 use Rattle.aj_syntax.specs.Tokens.{is, name_token}
 use Rattle.aj_syntax.specs.declared.terminal.Terminal.{Terminal}
@@ -14,7 +15,7 @@ use Rattle.aj_parser.proofs.Lists.{separated_takes}
 use Rattle.aj_parser.proofs.Parts.{x_name}
 use Rattle.aj_parser.proofs.Right.{RightAt, right_weaker}
 use Rattle.aj_parser.specs.Combine.{Res, ◌>>=◌, starts, loop, beyond, comma_step, got, first, take_one, at_of}
-use Rattle.aj_parser.specs.Reading.{is_op, op_step, member_step, chain_with, chain_at, below, unary, begins_expression}
+use Rattle.aj_parser.specs.Reading.{is_op, op_step, member_step, chain_with, chain_at, levels_from, below, unary, begins_expression, is_any_op, op_of, op_at}
 
 pub below_law : (h : ℕ) → 0 < h → Below h (below h)
 below_law h some k small ts = right_weaker (λ zs b l. l) (λ b r q. omega (arith, q, some)) (right_chain_at (h - 1) k small ts)
@@ -37,17 +38,65 @@ operation_more h some (suc k) pos small e ts g =
 pub operation_done : (h k : ℕ) (e : ExprTree) (ts : List Token) → starts (is_op k) ts ≡ false → loop (is_op k) (op_step h (below h) (k - 1)) e ts ≡ Ok (e, ts)
 operation_done h k e ts g = loop_done (is_op k) (op_step h (below h) (k - 1)) e ts g
 
-pub chain_none : (h : ℕ) (inner : ℕ → List Token → Res ExprTree) (ts : List Token) → chain_with h inner 0 ts ≡ unary h inner ts
-unfolding chain_with
-chain_none h inner ts = refl
+pub levels_done : (h : ℕ) (inner : ℕ → List Token → Res ExprTree) (n k : ℕ) → (k < n → ⊥) → (e : ExprTree) (ts : List Token)
+    → levels_from h inner (n - k) k e ts ≡ Ok (e, ts)
+unfolding levels_from
+levels_done h inner n k end e ts =
+    let none : n - k ≡ 0 = omega (arith, end) in
+    subst (λ z. levels_from h inner z k e ts ≡ Ok (e, ts)) (sym none) refl
 
-pub chain_next : (h k : ℕ) → 0 < k → (ts : List Token)
-    → chain_with h (below h) k ts ≡ (chain_with h (below h) (k - 1) ts >>= loop (is_op k) (op_step h (below h) (k - 1)))
+pub levels_more : (h : ℕ) (inner : ℕ → List Token → Res ExprTree) (n k : ℕ) → k < n → (e : ExprTree) (ts : List Token)
+    → levels_from h inner (n - k) k e ts ≡ (loop (is_op (k + 1)) (op_step h inner (k + 1 - 1)) e ts >>= levels_from h inner (n - (k + 1)) (k + 1))
+unfolding levels_from
+levels_more h inner n k some e ts =
+    let more : n - k ≡ suc (n - (k + 1)) = omega (arith, some) in
+    let next : k + 1 ≡ suc k = omega arith in
+    let last : k + 1 - 1 ≡ k = omega arith in
+    subst (λ z. levels_from h inner z k e ts ≡ (loop (is_op (k + 1)) (op_step h inner (k + 1 - 1)) e ts >>= levels_from h inner (n - (k + 1)) (k + 1))) (sym more)
+    (subst (λ z. levels_from h inner (suc (n - (k + 1))) k e ts ≡ (loop (is_op (k + 1)) (op_step h inner z) e ts >>= levels_from h inner (n - (k + 1)) (k + 1))) (sym last)
+    (subst (λ z. levels_from h inner (suc (n - (k + 1))) k e ts ≡ (loop (is_op z) (op_step h inner k) e ts >>= levels_from h inner (n - (k + 1)) z)) (sym next) refl))
+
+quiet_op : (k : ℕ) (x : Token) (found : Option Op) → is_some found ≡ false → is_some (op_at k found x.at) ≡ false
+quiet_op k x (Some o) q = absurd cc
+quiet_op k x None q = refl
+
+quiet_level : (k : ℕ) (ts : List Token) → starts is_any_op ts ≡ false → starts (is_op k) ts ≡ false
+quiet_level k [] q = refl
+quiet_level k (x ∷ xs) q = quiet_op k x (op_of x) q
+
+pub levels_quiet : (h : ℕ) (inner : ℕ → List Token → Res ExprTree) (n k : ℕ) (e : ExprTree) (ts : List Token) → starts is_any_op ts ≡ false
+    → levels_from h inner n k e ts ≡ Ok (e, ts)
+unfolding levels_from
+levels_quiet h inner zero k e ts q = refl
+levels_quiet h inner (suc n) k e ts q =
+    ap (λ z. z >>= levels_from h inner n (suc k)) (loop_done (is_op (suc k)) (op_step h inner k) e ts (quiet_level (suc k) ts q))
+    ∙ levels_quiet h inner n (suc k) e ts q
+
+bind_bind : {A B C : Type 0} (r : Res A) (f : A → List Token → Res B) (g : B → List Token → Res C) → ((r >>= f) >>= g) ≡ (r >>= (λ a ts. f a ts >>= g))
+bind_bind (Ok y) f g = refl
+bind_bind (Err e) f g = refl
+
+bind_ok : {A : Type 0} (r : Res A) → r ≡ (r >>= (λ a ts. Ok (a, ts)))
+bind_ok (Ok y) = refl
+bind_ok (Err e) = refl
+
+-- the levels from the tightest on, in place of the chain from the loosest down
+chain_from : (h : ℕ) (inner : ℕ → List Token → Res ExprTree) (n k : ℕ) (ts : List Token)
+    → chain_with h inner (n + k) ts ≡ (chain_with h inner k ts >>= levels_from h inner n k)
+unfolding chain_with levels_from
+chain_from h inner zero k ts =
+    let same : 0 + k ≡ k = omega arith in
+    ap (λ z. chain_with h inner z ts) same ∙ bind_ok (chain_with h inner k ts)
+chain_from h inner (suc n) k ts =
+    let same : suc n + k ≡ n + suc k = omega arith in
+    ap (λ z. chain_with h inner z ts) same ∙ chain_from h inner n (suc k) ts
+    ∙ bind_bind (chain_with h inner k ts) (λ e ts. loop (is_op (suc k)) (op_step h inner k) e ts) (levels_from h inner n (suc k))
+
+pub chain_levels : (h n : ℕ) (ts : List Token) → chain_with h (below h) n ts ≡ (unary h (below h) ts >>= levels_from h (below h) n 0)
 unfolding chain_with
-chain_next h zero pos ts = absurd (omega (arith, pos))
-chain_next h (suc k) pos ts =
-    let same : suc k - 1 ≡ k = omega arith in
-    subst (λ z. chain_with h (below h) (suc k) ts ≡ (chain_with h (below h) z ts >>= loop (is_op (suc k)) (op_step h (below h) z))) (sym same) refl
+chain_levels h n ts =
+    let same : n + 0 ≡ n = omega arith in
+    subst (λ z. chain_with h (below h) z ts ≡ (unary h (below h) ts >>= levels_from h (below h) n 0)) same (chain_from h (below h) n 0 ts)
 
 pub chain_zero : (k : ℕ) (ts : List Token) → chain_at 0 k ts ≡ beyond begins_expression ts
 unfolding chain_at

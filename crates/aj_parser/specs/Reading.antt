@@ -1,5 +1,6 @@
 -- Recursive descent on lists of tokens, with the height still allowed as its budget.
-use Rattle.std.specs.Prelude.{ℕ, zero, suc, ◌==◌, ◌-◌, nat_lt, Bool, true, false, not, ◌&&◌, ◌||◌, List, [], Option, Some, None, is_some, Ok, Err, if◌then◌else◌}
+use Rattle.std.specs.Prelude.{ℕ, zero, suc, ◌==◌, ◌-◌, nat_lt, Bool, true, false, not, ◌&&◌, ◌||◌, List, [], Option, Some, None, is_some, Ok, Err, codes, if◌then◌else◌}
+use Rattle.std.specs.Str.{bytes_eq}
 use Rattle.aj_lexer.specs.declared.tokens.Token.{Token}
 use Rattle.aj_lexer.specs.declared.tokens.TokenKind.{TokenKind}
 use Rattle.aj_lexer.specs.declared.tokens.TokenKind.TheVariants as K
@@ -60,6 +61,16 @@ is_least x = least_number (number_if x.kind)
 abbrev pub a_least : Token → Option ℕ
 a_least x = when (is_least x) x.at
 
+-- the operator that the text of a sign is
+abbrev pub op_of_sign : List ℕ → Option Op
+op_of_sign text =
+    if bytes_eq text (codes "*") then Some O.Mul else if bytes_eq text (codes "/") then Some O.Div else if bytes_eq text (codes "%") then Some O.Rem
+    else if bytes_eq text (codes "+") then Some O.Add else if bytes_eq text (codes "-") then Some O.Sub
+    else if bytes_eq text (codes "<") then Some O.Lt else if bytes_eq text (codes "<=") then Some O.Le
+    else if bytes_eq text (codes ">") then Some O.Gt else if bytes_eq text (codes ">=") then Some O.Ge
+    else if bytes_eq text (codes "==") then Some O.Eq else if bytes_eq text (codes "!=") then Some O.Ne
+    else if bytes_eq text (codes "&&") then Some O.And else if bytes_eq text (codes "||") then Some O.Or else None
+
 unfoldable pub op_of : Token → Option Op
 op_of x =
     if is T.Star x then Some O.Mul else if is T.Slash x then Some O.Div else if is T.Percent x then Some O.Rem
@@ -79,6 +90,10 @@ an_op k x = op_at k (op_of x) x.at
 
 abbrev pub is_op : ℕ → Token → Bool
 is_op k x = is_some (an_op k x)
+
+-- whether a token is an operator of any level
+abbrev pub is_any_op : Token → Bool
+is_any_op x = is_some (op_of x)
 
 -- locks and types
 
@@ -165,6 +180,11 @@ module _ (h : ℕ) (inner : ℕ → List Token → Res ExprTree) where
   unfoldable pub chain_with : ℕ → List Token → Res ExprTree
   chain_with zero ts = unary ts
   chain_with (suc k) ts = chain_with k ts >>= λ e ts. loop (is_op (suc k)) (op_step k) e ts
+
+  -- what n levels of operators more make of an operand of the first k levels
+  unfoldable pub levels_from : ℕ → ℕ → ExprTree → List Token → Res ExprTree
+  levels_from zero k e ts = Ok (e, ts)
+  levels_from (suc n) k e ts = loop (is_op (suc k)) (op_step k) e ts >>= levels_from n (suc k)
 
 -- an expression of at most h nodes in height, whose operators are of the first k levels
 unfoldable pub chain_at : ℕ → ℕ → List Token → Res ExprTree

@@ -5,13 +5,13 @@ ghost use Rattle.aj_syntax.specs.Heights.{height as height_of, heights};
 ghost use Rattle.aj_syntax.specs.Trees.{BinaryE, CallE, NewE};
 ghost use Rattle.aj_syntax.specs.Views.{expr_of, exprs_from};
 ghost use Rattle.aj_parser.specs.Answer.{Gives};
-ghost use Rattle.aj_parser.specs.Combine.{comma_step};
-ghost use Rattle.aj_parser.specs.Reading.{arguments as arguments_at, below, call_arguments, chain_at, chain_with, dots as dots_at, field_name as field_name_at, leaf as leaf_at, member_rest as member_rest_at, member_step as member_step_at, negated as negated_at, new_rest as new_rest_at, op_step, parenthesised as parenthesised_at, postfix as postfix_at, primary as primary_at, unary as unary_at};
+ghost use Rattle.aj_parser.specs.Combine.{comma_step, loop};
+ghost use Rattle.aj_parser.specs.Reading.{arguments as arguments_at, below, call_arguments, chain_at, chain_with, is_op, dots as dots_at, field_name as field_name_at, leaf as leaf_at, member_rest as member_rest_at, member_step as member_step_at, negated as negated_at, new_rest as new_rest_at, op_step, parenthesised as parenthesised_at, postfix as postfix_at, primary as primary_at, unary as unary_at};
 
 use crate::stop::{Fault, Stop};
 use crate::tokens::{
-    begins, begins_expression, begins_least, begins_number, begins_operator, least, name, number,
-    operator, take,
+    begins, begins_any_operator, begins_expression, begins_least, begins_number, begins_operator,
+    least, name, number, operator, take,
 };
 use aj_lexer::Token;
 use aj_syntax::{Expr, Name, Op, Terminal};
@@ -476,9 +476,35 @@ fn operation<'t, 'a>(
     })
 }
 
-/// Operands with operators of the first levels between them.
+/// Operators of one level and their right operands, behind an operand of the levels before it.
 #[cycle(expression)]
-#[tactic(auto, using(crate::proofs::Loops::operation_more, crate::proofs::Loops::operation_done, crate::proofs::Loops::chain_none, crate::proofs::Loops::chain_next))]
+#[tactic(auto, using(crate::proofs::Loops::operation_more, crate::proofs::Loops::operation_done))]
+fn operators<'t, 'a>(
+    alloc: Global,
+    front: Parsed<'t, 'a>,
+    high: u32,
+    levels: u32,
+) -> Result<Parsed<'t, 'a>, Stop<'t, 'a>>
+    requires high { high ≤ 64 }
+    requires positive { 0 < high }
+    requires first { 0 < levels }
+    requires levels { levels ≤ 6 }
+    requires height { front.height ≡ height_of (expr_of front.tree) }
+    requires limit { front.height ≤ high }
+    ensures tree { Gives (λ x. (expr_of x.tree, x.rest.now)) result (loop (is_op levels) (op_step high (below high) (levels - 1)) (expr_of front.entry.tree) front.entry.rest.now) }
+    ensures height { IfOk result (λ x. x.height ≡ height_of (expr_of x.tree)) }
+    ensures limit { IfOk result (λ x. x.height ≤ high) }
+{
+    let mut whole = front;
+    while begins_operator(whole.rest, levels) {
+        whole = operation(alloc, whole, high, levels - 1)?;
+    }
+    Ok(whole)
+}
+
+/// Operands with operators of the first levels between them. Where no operator stands, no level is asked.
+#[cycle(expression)]
+#[tactic(auto, using(crate::proofs::Loops::chain_levels, crate::proofs::Loops::levels_more, crate::proofs::Loops::levels_done, crate::proofs::Loops::levels_quiet))]
 fn operations<'t, 'a>(
     alloc: Global,
     tokens: &'t [Token<'a>],
@@ -492,12 +518,14 @@ fn operations<'t, 'a>(
     ensures height { IfOk result (λ x. x.height ≡ height_of (expr_of x.tree)) }
     ensures limit { IfOk result (λ x. x.height ≤ high) }
 {
-    if levels == 0 {
-        return unary(alloc, tokens, high);
-    }
-    let mut whole = operations(alloc, tokens, high, levels - 1)?;
-    while begins_operator(whole.rest, levels) {
-        whole = operation(alloc, whole, high, levels - 1)?;
+    let mut whole = unary(alloc, tokens, high)?;
+    let mut done = 0;
+    while done < levels {
+        if !begins_any_operator(whole.rest) {
+            return Ok(whole);
+        }
+        whole = operators(alloc, whole, high, done + 1)?;
+        done += 1;
     }
     Ok(whole)
 }

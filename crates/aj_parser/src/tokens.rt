@@ -5,7 +5,7 @@ ghost use Rattle.aj_syntax.specs.Grammar.{level as level_of, offset as offset_of
 ghost use Rattle.aj_syntax.specs.Tokens.{is};
 ghost use Rattle.aj_parser.specs.Answer.{Gives};
 ghost use Rattle.aj_parser.specs.Combine.{Res, beyond as beyond_at, first, flag as flag_at, starts, take_one};
-ghost use Rattle.aj_parser.specs.Reading.{a_least, a_name, a_number, an_op, begins_expression as may_begin_expression, begins_statement as may_begin_statement, goes_on as may_go_on, begins_local, is_leaf as may_be_leaf, is_least, is_name, is_number, is_op, op_of};
+ghost use Rattle.aj_parser.specs.Reading.{a_least, a_name, a_number, an_op, begins_expression as may_begin_expression, begins_statement as may_begin_statement, goes_on as may_go_on, begins_local, is_leaf as may_be_leaf, is_least, is_name, is_number, is_any_op, is_op, op_of, op_of_sign};
 
 use crate::stop::{Fault, Stop};
 use aj_lexer::{Token, TokenKind};
@@ -148,50 +148,36 @@ pub fn least<'t, 'a>(tokens: &'t [Token<'a>]) -> Result<(u32, &'t [Token<'a>]), 
     }
 }
 
+/// The operator that a sign is.
+fn sign_operator(sign: &[u8]) -> Option<Op>
+    ensures { result ≡ op_of_sign sign.now }
+{
+    match sign {
+        b"*" => Some(Op::Mul),
+        b"/" => Some(Op::Div),
+        b"%" => Some(Op::Rem),
+        b"+" => Some(Op::Add),
+        b"-" => Some(Op::Sub),
+        b"<" => Some(Op::Lt),
+        b"<=" => Some(Op::Le),
+        b">" => Some(Op::Gt),
+        b">=" => Some(Op::Ge),
+        b"==" => Some(Op::Eq),
+        b"!=" => Some(Op::Ne),
+        b"&&" => Some(Op::And),
+        b"||" => Some(Op::Or),
+        _ => None,
+    }
+}
+
 #[tactic(auto, unfolding(crate::specs::Reading::op_of))]
 fn operator_of(token: &Token) -> Option<Op>
     ensures { result ≡ op_of token.now }
 {
-    if Terminal::Star.matches(token) {
-        return Some(Op::Mul);
+    match token.kind {
+        TokenKind::Sign => sign_operator(token.text.as_bytes()),
+        TokenKind::Name | TokenKind::Word | TokenKind::Number(_) => None,
     }
-    if Terminal::Slash.matches(token) {
-        return Some(Op::Div);
-    }
-    if Terminal::Percent.matches(token) {
-        return Some(Op::Rem);
-    }
-    if Terminal::Plus.matches(token) {
-        return Some(Op::Add);
-    }
-    if Terminal::Minus.matches(token) {
-        return Some(Op::Sub);
-    }
-    if Terminal::Less.matches(token) {
-        return Some(Op::Lt);
-    }
-    if Terminal::LessEqual.matches(token) {
-        return Some(Op::Le);
-    }
-    if Terminal::Greater.matches(token) {
-        return Some(Op::Gt);
-    }
-    if Terminal::GreaterEqual.matches(token) {
-        return Some(Op::Ge);
-    }
-    if Terminal::EqualTo.matches(token) {
-        return Some(Op::Eq);
-    }
-    if Terminal::NotEqual.matches(token) {
-        return Some(Op::Ne);
-    }
-    if Terminal::AndAnd.matches(token) {
-        return Some(Op::And);
-    }
-    if Terminal::OrOr.matches(token) {
-        return Some(Op::Or);
-    }
-    None
 }
 
 /// How loosely an operator binds, from 1 to 6.
@@ -205,6 +191,16 @@ fn level(op: Op) -> u32
         Op::Eq | Op::Ne => 4,
         Op::And => 5,
         Op::Or => 6,
+    }
+}
+
+/// Whether an operator stands first.
+pub fn begins_any_operator(tokens: &[Token]) -> bool
+    ensures { result ≡ starts is_any_op tokens.now }
+{
+    match tokens {
+        [token, ..] => operator_of(token).is_some(),
+        [] => false,
     }
 }
 

@@ -4,7 +4,7 @@ use Rattle.aj_syntax.specs.Tokens.{is}
 use Rattle.aj_syntax.specs.declared.terminal.Terminal.TheVariants as T
 use Rattle.aj_syntax.specs.Views.{expr_of, exprs_from}
 use Rattle.aj_parser.specs.Combine.{comma_step, loop}
-use Rattle.aj_parser.specs.Reading.{arguments as arguments_at, below, chain_with, dots as dots_at, member_step, op_step, is_op}
+use Rattle.aj_parser.specs.Reading.{arguments as arguments_at, below, chain_with, levels_from, dots as dots_at, member_step, op_step, is_op}
 use Rattle.aj_parser.proofs.expression.+expression.Given as goal
 
 abbrev pub decreases-argument_list : goal.decreases-argument_list
@@ -37,8 +37,11 @@ decreases-next_argument l = 40 * l.high + 10
 abbrev pub decreases-operation : goal.decreases-operation
 decreases-operation l = 40 * l.high + 10
 
+abbrev pub decreases-operators : goal.decreases-operators
+decreases-operators l = 40 * l.high + 11
+
 abbrev pub decreases-operations : goal.decreases-operations
-decreases-operations l = 40 * l.high + 20 + l.levels
+decreases-operations l = 40 * l.high + 20
 
 abbrev pub decreases-parenthesised : goal.decreases-parenthesised
 decreases-parenthesised l = 40 * l.high + 13
@@ -72,12 +75,23 @@ invariant-dots-loop-alloc l = record {
 abbrev pub decreases-dots-loop-alloc : goal.decreases-dots-loop-alloc
 decreases-dots-loop-alloc l = l.high - l.whole.height
 
-abbrev pub invariant-operations-loop-alloc : goal.invariant-operations-loop-alloc
-invariant-operations-loop-alloc l = record {
-  told : loop (is_op l.levels) (op_step l.high (below l.high) (l.levels - 1)) (expr_of l.whole.tree) l.whole.rest.now ≡ chain_with l.high (below l.high) l.levels l.tokens;
+abbrev pub invariant-operators-loop-alloc : goal.invariant-operators-loop-alloc
+invariant-operators-loop-alloc l = record {
+  told : loop (is_op l.levels) (op_step l.high (below l.high) (l.levels - 1)) (expr_of l.whole.tree) l.whole.rest.now
+      ≡ loop (is_op l.levels) (op_step l.high (below l.high) (l.levels - 1)) (expr_of l.fn.front.tree) l.fn.front.rest.now;
   height : l.whole.height ≡ height_of (expr_of l.whole.tree);
   limit : l.whole.height ≤ l.high;
 }
 
-abbrev pub decreases-operations-loop-alloc : goal.decreases-operations-loop-alloc
-decreases-operations-loop-alloc l = l.high - l.whole.height
+abbrev pub decreases-operators-loop-alloc : goal.decreases-operators-loop-alloc
+decreases-operators-loop-alloc l = l.high - l.whole.height
+
+abbrev pub invariant-operations-loop-done : goal.invariant-operations-loop-done
+invariant-operations-loop-done l = record {
+  told : levels_from l.high (below l.high) (l.levels - l.done) l.done (expr_of l.whole.tree) l.whole.rest.now ≡ chain_with l.high (below l.high) l.levels l.tokens;
+  height : l.whole.height ≡ height_of (expr_of l.whole.tree);
+  limit : l.whole.height ≤ l.high;
+}
+
+abbrev pub decreases-operations-loop-done : goal.decreases-operations-loop-done
+decreases-operations-loop-done l = l.levels - l.done
