@@ -1,9 +1,11 @@
 //! The least assignment of numbers to cells at which each cell's demand is met, by one loop for every kind of cell.
 #![tactic(auto)]
 
-mod sweeps;
+mod rising;
+mod rounds;
 
-pub use sweeps::{Rising, least};
+pub use rising::Rising;
+pub use rounds::least;
 
 #[cfg(test)]
 mod tests;

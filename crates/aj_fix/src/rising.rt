@@ -1,6 +1,6 @@
-//! Cells whose numbers rise, and the sweeps over them.
-ghost use Rattle.std.specs.Prelude.{◌≡◌, ℕ, ◌<◌, Bool, false, not, IsTrue, List, length, IfOk, OnOk, OnErr};
-ghost use Rattle.aj_fix.specs.Assignments.{Assignment, IsAbove, IsClosed, IsBetween};
+//! Cells whose numbers rise.
+ghost use Rattle.std.specs.Prelude.{◌≡◌, ℕ, ◌<◌, ◌≢◌, Bool, true, false, not, IsTrue, length, Contains, MatchOption, IfOk, OnErr};
+ghost use Rattle.aj_fix.specs.Assignments.{Assignment, IsAbove, IsClosed};
 
 use std::alloc::{AllocError as NoMemory, Global};
 
@@ -15,6 +15,12 @@ pub trait Rising {
     // How often a cell can still rise, at most.
     ghost left: { Self → ℕ };
 
+    // Whether the demand of the first cell may look at the numbers of the second.
+    ghost looks: { Self → ℕ → ℕ → Bool } = { λ _ _ _. true };
+
+    // What a state has kept of an earlier one, beside its cells.
+    ghost keeps: { Self → Self → Type 0 } = { λ _ _. Unit {0} };
+
     /// The number of cells.
     fn cells(&self) -> usize
         ensures { result ≡ length (marks self.now) };
@@ -23,10 +29,19 @@ pub trait Rising {
     fn room(&self) -> u64
         ensures { result ≡ left self.now };
 
+    /// The cells whose demands may look at a cell, or none where every cell's may.
+    fn readers(&self, cell: usize) -> Option<&[usize]>
+        ensures { MatchOption result (Unit {0}) (λ readers. (reader : ℕ) →
+            reader < length (marks self.now) → looks self.now reader cell ≡ true → Contains readers.now reader) }
+    {
+        None
+    }
+
     /// Raises the numbers of a cell whose demand is not met, and says whether it did.
     fn raise(&mut self, alloc: Global, cell: usize) -> Result<bool, NoMemory>
         requires { cell < length (marks self.old) }
         ensures same_met { met self.new ≡ met self.old }
+        ensures same_looks { looks self.new ≡ looks self.old }
 
         // It rises exactly where the demand is not met, and else nothing changes.
         ensures exact { IfOk result (λ raised. raised ≡ not (met self.old (marks self.old) cell)) }
@@ -39,24 +54,12 @@ pub trait Rising {
             IsClosed (met self.old) x → IsAbove x (marks self.old) → IsAbove x (marks self.new)) }
         ensures room_falls { IfOk result (λ raised. IsTrue raised → left self.new < left self.old) }
 
-        ensures err { OnErr result (marks self.new ≡ marks self.old) };
-}
+        // A demand that doesn't look at this cell is met after the rise: the cell's own, and each that was met before.
+        ensures others { IfOk result (λ raised. IsTrue raised → (other : ℕ) → looks self.old other cell ≡ false →
+            (other ≢ cell → IsTrue (met self.old (marks self.old) other)) → IsTrue (met self.old (marks self.new) other)) }
 
-/// Raises cells until every demand is met. The assignment is then the least closed one above the one where it began;
-/// after want of memory it lies between the two.
-///
-/// Each sweep asks every cell once, and the last one raises none. So there are at most `room() + 1` sweeps.
-pub fn least<R: Rising>(alloc: Global, rising: &mut R) -> Result<(), NoMemory>
-    ensures closed { OnOk result (IsClosed (R.met rising.old) (R.marks rising.new)) }
-    ensures between { IsBetween (R.met rising.old) (R.marks rising.old) (R.marks rising.new) }
-    ensures same_met { R.met rising.new ≡ R.met rising.old }
-{
-    let mut rose = true;
-    'sweeps: while rose {
-        rose = false;
-        for cell in 0..rising.cells() {
-            rose |= rising.raise(alloc, cell)?;
-        }
-    }
-    Ok(())
+        // What was kept is kept on, also where memory is wanting.
+        ensures keeps { (earlier : Self) → keeps earlier self.old → keeps earlier self.new }
+
+        ensures err { OnErr result (marks self.new ≡ marks self.old) };
 }
