@@ -1,5 +1,5 @@
 -- What a call answers, told in other words.
-use Rattle.std.proofs.Common.{◌≡◌, ◌∙◌, Ok, Err, IfOk}
+use Rattle.std.proofs.Common.{◌≡◌, ◌∙◌, refl, Ok, Err, IfOk}
 use Rattle.std.specs.Prelude.{Result}
 use Rattle.aj_algebra.specs.declared.basic.Basic.{Basic}
 use Rattle.aj_algebra.specs.HeldPaths.{Held}
@@ -15,3 +15,7 @@ keeps_both k v a b c first second = record {
   known = λ x is. second.known x (first.known x is);
   same = λ x is H. second.same x (first.known x is) H ∙ first.same x is H;
 }
+
+-- a store keeps what it has
+pub keeps_itself : {S A : Type 0} (k : S → A → Type 0) (v : S → A → Held → Basic) (s : S) → Keeps k v s s
+keeps_itself k v s = record { known = λ x is. is; same = λ x is H. refl }

@@ -1,5 +1,5 @@
 -- Tables as cells: the numbers of tables, and what one rise of a table keeps.
-use Rattle.std.proofs.Common.{◌≡◌, ℕ, zero, suc, ◌+◌, ◌-◌, ◌<◌, ◌≤◌, Bool, true, false, IsTrue, ◌&&◌, List, [], ◌∷◌, ◌++◌, length, filter, map, slice_get, slice_set, Some, None, refl, sym, ap, subst, ◌∙◌, arith, ◌⊎◌, inl, inr}
+use Rattle.std.proofs.Common.{◌≡◌, ℕ, zero, suc, ◌+◌, ◌-◌, ◌<◌, ◌≤◌, Bool, true, false, IsTrue, ◌&&◌, List, [], ◌∷◌, ◌++◌, length, filter, map, slice_get, slice_set, Some, None, refl, sym, ap, subst, ◌∙◌, arith, inl, inr}
 use Rattle.std.specs.Prelude.{Option, if◌then◌else◌}
 use Rattle.std.proofs.lemmas.List.Sums.{sum_by-cons}
 use Rattle.std.proofs.lemmas.Bool.Decides.{nat_tests}
@@ -10,6 +10,7 @@ use Rattle.aj_algebra.specs.Basics.{rank_of, below_of, join_of}
 use Rattle.aj_algebra.specs.HeldPaths.{Held, has_path}
 use Rattle.aj_core.specs.Core.{Program, Method}
 use Rattle.aj_fix.specs.Assignments.{AreAtLeast, IsAbove}
+use Rattle.aj_fix.proofs.NoteLemmas.{set_at}
 use Rattle.aj_rules.specs.Effect.{Assignment, effect}
 use Rattle.aj_rules.specs.Rules.{IsPart, AtMost, IsFalling}
 use Rattle.aj_rules.proofs.SetLemmas.{both, first, second}
@@ -139,26 +140,6 @@ pub length_set : (tables : List (List Basic)) (m : ℕ) (table : List Basic) →
 length_set [] m table = refl
 length_set (t ∷ tables) zero table = refl
 length_set (t ∷ tables) (suc m) table = ap suc (length_set tables m table)
-
-pub set_at : {A : Type 0} (xs : List A) (m : ℕ) (x : A) (k : ℕ) → ((m ≡ k) × (slice_get (slice_set xs m x) k ≡ Some x)) ⊎ (slice_get (slice_set xs m x) k ≡ slice_get xs k)
-set_at [] m x k = inr refl
-set_at (y ∷ xs) zero x zero = inl (refl, refl)
-set_at (y ∷ xs) zero x (suc k) = inr refl
-set_at (y ∷ xs) (suc m) x zero = inr refl
-set_at (y ∷ xs) (suc m) x (suc k) = elim (set_at xs m x k) as (λ _. ((suc m ≡ suc k) × (slice_get (slice_set (y ∷ xs) (suc m) x) (suc k) ≡ Some x)) ⊎ (slice_get (slice_set (y ∷ xs) (suc m) x) (suc k) ≡ slice_get (y ∷ xs) (suc k))) [
-  | inl same ↦ inl (ap suc same.0, same.1)
-  | inr other ↦ inr other
-]
-
-pub set_here : {A : Type 0} (xs : List A) (m : ℕ) (x : A) → m < length xs → slice_get (slice_set xs m x) m ≡ Some x
-set_here [] m x below = absurd (omega arith)
-set_here (y ∷ xs) zero x below = refl
-set_here (y ∷ xs) (suc m) x below = set_here xs m x (omega arith)
-
-pub length_changed : {A : Type 0} (xs : List A) (m : ℕ) (x : A) → length (slice_set xs m x) ≡ length xs
-length_changed [] m x = refl
-length_changed (y ∷ xs) zero x = refl
-length_changed (y ∷ xs) (suc m) x = ap suc (length_changed xs m x)
 
 -- above tables that had one of them set
 above_set : (x : List (List ℕ)) (tables : List (List Basic)) (m : ℕ) (table : List Basic) → IsAbove x (numbers_of tables) → AreAtLeast (row_of (slice_get x m)) (map rank_of table) → IsAbove x (numbers_of (slice_set tables m table))
@@ -300,17 +281,17 @@ module _ (P : Program) (rel : ℕ → List PathData) (tables : List (List Basic)
   abbrev pub risen : List Basic
   risen = joined demanded old
 
-  same_length : length demanded ≡ length old
-  same_length = length_parts (λ held. effect P rel (assigned rel tables) method.body (has_path held)) method.requires_ (rel m) ∙ sym (each.size m old is_old)
+  pub demanded_length : length demanded ≡ length old
+  demanded_length = length_parts (λ held. effect P rel (assigned rel tables) method.body (has_path held)) method.requires_ (rel m) ∙ sym (each.size m old is_old)
 
   risen_falls : table_falls (rel m) risen ≡ true
-  risen_falls = joined_falls (rel m) demanded old same_length (demands_fall P rel (assigned rel tables) (tables_fall P rel tables each) m method) (each.falls m old is_old)
+  risen_falls = joined_falls (rel m) demanded old demanded_length (demands_fall P rel (assigned rel tables) (tables_fall P rel tables each) m method) (each.falls m old is_old)
 
   risen_size : (k : ℕ) (table : List Basic) → slice_get (slice_set tables m risen) k ≡ Some table → length table ≡ count_of_parts (rel k)
   risen_size k table at = elim (set_at tables m risen k) as (λ _. length table ≡ count_of_parts (rel k)) [
     | inl same ↦
         let new : risen ≡ table = (let e : Some risen ≡ Some table = sym same.1 ∙ at in cc) in
-        sym (ap length new) ∙ length_joined demanded old ∙ same_length ∙ each.size m old is_old ∙ ap (λ n. count_of_parts (rel n)) same.0
+        sym (ap length new) ∙ length_joined demanded old ∙ demanded_length ∙ each.size m old is_old ∙ ap (λ n. count_of_parts (rel n)) same.0
     | inr other ↦ each.size k table (sym other ∙ at)
   ]
 
@@ -327,10 +308,10 @@ module _ (P : Program) (rel : ℕ → List PathData) (tables : List (List Basic)
   }
 
   pub risen_above : IsAbove (numbers_of (slice_set tables m risen)) (numbers_of tables)
-  risen_above = set_above tables m risen (subst (λ o. AreAtLeast (map rank_of risen) (map rank_of (table_of o))) (sym is_old) (joined_over demanded old same_length))
+  risen_above = set_above tables m risen (subst (λ o. AreAtLeast (map rank_of risen) (map rank_of (table_of o))) (sym is_old) (joined_over demanded old demanded_length))
 
   pub risen_room : are_below demanded old ≡ false → rooms_of (slice_set tables m risen) < rooms_of tables
-  risen_room up = rooms_fall tables m old risen is_old (room_falls demanded old same_length up)
+  risen_room up = rooms_fall tables m old risen is_old (room_falls demanded old demanded_length up)
 
   -- numbers that are above and meet the demand of the method stay above
   pub risen_under : (x : List (List ℕ)) → IsTrue (is_met P rel x m) → IsAbove x (numbers_of tables) → IsAbove x (numbers_of (slice_set tables m risen))
@@ -345,5 +326,5 @@ module _ (P : Program) (rel : ℕ → List PathData) (tables : List (List Basic)
       let same = length_parts (λ held. effect P rel (assigned rel (tables_of x)) method.body (has_path held)) method.requires_ (rel m)
       ∙ sym (each.size m old is_old) ∙ row_length (row_of (slice_get x m)) old row in
       above_set x tables m risen up
-      (joined_least (row_of (slice_get x m)) demanded old same_length
+      (joined_least (row_of (slice_get x m)) demanded old demanded_length
       (below_lists demanded (demands_of P rel (assigned rel (tables_of x)) m (Some method)) (map basic_of (row_of (slice_get x m))) same rise met_row) row)

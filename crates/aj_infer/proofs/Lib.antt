@@ -16,4 +16,5 @@ pub mod ValueLemmas
 pub mod StartLemmas
 pub mod VerdictLemmas
 pub mod CallsSame
-pub mod QuietLemmas
+pub mod OtherLemmas
+pub mod CalleeLemmas

@@ -1,6 +1,6 @@
 -- From const everywhere to the least tables.
-use Rattle.std.proofs.Common.{◌≡◌, ℕ, ◌+◌, ◌*◌, ◌^◌, ◌≤◌, List, length, map, replicate, sym, ap, subst, ◌∙◌, arith}
-use Rattle.std.proofs.lemmas.List.{length-map, length-replicate}
+use Rattle.std.proofs.Common.{◌≡◌, ℕ, ◌*◌, ◌^◌, ◌≤◌, List, length, map, sym, ap, subst, ◌∙◌}
+use Rattle.std.proofs.lemmas.List.{length-map}
 use Rattle.aj_algebra.specs.declared.basic.Basic.{Basic}
 use Rattle.aj_core.specs.declared.program.CoreMethod.{CoreMethod}
 use Rattle.aj_core.specs.Core.{Program, Method}
@@ -8,12 +8,12 @@ use Rattle.aj_core.specs.Typed.{IsTyped}
 use Rattle.aj_core.specs.Views.{method_of}
 use Rattle.aj_fix.specs.Assignments as fix
 use Rattle.aj_rules.specs.Near.{MethodPaths, AreRelevant, AreFew, rel_of}
+use Rattle.aj_infer.specs.Called.{AreCallers}
 use Rattle.aj_infer.specs.Tables.{assigned}
 use Rattle.aj_infer.specs.Cells.{numbers_of, tables_in, all_const, is_met, rooms_of, AreTables, AreCells}
 use Rattle.aj_infer.specs.Least.{IsLeast}
 use Rattle.aj_infer.proofs.CellLemmas.{length_numbers, length_above}
 use Rattle.aj_infer.proofs.LeastLemmas.{length_tables_in, const_tables, const_room, is_least}
-use Rattle.aj_infer.proofs.QuietLemmas.{all_stale, replicate_above}
 use Rattle.aj_infer.proofs.Required.{required_in_rel}
 
 pub same_count : (xs : List CoreMethod) (methods : List Method) → map method_of xs ≡ methods → length xs ≡ length methods
@@ -26,17 +26,13 @@ module _ (P : Program) (sets : List MethodPaths) (start : List (List Basic)) (co
   pub start_length : length start ≡ length P.methods
   start_length = ap length start_at ∙ length_tables_in (rel_of sets) all_const 0 (length P.methods)
 
-  pub start_cells : length P.methods ≤ 2 ^ 32 → AreFew sets → (len room : ℕ) → len ≡ length start → room ≡ 1024 * len → AreCells P (rel_of sets) start room (replicate len room) (replicate len (room + 1))
-  start_cells below few len room is room_is = record {
+  pub start_cells : length P.methods ≤ 2 ^ 32 → AreFew sets → (len room : ℕ) (rows : List (List ℕ)) → len ≡ length start → room ≡ 1024 * len → AreCallers P rows → AreCells P (rel_of sets) start room rows
+  start_cells below few len room rows is room_is callers = record {
     few = below;
     each = subst (AreTables P (rel_of sets)) (sym start_at) (const_tables P (rel_of sets));
     enough = subst (λ n. rooms_of start ≤ n) (sym room_is) (subst (λ n. rooms_of start ≤ 1024 * n) (sym is)
         (subst (λ ts. rooms_of ts ≤ 1024 * length ts) (sym start_at) (const_room P sets few)));
-    left_count = length-replicate len room ∙ is;
-    asked_count = length-replicate len (room + 1) ∙ is;
-    left_above = λ m most at. let e = replicate_above len room m most at in omega arith;
-    asked_above = λ m most at. let e = replicate_above len (room + 1) m most at in omega arith;
-    quiet = λ m since at quiet. absurd (all_stale P len room m since at quiet);
+    callers = callers;
   }
 
   -- where every demand is met, above the start and below all others

@@ -1,5 +1,5 @@
--- Which methods a body calls, by a test of them; and tests of what has risen.
-use Rattle.std.specs.Prelude.{ℕ, Bool, false, ◌||◌, List, Option, Some, None, nat_lt, slice_get}
+-- Which methods a body calls, by a test of them and as a list; and the callers of each method.
+use Rattle.std.specs.Prelude.{◌≡◌, ℕ, ◌<◌, ◌==◌, Bool, true, false, ◌||◌, List, [], ◌∷◌, ◌++◌, length, Contains, Option, Some, None, slice_get}
 use Rattle.aj_core.specs.Core.{Program, Method, Expr, Exprs, NotE, NegE, BinaryE, AndE, OrE, GetE, CallE, NewE, no_exprs, and_expr}
 use Rattle.aj_core.specs.Core.{Stmt, Stmts, EmptyS, BlockS, LocalS, SetVarS, SetFieldS, DoS, IfS, WhileS, SyncS, ReturnS, PrintS, StartS, no_stmts, and_stmt}
 
@@ -42,19 +42,81 @@ module _ (test : ℕ → Bool) where
     block_calls no_stmts = false
     block_calls (and_stmt s ss) = stmt_calls s || block_calls ss
 
--- whether the room that a method's last rise left is less than this
-abbrev pub is_under : ℕ → Option ℕ → Bool
-is_under since None = false
-is_under since (Some left) = nat_lt left since
+abbrev mutual
+  -- the methods that an expression calls
+  pub expr_callees : Expr → List ℕ
+  expr_callees (NotE e) = expr_callees e
+  expr_callees (NegE e) = expr_callees e
+  expr_callees (BinaryE op a b) = expr_callees a ++ expr_callees b
+  expr_callees (AndE a b) = expr_callees a ++ expr_callees b
+  expr_callees (OrE a b) = expr_callees a ++ expr_callees b
+  expr_callees (GetE e f) = expr_callees e
+  expr_callees (CallE e m args) = m ∷ (expr_callees e ++ exprs_callees args)
+  expr_callees (NewE c args) = exprs_callees args
+  expr_callees _ = []
 
--- whether a method has risen since there was this much room
-abbrev pub risen_since : List ℕ → ℕ → ℕ → Bool
-risen_since left since m = is_under since (slice_get left m)
+  pub exprs_callees : Exprs → List ℕ
+  exprs_callees no_exprs = []
+  exprs_callees (and_expr e es) = expr_callees e ++ exprs_callees es
 
--- whether a method or one that it calls has
-abbrev pub is_stale_by : List ℕ → ℕ → ℕ → Option Method → Bool
-is_stale_by left since m None = risen_since left since m
-is_stale_by left since m (Some method) = risen_since left since m || stmt_calls (risen_since left since) method.body
+abbrev mutual
+  -- those that a statement calls
+  pub stmt_callees : Stmt → List ℕ
+  stmt_callees EmptyS = []
+  stmt_callees (BlockS ss) = block_callees ss
+  stmt_callees (LocalS x is_final ty e) = expr_callees e
+  stmt_callees (SetVarS x e) = expr_callees e
+  stmt_callees (SetFieldS e f g) = expr_callees e ++ expr_callees g
+  stmt_callees (DoS e drops) = expr_callees e
+  stmt_callees (IfS c s t) = expr_callees c ++ (stmt_callees s ++ stmt_callees t)
+  stmt_callees (WhileS c s) = expr_callees c ++ stmt_callees s
+  stmt_callees (SyncS p s) = stmt_callees s
+  stmt_callees (ReturnS None) = []
+  stmt_callees (ReturnS (Some e)) = expr_callees e
+  stmt_callees (PrintS e) = expr_callees e
+  stmt_callees (StartS e) = expr_callees e
 
-abbrev pub is_stale : Program → List ℕ → ℕ → ℕ → Bool
-is_stale P left since m = is_stale_by left since m (slice_get P.methods m)
+  pub block_callees : Stmts → List ℕ
+  block_callees no_stmts = []
+  block_callees (and_stmt s ss) = stmt_callees s ++ block_callees ss
+
+-- whether a method's body calls a method
+abbrev pub method_calls : Option Method → ℕ → Bool
+method_calls None callee = false
+method_calls (Some method) callee = stmt_calls (λ m. m == callee) method.body
+
+abbrev pub calls : Program → (caller callee : ℕ) → Bool
+calls P caller callee = method_calls (slice_get P.methods caller) callee
+
+-- a row that may be missing
+abbrev pub row_of : Option (List ℕ) → List ℕ
+row_of None = []
+row_of (Some row) = row
+
+abbrev pub row_at : List (List ℕ) → ℕ → List ℕ
+row_at rows m = row_of (slice_get rows m)
+
+-- what the rows had they have still
+abbrev pub HaveStill : List (List ℕ) → List (List ℕ) → Type 0
+HaveStill rows now = (m caller : ℕ) → Contains (row_at rows m) caller → Contains (row_at now m) caller
+
+-- a method's row has this caller, if it has a row, and what the rows had they have still
+pub record HasCaller (rows now : List (List ℕ)) (callee caller : ℕ) : Type 0 where
+  pub size : length now ≡ length rows
+  pub has : callee < length rows → Contains (row_at now callee) caller
+  pub still : HaveStill rows now
+
+-- the same of the row of each of these methods
+pub record HasCallers (rows now : List (List ℕ)) (callees : List ℕ) (caller : ℕ) : Type 0 where
+  pub size : length now ≡ length rows
+  pub each : (callee : ℕ) → Contains callees callee → callee < length rows → Contains (row_at now callee) caller
+  pub still : HaveStill rows now
+
+-- whether a row has a caller
+abbrev pub has_caller : List ℕ → ℕ → Bool
+has_caller [] caller = false
+has_caller (c ∷ row) caller = c == caller || has_caller row caller
+
+-- the row of each method has all the methods whose bodies call it
+abbrev pub AreCallers : Program → List (List ℕ) → Type 0
+AreCallers P rows = (callee caller : ℕ) → callee < length rows → calls P caller callee ≡ true → has_caller (row_at rows callee) caller ≡ true

@@ -7,7 +7,7 @@ use Rattle.aj_algebra.specs.Basics.{rank_of, below_of, join_of}
 use Rattle.aj_algebra.specs.HeldPaths.{has_path}
 use Rattle.aj_core.specs.Core.{Program, Method}
 use Rattle.aj_rules.specs.Effect.{Assignment, effect}
-use Rattle.aj_infer.specs.Called.{is_stale}
+use Rattle.aj_infer.specs.Called.{AreCallers}
 use Rattle.aj_infer.specs.Tables.{half, table_of, assigned}
 
 -- the basic of a number; error for all numbers past its own
@@ -104,14 +104,9 @@ pub record AreTables (P : Program) (rel : ℕ → List PathData) (tables : List 
   pub size : (m : ℕ) (table : List Basic) → slice_get tables m ≡ Some table → length table ≡ count_of_parts (rel m)
   pub falls : (m : ℕ) (table : List Basic) → slice_get tables m ≡ Some table → table_falls (rel m) table ≡ true
 
--- the cells of a program: its tables, with room for every rise; the room that the last rise of each method left, and
--- how much there was when its demand was last found met, so that it is met still where nothing that it looks at has risen
-pub record AreCells (P : Program) (rel : ℕ → List PathData) (tables : List (List Basic)) (room : ℕ) (left asked : List ℕ) : Type 0 where
+-- the cells of a program: its tables, with room for every rise, and the callers of each method
+pub record AreCells (P : Program) (rel : ℕ → List PathData) (tables : List (List Basic)) (room : ℕ) (rows : List (List ℕ)) : Type 0 where
   pub few : length P.methods ≤ 2 ^ 32
   pub each : AreTables P rel tables
   pub enough : rooms_of tables ≤ room
-  pub left_count : length left ≡ length tables
-  pub asked_count : length asked ≡ length tables
-  pub left_above : (m most : ℕ) → slice_get left m ≡ Some most → room ≤ most
-  pub asked_above : (m most : ℕ) → slice_get asked m ≡ Some most → room ≤ most
-  pub quiet : (m since : ℕ) → slice_get asked m ≡ Some since → is_stale P left since m ≡ false → is_met_by P rel tables m ≡ true
+  pub callers : AreCallers P rows

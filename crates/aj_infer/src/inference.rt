@@ -1,5 +1,5 @@
 //! The least closed assignment, as values of an algebra.
-ghost use Rattle.std.specs.Prelude.{◌≡◌, ◌++◌, ◌≤◌, ◌^◌, List, [], map, length, replicate, Some, IfOk, OnOk};
+ghost use Rattle.std.specs.Prelude.{◌≡◌, ◌++◌, ◌≤◌, ◌^◌, List, [], map, length, Some, IfOk, OnOk};
 ghost use Rattle.aj_paths.specs.Paths.{PathData};
 ghost use Rattle.aj_algebra.specs.declared.basic.Basic.TheVariants.{Const};
 ghost use Rattle.aj_algebra.specs.HeldPaths.{Held};
@@ -13,12 +13,12 @@ ghost use Rattle.aj_infer.specs.Least.{IsLeast};
 ghost use Rattle.aj_infer.specs.Verdicts.{AreKnown, assignment_of};
 
 use crate::bounds::Inferred;
-use crate::cells::Cells;
+use crate::callers::callers_of;
+use crate::cells::{Cells, settle};
 use crate::judged::Judged;
 use crate::table::{Table, pick, table_at};
 use aj_algebra::{Algebra, Basic};
 use aj_core::CoreProgram;
-use aj_fix::least;
 use aj_paths::{MethodId, Path};
 use aj_rules::RelevantSets;
 use std::alloc::{AllocError as NoMemory, Global};
@@ -39,6 +39,9 @@ pub fn infer<G: Algebra>(
     ensures known { IfOk result (λ inferred. AreKnown G.IsKnown algebra.new inferred.methods.items) }
     ensures least { IfOk result (λ inferred. IsTyped (program_of program.now) →
         IsLeast (program_of program.now) (rel_of sets.now) (assignment_of G.value algebra.new inferred.methods.items)) }
+
+    // Values that the algebra knew it knows still, as they were, also where memory is wanting.
+    ensures keeps { Keeps G.IsKnown G.value algebra.old algebra.new }
 {
     let tables = least_tables(alloc, program, sets, algebra)?;
     let methods = values_of(alloc, sets, tables.as_slice(), algebra)?;
@@ -58,30 +61,31 @@ fn least_tables<'a, G: Algebra>(
     ensures count { IfOk result (λ tables. length tables.items ≡ length (program_of program.now).methods) }
     ensures least { IfOk result (λ tables. IsTyped (program_of program.now) →
         IsLeast (program_of program.now) (rel_of sets.now) (assigned (rel_of sets.now) tables.items)) }
+    ensures keeps { Keeps G.IsKnown G.value algebra.old algebra.new }
 {
     sets.few();
     let tables = const_tables(alloc, sets, program.methods().len())?;
     let count = tables.len();
     let room = MOST_RISES * count as u64;
-    let left = repeated(alloc, room, count)?;
-    let asked = repeated(alloc, room + 1, count)?;
+    let callers = callers_of(alloc, program)?;
     let mut cells = Cells {
         judged: Judged { program, sets },
         algebra,
         tables,
         room,
-        left,
-        asked,
+        callers,
     };
-    least(alloc, &mut cells)?;
-    Ok(cells.tables)
-}
-
-/// A number so many times.
-fn repeated(alloc: Global, number: u64, count: usize) -> Result<Vec<u64>, NoMemory>
-    ensures { IfOk result (λ numbers. numbers.items ≡ replicate count number) }
-{
-    Ok(vec![in alloc; number; count]?)
+    let done = settle(alloc, &mut cells);
+    let Cells {
+        judged: _judged,
+        algebra,
+        tables,
+        callers: _callers,
+        ..
+    } = cells;
+    let _ = &*algebra;
+    done?;
+    Ok(tables)
 }
 
 /// The tables of so many methods with const everywhere.
@@ -128,6 +132,7 @@ fn values_of<G: Algebra>(
     ensures count { IfOk result (λ values. length values.items ≡ length tables.now) }
     ensures known { IfOk result (λ values. AreKnown G.IsKnown algebra.new values.items) }
     ensures same { IfOk result (λ values. assignment_of G.value algebra.new values.items ≡ assigned (rel_of sets.now) tables.now) }
+    ensures keeps { Keeps G.IsKnown G.value algebra.old algebra.new }
 {
     let mut values = Vec::new(alloc);
     for method in 0..tables.len() {

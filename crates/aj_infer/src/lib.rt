@@ -3,7 +3,7 @@
 
 mod bounds;
 mod call;
-mod called;
+mod callers;
 mod cells;
 mod inference;
 mod judged;

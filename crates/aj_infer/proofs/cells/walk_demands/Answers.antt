@@ -6,18 +6,18 @@ use Rattle.aj_infer.specs.Cells.{demands_of}
 use Rattle.aj_infer.proofs.Lookups.{found_method, no_method}
 use Rattle.aj_infer.proofs.cells.walk_demands.Goals as goal
 
-pub returns-in-Some : goal.returns-in-Some
-returns-in-Some g c =
+pub returns-in-Some-clause-row : goal.returns-in-Some-clause-row
+returns-in-Some-clause-row g c =
     let walk = c.args.walk.now in
     let all = c.methods.ensures ∙ ap (λ (w : Walk). (program_at w).methods) c.walk.view_is in
     let place = ap (λ (w : Walk). w.method) c.walk.view_is in
     let is = found_method c.methods.result.now (program_at walk).methods walk.method c.in-Some.method.now all
     (subst (λ k. k < length c.methods.result.now) place c.in-Some.ensures.lookup.3.0)
     (c.in-Some.ensures.lookup.1 ∙ ap (λ k. get_or c.methods.result.now k c.in-Some.method.now) place) in
-    subst (λ o. IfOk c.body_demands.result (λ row. row.items ≡ demands_of (program_at walk) (rel_at walk) (assigned_at walk) walk.method o)) (sym is) c.body_demands.ensures
+    subst (λ o. IfOk c.body_demands.result (λ row. row.items ≡ demands_of (program_at walk) (rel_at walk) (assigned_at walk) walk.method o)) (sym is) c.body_demands.ensures.row
 
-pub returns-in-None : goal.returns-in-None
-returns-in-None g c =
+pub returns-in-None-clause-row : goal.returns-in-None-clause-row
+returns-in-None-clause-row g c =
     let walk = c.args.walk.now in
     let all = c.methods.ensures ∙ ap (λ (w : Walk). (program_at w).methods) c.walk.view_is in
     let is = no_method c.methods.result.now (program_at walk).methods walk.method all

@@ -7,5 +7,5 @@ use Rattle.aj_infer.proofs.inference.values_of.Goals as goal
 pub returns-clause-same : goal.returns-clause-same
 returns-clause-same g c =
     let rel = rel_of c.args.sets.now in
-    λ i m H. all_values g.G.Algebra.IsKnown g.G.Algebra.value (assigned rel c.args.tables.now) c.loop-method.algebra c.loop-method.values.items c.loop-method.method c.loop-method.invariant
+    λ i m H. all_values g.G.Algebra.IsKnown g.G.Algebra.value (assigned rel c.args.tables.now) c.loop-method.algebra c.loop-method.values.items c.loop-method.method c.loop-method.invariant.values
     (λ n K past. assigned_past rel c.args.tables.now n K (omega (arith, past, c.loop-method-test.false))) m H i

@@ -3,16 +3,8 @@ use Rattle.aj_core.specs.Views.{program_of}
 use Rattle.aj_rules.specs.Near.{rel_of}
 use Rattle.aj_infer.specs.Tables.{table_of, assigned}
 use Rattle.aj_infer.specs.Cells.{demands_at}
-use Rattle.aj_infer.proofs.RiseLemmas.{test_by, by_numbers, rises_now, met_cells, met_still}
+use Rattle.aj_infer.proofs.RiseLemmas.{test_by, numbers_met, rises_now}
 use Rattle.aj_infer.proofs.cells.CellsRising.raise.Goals as goal
-
-pub returns-then-not-is_stale-clause-exact : goal.returns-then-not-is_stale-clause-exact
-returns-then-not-is_stale-clause-exact g c =
-    let s = c.args.self.now in
-    let P = program_of s.judged.0 in
-    let rel = rel_of s.judged.1 in
-    ap not (sym (met_still P rel s.tables.items s.room s.left.items s.asked.items c.as_slice-left.result.now c.args.cell c.index-room.result.now s.sound c.requires c.index-room.ensures c.as_slice-left.ensures.value
-    (sym c.is_stale.ensures ∙ c.if-not-is_stale.true)))
 
 pub returns-then-are_below-clause-exact : goal.returns-then-are_below-clause-exact
 returns-then-are_below-clause-exact g c =
@@ -20,23 +12,11 @@ returns-then-are_below-clause-exact g c =
     let P = program_of s.judged.0 in
     let rel = rel_of s.judged.1 in
     let ds : c.as_slice-row.result.now ≡ demands_at P rel (assigned rel s.tables.items) c.args.cell =
-    c.as_slice-row.ensures.value ∙ c.in_ok-demands.ensures ∙ ap (λ ts. demands_at P rel (assigned rel ts) c.args.cell) c.as_slice-tables.ensures.value in
+    c.as_slice-row.ensures.value ∙ c.in_ok-demands.ensures.row ∙ ap (λ ts. demands_at P rel (assigned rel ts) c.args.cell) c.as_slice-tables.ensures.value in
     let own : c.table_at-own.result.now ≡ table_of (slice_get s.tables.items c.args.cell) =
     c.table_at-own.ensures ∙ ap (λ ts. table_of (slice_get ts c.args.cell)) c.as_slice-tables.ensures.value in
     let met = test_by P rel s.tables.items c.args.cell c.as_slice-row.result.now c.table_at-own.result.now ds own s.sound.each c.are_below.result c.are_below.ensures in
-    ap not (sym c.if-are_below.true ∙ met ∙ by_numbers P rel s.tables.items c.args.cell)
-
-pub invariant_of-self-then-are_below : goal.invariant_of-self-then-are_below
-invariant_of-self-then-are_below g c =
-    let s = c.args.self.now in
-    let P = program_of s.judged.0 in
-    let rel = rel_of s.judged.1 in
-    let ds : c.as_slice-row.result.now ≡ demands_at P rel (assigned rel s.tables.items) c.args.cell =
-    c.as_slice-row.ensures.value ∙ c.in_ok-demands.ensures ∙ ap (λ ts. demands_at P rel (assigned rel ts) c.args.cell) c.as_slice-tables.ensures.value in
-    let own : c.table_at-own.result.now ≡ table_of (slice_get s.tables.items c.args.cell) =
-    c.table_at-own.ensures ∙ ap (λ ts. table_of (slice_get ts c.args.cell)) c.as_slice-tables.ensures.value in
-    let met = test_by P rel s.tables.items c.args.cell c.as_slice-row.result.now c.table_at-own.result.now ds own s.sound.each c.are_below.result c.are_below.ensures in
-    record { sound = met_cells P rel s.tables.items s.room s.left.items s.asked.items c.args.cell s.sound (sym met ∙ c.if-are_below.true) }
+    ap not (sym c.if-are_below.true ∙ met ∙ numbers_met P rel s.tables.items c.args.cell)
 
 pub overflow_sub-self : goal.overflow_sub-self
 overflow_sub-self g c =
@@ -44,10 +24,10 @@ overflow_sub-self g c =
     let P = program_of s.judged.0 in
     let rel = rel_of s.judged.1 in
     let ds : c.as_slice-row.result.now ≡ demands_at P rel (assigned rel s.tables.items) c.args.cell =
-    c.as_slice-row.ensures.value ∙ c.in_ok-demands.ensures ∙ ap (λ ts. demands_at P rel (assigned rel ts) c.args.cell) c.as_slice-tables.ensures.value in
+    c.as_slice-row.ensures.value ∙ c.in_ok-demands.ensures.row ∙ ap (λ ts. demands_at P rel (assigned rel ts) c.args.cell) c.as_slice-tables.ensures.value in
     let own : c.table_at-own.result.now ≡ table_of (slice_get s.tables.items c.args.cell) =
     c.table_at-own.ensures ∙ ap (λ ts. table_of (slice_get ts c.args.cell)) c.as_slice-tables.ensures.value in
-    let rise = rises_now P rel s.tables.items c.args.cell c.as_slice-row.result.now c.table_at-own.result.now ds own c.in_ok-risen.risen.items s.room s.left.items s.asked.items s.sound c.requires
+    let rise = rises_now P rel s.tables.items c.args.cell c.as_slice-row.result.now c.table_at-own.result.now ds own c.in_ok-risen.risen.items s.room s.callers.items s.sound c.requires
     (sym c.are_below.ensures ∙ c.if-are_below.false) c.in_ok-risen.ensures in
     rise.some
 
@@ -57,10 +37,10 @@ invariant_of-self-2 g c =
     let P = program_of s.judged.0 in
     let rel = rel_of s.judged.1 in
     let ds : c.as_slice-row.result.now ≡ demands_at P rel (assigned rel s.tables.items) c.args.cell =
-    c.as_slice-row.ensures.value ∙ c.in_ok-demands.ensures ∙ ap (λ ts. demands_at P rel (assigned rel ts) c.args.cell) c.as_slice-tables.ensures.value in
+    c.as_slice-row.ensures.value ∙ c.in_ok-demands.ensures.row ∙ ap (λ ts. demands_at P rel (assigned rel ts) c.args.cell) c.as_slice-tables.ensures.value in
     let own : c.table_at-own.result.now ≡ table_of (slice_get s.tables.items c.args.cell) =
     c.table_at-own.ensures ∙ ap (λ ts. table_of (slice_get ts c.args.cell)) c.as_slice-tables.ensures.value in
-    let rise = rises_now P rel s.tables.items c.args.cell c.as_slice-row.result.now c.table_at-own.result.now ds own c.in_ok-risen.risen.items s.room s.left.items s.asked.items s.sound c.requires
+    let rise = rises_now P rel s.tables.items c.args.cell c.as_slice-row.result.now c.table_at-own.result.now ds own c.in_ok-risen.risen.items s.room s.callers.items s.sound c.requires
     (sym c.are_below.ensures ∙ c.if-are_below.false) c.in_ok-risen.ensures in
     record { sound = rise.cells }
 
@@ -70,11 +50,11 @@ returns-clause-exact g c =
     let P = program_of s.judged.0 in
     let rel = rel_of s.judged.1 in
     let ds : c.as_slice-row.result.now ≡ demands_at P rel (assigned rel s.tables.items) c.args.cell =
-    c.as_slice-row.ensures.value ∙ c.in_ok-demands.ensures ∙ ap (λ ts. demands_at P rel (assigned rel ts) c.args.cell) c.as_slice-tables.ensures.value in
+    c.as_slice-row.ensures.value ∙ c.in_ok-demands.ensures.row ∙ ap (λ ts. demands_at P rel (assigned rel ts) c.args.cell) c.as_slice-tables.ensures.value in
     let own : c.table_at-own.result.now ≡ table_of (slice_get s.tables.items c.args.cell) =
     c.table_at-own.ensures ∙ ap (λ ts. table_of (slice_get ts c.args.cell)) c.as_slice-tables.ensures.value in
     let met = test_by P rel s.tables.items c.args.cell c.as_slice-row.result.now c.table_at-own.result.now ds own s.sound.each c.are_below.result c.are_below.ensures in
-    ap not (sym c.if-are_below.false ∙ met ∙ by_numbers P rel s.tables.items c.args.cell)
+    ap not (sym c.if-are_below.false ∙ met ∙ numbers_met P rel s.tables.items c.args.cell)
 
 pub returns-clause-rises : goal.returns-clause-rises
 returns-clause-rises g c =
@@ -82,10 +62,10 @@ returns-clause-rises g c =
     let P = program_of s.judged.0 in
     let rel = rel_of s.judged.1 in
     let ds : c.as_slice-row.result.now ≡ demands_at P rel (assigned rel s.tables.items) c.args.cell =
-    c.as_slice-row.ensures.value ∙ c.in_ok-demands.ensures ∙ ap (λ ts. demands_at P rel (assigned rel ts) c.args.cell) c.as_slice-tables.ensures.value in
+    c.as_slice-row.ensures.value ∙ c.in_ok-demands.ensures.row ∙ ap (λ ts. demands_at P rel (assigned rel ts) c.args.cell) c.as_slice-tables.ensures.value in
     let own : c.table_at-own.result.now ≡ table_of (slice_get s.tables.items c.args.cell) =
     c.table_at-own.ensures ∙ ap (λ ts. table_of (slice_get ts c.args.cell)) c.as_slice-tables.ensures.value in
-    let rise = rises_now P rel s.tables.items c.args.cell c.as_slice-row.result.now c.table_at-own.result.now ds own c.in_ok-risen.risen.items s.room s.left.items s.asked.items s.sound c.requires
+    let rise = rises_now P rel s.tables.items c.args.cell c.as_slice-row.result.now c.table_at-own.result.now ds own c.in_ok-risen.risen.items s.room s.callers.items s.sound c.requires
     (sym c.are_below.ensures ∙ c.if-are_below.false) c.in_ok-risen.ensures in
     λ raised. rise.rises
 
@@ -95,10 +75,10 @@ returns-clause-under g c =
     let P = program_of s.judged.0 in
     let rel = rel_of s.judged.1 in
     let ds : c.as_slice-row.result.now ≡ demands_at P rel (assigned rel s.tables.items) c.args.cell =
-    c.as_slice-row.ensures.value ∙ c.in_ok-demands.ensures ∙ ap (λ ts. demands_at P rel (assigned rel ts) c.args.cell) c.as_slice-tables.ensures.value in
+    c.as_slice-row.ensures.value ∙ c.in_ok-demands.ensures.row ∙ ap (λ ts. demands_at P rel (assigned rel ts) c.args.cell) c.as_slice-tables.ensures.value in
     let own : c.table_at-own.result.now ≡ table_of (slice_get s.tables.items c.args.cell) =
     c.table_at-own.ensures ∙ ap (λ ts. table_of (slice_get ts c.args.cell)) c.as_slice-tables.ensures.value in
-    let rise = rises_now P rel s.tables.items c.args.cell c.as_slice-row.result.now c.table_at-own.result.now ds own c.in_ok-risen.risen.items s.room s.left.items s.asked.items s.sound c.requires
+    let rise = rises_now P rel s.tables.items c.args.cell c.as_slice-row.result.now c.table_at-own.result.now ds own c.in_ok-risen.risen.items s.room s.callers.items s.sound c.requires
     (sym c.are_below.ensures ∙ c.if-are_below.false) c.in_ok-risen.ensures in
     λ raised x closed up. rise.under x closed up
 
@@ -108,9 +88,22 @@ returns-clause-room_falls g c =
     let P = program_of s.judged.0 in
     let rel = rel_of s.judged.1 in
     let ds : c.as_slice-row.result.now ≡ demands_at P rel (assigned rel s.tables.items) c.args.cell =
-    c.as_slice-row.ensures.value ∙ c.in_ok-demands.ensures ∙ ap (λ ts. demands_at P rel (assigned rel ts) c.args.cell) c.as_slice-tables.ensures.value in
+    c.as_slice-row.ensures.value ∙ c.in_ok-demands.ensures.row ∙ ap (λ ts. demands_at P rel (assigned rel ts) c.args.cell) c.as_slice-tables.ensures.value in
     let own : c.table_at-own.result.now ≡ table_of (slice_get s.tables.items c.args.cell) =
     c.table_at-own.ensures ∙ ap (λ ts. table_of (slice_get ts c.args.cell)) c.as_slice-tables.ensures.value in
-    let rise = rises_now P rel s.tables.items c.args.cell c.as_slice-row.result.now c.table_at-own.result.now ds own c.in_ok-risen.risen.items s.room s.left.items s.asked.items s.sound c.requires
+    let rise = rises_now P rel s.tables.items c.args.cell c.as_slice-row.result.now c.table_at-own.result.now ds own c.in_ok-risen.risen.items s.room s.callers.items s.sound c.requires
     (sym c.are_below.ensures ∙ c.if-are_below.false) c.in_ok-risen.ensures in
     λ raised. let some = rise.some in omega arith
+
+pub returns-clause-others : goal.returns-clause-others
+returns-clause-others g c =
+    let s = c.args.self.now in
+    let P = program_of s.judged.0 in
+    let rel = rel_of s.judged.1 in
+    let ds : c.as_slice-row.result.now ≡ demands_at P rel (assigned rel s.tables.items) c.args.cell =
+    c.as_slice-row.ensures.value ∙ c.in_ok-demands.ensures.row ∙ ap (λ ts. demands_at P rel (assigned rel ts) c.args.cell) c.as_slice-tables.ensures.value in
+    let own : c.table_at-own.result.now ≡ table_of (slice_get s.tables.items c.args.cell) =
+    c.table_at-own.ensures ∙ ap (λ ts. table_of (slice_get ts c.args.cell)) c.as_slice-tables.ensures.value in
+    let rise = rises_now P rel s.tables.items c.args.cell c.as_slice-row.result.now c.table_at-own.result.now ds own c.in_ok-risen.risen.items s.room s.callers.items s.sound c.requires
+    (sym c.are_below.ensures ∙ c.if-are_below.false) c.in_ok-risen.ensures in
+    λ raised other quiet before. rise.others other quiet before

@@ -1,0 +1,11 @@
+use Rattle.std.proofs.Common.{◌≡◌, length}
+use Rattle.aj_core.specs.Views.{program_of}
+use Rattle.aj_infer.proofs.CalleeLemmas.{SoFar}
+use Rattle.aj_infer.proofs.callers.add_methods.Given as goal
+
+-- the methods before this one were looked at
+abbrev pub invariant-loop-caller : goal.invariant-loop-caller
+invariant-loop-caller l = record {
+  size : length l.rows ≡ length l.fn.rows;
+  callers : SoFar (program_of l.program) l.rows l.caller;
+}
