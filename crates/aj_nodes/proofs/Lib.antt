@@ -1,0 +1,7 @@
+-- Lemmas on shared nodes.
+pub mod Tables
+pub mod Decisions
+pub mod Memo
+pub mod Steps
+pub mod Values
+pub mod ShownLemmas

@@ -1,0 +1,116 @@
+-- Results that are kept: they stay right while the list grows, and the one that is found is that of the call.
+use Rattle.std.proofs.Common.{◌≡◌, ◌==◌, ◌&&◌, cond, ℕ, Bool, true, false, List, [], ◌∷◌, Option, Some, IfSome, refl, sym, ◌∙◌, ap, subst, arith, eqb-true, if◌then◌else◌}
+use Rattle.std.specs.Cmp.{first_so, second_so}
+use Rattle.indexmap.specs.IndexMap.{insert_entry}
+use Rattle.std.specs.Map.{lookup}
+use Rattle.aj_paths.specs.Paths.{path_eq}
+use Rattle.aj_paths.proofs.PathOrder.{eq_is}
+use Rattle.aj_cond.specs.Conditions.{Cond}
+use Rattle.aj_cond.specs.Operations.{each_leaf, both_leaves, sync_tree, hold}
+use Rattle.aj_nodes.specs.declared.rows.Item.{Item}
+use Rattle.aj_nodes.specs.declared.calls.Single.{Single}
+use Rattle.aj_nodes.specs.declared.calls.Single.TheVariants.{Star, Lift}
+use Rattle.aj_nodes.specs.declared.calls.Pair.{Pair}
+use Rattle.aj_nodes.specs.declared.calls.Pair.TheVariants.{Seq, Join}
+use Rattle.aj_nodes.specs.declared.calls.Call.{Call}
+use Rattle.aj_nodes.specs.declared.calls.Call.TheVariants.{Each, Both, HeldOr, Sync}
+use Rattle.aj_nodes.specs.contracts.calls.SinglePartialEq.TheImpl as singles
+use Rattle.aj_nodes.specs.contracts.calls.PairPartialEq.TheImpl as pairs
+use Rattle.aj_nodes.specs.contracts.calls.CallPartialEq.TheImpl as calls
+use Rattle.aj_nodes.specs.Nodes.{Grows, Stands}
+use Rattle.aj_nodes.specs.Calls.{single_of, pair_of, call_tree, AreThere, IsResult, AreResults}
+
+abbrev pub same : Call → Call → Bool
+same = calls.eq-value.it
+
+single_is : (f g : Single) → singles.eq-value.it f g ≡ true → f ≡ g
+single_is Star Star told = refl
+single_is Lift Lift told = refl
+single_is Star Lift told = absurd (let h : false ≡ true = told in cc)
+single_is Lift Star told = absurd (let h : false ≡ true = told in cc)
+
+pair_is : (f g : Pair) → pairs.eq-value.it f g ≡ true → f ≡ g
+pair_is Seq Seq told = refl
+pair_is Join Join told = refl
+pair_is Seq Join told = absurd (let h : false ≡ true = told in cc)
+pair_is Join Seq told = absurd (let h : false ≡ true = told in cc)
+
+-- the derived test of equality is exact
+pub call_is : (x y : Call) → same x y ≡ true → x ≡ y
+call_is (Each f n) (Each g m) told =
+    let first = single_is f g (first_so (singles.eq-value.it f g) (n == m) told) in
+    let second = eqb-true _ _ (second_so (singles.eq-value.it f g) (n == m) told) in
+    λ i. Each (first i) (second i)
+call_is (Both f a b) (Both g c d) told =
+    let first = pair_is f g (first_so (pairs.eq-value.it f g) ((a == c) && (b == d)) told) in
+    let rest = second_so (pairs.eq-value.it f g) ((a == c) && (b == d)) told in
+    let second = eqb-true _ _ (first_so (a == c) (b == d) rest) in
+    let third = eqb-true _ _ (second_so (a == c) (b == d) rest) in
+    λ i. Both (first i) (second i) (third i)
+call_is (HeldOr p a b) (HeldOr q c d) told =
+    let first = eq_is p q (first_so (path_eq p q) ((a == c) && (b == d)) told) in
+    let rest = second_so (path_eq p q) ((a == c) && (b == d)) told in
+    let second = eqb-true _ _ (first_so (a == c) (b == d) rest) in
+    let third = eqb-true _ _ (second_so (a == c) (b == d) rest) in
+    λ i. HeldOr (first i) (second i) (third i)
+call_is (Sync p n) (Sync q m) told =
+    let first = eq_is p q (first_so (path_eq p q) (n == m) told) in
+    let second = eqb-true _ _ (second_so (path_eq p q) (n == m) told) in
+    λ i. Sync (first i) (second i)
+call_is (Each f n) (Both g c d) told = absurd (let h : false ≡ true = told in cc)
+call_is (Each f n) (HeldOr q c d) told = absurd (let h : false ≡ true = told in cc)
+call_is (Each f n) (Sync q m) told = absurd (let h : false ≡ true = told in cc)
+call_is (Both f a b) (Each g m) told = absurd (let h : false ≡ true = told in cc)
+call_is (Both f a b) (HeldOr q c d) told = absurd (let h : false ≡ true = told in cc)
+call_is (Both f a b) (Sync q m) told = absurd (let h : false ≡ true = told in cc)
+call_is (HeldOr p a b) (Each g m) told = absurd (let h : false ≡ true = told in cc)
+call_is (HeldOr p a b) (Both g c d) told = absurd (let h : false ≡ true = told in cc)
+call_is (HeldOr p a b) (Sync q m) told = absurd (let h : false ≡ true = told in cc)
+call_is (Sync p n) (Each g m) told = absurd (let h : false ≡ true = told in cc)
+call_is (Sync p n) (Both g c d) told = absurd (let h : false ≡ true = told in cc)
+call_is (Sync p n) (HeldOr q c d) told = absurd (let h : false ≡ true = told in cc)
+
+-- a call whose operands are there gives the same tree in a longer list
+pub call_on : (old new : List Item) (x : Call) → Grows old new → AreThere old x → call_tree new x ≡ call_tree old x
+call_on old new (Each f n) grows there = ap (each_leaf (single_of f)) (grows.same n there)
+call_on old new (Both f a b) grows there = let first = grows.same a there.0 in let second = grows.same b there.1 in λ i. both_leaves (pair_of f) (first i) (second i)
+call_on old new (HeldOr p a b) grows there = let first = grows.same a there.0 in let second = grows.same b there.1 in λ i. hold p (first i) (second i)
+call_on old new (Sync p n) grows there = ap (sync_tree p) (grows.same n there)
+
+pub there_on : (old new : List Item) (x : Call) → Grows old new → AreThere old x → AreThere new x
+there_on old new (Each f n) grows there = omega (arith, grows.longer, there)
+there_on old new (Both f a b) grows there = (omega (arith, grows.longer, there.0), omega (arith, grows.longer, there.1))
+there_on old new (HeldOr p a b) grows there = (omega (arith, grows.longer, there.0), omega (arith, grows.longer, there.1))
+there_on old new (Sync p n) grows there = omega (arith, grows.longer, there)
+
+pub stands_on : (old new : List Item) (n : ℕ) (t : Cond) → Grows old new → Stands old n t → Stands new n t
+stands_on old new n t grows stands = record { there = omega (arith, grows.longer, stands.there); tree = grows.same n stands.there ∙ stands.tree }
+
+pub result_on : (old new : List Item) (x : Call) (n : ℕ) → Grows old new → IsResult old x n → IsResult new x n
+result_on old new x n grows is = record {
+  there = there_on old new x grows is.there;
+  stands = subst (Stands new n) (sym (call_on old new x grows is.there)) (stands_on old new n (call_tree old x) grows is.stands);
+}
+
+pub results_on : (old new : List Item) (es : List (Call × ℕ)) → Grows old new → AreResults old es → AreResults new es
+results_on old new [] grows are = tt
+results_on old new (e ∷ es) grows are = (result_on old new e.0 e.1 grows are.0, results_on old new es grows are.1)
+
+pub results_put : (is : List Item) (es : List (Call × ℕ)) (x : Call) (n : ℕ) → AreResults is es → IsResult is x n → AreResults is (insert_entry same es x n)
+results_put is [] x n are result = (result, tt)
+results_put is (e ∷ es) x n are result =
+    elim (same x e.0) as (λ b. same x e.0 ≡ b → AreResults is (if b then (e.0, n) ∷ es else e ∷ insert_entry same es x n)) [
+      | true ↦ λ told. (subst (λ y. IsResult is y n) (call_is x e.0 told) result, are.1)
+      | false ↦ λ told. (are.0, results_put is es x n are.1 result)
+    ] refl
+
+pub found : (is : List Item) (es : List (Call × ℕ)) (x : Call) → AreResults is es → IfSome (lookup (same x) es) (λ n. IsResult is x n)
+found is [] x are = tt
+found is (e ∷ es) x are =
+    elim (same x e.0) as (λ b. same x e.0 ≡ b → IfSome (cond b (Some e.1) (lookup (same x) es)) (λ n. IsResult is x n)) [
+      | true ↦ λ told. subst (λ y. IsResult is y e.1) (sym (call_is x e.0 told)) are.0
+      | false ↦ λ told. found is es x are.1
+    ] refl
+
+pub remembered : (is now : List Item) (es : List (Call × ℕ)) (x : Call) (o : Option ℕ) → is ≡ now → AreResults is es → o ≡ lookup (same x) es → IfSome o (λ n. IsResult now x n)
+remembered is now es x o view are told = subst (λ k. IfSome o (λ n. IsResult k x n)) view (subst (λ p. IfSome p (λ n. IsResult is x n)) (sym told) (found is es x are))

@@ -1,0 +1,20 @@
+-- Numbers, trees and values: equal exactly together.
+use Rattle.std.proofs.Common.{◌≡◌, ◌↔◌, ◌==◌, ℕ, ◌<◌, Bool, true, List, length, sym, ◌∙◌, ap, eqb-true, eq-eqb}
+use Rattle.aj_algebra.specs.declared.basic.Basic.{Basic}
+use Rattle.aj_algebra.specs.HeldPaths.{Held}
+use Rattle.aj_cond.specs.Conditions.{Cond, value_of}
+use Rattle.aj_cond.proofs.SameValues.{unique}
+use Rattle.aj_cond.proofs.NodeLemmas.{Is}
+use Rattle.aj_nodes.specs.declared.rows.Item.{Item}
+use Rattle.aj_nodes.specs.Nodes.{tree_at, IsTable, Stands}
+
+pub same_number : (is : List Item) (m n : ℕ) (test : Bool) → IsTable is → m < length is → n < length is → test ≡ (m == n)
+    → (test ≡ true) ↔ ((H : Held) → value_of (tree_at is m) H ≡ value_of (tree_at is n) H)
+same_number is m n test table m_there n_there told = (
+  λ same H. ap (λ k. value_of (tree_at is k) H) (eqb-true m n (sym told ∙ same)),
+  λ values. told ∙ eq-eqb m n (table.apart m n m_there n_there (unique (tree_at is m) (tree_at is n) (table.canonical m m_there) (table.canonical n n_there) values)),
+)
+
+-- a number that stands for a tree has the values of that tree
+pub value_by : (new : List Item) (n : ℕ) (t : Cond) (v : Held → Basic) → Stands new n t → Is v t → (H : Held) → value_of (tree_at new n) H ≡ v H
+value_by new n t v stands is = λ H. ap (λ u. value_of u H) stands.tree ∙ is.same H

@@ -1,0 +1,57 @@
+-- Calls on numbers, what each gives, and a list of results.
+use Rattle.std.specs.Prelude.{◌≡◌, ◌<◌, ℕ, List, [], ◌∷◌, length}
+use Rattle.aj_paths.specs.Paths.{PathData}
+use Rattle.aj_algebra.specs.declared.basic.Basic.{Basic}
+use Rattle.aj_algebra.specs.Basics.{seq_of, join_of, star_of, lift_of}
+use Rattle.aj_cond.specs.Conditions.{Cond, IsCanonical}
+use Rattle.aj_cond.specs.Operations.{node, each_leaf, both_leaves, sync_tree, hold}
+use Rattle.aj_nodes.specs.declared.rows.Item.{Item}
+use Rattle.aj_nodes.specs.declared.calls.Single.{Single}
+use Rattle.aj_nodes.specs.declared.calls.Single.TheVariants.{Star, Lift}
+use Rattle.aj_nodes.specs.declared.calls.Pair.{Pair}
+use Rattle.aj_nodes.specs.declared.calls.Pair.TheVariants.{Seq, Join}
+use Rattle.aj_nodes.specs.declared.calls.Call.{Call}
+use Rattle.aj_nodes.specs.declared.calls.Call.TheVariants.{Each, Both, HeldOr, Sync}
+use Rattle.aj_nodes.specs.Nodes.{tree_at, Stands}
+
+-- what a call of one basic gives
+abbrev pub single_of : Single → Basic → Basic
+single_of Star = star_of
+single_of Lift = lift_of
+
+-- what a call of two basics gives
+abbrev pub pair_of : Pair → Basic → Basic → Basic
+pair_of Seq = seq_of
+pair_of Join = join_of
+
+-- the tree that a call gives
+abbrev pub call_tree : List Item → Call → Cond
+call_tree is (Each f n) = each_leaf (single_of f) (tree_at is n)
+call_tree is (Both f m n) = both_leaves (pair_of f) (tree_at is m) (tree_at is n)
+call_tree is (HeldOr p m n) = hold p (tree_at is m) (tree_at is n)
+call_tree is (Sync p n) = sync_tree p (tree_at is n)
+
+-- the operands of a call are there
+abbrev pub AreThere : List Item → Call → Type 0
+AreThere is (Each f n) = n < length is
+AreThere is (Both f m n) = (m < length is) × (n < length is)
+AreThere is (HeldOr p m n) = (m < length is) × (n < length is)
+AreThere is (Sync p n) = n < length is
+
+-- a number stands for the tree that the call gives
+pub record IsResult (is : List Item) (call : Call) (n : ℕ) : Type 0 where
+  pub there : AreThere is call
+  pub stands : Stands is n (call_tree is call)
+
+-- each number of a list of results is the result of the call beside it
+abbrev pub AreResults : List Item → List (Call × ℕ) → Type 0
+AreResults is [] = Unit {0}
+AreResults is (e ∷ es) = IsResult is e.0 e.1 × AreResults is es
+
+-- a call is a test of two numbers that are there
+pub record IsCombined (is : List Item) (call : Call) (p : PathData) (held free : ℕ) : Type 0 where
+  pub there : AreThere is call
+  pub held_there : held < length is
+  pub free_there : free < length is
+  pub canonical : IsCanonical (call_tree is call)
+  pub tree : call_tree is call ≡ node p (tree_at is held) (tree_at is free)

@@ -1,0 +1,137 @@
+//! Nodes in one list. Equal trees have one number.
+ghost use Rattle.std.specs.Prelude.{◌≡◌, ◌<◌, [], length, IfOk};
+ghost use Rattle.aj_cond.specs.Conditions.{LeafC, TestC, IsCanonical};
+ghost use Rattle.aj_cond.specs.Operations.{node};
+ghost use Rattle.aj_nodes.specs.Nodes.{items_of, test_of, tree_at, item_tree, AreBefore, IsTable, Grows, Stands};
+
+use aj_algebra::Basic;
+use aj_paths::Path;
+use indexmap::IndexSet;
+use std::alloc::{AllocError as NoMemory, Global};
+use std::marker::Model;
+
+/// What a number stands for: a basic, or a test with the number of the part where its path is held, then of the part
+/// where it isn't.
+#[derive(Debug, Drop)]
+pub(crate) enum Item {
+    Leaf(Basic),
+    Test(Path, usize, usize),
+}
+
+/// A test with the numbers of its two parts.
+#[derive(Debug, Drop, PartialEq, Eq, Hash)]
+pub(crate) struct Decision {
+    pub(crate) path: Path,
+    pub(crate) held: usize,
+    pub(crate) free: usize,
+}
+
+/// The number of the first decision: the five basics come before.
+pub(crate) const BASICS: usize = 5;
+
+/// A list of nodes. The five basics have the first numbers and take no memory.
+#[derive(Drop)]
+pub(crate) struct Rows {
+    decisions: IndexSet<Decision>,
+}
+
+impl Model for Rows {
+    ghost use Rattle.std.specs.Prelude.{List};
+    ghost use Rattle.aj_nodes.specs.declared.rows.Item.{Item};
+    ghost use Rattle.aj_nodes.specs.Nodes.{items_of, IsTable};
+
+    ghost Value = { List Item };
+
+    ghost view = { λ t. items_of t.decisions.keys };
+
+    ghost invariant = { λ t. IsTable (items_of t.decisions.keys) };
+}
+
+impl Rows {
+    /// The basics alone.
+    pub(crate) fn new(alloc: Global) -> Rows
+        ensures { result ≡ items_of [] }
+    {
+        Rows {
+            decisions: IndexSet::new(alloc),
+        }
+    }
+
+    /// How many numbers there are.
+    pub(crate) fn count(&self) -> usize
+        ensures count { result ≡ length self.now }
+        ensures table { IsTable self.now }
+    {
+        BASICS + self.decisions.len()
+    }
+
+    /// The number of a basic.
+    pub(crate) fn leaf(&self, b: Basic) -> usize
+        ensures { Stands self.now result (LeafC b) }
+    {
+        let _ = &self.decisions;
+        match b {
+            Basic::Const => 0,
+            Basic::Mover => 1,
+            Basic::Atomic => 2,
+            Basic::Cmpd => 3,
+            Basic::Error => 4,
+        }
+    }
+
+    /// What a number stands for.
+    pub(crate) fn item(&self, n: usize) -> Item
+        requires { n < length self.now }
+        ensures tree { tree_at self.now n ≡ item_tree self.now result }
+        ensures before { AreBefore n result }
+        ensures table { IsTable self.now }
+    {
+        match n {
+            0 => Item::Leaf(Basic::Const),
+            1 => Item::Leaf(Basic::Mover),
+            2 => Item::Leaf(Basic::Atomic),
+            3 => Item::Leaf(Basic::Cmpd),
+            4 => Item::Leaf(Basic::Error),
+            _ => copy_of(self.decisions.get_index(n - BASICS).unwrap()),
+        }
+    }
+
+    /// The number of a test, or of both its parts where they are one.
+    pub(crate) fn node(&mut self, p: &Path, held: usize, free: usize) -> Result<usize, NoMemory>
+        requires held_there { held < length self.old }
+        requires free_there { free < length self.old }
+        requires canonical { IsCanonical (node p.now (tree_at self.old held) (tree_at self.old free)) }
+        ensures stands { IfOk result (λ n. Stands self.new n (node p.now (tree_at self.old held) (tree_at self.old free))) }
+        ensures grows { Grows self.old self.new }
+    {
+        let _decisions = &self.decisions;
+        if held == free {
+            return Ok(held);
+        }
+        self.add(Decision {
+            path: p.copy(),
+            held,
+            free,
+        })
+    }
+
+    // The number of a decision, which is found or added.
+    fn add(&mut self, decision: Decision) -> Result<usize, NoMemory>
+        requires held_there { decision.held < length self.old }
+        requires free_there { decision.free < length self.old }
+        requires canonical { IsCanonical (TestC decision.path (tree_at self.old decision.held) (tree_at self.old decision.free)) }
+        ensures stands { IfOk result (λ n. Stands self.new n (TestC decision.path (tree_at self.old decision.held) (tree_at self.old decision.free))) }
+        ensures grows { Grows self.old self.new }
+    {
+        let _len = self.decisions.len();
+        let (n, _) = self.decisions.insert_full(decision)?;
+        Ok(BASICS + n)
+    }
+}
+
+// A decision as an item.
+fn copy_of(decision: &Decision) -> Item
+    ensures { result ≡ test_of decision.now }
+{
+    Item::Test(decision.path.copy(), decision.held, decision.free)
+}
