@@ -1,6 +1,7 @@
 -- A file has one tree and one core program, and what refuses it excludes what it is refused as.
 use Rattle.std.proofs.Common.{◌≡◌, ℕ, ◌≤◌, List, [], ◌∷◌, length, Some, refl, suc, zero, sym, subst, ap, ◌∙◌, arith, Contains, IsUtf8}
 use Rattle.std.proofs.lemmas.List.{take_all}
+use Rattle.std.proofs.lemmas.Option.{same_Some}
 use Rattle.aj_lexer.specs.declared.tokens.Token.{Token}
 use Rattle.aj_lexer.proofs.Unique.{one_list, never_both}
 use Rattle.aj_syntax.specs.Faults.{Through}
@@ -39,12 +40,9 @@ through_within (suc k) (x ∷ ts) (y ∷ w) t = omega (arith, through_within k t
 pub same_tree : (file : List ℕ) (t u : ProgramTree) → IsProgram file t → IsProgram file u → t ≡ u
 same_tree file t u p q = one_tree q.tokens t u (subst (λ xs. Grammar xs t) (one_list p.cut q.cut) p.grammar) q.grammar
 
-same_some : {A : Type 0} (a b : A) → Some a ≡ Some b → a ≡ b
-same_some a b e = cc
-
 -- a file has one core program at most
 pub same_core : (file : List ℕ) (t u : ProgramTree) (P Q : Program) → HasCore file t P → HasCore file u Q → P ≡ Q
-same_core file t u P Q p q = same_some P Q (sym p.core.core ∙ ap types.core_of (same_tree file t u p.program q.program) ∙ q.core.core)
+same_core file t u P Q p q = same_Some P Q (sym p.core.core ∙ ap types.core_of (same_tree file t u p.program q.program) ∙ q.core.core)
 
 -- a program is accepted where it is the core program of an accepted source
 pub accepted_as : (file : List ℕ) (t u : ProgramTree) (P Q : Program) → HasCore file t P → HasCore file u Q → IsAccepted P → IsAccepted Q

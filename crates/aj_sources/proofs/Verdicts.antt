@@ -1,17 +1,20 @@
 -- From the least assignment and the verdict on it to the accepted source or its refusal.
-use Rattle.std.proofs.Common.{◌≡◌, ◌↔◌, ℕ, ◌≤◌, ◌^◌, true, false, List, Option, Some, None, Result, IfSome, is_ok, sym, subst, ap, ◌∙◌, arith, map, length, slice_get, option_map}
+use Rattle.std.proofs.Common.{◌≡◌, ◌↔◌, ℕ, ◌<◌, ◌≤◌, ◌^◌, true, false, List, Option, Some, None, Result, IfSome, is_ok, sym, subst, ap, ◌∙◌, arith, length, slice_get, option_map}
 use Rattle.std.proofs.lemmas.List.{length-map}
-use Rattle.std.proofs.lemmas.Option.{slice_get-map}
+use Rattle.std.proofs.lemmas.Option.{slice_get-map, same_Some}
 use Rattle.aj_algebra.specs.declared.basic.Basic.{Basic}
 use Rattle.aj_algebra.specs.HeldPaths.{Held}
 use Rattle.aj_classes.specs.Views.{table_data}
-use Rattle.aj_cond.specs.Conditions.{Cond, cond_of, value_of, IsCanonical}
-use Rattle.aj_cond.specs.declared.tree.Tree.{Tree}
+use Rattle.aj_cond.specs.Conditions.{Cond, value_of, IsCanonical}
+use Rattle.aj_nodes.specs.declared.table.Node.{Node}
+use Rattle.aj_nodes.specs.Nodes.{Items, IsTable}
+use Rattle.aj_nodes.specs.Shown.{IsThere, AreThere, node_tree, node_value, trees_at}
+use Rattle.aj_nodes.proofs.ShownLemmas.{node_canonical}
 use Rattle.aj_core.specs.Core.{Program}
 use Rattle.aj_core.specs.Typed.{IsTyped}
 use Rattle.aj_core.specs.Views.{program_of}
 use Rattle.aj_infer.specs.Least.{IsLeast}
-use Rattle.aj_infer.specs.Verdicts.{AreKnown, assignment_of, basic_at, IsFirstBroken, IsBrokenByAll}
+use Rattle.aj_infer.specs.Verdicts.{assignment_of, basic_at, IsFirstBroken, IsBrokenByAll}
 use Rattle.aj_report.specs.Verdicts.{broken_line}
 use Rattle.aj_rules.specs.Effect.{Assignment}
 use Rattle.aj_rules.specs.Near.{MethodPaths, AreRelevant, AreFew, rel_of}
@@ -29,51 +32,49 @@ use Rattle.aj_sources.proofs.Told.{right_refusal}
 pub well_formed_source : (file : List ℕ) (tree : ProgramTree) (source : Source) → IsSource file tree source → IsWellFormedSource file tree (program_of source.program)
 well_formed_source file tree source is = record { has_core = is.has_core; well_formed = (source.sets, is.relevant, is.few) }
 
--- what trees assign to the methods
-abbrev pub by_trees : {S : Type 0} → S → List Tree → Assignment
-by_trees store trees = assignment_of (λ s t H. value_of (cond_of t) H) store trees
+-- what the nodes of a table assign to the methods
+abbrev pub by_nodes : Items → List Node → Assignment
+by_nodes is nodes = assignment_of node_value is nodes
 
-same_some : {A : Type 0} (a b : A) → Some a ≡ Some b → a ≡ b
-same_some a b e = cc
-
--- canonical trees show what they assign
-shows : {S : Type 0} (P : Program) (store : S) (trees : List Tree) → length trees ≡ length P.methods → AreKnown (λ s t. IsCanonical (cond_of t)) store trees → Show P (by_trees store trees) (map cond_of trees)
-shows P store trees count known = record {
-  count = length-map trees cond_of ∙ count;
-  canonical = λ m tree is. canonical m tree (slice_get trees m) (sym (slice_get-map cond_of trees m) ∙ is) (known m);
-  values = λ m tree is H. value m tree H (slice_get trees m) (sym (slice_get-map cond_of trees m) ∙ is);
+-- the trees of nodes show what the nodes assign
+shows : (P : Program) (is : Items) (nodes : List Node) → IsTable is → length nodes ≡ length P.methods → AreThere (length is) nodes → Show P (by_nodes is nodes) (trees_at is nodes)
+shows P is nodes table count known = record {
+  count = length-map nodes (node_tree is) ∙ count;
+  canonical = λ m tree at. canonical m tree (slice_get nodes m) (sym (slice_get-map (node_tree is) nodes m) ∙ at) (known m);
+  values = λ m tree at H. value m tree H (slice_get nodes m) (sym (slice_get-map (node_tree is) nodes m) ∙ at);
 }
   where
-    canonical : (m : ℕ) (tree : Cond) (o : Option Tree) → option_map cond_of o ≡ Some tree → IfSome o (λ t. IsCanonical (cond_of t)) → IsCanonical tree
-    canonical m tree (Some t) is known = subst IsCanonical (same_some (cond_of t) tree is) known
-    canonical m tree None is known = absurd cc
+    canonical : (m : ℕ) (tree : Cond) (o : Option Node) → option_map (node_tree is) o ≡ Some tree → IfSome o (IsThere (length is)) → IsCanonical tree
+    canonical m tree (Some n) at known = subst IsCanonical (same_Some (node_tree is n) tree at) (node_canonical is n table known)
+    canonical m tree None at known = absurd cc
 
-    value : (m : ℕ) (tree : Cond) (H : Held) (o : Option Tree) → option_map cond_of o ≡ Some tree → value_of tree H ≡ basic_at (λ s t H. value_of (cond_of t) H) store o H
-    value m tree H (Some t) is = ap (λ c. value_of c H) (sym (same_some (cond_of t) tree is))
-    value m tree H None is = absurd cc
+    value : (m : ℕ) (tree : Cond) (H : Held) (o : Option Node) → option_map (node_tree is) o ≡ Some tree → value_of tree H ≡ basic_at node_value is o H
+    value m tree H (Some n) at = ap (λ c. value_of c H) (sym (same_Some (node_tree is n) tree at))
+    value m tree H None at = absurd cc
 
 -- where every bound is kept
-pub shown_least : {S E : Type 0} (P : Program) (sets : List MethodPaths) (store : S) (trees : List Tree) (r : Result Unit E) → AreRelevant P sets → AreFew sets
-    → length trees ≡ length P.methods → AreKnown (λ s t. IsCanonical (cond_of t)) store trees → IsLeast P (rel_of sets) (by_trees store trees) → (is_ok r ≡ true) ↔ IsAccepted P → is_ok r ≡ true
-    → IsShownLeast P (map cond_of trees)
-shown_least P sets store trees r relevant few count known least accepts ok = record {
+pub shown_least : {E : Type 0} (P : Program) (sets : List MethodPaths) (is : Items) (nodes : List Node) (trees : List Cond) (r : Result Unit E) → AreRelevant P sets → AreFew sets
+    → length nodes ≡ length P.methods → AreThere (length is) nodes → IsTable is → trees ≡ trees_at is nodes
+    → IsLeast P (rel_of sets) (by_nodes is nodes) → (is_ok r ≡ true) ↔ IsAccepted P → is_ok r ≡ true
+    → IsShownLeast P trees
+shown_least P sets is nodes trees r relevant few count known table same least accepts ok = record {
   sets = sets;
-  assignment = by_trees store trees;
+  assignment = by_nodes is nodes;
   least = record { relevant = relevant; few = few; least = least };
   accepted = accepts.0 ok;
-  shown = shows P store trees count known;
+  shown = subst (Show P (by_nodes is nodes)) (sym same) (shows P is nodes table count known);
 }
 
 -- where a bound is broken
-pub refuted_source : {S E : Type 0} (file : List ℕ) (tree : ProgramTree) (source : Source) (store : S) (trees : List Tree) (r : Result Unit E) (m : ℕ) (declared found : Basic) (refusal : Refusal)
-    → IsSource file tree source → IsLeast (program_of source.program) (rel_of source.sets) (by_trees store trees) → (is_ok r ≡ true) ↔ IsAccepted (program_of source.program) → is_ok r ≡ false
-    → IsFirstBroken (program_of source.program) (by_trees store trees) m declared found → IsBrokenByAll (program_of source.program) (rel_of source.sets) m
+pub refuted_source : {E : Type 0} (file : List ℕ) (tree : ProgramTree) (source : Source) (A : Assignment) (r : Result Unit E) (m : ℕ) (declared found : Basic) (refusal : Refusal)
+    → IsSource file tree source → IsLeast (program_of source.program) (rel_of source.sets) A → (is_ok r ≡ true) ↔ IsAccepted (program_of source.program) → is_ok r ≡ false
+    → IsFirstBroken (program_of source.program) A m declared found → IsBrokenByAll (program_of source.program) (rel_of source.sets) m
     → Tells Inadmissible (broken_line (table_data source.table) m declared found) refusal → IsRight (NoAccepted file) refusal
-refuted_source file tree source store trees r m declared found refusal is least accepts err first all tells =
+refuted_source file tree source A r m declared found refusal is least accepts err first all tells =
     right_refusal (NoAccepted file) Inadmissible _ refusal
     (refuted tree (program_of source.program) m declared found (well_formed_source file tree source is) (record {
       sets = source.sets;
-      assignment = by_trees store trees;
+      assignment = A;
       least = record { relevant = is.relevant; few = is.few; least = least };
       none = λ accepted. absurd (let c : true ≡ false = sym (accepts.1 accepted) ∙ err in cc);
       first = first;

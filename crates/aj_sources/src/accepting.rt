@@ -12,8 +12,9 @@ ghost use Rattle.aj_sources.specs.Verdicts.{IsShownLeast, NoAccepted};
 use crate::checking::Source;
 use crate::refusal::{Ending, Refusal};
 use aj_classes::ClassTable;
-use aj_cond::{Tree, Trees};
+use aj_cond::Tree;
 use aj_infer::{Broken, Inferred, infer, verdict};
+use aj_nodes::NodeTable;
 use aj_report::broken_text;
 use std::alloc::{AllocError as NoMemory, Global};
 
@@ -33,10 +34,13 @@ pub fn accepted(alloc: Global, source: &Source) -> Result<Inferred<Tree>, Refusa
     ensures { (file : List ℕ) → IsSourceOf file source.now →
         MatchResult result (λ inferred. IsShownLeast (program_of source.now.program) (map cond_of inferred.methods.items)) (IsRight (NoAccepted file)) }
 {
-    let mut trees = Trees::new();
-    let inferred = infer(alloc, &source.program, &source.sets, &mut trees)?;
-    match verdict(&source.program, &inferred, &trees) {
-        Ok(()) => Ok(inferred),
+    let mut nodes = NodeTable::new(alloc);
+    let inferred = infer(alloc, &source.program, &source.sets, &mut nodes)?;
+    match verdict(&source.program, &inferred, &nodes) {
+        Ok(()) => {
+            let methods = nodes.trees_of(alloc, inferred.methods.as_slice())?;
+            Ok(Inferred { methods })
+        }
         Err(broken) => Err(refuse_broken(alloc, &source.table, &broken)),
     }
 }
