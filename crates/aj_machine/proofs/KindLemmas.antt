@@ -1,8 +1,9 @@
 -- The kind of a turn, from a thread as it is kept.
 use Rattle.std.proofs.Common.{◌≡◌, ℕ, suc, List, [], ◌∷◌, length, refl, ap, ◌∙◌}
-use Rattle.std.specs.Prelude.{Option, Some, None, map, slice_get}
+use Rattle.std.specs.Prelude.{Option, Some, None, map, slice_get, unwrap_or}
 use Rattle.aj_core.specs.Core.{Program, Method}
 use Rattle.aj_state.specs.declared.value.Address.{Address}
+use Rattle.aj_state.specs.declared.value.StepKind.{StepKind}
 use Rattle.aj_state.specs.declared.value.StepKind.TheVariants.{Both}
 use Rattle.aj_state.specs.States.{ThreadOf, Ready, Running, Done, Faulted}
 use Rattle.aj_state.specs.Frames.{CellFrame, CodeFrame, code_frame, code_thread, status_of}
@@ -11,7 +12,10 @@ use Rattle.aj_steps.specs.Step.{Shared, kind_in}
 use Rattle.aj_machine.specs.declared.deed.Deed.{Deed}
 use Rattle.aj_machine.specs.declared.deed.Deed.TheVariants as deed
 use Rattle.aj_machine.specs.CodeMachine.{done, enter_first, code_turn, deed_at}
-use Rattle.aj_machine.specs.Turns.{cell_deed, line_deed, kind_done, cell_kind}
+use Rattle.aj_machine.specs.declared.deed.Turn.{Turn}
+use Rattle.aj_machine.specs.declared.deed.Turn.TheVariants as turn
+use Rattle.aj_machine.specs.Turns.{cell_deed, line_deed, kind_done, cell_kind, first_turn, deed_turn, cell_turn}
+use Rattle.aj_machine.specs.Turns as turns
 use Rattle.aj_state.specs.declared.value.Fault.{Fault}
 use Rattle.aj_state.specs.declared.value.ThreadState.TheVariants as status
 
@@ -87,3 +91,44 @@ turn_kind P code entry room see t (Ready a m) = ready_kind P code entry room see
 turn_kind P code entry room see t (Running fs) = running_kind P code entry room see t fs
 turn_kind P code entry room see t Done = refl
 turn_kind P code entry room see t (Faulted kind fs) = refl
+
+-- the kind of the step that a turn comes to; none where it comes to none
+abbrev pub some_turn_kind : Program → Shared → ℕ → Turn → Option StepKind
+some_turn_kind P see t (turn.Ends why) = None
+some_turn_kind P see t found = Some (turns.turn_kind P see t found)
+
+pub known_kind : (P : Program) (see : Shared) (t : ℕ) (found : Turn) (k : StepKind) → some_turn_kind P see t found ≡ Some k → turns.turn_kind P see t found ≡ k
+known_kind P see t (turn.Ends why) k is = absurd cc
+known_kind P see t (turn.Fails kind) k is = ap (λ o. unwrap_or o k) is
+known_kind P see t (turn.Enters a m entry most) k is = ap (λ o. unwrap_or o k) is
+known_kind P see t (turn.Starts a m place) k is = ap (λ o. unwrap_or o k) is
+known_kind P see t (turn.Does d) k is = ap (λ o. unwrap_or o k) is
+
+deed_turn_kind : (P : Program) (see : Shared) (t : ℕ) (d : Deed) → some_turn_kind P see t (deed_turn d) ≡ kind_done P see t d
+deed_turn_kind P see t (deed.Fails kind) = refl
+deed_turn_kind P see t (deed.Goes drops gives place) = refl
+deed_turn_kind P see t (deed.Stores x v place) = refl
+deed_turn_kind P see t (deed.Reads a x v place) = refl
+deed_turn_kind P see t (deed.Writes a x index v place) = refl
+deed_turn_kind P see t (deed.Makes c n place) = refl
+deed_turn_kind P see t (deed.Enters m n a place at most) = refl
+deed_turn_kind P see t (deed.Takes a again place) = refl
+deed_turn_kind P see t (deed.Waits a holder) = refl
+deed_turn_kind P see t (deed.Gives a frees place) = refl
+deed_turn_kind P see t (deed.Returns gives) = refl
+deed_turn_kind P see t (deed.Prints n place) = refl
+deed_turn_kind P see t (deed.Starts a m place) = refl
+
+first_turn_kind : (P : Program) (see : Shared) (t : ℕ) (a : Address) (m : ℕ) (o : Option Method) (p r : Option ℕ) → some_turn_kind P see t (first_turn a m o p r) ≡ Some Both
+first_turn_kind P see t a m None p r = refl
+first_turn_kind P see t a m (Some method) None r = refl
+first_turn_kind P see t a m (Some method) (Some place) None = refl
+first_turn_kind P see t a m (Some method) (Some place) (Some most) = refl
+
+-- a thread's turn has the kind of its next step
+pub cell_turn_kind : (P : Program) (code : List Code) (entry room : List ℕ) (see : Shared) (t : ℕ) (c : ThreadOf CellFrame)
+    → some_turn_kind P see t (cell_turn P code entry room see t c) ≡ cell_kind P code entry room see t c
+cell_turn_kind P code entry room see t (Ready a m) = first_turn_kind P see t a m (slice_get P.methods m) (slice_get entry m) (slice_get room m)
+cell_turn_kind P code entry room see t (Running fs) = deed_turn_kind P see t (cell_deed P code entry room see t (Running fs))
+cell_turn_kind P code entry room see t Done = refl
+cell_turn_kind P code entry room see t (Faulted kind fs) = refl

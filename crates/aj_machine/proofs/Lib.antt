@@ -5,6 +5,7 @@ mod Lists
 mod Threads
 mod KindLemmas
 mod KindOf
+mod KindTurns
 mod TurnLemmas
 mod Taking
 mod Cells

@@ -2,6 +2,7 @@
 use Rattle.std.specs.Prelude.{◌≡◌, ◌≢◌, ℕ, ◌+◌, List, Some, Result, Err, MatchResult, take, slice_get}
 use Rattle.aj_core.specs.Core.{Program}
 use Rattle.aj_core.specs.Views.{program_of}
+use Rattle.aj_state.specs.declared.value.StepKind.{StepKind}
 use Rattle.aj_state.specs.States.{State}
 use Rattle.aj_steps.specs.Step.{Outcome, Moves, Absent, IsDone, HadFaulted, Waits, moved, outcome}
 use Rattle.aj_steps.specs.Run.{run_from}
@@ -28,6 +29,14 @@ IsTurn t result m q Absent = result ≡ Err ends.Absent
 IsTurn t result m q IsDone = result ≡ Err ends.Done
 IsTurn t result m q (HadFaulted kind) = result ≡ Err (ends.Faulted kind)
 IsTurn t result m q (Waits a holder) = result ≡ Err (ends.Waits a holder)
+
+-- the same of a step that tells its kind: after a step this is the definition's
+abbrev pub IsKindTurn : ℕ → Result StepKind StepEnd → MachineValue → State → Outcome → Type 0
+IsKindTurn t result m q (Moves move) = MatchResult result (λ kind. (kind ≡ move.kind) × StandsFor m (moved t move q)) (λ e. e ≡ ends.NoMemory)
+IsKindTurn t result m q Absent = result ≡ Err ends.Absent
+IsKindTurn t result m q IsDone = result ≡ Err ends.Done
+IsKindTurn t result m q (HadFaulted kind) = result ≡ Err (ends.Faulted kind)
+IsKindTurn t result m q (Waits a holder) = result ≡ Err (ends.Waits a holder)
 
 -- two machines are the same, but for the spare rooms of frames
 pub record IsSame (m n : MachineValue) : Type 0 where

@@ -3,6 +3,7 @@ use Rattle.std.specs.Prelude.{◌≡◌, ℕ, ℤ, List, [], ◌∷◌, length, 
 use Rattle.std.specs.Option.{option_map}
 use Rattle.std.specs.declared.alloc.AllocError.{AllocError}
 use Rattle.aj_core.specs.Core.{Program, Method}
+use Rattle.aj_core.specs.Views.{program_of}
 use Rattle.aj_state.specs.declared.value.Value.{Value}
 use Rattle.aj_state.specs.declared.value.Fault.TheVariants as fault
 use Rattle.aj_state.specs.Memory.{Heap, Locks}
@@ -11,7 +12,8 @@ use Rattle.aj_state.specs.Frames.{CellFrame, CodeFrame, top_frame, frames_in, sl
 use Rattle.aj_compile.specs.declared.stack.Code.{Code}
 use Rattle.aj_steps.specs.Step.{Shared, OutcomeOf, Moves, moved}
 use Rattle.aj_machine.specs.declared.machine.StepEnd.{StepEnd}
-use Rattle.aj_machine.specs.MachineValue.{code_state}
+use Rattle.aj_machine.specs.MachineValue.{MachineValue, code_state}
+use Rattle.aj_machine.specs.Deeds.{seen_of}
 use Rattle.aj_machine.specs.Reasons.{IsReason}
 use Rattle.aj_machine.specs.declared.deed.Deed.{Deed}
 use Rattle.aj_machine.specs.declared.deed.Deed.TheVariants as deed
@@ -21,7 +23,7 @@ use Rattle.aj_machine.specs.declared.machine.StepEnd.TheVariants as ends
 use Rattle.aj_state.specs.declared.value.Address.{Address}
 use Rattle.aj_machine.specs.CodeMachine.{deed_of, code_frame_at, deed_kind}
 use Rattle.aj_state.specs.declared.value.StepKind.{StepKind}
-use Rattle.aj_state.specs.declared.value.StepKind.TheVariants.{Both}
+use Rattle.aj_state.specs.declared.value.StepKind.TheVariants.{Both, Other}
 
 -- what a line does, for a thread as it is kept
 abbrev pub line_deed : Program → (entry room : List ℕ) → Shared → ℕ → ThreadOf CellFrame → Option Code → Deed
@@ -78,6 +80,20 @@ cell_turn P code entry room see t (Faulted kind fs) = turn.Ends (ends.Faulted ki
 abbrev pub next_turn : Program → List Code → (entry room : List ℕ) → Shared → ℕ → Option (ThreadOf CellFrame) → Turn
 next_turn P code entry room see t None = turn.Ends ends.Absent
 next_turn P code entry room see t (Some thread) = cell_turn P code entry room see t thread
+
+-- the kind of the step that a turn comes to; Both where it comes to none
+abbrev pub turn_kind : Program → Shared → ℕ → Turn → StepKind
+turn_kind P see t (turn.Does d) = deed_kind P see t d
+turn_kind P see t (turn.Starts a m place) = Other
+turn_kind P see t _ = Both
+
+-- the turn of the thread of this number, over these parts of a state, comes to this
+abbrev pub ComesTo : Program → List Code → (entry room : List ℕ) → ℕ → Heap → Locks → List (ThreadOf CellFrame) → Turn → Type 0
+ComesTo P code entry room t heap locks threads found = found ≡ next_turn P code entry room (seen_of t heap locks) t (slice_get threads t)
+
+-- what the turn of a machine's thread comes to
+abbrev pub turn_of : MachineValue → ℕ → Turn
+turn_of m t = next_turn (program_of m.program) m.code.code.items m.code.entry.items m.code.room.items (seen_of t m.state.heap m.state.locks) t (slice_get m.state.threads t)
 
 -- the state of these parts, without the rooms of its frames
 abbrev pub state_in : Heap → Locks → List (ThreadOf CellFrame) → List ℤ → StateOf CodeFrame

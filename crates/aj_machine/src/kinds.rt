@@ -4,11 +4,11 @@ ghost use Rattle.std.specs.Option.{option_copied};
 ghost use Rattle.aj_core.specs.Views.{field_of};
 ghost use Rattle.aj_steps.specs.Step.{next_at, followed, holds_object, some_address, guarded_kind, mutable_kind, access_kind};
 ghost use Rattle.aj_machine.specs.CodeMachine.{deed_kind};
-ghost use Rattle.aj_machine.specs.Turns.{kind_done, cell_kind};
+ghost use Rattle.aj_machine.specs.Turns.{kind_done, cell_kind, turn_kind};
 ghost use Rattle.aj_machine.specs.Seen.{program_in, lines_in, entry_in, room_in, shared_in};
 
 use crate::decide::{next_deed, value_at};
-use crate::deed::Deed;
+use crate::deed::{Deed, Turn};
 use crate::operators::address_of;
 use crate::seen::Seen;
 use aj_core::CoreField;
@@ -148,5 +148,16 @@ pub(crate) fn cell_kind(seen: &Seen<'_>, cell: &ThreadCell) -> Option<StepKind>
         ThreadState::Running => kind_done(seen, next_deed(seen, cell)),
         ThreadState::Done => None,
         ThreadState::Faulted(_) => None,
+    }
+}
+
+/// The kind of the step that a turn comes to; Both where it comes to none.
+pub(crate) fn turn_kind(seen: &Seen<'_>, turn: Turn) -> StepKind
+    ensures { result ≡ turn_kind (program_in seen.now) (shared_in seen.now) seen.now.thread turn }
+{
+    match turn {
+        Turn::Does(deed) => deed_kind(seen, deed),
+        Turn::Starts { .. } => StepKind::Other,
+        _ => StepKind::Both,
     }
 }

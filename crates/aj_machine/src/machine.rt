@@ -3,19 +3,22 @@ ghost use Rattle.std.specs.Prelude.{◌≡◌, ◌≢◌, false, Err, ◌<◌, �
 ghost use Rattle.std.specs.Option.{option_map};
 ghost use Rattle.aj_core.specs.Views.{program_of};
 ghost use Rattle.aj_core.specs.Typed.{IsTyped};
+ghost use Rattle.aj_state.specs.declared.value.StepKind.{StepKind};
 ghost use Rattle.aj_state.specs.States.{State, initial};
 ghost use Rattle.aj_compile.specs.IsCode.{IsCodeOf};
 ghost use Rattle.aj_steps.specs.Step.{outcome, kind_of};
 ghost use Rattle.aj_steps.specs.Run.{is_inside, open_thread};
 ghost use Rattle.aj_machine.specs.declared.machine.StepEnd.TheVariants as ends;
 ghost use Rattle.aj_machine.specs.Lean.{step_takes};
-ghost use Rattle.aj_machine.specs.Standing.{program_run, StandsFor, IsTurn, IsSame, HasRun, HasStopped};
+ghost use Rattle.aj_machine.specs.Standing.{program_run, StandsFor, IsTurn, IsKindTurn, IsSame, HasRun, HasStopped};
+ghost use Rattle.aj_machine.specs.Turns.{turn_of};
 
 use crate::act::object_values;
+use crate::deed::Turn;
 use crate::inside::{first_inside, stands_inside};
-use crate::kinds::cell_kind;
+use crate::kinds::{cell_kind, turn_kind};
 use crate::seen::Seen;
-use crate::turn::take_turn;
+use crate::turn::{next_turn, take_turn};
 use aj_compile::CodeTable;
 use aj_core::CoreProgram;
 use aj_state::{Address, Fault, Heap, Locks, StepKind, ThreadCell};
@@ -177,15 +180,81 @@ impl<'p> Machine<'p> {
         ensures program { self.new.program ≡ self.old.program }
         ensures code { self.new.code ≡ self.old.code }
     {
+        let turn = self.turn(thread);
+        self.take(alloc, thread, turn)
+    }
+
+    /// One step of a thread, as `step` makes it, and its kind.
+    pub fn step_kind(&mut self, alloc: Global, thread: u32) -> Result<StepKind, StepEnd>
+        requires { self.old.made < 4294967295 }
+        ensures turn { (q : State) → StandsFor self.old q → IsKindTurn thread result self.new q (outcome (program_run self.old) q thread) }
+        ensures kept { OnErr result (IsSame self.new self.old) }
+        ensures lean { IsTyped (program_run self.old) → (q : State) → StandsFor self.old q → step_takes (slice_get q.threads thread) ≡ false → result ≢ Err ends.NoMemory }
+        ensures counted { OnOk result (self.new.made ≡ self.old.made + 1) }
+        ensures program { self.new.program ≡ self.old.program }
+        ensures code { self.new.code ≡ self.old.code }
+    {
+        let turn = self.turn(thread);
+        let kind = self.turn_kind(thread, &turn);
+        match self.take(alloc, thread, turn) {
+            Ok(()) => Ok(kind),
+            Err(end) => Err(end),
+        }
+    }
+
+    /// What a thread may see.
+    fn seen(&self, thread: u32) -> Seen<'_>
+        ensures program { result.program.now ≡ self.now.program }
+        ensures code { result.code.now ≡ self.now.code }
+        ensures heap { result.heap.now ≡ self.now.state.heap }
+        ensures locks { result.locks.now ≡ self.now.state.locks }
+        ensures thread { result.thread ≡ thread }
+    {
+        Seen {
+            program: self.program,
+            code: self.code,
+            heap: &self.heap,
+            locks: &self.locks,
+            thread,
+        }
+    }
+
+    /// What a thread's turn comes to.
+    fn turn(&self, thread: u32) -> Turn
+        ensures { result ≡ turn_of self.now thread }
+    {
+        next_turn(&self.seen(thread), self.threads.as_slice())
+    }
+
+    /// The kind of a thread's next step, where its turn comes to this and it has one.
+    fn turn_kind(&self, thread: u32, turn: &Turn) -> StepKind
+        requires { turn.now ≡ turn_of self.now thread }
+        ensures { (q : State) (kind : StepKind) → StandsFor self.now q → kind_of (program_run self.now) q thread ≡ Some kind → result ≡ kind }
+    {
+        let _ = &self.code;
+        turn_kind(&self.seen(thread), *turn)
+    }
+
+    /// A turn of a thread, which comes to this.
+    fn take(&mut self, alloc: Global, thread: u32, turn: Turn) -> Result<(), StepEnd>
+        requires made { self.old.made < 4294967295 }
+        requires decided { turn ≡ turn_of self.old thread }
+        ensures turn { (q : State) → StandsFor self.old q → IsTurn thread result self.new q (outcome (program_run self.old) q thread) }
+        ensures kept { OnErr result (IsSame self.new self.old) }
+        ensures lean { IsTyped (program_run self.old) → (q : State) → StandsFor self.old q → step_takes (slice_get q.threads thread) ≡ false → result ≢ Err ends.NoMemory }
+        ensures counted { OnOk result (self.new.made ≡ self.old.made + 1) }
+        ensures program { self.new.program ≡ self.old.program }
+        ensures code { self.new.code ≡ self.old.code }
+    {
         match take_turn(
             alloc,
             self.program,
-            self.code,
             &mut self.heap,
             &mut self.locks,
             &mut self.output,
             &mut self.threads,
             thread,
+            turn,
         ) {
             Ok(()) => {
                 self.made += 1;

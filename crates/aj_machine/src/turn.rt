@@ -5,13 +5,14 @@ ghost use Rattle.aj_core.specs.Core.{Method};
 ghost use Rattle.aj_state.specs.declared.value.Value.TheVariants as value;
 ghost use Rattle.aj_state.specs.States.{ThreadOf, Ready, Running, Faulted};
 ghost use Rattle.aj_state.specs.Frames.{CellFrame, code_thread, may_enter, is_running, top_frame, slots_of, frames_in, on_top};
+ghost use Rattle.aj_compile.specs.declared.stack.Code.{Code};
 ghost use Rattle.aj_machine.specs.CodeMachine.{code_outcome};
 ghost use Rattle.aj_machine.specs.Deeds.{Can, deed_thread, deed_heap, deed_locks, deed_output, seen_of, operands_in, goes_on};
 ghost use Rattle.aj_machine.specs.declared.machine.StepEnd.TheVariants as ends;
 ghost use Rattle.aj_machine.specs.Counts.{IsCounted};
 ghost use Rattle.aj_machine.specs.Rooms.{StaysRoomy, AllRoomy, HasRoomOf, FitsIn, TurnFits};
 ghost use Rattle.aj_machine.specs.Seen.{program_in, lines_in, entry_in, room_in, shared_in};
-ghost use Rattle.aj_machine.specs.Turns.{first_thread, first_turn, deed_turn, cell_turn, next_turn, step_result, IsTaken, state_in};
+ghost use Rattle.aj_machine.specs.Turns.{first_thread, first_turn, deed_turn, cell_turn, next_turn, step_result, ComesTo, IsTaken, state_in};
 
 use crate::act::drops;
 use crate::decide::next_deed;
@@ -20,7 +21,6 @@ use crate::machine::StepEnd;
 use crate::make::slots_of;
 use crate::perform::perform;
 use crate::seen::Seen;
-use aj_compile::CodeTable;
 use aj_core::{CoreMethod, CoreProgram};
 use aj_paths::MethodId;
 use aj_state::{Address, Fault, Heap, Locks, ThreadCell, ThreadState, Value};
@@ -87,7 +87,7 @@ fn cell_turn(seen: &Seen<'_>, cell: &ThreadCell) -> Turn
 }
 
 /// What the turn of the thread that looks comes to.
-fn next_turn(seen: &Seen<'_>, threads: &[ThreadCell]) -> Turn
+pub(crate) fn next_turn(seen: &Seen<'_>, threads: &[ThreadCell]) -> Turn
     ensures { result ≡ next_turn (program_in seen.now) (lines_in seen.now) (entry_in seen.now) (room_in seen.now) (shared_in seen.now) seen.now.thread (slice_get threads.now seen.now.thread) }
 {
     match threads.get(seen.thread as usize) {
@@ -220,34 +220,28 @@ fn answer(done: Result<(), NoMemory>) -> Result<(), StepEnd>
     }
 }
 
-/// A turn of a thread: a step that changes the parts of the state, or the reason why there is none.
+/// A turn of a thread, which comes to this: a step that changes the parts of the state, or the reason why there is none.
 pub(crate) fn take_turn(
     alloc: Global,
     program: &CoreProgram,
-    code: &CodeTable,
     heap: &mut Heap,
     locks: &mut Locks,
     output: &mut Vec<i32>,
     threads: &mut Vec<ThreadCell>,
     thread: u32,
+    turn: Turn,
 ) -> Result<(), StepEnd>
     requires counted { (n : ℕ) × (n < 4294967295) × IsCounted n heap.old locks.old }
-    ensures taken { IsTaken thread result (state_in heap.new locks.new threads.new.items output.new.items) (state_in heap.old locks.old threads.old.items output.old.items)
-        (code_outcome (program_of program.now) code.now.code.items code.now.entry.items code.now.room.items (state_in heap.old locks.old threads.old.items output.old.items) thread) }
-    ensures roomy { length code.now.room.items ≡ length (program_of program.now).methods → AllRoomy code.now.room.items threads.old.items → AllRoomy code.now.room.items threads.new.items }
-    ensures lean { TurnFits (slice_get threads.old.items thread)
-        (next_turn (program_of program.now) code.now.code.items code.now.entry.items code.now.room.items (seen_of thread heap.old locks.old) thread (slice_get threads.old.items thread)) →
-        result ≢ Err ends.NoMemory }
+    requires decided { (code : List Code) × (entry : List ℕ) × (room : List ℕ) × ComesTo (program_of program.now) code entry room thread heap.old locks.old threads.old.items turn }
+    ensures taken { (code : List Code) (entry room : List ℕ) → ComesTo (program_of program.now) code entry room thread heap.old locks.old threads.old.items turn →
+        IsTaken thread result (state_in heap.new locks.new threads.new.items output.new.items) (state_in heap.old locks.old threads.old.items output.old.items)
+        (code_outcome (program_of program.now) code entry room (state_in heap.old locks.old threads.old.items output.old.items) thread) }
+    ensures roomy { (code : List Code) (entry room : List ℕ) → ComesTo (program_of program.now) code entry room thread heap.old locks.old threads.old.items turn →
+        length room ≡ length (program_of program.now).methods → AllRoomy room threads.old.items → AllRoomy room threads.new.items }
+    ensures lean { TurnFits (slice_get threads.old.items thread) turn → result ≢ Err ends.NoMemory }
     ensures counted { OnOk result ((n : ℕ) → IsCounted n heap.old locks.old → IsCounted (n + 1) heap.new locks.new) }
 {
-    let seen = Seen {
-        program,
-        code,
-        heap: &*heap,
-        locks: &*locks,
-        thread,
-    };
-    match next_turn(&seen, threads.as_slice()) {
+    match turn {
         Turn::Ends(end) => Err(end),
         Turn::Fails(kind) => {
             fails(threads, thread, kind);

@@ -1,13 +1,13 @@
 -- Digits at the front of a text, and the number that they write.
-use Rattle.std.proofs.Common.{◌≡◌, ℕ, ◌^◌, ◌<◌, ◌≤◌, ◌&&◌, Bool, true, false, nat_lt, nat_le, List, [], ◌∷◌, length, take, get_or, Some, None, if◌then◌else◌, decimal, cond, ◌==◌, suc, zero, Result, Ok, Err, refl, sym, ◌∙◌, ap, subst, arith}
+use Rattle.std.proofs.Common.{◌≡◌, ℕ, ◌^◌, ◌<◌, ◌≤◌, ◌&&◌, Bool, true, false, nat_lt, nat_le, List, [], ◌∷◌, length, take, get_or, Some, None, if◌then◌else◌, decimal, cond, ◌==◌, ◌+◌, ◌-◌, ◌*◌, suc, zero, refl, sym, ◌∙◌, ap, subst, arith}
 use Rattle.std.proofs.lemmas.Fmt.{first_decimal, decimal_digit, decimal-digits_value, decimal_nonempty}
-use Rattle.std.proofs.lemmas.Str.Parse.{numerals_by_value, tells_all_ascii_digits, IsNumeralModel}
+use Rattle.std.proofs.lemmas.Str.Parse.{numerals_by_value, tells_all_ascii_digits, IsNumeralModel, digits_value-take-le}
+use Rattle.std.proofs.lemmas.Int.Digits.{digits_value_more}
 use Rattle.std.proofs.lemmas.List.Sums.{take_while-cons}
 use Rattle.std.proofs.lemmas.List.Folds.{length-prefix_len}
 use Rattle.std.proofs.lemmas.Slice.Eq.{bytes_eq-Decides}
 use Rattle.std.proofs.lemmas.Bool.Decides.{nat_tests}
-use Rattle.std.specs.Char.{is_ascii_digit}
-use Rattle.std.specs.Result.{OkIff, result_ok}
+use Rattle.std.specs.Char.{is_ascii_digit, digit_value}
 use Rattle.std.specs.Str.{all_ascii_digits, bytes_eq}
 use Rattle.std.specs.Str.Parse.{digits_value}
 use Rattle.aj_schedule.specs.Faults.{writes_number, first_digits}
@@ -104,13 +104,30 @@ plain_number digits are first = same_test (nat_lt 0 (length digits) && nat_lt (d
     let some : 0 < length digits = subst (λ ds. 0 < length ds) n.0 (decimal_nonempty (digits_value 10 digits) n.2) in
     and_true (nat_lt 0 (length digits)) (nat_lt (digits_value 10 digits) (2 ^ 64)) (is_less 0 (length digits) some) (is_less (digits_value 10 digits) (2 ^ 64) n.2))
 
--- what `parse` found
-pub parsed : {E : Type 0} (r : Result ℕ E) (length value : ℕ) → OkIff r ((0 < length) × (value < 2 ^ 64)) value →
-    result_ok r ≡ (if nat_lt 0 length && nat_lt value (2 ^ 64) then Some value else None)
-parsed (Ok x) length value h =
-    let test : (nat_lt 0 length && nat_lt value (2 ^ 64)) ≡ true = and_true (nat_lt 0 length) (nat_lt value (2 ^ 64)) (is_less 0 length h.0.0) (is_less value (2 ^ 64) h.0.1) in
-    rw (test, h.1) refl
-parsed (Err e) length value h =
-    let test : (nat_lt 0 length && nat_lt value (2 ^ 64)) ≡ false = false_unless (nat_lt 0 length && nat_lt value (2 ^ 64)) (λ e.
-    let parts = and_both (nat_lt 0 length) (nat_lt value (2 ^ 64)) e in h (less 0 length parts.0, less value (2 ^ 64) parts.1)) in
+-- a digit in the middle
+pub digit_at : (digits : List ℕ) (i : ℕ) → all_ascii_digits digits ≡ true → i < length digits → is_ascii_digit (get_or digits i 0) ≡ true
+digit_at [] i are less = absurd (omega (arith, less))
+digit_at (d ∷ digits) zero are less = (and_both (is_ascii_digit d) (all_ascii_digits digits) are).0
+digit_at (d ∷ digits) (suc i) are less = digit_at digits i (and_both (is_ascii_digit d) (all_ascii_digits digits) are).1 (omega (arith, less))
+
+pub from_48 : (d : ℕ) → is_ascii_digit d ≡ true → 48 ≤ d
+from_48 d e = grind (arith, nat_tests)
+
+worth : (d : ℕ) → is_ascii_digit d ≡ true → digit_value d ≡ d - 48
+worth d e = grind (arith, nat_tests)
+
+-- the number of one digit more
+pub next_number : (digits : List ℕ) (i n : ℕ) → all_ascii_digits digits ≡ true → i < length digits → n ≡ digits_value 10 (take i digits)
+    → digits_value 10 (take (i + 1) digits) ≡ n * 10 + (get_or digits i 0 - 48)
+next_number digits i n are less is = rw (digits_value_more 10 digits i less, worth (get_or digits i 0) (digit_at digits i are less), is) refl
+
+-- digits whose front writes a number that doesn't fit
+pub no_number : (digits : List ℕ) (i : ℕ) → (digits_value 10 (take i digits) < 2 ^ 64 → ⊥)
+    → (if nat_lt 0 (length digits) && nat_lt (digits_value 10 digits) (2 ^ 64) then Some (digits_value 10 digits) else None) ≡ None
+no_number digits i large =
+    let most = digits_value-take-le 10 digits i (omega arith) in
+    let test : (nat_lt 0 (length digits) && nat_lt (digits_value 10 digits) (2 ^ 64)) ≡ false =
+    false_unless (nat_lt 0 (length digits) && nat_lt (digits_value 10 digits) (2 ^ 64)) (λ e.
+    let small = less (digits_value 10 digits) (2 ^ 64) (and_both (nat_lt 0 (length digits)) (nat_lt (digits_value 10 digits) (2 ^ 64)) e).1 in
+    large (omega (arith, most, small))) in
     rw test refl
