@@ -2,12 +2,13 @@
 use Rattle.std.proofs.Common.{◌≡◌, ◌≢◌, ℕ, ◌+◌, ◌<◌, ◌≤◌, Bool, true, false, ◌||◌, ◌==◌, List, [], ◌∷◌, Some, None, refl, sym, ap, subst, ◌∙◌, arith}
 use Rattle.std.specs.Prelude.{Option, map, if◌then◌else◌}
 use Rattle.std.proofs.lemmas.Bool.Decides.{nat_tests}
+use Rattle.std.proofs.lemmas.Bool.{eqb-true}
 use Rattle.aj_steps.specs.Units.{Entry, added, is_of_thread, is_commit, units, commit_place, in_order, schedule_of}
 use Rattle.aj_order.specs.Sorted.{sort_by}
 use Rattle.aj_order.proofs.Insertions.{Each, each_more, each_left, each_right}
 use Rattle.aj_order.proofs.Blocks.{flat, IsSome, Keyed}
 use Rattle.aj_order.proofs.Written.{Rises, AllApart, units_well, units_by_key}
-use Rattle.aj_rewrite.proofs.Shape.{same_number, itself}
+use Rattle.aj_rewrite.proofs.Shape.{itself}
 use Rattle.aj_serialise.specs.Tables.{put_at}
 use Rattle.aj_serialise.specs.Entries.{entries_of}
 use Rattle.aj_serialise.specs.UnitMaps.{end_for, commits_with, UnitMaps, unit_maps, commit_of}
@@ -183,7 +184,7 @@ module _ (ends commits : ℕ → ℕ) (e : Entry) where
     where
       own : (v : List Entry) → is_of_thread e.thread v ≡ true → is_of_thread t v ≡ (e.thread == t)
       own [] h = absurd cc
-      own (f ∷ v) h = ap (λ m. m == t) (same_number f.thread e.thread h)
+      own (f ∷ v) h = ap (λ m. m == t) (eqb-true f.thread e.thread h)
 
       one : (b c : Bool) → b ≡ c → (m : ℕ) → last_place (e ∷ u) ≡ m → (rest : Option ℕ) → (if c then Some (last_place (e ∷ u)) else rest) ≡ (if c then Some m else (if b then Some (last_place u) else rest))
       one true true s m e1 rest = ap Some e1
@@ -200,7 +201,7 @@ module _ (ends commits : ℕ → ℕ) (e : Entry) where
       by : (b : Bool) → is_of_thread e.thread u ≡ b → (if b then Some (last_place u) else first_end e.thread us) ≡ Some n → (first_end e.thread us ≡ Some n → first_end t (added e us) ≡ (if e.thread == t then Some n else first_end t us))
           → first_end t (if b then (e ∷ u) ∷ us else u ∷ added e us) ≡ (if e.thread == t then Some n else first_end t (u ∷ us))
       by true at is rest = let same : last_place u ≡ n = cc in one (is_of_thread t u) (e.thread == t) (own u at) n (last_later e u some.0 ∙ same) (first_end t us)
-      by false at is rest = another (e.thread == t) (is_of_thread t u) (λ d c. let k : true ≡ false = sym (subst (λ m. is_of_thread m u ≡ true) (sym (same_number e.thread t c)) d) ∙ at in cc) (Some (last_place u)) (first_end t (added e us)) (first_end t us) (rest is)
+      by false at is rest = another (e.thread == t) (is_of_thread t u) (λ d c. let k : true ≡ false = sym (subst (λ m. is_of_thread m u ≡ true) (sym (eqb-true e.thread t c)) d) ∙ at in cc) (Some (last_place u)) (first_end t (added e us)) (first_end t us) (rest is)
 
   firsts_alone : (us : List (List Entry)) → first_end e.thread us ≡ None → (t : ℕ) → first_end t (added e us) ≡ (if e.thread == t then Some e.place else first_end t us)
   firsts_alone [] none t = refl
@@ -215,7 +216,7 @@ module _ (ends commits : ℕ → ℕ) (e : Entry) where
       by : (b : Bool) → is_of_thread e.thread u ≡ b → (if b then Some (last_place u) else first_end e.thread us) ≡ None → (first_end e.thread us ≡ None → first_end t (added e us) ≡ (if e.thread == t then Some e.place else first_end t us))
           → first_end t (if b then (e ∷ u) ∷ us else u ∷ added e us) ≡ (if e.thread == t then Some e.place else first_end t (u ∷ us))
       by true at none rest = absurd cc
-      by false at none rest = another (e.thread == t) (is_of_thread t u) (λ d c. let k : true ≡ false = sym (subst (λ m. is_of_thread m u ≡ true) (sym (same_number e.thread t c)) d) ∙ at in cc) (Some (last_place u)) (first_end t (added e us)) (first_end t us) (rest none)
+      by false at none rest = another (e.thread == t) (is_of_thread t u) (λ d c. let k : true ≡ false = sym (subst (λ m. is_of_thread m u ≡ true) (sym (eqb-true e.thread t c)) d) ∙ at in cc) (Some (last_place u)) (first_end t (added e us)) (first_end t us) (rest none)
 
   module _ (first : ℕ → Option ℕ) where
     -- the last place of the entry's unit

@@ -2,5 +2,7 @@
 mod Found
 mod StableSorts
 mod Endings
+mod AtomicCalls
+mod SeenFrames
 mod Running
 mod Results

@@ -22,9 +22,9 @@ use Rattle.aj_serialise.specs.Rewritten.{IsRewritten, EndsInside, IsRefused}
 use Rattle.aj_serialise.proofs.Endings.{runs_not_stops, stops_once}
 
 -- what came of a run with no thread inside an atomic call at its end, and with one
-pub finished : (P : Program) → IsTyped P → IsAccepted P → (s : List ℕ) (m : MachineValue) (steps : List Step) → program_run m ≡ P → HaveRun m s steps → (known : Option ℕ) → ((q : State) → StandsFor m q → known ≡ open_thread (program_run m) q) → known ≡ None
+pub finished : (P : Program) → IsTyped P → IsAccepted P → (s : List ℕ) (m : MachineValue) (steps : List Step) (calls : ℕ → ℕ) → program_run m ≡ P → HaveRun m s steps calls → (known : Option ℕ) → ((q : State) → StandsFor m q → known ≡ open_thread (program_run m) q) → known ≡ None
     → (r : List ℕ) → r ≡ schedule_of (in_order (units (entries_of 0 steps))) → IsRewritten P s r
-finished P typed accepted s m steps is done known told none r ordered =
+finished P typed accepted s m steps calls is done known told none r ordered =
     let ran = ap (λ p. run p s) (sym is) ∙ done.ran in
     let closed = ap (λ p. open_thread p done.end) (sym is) ∙ sym (told done.end done.stands) ∙ none in
     let order : r ≡ written_order P s = ordered ∙ ap (λ es. schedule_of (in_order (units es))) (done.noted ∙ ap (λ p. entries p s) is) in
@@ -36,12 +36,18 @@ finished P typed accepted s m steps is done known told none r ordered =
       serial = subst (λ x. IsSerial P s x done.end) (sym order) (written P typed s done.end ran closed (words P typed accepted s));
     }
 
-pub left_open : (P : Program) (s : List ℕ) (m : MachineValue) (steps : List Step) → program_run m ≡ P → HaveRun m s steps → (known : Option ℕ) → ((q : State) → StandsFor m q → known ≡ open_thread (program_run m) q) → (t : ℕ) → known ≡ Some t → EndsInside P s t
-left_open P s m steps is done known told t some = record {
+pub left_open : (P : Program) (s : List ℕ) (m : MachineValue) (steps : List Step) (calls : ℕ → ℕ) → program_run m ≡ P → HaveRun m s steps calls → (known : Option ℕ) → ((q : State) → StandsFor m q → known ≡ open_thread (program_run m) q) → (t : ℕ) → known ≡ Some t → EndsInside P s t
+left_open P s m steps calls is done known told t some = record {
   end = done.end;
   ran = ap (λ p. run p s) (sym is) ∙ done.ran;
   least = ap (λ p. open_thread p done.end) (sym is) ∙ sym (told done.end done.stands) ∙ some;
 }
+
+-- the machine stands for the state that the schedule runs to
+pub stands_at_end : (P : Program) (s : List ℕ) (m : MachineValue) (steps : List Step) (calls : ℕ → ℕ) → program_run m ≡ P → HaveRun m s steps calls → (q : State) → run P s ≡ Some q → StandsFor m q
+stands_at_end P s m steps calls is done q ran =
+    let same : done.end ≡ q = ap (λ o. unwrap_or o q) (sym done.ran ∙ ap (λ p. run p s) is ∙ ran) in
+    subst (StandsFor m) same done.stands
 
 module _ (P : Program) (s : List ℕ) where
   same_open : (q r : State) → run P s ≡ Some q → run P s ≡ Some r → (a b : Option ℕ) → open_thread P q ≡ a → open_thread P r ≡ b → a ≡ b

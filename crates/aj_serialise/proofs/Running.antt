@@ -1,15 +1,14 @@
 -- A run with a note of each step.
-use Rattle.std.proofs.Common.{◌≡◌, ℕ, suc, ◌+◌, ◌<◌, Bool, false, List, [], ◌∷◌, ◌++◌, length, get_or, Some, None, refl, sym, ap, ◌∙◌, arith}
+use Rattle.std.proofs.Common.{◌≡◌, ℕ, zero, suc, ◌+◌, ◌<◌, nat_lt, List, [], ◌∷◌, ◌++◌, length, get_or, Some, refl, sym, ap, subst, ◌∙◌, arith}
 use Rattle.std.proofs.lemmas.Grind.{common_steps}
 use Rattle.std.proofs.lemmas.List.{length-take-le, take_more}
 use Rattle.std.proofs.lemmas.Option.{slice_get-get_or}
-use Rattle.std.specs.Prelude.{IsSome, Option, Result, Ok, Err, take, slice_get, option_and_then, unwrap_or}
-use Rattle.std.specs.Option.{option_map}
+use Rattle.std.specs.Prelude.{Result, Ok, Err, take, slice_get, option_and_then}
 use Rattle.aj_core.specs.Core.{Program}
 use Rattle.aj_state.specs.declared.value.StepKind.{StepKind}
-use Rattle.aj_state.specs.States.{State, Thread, initial}
-use Rattle.aj_steps.specs.Run.{run, run_from, is_inside, is_inside_some}
-use Rattle.aj_steps.specs.Step.{Outcome, Moves, Absent, IsDone, HadFaulted, Waits, Move, outcome, moved, state_after, kind_in}
+use Rattle.aj_state.specs.States.{State, initial}
+use Rattle.aj_steps.specs.Run.{run, run_from}
+use Rattle.aj_steps.specs.Step.{Outcome, Moves, Absent, IsDone, HadFaulted, Waits, Move, outcome, moved, state_after}
 use Rattle.aj_steps.specs.Units.{entries}
 use Rattle.aj_steps.proofs.RunLemmas.{run_from-append}
 use Rattle.aj_steps.proofs.MoreEntries.{more_entries}
@@ -17,7 +16,11 @@ use Rattle.aj_machine.specs.declared.machine.StepEnd.{StepEnd}
 use Rattle.aj_machine.specs.declared.machine.StepEnd.TheVariants as step
 use Rattle.aj_machine.specs.MachineValue.{MachineValue}
 use Rattle.aj_machine.specs.Reasons.{IsReason}
-use Rattle.aj_machine.specs.Standing.{program_run, StandsFor, IsTurn, IsStop}
+use Rattle.aj_machine.specs.Standing.{program_run, StandsFor, IsKindTurn, IsStop}
+use Rattle.aj_serialise.specs.declared.calls.Frames.{Frames}
+use Rattle.aj_serialise.specs.Calls.{AreCalls, calls_after, frames_seen, methods_at}
+use Rattle.aj_serialise.specs.Tables.{value_at, put_at}
+use Rattle.aj_serialise.proofs.AtomicCalls.{calls_moved, inside_is}
 use Rattle.aj_serialise.specs.declared.step.Step.{Step}
 use Rattle.aj_serialise.specs.Entries.{entry_of, entries_of}
 use Rattle.aj_serialise.specs.Made.{IsMade, HaveRun}
@@ -26,43 +29,38 @@ use Rattle.aj_serialise.specs.Rewritten.{IsRefused}
 
 -- One step.
 
-inside_is : (P : Program) (o : Option Thread) → unwrap_or (option_map (is_inside P) o) false ≡ is_inside_some P o
-inside_is P None = refl
-inside_is P (Some thread) = refl
+pub was_made : (P : Program) (t : ℕ) (q : State) (m : MachineValue) (k : StepKind) (x : Step) (old new : ℕ → ℕ) (before : Frames) (o : Outcome) → outcome P q t ≡ o → program_run m ≡ P
+    → AreCalls P q old → before ≡ frames_seen (methods_at (slice_get q.threads t)) → IsKindTurn t (Ok k) m q o
+    → x ≡ record { thread = t; kind = k; inside = nat_lt 0 (new t) }
+    → ((r : State) → StandsFor m r → (u : ℕ) → new u ≡ put_at old t (calls_after (program_run m) before (frames_seen (methods_at (slice_get r.threads t))) (old t)) u)
+    → IsMade P t q m x new o
+was_made P t q m k x old new before (Moves move) is same are seen turn told noted =
+    let now : AreCalls P (moved t move q) new =
+    calls_moved P q t move is old new are (λ u. noted (moved t move q) turn.1 u ∙ (λ i. put_at old t (calls_after (same i) (seen i) (frames_seen (methods_at (slice_get (moved t move q).threads t))) (old t)) u)) in (
+      told ∙ (λ i. record { thread = t; kind = turn.0 i; inside = (ap (nat_lt 0) (now t) ∙ sym (inside_is P (moved t move q) t)) i }),
+      turn.1,
+      now,
+    )
+was_made P t q m k x old new before Absent is same are seen turn told noted = absurd cc
+was_made P t q m k x old new before IsDone is same are seen turn told noted = absurd cc
+was_made P t q m k x old new before (HadFaulted f) is same are seen turn told noted = absurd cc
+was_made P t q m k x old new before (Waits a holder) is same are seen turn told noted = absurd cc
 
-kind_is : (j k : StepKind) → Some j ≡ Some k → j ≡ k
-kind_is j k e = ap (λ o. unwrap_or o j) e
+-- where a step was made, only memory can be wanting
+pub only_memory : (t : ℕ) (q : State) (m : MachineValue) (k : StepKind) (o : Outcome) → IsKindTurn t (Ok k) m q o → IsReason step.NoMemory o
+only_memory t q m k (Moves move) turn = refl
+only_memory t q m k Absent turn = absurd cc
+only_memory t q m k IsDone turn = absurd cc
+only_memory t q m k (HadFaulted f) turn = absurd cc
+only_memory t q m k (Waits a holder) turn = absurd cc
 
-pub was_made : (P : Program) (t : ℕ) (q : State) (m : MachineValue) (k : StepKind) (known : Option Bool) (b : Bool) (o : Outcome) → program_run m ≡ P → Some k ≡ kind_in o → b ≡ unwrap_or known false
-    → ((r : State) → StandsFor m r → known ≡ option_map (is_inside (program_run m)) (slice_get r.threads t))
-    → IsTurn t (Ok tt) m q o → IsMade P t q m (record { thread = t; kind = k; inside = b }) o
-was_made P t q m k known b (Moves move) same kind told known_is stands = (
-  (λ i. record {
-    thread = t;
-    kind = kind_is k move.kind kind i;
-    inside = (told ∙ ap (λ o. unwrap_or o false) (known_is (moved t move q) stands) ∙ inside_is (program_run m) (slice_get (moved t move q).threads t) ∙ ap (λ p. is_inside_some p (slice_get (moved t move q).threads t)) same) i;
-  }),
-  stands,
-)
-was_made P t q m k known b Absent same kind told known_is turn = absurd cc
-was_made P t q m k known b IsDone same kind told known_is turn = absurd cc
-was_made P t q m k known b (HadFaulted f) same kind told known_is turn = absurd cc
-was_made P t q m k known b (Waits a holder) same kind told known_is turn = absurd cc
-
-pub has_kind : (t : ℕ) (q : State) (m : MachineValue) (o : Outcome) → IsTurn t (Ok tt) m q o → IsSome (kind_in o)
-has_kind t q m (Moves move) turn = refl
-has_kind t q m Absent turn = absurd cc
-has_kind t q m IsDone turn = absurd cc
-has_kind t q m (HadFaulted f) turn = absurd cc
-has_kind t q m (Waits a holder) turn = absurd cc
-
-abbrev Refused : StepEnd → Result (Unit {0}) StepEnd
+abbrev Refused : StepEnd → Result StepKind StepEnd
 Refused why = Err why
 
 error_is : (why other : StepEnd) → Refused why ≡ Refused other → why ≡ other
 error_is why other e = cc
 
-pub was_refused : (t : ℕ) (q : State) (m : MachineValue) (why : StepEnd) (o : Outcome) → IsTurn t (Err why) m q o → IsReason why o
+pub was_refused : (t : ℕ) (q : State) (m : MachineValue) (why : StepEnd) (o : Outcome) → IsKindTurn t (Err why) m q o → IsReason why o
 was_refused t q m why (Moves move) turn = turn
 was_refused t q m why Absent turn = error_is why step.Absent turn
 was_refused t q m why IsDone turn = error_is why step.Done turn
@@ -74,8 +72,12 @@ was_refused t q m why (Waits a holder) turn = error_is why (step.Waits a holder)
 pub length_more : (steps : List Step) (x : Step) → length (steps ++ x ∷ []) ≡ length steps + 1
 length_more steps x = grind (arith, common_steps)
 
-pub starts : (m : MachineValue) → StandsFor m (initial (program_run m)) → HaveRun m [] []
-starts m stands = record { end = initial (program_run m); ran = refl; stands = stands; noted = refl }
+no_calls : (P : Program) → AreCalls P (initial P) (value_at 0 [])
+no_calls P zero = refl
+no_calls P (suc t) = refl
+
+pub starts : (m : MachineValue) → StandsFor m (initial (program_run m)) → HaveRun m [] [] (value_at 0 [])
+starts m stands = record { end = initial (program_run m); ran = refl; stands = stands; called = no_calls (program_run m); noted = refl }
 
 entries_append : (n : ℕ) (steps : List Step) (x : Step) → entries_of n (steps ++ x ∷ []) ≡ entries_of n steps ++ entry_of (n + length steps) x ∷ []
 entries_append n [] x = ap (λ m. entry_of m x ∷ []) (no_more n)
@@ -92,7 +94,7 @@ moved_on P s q t move ran is =
     run_from-append P (initial P) s (t ∷ []) ∙ ap (option_and_then (λ next. run_from P next (t ∷ []))) ran
     ∙ ap (λ o. option_and_then (λ next. run_from P next []) (state_after q t o)) is
 
-module _ (P : Program) (m n : MachineValue) (s : List ℕ) (i : ℕ) (less : i < length s) (is : program_run m ≡ P) (is_later : program_run n ≡ P) (steps : List Step) (count : length steps ≡ i) (done : HaveRun m (take i s) steps) where
+module _ (P : Program) (m n : MachineValue) (s : List ℕ) (i : ℕ) (less : i < length s) (is : program_run m ≡ P) (is_later : program_run n ≡ P) (steps : List Step) (count : length steps ≡ i) (calls : ℕ → ℕ) (done : HaveRun m (take i s) steps calls) where
   abbrev pub thread : ℕ
   thread = get_or s i 0
 
@@ -102,24 +104,25 @@ module _ (P : Program) (m n : MachineValue) (s : List ℕ) (i : ℕ) (less : i <
   noted : entries_of 0 steps ≡ entries P (take i s)
   noted = done.noted ∙ ap (λ p. entries p (take i s)) is
 
-  goes_on : (x : Step) (o : Outcome) → outcome P done.end thread ≡ o → IsMade P thread done.end n x o → HaveRun n (take (i + 1) s) (steps ++ x ∷ [])
-  goes_on x (Moves move) turns made = record {
+  goes_on : (x : Step) (now : ℕ → ℕ) (o : Outcome) → outcome P done.end thread ≡ o → IsMade P thread done.end n x now o → HaveRun n (take (i + 1) s) (steps ++ x ∷ []) now
+  goes_on x now (Moves move) turns made = record {
     end = moved thread move done.end;
     ran = ap (λ p. run p (take (i + 1) s)) is_later ∙ ap (run P) (take_more s i 0 less) ∙ moved_on P (take i s) done.end thread move ran turns;
     stands = made.1;
+    called = subst (λ p. AreCalls p (moved thread move done.end) now) (sym is_later) made.2;
     noted = entries_append 0 steps x ∙ (λ k. noted k ++ entry_of (place k) (made.0 k) ∷ [])
         ∙ sym (more_entries P (take i s) done.end thread move ran turns) ∙ ap (entries P) (sym (take_more s i 0 less)) ∙ ap (λ p. entries p (take (i + 1) s)) (sym is_later);
   }
     where
       place : 0 + length steps ≡ length (take i s)
       place = let l = length-take-le i s (omega (arith, less)) in omega (arith, l, count)
-  goes_on x Absent turns made = absurd made
-  goes_on x IsDone turns made = absurd made
-  goes_on x (HadFaulted kind) turns made = absurd made
-  goes_on x (Waits a holder) turns made = absurd made
+  goes_on x now Absent turns made = absurd made
+  goes_on x now IsDone turns made = absurd made
+  goes_on x now (HadFaulted kind) turns made = absurd made
+  goes_on x now (Waits a holder) turns made = absurd made
 
-  pub run_more : (x : Step) → ((q : State) → StandsFor m q → IsMade P thread q n x (outcome P q thread)) → HaveRun n (take (i + 1) s) (steps ++ x ∷ [])
-  run_more x made = goes_on x (outcome P done.end thread) refl (made done.end done.stands)
+  pub run_more : (x : Step) (now : ℕ → ℕ) → ((q : State) → StandsFor m q → AreCalls (program_run m) q calls → IsMade (program_run m) thread q n x now (outcome (program_run m) q thread)) → HaveRun n (take (i + 1) s) (steps ++ x ∷ []) now
+  run_more x now made = goes_on x now (outcome P done.end thread) refl (subst (λ p. IsMade p thread done.end n x now (outcome p done.end thread)) is (made done.end done.stands done.called))
 
   -- the entry has no step
   stop : (why : StepEnd) → IsReason why (outcome P done.end thread) → IsStop P (initial P) s (record { entry = i + 1; thread = thread; why = why }) done.end

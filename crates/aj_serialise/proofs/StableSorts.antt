@@ -1,12 +1,11 @@
 -- A stable sort by a key of what stands for entries: there is one list that ascends and keeps the order of equal keys.
 use Rattle.std.proofs.Common.{◌≡◌, ℕ, zero, suc, ◌<◌, ◌≤◌, Bool, true, false, cond, List, [], ◌∷◌, length, get_or, filter, nat_cmp, is_lt, refl, sym, ap, ◌∙◌, arith, inl, inr, suc-le-suc, zero-le}
 use Rattle.std.specs.Prelude.{map, nat_le, if◌then◌else◌}
-use Rattle.std.proofs.lemmas.Bool.{cond-true, cond-false, cases_Bool}
+use Rattle.std.proofs.lemmas.Bool.{cond-true, cond-false, cases_Bool, leb-true, leb-false}
 use Rattle.std.proofs.lemmas.Bool.Decides.{nat_tests}
 use Rattle.std.specs.List.Sorted.{ties, IsNonDecreasingBy, IsStableByKey}
 use Rattle.aj_steps.specs.Units.{Entry}
 use Rattle.aj_order.specs.Sorted.{put_by, sort_by}
-use Rattle.aj_order.proofs.Insertions.{le_is, le_not}
 
 module _ {X : Type 0} (key : X → ℕ) where
   abbrev same_key : X → X → Bool
@@ -92,8 +91,8 @@ module _ {X : Type 0} (key : X → ℕ) where
     ascends_put e (y ∷ ys) h = by (nat_le (place e) (place y)) refl (ascends_put e ys h.1)
       where
         by : (b : Bool) → nat_le (place e) (place y) ≡ b → Ascends (map f (put_by place e ys)) → Ascends (map f (if b then e ∷ y ∷ ys else y ∷ put_by place e ys))
-        by true le rest = let low = le_is (place e) (place y) le in ((low, at_least_more (place e) (place y) (map f ys) low h.0), h)
-        by false lt rest = let less = le_not (place e) (place y) lt in (at_least_put (place y) e ys (omega (arith, less)) h.0, rest)
+        by true le rest = let low = leb-true (place e) (place y) le in ((low, at_least_more (place e) (place y) (map f ys) low h.0), h)
+        by false lt rest = let less = leb-false (place e) (place y) lt in (at_least_put (place y) e ys (omega (arith, less)) h.0, rest)
 
     ascends_sorted : (es : List Entry) → Ascends (map f (sort_by place es))
     ascends_sorted [] = tt
@@ -113,7 +112,7 @@ module _ {X : Type 0} (key : X → ℕ) where
             → filter (same_key x) (map f (if b then e ∷ y ∷ ys else y ∷ put_by place e ys)) ≡ filter (same_key x) (map f (e ∷ y ∷ ys))
         by true le rest = refl
         by false lt rest = swap (same_key x (f e)) (same_key x (f y))
-            (λ p q. let less = le_not (place e) (place y) lt in let a = same_key-true x (f e) p in let b = same_key-true x (f y) q in omega (arith, less, a, b))
+            (λ p q. let less = leb-false (place e) (place y) lt in let a = same_key-true x (f e) p in let b = same_key-true x (f y) q in omega (arith, less, a, b))
             (filter (same_key x) (map f ys)) (filter (same_key x) (map f (put_by place e ys))) rest
 
     filter_sorted : (x : X) (es : List Entry) → filter (same_key x) (map f (sort_by place es)) ≡ filter (same_key x) (map f es)

@@ -2,6 +2,7 @@
 -- functions, from Tables to Placed those that put steps in order, Made and Refusals those that run the machine.
 pub mod Rewritten
 pub mod Refusals
+pub mod Calls
 pub mod Made
 pub mod Tables
 pub mod Entries

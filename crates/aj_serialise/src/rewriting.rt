@@ -7,7 +7,7 @@ ghost use Rattle.aj_state.specs.States.{State, initial};
 ghost use Rattle.aj_compile.specs.IsCode.{IsCodeOf};
 ghost use Rattle.aj_steps.specs.Run.{run, open_thread};
 ghost use Rattle.aj_machine.specs.declared.machine.Stopped.{Stopped};
-ghost use Rattle.aj_machine.specs.Standing.{IsStopped};
+ghost use Rattle.aj_machine.specs.Standing.{StandsFor, IsStopped};
 ghost use Rattle.aj_serialise.specs.declared.serial_end.SerialEnd.TheVariants as ends;
 ghost use Rattle.aj_serialise.specs.Rewritten.{IsRewritten, EndsInside, IsRefused};
 
@@ -20,26 +20,63 @@ use aj_deriv_check::Checked;
 use aj_machine::Machine;
 use std::alloc::Global;
 
+/// A schedule in its written order, and the machine that ran it, at its end.
+#[derive(Drop)]
+pub struct Serialised<'p> {
+    pub order: Vec<u32>,
+    pub machine: Machine<'p>,
+}
+
 /// Runs a schedule, and puts it in its written order.
-fn rewrite(
+fn rewrite<'p>(
     alloc: Global,
-    program: &CoreProgram,
-    code: &CodeTable,
+    program: &'p CoreProgram,
+    code: &'p CodeTable,
     schedule: &[u32],
-) -> Result<Vec<u32>, SerialEnd>
+) -> Result<Serialised<'p>, SerialEnd>
     requires code { IsCodeOf (program_of program.now) code.now.code.items code.now.entry.items code.now.room.items }
     requires typed { IsTyped (program_of program.now) }
     requires accepted { IsAccepted (program_of program.now) }
     requires size { length schedule.now ≤ 200000 }
-    ensures rewritten { IfOk result (λ r. IsRewritten (program_of program.now) schedule.now r.items) }
+    ensures rewritten { IfOk result (λ r. IsRewritten (program_of program.now) schedule.now r.order.items) }
+    ensures stands { IfOk result (λ r. (q : State) → run (program_of program.now) schedule.now ≡ Some q → StandsFor r.machine q) }
+    ensures program { IfOk result (λ r. r.machine.program ≡ program.now) }
     ensures refused { IfErr result (IsRefused (program_of program.now) schedule.now) }
 {
     let mut machine = Machine::start(alloc, program, code)?;
     let steps = run_noted(alloc, &mut machine, schedule)?;
     match machine.open_thread() {
         Some(thread) => Err(SerialEnd::Open { thread }),
-        None => Ok(in_order(alloc, &steps)?),
+        None => {
+            let order = in_order(alloc, &steps)?;
+            Ok(Serialised { order, machine })
+        }
     }
+}
+
+/// The written order of a schedule of an accepted program, as `rewritten` gives it, with the machine that ran the schedule.
+pub fn rewritten_with_machine<'p>(
+    alloc: Global,
+    program: &'p CoreProgram,
+    code: &'p CodeTable,
+    schedule: &[u32],
+) -> Result<Serialised<'p>, SerialEnd>
+    requires code { IsCodeOf (program_of program.now) code.now.code.items code.now.entry.items code.now.room.items }
+    requires typed { IsTyped (program_of program.now) }
+    requires accepted { IsAccepted (program_of program.now) }
+    requires size { length schedule.now ≤ 200000 }
+    ensures rewritten { IfOk result (λ r. IsRewritten (program_of program.now) schedule.now r.order.items) }
+    ensures stands { IfOk result (λ r. (q : State) → run (program_of program.now) schedule.now ≡ Some q → StandsFor r.machine q) }
+    ensures program { IfOk result (λ r. r.machine.program ≡ program.now) }
+    ensures refused { IfErr result (IsRefused (program_of program.now) schedule.now) }
+    ensures rewrites { (q : State) → run (program_of program.now) schedule.now ≡ Some q → open_thread (program_of program.now) q ≡ None →
+        MatchResult result (λ r. IsRewritten (program_of program.now) schedule.now r.order.items) (λ e. e ≡ ends.NoMemory) }
+    ensures stops { (stopped : Stopped) → IsStopped (program_of program.now) (initial (program_of program.now)) schedule.now stopped →
+        MatchResult result (λ _. ⊥) (λ e. (e ≡ ends.Stopped stopped) ⊎ (e ≡ ends.NoMemory)) }
+    ensures opens { (thread : ℕ) → EndsInside (program_of program.now) schedule.now thread →
+        MatchResult result (λ _. ⊥) (λ e. (e ≡ ends.Open thread) ⊎ (e ≡ ends.NoMemory)) }
+{
+    rewrite(alloc, program, code, schedule)
 }
 
 /// The written order of a schedule of an accepted program: the schedule with each atomic call in one piece, and the same end.
@@ -64,7 +101,10 @@ pub fn rewritten(
     ensures opens { (thread : ℕ) → EndsInside (program_of program.now) schedule.now thread →
         MatchResult result (λ _. ⊥) (λ e. (e ≡ ends.Open thread) ⊎ (e ≡ ends.NoMemory)) }
 {
-    rewrite(alloc, program, code, schedule)
+    match rewritten_with_machine(alloc, program, code, schedule) {
+        Ok(found) => Ok(found.order),
+        Err(end) => Err(end),
+    }
 }
 
 /// The written order of a schedule of a checked program, as `rewritten` gives it.

@@ -1,24 +1,22 @@
-use Rattle.std.proofs.Common.{sym, ap, subst, ◌∙◌}
-use Rattle.std.specs.Prelude.{IsSome}
+use Rattle.std.proofs.Common.{refl, ap}
 use Rattle.std.proofs.lemmas.Result.{err_from_is_err_and}
 use Rattle.aj_core.specs.Views.{program_of}
 use Rattle.aj_steps.specs.Step.{outcome}
 use Rattle.aj_machine.specs.Standing.{program_run}
-use Rattle.aj_serialise.proofs.Running.{was_made, was_refused, has_kind}
+use Rattle.aj_serialise.specs.Tables.{value_at}
+use Rattle.aj_serialise.proofs.Running.{was_made, was_refused, only_memory}
 use Rattle.aj_serialise.proofs.run.make_step.Goals as goal
 
-pub returns-in_err-step-clause-refused : goal.returns-in_err-step-clause-refused
-returns-in_err-step-clause-refused c =
+pub returns-in_err-kind-clause-refused : goal.returns-in_err-kind-clause-refused
+returns-in_err-kind-clause-refused c =
     let p = err_from_is_err_and c.from_residual.result c.from_residual.ensures.1 in
-    rw (p.1, p.2) (λ q stands. was_refused c.args.thread q c.step.new.self c.in_err-step.field-0.0 (outcome (program_run c.args.machine.now) q c.args.thread) (c.in_err-step.ensures.turn q stands))
+    rw (p.1, p.2) (λ q stands. was_refused c.args.thread q c.step_kind.new.self c.in_err-kind.field-0.0 (outcome (program_run c.args.machine.now) q c.args.thread) (c.in_err-kind.ensures.turn q stands))
 
-pub returns-clause-made : goal.returns-clause-made
-returns-clause-made c q stands =
-    was_made (program_run c.args.machine.now) c.args.thread q c.step.new.self c.unwrap.result c.inside.result c.unwrap_or.result (outcome (program_run c.args.machine.now) q c.args.thread) (ap program_of c.step.ensures.program)
-    (sym c.unwrap.ensures ∙ c.kind-kind.ensures q stands) c.unwrap_or.ensures c.inside.ensures (c.in_ok-step.ensures.turn q stands)
+pub returns-in-Ok-clause-made : goal.returns-in-Ok-clause-made
+returns-in-Ok-clause-made c q stands are =
+    was_made (program_run c.args.machine.now) c.args.thread q c.step_kind.new.self c.in_ok-kind.kind c.in-Ok.step (value_at 0 c.args.calls.now.items) (value_at 0 c.note_step.new.calls.items) c.frames_at-before.result
+    (outcome (program_run c.args.machine.now) q c.args.thread) refl (ap program_of c.step_kind.ensures.program) are (c.frames_at-before.ensures q stands) (c.in_ok-kind.ensures.turn q stands) c.in-Ok.ensures.step c.in-Ok.ensures.calls
 
-pub unwrap-requires : goal.unwrap-requires
-unwrap-requires c =
-    let q = c.requires.stands.0 in
-    let stands = c.requires.stands.1 in
-    subst IsSome (sym (c.kind-kind.ensures q stands)) (has_kind c.args.thread q c.step.new.self (outcome (program_run c.args.machine.now) q c.args.thread) (c.in_ok-step.ensures.turn q stands))
+pub returns-in-Err-clause-refused : goal.returns-in-Err-clause-refused
+returns-in-Err-clause-refused c q stands =
+    only_memory c.args.thread q c.step_kind.new.self c.in_ok-kind.kind (outcome (program_run c.args.machine.now) q c.args.thread) (c.in_ok-kind.ensures.turn q stands)
