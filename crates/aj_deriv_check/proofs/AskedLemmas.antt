@@ -1,12 +1,11 @@
 -- What is asked of each node.
-use Rattle.std.proofs.Common.{◌≡◌, ℕ, ◌==◌, ◌&&◌, ◌↔◌, Bool, true, false, List, [], ◌∷◌, ◌++◌, map, length, Result, Ok, Err, IfOk, refl, sym, ◌∙◌, ap, subst}
+use Rattle.std.proofs.Common.{◌≡◌, ℕ, ◌==◌, ◌&&◌, ◌↔◌, Bool, true, false, List, length, Result, Ok, Err, IfOk, refl, sym, ◌∙◌, ap, subst}
 use Rattle.std.proofs.lemmas.Bool.Decides.{nat_tests}
 use Rattle.std.proofs.Common.{arith}
 use Rattle.aj_algebra.specs.HeldPaths.{Held}
 use Rattle.aj_rules.specs.Rules.{AtMost}
 use Rattle.aj_deriv.specs.declared.word.Word.{Word}
-use Rattle.aj_deriv.specs.Derivations.{node, Nodes, no_nodes, and_node, count_nodes, Node, number_of}
-use Rattle.aj_deriv_check.specs.Good.{conclusions}
+use Rattle.aj_deriv.specs.Derivations.{node, Nodes, count_nodes}
 use Rattle.aj_deriv_check.specs.Parts.{Part, Fits, word_of, parts_of}
 use Rattle.aj_deriv_check.specs.Rules.{Value}
 
@@ -37,23 +36,6 @@ fits_is x w n ds same_word same_size parts words are sizes = (
   }),
   (λ fits. and_true same_word same_size (words.1 fits.word) (sizes ∙ count_same (count_nodes ds) (length parts) (fits.count ∙ ap length (sym are)))),
 )
-
--- one conclusion more
-pub numbers_more : (V : ℕ → Value) (old new : List ℕ) (d : Node) (all ds es : Nodes) → new ≡ old ++ (number_of d ∷ []) → ds ≡ and_node d es →
-    map V old ++ conclusions V ds ≡ conclusions V all → map V new ++ conclusions V es ≡ conclusions V all
-numbers_more V old new d all ds es pushed is so_far =
-    ap (λ z. map V z ++ conclusions V es) pushed ∙ moved old (number_of d) ∙ ap (λ z. map V old ++ conclusions V z) (sym is) ∙ so_far
-  where
-    moved : (old : List ℕ) (n : ℕ) → map V (old ++ (n ∷ [])) ++ conclusions V es ≡ map V old ++ (V n ∷ conclusions V es)
-    moved [] n = refl
-    moved (m ∷ old) n = ap (λ z. V m ∷ z) (moved old n)
-
-nil : (xs : List Value) → xs ++ [] ≡ xs
-nil [] = refl
-nil (x ∷ xs) = ap (λ t. x ∷ t) (nil xs)
-
-pub numbers_done : (V : ℕ → Value) (numbers : List ℕ) (all ds : Nodes) → ds ≡ no_nodes → map V numbers ++ conclusions V ds ≡ conclusions V all → map V numbers ≡ conclusions V all
-numbers_done V numbers all ds is so_far = sym (nil (map V numbers)) ∙ ap (λ z. map V numbers ++ conclusions V z) (sym is) ∙ so_far
 
 -- a comparison of two trees, in other words
 pub step_is : {E : Type 0} (r : Result Bool E) (a b c d : Value) → ((H : Held) → a H ≡ c H) → ((H : Held) → b H ≡ d H) →

@@ -9,6 +9,7 @@ mod WalkLemmas
 mod AskedLemmas
 mod LineLemmas
 mod VerdictLemmas
+mod PairLemmas
 mod PassLemmas
 mod CanonicalLemmas
 mod OneVerdict

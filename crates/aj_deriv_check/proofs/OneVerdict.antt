@@ -1,6 +1,6 @@
 -- A text has one verdict.
-use Rattle.std.proofs.Common.{◌≡◌, ◌≢◌, ℕ, ◌<◌, ◌≤◌, ◌⊎◌, inl, inr, Bool, true, false, List, length, get_or, slice_get, Option, Some, None, refl, sym, ◌∙◌, ap, subst, arith}
-use Rattle.std.proofs.lemmas.Option.{slice_get_cases, slice_get_past, slice_get_within}
+use Rattle.std.proofs.Common.{◌≡◌, ◌≢◌, ℕ, ◌<◌, ◌≤◌, ◌⊎◌, inl, inr, List, length, get_or, slice_get, Option, Some, None, refl, sym, ◌∙◌, ap, subst, arith}
+use Rattle.std.proofs.lemmas.Option.{slice_get_cases}
 use Rattle.aj_paths.specs.Paths.{PathData}
 use Rattle.aj_core.specs.Core.{Program, Method}
 use Rattle.aj_cond.specs.Conditions.{Cond}
@@ -9,7 +9,7 @@ use Rattle.aj_deriv.specs.Books.{Line, Book}
 use Rattle.aj_deriv_check.specs.declared.wrong.Wrong.{Wrong}
 use Rattle.aj_deriv_check.specs.declared.wrong.Wrong.TheVariants as wrong
 use Rattle.aj_deriv_check.specs.Parts.{StmtP, places, Fits}
-use Rattle.aj_deriv_check.specs.Good.{table_value, book_assignment, IsStep, IsShaped, IsStepped, IsGoodLine, IsGoodBook}
+use Rattle.aj_deriv_check.specs.Good.{table_value, book_assignment, IsStep, IsStepped, IsGoodLine, IsGoodBook}
 use Rattle.aj_deriv_check.specs.Faults.{IsShapedAt, HasShapeFault, HasStepFault, IsLineVerdict, AreShaped, IsFirstMisshaped, IsFirstWrong, IsWrong}
 use Rattle.aj_deriv_check.proofs.Lists.{one_least, none_bad}
 

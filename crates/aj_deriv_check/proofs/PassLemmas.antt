@@ -56,9 +56,6 @@ pub record ShapesSoFar (methods : List Method) (lines : List Line) (m : ℕ) (nu
   pub counted : numbers ++ numbers_of (drop m lines) ≡ numbers_of lines
   pub shaped : (k : ℕ) → k < m → IsShapedAt k (slice_get methods k) (slice_get lines k)
 
-pub no_shapes : (methods : List Method) (lines : List Line) → ShapesSoFar methods lines 0 [] lines
-no_shapes methods lines = record { within = omega arith; at = refl; counted = refl; shaped = λ k below. absurd (omega (arith, below)) }
-
 below_or : (k m : ℕ) → k < m + 1 → (k < m) ⊎ (k ≡ m)
 below_or zero zero h = inr refl
 below_or zero (suc m) h = inl (omega arith)

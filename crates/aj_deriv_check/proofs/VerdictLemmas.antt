@@ -1,12 +1,11 @@
 -- What the two passes find.
 use Rattle.std.proofs.Common.{◌≡◌, ℕ, inl, inr, Bool, true, false, List, [], ◌∷◌, Some, None, Ok, Err, refl, sym, ◌∙◌, subst, arith}
 use Rattle.aj_core.specs.Core.{Method}
-use Rattle.aj_deriv.specs.Derivations.{Node, node, Nodes, premises_of}
-use Rattle.aj_deriv.specs.Books.{Line, Book}
+use Rattle.aj_deriv.specs.Books.{Line}
 use Rattle.aj_deriv_check.specs.declared.wrong.Wrong.{Wrong}
 use Rattle.aj_deriv_check.specs.declared.wrong.Wrong.TheVariants as wrong
 use Rattle.aj_deriv_check.specs.declared.walk.End.TheVariants.{Good, Bad}
-use Rattle.aj_deriv_check.specs.Parts.{StmtP, Place, places, Fits, Each, IsLeastBad}
+use Rattle.aj_deriv_check.specs.Parts.{StmtP, Place, places, Fits, IsLeastBad}
 use Rattle.aj_deriv_check.specs.Walks.{IsEnd}
 use Rattle.aj_deriv_check.specs.declared.judge.Judge.{Judge}
 use Rattle.aj_deriv_check.specs.Judges.{judge_assignment, judge_program, judge_rel, judge_table}

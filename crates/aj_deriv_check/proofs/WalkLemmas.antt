@@ -1,12 +1,12 @@
 -- Where walks end.
-use Rattle.std.proofs.Common.{◌≡◌, ℕ, suc, ◌+◌, ◌↔◌, Bool, true, false, List, [], ◌∷◌, ◌++◌, length, length-append, Result, Ok, Err, IfOk, refl, sym, ◌∙◌, ap, subst, arith}
+use Rattle.std.proofs.Common.{◌≡◌, ℕ, suc, ◌+◌, ◌↔◌, Bool, true, List, [], ◌∷◌, ◌++◌, length, length-append, Result, Ok, Err, IfOk, refl, sym, ◌∙◌, ap, subst, arith}
 use Rattle.aj_deriv.specs.declared.word.Word.{Word}
 use Rattle.aj_deriv.specs.Derivations.{Node, node, Nodes, no_nodes, and_node}
 use Rattle.aj_deriv_check.specs.declared.walk.End.{End}
 use Rattle.aj_deriv_check.specs.declared.walk.End.TheVariants.{Good, Bad}
 use Rattle.aj_deriv_check.specs.Parts.{Part, Place, places, places_of, parts_of}
 use Rattle.aj_deriv_check.specs.Walks.{IsEnd}
-use Rattle.aj_deriv_check.proofs.Lists.{each_both, each_none, each_one, bad_here, bad_left, bad_right}
+use Rattle.aj_deriv_check.proofs.Lists.{each_both, each_none, each_one, bad_left, bad_right}
 
 abbrev mutual
   -- how many nodes
@@ -30,11 +30,6 @@ pub end_none : (G : Place → Type 0) (at : ℕ) → IsEnd G [] at (Good at)
 end_none G at = (each_none G, omega arith)
 
 -- the node itself
-pub node_bad : (G : Place → Type 0) (x : Part) (w : Word) (n : ℕ) (ds : Nodes) (at : ℕ) (b : Bool) → (b ≡ true) ↔ G (record { part = x; at = node w n ds }) → b ≡ false →
-    IsEnd G (places x (node w n ds)) at (Bad at)
-node_bad G x w n ds at b test e =
-    (0, omega arith, bad_here G (record { part = x; at = node w n ds }) (places_of (parts_of x) ds) (λ g. let no : true ≡ false = sym (test.1 g) ∙ e in absurd (cc)))
-
 pub node_good : (G : Place → Type 0) (x : Part) (w : Word) (n : ℕ) (ds : Nodes) (at next : ℕ) (b : Bool) (e : End) → (b ≡ true) ↔ G (record { part = x; at = node w n ds }) → b ≡ true →
     next ≡ at + 1 → (xs : List Part) → xs ≡ parts_of x → IsEnd G (places_of xs ds) next e → IsEnd G (places x (node w n ds)) at e
 node_good G x w n ds at next b e test is one xs parts rest =

@@ -1,5 +1,5 @@
 -- What the contracts of checking books cite. To read the contract: Parts, Rules, Good, Faults, Checks. The others are what the private
--- functions cite: Judges, Walks, Passes.
+-- functions cite: Judges, Walks, Pairs, Passes.
 pub mod Parts
 pub mod Rules
 pub mod Good
@@ -7,4 +7,5 @@ pub mod Faults
 pub mod Checks
 pub mod Judges
 pub mod Walks
+pub mod Pairs
 pub mod Passes

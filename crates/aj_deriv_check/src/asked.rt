@@ -2,22 +2,29 @@
 ghost use Rattle.std.specs.Prelude.{◌≡◌, ◌↔◌, ℕ, List, map, true, IfOk};
 ghost use Rattle.aj_algebra.specs.HeldPaths.{Held};
 ghost use Rattle.aj_cond.specs.Conditions.{cond_of, value_of, IsCanonical};
+ghost use Rattle.aj_core.specs.Views.{stmt_of, stmts_from};
+ghost use Rattle.aj_rules.specs.Rules.{AtMost};
 ghost use Rattle.aj_deriv.specs.Derivations.{node};
 ghost use Rattle.aj_deriv_check.specs.Good.{conclusions, IsStep};
 ghost use Rattle.aj_deriv_check.specs.Judges.{judge_assignment, judge_program, judge_rel, judge_table, judge_value, AreCanonical};
 ghost use Rattle.aj_deriv_check.specs.Parts.{Fits};
-ghost use Rattle.aj_deriv_check.specs.Rules.{rule_of, Value};
+ghost use Rattle.aj_deriv_check.specs.Rules.{block_value, rule_of, stmt_rule as stmt_rule_of, Value};
 ghost use Rattle.aj_deriv_check.specs.Walks.{part_of};
 
 use crate::judge::Judge;
 use crate::lookups::conclusion;
+use crate::pairs::{all_keep_paths, sequence_below};
 use crate::parts::{BodyPart, inner_parts, part_word, same_length};
 use crate::rules::{expr_rule, stmt_rule};
-use crate::values::below;
+use crate::values::{below, leaf};
 use crate::walk::Asked;
+use crate::work::Work;
+use aj_algebra::Basic;
 use aj_cond::Tree;
+use aj_core::CoreStmt;
 use aj_deriv::{Nodes, Word};
 use std::alloc::{AllocError as NoMemory, Global};
+use std::cell::Cell;
 
 /// Asks whether a node has the word and the number of premises of its part.
 #[derive(Clone, Copy)]
@@ -77,16 +84,125 @@ pub fn rule(
     ensures value { IfOk result (λ r. (H : Held) → value_of (cond_of r) H ≡
         rule_of (judge_program judge.now) (judge_rel judge.now) (judge_assignment judge.now) (part_of part.entry) (map (judge_value judge.now) numbers.now) H) }
 {
+    let left = Cell::new(u32::MAX);
+    rule_within(alloc, Work::ample(&left), judge, part, numbers)
+}
+
+/// The value that a part's rule gives, within so much work.
+fn rule_within(
+    alloc: Global,
+    work: Work<'_>,
+    judge: &Judge<'_>,
+    part: BodyPart<'_>,
+    numbers: &[u32],
+) -> Result<Tree, NoMemory>
+    requires { AreCanonical (judge_table judge.now) }
+    ensures known { IfOk result (λ r. IsCanonical (cond_of r)) }
+    ensures value { IfOk result (λ r. (H : Held) → value_of (cond_of r) H ≡
+        rule_of (judge_program judge.now) (judge_rel judge.now) (judge_assignment judge.now) (part_of part.entry) (map (judge_value judge.now) numbers.now) H) }
+{
     match part {
-        BodyPart::Expr(e) => expr_rule(alloc, judge, e, numbers),
-        BodyPart::Stmt(s) => stmt_rule(alloc, judge, s, numbers),
+        BodyPart::Expr(e) => expr_rule(alloc, work, judge, e, numbers),
+        BodyPart::Stmt(s) => stmt_rule(alloc, work, judge, s, numbers),
     }
 }
 
-impl<'a> Asked for Judge<'a> {
-    ghost IsGood = { λ j x. IsStep (judge_program j) (judge_rel j) (judge_value j) (judge_assignment j) x };
+/// Whether a block's value is at most a tree, by pairs of its statements, none of which may declare a final local.
+#[tactic(auto, using(crate::proofs::PairLemmas::block_below))]
+fn block_below(
+    work: Work<'_>,
+    judge: &Judge<'_>,
+    body: &[CoreStmt],
+    numbers: &[u32],
+    d: &Tree,
+) -> Result<bool, NoMemory>
+    requires canonical { AreCanonical (judge_table judge.now) }
+    requires known { IsCanonical (cond_of d.now) }
+    ensures { IfOk result (λ b. (b ≡ true) ↔ ((H : Held) →
+        AtMost (block_value (judge_program judge.now) (stmts_from body.now) (map (judge_value judge.now) numbers.now) H) (value_of (cond_of d.now) H))) }
+{
+    if body.len() != numbers.len() {
+        return Err(NoMemory);
+    }
+    if !all_keep_paths(body) {
+        return Err(NoMemory);
+    }
+    let last = leaf(Basic::Const);
+    sequence_below(work, judge, numbers, &last, d)
+}
 
-    ghost IsReady = { λ j. AreCanonical (judge_table j) };
+/// Whether a tree is at or above the value that a statement's rule gives, with no tree for that value. Only for blocks; want of
+/// memory elsewhere.
+fn stmt_by_pairs(
+    work: Work<'_>,
+    judge: &Judge<'_>,
+    s: &CoreStmt,
+    numbers: &[u32],
+    d: &Tree,
+) -> Result<bool, NoMemory>
+    requires canonical { AreCanonical (judge_table judge.now) }
+    requires known { IsCanonical (cond_of d.now) }
+    ensures { IfOk result (λ b. (b ≡ true) ↔ ((H : Held) →
+        AtMost (stmt_rule_of (judge_program judge.now) (judge_rel judge.now) (judge_assignment judge.now) (stmt_of s.now) (map (judge_value judge.now) numbers.now) H) (value_of (cond_of d.now) H))) }
+{
+    match s {
+        CoreStmt::Block(body) => block_below(work, judge, body.as_slice(), numbers, d),
+        _ => Err(NoMemory),
+    }
+}
+
+/// Whether a tree is at or above the value that a part's rule gives, with no tree for that value, where it can be told so.
+fn is_step_by_pairs(
+    work: Work<'_>,
+    judge: &Judge<'_>,
+    part: BodyPart<'_>,
+    numbers: &[u32],
+    d: &Tree,
+) -> Result<bool, NoMemory>
+    requires canonical { AreCanonical (judge_table judge.now) }
+    requires known { IsCanonical (cond_of d.now) }
+    ensures { IfOk result (λ b. (b ≡ true) ↔ ((H : Held) →
+        AtMost (rule_of (judge_program judge.now) (judge_rel judge.now) (judge_assignment judge.now) (part_of part.entry) (map (judge_value judge.now) numbers.now) H) (value_of (cond_of d.now) H))) }
+{
+    match part {
+        BodyPart::Stmt(s) => stmt_by_pairs(work, judge, s, numbers, d),
+        BodyPart::Expr(_) => Err(NoMemory),
+    }
+}
+
+/// Whether a tree is at or above the value that a part's rule gives. Where that value would be too large a tree, a block is judged
+/// by pairs of its statements.
+#[tactic(auto, using(crate::proofs::AskedLemmas::step_is))]
+fn is_step(
+    alloc: Global,
+    work: Work<'_>,
+    judge: &Judge<'_>,
+    part: BodyPart<'_>,
+    numbers: &[u32],
+    d: &Tree,
+) -> Result<bool, NoMemory>
+    requires canonical { AreCanonical (judge_table judge.now) }
+    requires known { IsCanonical (cond_of d.now) }
+    ensures { IfOk result (λ b. (b ≡ true) ↔ ((H : Held) →
+        AtMost (rule_of (judge_program judge.now) (judge_rel judge.now) (judge_assignment judge.now) (part_of part.entry) (map (judge_value judge.now) numbers.now) H) (value_of (cond_of d.now) H))) }
+{
+    match rule_within(alloc, work, judge, part, numbers) {
+        Ok(value) => below(work, &value, d),
+        Err(_) => is_step_by_pairs(work, judge, part, numbers, d),
+    }
+}
+
+/// Asks whether a node's conclusion is at or above its rule's value.
+#[derive(Clone, Copy)]
+pub(crate) struct Steps<'a> {
+    pub(crate) judge: &'a Judge<'a>,
+    pub(crate) work: Work<'a>,
+}
+
+impl<'a> Asked for Steps<'a> {
+    ghost IsGood = { λ s x. IsStep (judge_program s.judge.now) (judge_rel s.judge.now) (judge_value s.judge.now) (judge_assignment s.judge.now) x };
+
+    ghost IsReady = { λ s. AreCanonical (judge_table s.judge.now) };
 
     fn is_good<F: Nodes>(
         &self,
@@ -97,8 +213,14 @@ impl<'a> Asked for Judge<'a> {
         premises: F,
     ) -> Result<bool, NoMemory> {
         let numbers = numbers(alloc, premises)?;
-        let value = rule(alloc, self, part, numbers.as_slice())?;
-        let conclusion = conclusion(alloc, self, number)?;
-        below(&value, &conclusion)
+        let conclusion = conclusion(alloc, self.work, self.judge, number)?;
+        is_step(
+            alloc,
+            self.work,
+            self.judge,
+            part,
+            numbers.as_slice(),
+            &conclusion,
+        )
     }
 }

@@ -9,11 +9,13 @@ mod judge;
 mod line;
 mod lookups;
 mod names;
+mod pairs;
 mod parts;
 mod passes;
 mod rules;
 mod values;
 mod walk;
+mod work;
 mod wrong;
 
 pub use acceptance::{Refused, RefusedText, accept, accept_text};

@@ -10,19 +10,23 @@ ghost use Rattle.aj_deriv_check.specs.Faults.{IsLineVerdict};
 ghost use Rattle.aj_deriv_check.specs.Good.{cond_at, tests_only as tests_only_of, Falls, IsTabled, IsUnder};
 ghost use Rattle.aj_deriv_check.specs.Judges.{judge_assignment, judge_program, judge_rel, judge_table, judge_value, AreCanonical};
 
+use crate::asked::Steps;
 use crate::judge::Judge;
 use crate::lookups::{conclusion, tree_at};
 use crate::names::{holds, where_held};
 use crate::parts::BodyPart;
 use crate::values::{below, same_copy};
 use crate::walk::{End, walk_node};
+use crate::work::Work;
 use crate::wrong::Wrong;
 use aj_algebra::{Algebra, Basic};
 use aj_cond::{Tree, Trees};
 use aj_core::CoreMethod;
 use aj_deriv::{Nodes, Word};
 use aj_paths::{MethodId, Path};
+use aj_rules::RelevantSets;
 use std::alloc::{AllocError as NoMemory, Global};
+use std::cell::Cell;
 
 /// Whether each test of a tree is on one of these paths.
 fn tests_only(paths: &[Path], t: &Tree) -> bool
@@ -45,16 +49,16 @@ fn all_three(first: bool, second: bool, third: bool) -> bool
 
 /// Whether a tree is nowhere greater with more paths held.
 #[tactic(auto, using(crate::proofs::LineLemmas::falls_leaf))]
-fn falls(t: &Tree) -> Result<bool, NoMemory>
+fn falls(work: Work<'_>, t: &Tree) -> Result<bool, NoMemory>
     requires { IsCanonical (cond_of t.now) }
     ensures { IfOk result (λ b. (b ≡ true) ↔ Falls (value_of (cond_of t.now))) }
 {
     match t {
         Tree::Leaf(_) => Ok(true),
         Tree::Test(_, a, b) => {
-            let here = below(a, b)?;
-            let held = falls(a)?;
-            let free = falls(b)?;
+            let here = below(work, a, b)?;
+            let held = falls(work, a)?;
+            let free = falls(work, b)?;
             Ok(all_three(here, held, free))
         }
     }
@@ -62,18 +66,19 @@ fn falls(t: &Tree) -> Result<bool, NoMemory>
 
 /// Whether a method's tree tests relevant paths only, and falls.
 #[tactic(auto, using(crate::proofs::LineLemmas::tabled_is))]
-fn is_tabled(rel: &[Path], t: &Tree) -> Result<bool, NoMemory>
+fn is_tabled(work: Work<'_>, rel: &[Path], t: &Tree) -> Result<bool, NoMemory>
     requires { IsCanonical (cond_of t.now) }
     ensures { IfOk result (λ b. (b ≡ true) ↔ IsTabled rel.now (cond_of t.now)) }
 {
     let relevant = tests_only(rel, t);
-    let falls = falls(t)?;
+    let falls = falls(work, t)?;
     Ok(relevant && falls)
 }
 
 /// Whether the body's conclusion is at or below the method's tree wherever the required paths are held.
 fn is_under(
     alloc: Global,
+    work: Work<'_>,
     judge: &Judge<'_>,
     required: &[Path],
     body: u32,
@@ -82,10 +87,10 @@ fn is_under(
     requires { AreCanonical (judge_table judge.now) }
     ensures { IfOk result (λ b. (b ≡ true) ↔ IsUnder required.now (judge_value judge.now body) (judge_value judge.now own)) }
 {
-    let body = conclusion(alloc, judge, body)?;
-    let own = conclusion(alloc, judge, own)?;
-    let wherever = where_held(alloc, required, own)?;
-    below(&body, &wherever)
+    let body = conclusion(alloc, work, judge, body)?;
+    let own = conclusion(alloc, work, judge, own)?;
+    let wherever = where_held(alloc, work, required, own)?;
+    below(work, &body, &wherever)
 }
 
 /// The greatest basic that a method may have at its required locks.
@@ -109,20 +114,27 @@ fn is_bounded(t: &Tree, method: &CoreMethod) -> bool
 }
 
 /// The tree with this number; const where there is none.
-fn own_tree(alloc: Global, judge: &Judge<'_>, number: u32) -> Result<Tree, NoMemory>
+fn own_tree(alloc: Global, work: Work<'_>, judge: &Judge<'_>, number: u32) -> Result<Tree, NoMemory>
     requires { AreCanonical (judge_table judge.now) }
     ensures known { IfOk result (λ r. IsCanonical (cond_of r)) }
     ensures tree { IfOk result (λ r. cond_of r ≡ cond_at (slice_get (judge_table judge.now) number)) }
 {
     match tree_at(judge.table, number) {
-        Some(tree) => same_copy(alloc, tree),
+        Some(tree) => same_copy(alloc, work, tree),
         None => Ok(Tree::Leaf(Basic::Const)),
     }
+}
+
+/// The work for a method, by how many near paths it has.
+fn work_for<'a>(sets: &RelevantSets, m: MethodId, left: &'a Cell<u32>) -> Work<'a> {
+    let near = sets.rel(m).len().saturating_add(sets.loc(m).len());
+    Work::new(near.min(16) as u32, left)
 }
 
 /// What is wrong with a method line beside its method first, if anything is: its tree, then its steps, then its bound.
 pub(crate) fn line_verdict<F: Nodes>(
     alloc: Global,
+    left: &Cell<u32>,
     judge: &Judge<'_>,
     m: MethodId,
     method: &CoreMethod,
@@ -136,18 +148,20 @@ pub(crate) fn line_verdict<F: Nodes>(
     ensures { (id : ℕ) → IfOk result (IsLineVerdict (judge_program judge.now) (judge_rel judge.now) (judge_table judge.now) (judge_assignment judge.now) m
         (method_of method.now) (record { id = id; number = own; body = node word number (F.nodes premises) })) }
 {
-    let tree = own_tree(alloc, judge, own)?;
-    if !is_tabled(judge.sets.rel(m), &tree)? {
+    let work = work_for(judge.sets, m, left);
+    let tree = own_tree(alloc, work, judge, own)?;
+    if !is_tabled(work, judge.sets.rel(m), &tree)? {
         return Ok(Some(Wrong::Table { method: m.0 }));
     }
-    if !is_under(alloc, judge, method.requires_.as_slice(), number, own)? {
+    if !is_under(alloc, work, judge, method.requires_.as_slice(), number, own)? {
         return Ok(Some(Wrong::Step {
             method: m.0,
             node: 0,
         }));
     }
     let body = BodyPart::Stmt(&method.body);
-    if let End::Bad(node) = walk_node(alloc, judge, body, word, number, premises, 0)? {
+    let steps = Steps { judge, work };
+    if let End::Bad(node) = walk_node(alloc, &steps, body, word, number, premises, 0)? {
         return Ok(Some(Wrong::Step { method: m.0, node }));
     }
     if !is_bounded(&tree, method) {

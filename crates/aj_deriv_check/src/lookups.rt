@@ -8,6 +8,7 @@ ghost use Rattle.aj_core.specs.Views.{program_of};
 
 use crate::judge::Judge;
 use crate::values::{copied, leaf};
+use crate::work::Work;
 use aj_algebra::Basic;
 use aj_cond::Tree;
 use aj_core::CoreProgram;
@@ -30,25 +31,35 @@ pub(crate) fn line_number(lines: &[u32], m: MethodId) -> Option<u32>
 }
 
 /// The tree with this number; const where there is none.
-pub(crate) fn conclusion(alloc: Global, judge: &Judge<'_>, number: u32) -> Result<Tree, NoMemory>
+pub(crate) fn conclusion(
+    alloc: Global,
+    work: Work<'_>,
+    judge: &Judge<'_>,
+    number: u32,
+) -> Result<Tree, NoMemory>
     requires { AreCanonical (judge_table judge.now) }
     ensures known { IfOk result (λ r. IsCanonical (cond_of r)) }
     ensures value { IfOk result (λ r. (H : Held) → value_of (cond_of r) H ≡ judge_value judge.now number H) }
 {
     match tree_at(judge.table, number) {
-        Some(tree) => copied(alloc, tree),
+        Some(tree) => copied(alloc, work, tree),
         None => Ok(leaf(Basic::Const)),
     }
 }
 
 /// The tree of a method's line; const where there is none.
-pub(crate) fn assigned(alloc: Global, judge: &Judge<'_>, m: MethodId) -> Result<Tree, NoMemory>
+pub(crate) fn assigned(
+    alloc: Global,
+    work: Work<'_>,
+    judge: &Judge<'_>,
+    m: MethodId,
+) -> Result<Tree, NoMemory>
     requires { AreCanonical (judge_table judge.now) }
     ensures known { IfOk result (λ r. IsCanonical (cond_of r)) }
     ensures value { IfOk result (λ r. (H : Held) → value_of (cond_of r) H ≡ judge_assignment judge.now m H) }
 {
     match line_number(judge.lines, m) {
-        Some(number) => conclusion(alloc, judge, number),
+        Some(number) => conclusion(alloc, work, judge, number),
         None => Ok(leaf(Basic::Const)),
     }
 }

@@ -10,6 +10,7 @@ ghost use Rattle.aj_rules.specs.Effect.{after_stmt, held_under};
 ghost use Rattle.aj_deriv_check.specs.Judges.{call_name as call_name_of, local_name as local_name_of, named_set};
 
 use crate::values::{held_or, leaf};
+use crate::work::Work;
 use aj_algebra::Basic;
 use aj_cond::Tree;
 use aj_core::{CoreProgram, CoreStmt, path_of};
@@ -28,7 +29,13 @@ fn local_name(slot: u16, value: Option<&Path>, path: &Path) -> Option<Path>
 }
 
 /// The value of a tree before the final local with this slot was declared.
-fn before_local(alloc: Global, slot: u16, value: Option<&Path>, t: &Tree) -> Result<Tree, NoMemory>
+fn before_local(
+    alloc: Global,
+    work: Work<'_>,
+    slot: u16,
+    value: Option<&Path>,
+    t: &Tree,
+) -> Result<Tree, NoMemory>
     ensures known { IfOk result (λ r. IsCanonical (cond_of r)) }
     ensures value { IfOk result (λ r. (H : Held) →
         value_of (cond_of r) H ≡ value_of (cond_of t.now) (named_set (local_name_of slot (option_copied value.entry)) H)) }
@@ -36,10 +43,10 @@ fn before_local(alloc: Global, slot: u16, value: Option<&Path>, t: &Tree) -> Res
     match t {
         Tree::Leaf(basic) => Ok(leaf(*basic)),
         Tree::Test(path, a, b) => {
-            let held = before_local(alloc, slot, value, a)?;
-            let free = before_local(alloc, slot, value, b)?;
+            let held = before_local(alloc, work, slot, value, a)?;
+            let free = before_local(alloc, work, slot, value, b)?;
             let name = local_name(slot, value, path);
-            held_or(alloc, name.as_ref(), &held, &free)
+            held_or(alloc, work, name.as_ref(), &held, &free)
         }
     }
 }
@@ -48,6 +55,7 @@ fn before_local(alloc: Global, slot: u16, value: Option<&Path>, t: &Tree) -> Res
 #[tactic(auto, using(crate::proofs::NameLemmas::local_value))]
 pub(crate) fn before(
     alloc: Global,
+    work: Work<'_>,
     program: &CoreProgram,
     s: &CoreStmt,
     rest: Tree,
@@ -67,7 +75,7 @@ pub(crate) fn before(
         return Ok(rest);
     };
     let path = path_of(program, value);
-    before_local(alloc, *slot, path.as_ref(), &rest)
+    before_local(alloc, work, *slot, path.as_ref(), &rest)
 }
 
 /// Whether the list has the path.
@@ -96,6 +104,7 @@ fn call_name(
 /// The value of a callee's tree at the set that the callee begins with.
 pub(crate) fn at_call(
     alloc: Global,
+    work: Work<'_>,
     rel: &[Path],
     receiver: Option<&Path>,
     args: &[Option<Path>],
@@ -108,10 +117,10 @@ pub(crate) fn at_call(
     match t {
         Tree::Leaf(basic) => Ok(leaf(*basic)),
         Tree::Test(path, a, b) => {
-            let held = at_call(alloc, rel, receiver, args, a)?;
-            let free = at_call(alloc, rel, receiver, args, b)?;
+            let held = at_call(alloc, work, rel, receiver, args, a)?;
+            let free = at_call(alloc, work, rel, receiver, args, b)?;
             let name = call_name(rel, receiver, args, path);
-            held_or(alloc, name.as_ref(), &held, &free)
+            held_or(alloc, work, name.as_ref(), &held, &free)
         }
     }
 }
@@ -119,6 +128,7 @@ pub(crate) fn at_call(
 /// The value where each of a callee's required paths has a name here and is held, else error.
 pub(crate) fn with_required(
     alloc: Global,
+    work: Work<'_>,
     rel: &[Path],
     receiver: Option<&Path>,
     args: &[Option<Path>],
@@ -134,14 +144,19 @@ pub(crate) fn with_required(
     let Some((path, rest)) = required.split_first() else {
         return Ok(value);
     };
-    let later = with_required(alloc, rel, receiver, args, rest, value)?;
+    let later = with_required(alloc, work, rel, receiver, args, rest, value)?;
     let name = call_name(rel, receiver, args, path);
     let error = leaf(Basic::Error);
-    held_or(alloc, name.as_ref(), &later, &error)
+    held_or(alloc, work, name.as_ref(), &later, &error)
 }
 
 /// The value where each of these paths is held, else error.
-pub(crate) fn where_held(alloc: Global, required: &[Path], value: Tree) -> Result<Tree, NoMemory>
+pub(crate) fn where_held(
+    alloc: Global,
+    work: Work<'_>,
+    required: &[Path],
+    value: Tree,
+) -> Result<Tree, NoMemory>
     requires { IsCanonical (cond_of value) }
     ensures known { IfOk result (λ r. IsCanonical (cond_of r)) }
     ensures value { IfOk result (λ r. (H : Held) → value_of (cond_of r) H ≡
@@ -150,7 +165,7 @@ pub(crate) fn where_held(alloc: Global, required: &[Path], value: Tree) -> Resul
     let Some((path, rest)) = required.split_first() else {
         return Ok(value);
     };
-    let later = where_held(alloc, rest, value)?;
+    let later = where_held(alloc, work, rest, value)?;
     let error = leaf(Basic::Error);
-    held_or(alloc, Some(path), &later, &error)
+    held_or(alloc, work, Some(path), &later, &error)
 }

@@ -11,11 +11,13 @@ use crate::judge::Judge;
 use crate::line::line_verdict;
 use crate::parts::BodyPart;
 use crate::walk::{End, walk_node};
+use crate::work::MOST_WORK;
 use crate::wrong::Wrong;
 use aj_core::{CoreMethod, CoreProgram};
 use aj_deriv::Lines;
 use aj_paths::MethodId;
 use std::alloc::{AllocError as NoMemory, Global};
+use std::cell::Cell;
 
 /// Whether an id is this number.
 fn is_method(id: MethodId, m: u32) -> bool
@@ -95,11 +97,12 @@ pub(crate) fn lines<L: Lines>(alloc: Global, judge: &Judge<'_>, from: L) -> Resu
     requires canonical { AreCanonical (judge_table judge.now) }
     ensures { (table : List Cond) → AreLinesJudged judge.now (record { table = table; lines = L.lines from }) result }
 {
+    let left = Cell::new(MOST_WORK);
     let mut ahead = from;
     let mut rest = judge.program.methods();
     let mut m = 0;
     'methods: while let Some((method, others)) = rest.split_first() {
-        match next_verdict(alloc, judge, m, method, ahead) {
+        match next_verdict(alloc, &left, judge, m, method, ahead) {
             Ok(behind) => ahead = behind,
             Err(wrong) => return Err(wrong),
         }
@@ -112,6 +115,7 @@ pub(crate) fn lines<L: Lines>(alloc: Global, judge: &Judge<'_>, from: L) -> Resu
 /// The judgement of the first method line, which is that of this method, at this position; and the other lines.
 fn next_verdict<L: Lines>(
     alloc: Global,
+    left: &Cell<u32>,
     judge: &Judge<'_>,
     m: u32,
     method: &CoreMethod,
@@ -127,6 +131,7 @@ fn next_verdict<L: Lines>(
     };
     match line_verdict(
         alloc,
+        left,
         judge,
         MethodId(m),
         method,

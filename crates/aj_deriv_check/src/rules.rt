@@ -16,6 +16,7 @@ use crate::judge::Judge;
 use crate::lookups::{assigned, conclusion, required};
 use crate::names::{at_call, before, with_required};
 use crate::values::{held_or, join, leaf, seq, star, sync, then_basic};
+use crate::work::Work;
 use aj_algebra::Basic;
 use aj_cond::Tree;
 use aj_core::{CoreExpr, CoreProgram, CoreStmt, path_of};
@@ -24,7 +25,12 @@ use aj_rules::{Guard, guard_at};
 use std::alloc::{AllocError as NoMemory, Global};
 
 /// Premises one after another. Their number is that of a call's arguments at most, so the recursion isn't deep.
-fn sequence(alloc: Global, judge: &Judge<'_>, numbers: &[u32]) -> Result<Tree, NoMemory>
+fn sequence(
+    alloc: Global,
+    work: Work<'_>,
+    judge: &Judge<'_>,
+    numbers: &[u32],
+) -> Result<Tree, NoMemory>
     requires { AreCanonical (judge_table judge.now) }
     ensures known { IfOk result (λ r. IsCanonical (cond_of r)) }
     ensures value { IfOk result (λ r. (H : Held) → value_of (cond_of r) H ≡ in_sequence (map (judge_value judge.now) numbers.now) H) }
@@ -32,22 +38,29 @@ fn sequence(alloc: Global, judge: &Judge<'_>, numbers: &[u32]) -> Result<Tree, N
     let Some((number, others)) = numbers.split_first() else {
         return Ok(leaf(Basic::Const));
     };
-    let first = conclusion(alloc, judge, *number)?;
-    let rest = sequence(alloc, judge, others)?;
-    seq(alloc, &first, &rest)
+    let first = conclusion(alloc, work, judge, *number)?;
+    let rest = sequence(alloc, work, judge, others)?;
+    seq(alloc, work, &first, &rest)
 }
 
 /// A basic where there is a path and it is held, else another.
-fn held_or_else(alloc: Global, path: &Path, held: Basic, free: Basic) -> Result<Tree, NoMemory>
+fn held_or_else(
+    alloc: Global,
+    work: Work<'_>,
+    path: &Path,
+    held: Basic,
+    free: Basic,
+) -> Result<Tree, NoMemory>
     ensures known { IfOk result (λ r. IsCanonical (cond_of r)) }
     ensures value { IfOk result (λ r. (H : Held) → value_of (cond_of r) H ≡ (if H path.now then held else free)) }
 {
-    held_or(alloc, Some(path), &leaf(held), &leaf(free))
+    held_or(alloc, work, Some(path), &leaf(held), &leaf(free))
 }
 
 /// Reading or writing a field of this receiver.
 fn access(
     alloc: Global,
+    work: Work<'_>,
     program: &CoreProgram,
     receiver: &CoreExpr,
     field: FieldId,
@@ -63,11 +76,11 @@ fn access(
         Guard::Unnamed => Ok(leaf(Basic::Error)),
         Guard::WriteUnnamed if writes => Ok(leaf(Basic::Error)),
         Guard::WriteUnnamed => Ok(leaf(Basic::Atomic)),
-        Guard::Named(path) => held_or_else(alloc, &path, Basic::Mover, Basic::Error),
+        Guard::Named(path) => held_or_else(alloc, work, &path, Basic::Mover, Basic::Error),
         Guard::WriteNamed(path) if writes => {
-            held_or_else(alloc, &path, Basic::Atomic, Basic::Error)
+            held_or_else(alloc, work, &path, Basic::Atomic, Basic::Error)
         }
-        Guard::WriteNamed(path) => held_or_else(alloc, &path, Basic::Mover, Basic::Atomic),
+        Guard::WriteNamed(path) => held_or_else(alloc, work, &path, Basic::Mover, Basic::Atomic),
     }
 }
 
@@ -90,6 +103,7 @@ fn paths(
 #[tactic(auto, using(crate::proofs::NameLemmas::call_value, crate::proofs::NameLemmas::call_all))]
 fn call_by_paths(
     alloc: Global,
+    work: Work<'_>,
     judge: &Judge<'_>,
     callee: MethodId,
     receiver: Option<&Path>,
@@ -101,10 +115,11 @@ fn call_by_paths(
         call_of (judge_program judge.now) (judge_rel judge.now) (judge_assignment judge.now) callee (option_copied receiver.entry) args.now H) }
 {
     let rel = judge.sets.rel(callee);
-    let tree = assigned(alloc, judge, callee)?;
-    let value = at_call(alloc, rel, receiver, args, &tree)?;
+    let tree = assigned(alloc, work, judge, callee)?;
+    let value = at_call(alloc, work, rel, receiver, args, &tree)?;
     with_required(
         alloc,
+        work,
         rel,
         receiver,
         args,
@@ -116,6 +131,7 @@ fn call_by_paths(
 /// The last part of a call.
 fn call(
     alloc: Global,
+    work: Work<'_>,
     judge: &Judge<'_>,
     callee: MethodId,
     receiver: &CoreExpr,
@@ -128,12 +144,20 @@ fn call(
 {
     let receiver = path_of(judge.program, receiver);
     let args = paths(alloc, judge.program, args)?;
-    call_by_paths(alloc, judge, callee, receiver.as_ref(), args.as_slice())
+    call_by_paths(
+        alloc,
+        work,
+        judge,
+        callee,
+        receiver.as_ref(),
+        args.as_slice(),
+    )
 }
 
 /// The value of an expression's node.
 pub(crate) fn expr_rule(
     alloc: Global,
+    work: Work<'_>,
     judge: &Judge<'_>,
     e: &CoreExpr,
     numbers: &[u32],
@@ -153,26 +177,31 @@ pub(crate) fn expr_rule(
         | CoreExpr::Neg(_)
         | CoreExpr::Binary(_, _, _)
         | CoreExpr::And(_, _)
-        | CoreExpr::Or(_, _) => sequence(alloc, judge, numbers),
+        | CoreExpr::Or(_, _) => sequence(alloc, work, judge, numbers),
         CoreExpr::Get(receiver, field) => {
-            let parts = sequence(alloc, judge, numbers)?;
-            let access = access(alloc, judge.program, receiver, *field, false)?;
-            seq(alloc, &parts, &access)
+            let parts = sequence(alloc, work, judge, numbers)?;
+            let access = access(alloc, work, judge.program, receiver, *field, false)?;
+            seq(alloc, work, &parts, &access)
         }
         CoreExpr::Call(receiver, callee, args) => {
-            let parts = sequence(alloc, judge, numbers)?;
-            let call = call(alloc, judge, *callee, receiver, args.as_slice())?;
-            seq(alloc, &parts, &call)
+            let parts = sequence(alloc, work, judge, numbers)?;
+            let call = call(alloc, work, judge, *callee, receiver, args.as_slice())?;
+            seq(alloc, work, &parts, &call)
         }
         CoreExpr::New(_, _) => {
-            let parts = sequence(alloc, judge, numbers)?;
-            then_basic(alloc, &parts, Basic::Mover)
+            let parts = sequence(alloc, work, judge, numbers)?;
+            then_basic(alloc, work, &parts, Basic::Mover)
         }
     }
 }
 
 /// The condition, then either branch.
-fn choice(alloc: Global, judge: &Judge<'_>, numbers: &[u32]) -> Result<Tree, NoMemory>
+fn choice(
+    alloc: Global,
+    work: Work<'_>,
+    judge: &Judge<'_>,
+    numbers: &[u32],
+) -> Result<Tree, NoMemory>
     requires { AreCanonical (judge_table judge.now) }
     ensures known { IfOk result (λ r. IsCanonical (cond_of r)) }
     ensures value { IfOk result (λ r. (H : Held) → value_of (cond_of r) H ≡ choice_value (map (judge_value judge.now) numbers.now) H) }
@@ -186,15 +215,20 @@ fn choice(alloc: Global, judge: &Judge<'_>, numbers: &[u32]) -> Result<Tree, NoM
     let Some((second, _)) = others.split_first() else {
         return Ok(leaf(Basic::Const));
     };
-    let condition = conclusion(alloc, judge, *condition)?;
-    let first = conclusion(alloc, judge, *first)?;
-    let second = conclusion(alloc, judge, *second)?;
-    let either = join(alloc, &first, &second)?;
-    seq(alloc, &condition, &either)
+    let condition = conclusion(alloc, work, judge, *condition)?;
+    let first = conclusion(alloc, work, judge, *first)?;
+    let second = conclusion(alloc, work, judge, *second)?;
+    let either = join(alloc, work, &first, &second)?;
+    seq(alloc, work, &condition, &either)
 }
 
 /// The condition, then the body and the condition again, any number of times.
-fn repetition(alloc: Global, judge: &Judge<'_>, numbers: &[u32]) -> Result<Tree, NoMemory>
+fn repetition(
+    alloc: Global,
+    work: Work<'_>,
+    judge: &Judge<'_>,
+    numbers: &[u32],
+) -> Result<Tree, NoMemory>
     requires { AreCanonical (judge_table judge.now) }
     ensures known { IfOk result (λ r. IsCanonical (cond_of r)) }
     ensures value { IfOk result (λ r. (H : Held) → value_of (cond_of r) H ≡ loop_value (map (judge_value judge.now) numbers.now) H) }
@@ -205,15 +239,21 @@ fn repetition(alloc: Global, judge: &Judge<'_>, numbers: &[u32]) -> Result<Tree,
     let Some((body, _)) = bodies.split_first() else {
         return Ok(leaf(Basic::Const));
     };
-    let condition = conclusion(alloc, judge, *condition)?;
-    let body = conclusion(alloc, judge, *body)?;
-    let turn = seq(alloc, &body, &condition)?;
-    let turns = star(alloc, &turn)?;
-    seq(alloc, &condition, &turns)
+    let condition = conclusion(alloc, work, judge, *condition)?;
+    let body = conclusion(alloc, work, judge, *body)?;
+    let turn = seq(alloc, work, &body, &condition)?;
+    let turns = star(alloc, work, &turn)?;
+    seq(alloc, work, &condition, &turns)
 }
 
 /// A synchronized part.
-fn locked(alloc: Global, judge: &Judge<'_>, path: &Path, numbers: &[u32]) -> Result<Tree, NoMemory>
+fn locked(
+    alloc: Global,
+    work: Work<'_>,
+    judge: &Judge<'_>,
+    path: &Path,
+    numbers: &[u32],
+) -> Result<Tree, NoMemory>
     requires { AreCanonical (judge_table judge.now) }
     ensures known { IfOk result (λ r. IsCanonical (cond_of r)) }
     ensures value { IfOk result (λ r. (H : Held) → value_of (cond_of r) H ≡ lock_value path.now (map (judge_value judge.now) numbers.now) H) }
@@ -221,13 +261,14 @@ fn locked(alloc: Global, judge: &Judge<'_>, path: &Path, numbers: &[u32]) -> Res
     let Some((body, _)) = numbers.split_first() else {
         return Ok(leaf(Basic::Const));
     };
-    let body = conclusion(alloc, judge, *body)?;
-    sync(alloc, path, &body)
+    let body = conclusion(alloc, work, judge, *body)?;
+    sync(alloc, work, path, &body)
 }
 
 /// A statement of a block and then the rest of the block, from the rest's value.
 fn statement_and_rest(
     alloc: Global,
+    work: Work<'_>,
     judge: &Judge<'_>,
     s: &CoreStmt,
     number: u32,
@@ -239,14 +280,15 @@ fn statement_and_rest(
     ensures value { IfOk result (λ r. (H : Held) → value_of (cond_of r) H ≡
         seq_of (judge_value judge.now number H) (value_of (cond_of rest) (after_stmt (judge_program judge.now) (stmt_of s.now) H))) }
 {
-    let first = conclusion(alloc, judge, number)?;
-    let rest = before(alloc, judge.program, s, rest)?;
-    seq(alloc, &first, &rest)
+    let first = conclusion(alloc, work, judge, number)?;
+    let rest = before(alloc, work, judge.program, s, rest)?;
+    seq(alloc, work, &first, &rest)
 }
 
 /// The statements of a block, from the last to the first.
 fn block(
     alloc: Global,
+    work: Work<'_>,
     judge: &Judge<'_>,
     body: &[CoreStmt],
     numbers: &[u32],
@@ -260,7 +302,7 @@ fn block(
     let mut place = body.len().min(numbers.len());
     while place > 0 {
         place -= 1;
-        rest = statement_and_rest(alloc, judge, &body[place], numbers[place], rest)?;
+        rest = statement_and_rest(alloc, work, judge, &body[place], numbers[place], rest)?;
     }
     Ok(rest)
 }
@@ -268,6 +310,7 @@ fn block(
 /// The value of a statement's node.
 pub(crate) fn stmt_rule(
     alloc: Global,
+    work: Work<'_>,
     judge: &Judge<'_>,
     s: &CoreStmt,
     numbers: &[u32],
@@ -279,23 +322,23 @@ pub(crate) fn stmt_rule(
 {
     match s {
         CoreStmt::Empty => Ok(leaf(Basic::Const)),
-        CoreStmt::Block(body) => block(alloc, judge, body.as_slice(), numbers),
+        CoreStmt::Block(body) => block(alloc, work, judge, body.as_slice(), numbers),
         CoreStmt::Local { .. } | CoreStmt::SetVar(_, _) => {
-            let parts = sequence(alloc, judge, numbers)?;
-            then_basic(alloc, &parts, Basic::Mover)
+            let parts = sequence(alloc, work, judge, numbers)?;
+            then_basic(alloc, work, &parts, Basic::Mover)
         }
         CoreStmt::SetField(receiver, field, _) => {
-            let parts = sequence(alloc, judge, numbers)?;
-            let access = access(alloc, judge.program, receiver, *field, true)?;
-            seq(alloc, &parts, &access)
+            let parts = sequence(alloc, work, judge, numbers)?;
+            let access = access(alloc, work, judge.program, receiver, *field, true)?;
+            seq(alloc, work, &parts, &access)
         }
-        CoreStmt::Do(_, _) | CoreStmt::Return(_) => sequence(alloc, judge, numbers),
-        CoreStmt::If(_, _, _) => choice(alloc, judge, numbers),
-        CoreStmt::While(_, _) => repetition(alloc, judge, numbers),
-        CoreStmt::Sync(path, _) => locked(alloc, judge, path, numbers),
+        CoreStmt::Do(_, _) | CoreStmt::Return(_) => sequence(alloc, work, judge, numbers),
+        CoreStmt::If(_, _, _) => choice(alloc, work, judge, numbers),
+        CoreStmt::While(_, _) => repetition(alloc, work, judge, numbers),
+        CoreStmt::Sync(path, _) => locked(alloc, work, judge, path, numbers),
         CoreStmt::Print(_) | CoreStmt::Start(_) => {
-            let parts = sequence(alloc, judge, numbers)?;
-            then_basic(alloc, &parts, Basic::Atomic)
+            let parts = sequence(alloc, work, judge, numbers)?;
+            then_basic(alloc, work, &parts, Basic::Atomic)
         }
     }
 }

@@ -1,5 +1,5 @@
 //! Operations on trees, each with its value at every set of held paths. An operation whose work would pass a bound answers want of
-//! memory; `SMALL` and `MOST_DEPTH` are beyond all trees of methods with at most 16 near paths.
+//! memory.
 ghost use Rattle.std.specs.Prelude.{◌≡◌, ◌↔◌, true, IfOk, if◌then◌else◌};
 ghost use Rattle.std.specs.Option.{option_copied};
 ghost use Rattle.std.specs.List.{list_all};
@@ -11,17 +11,12 @@ ghost use Rattle.aj_algebra.specs.Values.{sync_of};
 ghost use Rattle.aj_cond.specs.Conditions.{cond_of, value_of, IsCanonical};
 ghost use Rattle.aj_rules.specs.Rules.{AtMost};
 
+use crate::work::{MOST_DEPTH, Work};
 use aj_algebra::{Algebra, Basic};
 use aj_cond::{Tree, Trees};
 use aj_paths::{Path, order};
 use std::alloc::{AllocError as NoMemory, Global};
 use std::cmp::Ordering;
-
-/// How many pairs of subtrees an operation may visit.
-const SMALL: u32 = 1 << 18;
-
-/// How deep it may go.
-const MOST_DEPTH: u32 = 512;
 
 /// What is left of `left` after a visit of the pairs of subtrees that an operation on two trees visits; `None` where it is too
 /// little, or the pairs go too deep.
@@ -57,10 +52,11 @@ fn visited(t: &Tree, u: &Tree, depth: u32, left: u32) -> Option<u32> {
     }
 }
 
-/// Want of memory, where an operation on the two trees would pass the bound.
-fn check_small(t: &Tree, u: &Tree) -> Result<(), NoMemory> {
-    match visited(t, u, MOST_DEPTH, SMALL) {
-        Some(_) => Ok(()),
+/// Want of memory, where an operation on the two trees would pass the bounds.
+fn check_small(work: Work<'_>, t: &Tree, u: &Tree) -> Result<(), NoMemory> {
+    let most = work.most();
+    match visited(t, u, MOST_DEPTH, most) {
+        Some(left) => work.charge(most.saturating_sub(left)),
         None => Err(NoMemory),
     }
 }
@@ -74,84 +70,90 @@ pub(crate) fn leaf(basic: Basic) -> Tree
 }
 
 /// A copy.
-pub(crate) fn copied(alloc: Global, t: &Tree) -> Result<Tree, NoMemory>
+pub(crate) fn copied(alloc: Global, work: Work<'_>, t: &Tree) -> Result<Tree, NoMemory>
     requires { IsCanonical (cond_of t.now) }
     ensures known { IfOk result (λ r. IsCanonical (cond_of r)) }
     ensures value { IfOk result (λ r. (H : Held) → value_of (cond_of r) H ≡ value_of (cond_of t.now) H) }
 {
-    check_small(t, t)?;
+    check_small(work, t, t)?;
     t.copy(alloc)
 }
 
 /// A copy, node by node.
-pub(crate) fn same_copy(alloc: Global, t: &Tree) -> Result<Tree, NoMemory>
+pub(crate) fn same_copy(alloc: Global, work: Work<'_>, t: &Tree) -> Result<Tree, NoMemory>
     ensures { IfOk result (λ r. cond_of r ≡ cond_of t.now) }
 {
-    check_small(t, t)?;
+    check_small(work, t, t)?;
     t.copy(alloc)
 }
 
 /// The first, then the second.
-pub(crate) fn seq(alloc: Global, t: &Tree, u: &Tree) -> Result<Tree, NoMemory>
+pub(crate) fn seq(alloc: Global, work: Work<'_>, t: &Tree, u: &Tree) -> Result<Tree, NoMemory>
     requires first { IsCanonical (cond_of t.now) }
     requires second { IsCanonical (cond_of u.now) }
     ensures known { IfOk result (λ r. IsCanonical (cond_of r)) }
     ensures value { IfOk result (λ r. (H : Held) →
         value_of (cond_of r) H ≡ seq_of (value_of (cond_of t.now) H) (value_of (cond_of u.now) H)) }
 {
-    check_small(t, u)?;
+    check_small(work, t, u)?;
     let mut trees = Trees::new();
     trees.seq(alloc, t, u)
 }
 
 /// Either of the two.
-pub(crate) fn join(alloc: Global, t: &Tree, u: &Tree) -> Result<Tree, NoMemory>
+pub(crate) fn join(alloc: Global, work: Work<'_>, t: &Tree, u: &Tree) -> Result<Tree, NoMemory>
     requires first { IsCanonical (cond_of t.now) }
     requires second { IsCanonical (cond_of u.now) }
     ensures known { IfOk result (λ r. IsCanonical (cond_of r)) }
     ensures value { IfOk result (λ r. (H : Held) →
         value_of (cond_of r) H ≡ join_of (value_of (cond_of t.now) H) (value_of (cond_of u.now) H)) }
 {
-    check_small(t, u)?;
+    check_small(work, t, u)?;
     let mut trees = Trees::new();
     trees.join(alloc, t, u)
 }
 
 /// Any number of times.
-pub(crate) fn star(alloc: Global, t: &Tree) -> Result<Tree, NoMemory>
+pub(crate) fn star(alloc: Global, work: Work<'_>, t: &Tree) -> Result<Tree, NoMemory>
     requires { IsCanonical (cond_of t.now) }
     ensures known { IfOk result (λ r. IsCanonical (cond_of r)) }
     ensures value { IfOk result (λ r. (H : Held) → value_of (cond_of r) H ≡ star_of (value_of (cond_of t.now) H)) }
 {
-    check_small(t, t)?;
+    check_small(work, t, t)?;
     let mut trees = Trees::new();
     trees.star(alloc, t)
 }
 
 /// Under the lock with this path.
-pub(crate) fn sync(alloc: Global, p: &Path, t: &Tree) -> Result<Tree, NoMemory>
+pub(crate) fn sync(alloc: Global, work: Work<'_>, p: &Path, t: &Tree) -> Result<Tree, NoMemory>
     requires { IsCanonical (cond_of t.now) }
     ensures known { IfOk result (λ r. IsCanonical (cond_of r)) }
     ensures value { IfOk result (λ r. (H : Held) → value_of (cond_of r) H ≡ sync_of p.now (value_of (cond_of t.now)) H) }
 {
-    check_small(t, t)?;
+    check_small(work, t, t)?;
     let mut trees = Trees::new();
     trees.sync(alloc, p, t)
 }
 
 /// A value, then a basic.
-pub(crate) fn then_basic(alloc: Global, t: &Tree, basic: Basic) -> Result<Tree, NoMemory>
+pub(crate) fn then_basic(
+    alloc: Global,
+    work: Work<'_>,
+    t: &Tree,
+    basic: Basic,
+) -> Result<Tree, NoMemory>
     requires { IsCanonical (cond_of t.now) }
     ensures known { IfOk result (λ r. IsCanonical (cond_of r)) }
     ensures value { IfOk result (λ r. (H : Held) → value_of (cond_of r) H ≡ seq_of (value_of (cond_of t.now) H) basic) }
 {
     let next = leaf(basic);
-    seq(alloc, t, &next)
+    seq(alloc, work, t, &next)
 }
 
 /// The first where there is a path and it is held, else the second.
 pub(crate) fn held_or(
     alloc: Global,
+    work: Work<'_>,
     name: Option<&Path>,
     t: &Tree,
     u: &Tree,
@@ -162,20 +164,20 @@ pub(crate) fn held_or(
     ensures value { IfOk result (λ r. (H : Held) → value_of (cond_of r) H ≡
         (if holds_at (option_copied name.entry) H then value_of (cond_of t.now) H else value_of (cond_of u.now) H)) }
 {
-    check_small(t, u)?;
+    check_small(work, t, u)?;
     let Some(path) = name else {
-        return copied(alloc, u);
+        return copied(alloc, work, u);
     };
     let mut trees = Trees::new();
     trees.held_or(alloc, path, t, u)
 }
 
 /// Whether the first is at most the second at every set.
-pub(crate) fn below(t: &Tree, u: &Tree) -> Result<bool, NoMemory>
+pub(crate) fn below(work: Work<'_>, t: &Tree, u: &Tree) -> Result<bool, NoMemory>
     requires first { IsCanonical (cond_of t.now) }
     requires second { IsCanonical (cond_of u.now) }
     ensures { IfOk result (λ b. (b ≡ true) ↔ ((H : Held) → AtMost (value_of (cond_of t.now) H) (value_of (cond_of u.now) H))) }
 {
-    check_small(t, u)?;
+    check_small(work, t, u)?;
     Ok(Trees::new().below(t, u))
 }

@@ -2,7 +2,6 @@
 use Rattle.std.proofs.Common.{◌≡◌, ◌∙◌, ap, map, subst}
 use Rattle.aj_cond.specs.Conditions.{cond_of}
 use Rattle.aj_core.specs.Views.{program_of}
-use Rattle.aj_deriv.specs.Books.{Book}
 use Rattle.aj_deriv.specs.Views.{lines_in}
 use Rattle.aj_deriv.proofs.TableLaws.{lines_are, at_some}
 use Rattle.aj_rules.specs.Near.{rel_of}

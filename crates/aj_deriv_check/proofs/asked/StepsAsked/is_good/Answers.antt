@@ -1,4 +1,4 @@
--- The two trees that are compared are the rule's value and the conclusion.
+-- The tree that is asked for is the conclusion's.
 use Rattle.std.proofs.Common.{ap, map, ◌∙◌}
 use Rattle.aj_cond.specs.Conditions.{cond_of, value_of}
 use Rattle.aj_deriv.specs.Derivations.{node}
@@ -7,15 +7,15 @@ use Rattle.aj_deriv_check.specs.Judges.{judge_assignment, judge_program, judge_r
 use Rattle.aj_deriv_check.specs.Rules.{rule_of}
 use Rattle.aj_deriv_check.specs.Walks.{part_of}
 use Rattle.aj_deriv_check.proofs.AskedLemmas.{step_is}
-use Rattle.aj_deriv_check.proofs.asked.JudgeAsked.is_good.Goals as goal
+use Rattle.aj_deriv_check.proofs.asked.StepsAsked.is_good.Goals as goal
 
 pub returns : goal.returns
 returns g c =
-    let j = c.args.self.now in
-    step_is c.below.result (value_of (cond_of c.in_ok-value.value)) (value_of (cond_of c.in_ok-conclusion.conclusion))
+    let j = c.args.self.now.judge.now in
+    step_is c.is_step.result (rule_of (judge_program j) (judge_rel j) (judge_assignment j) (part_of c.args.part) (map (judge_value j) c.as_slice.result.now))
+    (value_of (cond_of c.in_ok-conclusion.conclusion))
     (rule_at (judge_program j) (judge_rel j) (judge_value j) (judge_assignment j) (record { part = part_of c.args.part; at = node c.args._word c.args.number (g.F.Nodes.nodes c.args.premises) }))
     (judge_value j c.args.number)
-    (λ H. c.in_ok-value.ensures.value H
-    ∙ ap (λ vs. rule_of (judge_program j) (judge_rel j) (judge_assignment j) (part_of c.args.part) vs H) (ap (map (judge_value j)) c.as_slice.ensures.value ∙ c.in_ok-numbers.ensures (judge_value j)))
+    (λ H. ap (λ vs. rule_of (judge_program j) (judge_rel j) (judge_assignment j) (part_of c.args.part) vs H) (ap (map (judge_value j)) c.as_slice.ensures.value ∙ c.in_ok-numbers.ensures (judge_value j)))
     (λ H. c.in_ok-conclusion.ensures.value H)
-    c.below.ensures
+    c.is_step.ensures
