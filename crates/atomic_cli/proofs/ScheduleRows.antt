@@ -24,7 +24,7 @@ use Rattle.aj_steps.specs.Run.{run}
 use Rattle.aj_steps.specs.Units.{written_order}
 use Rattle.aj_serialise.specs.Rewritten.{IsRewritten}
 use Rattle.atomic_cli.proofs.Counts.{as_long}
-use Rattle.atomic_cli.specs.Schedules.{NoSchedule, NoRun, NoOrder, no_run as no_run_order, IsInput}
+use Rattle.atomic_cli.specs.Schedules.{NoSchedule, NoRun, NoOrder, IsInput}
 use Rattle.atomic_cli.specs.Run.{RunAnswer, no_source, no_schedule, no_run, ran}
 use Rattle.atomic_cli.specs.Serialise.{SerialiseAnswer, not_accepted, no_schedule as no_schedule_order, no_order, serialised}
 
@@ -64,10 +64,6 @@ unread_order file text source is accepted ended line told = no_schedule_order is
 pub refused_order : (file text : List ℕ) (source : Source) (s : List ℕ) → IsSourceOf file source → IsAccepted (program_of source.program) → IsSchedule text s
     → (ended : Ending) (line : List ℕ) → NoOrder (program_of source.program) s ended line → SerialiseAnswer file text ended line
 refused_order file text source s is accepted schedule ended line told = no_order is.0 (program_of source.program) s (the_input file text source s is schedule) accepted told
-
-pub stopped_order : (file text : List ℕ) (source : Source) (s : List ℕ) → IsSourceOf file source → IsAccepted (program_of source.program) → IsSchedule text s
-    → (ended : Ending) (line : List ℕ) → NoRun (program_of source.program) s ended line → SerialiseAnswer file text ended line
-stopped_order file text source s is accepted schedule ended line told = refused_order file text source s is accepted schedule ended line (no_run_order told)
 
 -- the states of one run are one
 same_state : (P : Program) (s : List ℕ) (q r : State) → run P s ≡ Some q → run P s ≡ Some r → q ≡ r

@@ -23,7 +23,7 @@ fn book(alloc: Global, trees: &str, nodes: &str, end: &str) -> Result<String, Fa
 }
 
 /// Books for `LOCKED`, each with the status and the text of `verify`.
-const BOOKS: [(&str, &str, &str, u8, &str); 13] = [
+const BOOKS: [(&str, &str, &str, u8, &str); 16] = [
     (TREES, NODES, END, 0, "verified\n"),
     (
         "(0 mover atomic)\n(0 mover error)\nmover\n",
@@ -97,7 +97,126 @@ const BOOKS: [(&str, &str, &str, u8, &str); 13] = [
         11,
         "book refused: method 1 node 0: shape\n",
     ),
+    (
+        TREES,
+        "(block 0 (sync 0 (block 1 (put 1 (this 2)))))\n",
+        END,
+        11,
+        "book refused: method 0 node 3: shape\n",
+    ),
+    (
+        "(7 mover atomic)\n(0 mover error)\nconst\n",
+        NODES,
+        END,
+        11,
+        "book refused: method 0: table\n",
+    ),
+    (
+        TREES,
+        NODES,
+        "method 0 0\n(block 0 (sync 0 (block 1 (put 1 (this 2) (lit 2)))))\nend\n",
+        11,
+        "book refused: method 1 node 0: shape\n",
+    ),
 ];
+
+/// Texts that are no books, each with the line of its first fault.
+const NO_BOOKS: [(&str, &str); 16] = [
+    ("", "book refused at byte 0: form\n"),
+    ("book", "book refused at byte 4: form\n"),
+    ("book 01\n", "book refused at byte 6: form\n"),
+    ("book 4294967296", "book refused at byte 5: form\n"),
+    ("book 4294967295", "book refused at byte 15: form\n"),
+    ("book 0\nmethod 0 0", "book refused at byte 16: form\n"),
+    (
+        "book 1\nconst\nmethod 4294967296",
+        "book refused at byte 20: form\n",
+    ),
+    (
+        "book 1\nconst\nmethod 0 1",
+        "book refused at byte 22: form\n",
+    ),
+    (
+        "book 1\nconst\nmethod 0 0\n(lit 1",
+        "book refused at byte 29: form\n",
+    ),
+    ("book 1\nend\n", "book refused at byte 8: form\n"),
+    ("book 1\nmethod 0 0\n", "book refused at byte 8: form\n"),
+    (
+        "book 1\n(65536 mover const)\nend\n",
+        "book refused at byte 8: form\n",
+    ),
+    (
+        "book 1\n(0 mover mover)\nend\n",
+        "book refused at byte 7: form\n",
+    ),
+    (
+        "book 1\n(1 (0 mover const) atomic)\nend\n",
+        "book refused at byte 7: form\n",
+    ),
+    (
+        "book 1\n(0 mover const) \nend\n",
+        "book refused at byte 22: form\n",
+    ),
+    (
+        "book 1\nconst\nmethod 0 0\n(lit 0)\nend\n\n",
+        "book refused at byte 36: form\n",
+    ),
+];
+
+#[test]
+fn texts_that_are_no_books_have_their_first_fault(rt: HostRuntime) -> Result<(), Fail> {
+    for (text, line) in NO_BOOKS {
+        expect(&rt, rt.alloc(), "verify", LOCKED, text, 11, line)?;
+    }
+    Ok(())
+}
+
+/// One method that calls another.
+const CALLS: &str = "class Main { void main() { this.f(); } void f() { } }";
+
+/// Books for `CALLS`, with the line of `verify`. A test of a callee's tree on a path that isn't relevant there counts as not held. All
+/// shapes come before the first step, and a body is compared with its method's tree at all sets.
+const CALLED: [(&str, u8, &str); 6] = [
+    (
+        "book 1\nconst\nmethod 0 0\n(block 0 (do 0 (call 0 (this 0))))\nmethod 1 0\n(block 0)\nend\n",
+        0,
+        "verified\n",
+    ),
+    (
+        "book 2\nconst\n(5 mover const)\nmethod 0 0\n(block 0 (do 0 (call 0 (this 0))))\nmethod 1 1\n(block 0)\nend\n",
+        11,
+        "book refused: method 1: table\n",
+    ),
+    (
+        "book 2\ncmpd\n(5 const mover)\nmethod 0 0\n(block 1 (do 1 (call 1 (this 1))))\nmethod 1 1\n(block 1)\nend\n",
+        11,
+        "book refused: method 0 node 2: step\n",
+    ),
+    (
+        "book 2\nconst\nmover\nmethod 0 0\n(block 0 (do 0 (call 0 (this 1))))\nmethod 1 0\n(block 0 (skip 0))\nend\n",
+        11,
+        "book refused: method 1 node 0: shape\n",
+    ),
+    (
+        "book 2\nconst\n(5 mover const)\nmethod 0 0\n(block 1 (do 0 (call 0 (this 0))))\nmethod 1 0\n(block 0)\nend\n",
+        11,
+        "book refused: method 0 node 0: step\n",
+    ),
+    (
+        "book 1\nconst\nmethod 0 0\n(block 0 (do 0 (call 0 (this 0))))\nend\n",
+        11,
+        "book refused: method 1 node 0: shape\n",
+    ),
+];
+
+#[test]
+fn faults_of_books_are_told_in_order(rt: HostRuntime) -> Result<(), Fail> {
+    for (text, status, line) in CALLED {
+        expect(&rt, rt.alloc(), "verify", CALLS, text, status, line)?;
+    }
+    Ok(())
+}
 
 #[test]
 fn verify_tells_what_is_wrong_first(rt: HostRuntime) -> Result<(), Fail> {

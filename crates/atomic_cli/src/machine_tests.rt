@@ -18,13 +18,13 @@ use std::alloc::Global;
 use std::process::Abort;
 use std::test::Fail;
 
-const COUNTER: &str =
+pub const COUNTER: &str =
     "class Cell { int v guarded_by this; atomic void inc() { synchronized (this) { this.v = this.v + 1; } } } \
     class W implements Runnable { final Cell c; W(Cell c) { this.c = c; } public void run() { this.c.inc(); } } \
     class Main { void main() { final Cell c = new Cell(); new Thread(new W(c)).start(); new Thread(new W(c)).start(); } }";
 
 /// The schedule that counts spell: so many entries of each thread in turn.
-fn schedule_of(alloc: Global, groups: &[(u32, u32)]) -> Result<Vec<u32>, Fail> {
+pub fn schedule_of(alloc: Global, groups: &[(u32, u32)]) -> Result<Vec<u32>, Fail> {
     let mut schedule = Vec::new(alloc);
     for (thread, count) in groups {
         for _ in 0..*count {
@@ -53,7 +53,7 @@ fn run_whole(
 }
 
 /// The well-formed source of a text.
-fn source_of<'a>(alloc: Global, text: &'a str) -> Result<Source<'a>, Fail>
+pub fn source_of<'a>(alloc: Global, text: &'a str) -> Result<Source<'a>, Fail>
     ensures { IfOk result (λ source. (file : List ℕ) × IsSourceOf file source) }
 {
     if text.len() > 262144 {
@@ -115,7 +115,7 @@ fn neighbours_change_places_where_they_may(rt: HostRuntime) -> Result<(), Fail> 
 }
 
 /// The book of the counter program, as `derive` writes it.
-const BOOK: &str =
+pub const BOOK: &str =
     "book 7\n(0 mover atomic)\n(0 mover error)\nconst\n(0.1 mover atomic)\ncmpd\nmover\natomic\nmethod 0 0\n\
     (block 0 (sync 0 (block 1 (put 1 (this 2) (bin 1 (get 1 (this 2)) (lit 2))))))\nmethod 1 3\n(block 3 (do 3 (call 3 (get 2 (this 2)))))\n\
     method 2 4\n(block 4 (local 5 (new 5)) (start 6 (new 5 (var 2))) (start 6 (new 5 (var 2))))\nend\n";
@@ -129,7 +129,7 @@ const WRITE_GUARDED_BOOK: &str =
     (block 0 (print 1 (get 2 (this 3))) (sync 0 (block 4 (put 5 (this 3) (lit 3)) (print 1 (get 2 (this 3))))))\nend\n";
 
 /// The checked program of a source and a good book of it.
-fn checked_of(alloc: Global, text: &str, book: &str) -> Result<Checked, Fail> {
+pub fn checked_of(alloc: Global, text: &str, book: &str) -> Result<Checked, Fail> {
     let source = source_of(alloc, text)?;
     if book.len() > 16777216 {
         return Err(Fail::new("a long book"));

@@ -7,9 +7,15 @@ mod check;
 mod command;
 mod derive_book;
 mod files;
+#[cfg(test)]
+mod large_tests;
+#[cfg(test)]
+mod library_tests;
 mod lines;
 #[cfg(test)]
 mod machine_tests;
+#[cfg(test)]
+mod nodes_tests;
 mod print;
 mod run;
 mod run_schedule;

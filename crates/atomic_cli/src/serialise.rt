@@ -1,27 +1,30 @@
 //! `serialise FILE SCHEDULE`.
 
-ghost use Rattle.std.specs.Prelude.{◌≡◌, ◌≤◌, ◌++◌, ℕ, List, length, MatchResult, IfOk};
+ghost use Rattle.std.specs.Prelude.{◌≡◌, ◌≤◌, ◌++◌, ℕ, List, Some, length, MatchResult, IfOk};
 ghost use Rattle.aj_compile.specs.IsCode.{IsCodeOf};
 ghost use Rattle.aj_core.specs.Core.{Program};
 ghost use Rattle.aj_core.specs.Typed.{IsTyped};
 ghost use Rattle.aj_core.specs.Views.{program_of};
+ghost use Rattle.aj_machine.specs.Standing.{StandsFor};
 ghost use Rattle.aj_rules.specs.Rules.{IsAccepted};
 ghost use Rattle.aj_schedule.specs.Comments.{commented};
 ghost use Rattle.aj_schedule.specs.Text.{IsSchedule};
 ghost use Rattle.aj_schedule.specs.Written.{written};
 ghost use Rattle.aj_serialise.specs.Rewritten.{IsRewritten, IsRefused};
 ghost use Rattle.aj_sources.specs.Refusals.{IsRight, Tells};
+ghost use Rattle.aj_state.specs.States.{State};
 ghost use Rattle.aj_state_report.specs.Schedules.{open_line};
+ghost use Rattle.aj_steps.specs.Run.{run};
 ghost use Rattle.atomic_cli.specs.Schedules.{NoOrder};
 ghost use Rattle.atomic_cli.specs.Serialise.{SerialiseAnswer};
 
-use crate::schedules::{refuse_stop, schedule_of, state_after};
+use crate::schedules::{refuse_stop, schedule_of};
 use aj_compile::{CodeTable, compile};
 use aj_core::CoreProgram;
 use aj_schedule::{add_comments, comment_laws, write_schedule};
-use aj_serialise::{SerialEnd, rewritten};
+use aj_serialise::{SerialEnd, Serialised, rewritten_with_machine};
 use aj_sources::{Ending, Refusal, accepted, read_source};
-use aj_state_report::open_text;
+use aj_state_report::{open_text, state_text};
 use std::alloc::{AllocError as NoMemory, Global};
 
 /// The refusal of a schedule that isn't rewritten, for this reason.
@@ -45,21 +48,23 @@ fn refuse_open(alloc: Global, thread: u32) -> Refusal
     }
 }
 
-/// The written order of a schedule of an accepted program.
-fn order_of(
+/// The written order of a schedule of an accepted program, and the machine that ran the schedule.
+fn order_of<'p>(
     alloc: Global,
-    program: &CoreProgram,
-    code: &CodeTable,
+    program: &'p CoreProgram,
+    code: &'p CodeTable,
     schedule: &[u32],
-) -> Result<Vec<u32>, Refusal>
+) -> Result<Serialised<'p>, Refusal>
     requires typed { IsTyped (program_of program.now) }
     requires accepted { IsAccepted (program_of program.now) }
     requires code { IsCodeOf (program_of program.now) code.now.code.items code.now.entry.items code.now.room.items }
     requires short { length schedule.now ≤ 200000 }
-    ensures { MatchResult result (λ order. IsRewritten (program_of program.now) schedule.now order.items) (IsRight (NoOrder (program_of program.now) schedule.now)) }
+    ensures order { MatchResult result (λ found. IsRewritten (program_of program.now) schedule.now found.order.items) (IsRight (NoOrder (program_of program.now) schedule.now)) }
+    ensures stands { IfOk result (λ found. (q : State) → run (program_of program.now) schedule.now ≡ Some q → StandsFor found.machine q) }
+    ensures program { IfOk result (λ found. found.machine.program ≡ program.now) }
 {
-    match rewritten(alloc, program, code, schedule) {
-        Ok(order) => Ok(order),
+    match rewritten_with_machine(alloc, program, code, schedule) {
+        Ok(found) => Ok(found),
         Err(end) => Err(refuse_end(alloc, end)),
     }
 }
@@ -85,8 +90,8 @@ pub fn serialise(alloc: Global, file: &[u8], text: &[u8]) -> Result<Vec<u8>, Ref
     accepted(alloc, &source)?;
     let schedule = schedule_of(alloc, text)?;
     let code = compile(alloc, &source.program)?;
-    let state = state_after(alloc, &source, &code, schedule.as_slice())?;
-    let order = order_of(alloc, &source.program, &code, schedule.as_slice())?;
-    let out = with_comments(alloc, order.as_slice(), state.as_bytes())?;
+    let found = order_of(alloc, &source.program, &code, schedule.as_slice())?;
+    let state = state_text(alloc, &source.table, &found.machine)?;
+    let out = with_comments(alloc, found.order.as_slice(), state.as_bytes())?;
     Ok(out)
 }

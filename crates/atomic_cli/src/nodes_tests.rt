@@ -1,0 +1,58 @@
+//! Equal conditional atomicities have equal numbers.
+
+ghost use Rattle.std.specs.Prelude.{IfOk};
+ghost use Rattle.aj_algebra.specs.Values.{Keeps};
+
+use aj_algebra::{Algebra, Basic};
+use aj_nodes::NodeTable;
+use aj_paths::Path;
+use std::alloc::{AllocError as NoMemory, Global};
+use std::test::Fail;
+
+/// A synchronized part on the path whose body is `Const`.
+fn synchronized<G: Algebra>(alloc: Global, algebra: &mut G, p: &Path) -> Result<G::A, NoMemory>
+    ensures known { IfOk result (λ r. G.IsKnown algebra.new r) }
+    ensures keeps { Keeps G.IsKnown G.value algebra.old algebra.new }
+{
+    let body = algebra.leaf(alloc, Basic::Const)?;
+    algebra.sync(alloc, p, &body)
+}
+
+/// `Const` where the path is held, else this basic.
+fn const_or<G: Algebra>(
+    alloc: Global,
+    algebra: &mut G,
+    p: &Path,
+    free: Basic,
+) -> Result<G::A, NoMemory>
+    ensures known { IfOk result (λ r. G.IsKnown algebra.new r) }
+    ensures keeps { Keeps G.IsKnown G.value algebra.old algebra.new }
+{
+    let held = algebra.leaf(alloc, Basic::Const)?;
+    let free = algebra.leaf(alloc, free)?;
+    algebra.held_or(alloc, p, &held, &free)
+}
+
+#[test]
+fn equal_values_have_equal_numbers(rt: HostRuntime) -> Result<(), Fail> {
+    let alloc = rt.alloc();
+    let lock = Path::of_root(1);
+    let mut nodes = NodeTable::new(alloc);
+    let part = synchronized(alloc, &mut nodes, &lock)?;
+    let equal = const_or(alloc, &mut nodes, &lock, Basic::Atomic)?;
+    assert!(rt; nodes.same_value(&part, &equal));
+    assert!(rt; part == equal);
+    Ok(())
+}
+
+#[test]
+fn other_values_have_other_numbers(rt: HostRuntime) -> Result<(), Fail> {
+    let alloc = rt.alloc();
+    let lock = Path::of_root(1);
+    let mut nodes = NodeTable::new(alloc);
+    let part = synchronized(alloc, &mut nodes, &lock)?;
+    let other = const_or(alloc, &mut nodes, &lock, Basic::Mover)?;
+    assert!(rt; !nodes.same_value(&part, &other));
+    assert!(rt; part != other);
+    Ok(())
+}
