@@ -1,6 +1,7 @@
 #!/bin/sh
-# must_not_compile.sh: a token that is kept after its source is gone must not compile. Makes that edit of a test in a
-# copy, and wants the borrow checker's refusal. Needs no proof, and takes half a minute.
+# must_not_compile.sh: a token that is kept after its source is gone must not compile, and neither must a node of a book
+# that is kept after the book's bytes. Makes each edit of a test in a copy, and wants the borrow checker's refusal. Needs no
+# proof, and takes a minute.
 set -eu
 top=$(cd "$(dirname "$0")/.." && pwd)
 copy=$(mktemp -d)
@@ -15,16 +16,24 @@ for crate in "$top"/crates/*; do
     done
 done
 cd "$copy/crates/atomic_cli"
-sed -i 's/^    drop(tokens);$/    drop(source);/' src/source_tests.rt
-if ! grep -q '^    drop(source);$' src/source_tests.rt; then
-    echo "the edit found no place"
-    exit 1
-fi
-rt try --test > "$copy/said" 2>&1 || true
-if grep -q 'error\[borrow-e0505\]' "$copy/said"; then
-    grep 'error\[borrow-e0505\]' "$copy/said"
-else
-    tail -5 "$copy/said"
-    echo "not refused by the borrow checker"
-    exit 1
-fi
+
+# refused FILE LINE LINES: with these lines in the place of that line of the file the tests aren't compiled.
+refused() {
+    cp "src/$1" "$copy/kept"
+    sed -i "s/^    $2\$/    $3/" "src/$1"
+    if cmp -s "src/$1" "$copy/kept"; then
+        echo "the edit of $1 found no place"
+        exit 1
+    fi
+    rt try --test > "$copy/said" 2>&1 || true
+    cp "$copy/kept" "src/$1"
+    if grep -q 'error\[borrow-e0505\]' "$copy/said"; then
+        grep 'error\[borrow-e0505\]' "$copy/said"
+    else
+        tail -5 "$copy/said"
+        echo "the edit of $1 is not refused by the borrow checker"
+        exit 1
+    fi
+}
+refused source_tests.rt 'drop(tokens);' 'drop(source);'
+refused library_tests.rt 'let node = line.node;' 'let node = line.node;\n    drop(bytes);'
