@@ -17,16 +17,9 @@ use Rattle.aj_classes.specs.Members.{class_names, field_names, method_names, par
 use Rattle.aj_classes.specs.Names.{texts_of}
 use Rattle.aj_classes.specs.Seen.{FieldData}
 use Rattle.aj_classes.specs.Table.{TableData, MethodData, param_of, fields_of, methods_of, all_fields, all_methods, table_of, slot_of, slot_title}
+use Rattle.aj_classes.proofs.Parts.{Each, each_both, nothing_at, mapped_at, each_at, before_mapped, and_then_of}
 
 -- ---- what holds of each name of a program holds of those that it declares
-
-abbrev Each : {A : Type 0} → (A → Type 0) → List A → Type 0
-Each P [] = Unit {0}
-Each P (x ∷ xs) = P x × Each P xs
-
-both : {A : Type 0} (P : A → Type 0) (xs ys : List A) → Each P xs → Each P ys → Each P (xs ++ ys)
-both P [] ys a b = b
-both P (x ∷ xs) ys a b = (a.0, both P xs ys a.1 b)
 
 left : {A : Type 0} (P : A → Type 0) (xs ys : List A) → Each P (xs ++ ys) → Each P xs
 left P [] ys a = tt
@@ -70,43 +63,21 @@ module _ (P : Name → Type 0) where
   fields_kept : (t : ProgramTree) → Each P (names_of_program t) → Each P (declared_fields t)
   fields_kept [] a = tt
   fields_kept (c ∷ cs) a =
-      both P (field_names c.members) (declared_fields cs) (own_fields_kept c.members (left P (names_of_class c) (names_of_program cs) a).1)
+      each_both P (field_names c.members) (declared_fields cs) (own_fields_kept c.members (left P (names_of_class c) (names_of_program cs) a).1)
       (fields_kept cs (right P (names_of_class c) (names_of_program cs) a))
 
   methods_kept : (t : ProgramTree) → Each P (names_of_program t) → Each P (declared_methods t)
   methods_kept [] a = tt
   methods_kept (c ∷ cs) a =
-      both P (method_names c.members) (declared_methods cs) (own_methods_kept c.members (left P (names_of_class c) (names_of_program cs) a).1).0
+      each_both P (method_names c.members) (declared_methods cs) (own_methods_kept c.members (left P (names_of_class c) (names_of_program cs) a).1).0
       (methods_kept cs (right P (names_of_class c) (names_of_program cs) a))
 
   all_params_kept : (t : ProgramTree) → Each P (names_of_program t) → Each (λ ps. Each P (param_names ps)) (declared_params t)
   all_params_kept [] a = tt
   all_params_kept (c ∷ cs) a =
-      both (λ ps. Each P (param_names ps)) (method_params c.members) (declared_params cs)
+      each_both (λ ps. Each P (param_names ps)) (method_params c.members) (declared_params cs)
       (own_methods_kept c.members (left P (names_of_class c) (names_of_program cs) a).1).1
       (all_params_kept cs (right P (names_of_class c) (names_of_program cs) a))
-
--- ---- elements of lists by their numbers
-
-nothing_at : {A : Type 0} (i : ℕ) (x : A) → slice_get [] i ≡ Some x → ⊥
-nothing_at i x e = let d : None ≡ Some x = e in cc
-
-mapped_at : {A B : Type 0} (f : A → B) (xs : List A) (i : ℕ) (x : A) → slice_get xs i ≡ Some x → slice_get (map f xs) i ≡ Some (f x)
-mapped_at f xs i x e = slice_get-map f xs i ∙ ap (option_map f) e
-
-each_at : {A : Type 0} (P : A → Type 0) (xs : List A) (i : ℕ) (x : A) → Each P xs → slice_get xs i ≡ Some x → P x
-each_at P [] i x a e = absurd (nothing_at i x e)
-each_at P (y ∷ ys) zero x a e = subst P (same_Some y x e) a.0
-each_at P (y ∷ ys) (suc i) x a e = each_at P ys i x a.1 e
-
-before_mapped : {A B : Type 0} (f : A → B) (xs : List A) (i : ℕ) (y : B) → slice_get (map f xs) i ≡ Some y → (x : A) × (slice_get xs i ≡ Some x) × (f x ≡ y)
-before_mapped f [] i y e = absurd (nothing_at i y e)
-before_mapped f (x ∷ xs) zero y e = (x, refl, same_Some (f x) y e)
-before_mapped f (x ∷ xs) (suc i) y e = before_mapped f xs i y e
-
-and_then : {A B : Type 0} (f : A → Option B) (o : Option A) (b : B) → option_and_then f o ≡ Some b → (a : A) × (o ≡ Some a) × (f a ≡ Some b)
-and_then f None b e = absurd (let d : None ≡ Some b = e in cc)
-and_then f (Some a) b e = (a, refl, e)
 
 -- ---- a text by its number
 
@@ -189,7 +160,7 @@ module _ (source : List ℕ) (tree : ProgramTree) (a : All (IsSliced source) (na
       → (params : List Param) × (slice_get (declared_params tree) k ≡ Some params) × IsDeclared source (param_names params) (slot - 1) text
   slot_declared k slot text above e =
       let names = texts_of (class_names tree) in
-      let m = and_then (slot_of slot) (slice_get (table_of tree).methods k) text e in
+      let m = and_then_of (slot_of slot) (slice_get (table_of tree).methods k) text e in
       let p = before_mapped (map (param_of names)) (declared_params tree) k m.0.params
       (ap (λ z. slice_get z k) (sym (params_are names 0 tree)) ∙ mapped_at (λ m. m.params) (all_methods names 0 tree) k m.0 m.1) in
       let behind : (slot == 0) ≡ false = grind (arith, nat_tests) in
@@ -203,4 +174,4 @@ module _ (source : List ℕ) (tree : ProgramTree) (a : All (IsSliced source) (na
       )
 
 pub this_declared : (t : TableData) (k : ℕ) (text : List ℕ) → slot_title t k 0 ≡ Some text → text ≡ codes "this"
-this_declared t k text e = let m = and_then (slot_of 0) (slice_get t.methods k) text e in sym (same_Some (codes "this") text m.2)
+this_declared t k text e = let m = and_then_of (slot_of 0) (slice_get t.methods k) text e in sym (same_Some (codes "this") text m.2)

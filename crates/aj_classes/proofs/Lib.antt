@@ -4,3 +4,4 @@ mod Titles
 mod Leasts
 mod Noting
 pub mod Declaring
+pub mod Parts

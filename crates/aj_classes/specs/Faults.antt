@@ -10,6 +10,7 @@ use Rattle.aj_faults.specs.declared.first.Place.{Place}
 use Rattle.aj_faults.specs.First.{IsFirst}
 use Rattle.aj_classes.specs.declared.fault.ClassFault.{ClassFault}
 use Rattle.aj_classes.specs.declared.fault.ClassFault.TheVariants.{Twice, UnknownClass, BadConstructor, NoMain, NoRun, TooMany, NoMemory}
+use Rattle.aj_classes.specs.Limits.{most_fields, most_parameters}
 use Rattle.aj_classes.specs.Names.{texts_of, has_text, repeats}
 use Rattle.aj_classes.specs.Members.{is_empty, class_names, field_names, method_names, param_names, finals_of, is_constructor, are_params_of, are_sets_of, is_entry, is_main}
 
@@ -32,14 +33,6 @@ type_faults is_class (Y.Class n) = if is_class n.text then [] else UnknownClass 
 abbrev pub result_faults : (List ℕ → Bool) → Option TypeName → List ClassFault
 result_faults is_class None = []
 result_faults is_class (Some ty) = type_faults is_class ty
-
--- how many parameters a method or a constructor may have
-abbrev pub most_parameters : ℕ
-most_parameters = 16
-
--- how many fields a class may have
-abbrev pub most_fields : ℕ
-most_fields = 32
 
 -- of parameters: a name again, an unknown type, one too many
 abbrev pub params_faults : (List ℕ → Bool) → List Param → List ClassFault

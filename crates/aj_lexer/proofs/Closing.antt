@@ -1,8 +1,8 @@
 -- Where the first `*/` of a text ends.
 use Rattle.std.proofs.Common.{◌≡◌, ℕ, suc, zero, ◌+◌, ◌<◌, ◌≤◌, ◌==◌, ◌&&◌, ◌||◌, Bool, true, false, List, [], ◌∷◌, ◌++◌, length, drop, take, ◌-◌, get_or, Some, None, Option, option_map, if◌then◌else◌, refl, ap, arith, drop-cons, sym, ◌∙◌, add-one, one-add, subst, eqb-true}
+use Rattle.std.proofs.lemmas.Bool.{and_parts, or_parts}
 use Rattle.std.proofs.lemmas.Grind.{common_steps}
 use Rattle.aj_lexer.specs.Pieces.{starts_close, closes, holds_close}
-use Rattle.aj_lexer.proofs.Numbers.{both}
 use Rattle.aj_lexer.specs.Reading.{close_end}
 
 pub close_step : (xs : List ℕ) (i : ℕ) → i < length xs
@@ -54,10 +54,6 @@ one_by true later n e = let p : 2 ≡ n = cc in omega arith
 one_by false None n e = absurd (cc)
 one_by false (Some m) n e = let p : 1 + m ≡ n = cc in omega arith
 
-pub neither : (a b : Bool) → (a || b) ≡ false → (a ≡ false) × (b ≡ false)
-neither true b h = absurd (cc)
-neither false b h = (refl, h)
-
 later_by : (here : Bool) (later : Option ℕ) (n : ℕ) → here ≡ false → (if here then Some 2 else option_map (λ n. 1 + n) later) ≡ Some n
     → (m : ℕ) × (later ≡ Some m) × (1 + m ≡ n)
 later_by true later n h e = absurd (cc)
@@ -69,7 +65,7 @@ pub close_after : (o after : List ℕ) (n : ℕ) → holds_close o ≡ false →
 close_after [] after n h e = omega arith
 close_after (c ∷ []) after n h e = one_by (starts_close (c ∷ after)) (close_end after) n e
 close_after (c ∷ d ∷ o) after n h e =
-    let b = neither (c == 42 && d == 47) (holds_close (d ∷ o)) h in
+    let b = or_parts (c == 42 && d == 47) (holds_close (d ∷ o)) h in
     let k = later_by (c == 42 && d == 47) (close_end ((d ∷ o) ++ after)) n b.0 e in
     let l = close_after (d ∷ o) after k.0 b.1 k.1 in
     let p = k.2 in omega arith
@@ -85,7 +81,7 @@ pub record CloseAt (xs : List ℕ) (n : ℕ) : Type 0 where
 
 at_here : (c d : ℕ) (cs : List ℕ) (n : ℕ) → (c == 42 && d == 47) ≡ true → n ≡ 2 → CloseAt (c ∷ d ∷ cs) n
 at_here c d cs n here e =
-    let b = both (c == 42) (d == 47) here in
+    let b = and_parts (c == 42) (d == 47) here in
     let l : d ≡ 47 = eqb-true d 47 b.1 in
     subst (CloseAt (c ∷ d ∷ cs)) (sym e) (record { within = omega arith; two = omega arith; closed = rw here refl; index = 1; ends = refl; last = l })
 

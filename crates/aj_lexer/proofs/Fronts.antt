@@ -1,5 +1,6 @@
 -- The front that is found is the longest piece that begins the text.
 use Rattle.std.proofs.Common.{◌≡◌, ℕ, suc, zero, ◌+◌, ◌<◌, ◌≤◌, ◌==◌, ◌&&◌, ◌||◌, nat_lt, Bool, true, false, cond, List, [], ◌∷◌, ◌++◌, inl, inr, length, take, drop, get_or, Some, None, Option, if◌then◌else◌, refl, ap, sym, ◌∙◌, subst, arith, eqb-true, one-add, length-append, eq-or-lt_of_le, IsUtf8, IsCharBoundary, take-append-drop}
+use Rattle.std.proofs.lemmas.Bool.{and_parts}
 use Rattle.std.proofs.lemmas.Bool.Decides.{nat_tests}
 use Rattle.std.proofs.lemmas.Grind.{common_steps}
 use Rattle.std.proofs.lemmas.List.Sums.{prefix_len-le-length, prefix_len_stops}
@@ -11,8 +12,8 @@ use Rattle.aj_lexer.specs.declared.pieces.Front.{Front}
 use Rattle.aj_lexer.specs.Pieces.{is_piece, is_blank, is_letter, is_digit, is_word_byte, is_in_line, is_sign, is_open_comment, signs, closes, holds_close}
 use Rattle.aj_lexer.specs.Reading.{front_of, close_end, block_by, block_front, slash_front, sign_front, front}
 use Rattle.aj_lexer.specs.Tokens.{Longest, NoPiece}
-use Rattle.aj_lexer.proofs.Numbers.{both, number_digits}
-use Rattle.aj_lexer.proofs.Sorts.{kind_of, kind_is, sign_facts, all_of, not_true, empty}
+use Rattle.aj_lexer.proofs.Numbers.{number_digits}
+use Rattle.aj_lexer.proofs.Sorts.{kind_of, kind_is, sign_facts, all_of, empty}
 use Rattle.aj_lexer.proofs.Closing.{close_none, closes_end, close_after, close_at, CloseAt}
 
 -- the first n bytes are the longest piece that begins the text, and a text may be cut there
@@ -29,12 +30,12 @@ is_ascii c = nat_lt c 128
 
 all_weaker : (p q : ℕ → Bool) → ((c : ℕ) → p c ≡ true → q c ≡ true) → (o : List ℕ) → list_all p o ≡ true → list_all q o ≡ true
 all_weaker p q f [] h = refl
-all_weaker p q f (c ∷ o) h = let b = both (p c) (list_all p o) h in rw (f c b.0) (all_weaker p q f o b.1)
+all_weaker p q f (c ∷ o) h = let b = and_parts (p c) (list_all p o) h in rw (f c b.0) (all_weaker p q f o b.1)
 
 ascii_at : (o : List ℕ) → list_all is_ascii o ≡ true → (i : ℕ) → get_or o i 0 < 128
 ascii_at [] h i = omega arith
-ascii_at (c ∷ o) h zero = let e = (both (is_ascii c) (list_all is_ascii o) h).0 in grind (arith, nat_tests)
-ascii_at (c ∷ o) h (suc i) = ascii_at o (both (is_ascii c) (list_all is_ascii o) h).1 i
+ascii_at (c ∷ o) h zero = let e = (and_parts (is_ascii c) (list_all is_ascii o) h).0 in grind (arith, nat_tests)
+ascii_at (c ∷ o) h (suc i) = ascii_at o (and_parts (is_ascii c) (list_all is_ascii o) h).1 i
 
 edge_ascii : (text : List ℕ) (n : ℕ) → n ≤ length text → list_all is_ascii (take n text) ≡ true → IsUtf8 text → IsCharBoundary text n
 edge_ascii text n w a u = IsCharBoundary-from_take text n u w (IsUtf8-from_ascii (take n text) (ascii_at (take n text) a))
@@ -53,7 +54,7 @@ run_all p (c ∷ cs) = run_by p c cs (p c) refl (run_all p cs)
 run_longest : (p : ℕ → Bool) (o after : List ℕ) → list_all p o ≡ true → length o ≤ prefix_len p (o ++ after)
 run_longest p [] after h = omega arith
 run_longest p (c ∷ o) after h =
-    let b = both (p c) (list_all p o) h in
+    let b = and_parts (p c) (list_all p o) h in
     let l = run_longest p o after b.1 in
     rw (b.0) (omega arith)
 
@@ -96,7 +97,7 @@ blanks_found c cs h =
     record {
       within = w;
       is = rw h (run_all is_blank cs);
-      longest = longest_by c cs Blanks (prefix_len is_blank cs) (λ o. rw h refl) (λ o after e is. run_bound is_blank cs o after e (both (is_blank c) (list_all is_blank o) is).1);
+      longest = longest_by c cs Blanks (prefix_len is_blank cs) (λ o. rw h refl) (λ o after e is. run_bound is_blank cs o after e (and_parts (is_blank c) (list_all is_blank o) is).1);
       edge = edge_ascii (c ∷ cs) (suc (prefix_len is_blank cs)) w (ascii_run is_blank c cs blank_ascii (blank_ascii c h));
     }
 
@@ -106,7 +107,7 @@ word_found c cs b h =
     record {
       within = w;
       is = rw h (run_all is_word_byte cs);
-      longest = longest_by c cs Word (prefix_len is_word_byte cs) (λ o. rw (b, h) refl) (λ o after e is. run_bound is_word_byte cs o after e (both (is_letter c) (list_all is_word_byte o) is).1);
+      longest = longest_by c cs Word (prefix_len is_word_byte cs) (λ o. rw (b, h) refl) (λ o after e is. run_bound is_word_byte cs o after e (and_parts (is_letter c) (list_all is_word_byte o) is).1);
       edge = edge_ascii (c ∷ cs) (suc (prefix_len is_word_byte cs)) w (ascii_run is_word_byte c cs word_ascii (letter_ascii c h));
     }
 
@@ -179,9 +180,6 @@ line_found cs = record {
 
 block_of : (o : List ℕ) → is_piece Comment (47 ∷ 42 ∷ o) ≡ true → closes o ≡ true
 block_of o h = h
-
-open_of : (o : List ℕ) → is_piece OpenComment (47 ∷ 42 ∷ o) ≡ true → holds_close o ≡ false
-open_of o h = not_true (holds_close o) h
 
 block_kinds : (o after : List ℕ) (n : ℕ) (holds : Bool) (its : Piece) → holds_close o ≡ holds → close_end (o ++ after) ≡ Some n
     → (if holds then Comment else OpenComment) ≡ its → is_piece its (47 ∷ 42 ∷ o) ≡ true → length o ≤ n

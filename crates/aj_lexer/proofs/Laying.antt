@@ -3,6 +3,7 @@ use Rattle.std.proofs.Common.{◌≡◌, ℕ, ◌+◌, ◌<◌, ◌≤◌, Bool,
 use Rattle.std.proofs.lemmas.List.Elements.{All-cons}
 use Rattle.std.proofs.Math.Seq.{drop-append_seam, take-append_seam}
 use Rattle.std.specs.Str.Parse.{digits_value}
+use Rattle.aj_lexer.specs.Limits.{greatest_literal, longest_word}
 use Rattle.aj_lexer.specs.declared.pieces.Piece.{Piece}
 use Rattle.aj_lexer.specs.declared.pieces.Piece.TheVariants.{Blanks, Comment, OpenComment, Word, Number, Sign}
 use Rattle.aj_lexer.specs.declared.tokens.Token.{Token}
@@ -22,8 +23,8 @@ gap_more : (kind : Piece) (bytes rest : List ℕ) (at : ℕ) → is_piece kind b
 gap_more Blanks bytes rest at is m g = after_blanks bytes rest is g
 gap_more Comment bytes rest at is m g = after_comment bytes rest is g
 gap_more OpenComment bytes rest at is m g = absurd (cc)
-gap_more Word bytes rest at is m g = absurd (word_means (nat_lt 64 (length bytes)) (word_kind bytes) (fault.NameTooLong at) m)
-gap_more Number bytes rest at is m g = absurd (word_means (nat_lt 2147483648 (digits_value 10 bytes)) (token.Number (digits_value 10 bytes)) (fault.LiteralTooLarge at) m)
+gap_more Word bytes rest at is m g = absurd (word_means (nat_lt longest_word (length bytes)) (word_kind bytes) (fault.NameTooLong at) m)
+gap_more Number bytes rest at is m g = absurd (word_means (nat_lt greatest_literal (digits_value 10 bytes)) (token.Number (digits_value 10 bytes)) (fault.LiteralTooLarge at) m)
 gap_more Sign bytes rest at is m g = absurd (cc)
 
 laid_more : (kind : Piece) (text bytes rest : List ℕ) (at : ℕ) (ts : List Token) → text ≡ bytes ++ rest → is_piece kind bytes ≡ true
@@ -88,8 +89,8 @@ no_bad_meaning : (kind : Piece) (bytes : List ℕ) (at : ℕ) → meaning kind b
 no_bad_meaning Blanks bytes at m = cc
 no_bad_meaning Comment bytes at m = cc
 no_bad_meaning OpenComment bytes at m = cc
-no_bad_meaning Word bytes at m = bad_means (nat_lt 64 (length bytes)) (word_kind bytes) (fault.NameTooLong at) m (λ e. cc)
-no_bad_meaning Number bytes at m = bad_means (nat_lt 2147483648 (digits_value 10 bytes)) (token.Number (digits_value 10 bytes)) (fault.LiteralTooLarge at) m (λ e. cc)
+no_bad_meaning Word bytes at m = bad_means (nat_lt longest_word (length bytes)) (word_kind bytes) (fault.NameTooLong at) m (λ e. cc)
+no_bad_meaning Number bytes at m = bad_means (nat_lt greatest_literal (digits_value 10 bytes)) (token.Number (digits_value 10 bytes)) (fault.LiteralTooLarge at) m (λ e. cc)
 no_bad_meaning Sign bytes at m = cc
 
 pub no_memory_fault : {text : List ℕ} {at : ℕ} {its : LexFault} → FaultFrom text at its → its ≡ fault.NoMemory → ⊥

@@ -13,9 +13,6 @@ pub record LexedTo (text rest : List ℕ) (at : ℕ) (so_far : List Token) : Typ
   pub tokens : (ts : List Token) → TokensFrom rest at ts → TokensFrom text 0 (so_far ++ ts)
   pub fault : (its : LexFault) → FaultFrom rest at its → FaultFrom text 0 its
 
-pub lexed_none : (text : List ℕ) → IsUtf8 text → LexedTo text text 0 []
-lexed_none text u = record { place = omega arith; utf8 = u; tokens = λ ts h. h; fault = λ its h. h }
-
 -- the tokens of a text are those of its first piece and those of the rest
 pub one_more : (text bytes rest : List ℕ) (at : ℕ) (means : Option TokenKind) (ts : List Token) → IsCut text at means bytes rest
     → TokensFrom rest (at + length bytes) ts → TokensFrom text at (tokens_of means bytes at ++ ts)

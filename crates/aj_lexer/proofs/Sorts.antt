@@ -1,16 +1,13 @@
 -- What the pieces of each kind begin with, so that no text is a piece of two kinds.
 use Rattle.std.proofs.Common.{◌≡◌, ℕ, ◌≤◌, ◌==◌, ◌&&◌, ◌||◌, not, nat_le, Bool, true, false, List, [], ◌∷◌, ◌⊎◌, inl, inr, length, bytes_eq, if◌then◌else◌, refl, sym, ◌∙◌, subst, arith, eqb-true}
+use Rattle.std.proofs.lemmas.Bool.{and_parts, or_cases, not-true}
 use Rattle.std.proofs.lemmas.Bool.Decides.{nat_tests}
 use Rattle.std.proofs.lemmas.Slice.Eq.{bytes_eq-Decides}
 use Rattle.std.specs.List.{list_all, list_any}
 use Rattle.aj_lexer.specs.declared.pieces.Piece.{Piece}
 use Rattle.aj_lexer.specs.declared.pieces.Piece.TheVariants.{Blanks, Comment, OpenComment, Word, Number, Sign}
 use Rattle.aj_lexer.specs.Pieces.{is_piece, is_blank, is_letter, is_digit, is_word_byte, is_in_line, is_sign, signs, closes, holds_close, starts_close}
-use Rattle.aj_lexer.proofs.Numbers.{both, number_digits}
-
-pub either : (a b : Bool) → (a || b) ≡ true → (a ≡ true) ⊎ (b ≡ true)
-either true b h = inl refl
-either false b h = inr h
+use Rattle.aj_lexer.proofs.Numbers.{number_digits}
 
 -- no blank, letter or digit
 abbrev pub is_mark : ℕ → Bool
@@ -24,8 +21,8 @@ is_good_sign (c ∷ o) = is_mark c && (nat_le (length o) 1 && (if c == 47 then l
 pub all_of : (test : List ℕ → Bool) (p : List ℕ) (all : List (List ℕ)) → list_all test all ≡ true → list_any (bytes_eq p) all ≡ true → test p ≡ true
 all_of test p [] a h = absurd (cc)
 all_of test p (x ∷ xs) a h =
-    let b = both (test x) (list_all test xs) a in
-    elim (either (bytes_eq p x) (list_any (bytes_eq p) xs) h) [
+    let b = and_parts (test x) (list_all test xs) a in
+    elim (or_cases (bytes_eq p x) (list_any (bytes_eq p) xs) h) [
       | inl e ↦ subst (λ y. test y ≡ true) (sym ((bytes_eq-Decides p x).0 e)) b.0
       | inr r ↦ all_of test p xs b.1 r
     ]
@@ -44,22 +41,18 @@ none_left : (o : List ℕ) → (length o == 0) ≡ true → o ≡ []
 none_left [] h = refl
 none_left (c ∷ o) h = absurd (let e : length (c ∷ o) ≡ 0 = eqb-true (length (c ∷ o)) 0 h in omega arith)
 
-pub not_true : (b : Bool) → not b ≡ true → b ≡ false
-not_true true h = absurd (cc)
-not_true false h = refl
-
 pub sign_facts : (c : ℕ) (o : List ℕ) → is_sign (c ∷ o) ≡ true → SignFacts c o
 sign_facts c o h =
-    let good = both (is_mark c) (nat_le (length o) 1 && (if c == 47 then length o == 0 else true)) (sign_is_good (c ∷ o) h) in
-    let m = both (not (is_blank c) && not (is_letter c)) (not (is_digit c)) good.0 in
-    let n = both (not (is_blank c)) (not (is_letter c)) m.0 in
-    let r = both (nat_le (length o) 1) (if c == 47 then length o == 0 else true) good.1 in
+    let good = and_parts (is_mark c) (nat_le (length o) 1 && (if c == 47 then length o == 0 else true)) (sign_is_good (c ∷ o) h) in
+    let m = and_parts (not (is_blank c) && not (is_letter c)) (not (is_digit c)) good.0 in
+    let n = and_parts (not (is_blank c)) (not (is_letter c)) m.0 in
+    let r = and_parts (nat_le (length o) 1) (if c == 47 then length o == 0 else true) good.1 in
     let le : nat_le (length o) 1 ≡ true = r.0 in
     let s : (if c == 47 then length o == 0 else true) ≡ true = r.1 in
     record {
-      blank = not_true (is_blank c) n.0;
-      letter = not_true (is_letter c) n.1;
-      digit = not_true (is_digit c) m.1;
+      blank = not-true (is_blank c) n.0;
+      letter = not-true (is_letter c) n.1;
+      digit = not-true (is_digit c) m.1;
       short = grind (arith, nat_tests);
       slash = λ e. none_left o (subst (λ b. (if b then length o == 0 else true) ≡ true) e s);
     }
@@ -90,9 +83,9 @@ comment_kind d o false false i j h = absurd (cc)
 
 open_kind : (d : ℕ) (o : List ℕ) → (d == 42 && not (holds_close o)) ≡ true → after_slash (d ∷ o) ≡ OpenComment
 open_kind d o h =
-    let b = both (d == 42) (not (holds_close o)) h in
+    let b = and_parts (d == 42) (not (holds_close o)) h in
     let e : d ≡ 42 = eqb-true d 42 b.0 in
-    rw (e, not_true (holds_close o) b.1) refl
+    rw (e, not-true (holds_close o) b.1) refl
 
 sign_kind : (c : ℕ) (o : List ℕ) (slash : Bool) → (c == 47) ≡ slash → ((c == 47) ≡ true → o ≡ []) → (if c == 47 then after_slash o else Sign) ≡ Sign
 sign_kind c o true e f = rw (e, f e) refl
@@ -100,22 +93,22 @@ sign_kind c o false e f = rw e refl
 
 pub kind_is : (kind : Piece) (p : List ℕ) → is_piece kind p ≡ true → kind_of p ≡ kind
 kind_is Blanks [] h = absurd (cc)
-kind_is Blanks (c ∷ o) h = rw ((both (is_blank c) (list_all is_blank o) h).0) refl
+kind_is Blanks (c ∷ o) h = rw ((and_parts (is_blank c) (list_all is_blank o) h).0) refl
 kind_is Comment [] h = absurd (cc)
 kind_is Comment (c ∷ []) h = absurd (cc)
 kind_is Comment (c ∷ d ∷ o) h =
-    let b = both (c == 47) ((d == 47 && list_all is_in_line o) || (d == 42 && closes o)) h in
+    let b = and_parts (c == 47) ((d == 47 && list_all is_in_line o) || (d == 42 && closes o)) h in
     let e : c ≡ 47 = eqb-true c 47 b.0 in
     rw e (comment_kind d o (d == 47) (d == 42) refl refl b.1)
 kind_is OpenComment [] h = absurd (cc)
 kind_is OpenComment (c ∷ []) h = absurd (cc)
 kind_is OpenComment (c ∷ d ∷ o) h =
-    let b = both (c == 47) (d == 42 && not (holds_close o)) h in
+    let b = and_parts (c == 47) (d == 42 && not (holds_close o)) h in
     let e : c ≡ 47 = eqb-true c 47 b.0 in
     rw e (open_kind d o b.1)
 kind_is Word [] h = absurd (cc)
 kind_is Word (c ∷ o) h =
-    let l = (both (is_letter c) (list_all is_word_byte o) h).0 in
+    let l = (and_parts (is_letter c) (list_all is_word_byte o) h).0 in
     let b : is_blank c ≡ false = grind (arith, nat_tests) in
     rw (b, l) refl
 kind_is Number [] h = absurd (cc)

@@ -8,6 +8,7 @@ use Rattle.aj_lexer.specs.declared.tokens.TokenKind.{TokenKind}
 use Rattle.aj_lexer.specs.declared.tokens.TokenKind.TheVariants as token
 use Rattle.aj_lexer.specs.declared.faults.LexFault.{LexFault}
 use Rattle.aj_lexer.specs.declared.faults.LexFault.TheVariants as fault
+use Rattle.aj_lexer.specs.Limits.{greatest_literal, longest_word}
 use Rattle.aj_lexer.specs.Pieces.{is_piece, is_word, is_number, is_sign}
 use Rattle.aj_lexer.specs.Reserved.{is_reserved}
 
@@ -21,7 +22,7 @@ pub record Longest (text bytes rest : List ℕ) (kind : Piece) : Type 0 where
 abbrev pub NoPiece : List ℕ → Type 0
 NoPiece text = (other after : List ℕ) (its : Piece) → text ≡ other ++ after → is_piece its other ≡ true → ⊥
 
--- what a word of at most 64 bytes is
+-- what a word that isn't too long is
 abbrev pub word_kind : List ℕ → TokenKind
 word_kind bytes = if is_reserved bytes then token.Word else token.Name
 
@@ -30,9 +31,9 @@ abbrev pub meaning : Piece → List ℕ → ℕ → Result (Option TokenKind) Le
 meaning piece.Blanks bytes at = Ok None
 meaning piece.Comment bytes at = Ok None
 meaning piece.OpenComment bytes at = Err (fault.OpenComment at)
-meaning piece.Word bytes at = if nat_lt 64 (length bytes) then Err (fault.NameTooLong at) else Ok (Some (word_kind bytes))
+meaning piece.Word bytes at = if nat_lt longest_word (length bytes) then Err (fault.NameTooLong at) else Ok (Some (word_kind bytes))
 meaning piece.Number bytes at =
-    if nat_lt 2147483648 (digits_value 10 bytes) then Err (fault.LiteralTooLarge at) else Ok (Some (token.Number (digits_value 10 bytes)))
+    if nat_lt greatest_literal (digits_value 10 bytes) then Err (fault.LiteralTooLarge at) else Ok (Some (token.Number (digits_value 10 bytes)))
 meaning piece.Sign bytes at = Ok (Some token.Sign)
 
 -- the bytes from an offset on have these tokens
@@ -82,7 +83,7 @@ Ascend from (t ∷ ts) = (from ≤ t.at) × (0 < length t.text) × Ascend (t.at 
 
 -- the bytes are the text of a token of this kind
 abbrev pub IsOfKind : TokenKind → List ℕ → Type 0
-IsOfKind token.Name bytes = (is_word bytes ≡ true) × (length bytes ≤ 64) × (is_reserved bytes ≡ false)
-IsOfKind token.Word bytes = (is_word bytes ≡ true) × (length bytes ≤ 64) × (is_reserved bytes ≡ true)
-IsOfKind (token.Number n) bytes = (is_number bytes ≡ true) × (n ≤ 2147483648) × (digits_value 10 bytes ≡ n)
+IsOfKind token.Name bytes = (is_word bytes ≡ true) × (length bytes ≤ longest_word) × (is_reserved bytes ≡ false)
+IsOfKind token.Word bytes = (is_word bytes ≡ true) × (length bytes ≤ longest_word) × (is_reserved bytes ≡ true)
+IsOfKind (token.Number n) bytes = (is_number bytes ≡ true) × (n ≤ greatest_literal) × (digits_value 10 bytes ≡ n)
 IsOfKind token.Sign bytes = is_sign bytes ≡ true

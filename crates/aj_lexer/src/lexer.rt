@@ -4,6 +4,7 @@ ghost use Rattle.std.specs.Prelude.{◌≡◌, ◌+◌, ◌<◌, ◌≤◌, ◌+
 ghost use Rattle.std.specs.Str.Parse.{digits_value};
 ghost use Rattle.aj_lexer.specs.declared.tokens.Token.{Token};
 ghost use Rattle.aj_lexer.specs.declared.faults.LexFault.{LexFault};
+ghost use Rattle.aj_lexer.specs.Limits.{greatest_literal, longest_source};
 ghost use Rattle.aj_lexer.specs.Pieces.{is_piece, is_number};
 ghost use Rattle.aj_lexer.specs.Reserved.{is_reserved};
 ghost use Rattle.aj_lexer.specs.Tokens.{word_kind, meaning, Tokens, FirstFault, FaultFrom, Longest};
@@ -14,8 +15,11 @@ use crate::pieces::{Front, Piece, find_front};
 use crate::tokens::{Token, TokenKind};
 use std::alloc::{AllocError as NoMemory, Global};
 
+/// How many bytes a source may have. Whoever reads a source sees to it.
+pub const LONGEST_SOURCE: u32 = 262_144;
+
 /// The greatest number that a source may write.
-const GREATEST_LITERAL: u32 = 2_147_483_648;
+pub const GREATEST_LITERAL: u32 = 2_147_483_648;
 
 /// How many bytes a word may have.
 const LONGEST_WORD: usize = 64;
@@ -104,7 +108,7 @@ fn is_reserved(word: &str) -> bool
 /// The number that the digits write, where it isn't too large.
 fn literal(digits: &str) -> Option<u32>
     requires { is_number digits.now ≡ true }
-    ensures { result ≡ (if nat_lt 2147483648 (digits_value 10 digits.now) then None else Some (digits_value 10 digits.now)) }
+    ensures { result ≡ (if nat_lt greatest_literal (digits_value 10 digits.now) then None else Some (digits_value 10 digits.now)) }
 {
     match digits.parse::<u32>() {
         Ok(value) => (value <= GREATEST_LITERAL).then_some(value),
@@ -161,7 +165,7 @@ fn split(text: &str, front: Front) -> (&str, &str)
 /// Cuts the longest piece from the start of a text.
 fn first_cut(text: &str, at: u32) -> Result<Cut<'_>, LexFault>
     requires some { 0 < length text.now }
-    requires small { length text.now ≤ 262144 }
+    requires small { length text.now ≤ longest_source }
     ensures cut { IfOk result (λ c. IsCut text.now at c.token c.piece.now c.rest.now) }
     ensures text { IfOk result (λ c. IsUtf8 c.rest.now) }
     ensures fault { IfErr result (FaultFrom text.now at) }
@@ -187,7 +191,7 @@ fn keep<'a>(tokens: &mut Vec<Token<'a>>, cut: &Cut<'a>, at: u32) -> Result<(), N
 
 /// Cuts a text from the left, piece by piece.
 fn cut_all<'a>(alloc: Global, text: &'a str) -> Result<Vec<Token<'a>>, LexFault>
-    requires { length text.now ≤ 262144 }
+    requires { length text.now ≤ longest_source }
     ensures tokens { IfOk result (λ ts. Tokens text.now ts.items) }
     ensures fault { IfErr result (λ e. (e ≡ LexFault.NoMemory) ⊎ FirstFault text.now e) }
 {
@@ -207,7 +211,7 @@ fn cut_all<'a>(alloc: Global, text: &'a str) -> Result<Vec<Token<'a>>, LexFault>
 /// Offsets count bytes from 0. Blanks and comments give no token. The text of each token is a slice of the source.
 /// Takes memory for the list alone, and time linear in the source.
 pub fn lex<'a>(alloc: Global, text: &'a str) -> Result<Vec<Token<'a>>, LexFault>
-    requires { length text.now ≤ 262144 }
+    requires { length text.now ≤ longest_source }
     ensures tokens { IfOk result (λ found. Tokens text.now found.items) }
     ensures tokens_given { (ts : List Token) → Tokens text.now ts → MatchResult result (λ found. found.items ≡ ts) (λ e. e ≡ LexFault.NoMemory) }
     ensures fault { IfErr result (λ e. (e ≡ LexFault.NoMemory) ⊎ FirstFault text.now e) }

@@ -11,7 +11,7 @@ mod utf8;
 
 pub use faults::LexFault;
 pub use laws::{token_laws, writing_laws};
-pub use lexer::lex;
+pub use lexer::{GREATEST_LITERAL, LONGEST_SOURCE, lex};
 pub use places::{Place, place_of};
 pub use tokens::{Token, TokenKind};
 pub use utf8::{NotText, utf8_text};

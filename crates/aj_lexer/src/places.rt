@@ -3,6 +3,7 @@
 ghost use Rattle.std.specs.Prelude.{◌≡◌, ◌+◌, ◌≤◌, ◌==◌, not, length, count_by};
 ghost use Rattle.std.specs.List.{suffix_len};
 ghost use Rattle.aj_lexer.specs.Places.{is_line_feed, line_of, column_of};
+ghost use Rattle.aj_lexer.specs.Limits.{longest_source};
 
 use std::fmt;
 
@@ -39,7 +40,7 @@ fn last_line(bytes: &[u8]) -> usize
 
 /// The place of the byte at an offset, or of the end of the text. A line ends with LF alone.
 pub fn place_of(text: &str, at: u32) -> Place
-    requires small { length text.now ≤ 262144 }
+    requires small { length text.now ≤ longest_source }
     requires within { at ≤ length text.now }
     ensures line { result.line ≡ line_of text.now at }
     ensures column { result.column ≡ column_of text.now at }

@@ -2,6 +2,7 @@
 
 ghost use Rattle.std.specs.Prelude.{◌≡◌, ◌≤◌, ◌↔◌, length, IsUtf8, IsOk, IfOk, IfErr};
 ghost use Rattle.std.specs.Str.{IsValidUpTo};
+ghost use Rattle.aj_lexer.specs.Limits.{longest_source};
 
 use thiserror::Error;
 
@@ -14,7 +15,7 @@ pub struct NotText {
 
 /// The bytes as a text, where they are UTF-8.
 pub fn utf8_text(bytes: &[u8]) -> Result<&str, NotText>
-    requires { length bytes.now ≤ 262144 }
+    requires { length bytes.now ≤ longest_source }
     ensures exact { IsOk result ↔ IsUtf8 bytes.now }
     ensures same { IfOk result (λ text. text.now ≡ bytes.now) }
     ensures longest { IfErr result (λ e. IsValidUpTo bytes.now e.at) }

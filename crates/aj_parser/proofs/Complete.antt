@@ -1,7 +1,8 @@
 -- What is spelled is read: expressions.
 use Rattle.std.proofs.Common.{◌≡◌, ◌≢◌, ℕ, zero, suc, ◌<◌, ◌≤◌, ◌+◌, ◌-◌, ◌==◌, ◌||◌, nat_lt, Bool, true, false, List, [], ◌∷◌, ◌++◌, Option, Some, Ok, Err, refl, sym, ◌∙◌, ap, subst, append_assoc, append-nil, arith, if◌then◌else◌, is_some}
-use Rattle.std.proofs.lemmas.Bool.{eqb-true, ltb-false, eq-eqb, ne_eqb, lt-ltb}
+use Rattle.std.proofs.lemmas.Bool.{eqb-true, ltb-false, eq-eqb, ne_eqb, lt-ltb, cond-false, cond-true}
 use Rattle.aj_lexer.specs.declared.tokens.Token.{Token}
+use Rattle.aj_lexer.specs.Limits.{greatest_literal}
 use Rattle.aj_syntax.specs.declared.terminal.Terminal.{Terminal}
 use Rattle.aj_syntax.specs.declared.terminal.Terminal.TheVariants as T
 use Rattle.aj_syntax.specs.declared.tree.Name.{Name}
@@ -17,7 +18,8 @@ use Rattle.aj_parser.proofs.Lists.{shift}
 use Rattle.aj_parser.proofs.LoopLaw.{loop_done, loop_more}
 use Rattle.aj_parser.proofs.Loops.{below_law, member_more, member_done, chain_positive, argument_takes}
 use Rattle.aj_parser.specs.Combine.{Res, ◌>>=◌, starts, first, when, take_one, loop, comma_step, allow}
-use Rattle.aj_parser.specs.Reading.{is_number, is_least, op_of, op_at, an_op, is_op, begins_expression, field_name, leaf, arguments, call_arguments, new_rest, parenthesised, primary, member_rest, member_step, dots, postfix, negated, unary, op_step, chain_with, chain_at, below}
+use Rattle.aj_parser.specs.Words.{is_number, is_least, op_of, op_at, an_op, is_op, field_name}
+use Rattle.aj_parser.specs.Expressions.{begins_expression, leaf, arguments, call_arguments, new_rest, parenthesised, primary, member_rest, member_step, dots, postfix, negated, unary, op_step, chain_with, chain_at, below}
 use Rattle.aj_parser.specs.declared.stop.Fault.TheVariants as F
 
 -- an answer that is too deep
@@ -65,15 +67,15 @@ at_list p e g = same_along (ap p e) g
 
 -- the first tokens of what is spelled
 
-starts_append : (test : Token → Bool) (zs ts f : List Token) (v : Bool) → zs ≡ ts → starts test (ts ++ f) ≡ v → starts test (zs ++ f) ≡ v
+pub starts_append : (test : Token → Bool) (zs ts f : List Token) (v : Bool) → zs ≡ ts → starts test (ts ++ f) ≡ v → starts test (zs ++ f) ≡ v
 starts_append test zs ts f v e h = ap (λ z. starts test (z ++ f)) e ∙ h
 
-number_small : (n : ℕ) → n < 2147483648 → nat_lt n 2147483648 ≡ true
-number_small n h = lt-ltb n 2147483648 h
+number_small : (n : ℕ) → n < greatest_literal → nat_lt n greatest_literal ≡ true
+number_small n h = lt-ltb n greatest_literal h
 
 -- a test that answers alike at each token that may begin a postfix
 module _ (test : Token → Bool) (v : Bool)
-    (number : (n : ℕ) (text : List ℕ) (at : ℕ) → n < 2147483648 → test (number_token n text at) ≡ v)
+    (number : (n : ℕ) (text : List ℕ) (at : ℕ) → n < greatest_literal → test (number_token n text at) ≡ v)
     (name : (n : Name) → test (name_token n) ≡ v)
     (yes : (d : ℕ) → test (token T.True d) ≡ v) (no : (d : ℕ) → test (token T.False d) ≡ v)
     (null : (d : ℕ) → test (token T.Null d) ≡ v) (this : (d : ℕ) → test (token T.This d) ≡ v)
@@ -120,7 +122,7 @@ module _ (test : Token → Bool) (v : Bool)
 abbrev pub Foreign : Terminal → Type 0
 Foreign t = (e : ExprTree) (zs f : List Token) → Spells e zs → starts (is t) (zs ++ f) ≡ false
 
-begins_number : (n : ℕ) (text : List ℕ) (at : ℕ) → n < 2147483648 → begins_expression (number_token n text at) ≡ true
+begins_number : (n : ℕ) (text : List ℕ) (at : ℕ) → n < greatest_literal → begins_expression (number_token n text at) ≡ true
 unfolding begins_expression
 begins_number n text at h = let g : Bool → Option (ℕ × ℕ) = λ b. when b (n, at) in ap (λ b. is_some (g b) || false || false || false || false || false) (number_small n h)
 
@@ -135,7 +137,7 @@ pub no_semicolon : Foreign T.Semicolon
 no_semicolon = expression_first (is T.Semicolon) false (λ n text at h. refl) (λ n. refl) (λ d. refl) (λ d. refl) (λ d. refl) (λ d. refl) (λ d. refl) (λ d. refl) (λ d. refl) (λ d. refl)
 
 no_least : (e : ExprTree) (zs f : List Token) → Spells e zs → starts is_least (zs ++ f) ≡ false
-no_least = expression_first is_least false (λ n text at h. let k : n ≢ 2147483648 = omega (arith, h) in ne_eqb n 2147483648 k) (λ n. refl) (λ d. refl) (λ d. refl) (λ d. refl) (λ d. refl) (λ d. refl) (λ d. refl) (λ d. refl) (λ d. refl)
+no_least = expression_first is_least false (λ n text at h. let k : n ≢ greatest_literal = omega (arith, h) in ne_eqb n greatest_literal k) (λ n. refl) (λ d. refl) (λ d. refl) (λ d. refl) (λ d. refl) (λ d. refl) (λ d. refl) (λ d. refl) (λ d. refl)
 
 no_bang : (e : ExprTree) (zs f : List Token) → Spells e zs → is_postfix e ≡ true → starts (is T.Bang) (zs ++ f) ≡ false
 no_bang = postfix_first (is T.Bang) false (λ n text at h. refl) (λ n. refl) (λ d. refl) (λ d. refl) (λ d. refl) (λ d. refl) (λ d. refl) (λ d. refl)
@@ -266,19 +268,11 @@ pub record Reads (e : ExprTree) : Type 0 where
   pub unary : UnaryRead e
   pub op : (k : ℕ) → k < 6 → OpReadAt k e
 
-if_false : {B : Type 0} (b : Bool) (x y : B) → b ≡ false → (if b then x else y) ≡ y
-if_false true x y h = cc
-if_false false x y h = refl
-
-if_true : {B : Type 0} (b : Bool) (x y : B) → b ≡ true → (if b then x else y) ≡ x
-if_true true x y h = refl
-if_true false x y h = cc
-
 -- a postfix is a unary
 pub from_postfix : (e : ExprTree) → is_postfix e ≡ true → PostfixRead e → UnaryRead e
 unfolding unary dots
 from_postfix e p r l h some xs f s c =
-    same_along (if_false (starts (is T.Bang) (xs ++ f)) _ _ (no_bang e xs f s p) ∙ if_false (starts (is T.Minus) (xs ++ f)) _ _ (no_minus e xs f s p))
+    same_along (cond-false (starts (is T.Bang) (xs ++ f)) _ _ (no_bang e xs f s p) ∙ cond-false (starts (is T.Minus) (xs ++ f)) _ _ (no_minus e xs f s p))
     (same_then (r p h some xs f s c.open_paren) (member_done h e f c.dot))
 
 -- a tree climbs from its own level to any higher one
@@ -309,7 +303,7 @@ climb e u own (suc k) small h some xs f s l c =
 pub reads_at : (e : ExprTree) → Reads e → (h k : ℕ) → k ≤ 6 → (xs f : List Token) → Level k xs e → Calm k f → Same (height e ≤ h) (chain_at h k (xs ++ f)) (Ok (e, f))
 unfolding chain_with chain_at
 reads_at e r zero k small xs f l c =
-    same_along (if_true (starts begins_expression (xs ++ f)) _ _ (expression_begins e xs f l.0)) (deep refl (λ q. let p = height_some e in omega (arith, p, q)))
+    same_along (cond-true (starts begins_expression (xs ++ f)) _ _ (expression_begins e xs f l.0)) (deep refl (λ q. let p = height_some e in omega (arith, p, q)))
 reads_at e r (suc h) zero small xs f l c = same_along (chain_positive (suc h) 0 (omega arith) (xs ++ f)) (r.unary (omega (arith, l.1)) (suc h) (omega arith) xs f l.0 c)
 reads_at e r (suc h) (suc k) small xs f l c =
     same_along (chain_positive (suc h) (suc k) (omega arith) (xs ++ f))
@@ -367,15 +361,15 @@ from_read e p z r = record { postfix = r; unary = from_postfix e p r; op = climb
 from_unary : (e : ExprTree) → is_postfix e ≡ false → loose e ≡ 0 → UnaryRead e → Reads e
 from_unary e p z u = record { postfix = λ q. cc; unary = u; op = climb e u (binary_none e z) }
 
-number_starts : (n : ℕ) (text : List ℕ) (at : ℕ) → n < 2147483648 → is_number (number_token n text at) ≡ true
+number_starts : (n : ℕ) (text : List ℕ) (at : ℕ) → n < greatest_literal → is_number (number_token n text at) ≡ true
 number_starts n text at h = let g : Bool → Option (ℕ × ℕ) = λ b. when b (n, at) in ap (λ b. is_some (g b)) (number_small n h)
 
-number_leaf : (n : ℕ) (text : List ℕ) (at : ℕ) (f : List Token) → n < 2147483648 → leaf (number_token n text at ∷ f) ≡ Ok (NumberE n at, f)
+number_leaf : (n : ℕ) (text : List ℕ) (at : ℕ) (f : List Token) → n < greatest_literal → leaf (number_token n text at ∷ f) ≡ Ok (NumberE n at, f)
 unfolding leaf
 number_leaf n text at f h =
     let x = number_token n text at in
     let g : Bool → Option (ℕ × ℕ) = λ b. when b (n, at) in
-    if_true (is_number x) _ _ (number_starts n text at h) ∙ ap (λ b. first (λ x. g b) (x ∷ f) >>= λ n ts. Ok (NumberE n.0 n.1, ts)) (number_small n h)
+    cond-true (is_number x) _ _ (number_starts n text at h) ∙ ap (λ b. first (λ x. g b) (x ∷ f) >>= λ n ts. Ok (NumberE n.0 n.1, ts)) (number_small n h)
 
 read_number : (n at : ℕ) → PostfixRead (NumberE n at)
 unfolding postfix primary
@@ -462,7 +456,7 @@ args_some e es r m h some ys f c s =
     let p : List Token → Res ExprTrees = λ ts. arguments h (below h) ts >>= λ es ts. Ok (exprs_from es, ts) in
     at_list p (ap (λ z. z ++ end1) s.4 ∙ append_assoc s.0 s.1 end1)
     (same_bind {low2 = heights (more_exprs e es) < h} (λ es ts. Ok (exprs_from es, ts)) (λ q. q) (λ q. q)
-    (same_along (if_false (starts (is T.CloseParen) (s.0 ++ (s.1 ++ end1))) _ _ (no_close e s.0 (s.1 ++ end1) s.2))
+    (same_along (cond-false (starts (is T.CloseParen) (s.0 ++ (s.1 ++ end1))) _ _ (no_close e s.0 (s.1 ++ end1) s.2))
     (same_bind {low2 = heights es < h} (λ x ts. loop (is T.Comma) (comma_step (below h 6)) (x ∷ []) ts) (λ q. omega (arith, q)) (λ q. omega (arith, q))
     (reads_any e r h some s.0 (s.1 ++ end1) s.2 (more_calm es s.1 f c s.3)) rest.2))
     (same (ap (λ z. Ok (more_exprs e z, end1)) rest.1)))
@@ -514,7 +508,7 @@ read_get e n r p h some xs f s c =
     (same_trans {low2 = height (GetE e n) ≤ h} (λ q. omega (arith, q)) (λ q. q) (r.postfix s.3 h some s.0 t s.2 refl)
     (same_along (member_more h some e t refl)
     (same_bind {low2 = height (GetE e n) ≤ h} (loop (is T.Dot) (member_step h (below h))) (λ q. q) (λ q. q)
-    (same_allow (nat_lt (height e) h) t (λ i q. not_lower (height e) h i q) (λ i. same (if_false (starts (is T.OpenParen) f) _ _ c)))
+    (same_allow (nat_lt (height e) h) t (λ i q. not_lower (height e) h i q) (λ i. same (cond-false (starts (is T.OpenParen) f) _ _ c)))
     (same refl))))
 
 read_call : (e : ExprTree) (n : Name) (es : ExprTrees) → Reads e → ArgsRead es → PostfixRead (CallE e n es)
@@ -544,7 +538,7 @@ read_neg : (e : ExprTree) (at : ℕ) → Reads e → UnaryRead (NegE e at)
 unfolding unary negated
 read_neg e at r l h some xs f s c =
     at_list (unary h (below h)) (ap (λ z. z ++ f) s.3)
-    (same_along (if_false (starts is_least (s.0 ++ f)) _ _ (no_least e s.0 f s.1))
+    (same_along (cond-false (starts is_least (s.0 ++ f)) _ _ (no_least e s.0 f s.1))
     (same_bind {low2 = height (NegE e at) ≤ h} (λ e ts. Ok (NegE e at, ts)) (λ q. omega (arith, q)) (λ q. q)
     (reads_below e r h 0 some (omega arith) s.0 f (s.1, omega (arith, s.2)) c) (same refl)))
 

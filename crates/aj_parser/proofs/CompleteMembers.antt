@@ -1,5 +1,7 @@
 -- What is spelled is read: members, classes and programs.
 use Rattle.std.proofs.Common.{◌≡◌, ℕ, ◌<◌, ◌≤◌, ◌+◌, ◌&&◌, not, Bool, true, false, List, [], ◌∷◌, ◌++◌, length, Option, Some, None, Ok, refl, sym, ◌∙◌, ap, subst, append_assoc, append-nil, arith, if◌then◌else◌, inl, inr}
+use Rattle.std.proofs.Math.Bool.{and-false, and-true}
+use Rattle.std.proofs.lemmas.Bool.{cond-false}
 use Rattle.aj_lexer.specs.declared.tokens.Token.{Token}
 use Rattle.aj_syntax.specs.declared.terminal.Terminal.{Terminal}
 use Rattle.aj_syntax.specs.declared.terminal.Terminal.TheVariants as T
@@ -9,6 +11,7 @@ use Rattle.aj_syntax.specs.declared.tree.TypeName.{TypeName}
 use Rattle.aj_syntax.specs.declared.tree.TypeName.TheVariants as Y
 use Rattle.aj_syntax.specs.Grammar.{SpellsStmts, SpellsLock, IsType, IsFlag, IsOptional, IsResultType, SpellsSet, SpellsGuard, SpellsField, SpellsRequires, SpellsBare, SpellsMember, SpellsRunnable, SpellsClass, Separates, Follows, Repeats, Wide}
 use Rattle.aj_syntax.specs.Heights.{stmt_heights, body_height, highest_member, highest_body}
+use Rattle.aj_syntax.specs.Limits.{most_height}
 use Rattle.aj_syntax.specs.Tokens.{is, token, name_token}
 use Rattle.aj_syntax.proofs.Fields.{final_field as final_tree, mutable_field as mutable_tree, each_field}
 use Rattle.aj_syntax.specs.Trees.{LockTree, StmtTrees, MethodTree, FieldTree, MemberTree, FieldM, CtorM, MethodM, ClassTree, ProgramTree}
@@ -20,15 +23,9 @@ use Rattle.aj_parser.proofs.LoopLaw.{loop_done, loop_more, Takes}
 use Rattle.aj_parser.proofs.MemberLoops.{param_takes, lock_takes, set_takes, member_takes, class_takes}
 use Rattle.aj_parser.proofs.Members.{ParamL, class_long}
 use Rattle.aj_parser.specs.Combine.{Res, ◌>>=◌, starts, first, take_one, flag, flagged, loop, several, separated, item_step, comma_step}
-use Rattle.aj_parser.specs.Reading.{a_name, field_name, lock, type_name, goes_on, block_at, param, param_list, params, required, method_rest, set, ctor_rest, guard, field_rest, typed_rest, final_field, result_type, plain_method, named_member, bare_member, member, runnable, class_at, program}
-
-if_false : {B : Type 0} (b : Bool) (x y : B) → b ≡ false → (if b then x else y) ≡ y
-if_false true x y h = cc
-if_false false x y h = refl
-
-if_true : {B : Type 0} (b : Bool) (x y : B) → b ≡ true → (if b then x else y) ≡ x
-if_true true x y h = refl
-if_true false x y h = cc
+use Rattle.aj_parser.specs.Words.{a_name, field_name, lock, type_name}
+use Rattle.aj_parser.specs.Statements.{goes_on, block_at}
+use Rattle.aj_parser.specs.Members.{param, param_list, params, required, method_rest, set, ctor_rest, guard, field_rest, typed_rest, final_field, result_type, plain_method, named_member, bare_member, member, runnable, class_at, program}
 
 -- terminals that may stand
 
@@ -53,14 +50,6 @@ type_first test v a b c (Y.Class n) x i = ap test i ∙ c n
 
 -- parameters
 
-and_false : (b : Bool) → b && false ≡ false
-and_false true = refl
-and_false false = refl
-
-and_true : (b : Bool) → b && true ≡ b
-and_true true = refl
-and_true false = refl
-
 make_param : Bool → TypeName → Name → Param
 make_param b ty n = record { is_final = b; ty = ty; name = n }
 
@@ -82,12 +71,12 @@ param_read true p zs f s =
     let t = s.1 ∷ name_token p.name ∷ f in
     let o = optional_read T.Final (λ d. refl) s.0 t s.3 (type_first (is T.Final) false (λ d. refl) (λ d. refl) (λ n. refl) p.ty s.1 s.4) in
     ap (λ z. param true (z ++ f)) s.5 ∙ ap (param true) (append_assoc s.0 (s.1 ∷ name_token p.name ∷ []) f) ∙ param_is true (s.0 ++ t) ∙ ap (param_tail true) o.1
-    ∙ param_tail_read true o.0 p.ty s.1 p.name f s.4 ∙ ap (λ z. Ok (make_param z p.ty p.name, f)) (and_false o.0 ∙ sym s.2)
+    ∙ param_tail_read true o.0 p.ty s.1 p.name f s.4 ∙ ap (λ z. Ok (make_param z p.ty p.name, f)) (and-false o.0 ∙ sym s.2)
 param_read false p zs f s =
     let t = s.1 ∷ name_token p.name ∷ f in
     ap (λ z. param false (z ++ f)) s.4 ∙ ap (param false) (append_assoc s.0 (s.1 ∷ name_token p.name ∷ []) f) ∙ param_is false (s.0 ++ t)
     ∙ ap (param_tail false) (flag_read T.Final (λ d. refl) p.is_final s.0 t s.2 (type_first (is T.Final) false (λ d. refl) (λ d. refl) (λ n. refl) p.ty s.1 s.3))
-    ∙ param_tail_read false p.is_final p.ty s.1 p.name f s.3 ∙ ap (λ z. Ok (make_param z p.ty p.name, f)) (and_true p.is_final)
+    ∙ param_tail_read false p.is_final p.ty s.1 p.name f s.3 ∙ ap (λ z. Ok (make_param z p.ty p.name, f)) (and-true p.is_final)
 
 -- parts with commas between them
 module _ {A : Type 0} (item : List Token → Res A) (P : A → List Token → Type 0) (takes : Takes (is T.Comma) (comma_step item)) (Fine : List Token → Type 0)
@@ -135,7 +124,7 @@ unfolding param_list
 param_list_read of_ctor [] zs f c s = ap (λ z. param_list of_ctor (z ++ (token T.CloseParen c ∷ f))) s
 param_list_read of_ctor (p ∷ ps) zs f c s =
     let end1 = token T.CloseParen c ∷ f in
-    if_false (starts (is T.CloseParen) (zs ++ end1)) _ _ (ap (λ z. starts (is T.CloseParen) (z ++ end1)) s.4 ∙ ap (starts (is T.CloseParen)) (append_assoc s.0 s.1 end1) ∙ param_first of_ctor p s.0 (s.1 ++ end1) s.2)
+    cond-false (starts (is T.CloseParen) (zs ++ end1)) _ _ (ap (λ z. starts (is T.CloseParen) (z ++ end1)) s.4 ∙ ap (starts (is T.CloseParen)) (append_assoc s.0 s.1 end1) ∙ param_first of_ctor p s.0 (s.1 ++ end1) s.2)
     ∙ separated_read (param of_ctor) (λ p zs. ParamL of_ctor zs p) (param_takes of_ctor) (λ f. Unit {0}) (λ d f. tt) (λ p xs f q _. param_read of_ctor p xs f q) p ps zs end1 s tt refl
 
 params_read : (of_ctor : Bool) (ps : List Param) (zs f : List Token) (o c : ℕ) → Params of_ctor ps zs → params of_ctor (token T.OpenParen o ∷ zs ++ (token T.CloseParen c ∷ f)) ≡ Ok (ps, f)
@@ -153,16 +142,16 @@ required_read (l ∷ ls) zs f b s =
 -- methods
 method_read : (atomic : Bool) (returns : Option TypeName) (n : Name) (ps : List Param) (ls : List LockTree) (body : StmtTrees) (xs rs ys f : List Token) (o c b e : ℕ)
     → Params false ps xs → SpellsRequires ls rs → SpellsStmts body ys
-    → Same (1 + stmt_heights body ≤ 64) (method_rest atomic returns n (token T.OpenParen o ∷ xs ++ (token T.CloseParen c ∷ rs ++ (token T.OpenBrace b ∷ ys ++ (token T.CloseBrace e ∷ f)))))
+    → Same (1 + stmt_heights body ≤ most_height) (method_rest atomic returns n (token T.OpenParen o ∷ xs ++ (token T.CloseParen c ∷ rs ++ (token T.OpenBrace b ∷ ys ++ (token T.CloseBrace e ∷ f)))))
     (Ok (MethodM record { atomic = atomic; returns = returns; name = n; params = ps; locks = ls; body = body; end = e }, f))
 unfolding method_rest
 method_read atomic returns n ps ls body xs rs ys f o c b e p q s =
     let t = token T.OpenBrace b ∷ ys ++ (token T.CloseBrace e ∷ f) in
-    let whole = block_read body (items_read body) 64 ys f b e s in
+    let whole = block_read body (items_read body) most_height ys f b e s in
     let make : List Param → List LockTree → StmtTrees → ℕ → MemberTree = λ ps ls body e. MethodM record { atomic = atomic; returns = returns; name = n; params = ps; locks = ls; body = body; end = e } in
-    same_along (ap (λ r. r >>= λ ps ts. required ts >>= λ ls ts. block_at 64 ts >>= λ b ts. Ok (make ps ls (stmts_from b.1) b.2, ts)) (params_read false ps xs (rs ++ t) o c p)
-    ∙ ap (λ r. r >>= λ ls ts. block_at 64 ts >>= λ b ts. Ok (make ps ls (stmts_from b.1) b.2, ts)) (required_read ls rs (ys ++ (token T.CloseBrace e ∷ f)) b q))
-    (same_bind {low2 = 1 + stmt_heights body ≤ 64} (λ b ts. Ok (make ps ls (stmts_from b.1) b.2, ts)) (λ q. q) (λ q. q) whole.2
+    same_along (ap (λ r. r >>= λ ps ts. required ts >>= λ ls ts. block_at most_height ts >>= λ b ts. Ok (make ps ls (stmts_from b.1) b.2, ts)) (params_read false ps xs (rs ++ t) o c p)
+    ∙ ap (λ r. r >>= λ ls ts. block_at most_height ts >>= λ b ts. Ok (make ps ls (stmts_from b.1) b.2, ts)) (required_read ls rs (ys ++ (token T.CloseBrace e ∷ f)) b q))
+    (same_bind {low2 = 1 + stmt_heights body ≤ most_height} (λ b ts. Ok (make ps ls (stmts_from b.1) b.2, ts)) (λ q. q) (λ q. q) whole.2
     (same (ap (λ z. Ok (make ps ls z e, f)) whole.1)))
 
 -- parts one after another
@@ -195,14 +184,14 @@ sets_read ss zs f c s =
 -- members
 
 abbrev BareRead : MemberTree → Type 0
-BareRead m = (zs f : List Token) → SpellsBare m zs → Same (body_height m ≤ 64) (bare_member (zs ++ f)) (Ok (m, f))
+BareRead m = (zs f : List Token) → SpellsBare m zs → Same (body_height m ≤ most_height) (bare_member (zs ++ f)) (Ok (m, f))
 
 -- a member that begins with its type
 typed_member : (ty : TypeName) (x : Token) (ts : List Token) → IsType ty x → starts (is T.OpenParen) ts ≡ false → bare_member (x ∷ ts) ≡ typed_rest ty ts
 unfolding bare_member named_member
 typed_member Y.Int x ts i e = ap (λ z. bare_member (z ∷ ts)) i ∙ ap (λ r. r >>= λ t ts. typed_rest t ts) (type_read Y.Int (token T.Int x.at) ts refl)
 typed_member Y.Boolean x ts i e = ap (λ z. bare_member (z ∷ ts)) i ∙ ap (λ r. r >>= λ t ts. typed_rest t ts) (type_read Y.Boolean (token T.Boolean x.at) ts refl)
-typed_member (Y.Class n) x ts i e = ap (λ z. bare_member (z ∷ ts)) i ∙ if_false (starts (is T.OpenParen) ts) _ _ e
+typed_member (Y.Class n) x ts i e = ap (λ z. bare_member (z ∷ ts)) i ∙ cond-false (starts (is T.OpenParen) ts) _ _ e
 
 no_guard : List Token → Bool → Res (Option LockTree × Bool)
 no_guard ts writes_only = Ok ((None, writes_only), ts)
@@ -233,7 +222,7 @@ read_field ty n w g zs f s =
     let end1 = token T.Semicolon s.2 ∷ f in
     same (ap (λ z. bare_member (z ++ f)) s.5 ∙ ap (λ z. bare_member (s.0 ∷ name_token n ∷ z)) (append_assoc s.1 (token T.Semicolon s.2 ∷ []) f)
     ∙ typed_member ty s.0 (name_token n ∷ s.1 ++ end1) s.3 refl
-    ∙ if_false (starts (is T.OpenParen) (s.1 ++ end1)) _ _ (guard_first w g s.1 f s.2 s.4)
+    ∙ cond-false (starts (is T.OpenParen) (s.1 ++ end1)) _ _ (guard_first w g s.1 f s.2 s.4)
     ∙ ap (λ r. r >>= λ g ts. take_one T.Semicolon ts >>= λ c ts. Ok (FieldM (mutable_tree ty n g.1 g.0), ts)) (guard_read w g s.1 f s.2 s.4))
 
 read_ctor : (n : Name) (ps : List Param) (ss : List (Name × Name)) → BareRead (CtorM n ps ss)
@@ -250,7 +239,7 @@ result_read : (r : Option TypeName) (x : Token) (f : List Token) → IsResultTyp
 unfolding result_type
 result_read None x f i = ap (λ z. result_type (z ∷ f)) i
 result_read (Some ty) x f i =
-    if_false (is T.Void x) _ _ (type_first (is T.Void) false (λ d. refl) (λ d. refl) (λ n. refl) ty x i) ∙ ap (λ r. r >>= λ t ts. Ok (Some t, ts)) (type_read ty x f i)
+    cond-false (is T.Void x) _ _ (type_first (is T.Void) false (λ d. refl) (λ d. refl) (λ n. refl) ty x i) ∙ ap (λ r. r >>= λ t ts. Ok (Some t, ts)) (type_read ty x f i)
 
 plain_is : (atomic : Bool) (r : Option TypeName) (x : Token) (n : Name) (f : List Token) → IsResultType r x → plain_method atomic (x ∷ name_token n ∷ f) ≡ method_rest atomic r n f
 unfolding plain_method
@@ -281,7 +270,7 @@ read_method m zs f s =
 
 bare_read : (m : MemberTree) → BareRead m
 bare_read (FieldM t) = λ zs f s.
-    each_field (λ ts m. (f : List Token) → Same (body_height m ≤ 64) (bare_member (ts ++ f)) (Ok (m, f)))
+    each_field (λ ts m. (f : List Token) → Same (body_height m ≤ most_height) (bare_member (ts ++ f)) (Ok (m, f)))
     (λ ty n ts s f. read_final ty n ts f s) (λ ty n w g ts s f. read_field ty n w g ts f s) t zs s f
 bare_read (CtorM n ps ss) = read_ctor n ps ss
 bare_read (MethodM m) = read_method m
@@ -325,7 +314,7 @@ member_is : (ts : List Token) → member ts ≡ member_tail (flag T.Public ts)
 unfolding member member_tail
 member_is ts = refl
 
-member_read : (m : MemberTree) (zs f : List Token) → SpellsMember m zs → Same (body_height m ≤ 64) (member (zs ++ f)) (Ok (m, f))
+member_read : (m : MemberTree) (zs f : List Token) → SpellsMember m zs → Same (body_height m ≤ most_height) (member (zs ++ f)) (Ok (m, f))
 unfolding member_tail
 member_read m zs f s =
     let o = optional_read T.Public (λ d. refl) s.0 (s.1 ++ f) s.2 (no_public m s.1 f s.3) in
@@ -333,9 +322,9 @@ member_read m zs f s =
     (same_along (member_is (s.0 ++ (s.1 ++ f)) ∙ ap member_tail o.1) (bare_read m s.1 f s.3))
 
 members_read : (ms : List MemberTree) (zs f : List Token) (c : ℕ) → Repeats SpellsMember ms zs
-    → Same (highest_member ms ≤ 64) (loop goes_on (item_step member) [] (zs ++ (token T.CloseBrace c ∷ f))) (Ok (ms, token T.CloseBrace c ∷ f))
+    → Same (highest_member ms ≤ most_height) (loop goes_on (item_step member) [] (zs ++ (token T.CloseBrace c ∷ f))) (Ok (ms, token T.CloseBrace c ∷ f))
 members_read ms zs f c s =
-    repeats_read member SpellsMember goes_on member_takes (λ m. body_height m ≤ 64) (λ ms. highest_member ms ≤ 64) (λ a r q. omega (arith, q)) (λ a r q. omega (arith, q))
+    repeats_read member SpellsMember goes_on member_takes (λ m. body_height m ≤ most_height) (λ ms. highest_member ms ≤ most_height) (λ a r q. omega (arith, q)) (λ a r q. omega (arith, q))
     member_goes_on member_read ms [] zs (token T.CloseBrace c ∷ f) s refl
 
 runnable_read : (r : Bool) (rs f : List Token) (b : ℕ) → SpellsRunnable r rs → runnable (rs ++ (token T.OpenBrace b ∷ f)) ≡ Ok (r, token T.OpenBrace b ∷ f)
@@ -355,7 +344,7 @@ class_is : (ts : List Token) → class_at ts ≡ class_tail (flag T.Public ts)
 unfolding class_at class_tail make_class
 class_is ts = refl
 
-class_read : (c : ClassTree) (zs f : List Token) → SpellsClass c zs → Same (highest_member c.members ≤ 64) (class_at (zs ++ f)) (Ok (c, f))
+class_read : (c : ClassTree) (zs f : List Token) → SpellsClass c zs → Same (highest_member c.members ≤ most_height) (class_at (zs ++ f)) (Ok (c, f))
 unfolding class_tail make_class
 class_read c zs f s =
     let close = token T.CloseBrace s.5 in
@@ -367,16 +356,16 @@ class_read c zs f s =
     ∙ ap (λ z. s.0 ++ (token T.Class s.3 ∷ name_token c.name ∷ z)) (append_assoc s.1 (token T.OpenBrace s.4 ∷ s.2 ++ (close ∷ [])) f ∙ ap (λ z. s.1 ++ (token T.OpenBrace s.4 ∷ z)) (append_assoc s.2 (close ∷ []) f)))
     (same_along (class_is (s.0 ++ u) ∙ ap class_tail o.1
     ∙ ap (λ r. r >>= λ r ts. take_one T.OpenBrace ts >>= λ b ts. several goes_on member ts >>= λ ms ts. take_one T.CloseBrace ts >>= λ e ts. Ok (make_class c.name r ms, ts)) (runnable_read c.runnable s.1 t s.4 s.7))
-    (same_bind {low2 = highest_member c.members ≤ 64} (λ ms ts. take_one T.CloseBrace ts >>= λ e ts. Ok (make_class c.name c.runnable ms, ts)) (λ q. q) (λ q. q) (members_read c.members s.2 f s.5 s.8) (same refl)))
+    (same_bind {low2 = highest_member c.members ≤ most_height} (λ ms ts. take_one T.CloseBrace ts >>= λ e ts. Ok (make_class c.name c.runnable ms, ts)) (λ q. q) (λ q. q) (members_read c.members s.2 f s.5 s.8) (same refl)))
 
 any_first : (zs f : List Token) → 0 < length zs → starts (λ x. true) (zs ++ f) ≡ true
 any_first [] f h = absurd (omega (arith, h))
 any_first (x ∷ zs) f h = refl
 
 -- every program that is spelled is read, or is too deep
-pub program_read : (t : ProgramTree) (ts : List Token) → Wide ts t → Same (highest_body t ≤ 64) (program ts) (Ok (t, []))
+pub program_read : (t : ProgramTree) (ts : List Token) → Wide ts t → Same (highest_body t ≤ most_height) (program ts) (Ok (t, []))
 unfolding program
 program_read t ts s =
     at_list program (sym (append-nil ts))
-    (repeats_read class_at SpellsClass (λ x. true) class_takes (λ c. highest_member c.members ≤ 64) (λ t. highest_body t ≤ 64) (λ a r q. omega (arith, q)) (λ a r q. omega (arith, q))
+    (repeats_read class_at SpellsClass (λ x. true) class_takes (λ c. highest_member c.members ≤ most_height) (λ t. highest_body t ≤ most_height) (λ a r q. omega (arith, q)) (λ a r q. omega (arith, q))
     (λ c xs f p. any_first xs f (class_long xs c p)) class_read t [] ts [] s refl)

@@ -1,7 +1,8 @@
 -- What is spelled is read: statements.
 use Rattle.std.proofs.Common.{◌≡◌, ℕ, zero, suc, ◌<◌, ◌≤◌, ◌+◌, ◌-◌, ◌&&◌, ◌||◌, nat_lt, Bool, true, false, List, [], ◌∷◌, ◌++◌, length, Option, Some, None, Ok, Err, refl, sym, ◌∙◌, ap, subst, append_assoc, append-nil, arith, if◌then◌else◌, is_some}
-use Rattle.std.proofs.lemmas.Bool.{ltb-false, lt-ltb}
+use Rattle.std.proofs.lemmas.Bool.{ltb-false, lt-ltb, cond-false, cond-true, and_right}
 use Rattle.aj_lexer.specs.declared.tokens.Token.{Token}
+use Rattle.aj_lexer.specs.Limits.{greatest_literal}
 use Rattle.aj_syntax.specs.declared.terminal.Terminal.{Terminal}
 use Rattle.aj_syntax.specs.declared.terminal.Terminal.TheVariants as T
 use Rattle.aj_syntax.specs.declared.tree.Name.{Name}
@@ -12,22 +13,17 @@ use Rattle.aj_syntax.specs.Heights.{height, stmt_height, stmt_heights}
 use Rattle.aj_syntax.specs.Tokens.{is, token, name_token, number_token}
 use Rattle.aj_syntax.specs.Trees.{LockTree, ExprTree, NumberE, LeastE, TruthE, NullE, ThisE, VarE, ParenE, NotE, NegE, BinaryE, GetE, CallE, NewE, StmtTree, StmtTrees, EmptyS, BlockS, LocalS, SetVarS, SetFieldS, DoS, IfS, IfElseS, WhileS, SyncS, ReturnS, PrintS, StartS, no_stmts, more_stmts}
 use Rattle.aj_syntax.specs.Views.{stmts_from}
-use Rattle.aj_parser.proofs.Complete.{Same, same, deep, same_along, same_weaker, same_then, same_bind, same_allow, at_list, postfix_first, reads, reads_any, calm_close, calm_semicolon, no_semicolon}
+use Rattle.aj_parser.proofs.Complete.{starts_append, Same, same, deep, same_along, same_weaker, same_then, same_bind, same_allow, at_list, postfix_first, reads, reads_any, calm_close, calm_semicolon, no_semicolon}
 use Rattle.aj_parser.proofs.Expressions.{spelled_long}
 use Rattle.aj_parser.proofs.Lists.{shift}
 use Rattle.aj_parser.proofs.Loops.{member_done}
 use Rattle.aj_parser.proofs.StatementLoops.{field_more, field_done, statement_more, statement_done, statement_zero, statement_positive, block_zero, block_positive}
 use Rattle.aj_parser.proofs.Statements.{first_is}
 use Rattle.aj_parser.specs.Combine.{Res, ◌>>=◌, starts, when, take_one, loop, item_step}
-use Rattle.aj_parser.specs.Reading.{is_name, leaf, field_name, lock, type_name, below, first_at, begins_local, begins_statement, goes_on, braces, condition, return_statement, print_statement, start_rest, assign, assigned, local_rest, local_statement, call_end, target, finish, finish_from, new_statement, name_statement, expression_statement, plain_statement, else_part, if_statement, while_statement, sync_statement, block_statement, statement_with, statement_at, block_at, dots, primary, new_rest, postfix}
-
-if_false : {B : Type 0} (b : Bool) (x y : B) → b ≡ false → (if b then x else y) ≡ y
-if_false true x y h = cc
-if_false false x y h = refl
-
-if_true : {B : Type 0} (b : Bool) (x y : B) → b ≡ true → (if b then x else y) ≡ x
-if_true true x y h = refl
-if_true false x y h = cc
+use Rattle.aj_parser.specs.Words.{is_name, field_name, lock, type_name}
+use Rattle.aj_syntax.specs.Offsets.{first_at}
+use Rattle.aj_parser.specs.Expressions.{leaf, below, dots, primary, new_rest, postfix}
+use Rattle.aj_parser.specs.Statements.{begins_local, begins_statement, goes_on, braces, condition, return_statement, print_statement, start_rest, assign, assigned, local_rest, local_statement, call_end, target, finish, finish_from, new_statement, name_statement, expression_statement, plain_statement, else_part, if_statement, while_statement, sync_statement, block_statement, statement_with, statement_at, block_at}
 
 -- locks
 
@@ -94,7 +90,7 @@ module _ (h : ℕ) (some : 0 < h) where
   read_return (Some e) at zs f s b l =
       let end1 = token T.Semicolon s.1 in
       at_list (plain_statement h b) (ap (λ z. z ++ f) s.3 ∙ ap (λ z. token T.Return at ∷ z) (append_assoc s.0 (end1 ∷ []) f))
-      (same_along (if_false (starts (is T.Semicolon) (s.0 ++ (end1 ∷ f))) _ _ (no_semicolon e s.0 (end1 ∷ f) s.2))
+      (same_along (cond-false (starts (is T.Semicolon) (s.0 ++ (end1 ∷ f))) _ _ (no_semicolon e s.0 (end1 ∷ f) s.2))
       (same_bind {low2 = stmt_height (ReturnS (Some e) at) ≤ h} (λ e ts. take_one T.Semicolon ts >>= λ c ts. Ok (ReturnS (Some e) at, ts)) (λ q. omega (arith, q)) (λ q. q)
       (reads_any e (reads e) h some s.0 (end1 ∷ f) s.2 (calm_semicolon 6 s.1 f)) (same refl)))
 
@@ -163,20 +159,16 @@ module _ (h : ℕ) (some : 0 < h) where
   bind_assoc (Ok y) f g = refl
   bind_assoc (Err e) f g = refl
 
-  and_false : (b c : Bool) → c ≡ false → b && c ≡ false
-  and_false true c e = e
-  and_false false c e = refl
-
   starts_and : (b : Bool) (test : Token → Bool) (ts : List Token) → starts test ts ≡ false → starts (λ x. b && test x) ts ≡ false
   starts_and b test [] e = refl
-  starts_and b test (x ∷ xs) e = and_false b (test x) e
+  starts_and b test (x ∷ xs) e = and_right b (test x) e
 
   plain_other : (b : Bool) (x : Token) (xs : List Token) → is T.Semicolon x ≡ false → is T.Return x ≡ false → is T.System x ≡ false → is T.New x ≡ false
       → is_name x ≡ false → begins_local x ≡ false → plain_statement h b (x ∷ xs) ≡ (postfix h (below h) (x ∷ xs) >>= finish h)
   unfolding plain_statement expression_statement finish_from postfix
   plain_other b x xs e1 e2 e3 e4 e5 e6 =
-      if_false (is T.Semicolon x) _ _ e1 ∙ if_false (is T.Return x) _ _ e2 ∙ if_false (is T.System x) _ _ e3 ∙ if_false (is T.New x) _ _ e4
-      ∙ if_false (is_name x) _ _ e5 ∙ if_false (b && begins_local x) _ _ (and_false b (begins_local x) e6)
+      cond-false (is T.Semicolon x) _ _ e1 ∙ cond-false (is T.Return x) _ _ e2 ∙ cond-false (is T.System x) _ _ e3 ∙ cond-false (is T.New x) _ _ e4
+      ∙ cond-false (is_name x) _ _ e5 ∙ cond-false (b && begins_local x) _ _ (and_right b (begins_local x) e6)
       ∙ sym (bind_assoc (primary h (below h) (x ∷ xs)) (dots h (below h)) (finish h))
 
   as_postfix : (p : ExprTree) (b : Bool) (zs f : List Token) → Spells p zs → is_postfix p ≡ true → starts is_name f ≡ false
@@ -188,7 +180,7 @@ module _ (h : ℕ) (some : 0 < h) where
   as_postfix (TruthE false at) b zs f s p c = subst (λ z. plain_statement h b (z ++ f) ≡ (postfix h (below h) (z ++ f) >>= finish h)) (sym s) (plain_other b (token T.False at) f refl refl refl refl refl refl)
   as_postfix (NullE at) b zs f s p c = subst (λ z. plain_statement h b (z ++ f) ≡ (postfix h (below h) (z ++ f) >>= finish h)) (sym s) (plain_other b (token T.Null at) f refl refl refl refl refl refl)
   as_postfix (ThisE at) b zs f s p c = subst (λ z. plain_statement h b (z ++ f) ≡ (postfix h (below h) (z ++ f) >>= finish h)) (sym s) (plain_other b (token T.This at) f refl refl refl refl refl refl)
-  as_postfix (VarE n) b zs f s p c = subst (λ z. plain_statement h b (z ++ f) ≡ (postfix h (below h) (z ++ f) >>= finish h)) (sym s) (if_false (starts (λ x. b && is_name x) f) _ _ (starts_and b is_name f c))
+  as_postfix (VarE n) b zs f s p c = subst (λ z. plain_statement h b (z ++ f) ≡ (postfix h (below h) (z ++ f) >>= finish h)) (sym s) (cond-false (starts (λ x. b && is_name x) f) _ _ (starts_and b is_name f c))
   as_postfix (ParenE e at) b zs f s p c = subst (λ z. plain_statement h b (z ++ f) ≡ (postfix h (below h) (z ++ f) >>= finish h)) (sym s.3)
       (plain_other b (token T.OpenParen at) ((s.0 ++ (token T.CloseParen s.1 ∷ [])) ++ f) refl refl refl refl refl refl)
   as_postfix (NotE e at) b zs f s p c = cc
@@ -258,7 +250,7 @@ module _ (h : ℕ) (some : 0 < h) where
       let place : first_at e ≡ at = first_is e s.0 s.2 ∙ sym (offset_left s.0 (end1 ∷ []) (spelled_long e s.0 s.2)) ∙ sym (ap offset s.5) ∙ sym s.4 in
       at_list (plain_statement h b) (ap (λ z. z ++ f) s.5 ∙ append_assoc s.0 (end1 ∷ []) f)
       (post_read e b s.0 (end1 ∷ f) s.2 (call_postfix e s.3) refl refl refl (λ q. omega (arith, q))
-      (same_along (if_true (is_call e) (call_end h e (end1 ∷ f)) (target h e (end1 ∷ f)) s.3)
+      (same_along (cond-true (is_call e) (call_end h e (end1 ∷ f)) (target h e (end1 ∷ f)) s.3)
       (same_allow (nat_lt (height e) h) (end1 ∷ f) (λ i q. let k : h ≤ height e = ltb-false (height e) h i in omega (arith, k, q)) (λ i. same (ap (λ z. Ok (DoS e z, f)) place)))))
 
 -- the first tokens of statements
@@ -278,9 +270,6 @@ is_plain (ReturnS e at) = true
 is_plain (PrintS e at) = true
 is_plain (StartS e at) = true
 
-first_of : (test : Token → Bool) (zs ts f : List Token) (v : Bool) → zs ≡ ts → starts test (ts ++ f) ≡ v → starts test (zs ++ f) ≡ v
-first_of test zs ts f v e h = ap (λ z. starts test (z ++ f)) e ∙ h
-
 is_call_postfix : (e : ExprTree) → is_call e ≡ true → is_postfix e ≡ true
 is_call_postfix (NumberE n at) c = cc
 is_call_postfix (LeastE at) c = cc
@@ -298,7 +287,7 @@ is_call_postfix (NewE n args at) c = refl
 
 -- a test that answers alike at each token that may begin a plain statement
 module _ (test : Token → Bool) (v allowed : Bool)
-    (number : (n : ℕ) (text : List ℕ) (at : ℕ) → n < 2147483648 → test (number_token n text at) ≡ v)
+    (number : (n : ℕ) (text : List ℕ) (at : ℕ) → n < greatest_literal → test (number_token n text at) ≡ v)
     (name : (n : Name) → test (name_token n) ≡ v)
     (yes : (d : ℕ) → test (token T.True d) ≡ v) (no : (d : ℕ) → test (token T.False d) ≡ v)
     (null : (d : ℕ) → test (token T.Null d) ≡ v) (this : (d : ℕ) → test (token T.This d) ≡ v)
@@ -312,12 +301,12 @@ module _ (test : Token → Bool) (v allowed : Bool)
   local_first false (Y.Class n) fs x ys a p i = ap (λ z. starts test (z ++ (x ∷ ys))) p ∙ ap test i ∙ name n
 
   pub plain_first : (s : StmtTree) (zs f : List Token) → SpellsStmt s zs → is_plain s ≡ true → (is_local s ≡ true → allowed ≡ true) → starts test (zs ++ f) ≡ v
-  plain_first (EmptyS at) zs f s p l = first_of test zs _ f v s (semicolon at)
+  plain_first (EmptyS at) zs f s p l = starts_append test zs _ f v s (semicolon at)
   plain_first (BlockS ss at) zs f s p l = cc
   plain_first (LocalS fin ty n e at) zs f s p l =
       let t = name_token n ∷ token T.Assign s.3 ∷ s.1 ++ (token T.Semicolon s.4 ∷ []) in
       ap (λ z. starts test (z ++ f)) s.9 ∙ ap (starts test) (append_assoc s.0 (s.2 ∷ t) f) ∙ local_first fin ty s.0 s.2 (t ++ f) (l refl) s.5 s.6
-  plain_first (SetVarS n e at) zs f s p l = first_of test zs _ f v s.3 (name n)
+  plain_first (SetVarS n e at) zs f s p l = starts_append test zs _ f v s.3 (name n)
   plain_first (SetFieldS e n g at) zs f s p l =
       let t = token T.Dot s.2 ∷ name_token n ∷ token T.Assign at ∷ s.1 ++ (token T.Semicolon s.3 ∷ []) in
       ap (λ z. starts test (z ++ f)) s.7 ∙ ap (starts test) (append_assoc s.0 t f) ∙ postfix_first test v number name yes no null this paren new e s.0 (t ++ f) s.4 s.5
@@ -328,24 +317,24 @@ module _ (test : Token → Bool) (v allowed : Bool)
   plain_first (IfElseS e s t at) zs f q p l = cc
   plain_first (WhileS e s at) zs f q p l = cc
   plain_first (SyncS k ss at) zs f s p l = cc
-  plain_first (ReturnS None at) zs f s p l = first_of test zs _ f v s.1 (return at)
-  plain_first (ReturnS (Some e) at) zs f s p l = first_of test zs _ f v s.3 (return at)
-  plain_first (PrintS e at) zs f s p l = first_of test zs _ f v s.9 (system at)
-  plain_first (StartS e at) zs f s p l = first_of test zs _ f v s.10 (new at)
+  plain_first (ReturnS None at) zs f s p l = starts_append test zs _ f v s.1 (return at)
+  plain_first (ReturnS (Some e) at) zs f s p l = starts_append test zs _ f v s.3 (return at)
+  plain_first (PrintS e at) zs f s p l = starts_append test zs _ f v s.9 (system at)
+  plain_first (StartS e at) zs f s p l = starts_append test zs _ f v s.10 (new at)
 
   module _ (brace : (d : ℕ) → test (token T.OpenBrace d) ≡ v) (iff : (d : ℕ) → test (token T.If d) ≡ v) (while : (d : ℕ) → test (token T.While d) ≡ v)
       (sync : (d : ℕ) → test (token T.Synchronized d) ≡ v) where
     pub stmt_first : (s : StmtTree) (zs f : List Token) → SpellsStmt s zs → (is_local s ≡ true → allowed ≡ true) → starts test (zs ++ f) ≡ v
     stmt_first (EmptyS at) zs f s l = plain_first (EmptyS at) zs f s refl l
-    stmt_first (BlockS ss at) zs f s l = first_of test zs _ f v s.3 (brace at)
+    stmt_first (BlockS ss at) zs f s l = starts_append test zs _ f v s.3 (brace at)
     stmt_first (LocalS fin ty n e at) zs f s l = plain_first (LocalS fin ty n e at) zs f s refl l
     stmt_first (SetVarS n e at) zs f s l = plain_first (SetVarS n e at) zs f s refl l
     stmt_first (SetFieldS e n g at) zs f s l = plain_first (SetFieldS e n g at) zs f s refl l
     stmt_first (DoS e at) zs f s l = plain_first (DoS e at) zs f s refl l
-    stmt_first (IfS e s at) zs f q l = first_of test zs _ f v q.7 (iff at)
-    stmt_first (IfElseS e s t at) zs f q l = first_of test zs _ f v q.12 (iff at)
-    stmt_first (WhileS e s at) zs f q l = first_of test zs _ f v q.7 (while at)
-    stmt_first (SyncS k ss at) zs f s l = first_of test zs _ f v s.8 (sync at)
+    stmt_first (IfS e s at) zs f q l = starts_append test zs _ f v q.7 (iff at)
+    stmt_first (IfElseS e s t at) zs f q l = starts_append test zs _ f v q.12 (iff at)
+    stmt_first (WhileS e s at) zs f q l = starts_append test zs _ f v q.7 (while at)
+    stmt_first (SyncS k ss at) zs f s l = starts_append test zs _ f v s.8 (sync at)
     stmt_first (ReturnS e at) zs f s l = plain_first (ReturnS e at) zs f s refl l
     stmt_first (PrintS e at) zs f s l = plain_first (PrintS e at) zs f s refl l
     stmt_first (StartS e at) zs f s l = plain_first (StartS e at) zs f s refl l
@@ -380,11 +369,11 @@ or_true : (a b : Bool) → a ≡ true → a || b ≡ true
 or_true true b h = refl
 or_true false b h = cc
 
-begins_number : (b : Bool) (n : ℕ) (text : List ℕ) (at : ℕ) → n < 2147483648 → begins_statement b (number_token n text at) ≡ true
+begins_number : (b : Bool) (n : ℕ) (text : List ℕ) (at : ℕ) → n < greatest_literal → begins_statement b (number_token n text at) ≡ true
 unfolding begins_statement
 begins_number b n text at h =
     let g : Bool → Option (ℕ × ℕ) = λ c. when c (n, at) in
-    ap (λ c. (is_some (g c) || false || false || false || false || false) || (b && false)) (lt-ltb n 2147483648 h)
+    ap (λ c. (is_some (g c) || false || false || false || false || false) || (b && false)) (lt-ltb n greatest_literal h)
 
 and_self : (b c : Bool) → b ≡ true → c ≡ true → b && c ≡ true
 and_self true c e f = f
@@ -428,7 +417,7 @@ local_allowed s false n l = let k = n refl in cc
 
 from_with : (s : StmtTree) → WithRead s → StmtRead s
 from_with s w zero b zs f p l o =
-    same_along (statement_zero b (zs ++ f) ∙ if_true (starts (begins_statement b) (zs ++ f)) _ _ (stmt_begins b s zs f p (local_allowed s b l)))
+    same_along (statement_zero b (zs ++ f) ∙ cond-true (starts (begins_statement b) (zs ++ f)) _ _ (stmt_begins b s zs f p (local_allowed s b l)))
     (deep refl (λ q. let k = stmt_some s in omega (arith, k, q)))
 from_with s w (suc h) b zs f p l o = same_along (statement_positive (suc h) (omega arith) b (zs ++ f)) (w (suc h) (omega arith) b zs f p l o)
 
@@ -436,7 +425,7 @@ skip : (h : ℕ) (b : Bool) (ts : List Token) → starts (is T.OpenBrace) ts ≡
     → starts (is T.Synchronized) ts ≡ false → statement_with h (statement_at (h - 1)) (block_at (h - 1)) b ts ≡ plain_statement h b ts
 unfolding statement_with
 skip h b ts e1 e2 e3 e4 =
-    if_false (starts (is T.OpenBrace) ts) _ _ e1 ∙ if_false (starts (is T.If) ts) _ _ e2 ∙ if_false (starts (is T.While) ts) _ _ e3 ∙ if_false (starts (is T.Synchronized) ts) _ _ e4
+    cond-false (starts (is T.OpenBrace) ts) _ _ e1 ∙ cond-false (starts (is T.If) ts) _ _ e2 ∙ cond-false (starts (is T.While) ts) _ _ e3 ∙ cond-false (starts (is T.Synchronized) ts) _ _ e4
 
 from_plain : (s : StmtTree) → is_plain s ≡ true → ((h : ℕ) (some : 0 < h) (zs f : List Token) → SpellsStmt s zs → PlainRead h some s zs f) → StmtRead s
 unfolding Other
@@ -536,7 +525,7 @@ read_if e t at r h some b zs f s l o =
     (condition_read h some e s.0 (s.1 ++ f) s.2 s.3 s.4)
     (same_bind {low2 = stmt_height (IfS e t at) ≤ h} (λ s ts. else_part h (statement_at (h - 1)) (block_at (h - 1)) at e s ts) (λ q. omega (arith, q)) (λ q. q)
     (r (h - 1) false s.1 f s.5 (λ _. s.6) (λ _. o refl))
-    (same (if_false (starts (is T.Else) f) _ _ (o refl)))))
+    (same (cond-false (starts (is T.Else) f) _ _ (o refl)))))
 
 read_if_else : (e : ExprTree) (t u : StmtTree) (at : ℕ) → StmtRead t → StmtRead u → WithRead (IfElseS e t u at)
 unfolding statement_with if_statement else_part

@@ -4,6 +4,7 @@ use Rattle.std.proofs.lemmas.Bool.{eqb-true, ltb-true}
 use Rattle.aj_lexer.specs.declared.tokens.Token.{Token}
 use Rattle.aj_lexer.specs.declared.tokens.TokenKind.{TokenKind}
 use Rattle.aj_lexer.specs.declared.tokens.TokenKind.TheVariants as K
+use Rattle.aj_lexer.specs.Limits.{greatest_literal}
 use Rattle.aj_syntax.specs.declared.terminal.Terminal.TheVariants as T
 use Rattle.aj_syntax.specs.declared.tree.Name.{Name}
 use Rattle.aj_syntax.specs.declared.tree.Op.{Op}
@@ -14,11 +15,12 @@ use Rattle.aj_syntax.specs.Tokens.{is, token, name_token, number_token}
 use Rattle.aj_syntax.specs.Trees.{ExprTree, NumberE, LeastE, TruthE, NullE, ThisE, VarE, ParenE, NotE, NegE, BinaryE, GetE, CallE, NewE, no_exprs}
 use Rattle.aj_syntax.specs.Views.{exprs_from}
 use Rattle.aj_parser.proofs.Right.{Right, Any, Some_of, right_seq, right_weaker}
-use Rattle.aj_parser.proofs.Parts.{One, Through_next, right_first, right_one, right_tok, right_name, right_a_name, right_done, right_if, right_allow, right_beyond, x_name, is_token, name_if_is}
+use Rattle.aj_parser.proofs.Parts.{One, Through_next, right_first, right_one, right_tok, right_name, right_a_name, right_done, right_if, right_allow, right_beyond, x_name, is_token, name_if_is, when_true}
 use Rattle.aj_parser.proofs.LoopLaw.{right_loop, loop_takes, Takes}
 use Rattle.aj_parser.proofs.Lists.{right_separated}
 use Rattle.aj_parser.specs.Combine.{Res, ◌>>=◌, starts, first, when}
-use Rattle.aj_parser.specs.Reading.{a_name, is_name, a_number, number_if, small_number, is_number, a_least, is_least, least_number, op_of, op_at, an_op, is_op, is_leaf, begins_expression, field_name, leaf, arguments, call_arguments, new_rest, parenthesised, primary, member_rest, member_step, dots, postfix, negated, unary, op_step, chain_with, chain_at}
+use Rattle.aj_parser.specs.Words.{a_name, is_name, a_number, number_if, small_number, is_number, a_least, is_least, least_number, op_of, op_at, an_op, is_op, field_name}
+use Rattle.aj_parser.specs.Expressions.{is_leaf, begins_expression, leaf, arguments, call_arguments, new_rest, parenthesised, primary, member_rest, member_step, dots, postfix, negated, unary, op_step, chain_with, chain_at}
 
 -- what stands at a level
 abbrev pub Level : ℕ → List Token → ExprTree → Type 0
@@ -31,10 +33,10 @@ pub x_is : Level 6 (name_token x_name ∷ []) (VarE x_name)
 x_is = (refl, omega arith)
 
 -- no part is empty
-append_left : (xs : List Token) (y : Token) (ys : List Token) → 0 < length (xs ++ (y ∷ ys))
+pub append_left : (xs : List Token) (y : Token) (ys : List Token) → 0 < length (xs ++ (y ∷ ys))
 append_left xs y ys = omega (arith, length-append xs (y ∷ ys))
 
-along_length : (zs ts : List Token) → zs ≡ ts → 0 < length ts → 0 < length zs
+pub along_length : (zs ts : List Token) → zs ≡ ts → 0 < length ts → 0 < length zs
 along_length zs ts e h = subst (λ z. 0 < length z) (sym e) h
 
 pub spelled_long : (e : ExprTree) (zs : List Token) → Spells e zs → 0 < length zs
@@ -54,36 +56,32 @@ spelled_long (CallE e n args) zs s = along_length zs _ s.8 (append_left s.0 _ _)
 spelled_long (NewE n args at) zs s = along_length zs _ s.4 (omega arith)
 
 -- tokens that mean something
-when_some : {A : Type 0} (b : Bool) (a c : A) → when b a ≡ Some c → (b ≡ true) × (a ≡ c)
-when_some true a c h = (refl, cc)
-when_some false a c h = cc
-
 abbrev pub NumberToken : Token → (ℕ × ℕ) → Type 0
-NumberToken x n = (text : List ℕ) × (n.0 < 2147483648) × (x ≡ number_token n.0 text n.1)
+NumberToken x n = (text : List ℕ) × (n.0 < greatest_literal) × (x ≡ number_token n.0 text n.1)
 
 number_is : (k : TokenKind) (text : List ℕ) (at : ℕ) (n : ℕ × ℕ) → small_number (number_if k) at ≡ Some n → NumberToken (record { kind = k; text = text; at = at }) n
 number_is K.Name text at n h = cc
 number_is K.Word text at n h = cc
 number_is (K.Number m) text at n h =
-    let w = when_some (nat_lt m 2147483648) (m, at) n h in
-    (text, subst (λ z. z.0 < 2147483648) w.1 (ltb-true m 2147483648 w.0), ap (λ z. number_token z.0 text z.1) w.1)
+    let w = when_true (nat_lt m greatest_literal) (m, at) n h in
+    (text, subst (λ z. z.0 < greatest_literal) w.1 (ltb-true m greatest_literal w.0), ap (λ z. number_token z.0 text z.1) w.1)
 number_is K.Sign text at n h = cc
 
 pub right_number : (ts : List Token) → Right (first a_number) (One NumberToken) Any ts
 right_number = right_first NumberToken (number_token 0 [] 0, (0, 0), ([], omega arith, refl)) (λ x n e. number_is x.kind x.text x.at n e)
 
 abbrev pub LeastToken : Token → ℕ → Type 0
-LeastToken x d = (text : List ℕ) × (x ≡ number_token 2147483648 text d)
+LeastToken x d = (text : List ℕ) × (x ≡ number_token greatest_literal text d)
 
 least_is : (k : TokenKind) (text : List ℕ) (at : ℕ) → least_number (number_if k) ≡ true → LeastToken (record { kind = k; text = text; at = at }) at
 least_is K.Name text at h = cc
 least_is K.Word text at h = cc
-least_is (K.Number m) text at h = (text, ap (λ z. number_token z text at) (eqb-true m 2147483648 h))
+least_is (K.Number m) text at h = (text, ap (λ z. number_token z text at) (eqb-true m greatest_literal h))
 least_is K.Sign text at h = cc
 
 pub right_least : (ts : List Token) → Right (first a_least) (One LeastToken) Any ts
-right_least = right_first LeastToken (number_token 2147483648 [] 0, 0, ([], refl))
-    (λ x d e. let w = when_some (is_least x) x.at d e in subst (λ z. LeastToken x z) w.1 (least_is x.kind x.text x.at w.0))
+right_least = right_first LeastToken (number_token greatest_literal [] 0, 0, ([], refl))
+    (λ x d e. let w = when_true (is_least x) x.at d e in subst (λ z. LeastToken x z) w.1 (least_is x.kind x.text x.at w.0))
 
 if_some : {A : Type 0} (b : Bool) (a : A) (o : Option A) (c : A) (P : Type 0) → (if b then Some a else o) ≡ Some c → (b ≡ true → a ≡ c → P) → (o ≡ Some c → P) → P
 if_some true a o c P h f g = f refl cc
@@ -117,7 +115,7 @@ OpToken k x o = (level o.0 ≡ k) × (x ≡ token (sign_of o.0) o.1)
 
 pub op_token : (k : ℕ) (x : Token) (p : Option Op) (o : Op × ℕ) → op_of x ≡ p → op_at k p x.at ≡ Some o → OpToken k x o
 op_token k x (Some q) o e h =
-    let w = when_some (level q == k) (q, x.at) o h in
+    let w = when_true (level q == k) (q, x.at) o h in
     (ap (λ z. level z.0) (sym w.1) ∙ eqb-true (level q) k w.0, op_is x q e ∙ ap (λ z. token (sign_of z.0) z.1) w.1)
 op_token k x None o e h = cc
 

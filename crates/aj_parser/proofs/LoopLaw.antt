@@ -1,5 +1,6 @@
 -- Loops are right, and have fuel enough.
 use Rattle.std.proofs.Common.{◌≡◌, ℕ, zero, suc, ◌<◌, ◌≤◌, Bool, true, false, List, [], ◌∷◌, ◌++◌, length, Ok, Err, if◌then◌else◌, refl, ◌∙◌, ap, subst, arith, length-append}
+use Rattle.std.proofs.lemmas.Bool.{cond-false, cond-true}
 use Rattle.aj_lexer.specs.declared.tokens.Token.{Token}
 use Rattle.aj_parser.proofs.Right.{RightAt, Right, Some_of, right_seq_at, right_along, right_weaker}
 use Rattle.aj_parser.proofs.Parts.{right_done, starts_meets}
@@ -36,30 +37,18 @@ fuel go step takes (suc n) (suc m) a (x ∷ xs) h k =
     (λ g. next_same (iterate go step n) (iterate go step m) (length xs) (λ b r l. fuel go step takes n m b r (omega (arith, h, l)) (omega (arith, k, l)))
     (step a (x ∷ xs)) (takes a x xs g))
 
-pub loop_end : {A : Type 0} (go : Token → Bool) (step : A → List Token → Res A) (a : A) → loop go step a [] ≡ Ok (a, [])
-unfolding loop
-loop_end go step a = refl
-
-if_false : {B : Type 0} (b : Bool) (x y : B) → b ≡ false → (if b then x else y) ≡ y
-if_false true x y h = cc
-if_false false x y h = refl
-
-if_true : {B : Type 0} (b : Bool) (x y : B) → b ≡ true → (if b then x else y) ≡ x
-if_true true x y h = refl
-if_true false x y h = cc
-
 pub loop_done : {A : Type 0} (go : Token → Bool) (step : A → List Token → Res A) (a : A) (ts : List Token)
     → starts go ts ≡ false → loop go step a ts ≡ Ok (a, ts)
 unfolding loop
 loop_done go step a [] h = refl
-loop_done go step a (x ∷ xs) h = if_false (go x) (step a (x ∷ xs) >>= iterate go step (length xs)) (Ok (a, x ∷ xs)) h
+loop_done go step a (x ∷ xs) h = cond-false (go x) (step a (x ∷ xs) >>= iterate go step (length xs)) (Ok (a, x ∷ xs)) h
 
 pub loop_more : {A : Type 0} (go : Token → Bool) (step : A → List Token → Res A) → Takes go step → (a : A) (ts : List Token)
     → starts go ts ≡ true → loop go step a ts ≡ (step a ts >>= loop go step)
 unfolding loop
 loop_more go step takes a [] h = cc
 loop_more go step takes a (x ∷ xs) h =
-    if_true (go x) (step a (x ∷ xs) >>= iterate go step (length xs)) (Ok (a, x ∷ xs)) h
+    cond-true (go x) (step a (x ∷ xs) >>= iterate go step (length xs)) (Ok (a, x ∷ xs)) h
     ∙ next_same (iterate go step (length xs)) (loop go step) (length xs) (λ b r l. fuel go step takes (length xs) (length r) b r l (omega arith))
     (step a (x ∷ xs)) (takes a x xs h)
 

@@ -15,7 +15,8 @@ use Rattle.aj_parser.proofs.Lists.{separated_takes}
 use Rattle.aj_parser.proofs.Parts.{x_name}
 use Rattle.aj_parser.proofs.Right.{RightAt, right_weaker}
 use Rattle.aj_parser.specs.Combine.{Res, ◌>>=◌, starts, loop, beyond, comma_step, got, first, take_one, at_of}
-use Rattle.aj_parser.specs.Reading.{is_op, op_step, member_step, chain_with, chain_at, levels_from, below, unary, begins_expression, is_any_op, op_of, op_at}
+use Rattle.aj_parser.specs.Words.{is_op, is_any_op, op_of, op_at}
+use Rattle.aj_parser.specs.Expressions.{op_step, member_step, chain_with, chain_at, levels_from, below, unary, begins_expression}
 
 pub below_law : (h : ℕ) → 0 < h → Below h (below h)
 below_law h some k small ts = right_weaker (λ zs b l. l) (λ b r q. omega (arith, q, some)) (right_chain_at (h - 1) k small ts)

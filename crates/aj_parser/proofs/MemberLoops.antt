@@ -14,7 +14,9 @@ use Rattle.aj_parser.proofs.Members.{ParamL, param_long, param_example, right_pa
 use Rattle.aj_parser.proofs.Right.{Any}
 use Rattle.aj_parser.proofs.Statements.{right_lock, this_lock, this_lock_is}
 use Rattle.aj_parser.specs.Combine.{◌>>=◌, starts, loop, comma_step, item_step}
-use Rattle.aj_parser.specs.Reading.{param, lock, set, goes_on, member, class_at}
+use Rattle.aj_parser.specs.Words.{lock}
+use Rattle.aj_parser.specs.Statements.{goes_on}
+use Rattle.aj_parser.specs.Members.{param, set, member, class_at}
 
 pub param_takes : (of_ctor : Bool) → Takes (is T.Comma) (comma_step (param of_ctor))
 param_takes of_ctor = separated_takes (param of_ctor) (ParamL of_ctor) Any (param_example of_ctor) (param_long of_ctor) (λ ps. Unit {0}) (λ so a r p q. tt)

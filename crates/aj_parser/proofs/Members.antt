@@ -1,5 +1,6 @@
 -- Members, classes and programs are read right.
 use Rattle.std.proofs.Common.{◌≡◌, ℕ, ◌<◌, ◌≤◌, ◌&&◌, not, Bool, true, false, List, [], ◌∷◌, ◌++◌, length, Option, Some, None, refl, sym, ◌∙◌, ap, subst, append_assoc, append-nil, arith, length-append, inl, inr}
+use Rattle.std.proofs.Math.Bool.{and-false, and-true}
 use Rattle.aj_lexer.specs.declared.tokens.Token.{Token}
 use Rattle.aj_syntax.specs.declared.terminal.Terminal.{Terminal}
 use Rattle.aj_syntax.specs.declared.terminal.Terminal.TheVariants as T
@@ -9,17 +10,20 @@ use Rattle.aj_syntax.specs.declared.tree.TypeName.{TypeName}
 use Rattle.aj_syntax.specs.declared.tree.TypeName.TheVariants as Y
 use Rattle.aj_syntax.specs.Grammar.{SpellsLock, IsType, IsFlag, IsOptional, IsResultType, SpellsParam, SpellsCtorParam, SpellsSet, SpellsGuard, SpellsField, SpellsRequires, SpellsBare, SpellsMember, SpellsRunnable, SpellsClass, Separates, Follows, Repeats, Wide}
 use Rattle.aj_syntax.specs.Heights.{body_height, highest_member, highest_body}
+use Rattle.aj_syntax.specs.Limits.{most_height}
 use Rattle.aj_syntax.specs.Tokens.{token, name_token}
 use Rattle.aj_syntax.proofs.Fields.{final_field as final_tree, mutable_field as mutable_tree}
 use Rattle.aj_syntax.specs.Trees.{LockTree, StmtTree, StmtTrees, no_stmts, FieldTree, MemberTree, FieldM, CtorM, MethodM, ClassTree, ProgramTree}
 use Rattle.aj_syntax.specs.Views.{stmts_from}
-use Rattle.aj_parser.proofs.Expressions.{right_field}
+use Rattle.aj_parser.proofs.Expressions.{along_length, append_left, right_field}
 use Rattle.aj_parser.proofs.Lists.{right_several, right_separated}
 use Rattle.aj_parser.proofs.Parts.{One, right_one, right_tok, right_name, right_done, right_if, right_flag, x_name}
 use Rattle.aj_parser.proofs.Right.{Right, Any, Some_of, right_seq, right_weaker}
 use Rattle.aj_parser.proofs.Statements.{right_type, right_lock, this_lock, this_lock_is as this_is, BlockL, right_block}
 use Rattle.aj_parser.specs.Combine.{Res, ◌>>=◌, starts, several}
-use Rattle.aj_parser.specs.Reading.{lock, goes_on, param, param_list, params, required, method_rest, set, ctor_rest, guard, field_rest, typed_rest, final_field, result_type, plain_method, named_member, bare_member, member, runnable, class_at, program}
+use Rattle.aj_parser.specs.Words.{lock}
+use Rattle.aj_parser.specs.Statements.{goes_on}
+use Rattle.aj_parser.specs.Members.{param, param_list, params, required, method_rest, set, ctor_rest, guard, field_rest, typed_rest, final_field, result_type, plain_method, named_member, bare_member, member, runnable, class_at, program}
 
 -- a terminal that may stand, and then
 flag_optional : (t : Terminal) (f : Bool) (zs : List Token) → IsFlag t f zs → IsOptional t zs
@@ -33,22 +37,14 @@ abbrev pub ParamL : Bool → List Token → Param → Type 0
 ParamL true zs p = SpellsCtorParam p zs
 ParamL false zs p = SpellsParam p zs
 
-and_false : (b : Bool) → b && false ≡ false
-and_false true = refl
-and_false false = refl
-
-and_true : (b : Bool) → b && true ≡ b
-and_true true = refl
-and_true false = refl
-
 make_param : Bool → Bool → TypeName → Name → Param
 make_param of_ctor f ty n = record { is_final = f && not of_ctor; ty = ty; name = n }
 
 param_is : (of_ctor f : Bool) (ty : TypeName) (n : Name) (fs : List Token) (x : Token) → IsFlag T.Final f fs → IsType ty x
     → ParamL of_ctor (fs ++ (x ∷ name_token n ∷ [])) (make_param of_ctor f ty n)
 unfolding make_param
-param_is true f ty n fs x p q = (fs, x, and_false f, flag_optional T.Final f fs p, q, refl)
-param_is false f ty n fs x p q = (fs, x, subst (λ z. IsFlag T.Final z fs) (sym (and_true f)) p, q, refl)
+param_is true f ty n fs x p q = (fs, x, and-false f, flag_optional T.Final f fs p, q, refl)
+param_is false f ty n fs x p q = (fs, x, subst (λ z. IsFlag T.Final z fs) (sym (and-true f)) p, q, refl)
 
 pub right_param : (of_ctor : Bool) (ts : List Token) → Right (param of_ctor) (ParamL of_ctor) Any ts
 unfolding param make_param
@@ -62,15 +58,9 @@ pub param_example : (of_ctor : Bool) → Some_of (ParamL of_ctor)
 param_example true = (token T.Int 0 ∷ name_token x_name ∷ [], record { is_final = false; ty = Y.Int; name = x_name }, ([], token T.Int 0, refl, inl refl, refl, refl))
 param_example false = (token T.Int 0 ∷ name_token x_name ∷ [], record { is_final = false; ty = Y.Int; name = x_name }, ([], token T.Int 0, refl, refl, refl))
 
-long_is : (zs ts : List Token) → zs ≡ ts → 0 < length ts → 0 < length zs
-long_is zs ts e h = subst (λ z. 0 < length z) (sym e) h
-
-long_left : (xs : List Token) (y : Token) (ys : List Token) → 0 < length (xs ++ (y ∷ ys))
-long_left xs y ys = omega (arith, length-append xs (y ∷ ys))
-
 pub param_long : (of_ctor : Bool) (zs : List Token) (p : Param) → ParamL of_ctor zs p → 0 < length zs
-param_long true zs p q = long_is zs _ q.5 (long_left q.0 _ _)
-param_long false zs p q = long_is zs _ q.4 (long_left q.0 _ _)
+param_long true zs p q = along_length zs _ q.5 (append_left q.0 _ _)
+param_long false zs p q = along_length zs _ q.4 (append_left q.0 _ _)
 
 abbrev pub FollowingParams : Bool → List Param → List Token → Type 0
 FollowingParams of_ctor ps zs = Follows (λ p zs. ParamL of_ctor zs p) ps zs
@@ -114,7 +104,7 @@ right_params of_ctor {B} {k} {L} {Post2} {ts} more law =
 -- locks that a method requires
 
 pub lock_long : (zs : List Token) (l : LockTree) → SpellsLock l zs → 0 < length zs
-lock_long zs l p = long_is zs _ p.4 (omega arith)
+lock_long zs l p = along_length zs _ p.4 (omega arith)
 
 right_required : (ts : List Token) → Right required (λ zs ls. SpellsRequires ls zs) Any ts
 unfolding required
@@ -165,7 +155,7 @@ empty_block : BlockL (token T.OpenBrace 0 ∷ token T.CloseBrace 0 ∷ []) (0, [
 empty_block = ([], refl, refl)
 
 abbrev pub LowMember : MemberTree → List Token → Type 0
-LowMember m r = body_height m ≤ 64
+LowMember m r = body_height m ≤ most_height
 
 right_method_rest : (atomic : Bool) (returns : Option TypeName) (n : Name) (ts : List Token)
     → Right (method_rest atomic returns n) (MethodRest atomic returns n) LowMember ts
@@ -174,7 +164,7 @@ right_method_rest atomic returns n ts =
     let e : List Token = token T.OpenBrace 0 ∷ token T.CloseBrace 0 ∷ [] in
     right_params false (λ ps. (e, make_method atomic returns n ps [] no_stmts 0, λ o c xs p. method_is atomic returns n ps [] (0, [], 0) e [] xs o c empty_block refl p)) (λ ps r.
     right_seq (right_required r) (λ ls. (e, make_method atomic returns n ps ls no_stmts 0, λ rs q o c xs p. method_is atomic returns n ps ls (0, [], 0) e rs xs o c empty_block q p)) (λ ls r _.
-    right_seq (right_block 64 r) (λ b. ([], make_method atomic returns n ps ls (stmts_from b.1) b.2, λ zs s rs q o c xs p. method_is atomic returns n ps ls b zs rs xs o c s q p)) (λ b r low.
+    right_seq (right_block most_height r) (λ b. ([], make_method atomic returns n ps ls (stmts_from b.1) b.2, λ zs s rs q o c xs p. method_is atomic returns n ps ls b zs rs xs o c s q p)) (λ b r low.
     right_done (λ zs s rs q o c xs p. method_is atomic returns n ps ls b zs rs xs o c s q p) low)))
 
 method_some : (atomic : Bool) (returns : Option TypeName) (n : Name) → Some_of (MethodRest atomic returns n)
@@ -200,7 +190,7 @@ pub set_example : Some_of (λ zs p. SpellsSet p zs)
 set_example = (token T.This 0 ∷ token T.Dot 0 ∷ name_token x_name ∷ token T.Assign 0 ∷ name_token x_name ∷ token T.Semicolon 0 ∷ [], (x_name, x_name), (0, 0, 0, 0, refl))
 
 pub set_long : (zs : List Token) (p : Name × Name) → SpellsSet p zs → 0 < length zs
-set_long zs p q = long_is zs _ q.4 (omega arith)
+set_long zs p q = along_length zs _ q.4 (omega arith)
 
 sets_law : (ts : List Token) → Right (several goes_on set) (λ zs ss. Repeats SpellsSet ss zs) Any ts
 sets_law ts =
@@ -299,16 +289,16 @@ right_member ts =
     right_weaker (λ ys m k ps p. (ps, ys, flag_optional T.Public f ps p, k, refl)) (λ m r k. k) (right_bare_member r))
 
 whole_field_long : (fin : Bool) (t : FieldTree) (zs : List Token) → SpellsField fin t zs → 0 < length zs
-whole_field_long true t zs p = long_is zs _ p.6 (omega arith)
-whole_field_long false t zs p = long_is zs _ p.5 (omega arith)
+whole_field_long true t zs p = along_length zs _ p.6 (omega arith)
+whole_field_long false t zs p = along_length zs _ p.5 (omega arith)
 
 bare_long : (m : MemberTree) (zs : List Token) → SpellsBare m zs → 0 < length zs
 bare_long (FieldM t) zs p = whole_field_long t.is_final t zs p
-bare_long (CtorM n ps ss) zs p = long_is zs _ p.8 (omega arith)
-bare_long (MethodM m) zs p = long_is zs _ p.13 (long_left p.0 _ _)
+bare_long (CtorM n ps ss) zs p = along_length zs _ p.8 (omega arith)
+bare_long (MethodM m) zs p = along_length zs _ p.13 (append_left p.0 _ _)
 
 pub member_long : (zs : List Token) (m : MemberTree) → SpellsMember m zs → 0 < length zs
-member_long zs m p = long_is zs _ p.4 (let k = bare_long m p.1 p.3 in omega (arith, length-append p.0 p.1, k))
+member_long zs m p = along_length zs _ p.4 (let k = bare_long m p.1 p.3 in omega (arith, length-append p.0 p.1, k))
 
 pub member_example : Some_of (λ zs m. SpellsMember m zs)
 member_example = (
@@ -317,14 +307,14 @@ member_example = (
   ([], token T.Int 0 ∷ name_token x_name ∷ token T.Semicolon 0 ∷ [], inl refl, (token T.Int 0, [], 0, refl, (refl, refl), refl), refl),
 )
 
-more_members : (so : List MemberTree) (m : MemberTree) → body_height m ≤ 64 → highest_member so ≤ 64 → highest_member (so ++ (m ∷ [])) ≤ 64
+more_members : (so : List MemberTree) (m : MemberTree) → body_height m ≤ most_height → highest_member so ≤ most_height → highest_member (so ++ (m ∷ [])) ≤ most_height
 more_members [] m a b = omega (arith, a)
-more_members (x ∷ so) m a b = let k : highest_member so ≤ 64 = omega (arith, b) in let i = more_members so m a k in omega (arith, b, i)
+more_members (x ∷ so) m a b = let k : highest_member so ≤ most_height = omega (arith, b) in let i = more_members so m a k in omega (arith, b, i)
 
-members_law : (ts : List Token) → Right (several goes_on member) (λ zs ms. Repeats SpellsMember ms zs) (λ ms r. highest_member ms ≤ 64) ts
+members_law : (ts : List Token) → Right (several goes_on member) (λ zs ms. Repeats SpellsMember ms zs) (λ ms r. highest_member ms ≤ most_height) ts
 members_law ts =
     right_weaker (λ zs b m. m) (λ b r q. q.0)
-    (right_several member (λ zs m. SpellsMember m zs) LowMember member_example member_long (λ ms. highest_member ms ≤ 64) (λ so m r a b. more_members so m a b)
+    (right_several member (λ zs m. SpellsMember m zs) LowMember member_example member_long (λ ms. highest_member ms ≤ most_height) (λ so m r a b. more_members so m a b)
     goes_on (λ x xs g. right_member (x ∷ xs)) (λ ms zs. Repeats SpellsMember ms zs) refl (λ a rest xs ys p q. (xs, ys, p, q, refl)) (omega arith) ts)
 
 right_runnable : (ts : List Token) → Right runnable (λ zs r. SpellsRunnable r zs) Any ts
@@ -338,7 +328,7 @@ make_class : Name → Bool → List MemberTree → ClassTree
 make_class n r ms = record { name = n; runnable = r; members = ms }
 
 abbrev pub LowClass : ClassTree → List Token → Type 0
-LowClass c r = highest_member c.members ≤ 64
+LowClass c r = highest_member c.members ≤ most_height
 
 pub right_class : (ts : List Token) → Right class_at (λ zs c. SpellsClass c zs) LowClass ts
 unfolding class_at make_class
@@ -354,19 +344,19 @@ right_class ts =
     right_done (λ xs s rs q ps p. (ps, rs, xs, d, b, e, flag_optional T.Public f ps p, q, s, refl)) low)))))))
 
 pub class_long : (zs : List Token) (c : ClassTree) → SpellsClass c zs → 0 < length zs
-class_long zs c p = long_is zs _ p.9 (long_left p.0 _ _)
+class_long zs c p = along_length zs _ p.9 (append_left p.0 _ _)
 
 pub class_example : Some_of (λ zs c. SpellsClass c zs)
 unfolding make_class
 class_example = (token T.Class 0 ∷ name_token x_name ∷ token T.OpenBrace 0 ∷ token T.CloseBrace 0 ∷ [], make_class x_name false [], ([], [], [], 0, 0, 0, inl refl, refl, refl, refl))
 
-more_classes : (so : ProgramTree) (c : ClassTree) → highest_member c.members ≤ 64 → highest_body so ≤ 64 → highest_body (so ++ (c ∷ [])) ≤ 64
+more_classes : (so : ProgramTree) (c : ClassTree) → highest_member c.members ≤ most_height → highest_body so ≤ most_height → highest_body (so ++ (c ∷ [])) ≤ most_height
 more_classes [] c a b = omega (arith, a)
-more_classes (x ∷ so) c a b = let k : highest_body so ≤ 64 = omega (arith, b) in let i = more_classes so c a k in omega (arith, b, i)
+more_classes (x ∷ so) c a b = let k : highest_body so ≤ most_height = omega (arith, b) in let i = more_classes so c a k in omega (arith, b, i)
 
 -- a program is read right: what is read is no higher than the limit, and no token is left
-pub right_program : (ts : List Token) → Right program (λ zs t. Wide zs t) (λ t r. (highest_body t ≤ 64) × (starts (λ x. true) r ≡ false)) ts
+pub right_program : (ts : List Token) → Right program (λ zs t. Wide zs t) (λ t r. (highest_body t ≤ most_height) × (starts (λ x. true) r ≡ false)) ts
 unfolding program
 right_program ts =
-    right_several class_at (λ zs c. SpellsClass c zs) LowClass class_example class_long (λ t. highest_body t ≤ 64) (λ so c r a b. more_classes so c a b)
+    right_several class_at (λ zs c. SpellsClass c zs) LowClass class_example class_long (λ t. highest_body t ≤ most_height) (λ so c r a b. more_classes so c a b)
     (λ x. true) (λ x xs g. right_class (x ∷ xs)) (λ t zs. Wide zs t) refl (λ a rest xs ys p q. (xs, ys, p, q, refl)) (omega arith) ts

@@ -1,5 +1,6 @@
 -- Single tokens, choices, ends and limits are right.
 use Rattle.std.proofs.Common.{◌≡◌, ℕ, ◌&&◌, Bool, true, false, List, [], ◌∷◌, ◌++◌, Option, Some, None, Ok, Err, if◌then◌else◌, refl, sym, ◌∙◌, ap, subst}
+use Rattle.std.proofs.lemmas.Bool.{and_parts}
 use Rattle.std.specs.Str.{bytes_eq}
 use Rattle.std.proofs.lemmas.Slice.Eq.{bytes_eq-Decides}
 use Rattle.aj_lexer.specs.declared.tokens.Token.{Token}
@@ -11,7 +12,7 @@ use Rattle.aj_syntax.specs.Grammar.{IsFlag, offset}
 use Rattle.aj_syntax.specs.Tokens.{is, token, name_token, same_kind, kind_of, spelling}
 use Rattle.aj_parser.proofs.Right.{Meets, Goes, RightAt, Right, Any, Some_of, right_seq, right_along, right_weaker}
 use Rattle.aj_parser.specs.Combine.{Res, ◌>>=◌, starts, got, first, allow, take_one, when, flag, flagged, beyond}
-use Rattle.aj_parser.specs.Reading.{a_name, name_if}
+use Rattle.aj_parser.specs.Words.{a_name, name_if}
 use Rattle.aj_parser.specs.declared.stop.Fault.TheVariants as F
 
 -- one token of which C says what it means
@@ -59,11 +60,6 @@ right_first {A} {test} C some sound [] = record {
 }
 right_first {A} {test} C some sound (x ∷ xs) = record { at = first_at test C some x xs (test x) refl (λ a e. sound x a e) }
 
-and_true : (a b : Bool) → a && b ≡ true → (a ≡ true) × (b ≡ true)
-and_true true true h = (refl, refl)
-and_true true false h = cc
-and_true false b h = cc
-
 same_kind_is : (a b : TokenKind) → same_kind a b ≡ true → a ≡ b
 same_kind_is K.Name K.Name h = refl
 same_kind_is K.Name K.Word h = cc
@@ -82,13 +78,13 @@ same_kind_is K.Sign K.Sign h = refl
 -- a token that passes a terminal's test is that terminal's
 pub is_token : (t : Terminal) (x : Token) → is t x ≡ true → x ≡ token t x.at
 is_token t x h =
-    let b = and_true (same_kind x.kind (kind_of t)) (bytes_eq x.text (spelling t)) h in
+    let b = and_parts (same_kind x.kind (kind_of t)) (bytes_eq x.text (spelling t)) h in
     let e : x.kind ≡ kind_of t = same_kind_is x.kind (kind_of t) b.0 in
     let d : x.text ≡ spelling t = (bytes_eq-Decides x.text (spelling t)).0 b.1 in
     let make : TokenKind → List ℕ → Token = λ k s. record { kind = k; text = s; at = x.at } in
     ap (λ k. make k x.text) e ∙ ap (λ s. make (kind_of t) s) d
 
-when_true : {A : Type 0} (b : Bool) (a c : A) → when b a ≡ Some c → (b ≡ true) × (a ≡ c)
+pub when_true : {A : Type 0} (b : Bool) (a c : A) → when b a ≡ Some c → (b ≡ true) × (a ≡ c)
 when_true true a c h = (refl, cc)
 when_true false a c h = cc
 

@@ -14,7 +14,8 @@ use Rattle.aj_parser.proofs.Parts.{x_name}
 use Rattle.aj_parser.proofs.Right.{Any}
 use Rattle.aj_parser.proofs.Statements.{FieldL, field_long, StmtL, Ends, stmt_long, right_statement}
 use Rattle.aj_parser.specs.Combine.{◌>>=◌, starts, loop, beyond, item_step}
-use Rattle.aj_parser.specs.Reading.{field_name, goes_on, braces, statement_at, statement_with, block_at, begins_statement, block_statement}
+use Rattle.aj_parser.specs.Words.{field_name}
+use Rattle.aj_parser.specs.Statements.{goes_on, braces, statement_at, statement_with, block_at, begins_statement, block_statement}
 
 field_takes : Takes (is T.Dot) (item_step field_name)
 field_takes = several_takes field_name FieldL Any (token T.Dot 0 ∷ name_token x_name ∷ [], x_name, (0, refl)) field_long (λ ns. Unit {0}) (λ so a r p q. tt)

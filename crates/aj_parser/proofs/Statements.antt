@@ -12,13 +12,16 @@ use Rattle.aj_syntax.specs.Heights.{height, stmt_height, stmt_heights}
 use Rattle.aj_syntax.specs.Tokens.{is, token, name_token}
 use Rattle.aj_syntax.specs.Trees.{LockTree, ExprTree, NumberE, LeastE, TruthE, NullE, ThisE, VarE, ParenE, NotE, NegE, BinaryE, GetE, CallE, NewE, no_exprs, StmtTree, EmptyS, BlockS, LocalS, SetVarS, SetFieldS, DoS, IfS, IfElseS, WhileS, SyncS, ReturnS, PrintS, StartS, no_stmts}
 use Rattle.aj_syntax.specs.Views.{stmts_from}
-use Rattle.aj_parser.proofs.Expressions.{Level, Postfix, spelled_long, Completes, leaf_some, paren_some, new_some, or_else, field_law, right_primary, right_dots, right_new_rest}
+use Rattle.aj_parser.proofs.Expressions.{along_length, append_left, Level, Postfix, spelled_long, Completes, leaf_some, paren_some, new_some, or_else, field_law, right_primary, right_dots, right_new_rest}
 use Rattle.aj_parser.proofs.Lists.{right_several}
 use Rattle.aj_parser.proofs.Loops.{below_law}
 use Rattle.aj_parser.proofs.Parts.{One, Through_next, right_one, right_tok, right_name, right_done, right_if, right_choice, right_allow, right_beyond, x_name, is_token, right_fail}
 use Rattle.aj_parser.proofs.Right.{Right, Any, Some_of, right_seq, right_weaker}
 use Rattle.aj_parser.specs.Combine.{Res, ◌>>=◌, starts, several}
-use Rattle.aj_parser.specs.Reading.{is_name, is_leaf, field_name, lock, type_name, below, first_at, begins_local, begins_statement, goes_on, braces, expression, condition, return_statement, print_statement, start_rest, assign, assigned, local_rest, local_statement, call_end, target, finish, finish_from, new_statement, name_statement, expression_statement, plain_statement, else_part, if_statement, while_statement, sync_statement, block_statement, statement_with, statement_at, block_at}
+use Rattle.aj_parser.specs.Words.{is_name, field_name, lock, type_name}
+use Rattle.aj_syntax.specs.Offsets.{first_at}
+use Rattle.aj_parser.specs.Expressions.{is_leaf, below}
+use Rattle.aj_parser.specs.Statements.{begins_local, begins_statement, goes_on, braces, expression, condition, return_statement, print_statement, start_rest, assign, assigned, local_rest, local_statement, call_end, target, finish, finish_from, new_statement, name_statement, expression_statement, plain_statement, else_part, if_statement, while_statement, sync_statement, block_statement, statement_with, statement_at, block_at}
 
 x_tokens : List Token
 x_tokens = name_token x_name ∷ []
@@ -408,27 +411,21 @@ statement_some in_block x h =
     (λ e. local_first in_block x e) h
 
 -- statements are not empty
-long_is : (zs ts : List Token) → zs ≡ ts → 0 < length ts → 0 < length zs
-long_is zs ts e h = subst (λ z. 0 < length z) (sym e) h
-
-long_left : (xs : List Token) (y : Token) (ys : List Token) → 0 < length (xs ++ (y ∷ ys))
-long_left xs y ys = omega (arith, length-append xs (y ∷ ys))
-
 pub stmt_long : (s : StmtTree) (zs : List Token) → SpellsStmt s zs → 0 < length zs
-stmt_long (EmptyS at) zs p = long_is zs _ p (omega arith)
-stmt_long (BlockS ss at) zs p = long_is zs _ p.3 (omega arith)
-stmt_long (LocalS fin ty n e at) zs p = long_is zs _ p.9 (long_left p.0 _ _)
-stmt_long (SetVarS n e at) zs p = long_is zs _ p.3 (omega arith)
-stmt_long (SetFieldS e n f at) zs p = long_is zs _ p.7 (long_left p.0 _ _)
-stmt_long (DoS e at) zs p = long_is zs _ p.5 (long_left p.0 _ _)
-stmt_long (IfS e s at) zs p = long_is zs _ p.7 (omega arith)
-stmt_long (IfElseS e s t at) zs p = long_is zs _ p.12 (omega arith)
-stmt_long (WhileS e s at) zs p = long_is zs _ p.7 (omega arith)
-stmt_long (SyncS l ss at) zs p = long_is zs _ p.8 (omega arith)
-stmt_long (ReturnS None at) zs p = long_is zs _ p.1 (omega arith)
-stmt_long (ReturnS (Some e) at) zs p = long_is zs _ p.3 (omega arith)
-stmt_long (PrintS e at) zs p = long_is zs _ p.9 (omega arith)
-stmt_long (StartS e at) zs p = long_is zs _ p.10 (omega arith)
+stmt_long (EmptyS at) zs p = along_length zs _ p (omega arith)
+stmt_long (BlockS ss at) zs p = along_length zs _ p.3 (omega arith)
+stmt_long (LocalS fin ty n e at) zs p = along_length zs _ p.9 (append_left p.0 _ _)
+stmt_long (SetVarS n e at) zs p = along_length zs _ p.3 (omega arith)
+stmt_long (SetFieldS e n f at) zs p = along_length zs _ p.7 (append_left p.0 _ _)
+stmt_long (DoS e at) zs p = along_length zs _ p.5 (append_left p.0 _ _)
+stmt_long (IfS e s at) zs p = along_length zs _ p.7 (omega arith)
+stmt_long (IfElseS e s t at) zs p = along_length zs _ p.12 (omega arith)
+stmt_long (WhileS e s at) zs p = along_length zs _ p.7 (omega arith)
+stmt_long (SyncS l ss at) zs p = along_length zs _ p.8 (omega arith)
+stmt_long (ReturnS None at) zs p = along_length zs _ p.1 (omega arith)
+stmt_long (ReturnS (Some e) at) zs p = along_length zs _ p.3 (omega arith)
+stmt_long (PrintS e at) zs p = along_length zs _ p.9 (omega arith)
+stmt_long (StartS e at) zs p = along_length zs _ p.10 (omega arith)
 
 -- blocks
 

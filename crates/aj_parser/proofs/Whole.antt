@@ -5,6 +5,7 @@ use Rattle.aj_lexer.specs.declared.tokens.Token.{Token}
 use Rattle.aj_syntax.specs.Faults.{Through, IsUnexpected, IsTooDeep}
 use Rattle.aj_syntax.specs.Grammar.{Wide, Grammar}
 use Rattle.aj_syntax.specs.Heights.{highest_body}
+use Rattle.aj_syntax.specs.Limits.{most_height}
 use Rattle.aj_syntax.specs.Names.{names_of_program}
 use Rattle.aj_syntax.specs.Tokens.{name_token}
 use Rattle.aj_syntax.proofs.Naming.{names_are_tokens}
@@ -14,7 +15,7 @@ use Rattle.aj_parser.proofs.CompleteMembers.{program_read}
 use Rattle.aj_parser.proofs.Members.{right_program}
 use Rattle.aj_parser.proofs.Right.{Meets, Goes, RightAt, RightOk, RightErr}
 use Rattle.aj_parser.specs.Combine.{Res, starts}
-use Rattle.aj_parser.specs.Reading.{program}
+use Rattle.aj_parser.specs.Members.{program}
 use Rattle.aj_parser.specs.declared.stop.Fault.{Fault}
 use Rattle.aj_parser.specs.declared.stop.Fault.TheVariants as F
 
@@ -22,7 +23,7 @@ abbrev Reads : List Token → ProgramTree → Type 0
 Reads zs t = Wide zs t
 
 abbrev Ends : ProgramTree → List Token → Type 0
-Ends t r = (highest_body t ≤ 64) × (starts (λ x. true) r ≡ false)
+Ends t r = (highest_body t ≤ most_height) × (starts (λ x. true) r ≡ false)
 
 ok_pair : (y z : ProgramTree × List Token) → (let r : Res ProgramTree = Ok y in r ≡ Ok z) → y ≡ z
 ok_pair y z h = cc
@@ -59,7 +60,7 @@ same_low low r s (deep d n) l = absurd (n l)
 
 -- what is in the grammar is read
 pub read_only : (ts : List Token) (t : ProgramTree) → Grammar ts t → program ts ≡ Ok (t, [])
-read_only ts t g = same_low (highest_body t ≤ 64) (program ts) (Ok (t, [])) (program_read t ts g.0) g.1
+read_only ts t g = same_low (highest_body t ≤ most_height) (program ts) (Ok (t, [])) (program_read t ts g.0) g.1
 
 take_front : (f r : List Token) → take (length f) (f ++ r) ≡ f
 take_front [] r = refl
@@ -108,10 +109,10 @@ unexpected_right ts r k e i =
           let q : Through (length g.front) (g.front ++ r) w = subst (λ z. Through z (g.front ++ r) w) at (subst (λ z. Through k z w) g.whole p) in
           let split = through_split g.front r w q in
           let told : program w ≡ Err (F.Unexpected, split.0) = ap program split.1 ∙ g.again split.0 split.2 in
-          unexpected_none (highest_body t ≤ 64) (program w) (Ok (t, [])) t [] split.0 (program_read t w s) told;
+          unexpected_none (highest_body t ≤ most_height) (program w) (Ok (t, [])) t [] split.0 (program_read t w s) told;
     }
 
-deep_high : (h : ℕ) (r : Res ProgramTree) (t : ProgramTree) (w v : List Token) → Same (h ≤ 64) r (Ok (t, w)) → r ≡ Err (F.TooDeep, v) → 64 < h
+deep_high : (h : ℕ) (r : Res ProgramTree) (t : ProgramTree) (w v : List Token) → Same (h ≤ most_height) r (Ok (t, w)) → r ≡ Err (F.TooDeep, v) → most_height < h
 deep_high h r t w v (same e) i = cc
 deep_high h r t w v (deep d n) i = omega (arith, n)
 

@@ -1,3 +1,6 @@
 pub mod Answer
 pub mod Combine
-pub mod Reading
+pub mod Words
+pub mod Expressions
+pub mod Statements
+pub mod Members

@@ -2,11 +2,13 @@
 
 ghost use Rattle.std.specs.Prelude.{◌≡◌, ℕ, suc, ◌+◌, ◌-◌, ◌<◌, ◌≤◌, map, length, IfOk};
 ghost use Rattle.aj_syntax.specs.Heights.{height as height_of, heights};
+ghost use Rattle.aj_syntax.specs.Limits.{most_height};
 ghost use Rattle.aj_syntax.specs.Trees.{BinaryE, CallE, NewE};
 ghost use Rattle.aj_syntax.specs.Views.{expr_of, exprs_from};
 ghost use Rattle.aj_parser.specs.Answer.{Gives};
 ghost use Rattle.aj_parser.specs.Combine.{comma_step, loop};
-ghost use Rattle.aj_parser.specs.Reading.{arguments as arguments_at, below, call_arguments, chain_at, chain_with, is_op, dots as dots_at, field_name as field_name_at, leaf as leaf_at, member_rest as member_rest_at, member_step as member_step_at, negated as negated_at, new_rest as new_rest_at, op_step, parenthesised as parenthesised_at, postfix as postfix_at, primary as primary_at, unary as unary_at};
+ghost use Rattle.aj_parser.specs.Words.{is_op, field_name as field_name_at};
+ghost use Rattle.aj_parser.specs.Expressions.{arguments as arguments_at, below, call_arguments, chain_at, chain_with, dots as dots_at, leaf as leaf_at, member_rest as member_rest_at, member_step as member_step_at, negated as negated_at, new_rest as new_rest_at, op_step, parenthesised as parenthesised_at, postfix as postfix_at, primary as primary_at, unary as unary_at};
 
 use crate::stop::{Fault, Stop};
 use crate::tokens::{
@@ -49,7 +51,7 @@ fn leaf_of<'t, 'a>(tree: Expr<'a>, rest: &'t [Token<'a>]) -> Parsed<'t, 'a>
 }
 
 /// A number, a truth value, `null`, `this` or a name.
-#[tactic(auto, unfolding(crate::specs::Reading::leaf))]
+#[tactic(auto, unfolding(crate::specs::Expressions::leaf))]
 pub fn leaf<'t, 'a>(tokens: &'t [Token<'a>]) -> Result<Parsed<'t, 'a>, Stop<'t, 'a>>
     ensures tree { Gives (λ x. (expr_of x.tree, x.rest.now)) result (leaf_at tokens.now) }
     ensures height { IfOk result (λ x. x.height ≡ height_of (expr_of x.tree)) }
@@ -80,7 +82,7 @@ pub fn leaf<'t, 'a>(tokens: &'t [Token<'a>]) -> Result<Parsed<'t, 'a>, Stop<'t, 
 }
 
 /// A dot and a name.
-#[tactic(auto, unfolding(crate::specs::Reading::field_name))]
+#[tactic(auto, unfolding(crate::specs::Words::field_name))]
 pub fn field_name<'t, 'a>(
     tokens: &'t [Token<'a>],
 ) -> Result<(Name<'a>, &'t [Token<'a>]), Stop<'t, 'a>>
@@ -116,7 +118,7 @@ fn next_argument<'t, 'a>(
     so_far: Arguments<'t, 'a>,
     high: u32,
 ) -> Result<Arguments<'t, 'a>, Stop<'t, 'a>>
-    requires high { high ≤ 64 }
+    requires high { high ≤ most_height }
     requires positive { 0 < high }
     requires height { so_far.height ≡ heights (exprs_from (map expr_of so_far.items.items)) }
     requires limit { so_far.height < high }
@@ -142,13 +144,13 @@ fn next_argument<'t, 'a>(
 
 /// Arguments up to the closing parenthesis.
 #[cycle(expression)]
-#[tactic(auto, unfolding(crate::specs::Reading::arguments), using(crate::proofs::Loops::argument_more, crate::proofs::Loops::argument_done))]
+#[tactic(auto, unfolding(crate::specs::Expressions::arguments), using(crate::proofs::Loops::argument_more, crate::proofs::Loops::argument_done))]
 fn argument_list<'t, 'a>(
     alloc: Global,
     tokens: &'t [Token<'a>],
     high: u32,
 ) -> Result<Arguments<'t, 'a>, Stop<'t, 'a>>
-    requires high { high ≤ 64 }
+    requires high { high ≤ most_height }
     requires positive { 0 < high }
     ensures tree { Gives (λ x. (map expr_of x.items.items, x.rest.now)) result (arguments_at high (below high) tokens.now) }
     ensures height { IfOk result (λ x. x.height ≡ heights (exprs_from (map expr_of x.items.items))) }
@@ -174,13 +176,13 @@ fn argument_list<'t, 'a>(
 
 /// Arguments in parentheses.
 #[cycle(expression)]
-#[tactic(auto, unfolding(crate::specs::Reading::call_arguments))]
+#[tactic(auto, unfolding(crate::specs::Expressions::call_arguments))]
 fn arguments_in_parentheses<'t, 'a>(
     alloc: Global,
     tokens: &'t [Token<'a>],
     high: u32,
 ) -> Result<Arguments<'t, 'a>, Stop<'t, 'a>>
-    requires high { high ≤ 64 }
+    requires high { high ≤ most_height }
     requires positive { 0 < high }
     ensures tree { Gives (λ x. (map expr_of x.items.items, x.rest.now)) result (call_arguments high (below high) tokens.now) }
     ensures height { IfOk result (λ x. x.height ≡ heights (exprs_from (map expr_of x.items.items))) }
@@ -203,14 +205,14 @@ fn arguments_in_parentheses<'t, 'a>(
 
 /// What stands behind `new`, which is at the offset `at`.
 #[cycle(expression)]
-#[tactic(auto, unfolding(crate::specs::Reading::new_rest))]
+#[tactic(auto, unfolding(crate::specs::Expressions::new_rest))]
 pub fn new_rest<'t, 'a>(
     alloc: Global,
     tokens: &'t [Token<'a>],
     high: u32,
     at: u32,
 ) -> Result<Parsed<'t, 'a>, Stop<'t, 'a>>
-    requires high { high ≤ 64 }
+    requires high { high ≤ most_height }
     requires positive { 0 < high }
     ensures tree { Gives (λ x. (expr_of x.tree, x.rest.now)) result (new_rest_at high (below high) at tokens.now) }
     ensures height { IfOk result (λ x. x.height ≡ height_of (expr_of x.tree)) }
@@ -231,13 +233,13 @@ pub fn new_rest<'t, 'a>(
 
 /// An expression in parentheses.
 #[cycle(expression)]
-#[tactic(auto, unfolding(crate::specs::Reading::parenthesised))]
+#[tactic(auto, unfolding(crate::specs::Expressions::parenthesised))]
 fn parenthesised<'t, 'a>(
     alloc: Global,
     tokens: &'t [Token<'a>],
     high: u32,
 ) -> Result<Parsed<'t, 'a>, Stop<'t, 'a>>
-    requires high { high ≤ 64 }
+    requires high { high ≤ most_height }
     requires positive { 0 < high }
     ensures tree { Gives (λ x. (expr_of x.tree, x.rest.now)) result (parenthesised_at high (below high) tokens.now) }
     ensures height { IfOk result (λ x. x.height ≡ height_of (expr_of x.tree)) }
@@ -254,13 +256,13 @@ fn parenthesised<'t, 'a>(
 }
 
 #[cycle(expression)]
-#[tactic(auto, unfolding(crate::specs::Reading::primary))]
+#[tactic(auto, unfolding(crate::specs::Expressions::primary))]
 pub fn primary<'t, 'a>(
     alloc: Global,
     tokens: &'t [Token<'a>],
     high: u32,
 ) -> Result<Parsed<'t, 'a>, Stop<'t, 'a>>
-    requires high { high ≤ 64 }
+    requires high { high ≤ most_height }
     requires positive { 0 < high }
     ensures tree { Gives (λ x. (expr_of x.tree, x.rest.now)) result (primary_at high (below high) tokens.now) }
     ensures height { IfOk result (λ x. x.height ≡ height_of (expr_of x.tree)) }
@@ -278,7 +280,7 @@ pub fn primary<'t, 'a>(
 
 /// What stands behind a dot and a name: arguments, or nothing.
 #[cycle(expression)]
-#[tactic(auto, unfolding(crate::specs::Reading::member_rest))]
+#[tactic(auto, unfolding(crate::specs::Expressions::member_rest))]
 fn member_rest<'t, 'a>(
     alloc: Global,
     receiver: Parsed<'t, 'a>,
@@ -286,7 +288,7 @@ fn member_rest<'t, 'a>(
     tokens: &'t [Token<'a>],
     high: u32,
 ) -> Result<Parsed<'t, 'a>, Stop<'t, 'a>>
-    requires high { high ≤ 64 }
+    requires high { high ≤ most_height }
     requires positive { 0 < high }
     requires height { receiver.height ≡ height_of (expr_of receiver.tree) }
     requires limit { receiver.height < high }
@@ -323,13 +325,13 @@ fn member_rest<'t, 'a>(
 
 /// A field or a call behind a receiver.
 #[cycle(expression)]
-#[tactic(auto, unfolding(crate::specs::Reading::member_step))]
+#[tactic(auto, unfolding(crate::specs::Expressions::member_step))]
 fn member<'t, 'a>(
     alloc: Global,
     receiver: Parsed<'t, 'a>,
     high: u32,
 ) -> Result<Parsed<'t, 'a>, Stop<'t, 'a>>
-    requires high { high ≤ 64 }
+    requires high { high ≤ most_height }
     requires positive { 0 < high }
     requires height { receiver.height ≡ height_of (expr_of receiver.tree) }
     ensures tree { Gives (λ x. (expr_of x.tree, x.rest.now)) result (member_step_at high (below high) (expr_of receiver.entry.tree) receiver.entry.rest.now) }
@@ -346,13 +348,13 @@ fn member<'t, 'a>(
 
 /// The fields and calls behind an expression.
 #[cycle(expression)]
-#[tactic(auto, unfolding(crate::specs::Reading::dots), using(crate::proofs::Loops::member_more, crate::proofs::Loops::member_done))]
+#[tactic(auto, unfolding(crate::specs::Expressions::dots), using(crate::proofs::Loops::member_more, crate::proofs::Loops::member_done))]
 pub fn dots<'t, 'a>(
     alloc: Global,
     front: Parsed<'t, 'a>,
     high: u32,
 ) -> Result<Parsed<'t, 'a>, Stop<'t, 'a>>
-    requires high { high ≤ 64 }
+    requires high { high ≤ most_height }
     requires positive { 0 < high }
     requires height { front.height ≡ height_of (expr_of front.tree) }
     requires limit { front.height ≤ high }
@@ -368,13 +370,13 @@ pub fn dots<'t, 'a>(
 }
 
 #[cycle(expression)]
-#[tactic(auto, unfolding(crate::specs::Reading::postfix))]
+#[tactic(auto, unfolding(crate::specs::Expressions::postfix))]
 fn postfix<'t, 'a>(
     alloc: Global,
     tokens: &'t [Token<'a>],
     high: u32,
 ) -> Result<Parsed<'t, 'a>, Stop<'t, 'a>>
-    requires high { high ≤ 64 }
+    requires high { high ≤ most_height }
     requires positive { 0 < high }
     ensures tree { Gives (λ x. (expr_of x.tree, x.rest.now)) result (postfix_at high (below high) tokens.now) }
     ensures height { IfOk result (λ x. x.height ≡ height_of (expr_of x.tree)) }
@@ -386,14 +388,14 @@ fn postfix<'t, 'a>(
 
 /// What stands behind a `-` at the offset `at`.
 #[cycle(expression)]
-#[tactic(auto, unfolding(crate::specs::Reading::negated))]
+#[tactic(auto, unfolding(crate::specs::Expressions::negated))]
 fn negated<'t, 'a>(
     alloc: Global,
     tokens: &'t [Token<'a>],
     high: u32,
     at: u32,
 ) -> Result<Parsed<'t, 'a>, Stop<'t, 'a>>
-    requires high { high ≤ 64 }
+    requires high { high ≤ most_height }
     requires positive { 0 < high }
     ensures tree { Gives (λ x. (expr_of x.tree, x.rest.now)) result (negated_at high (below high) at tokens.now) }
     ensures height { IfOk result (λ x. x.height ≡ height_of (expr_of x.tree)) }
@@ -412,13 +414,13 @@ fn negated<'t, 'a>(
 }
 
 #[cycle(expression)]
-#[tactic(auto, unfolding(crate::specs::Reading::unary))]
+#[tactic(auto, unfolding(crate::specs::Expressions::unary))]
 fn unary<'t, 'a>(
     alloc: Global,
     tokens: &'t [Token<'a>],
     high: u32,
 ) -> Result<Parsed<'t, 'a>, Stop<'t, 'a>>
-    requires high { high ≤ 64 }
+    requires high { high ≤ most_height }
     requires positive { 0 < high }
     ensures tree { Gives (λ x. (expr_of x.tree, x.rest.now)) result (unary_at high (below high) tokens.now) }
     ensures height { IfOk result (λ x. x.height ≡ height_of (expr_of x.tree)) }
@@ -442,14 +444,14 @@ fn unary<'t, 'a>(
 
 /// An operator and its right operand, behind the left one.
 #[cycle(expression)]
-#[tactic(auto, unfolding(crate::specs::Reading::op_step))]
+#[tactic(auto, unfolding(crate::specs::Expressions::op_step))]
 fn operation<'t, 'a>(
     alloc: Global,
     left: Parsed<'t, 'a>,
     high: u32,
     levels: u32,
 ) -> Result<Parsed<'t, 'a>, Stop<'t, 'a>>
-    requires high { high ≤ 64 }
+    requires high { high ≤ most_height }
     requires positive { 0 < high }
     requires levels { levels < 6 }
     requires height { left.height ≡ height_of (expr_of left.tree) }
@@ -485,7 +487,7 @@ fn operators<'t, 'a>(
     high: u32,
     levels: u32,
 ) -> Result<Parsed<'t, 'a>, Stop<'t, 'a>>
-    requires high { high ≤ 64 }
+    requires high { high ≤ most_height }
     requires positive { 0 < high }
     requires first { 0 < levels }
     requires levels { levels ≤ 6 }
@@ -511,7 +513,7 @@ fn operations<'t, 'a>(
     high: u32,
     levels: u32,
 ) -> Result<Parsed<'t, 'a>, Stop<'t, 'a>>
-    requires high { high ≤ 64 }
+    requires high { high ≤ most_height }
     requires positive { 0 < high }
     requires levels { levels ≤ 6 }
     ensures tree { Gives (λ x. (expr_of x.tree, x.rest.now)) result (chain_with high (below high) levels tokens.now) }
@@ -539,7 +541,7 @@ pub fn chain<'t, 'a>(
     high: u32,
     levels: u32,
 ) -> Result<Parsed<'t, 'a>, Stop<'t, 'a>>
-    requires high { high ≤ 64 }
+    requires high { high ≤ most_height }
     requires levels { levels ≤ 6 }
     ensures tree { Gives (λ x. (expr_of x.tree, x.rest.now)) result (chain_at high levels tokens.now) }
     ensures height { IfOk result (λ x. x.height ≡ height_of (expr_of x.tree)) }

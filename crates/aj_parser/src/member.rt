@@ -6,21 +6,20 @@ ghost use Rattle.aj_syntax.specs.Tokens.{is};
 ghost use Rattle.aj_syntax.specs.Views.{class_of, lock_of, member_of, stmt_of, stmts_from};
 ghost use Rattle.aj_parser.specs.Answer.{Gives};
 ghost use Rattle.aj_parser.specs.Combine.{comma_step, item_step, several, starts};
-ghost use Rattle.aj_parser.specs.Reading.{bare_member as bare_member_at, class_at, ctor_rest as ctor_rest_at, field_rest as field_rest_at, final_field as final_field_at, goes_on as may_go_on, guard as guard_at, lock as lock_at, member as member_at, method_rest as method_rest_at, named_member as named_member_at, param as param_at, param_list as param_list_at, params as params_at, plain_method as plain_method_at, program as program_at, required as required_at, result_type as result_type_at, runnable as runnable_at, set as set_at, typed_rest as typed_rest_at};
+ghost use Rattle.aj_parser.specs.Words.{lock as lock_at};
+ghost use Rattle.aj_parser.specs.Statements.{goes_on as may_go_on};
+ghost use Rattle.aj_parser.specs.Members.{bare_member as bare_member_at, class_at, ctor_rest as ctor_rest_at, field_rest as field_rest_at, final_field as final_field_at, guard as guard_at, member as member_at, method_rest as method_rest_at, named_member as named_member_at, param as param_at, param_list as param_list_at, params as params_at, plain_method as plain_method_at, program as program_at, required as required_at, result_type as result_type_at, runnable as runnable_at, set as set_at, typed_rest as typed_rest_at};
 
 use crate::expression::field_name;
 use crate::statement::{Braces, block, lock, type_name};
 use crate::stop::Stop;
 use crate::tokens::{begins, begins_name, flag, goes_on, name, take};
 use aj_lexer::Token;
-use aj_syntax::{Class, Lock, Member, Name, Param, Terminal, TypeName};
+use aj_syntax::{Class, Lock, MOST_HEIGHT, Member, Name, Param, Terminal, TypeName};
 use std::alloc::Global;
 
-/// The height of a method body, which counts as one block, is at most this.
-pub const MAX_HEIGHT: u32 = 64;
-
 /// A parameter. A constructor's is never final, whatever its text says.
-#[tactic(auto, unfolding(crate::specs::Reading::param))]
+#[tactic(auto, unfolding(crate::specs::Members::param))]
 fn param<'t, 'a>(
     tokens: &'t [Token<'a>],
     of_ctor: bool,
@@ -57,7 +56,7 @@ fn next_param<'t, 'a>(
 }
 
 /// Parameters with commas between them, or none.
-#[tactic(auto, unfolding(crate::specs::Reading::param_list), using(crate::proofs::MemberLoops::param_more, crate::proofs::MemberLoops::param_done))]
+#[tactic(auto, unfolding(crate::specs::Members::param_list), using(crate::proofs::MemberLoops::param_more, crate::proofs::MemberLoops::param_done))]
 fn param_list<'t, 'a>(
     alloc: Global,
     tokens: &'t [Token<'a>],
@@ -79,7 +78,7 @@ fn param_list<'t, 'a>(
 }
 
 /// Parameters in parentheses.
-#[tactic(auto, unfolding(crate::specs::Reading::params))]
+#[tactic(auto, unfolding(crate::specs::Members::params))]
 fn params<'t, 'a>(
     alloc: Global,
     tokens: &'t [Token<'a>],
@@ -110,7 +109,7 @@ fn next_lock<'t, 'a>(
 }
 
 /// The locks that a method requires, or none.
-#[tactic(auto, unfolding(crate::specs::Reading::required), using(crate::proofs::MemberLoops::lock_more, crate::proofs::MemberLoops::lock_done))]
+#[tactic(auto, unfolding(crate::specs::Members::required), using(crate::proofs::MemberLoops::lock_more, crate::proofs::MemberLoops::lock_done))]
 fn required<'t, 'a>(
     alloc: Global,
     tokens: &'t [Token<'a>],
@@ -132,7 +131,7 @@ fn required<'t, 'a>(
 }
 
 /// What stands behind the name of a method.
-#[tactic(auto, unfolding(crate::specs::Reading::method_rest))]
+#[tactic(auto, unfolding(crate::specs::Members::method_rest))]
 fn method_rest<'t, 'a>(
     alloc: Global,
     atomic: bool,
@@ -144,7 +143,7 @@ fn method_rest<'t, 'a>(
 {
     let (params, rest) = params(alloc, tokens, false)?;
     let (requires_, rest) = required(alloc, rest)?;
-    let (inside, rest) = block(alloc, rest, MAX_HEIGHT)?;
+    let (inside, rest) = block(alloc, rest, MOST_HEIGHT)?;
     let Braces {
         at: _,
         statements,
@@ -165,7 +164,7 @@ fn method_rest<'t, 'a>(
 }
 
 /// An assignment of a constructor: the field, and the parameter.
-#[tactic(auto, unfolding(crate::specs::Reading::set))]
+#[tactic(auto, unfolding(crate::specs::Members::set))]
 fn set<'t, 'a>(
     tokens: &'t [Token<'a>],
 ) -> Result<((Name<'a>, Name<'a>), &'t [Token<'a>]), Stop<'t, 'a>>
@@ -208,7 +207,7 @@ fn sets<'t, 'a>(
 }
 
 /// What stands behind the name of a constructor.
-#[tactic(auto, unfolding(crate::specs::Reading::ctor_rest))]
+#[tactic(auto, unfolding(crate::specs::Members::ctor_rest))]
 fn ctor_rest<'t, 'a>(
     alloc: Global,
     name: Name<'a>,
@@ -224,7 +223,7 @@ fn ctor_rest<'t, 'a>(
 }
 
 /// The lock that guards a field, or none, and whether it guards writes alone.
-#[tactic(auto, unfolding(crate::specs::Reading::guard))]
+#[tactic(auto, unfolding(crate::specs::Members::guard))]
 fn guard<'t, 'a>(
     alloc: Global,
     tokens: &'t [Token<'a>],
@@ -245,7 +244,7 @@ fn guard<'t, 'a>(
 }
 
 /// What stands behind the name of a field.
-#[tactic(auto, unfolding(crate::specs::Reading::field_rest))]
+#[tactic(auto, unfolding(crate::specs::Members::field_rest))]
 fn field_rest<'t, 'a>(
     alloc: Global,
     ty: TypeName<'a>,
@@ -269,7 +268,7 @@ fn field_rest<'t, 'a>(
 }
 
 /// What stands behind the type of a field or a method.
-#[tactic(auto, unfolding(crate::specs::Reading::typed_rest))]
+#[tactic(auto, unfolding(crate::specs::Members::typed_rest))]
 fn typed_rest<'t, 'a>(
     alloc: Global,
     ty: TypeName<'a>,
@@ -284,7 +283,7 @@ fn typed_rest<'t, 'a>(
     field_rest(alloc, ty, name, rest)
 }
 
-#[tactic(auto, unfolding(crate::specs::Reading::final_field))]
+#[tactic(auto, unfolding(crate::specs::Members::final_field))]
 fn final_field<'t, 'a>(
     tokens: &'t [Token<'a>],
 ) -> Result<(Member<'a>, &'t [Token<'a>]), Stop<'t, 'a>>
@@ -307,7 +306,7 @@ fn final_field<'t, 'a>(
 }
 
 /// The type of a result, or `void`.
-#[tactic(auto, unfolding(crate::specs::Reading::result_type))]
+#[tactic(auto, unfolding(crate::specs::Members::result_type))]
 fn result_type<'t, 'a>(
     tokens: &'t [Token<'a>],
 ) -> Result<(Option<TypeName<'a>>, &'t [Token<'a>]), Stop<'t, 'a>>
@@ -321,7 +320,7 @@ fn result_type<'t, 'a>(
     Ok((Some(ty), rest))
 }
 
-#[tactic(auto, unfolding(crate::specs::Reading::plain_method))]
+#[tactic(auto, unfolding(crate::specs::Members::plain_method))]
 fn plain_method<'t, 'a>(
     alloc: Global,
     atomic: bool,
@@ -335,7 +334,7 @@ fn plain_method<'t, 'a>(
 }
 
 /// A constructor, or a member whose type is a class.
-#[tactic(auto, unfolding(crate::specs::Reading::named_member))]
+#[tactic(auto, unfolding(crate::specs::Members::named_member))]
 fn named_member<'t, 'a>(
     alloc: Global,
     tokens: &'t [Token<'a>],
@@ -350,7 +349,7 @@ fn named_member<'t, 'a>(
 }
 
 /// A member behind its `public`.
-#[tactic(auto, unfolding(crate::specs::Reading::bare_member))]
+#[tactic(auto, unfolding(crate::specs::Members::bare_member))]
 fn bare_member<'t, 'a>(
     alloc: Global,
     tokens: &'t [Token<'a>],
@@ -374,7 +373,7 @@ fn bare_member<'t, 'a>(
     typed_rest(alloc, ty, rest)
 }
 
-#[tactic(auto, unfolding(crate::specs::Reading::member))]
+#[tactic(auto, unfolding(crate::specs::Members::member))]
 fn member<'t, 'a>(
     alloc: Global,
     tokens: &'t [Token<'a>],
@@ -415,7 +414,7 @@ fn members<'t, 'a>(
 }
 
 /// `implements Runnable`, or nothing.
-#[tactic(auto, unfolding(crate::specs::Reading::runnable))]
+#[tactic(auto, unfolding(crate::specs::Members::runnable))]
 fn runnable<'t, 'a>(tokens: &'t [Token<'a>]) -> Result<(bool, &'t [Token<'a>]), Stop<'t, 'a>>
     ensures { Gives (λ x. (x.0, x.1.now)) result (runnable_at tokens.now) }
 {
@@ -427,7 +426,7 @@ fn runnable<'t, 'a>(tokens: &'t [Token<'a>]) -> Result<(bool, &'t [Token<'a>]), 
     Ok((false, tokens))
 }
 
-#[tactic(auto, unfolding(crate::specs::Reading::class_at))]
+#[tactic(auto, unfolding(crate::specs::Members::class_at))]
 fn class<'t, 'a>(
     alloc: Global,
     tokens: &'t [Token<'a>],
@@ -467,7 +466,7 @@ fn next_class<'t, 'a>(
 }
 
 /// The classes, up to the end of the tokens.
-#[tactic(auto, unfolding(crate::specs::Reading::program), using(crate::proofs::MemberLoops::class_more, crate::proofs::MemberLoops::class_done))]
+#[tactic(auto, unfolding(crate::specs::Members::program), using(crate::proofs::MemberLoops::class_more, crate::proofs::MemberLoops::class_done))]
 pub fn classes<'t, 'a>(
     alloc: Global,
     tokens: &'t [Token<'a>],

@@ -5,6 +5,7 @@ ghost use Rattle.std.specs.List.{All, Contains};
 ghost use Rattle.aj_lexer.specs.declared.tokens.Token.{Token as TokenData};
 ghost use Rattle.aj_syntax.specs.Faults.{IsTooDeep, IsUnexpected};
 ghost use Rattle.aj_syntax.specs.Grammar.{Grammar};
+ghost use Rattle.aj_syntax.specs.Limits.{most_tokens};
 ghost use Rattle.aj_syntax.specs.Names.{names_of_program};
 ghost use Rattle.aj_syntax.specs.Tokens.{name_token};
 ghost use Rattle.aj_syntax.specs.Trees.{ProgramTree};
@@ -24,7 +25,7 @@ use std::alloc::Global;
 /// bounded by the limit of height, and the work is linear in the number of tokens.
 #[tactic(auto, using(crate::proofs::Whole::read_right, crate::proofs::Whole::read_only, crate::proofs::Whole::unexpected_right, crate::proofs::Whole::deep_right, crate::proofs::Whole::place_fits))]
 pub fn parse<'a>(alloc: Global, tokens: &[Token<'a>]) -> Result<Program<'a>, ParseFault>
-    requires { length tokens.now ≤ 262144 }
+    requires { length tokens.now ≤ most_tokens }
     // What is answered is in the grammar.
     ensures found { IfOk result (λ program. Grammar tokens.now (program_of program)) }
     // What is in the grammar is answered, unless memory runs out.

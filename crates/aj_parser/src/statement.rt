@@ -3,12 +3,15 @@
 ghost use Rattle.std.specs.Prelude.{◌≡◌, ℕ, ◌+◌, ◌-◌, ◌<◌, ◌≤◌, map, length, true, IfOk};
 ghost use Rattle.aj_syntax.specs.Grammar.{is_call};
 ghost use Rattle.aj_syntax.specs.Heights.{height as height_of};
+ghost use Rattle.aj_syntax.specs.Limits.{most_height};
 ghost use Rattle.aj_syntax.specs.Tokens.{is};
 ghost use Rattle.aj_syntax.specs.Trees.{BlockS, DoS, IfS, IfElseS, LocalS, SetFieldS, SetVarS, SyncS};
 ghost use Rattle.aj_syntax.specs.Views.{expr_of, lock_of, stmt_of, stmts_from};
 ghost use Rattle.aj_parser.specs.Answer.{Gives};
 ghost use Rattle.aj_parser.specs.Combine.{item_step, several};
-ghost use Rattle.aj_parser.specs.Reading.{assigned as assigned_at, below, block_at, block_statement, braces, call_end as call_end_at, condition as condition_at, else_part as else_part_at, expression as expression_at, expression_statement as expression_statement_at, field_name as field_name_at, finish as finish_at, finish_from as finish_from_at, first_at, goes_on as may_go_on, if_statement as if_statement_at, local_rest as local_rest_at, local_statement as local_statement_at, lock as lock_at, name_statement as name_statement_at, new_statement as new_statement_at, plain_statement as plain_statement_at, print_statement as print_statement_at, return_statement as return_statement_at, start_rest as start_rest_at, statement_at, statement_with, sync_statement as sync_statement_at, target as target_at, type_name as type_name_at, while_statement as while_statement_at};
+ghost use Rattle.aj_parser.specs.Words.{field_name as field_name_at, lock as lock_at, type_name as type_name_at};
+ghost use Rattle.aj_parser.specs.Expressions.{below};
+ghost use Rattle.aj_parser.specs.Statements.{assigned as assigned_at, block_at, block_statement, braces, call_end as call_end_at, condition as condition_at, else_part as else_part_at, expression as expression_at, expression_statement as expression_statement_at, finish as finish_at, finish_from as finish_from_at, goes_on as may_go_on, if_statement as if_statement_at, local_rest as local_rest_at, local_statement as local_statement_at, name_statement as name_statement_at, new_statement as new_statement_at, plain_statement as plain_statement_at, print_statement as print_statement_at, return_statement as return_statement_at, start_rest as start_rest_at, statement_at, statement_with, sync_statement as sync_statement_at, target as target_at, while_statement as while_statement_at};
 
 use crate::expression::{LEVELS, Parsed, chain, dots, field_name, new_rest, primary};
 use crate::stop::{Fault, Stop};
@@ -28,7 +31,7 @@ pub struct Braces<'a> {
     pub end: u32,
 }
 
-#[tactic(auto, unfolding(crate::specs::Reading::type_name))]
+#[tactic(auto, unfolding(crate::specs::Words::type_name))]
 pub fn type_name<'t, 'a>(
     tokens: &'t [Token<'a>],
 ) -> Result<(TypeName<'a>, &'t [Token<'a>]), Stop<'t, 'a>>
@@ -75,7 +78,7 @@ fn fields<'t, 'a>(
     Ok(list)
 }
 
-#[tactic(auto, unfolding(crate::specs::Reading::lock))]
+#[tactic(auto, unfolding(crate::specs::Words::lock))]
 pub fn lock<'t, 'a>(
     alloc: Global,
     tokens: &'t [Token<'a>],
@@ -113,7 +116,7 @@ fn expression<'t, 'a>(
     tokens: &'t [Token<'a>],
     high: u32,
 ) -> Result<(Expr<'a>, &'t [Token<'a>]), Stop<'t, 'a>>
-    requires high { high ≤ 64 }
+    requires high { high ≤ most_height }
     requires positive { 0 < high }
     ensures { Gives (λ x. (expr_of x.0, x.1.now)) result (expression_at high tokens.now) }
 {
@@ -126,13 +129,13 @@ fn expression<'t, 'a>(
 }
 
 /// An expression in parentheses.
-#[tactic(auto, unfolding(crate::specs::Reading::condition))]
+#[tactic(auto, unfolding(crate::specs::Statements::condition))]
 fn condition<'t, 'a>(
     alloc: Global,
     tokens: &'t [Token<'a>],
     high: u32,
 ) -> Result<(Expr<'a>, &'t [Token<'a>]), Stop<'t, 'a>>
-    requires high { high ≤ 64 }
+    requires high { high ≤ most_height }
     requires positive { 0 < high }
     ensures { Gives (λ x. (expr_of x.0, x.1.now)) result (condition_at high tokens.now) }
 {
@@ -142,13 +145,13 @@ fn condition<'t, 'a>(
     Ok((value, rest))
 }
 
-#[tactic(auto, unfolding(crate::specs::Reading::return_statement))]
+#[tactic(auto, unfolding(crate::specs::Statements::return_statement))]
 fn return_statement<'t, 'a>(
     alloc: Global,
     tokens: &'t [Token<'a>],
     high: u32,
 ) -> Result<(Stmt<'a>, &'t [Token<'a>]), Stop<'t, 'a>>
-    requires high { high ≤ 64 }
+    requires high { high ≤ most_height }
     requires positive { 0 < high }
     ensures { Gives (λ x. (stmt_of x.0, x.1.now)) result (return_statement_at high tokens.now) }
 {
@@ -162,13 +165,13 @@ fn return_statement<'t, 'a>(
     Ok((Stmt::Return(Some(Box::new(alloc, value)?), at), rest))
 }
 
-#[tactic(auto, unfolding(crate::specs::Reading::print_statement))]
+#[tactic(auto, unfolding(crate::specs::Statements::print_statement))]
 fn print_statement<'t, 'a>(
     alloc: Global,
     tokens: &'t [Token<'a>],
     high: u32,
 ) -> Result<(Stmt<'a>, &'t [Token<'a>]), Stop<'t, 'a>>
-    requires high { high ≤ 64 }
+    requires high { high ≤ most_height }
     requires positive { 0 < high }
     ensures { Gives (λ x. (stmt_of x.0, x.1.now)) result (print_statement_at high tokens.now) }
 {
@@ -183,14 +186,14 @@ fn print_statement<'t, 'a>(
 }
 
 /// The start of a thread, behind its `new`, which is at the offset `at`.
-#[tactic(auto, unfolding(crate::specs::Reading::start_rest))]
+#[tactic(auto, unfolding(crate::specs::Statements::start_rest))]
 fn start_rest<'t, 'a>(
     alloc: Global,
     tokens: &'t [Token<'a>],
     high: u32,
     at: u32,
 ) -> Result<(Stmt<'a>, &'t [Token<'a>]), Stop<'t, 'a>>
-    requires high { high ≤ 64 }
+    requires high { high ≤ most_height }
     requires positive { 0 < high }
     ensures { Gives (λ x. (stmt_of x.0, x.1.now)) result (start_rest_at high at tokens.now) }
 {
@@ -205,13 +208,13 @@ fn start_rest<'t, 'a>(
 }
 
 /// The value of an assignment, behind its target, with the offset of the `=`.
-#[tactic(auto, unfolding(crate::specs::Reading::assigned))]
+#[tactic(auto, unfolding(crate::specs::Statements::assigned))]
 fn assigned<'t, 'a>(
     alloc: Global,
     tokens: &'t [Token<'a>],
     high: u32,
 ) -> Result<((Box<Expr<'a>>, u32), &'t [Token<'a>]), Stop<'t, 'a>>
-    requires high { high ≤ 64 }
+    requires high { high ≤ most_height }
     requires positive { 0 < high }
     ensures { Gives (λ x. ((expr_of x.0.0.value, x.0.1), x.1.now)) result (assigned_at high tokens.now) }
 {
@@ -222,7 +225,7 @@ fn assigned<'t, 'a>(
 }
 
 /// The name and the value of a declaration, whose first token is at the offset `at`.
-#[tactic(auto, unfolding(crate::specs::Reading::local_rest, crate::specs::Reading::assign))]
+#[tactic(auto, unfolding(crate::specs::Statements::local_rest, crate::specs::Statements::assign))]
 fn local_rest<'t, 'a>(
     alloc: Global,
     is_final: bool,
@@ -231,7 +234,7 @@ fn local_rest<'t, 'a>(
     tokens: &'t [Token<'a>],
     high: u32,
 ) -> Result<(Stmt<'a>, &'t [Token<'a>]), Stop<'t, 'a>>
-    requires high { high ≤ 64 }
+    requires high { high ≤ most_height }
     requires positive { 0 < high }
     ensures { Gives (λ x. (stmt_of x.0, x.1.now)) result (local_rest_at high is_final ty.entry at tokens.now) }
 {
@@ -250,13 +253,13 @@ fn local_rest<'t, 'a>(
 }
 
 /// A declaration whose type isn't a class, or that says `final`.
-#[tactic(auto, unfolding(crate::specs::Reading::local_statement))]
+#[tactic(auto, unfolding(crate::specs::Statements::local_statement))]
 fn local_statement<'t, 'a>(
     alloc: Global,
     tokens: &'t [Token<'a>],
     high: u32,
 ) -> Result<(Stmt<'a>, &'t [Token<'a>]), Stop<'t, 'a>>
-    requires high { high ≤ 64 }
+    requires high { high ≤ most_height }
     requires positive { 0 < high }
     ensures { Gives (λ x. (stmt_of x.0, x.1.now)) result (local_statement_at high tokens.now) }
 {
@@ -273,26 +276,6 @@ fn local_statement<'t, 'a>(
     local_rest(alloc, false, TypeName::Boolean, at, rest, high)
 }
 
-/// The offset of an expression's first token.
-fn first_offset(expr: &Expr) -> u32
-    ensures { result ≡ first_at (expr_of expr.now) }
-{
-    match expr {
-        Expr::Number(_, at)
-        | Expr::Least(at)
-        | Expr::Truth(_, at)
-        | Expr::Null(at)
-        | Expr::This(at)
-        | Expr::Paren(_, at)
-        | Expr::Not(_, at)
-        | Expr::Neg(_, at)
-        | Expr::New(_, _, at) => *at,
-        Expr::Var(name) => name.at,
-        Expr::Binary(_, first, _, _) | Expr::Get(first, _) | Expr::Call(first, _, _) =>
-            first_offset(first),
-    }
-}
-
 /// Whether an expression may stand as a statement.
 fn is_statement(expr: &Expr) -> bool
     ensures { result ≡ is_call (expr_of expr.now) }
@@ -301,7 +284,7 @@ fn is_statement(expr: &Expr) -> bool
 }
 
 /// The end of a call or `new` that stands as a statement.
-#[tactic(auto, unfolding(crate::specs::Reading::call_end))]
+#[tactic(auto, unfolding(crate::specs::Statements::call_end))]
 fn call_end<'t, 'a>(
     alloc: Global,
     front: Parsed<'t, 'a>,
@@ -318,19 +301,19 @@ fn call_end<'t, 'a>(
         return Err(Stop::Fault(Fault::TooDeep, rest));
     }
     let (_, rest) = take(rest, Terminal::Semicolon)?;
-    let at = first_offset(&tree);
+    let at = tree.first_at();
     Ok((Stmt::Do(Box::new(alloc, tree)?, at), rest))
 }
 
 /// An assignment to what was read.
-#[tactic(auto, unfolding(crate::specs::Reading::assign))]
+#[tactic(auto, unfolding(crate::specs::Statements::assign))]
 fn target<'t, 'a>(
     alloc: Global,
     tree: Expr<'a>,
     tokens: &'t [Token<'a>],
     high: u32,
 ) -> Result<(Stmt<'a>, &'t [Token<'a>]), Stop<'t, 'a>>
-    requires high { high ≤ 64 }
+    requires high { high ≤ most_height }
     requires positive { 0 < high }
     ensures { Gives (λ x. (stmt_of x.0, x.1.now)) result (target_at high (expr_of tree.entry) tokens.now) }
 {
@@ -348,13 +331,13 @@ fn target<'t, 'a>(
 }
 
 /// What stands behind a postfix that begins a statement.
-#[tactic(auto, unfolding(crate::specs::Reading::finish))]
+#[tactic(auto, unfolding(crate::specs::Statements::finish))]
 fn finish<'t, 'a>(
     alloc: Global,
     front: Parsed<'t, 'a>,
     high: u32,
 ) -> Result<(Stmt<'a>, &'t [Token<'a>]), Stop<'t, 'a>>
-    requires high { high ≤ 64 }
+    requires high { high ≤ most_height }
     requires positive { 0 < high }
     requires height { front.height ≡ height_of (expr_of front.tree) }
     ensures { Gives (λ x. (stmt_of x.0, x.1.now)) result (finish_at high (expr_of front.entry.tree) front.entry.rest.now) }
@@ -371,13 +354,13 @@ fn finish<'t, 'a>(
 }
 
 /// What stands behind a primary that begins a statement.
-#[tactic(auto, unfolding(crate::specs::Reading::finish_from))]
+#[tactic(auto, unfolding(crate::specs::Statements::finish_from))]
 fn finish_from<'t, 'a>(
     alloc: Global,
     front: Parsed<'t, 'a>,
     high: u32,
 ) -> Result<(Stmt<'a>, &'t [Token<'a>]), Stop<'t, 'a>>
-    requires high { high ≤ 64 }
+    requires high { high ≤ most_height }
     requires positive { 0 < high }
     requires height { front.height ≡ height_of (expr_of front.tree) }
     requires limit { front.height ≤ high }
@@ -387,13 +370,13 @@ fn finish_from<'t, 'a>(
     finish(alloc, whole, high)
 }
 
-#[tactic(auto, unfolding(crate::specs::Reading::new_statement))]
+#[tactic(auto, unfolding(crate::specs::Statements::new_statement))]
 fn new_statement<'t, 'a>(
     alloc: Global,
     tokens: &'t [Token<'a>],
     high: u32,
 ) -> Result<(Stmt<'a>, &'t [Token<'a>]), Stop<'t, 'a>>
-    requires high { high ≤ 64 }
+    requires high { high ≤ most_height }
     requires positive { 0 < high }
     ensures { Gives (λ x. (stmt_of x.0, x.1.now)) result (new_statement_at high tokens.now) }
 {
@@ -406,14 +389,14 @@ fn new_statement<'t, 'a>(
 }
 
 /// A declaration whose type is a class, or a statement that begins with a variable.
-#[tactic(auto, unfolding(crate::specs::Reading::name_statement))]
+#[tactic(auto, unfolding(crate::specs::Statements::name_statement))]
 fn name_statement<'t, 'a>(
     alloc: Global,
     tokens: &'t [Token<'a>],
     high: u32,
     in_block: bool,
 ) -> Result<(Stmt<'a>, &'t [Token<'a>]), Stop<'t, 'a>>
-    requires high { high ≤ 64 }
+    requires high { high ≤ most_height }
     requires positive { 0 < high }
     ensures { Gives (λ x. (stmt_of x.0, x.1.now)) result (name_statement_at high in_block tokens.now) }
 {
@@ -430,13 +413,13 @@ fn name_statement<'t, 'a>(
     finish_from(alloc, front, high)
 }
 
-#[tactic(auto, unfolding(crate::specs::Reading::expression_statement))]
+#[tactic(auto, unfolding(crate::specs::Statements::expression_statement))]
 fn expression_statement<'t, 'a>(
     alloc: Global,
     tokens: &'t [Token<'a>],
     high: u32,
 ) -> Result<(Stmt<'a>, &'t [Token<'a>]), Stop<'t, 'a>>
-    requires high { high ≤ 64 }
+    requires high { high ≤ most_height }
     requires positive { 0 < high }
     ensures { Gives (λ x. (stmt_of x.0, x.1.now)) result (expression_statement_at high tokens.now) }
 {
@@ -445,14 +428,14 @@ fn expression_statement<'t, 'a>(
 }
 
 /// The statements without parts of their own kind.
-#[tactic(auto, unfolding(crate::specs::Reading::plain_statement))]
+#[tactic(auto, unfolding(crate::specs::Statements::plain_statement))]
 fn plain_statement<'t, 'a>(
     alloc: Global,
     tokens: &'t [Token<'a>],
     high: u32,
     in_block: bool,
 ) -> Result<(Stmt<'a>, &'t [Token<'a>]), Stop<'t, 'a>>
-    requires high { high ≤ 64 }
+    requires high { high ≤ most_height }
     requires positive { 0 < high }
     ensures { Gives (λ x. (stmt_of x.0, x.1.now)) result (plain_statement_at high in_block tokens.now) }
 {
@@ -509,7 +492,7 @@ fn make_if_else<'a>(
 
 /// The `else` of an `if`, where there is one.
 #[cycle(statement)]
-#[tactic(auto, unfolding(crate::specs::Reading::else_part))]
+#[tactic(auto, unfolding(crate::specs::Statements::else_part))]
 fn else_part<'t, 'a>(
     alloc: Global,
     condition: Box<Expr<'a>>,
@@ -518,7 +501,7 @@ fn else_part<'t, 'a>(
     tokens: &'t [Token<'a>],
     high: u32,
 ) -> Result<(Stmt<'a>, &'t [Token<'a>]), Stop<'t, 'a>>
-    requires high { high ≤ 64 }
+    requires high { high ≤ most_height }
     requires positive { 0 < high }
     ensures { Gives (λ x. (stmt_of x.0, x.1.now)) result (else_part_at high (statement_at (high - 1)) (block_at (high - 1)) at (expr_of condition.entry.value) (stmt_of branch.entry.value) tokens.now) }
 {
@@ -532,13 +515,13 @@ fn else_part<'t, 'a>(
 }
 
 #[cycle(statement)]
-#[tactic(auto, unfolding(crate::specs::Reading::if_statement))]
+#[tactic(auto, unfolding(crate::specs::Statements::if_statement))]
 fn if_statement<'t, 'a>(
     alloc: Global,
     tokens: &'t [Token<'a>],
     high: u32,
 ) -> Result<(Stmt<'a>, &'t [Token<'a>]), Stop<'t, 'a>>
-    requires high { high ≤ 64 }
+    requires high { high ≤ most_height }
     requires positive { 0 < high }
     ensures { Gives (λ x. (stmt_of x.0, x.1.now)) result (if_statement_at high (statement_at (high - 1)) (block_at (high - 1)) tokens.now) }
 {
@@ -551,13 +534,13 @@ fn if_statement<'t, 'a>(
 }
 
 #[cycle(statement)]
-#[tactic(auto, unfolding(crate::specs::Reading::while_statement))]
+#[tactic(auto, unfolding(crate::specs::Statements::while_statement))]
 fn while_statement<'t, 'a>(
     alloc: Global,
     tokens: &'t [Token<'a>],
     high: u32,
 ) -> Result<(Stmt<'a>, &'t [Token<'a>]), Stop<'t, 'a>>
-    requires high { high ≤ 64 }
+    requires high { high ≤ most_height }
     requires positive { 0 < high }
     ensures { Gives (λ x. (stmt_of x.0, x.1.now)) result (while_statement_at high (statement_at (high - 1)) (block_at (high - 1)) tokens.now) }
 {
@@ -571,13 +554,13 @@ fn while_statement<'t, 'a>(
 }
 
 #[cycle(statement)]
-#[tactic(auto, unfolding(crate::specs::Reading::sync_statement))]
+#[tactic(auto, unfolding(crate::specs::Statements::sync_statement))]
 fn sync_statement<'t, 'a>(
     alloc: Global,
     tokens: &'t [Token<'a>],
     high: u32,
 ) -> Result<(Stmt<'a>, &'t [Token<'a>]), Stop<'t, 'a>>
-    requires high { high ≤ 64 }
+    requires high { high ≤ most_height }
     requires positive { 0 < high }
     ensures { Gives (λ x. (stmt_of x.0, x.1.now)) result (sync_statement_at high (statement_at (high - 1)) (block_at (high - 1)) tokens.now) }
 {
@@ -602,7 +585,7 @@ fn next_statement<'t, 'a>(
     so_far: (Vec<Stmt<'a>>, &'t [Token<'a>]),
     high: u32,
 ) -> Result<(Vec<Stmt<'a>>, &'t [Token<'a>]), Stop<'t, 'a>>
-    requires high { high < 64 }
+    requires high { high < most_height }
     ensures tree { Gives (λ x. (map stmt_of x.0.items, x.1.now)) result (item_step (statement_at high true) (map stmt_of so_far.entry.0.items) so_far.entry.1.now) }
     ensures shorter { IfOk result (λ x. length x.1.now < length so_far.entry.1.now) }
 {
@@ -620,7 +603,7 @@ fn statements<'t, 'a>(
     tokens: &'t [Token<'a>],
     high: u32,
 ) -> Result<(Vec<Stmt<'a>>, &'t [Token<'a>]), Stop<'t, 'a>>
-    requires high { high < 64 }
+    requires high { high < most_height }
     ensures { Gives (λ x. (map stmt_of x.0.items, x.1.now)) result (several may_go_on (statement_at high true) tokens.now) }
 {
     let mut list = (Vec::new(alloc), tokens);
@@ -632,13 +615,13 @@ fn statements<'t, 'a>(
 
 /// A block that counts as one node, at most `high` nodes high.
 #[cycle(statement)]
-#[tactic(auto, unfolding(crate::specs::Reading::braces), using(crate::proofs::StatementLoops::block_zero, crate::proofs::StatementLoops::block_positive))]
+#[tactic(auto, unfolding(crate::specs::Statements::braces), using(crate::proofs::StatementLoops::block_zero, crate::proofs::StatementLoops::block_positive))]
 pub fn block<'t, 'a>(
     alloc: Global,
     tokens: &'t [Token<'a>],
     high: u32,
 ) -> Result<(Braces<'a>, &'t [Token<'a>]), Stop<'t, 'a>>
-    requires high { high ≤ 64 }
+    requires high { high ≤ most_height }
     ensures { Gives (λ x. ((x.0.at, map stmt_of x.0.statements.items, x.0.end), x.1.now)) result (block_at high tokens.now) }
 {
     if high == 0 {
@@ -662,14 +645,14 @@ pub fn block<'t, 'a>(
 
 /// A statement at most `high` nodes high; in a block it may be a declaration.
 #[cycle(statement)]
-#[tactic(auto, unfolding(crate::specs::Reading::statement_with), using(crate::proofs::StatementLoops::statement_zero, crate::proofs::StatementLoops::statement_positive, crate::proofs::StatementLoops::block_statement_is))]
+#[tactic(auto, unfolding(crate::specs::Statements::statement_with), using(crate::proofs::StatementLoops::statement_zero, crate::proofs::StatementLoops::statement_positive, crate::proofs::StatementLoops::block_statement_is))]
 pub fn statement<'t, 'a>(
     alloc: Global,
     tokens: &'t [Token<'a>],
     high: u32,
     in_block: bool,
 ) -> Result<(Stmt<'a>, &'t [Token<'a>]), Stop<'t, 'a>>
-    requires high { high ≤ 64 }
+    requires high { high ≤ most_height }
     ensures { Gives (λ x. (stmt_of x.0, x.1.now)) result (statement_at high in_block tokens.now) }
 {
     if high == 0 {

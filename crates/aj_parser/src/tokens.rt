@@ -5,10 +5,12 @@ ghost use Rattle.aj_syntax.specs.Grammar.{level as level_of, offset as offset_of
 ghost use Rattle.aj_syntax.specs.Tokens.{is};
 ghost use Rattle.aj_parser.specs.Answer.{Gives};
 ghost use Rattle.aj_parser.specs.Combine.{Res, beyond as beyond_at, first, flag as flag_at, starts, take_one};
-ghost use Rattle.aj_parser.specs.Reading.{a_least, a_name, a_number, an_op, begins_expression as may_begin_expression, begins_statement as may_begin_statement, goes_on as may_go_on, begins_local, is_leaf as may_be_leaf, is_least, is_name, is_number, is_any_op, is_op, op_of, op_of_sign};
+ghost use Rattle.aj_parser.specs.Words.{a_least, a_name, a_number, an_op, is_least, is_name, is_number, is_any_op, is_op, op_of, op_of_sign};
+ghost use Rattle.aj_parser.specs.Expressions.{begins_expression as may_begin_expression, is_leaf as may_be_leaf};
+ghost use Rattle.aj_parser.specs.Statements.{begins_statement as may_begin_statement, goes_on as may_go_on, begins_local};
 
 use crate::stop::{Fault, Stop};
-use aj_lexer::{Token, TokenKind};
+use aj_lexer::{GREATEST_LITERAL, Token, TokenKind};
 use aj_syntax::{Name, Op, Terminal};
 
 /// Whether the terminal stands first.
@@ -70,7 +72,7 @@ fn is_number_token(token: &Token) -> bool
     ensures { result ≡ is_number token.now }
 {
     match token.kind {
-        TokenKind::Number(value) => value < 2_147_483_648,
+        TokenKind::Number(value) => value < GREATEST_LITERAL,
         TokenKind::Name | TokenKind::Word | TokenKind::Sign => false,
     }
 }
@@ -79,7 +81,7 @@ fn is_least_token(token: &Token) -> bool
     ensures { result ≡ is_least token.now }
 {
     match token.kind {
-        TokenKind::Number(value) => value == 2_147_483_648,
+        TokenKind::Number(value) => value == GREATEST_LITERAL,
         TokenKind::Name | TokenKind::Word | TokenKind::Sign => false,
     }
 }
@@ -132,7 +134,7 @@ pub fn number<'t, 'a>(
 {
     match tokens {
         [token, rest @ ..] => match token.kind {
-            TokenKind::Number(value) if value < 2_147_483_648 => Ok(((value, token.at), rest)),
+            TokenKind::Number(value) if value < GREATEST_LITERAL => Ok(((value, token.at), rest)),
             _ => Err(Stop::Fault(Fault::Unexpected, tokens)),
         },
         [] => Err(Stop::Fault(Fault::Unexpected, tokens)),
@@ -170,7 +172,7 @@ fn sign_operator(sign: &[u8]) -> Option<Op>
     }
 }
 
-#[tactic(auto, unfolding(crate::specs::Reading::op_of))]
+#[tactic(auto, unfolding(crate::specs::Words::op_of))]
 fn operator_of(token: &Token) -> Option<Op>
     ensures { result ≡ op_of token.now }
 {
@@ -244,7 +246,7 @@ fn is_leaf(token: &Token) -> bool
         || is_name_token(token)
 }
 
-#[tactic(auto, unfolding(crate::specs::Reading::begins_expression))]
+#[tactic(auto, unfolding(crate::specs::Expressions::begins_expression))]
 fn begins_expression_token(token: &Token) -> bool
     ensures { result ≡ may_begin_expression token.now }
 {
@@ -273,7 +275,7 @@ fn begins_local_token(token: &Token) -> bool
         || Terminal::Boolean.matches(token)
 }
 
-#[tactic(auto, unfolding(crate::specs::Reading::begins_statement))]
+#[tactic(auto, unfolding(crate::specs::Statements::begins_statement))]
 fn begins_statement_token(token: &Token, in_block: bool) -> bool
     ensures { result ≡ may_begin_statement in_block token.now }
 {

@@ -1,5 +1,6 @@
 -- The canonical text is cut into the tokens that were laid out.
 use Rattle.std.proofs.Common.{◌≡◌, ℕ, zero, suc, ◌+◌, ◌-◌, ◌<◌, ◌≤◌, ◌==◌, ◌&&◌, ◌||◌, not, Bool, true, false, List, [], ◌∷◌, ◌++◌, length, codes, refl, ap, sym, ◌∙◌, subst, arith, append_assoc, append-nil, decimal, bytes_eq, eqb-true, inl, inr, ◌⊎◌, if◌then◌else◌}
+use Rattle.std.proofs.lemmas.Bool.{and_parts, or_cases}
 use Rattle.std.proofs.lemmas.Bool.Decides.{nat_tests}
 use Rattle.std.specs.List.{list_all, list_any}
 use Rattle.aj_lexer.specs.declared.tokens.Token.{Token}
@@ -8,8 +9,6 @@ use Rattle.aj_lexer.specs.declared.tokens.TokenKind.TheVariants as K
 use Rattle.aj_lexer.specs.Pieces.{is_blank, is_blanks, is_word, is_number, is_sign, is_letter, is_digit, is_word_byte}
 use Rattle.aj_lexer.specs.Tokens.{IsOfKind, TokensFrom, at_end}
 use Rattle.aj_lexer.specs.Written.{stops, may_follow, sign_goes_on}
-use Rattle.aj_lexer.proofs.Numbers.{both}
-use Rattle.aj_lexer.proofs.Sorts.{either}
 use Rattle.aj_lexer.proofs.Written.{written_token, written_gap}
 use Rattle.aj_syntax.specs.declared.page.Lead.{Lead}
 use Rattle.aj_syntax.specs.declared.page.Lead.TheVariants as L
@@ -54,8 +53,8 @@ callee_quiet x depth rest = refl
 all_at : (p : ℕ → Bool) (all : List ℕ) (c : ℕ) → list_all p all ≡ true → list_any (λ d. c == d) all ≡ true → p c ≡ true
 all_at p [] c a h = absurd (cc)
 all_at p (d ∷ ds) c a h =
-    let b = both (p d) (list_all p ds) a in
-    elim (either (c == d) (list_any (λ e. c == e) ds) h) [
+    let b = and_parts (p d) (list_all p ds) a in
+    elim (or_cases (c == d) (list_any (λ e. c == e) ds) h) [
       | inl e ↦ subst (λ y. p y ≡ true) (sym (eqb-true c d e)) b.0
       | inr r ↦ all_at p ds c b.1 r
     ]
@@ -103,7 +102,7 @@ digit_no_blank c h = grind (arith, nat_tests)
 
 number_digit : (c : ℕ) (cs : List ℕ) (zero : Bool) → (c == 48) ≡ zero → (if zero then length cs == 0 else (is_digit c && list_all is_digit cs)) ≡ true → is_digit c ≡ true
 number_digit c cs true e h = rw (eqb-true c 48 e) refl
-number_digit c cs false e h = (both (is_digit c) (list_all is_digit cs) h).0
+number_digit c cs false e h = (and_parts (is_digit c) (list_all is_digit cs) h).0
 
 bang_by : (c : ℕ) (cs : List ℕ) → (c == 61) ≡ false → may_follow K.Sign (codes "!") (c ∷ cs) ≡ true
 bang_by c cs h = rw h refl
@@ -111,7 +110,7 @@ bang_by c cs h = rw h refl
 -- a `!` ends before what doesn't begin with `=`
 bang_word : (bytes rest : List ℕ) → is_word bytes ≡ true → may_follow K.Sign (codes "!") (bytes ++ rest) ≡ true
 bang_word [] rest h = absurd (cc)
-bang_word (c ∷ cs) rest h = bang_by c (cs ++ rest) (letter_no_assign c (both (is_letter c) (list_all is_word_byte cs) h).0)
+bang_word (c ∷ cs) rest h = bang_by c (cs ++ rest) (letter_no_assign c (and_parts (is_letter c) (list_all is_word_byte cs) h).0)
 
 bang_number : (bytes rest : List ℕ) → is_number bytes ≡ true → may_follow K.Sign (codes "!") (bytes ++ rest) ≡ true
 bang_number [] rest h = absurd (cc)
@@ -127,7 +126,7 @@ bang_follows (Fixed t) rest k h = refl
 -- no token begins with a blank
 blank_word : (bytes rest : List ℕ) → is_word bytes ≡ true → stops is_blank (bytes ++ rest) ≡ true
 blank_word [] rest h = absurd (cc)
-blank_word (c ∷ cs) rest h = rw (letter_no_blank c (both (is_letter c) (list_all is_word_byte cs) h).0) refl
+blank_word (c ∷ cs) rest h = rw (letter_no_blank c (and_parts (is_letter c) (list_all is_word_byte cs) h).0) refl
 
 blank_number : (bytes rest : List ℕ) → is_number bytes ≡ true → stops is_blank (bytes ++ rest) ≡ true
 blank_number [] rest h = absurd (cc)
@@ -167,7 +166,7 @@ follow (Fixed t) xs depth k p = terminal_quiet t (layout P.Spaced depth xs) (spa
 
 all_both : (p : ℕ → Bool) (xs ys : List ℕ) → list_all p xs ≡ true → list_all p ys ≡ true → list_all p (xs ++ ys) ≡ true
 all_both p [] ys h k = k
-all_both p (x ∷ xs) ys h k = let b = both (p x) (list_all p xs) h in rw (b.0) (all_both p xs ys b.1 k)
+all_both p (x ∷ xs) ys h k = let b = and_parts (p x) (list_all p xs) h in rw (b.0) (all_both p xs ys b.1 k)
 
 indent_blank : (depth : ℕ) → list_all is_blank (indent depth) ≡ true
 indent_blank zero = refl

@@ -2,6 +2,7 @@
 use Rattle.std.proofs.Common.{◌≡◌, ℕ, suc, ◌+◌, ◌<◌, ◌≤◌, Bool, true, false, List, [], ◌∷◌, ◌++◌, map, Option, Some, None, refl, ap, ap₂, sym, ◌∙◌, subst, arith, decimal}
 use Rattle.std.specs.Option.{option_map}
 use Rattle.aj_lexer.specs.declared.tokens.Token.{Token}
+use Rattle.aj_lexer.specs.Limits.{greatest_literal}
 use Rattle.aj_lexer.specs.Tokens.{IsOfKind}
 use Rattle.aj_syntax.specs.declared.terminal.Terminal.{Terminal}
 use Rattle.aj_syntax.specs.declared.terminal.Terminal.TheVariants as T
@@ -52,8 +53,8 @@ mutual
     moved = λ f k. (NumberE n (f k), (decimal n, small, refl), refl);
   }
   expr_law (LeastE at) ts s kn = record {
-    known = (spelled T.Minus, (numbered 2147483648 (omega arith), tt));
-    moved = λ f k. (LeastE (f k), (decimal 2147483648, f (suc k), refl), refl);
+    known = (spelled T.Minus, (numbered greatest_literal (omega arith), tt));
+    moved = λ f k. (LeastE (f k), (decimal greatest_literal, f (suc k), refl), refl);
   }
   expr_law (TruthE true at) ts s kn = record { known = (spelled T.True, tt); moved = λ f k. (TruthE true (f k), refl, refl) }
   expr_law (TruthE false at) ts s kn = record { known = (spelled T.False, tt); moved = λ f k. (TruthE false (f k), refl, refl) }

@@ -8,6 +8,7 @@ use Rattle.std.proofs.lemmas.Str.Parse.{digit_from_value}
 use Rattle.std.proofs.lemmas.Bool.Decides.{nat_tests}
 use Rattle.aj_lexer.specs.declared.tokens.Token.{Token}
 use Rattle.aj_lexer.specs.declared.tokens.TokenKind.TheVariants as K
+use Rattle.aj_lexer.specs.Limits.{greatest_literal}
 use Rattle.aj_lexer.specs.Pieces.{is_number, is_digit}
 use Rattle.aj_lexer.specs.Tokens.{IsOfKind}
 use Rattle.aj_syntax.specs.declared.terminal.Terminal.{Terminal}
@@ -91,11 +92,11 @@ pub no_leading_zero : (ds : List ℕ) → IsNumeral 10 ds → 48 < get_or ds 0 0
 no_leading_zero [] h l = absurd (omega (arith, h.0))
 no_leading_zero (c ∷ cs) h l = rw (no_zero c l, digit_of c h.1.0) (digits_of cs h.1.1)
 
-pub number_of : (n : ℕ) → n ≤ 2147483648 → is_number (decimal n) ≡ true
+pub number_of : (n : ℕ) → n ≤ greatest_literal → is_number (decimal n) ≡ true
 number_of zero h = rw (decimal_digit 0 (omega arith)) refl
 number_of (suc n) h = no_leading_zero (decimal (suc n)) (decimal_is_IsNumeral (suc n) (omega arith)).0 (first_decimal (suc n) (omega arith) (omega arith))
 
-pub numbered : (n : ℕ) → n ≤ 2147483648 → IsOfKind (K.Number n) (decimal n)
+pub numbered : (n : ℕ) → n ≤ greatest_literal → IsOfKind (K.Number n) (decimal n)
 numbered n h = (number_of n h, h, (decimal_is_IsNumeral n (omega arith)).1)
 
 abbrev pub named : Name → ℕ → Name

@@ -7,6 +7,7 @@ use Rattle.aj_syntax.specs.declared.page.Place.TheVariants as P
 use Rattle.aj_syntax.specs.Grammar.{Wide, Grammar}
 use Rattle.aj_syntax.specs.Heights.{height, heights, stmt_height, stmt_heights, body_height, highest_member, highest_body}
 use Rattle.aj_syntax.specs.Layout.{Lexeme, token_at}
+use Rattle.aj_syntax.specs.Limits.{most_height}
 use Rattle.aj_syntax.specs.Printing.{canonical, program_lexemes}
 use Rattle.aj_syntax.specs.Reprinted.{AreTokensOf, ReadsBack}
 use Rattle.aj_syntax.specs.Trees.{ExprTree, ExprTrees, NumberE, LeastE, TruthE, NullE, ThisE, VarE, ParenE, NotE, NegE, BinaryE, GetE, CallE, NewE, no_exprs, more_exprs, StmtTree, StmtTrees, EmptyS, BlockS, LocalS, SetVarS, SetFieldS, DoS, IfS, IfElseS, WhileS, SyncS, ReturnS, PrintS, StartS, no_stmts, more_stmts, MethodTree, MemberTree, FieldM, CtorM, MethodM, ClassTree, ProgramTree}
@@ -105,6 +106,6 @@ reads_back tree source ts its g =
       tokens = c.0;
       cut = c.1;
       again = m.0;
-      related = (subst (λ z. Wide z m.0) (placed_are (program_lexemes tree) c.0 c.2) m.1, subst (λ n. n ≤ 64) (sym same) g.1);
+      related = (subst (λ z. Wide z m.0) (placed_are (program_lexemes tree) c.0 c.2) m.1, subst (λ n. n ≤ most_height) (sym same) g.1);
       same = m.2;
     }

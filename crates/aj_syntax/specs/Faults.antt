@@ -3,6 +3,7 @@ use Rattle.std.specs.Prelude.{◌≡◌, ℕ, zero, suc, ◌<◌, ◌≤◌, Lis
 use Rattle.aj_lexer.specs.declared.tokens.Token.{Token}
 use Rattle.aj_syntax.specs.Grammar.{Wide}
 use Rattle.aj_syntax.specs.Heights.{highest_body}
+use Rattle.aj_syntax.specs.Limits.{most_height}
 use Rattle.aj_syntax.specs.Trees.{ProgramTree}
 
 -- the tokens 0 to k of ts begin w, where the end of ts counts as its last token
@@ -22,10 +23,10 @@ pub record IsUnexpected (ts : List Token) (k : ℕ) : Type 0 where
   pub before : Wide (take k ts ++ more) tree
   pub none : (w : List Token) (t : ProgramTree) → Wide w t → Through k ts w → ⊥
 
--- the tokens 0 to k begin some program, and every one that they begin has a body higher than 64
+-- the tokens 0 to k begin some program, and every one that they begin has a body that is too high
 pub record IsTooDeep (ts : List Token) (k : ℕ) : Type 0 where
   pub program : List Token
   pub tree : ProgramTree
   pub spelled : Wide program tree
   pub through : Through k ts program
-  pub each : (w : List Token) (t : ProgramTree) → Wide w t → Through k ts w → 64 < highest_body t
+  pub each : (w : List Token) (t : ProgramTree) → Wide w t → Through k ts w → most_height < highest_body t

@@ -1,6 +1,7 @@
 -- The grammar: which lists of tokens a tree stands for, by cases on the tree and its productions.
 use Rattle.std.specs.Prelude.{◌≡◌, ℕ, ◌<◌, ◌≤◌, Bool, true, false, List, [], ◌∷◌, ◌++◌, Option, Some, None, ◌⊎◌}
 use Rattle.aj_lexer.specs.declared.tokens.Token.{Token}
+use Rattle.aj_lexer.specs.Limits.{greatest_literal}
 use Rattle.aj_syntax.specs.declared.terminal.Terminal.{Terminal}
 use Rattle.aj_syntax.specs.declared.terminal.Terminal.TheVariants as T
 use Rattle.aj_syntax.specs.declared.tree.Name.{Name}
@@ -10,6 +11,7 @@ use Rattle.aj_syntax.specs.declared.tree.Param.{Param}
 use Rattle.aj_syntax.specs.declared.tree.TypeName.{TypeName}
 use Rattle.aj_syntax.specs.declared.tree.TypeName.TheVariants as Y
 use Rattle.aj_syntax.specs.Heights.{highest_body}
+use Rattle.aj_syntax.specs.Limits.{most_height}
 use Rattle.aj_syntax.specs.Tokens.{token, name_token, number_token, guard_word}
 use Rattle.aj_syntax.specs.Trees.{LockTree, ExprTree, ExprTrees, NumberE, LeastE, TruthE, NullE, ThisE, VarE, ParenE, NotE, NegE, BinaryE, GetE, CallE, NewE, no_exprs, more_exprs, StmtTree, StmtTrees, EmptyS, BlockS, LocalS, SetVarS, SetFieldS, DoS, IfS, IfElseS, WhileS, SyncS, ReturnS, PrintS, StartS, no_stmts, more_stmts, FieldTree, MemberTree, FieldM, CtorM, MethodM, ClassTree, ProgramTree}
 
@@ -118,9 +120,9 @@ abbrev mutual
   -- expr: a binary operator takes on its left what binds as tightly as itself or more, on its right what binds more tightly
   pub Spells : ExprTree → List Token → Type 0
   -- Number up to 2147483647
-  Spells (NumberE n at) ts = (text : List ℕ) × (n < 2147483648) × (ts ≡ number_token n text at ∷ [])
-  -- "-" 2147483648
-  Spells (LeastE at) ts = (text : List ℕ) × (d : ℕ) × (ts ≡ token T.Minus at ∷ number_token 2147483648 text d ∷ [])
+  Spells (NumberE n at) ts = (text : List ℕ) × (n < greatest_literal) × (ts ≡ number_token n text at ∷ [])
+  -- "-" and the number that stands only behind it
+  Spells (LeastE at) ts = (text : List ℕ) × (d : ℕ) × (ts ≡ token T.Minus at ∷ number_token greatest_literal text d ∷ [])
   -- "true" | "false" | "null" | "this" | Name
   Spells (TruthE true at) ts = ts ≡ token T.True at ∷ []
   Spells (TruthE false at) ts = ts ≡ token T.False at ∷ []
@@ -352,6 +354,6 @@ SpellsClass c ts =
 abbrev pub Wide : List Token → ProgramTree → Type 0
 Wide ts t = Repeats SpellsClass t ts
 
--- the grammar: every method body is at most 64 high
+-- the grammar: no method body is too high
 abbrev pub Grammar : List Token → ProgramTree → Type 0
-Grammar ts t = Wide ts t × (highest_body t ≤ 64)
+Grammar ts t = Wide ts t × (highest_body t ≤ most_height)

@@ -1,8 +1,10 @@
+pub mod Limits
 pub mod Faults
 pub mod Grammar
 pub mod Heights
 pub mod Layout
 pub mod Names
+pub mod Offsets
 pub mod Printing
 pub mod Reprinted
 pub mod Seen

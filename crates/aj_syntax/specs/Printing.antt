@@ -1,5 +1,6 @@
 -- The tokens of a tree in canonical text, and its canonical text.
 use Rattle.std.specs.Prelude.{ℕ, Bool, true, false, ◌&&◌, List, [], ◌∷◌, ◌++◌, Option, Some, None}
+use Rattle.aj_lexer.specs.Limits.{greatest_literal}
 use Rattle.aj_syntax.specs.declared.terminal.Terminal.{Terminal}
 use Rattle.aj_syntax.specs.declared.terminal.Terminal.TheVariants as T
 use Rattle.aj_syntax.specs.declared.tree.Name.{Name}
@@ -56,7 +57,7 @@ lock_lexemes l = root_lexeme l.root ∷ all_lexemes dotted_lexemes l.fields
 abbrev mutual
   pub expr_lexemes : ExprTree → List Lexeme
   expr_lexemes (NumberE n at) = Numeral n ∷ []
-  expr_lexemes (LeastE at) = Fixed T.Minus ∷ Numeral 2147483648 ∷ []
+  expr_lexemes (LeastE at) = Fixed T.Minus ∷ Numeral greatest_literal ∷ []
   expr_lexemes (TruthE true at) = Fixed T.True ∷ []
   expr_lexemes (TruthE false at) = Fixed T.False ∷ []
   expr_lexemes (NullE at) = Fixed T.Null ∷ []

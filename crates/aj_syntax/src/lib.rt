@@ -2,6 +2,7 @@
 #![tactic(auto)]
 
 mod laws;
+mod offsets;
 mod page;
 mod print;
 mod print_laws;
@@ -15,4 +16,4 @@ pub use laws::name_laws;
 pub use print::print_program;
 pub use print_laws::printing_laws;
 pub use terminal::Terminal;
-pub use tree::{Class, Expr, Lock, Member, Name, Op, Param, Program, Stmt, TypeName};
+pub use tree::{Class, Expr, Lock, MOST_HEIGHT, Member, Name, Op, Param, Program, Stmt, TypeName};

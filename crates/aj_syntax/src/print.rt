@@ -17,6 +17,7 @@ ghost use Rattle.aj_syntax.specs.Views.{class_of, expr_of, exprs_from, lock_of, 
 use crate::page::Printer;
 use crate::terminal::Terminal;
 use crate::tree::{Class, Expr, Lock, Member, Name, Op, Param, Program, Stmt, TypeName};
+use aj_lexer::GREATEST_LITERAL;
 use std::alloc::{AllocError as NoMemory, Global};
 
 /// The canonical text of a program. A line ends after each `{`, `}` and `;` and begins with four blanks for each open
@@ -452,7 +453,7 @@ fn write_expr(to: &mut Printer, expr: &Expr) -> Result<(), NoMemory>
         Expr::Number(number, _) => to.number(*number),
         Expr::Least(_) => {
             to.terminal(Terminal::Minus)?;
-            to.number(2_147_483_648)
+            to.number(GREATEST_LITERAL)
         }
         Expr::Truth(true, _) => to.terminal(Terminal::True),
         Expr::Truth(false, _) => to.terminal(Terminal::False),

@@ -2,6 +2,9 @@
 
 use std::marker::Model;
 
+/// How high a method body may be, which counts as one block.
+pub const MOST_HEIGHT: u32 = 64;
+
 /// A name, seen in contracts with its text as bytes. `text` is a slice of the source, and `at` the offset of its first
 /// byte.
 #[derive(Clone, Debug, Drop)]

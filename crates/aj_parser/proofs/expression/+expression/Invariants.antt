@@ -4,7 +4,8 @@ use Rattle.aj_syntax.specs.Tokens.{is}
 use Rattle.aj_syntax.specs.declared.terminal.Terminal.TheVariants as T
 use Rattle.aj_syntax.specs.Views.{expr_of, exprs_from}
 use Rattle.aj_parser.specs.Combine.{comma_step, loop}
-use Rattle.aj_parser.specs.Reading.{arguments as arguments_at, below, chain_with, levels_from, dots as dots_at, member_step, op_step, is_op}
+use Rattle.aj_parser.specs.Words.{is_op}
+use Rattle.aj_parser.specs.Expressions.{arguments as arguments_at, below, chain_with, levels_from, dots as dots_at, member_step, op_step}
 use Rattle.aj_parser.proofs.expression.+expression.Given as goal
 
 abbrev pub decreases-argument_list : goal.decreases-argument_list

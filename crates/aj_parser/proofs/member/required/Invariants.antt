@@ -3,7 +3,8 @@ use Rattle.aj_syntax.specs.Tokens.{is}
 use Rattle.aj_syntax.specs.declared.terminal.Terminal.TheVariants as T
 use Rattle.aj_syntax.specs.Views.{lock_of}
 use Rattle.aj_parser.specs.Combine.{comma_step, loop}
-use Rattle.aj_parser.specs.Reading.{lock, required}
+use Rattle.aj_parser.specs.Words.{lock}
+use Rattle.aj_parser.specs.Members.{required}
 use Rattle.aj_parser.proofs.member.required.Given as goal
 
 abbrev pub invariant-loop-alloc : goal.invariant-loop-alloc

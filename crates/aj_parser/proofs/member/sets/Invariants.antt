@@ -1,6 +1,7 @@
 use Rattle.std.proofs.Common.{◌≡◌, length}
 use Rattle.aj_parser.specs.Combine.{item_step, loop, several}
-use Rattle.aj_parser.specs.Reading.{goes_on, set}
+use Rattle.aj_parser.specs.Statements.{goes_on}
+use Rattle.aj_parser.specs.Members.{set}
 use Rattle.aj_parser.proofs.member.sets.Given as goal
 
 abbrev pub invariant-loop-list : goal.invariant-loop-list

@@ -1,0 +1,160 @@
+-- Recursive descent for statements, with the height still allowed as its budget.
+use Rattle.std.specs.Prelude.{ℕ, zero, suc, nat_lt, Bool, true, false, not, ◌&&◌, ◌||◌, List, Some, None, Ok, Err, if◌then◌else◌}
+use Rattle.aj_lexer.specs.declared.tokens.Token.{Token}
+use Rattle.aj_syntax.specs.declared.terminal.Terminal.TheVariants as T
+use Rattle.aj_syntax.specs.declared.tree.TypeName.{TypeName}
+use Rattle.aj_syntax.specs.declared.tree.TypeName.TheVariants as Y
+use Rattle.aj_syntax.specs.Grammar.{is_call}
+use Rattle.aj_syntax.specs.Heights.{height}
+use Rattle.aj_syntax.specs.Tokens.{is}
+use Rattle.aj_syntax.specs.Trees.{ExprTree, NumberE, LeastE, TruthE, NullE, ThisE, VarE, ParenE, NotE, NegE, BinaryE, GetE, CallE, NewE, StmtTree, EmptyS, BlockS, LocalS, SetVarS, SetFieldS, DoS, IfS, IfElseS, WhileS, SyncS, ReturnS, PrintS, StartS}
+use Rattle.aj_syntax.specs.Views.{stmts_from}
+use Rattle.aj_parser.specs.Combine.{Res, ◌>>=◌, starts, first, take_one, allow, beyond, several}
+use Rattle.aj_parser.specs.declared.stop.Fault.TheVariants as F
+use Rattle.aj_parser.specs.Words.{a_name, is_name, lock, type_name}
+use Rattle.aj_syntax.specs.Offsets.{first_at}
+use Rattle.aj_parser.specs.Expressions.{is_leaf, new_rest, primary, dots, below}
+
+abbrev pub begins_local : Token → Bool
+begins_local x = is T.Final x || is T.Int x || is T.Boolean x
+
+-- whether a token may stand first in a statement, or in a block's
+unfoldable pub begins_statement : Bool → Token → Bool
+begins_statement in_block x =
+    is T.OpenBrace x || is T.Semicolon x || is T.If x || is T.While x || is T.Synchronized x || is T.Return x || is T.System x
+    || is T.New x || is T.OpenParen x || is_leaf x || (in_block && begins_local x)
+
+-- whether a block goes on
+abbrev pub goes_on : Token → Bool
+goes_on x = not (is T.CloseBrace x)
+
+-- the offset of the opening brace, the items, and the offset of the closing brace
+unfoldable pub braces : (List Token → Res StmtTree) → List Token → Res (ℕ × List StmtTree × ℕ)
+braces item ts = take_one T.OpenBrace ts >>= λ b ts. several goes_on item ts >>= λ ss ts. take_one T.CloseBrace ts >>= λ c ts. Ok ((b, ss, c), ts)
+
+-- the parts that begin at height h
+module _ (h : ℕ) where
+  abbrev pub expression : List Token → Res ExprTree
+  expression ts = below h 6 ts
+
+  unfoldable pub condition : List Token → Res ExprTree
+  condition ts = take_one T.OpenParen ts >>= λ o ts. expression ts >>= λ e ts. take_one T.CloseParen ts >>= λ c ts. Ok (e, ts)
+
+  unfoldable pub return_statement : List Token → Res StmtTree
+  return_statement ts = take_one T.Return ts >>= λ d ts.
+      if starts (is T.Semicolon) ts then (take_one T.Semicolon ts >>= λ c ts. Ok (ReturnS None d, ts))
+      else (expression ts >>= λ e ts. take_one T.Semicolon ts >>= λ c ts. Ok (ReturnS (Some e) d, ts))
+
+  unfoldable pub print_statement : List Token → Res StmtTree
+  print_statement ts =
+      take_one T.System ts >>= λ s ts. take_one T.Dot ts >>= λ d ts. take_one T.Out ts >>= λ o ts. take_one T.Dot ts >>= λ e ts.
+      take_one T.Println ts >>= λ p ts. condition ts >>= λ v ts. take_one T.Semicolon ts >>= λ c ts. Ok (PrintS v s, ts)
+
+  unfoldable pub start_rest : ℕ → List Token → Res StmtTree
+  start_rest at ts =
+      take_one T.Thread ts >>= λ t ts. condition ts >>= λ v ts. take_one T.Dot ts >>= λ d ts. take_one T.Start ts >>= λ s ts.
+      take_one T.OpenParen ts >>= λ o ts. take_one T.CloseParen ts >>= λ c ts. take_one T.Semicolon ts >>= λ e ts. Ok (StartS v at, ts)
+
+  -- `= expr ;`, with the offset of the `=`
+  unfoldable pub assigned : List Token → Res (ExprTree × ℕ)
+  assigned ts = take_one T.Assign ts >>= λ d ts. expression ts >>= λ v ts. take_one T.Semicolon ts >>= λ c ts. Ok ((v, d), ts)
+
+  unfoldable pub assign : (ExprTree → ℕ → StmtTree) → List Token → Res StmtTree
+  assign make ts = assigned ts >>= λ v ts. Ok (make v.0 v.1, ts)
+
+  unfoldable pub local_rest : Bool → TypeName → ℕ → List Token → Res StmtTree
+  local_rest fin ty at ts = first a_name ts >>= λ n ts. assign (λ v d. LocalS fin ty n v at) ts
+
+  unfoldable pub local_statement : List Token → Res StmtTree
+  local_statement ts =
+      if starts (is T.Final) ts then (take_one T.Final ts >>= λ d ts. type_name ts >>= λ t ts. local_rest true t d ts)
+      else if starts (is T.Int) ts then (take_one T.Int ts >>= λ d ts. local_rest false Y.Int d ts)
+      else (take_one T.Boolean ts >>= λ d ts. local_rest false Y.Boolean d ts)
+
+  unfoldable pub call_end : ExprTree → List Token → Res StmtTree
+  call_end p ts =
+      if starts (is T.Semicolon) ts then allow (nat_lt (height p) h) ts (take_one T.Semicolon ts >>= λ c ts. Ok (DoS p (first_at p), ts))
+      else Err (F.Unexpected, ts)
+
+  -- what stands before a `=`
+  abbrev pub target : ExprTree → List Token → Res StmtTree
+  target (VarE n) ts = assign (SetVarS n) ts
+  target (GetE e n) ts = assign (SetFieldS e n) ts
+  target (NumberE n at) ts = Err (F.Unexpected, ts)
+  target (LeastE at) ts = Err (F.Unexpected, ts)
+  target (TruthE b at) ts = Err (F.Unexpected, ts)
+  target (NullE at) ts = Err (F.Unexpected, ts)
+  target (ThisE at) ts = Err (F.Unexpected, ts)
+  target (ParenE e at) ts = Err (F.Unexpected, ts)
+  target (NotE e at) ts = Err (F.Unexpected, ts)
+  target (NegE e at) ts = Err (F.Unexpected, ts)
+  target (BinaryE o e f at) ts = Err (F.Unexpected, ts)
+  target (CallE e n args) ts = Err (F.Unexpected, ts)
+  target (NewE n args at) ts = Err (F.Unexpected, ts)
+
+  unfoldable pub finish : ExprTree → List Token → Res StmtTree
+  finish p ts = if is_call p then call_end p ts else target p ts
+
+  unfoldable pub finish_from : ExprTree → List Token → Res StmtTree
+  finish_from e ts = dots h (below h) e ts >>= λ p ts. finish p ts
+
+  unfoldable pub new_statement : List Token → Res StmtTree
+  new_statement ts = take_one T.New ts >>= λ d ts.
+      if starts (is T.Thread) ts then start_rest d ts else (new_rest h (below h) d ts >>= λ e ts. finish_from e ts)
+
+  unfoldable pub name_statement : Bool → List Token → Res StmtTree
+  name_statement in_block ts = first a_name ts >>= λ n ts.
+      if starts (λ x. in_block && is_name x) ts then local_rest false (Y.Class n) n.at ts else finish_from (VarE n) ts
+
+  unfoldable pub expression_statement : List Token → Res StmtTree
+  expression_statement ts = primary h (below h) ts >>= λ e ts. finish_from e ts
+
+  -- the statements without parts of their own kind
+  unfoldable pub plain_statement : Bool → List Token → Res StmtTree
+  plain_statement in_block ts =
+      if starts (is T.Semicolon) ts then (take_one T.Semicolon ts >>= λ c ts. Ok (EmptyS c, ts))
+      else if starts (is T.Return) ts then return_statement ts
+      else if starts (is T.System) ts then print_statement ts
+      else if starts (is T.New) ts then new_statement ts
+      else if starts is_name ts then name_statement in_block ts
+      else if starts (λ x. in_block && begins_local x) ts then local_statement ts
+      else expression_statement ts
+
+-- branches are read by inner, the block of a `synchronized` by block
+module _ (h : ℕ) (inner : Bool → List Token → Res StmtTree) (block : List Token → Res (ℕ × List StmtTree × ℕ)) where
+  unfoldable pub else_part : ℕ → ExprTree → StmtTree → List Token → Res StmtTree
+  else_part at e s ts =
+      if starts (is T.Else) ts then (take_one T.Else ts >>= λ d ts. inner false ts >>= λ t ts. Ok (IfElseS e s t at, ts)) else Ok (IfS e s at, ts)
+
+  unfoldable pub if_statement : List Token → Res StmtTree
+  if_statement ts = take_one T.If ts >>= λ d ts. condition h ts >>= λ e ts. inner false ts >>= λ s ts. else_part d e s ts
+
+  unfoldable pub while_statement : List Token → Res StmtTree
+  while_statement ts = take_one T.While ts >>= λ d ts. condition h ts >>= λ e ts. inner false ts >>= λ s ts. Ok (WhileS e s d, ts)
+
+  unfoldable pub sync_statement : List Token → Res StmtTree
+  sync_statement ts =
+      take_one T.Synchronized ts >>= λ d ts. take_one T.OpenParen ts >>= λ o ts. lock ts >>= λ l ts. take_one T.CloseParen ts >>= λ c ts.
+      block ts >>= λ b ts. Ok (SyncS l (stmts_from b.1) d, ts)
+
+  unfoldable pub block_statement : List Token → Res StmtTree
+  block_statement ts = braces (inner true) ts >>= λ b ts. Ok (BlockS (stmts_from b.1) b.0, ts)
+
+  unfoldable pub statement_with : Bool → List Token → Res StmtTree
+  statement_with in_block ts =
+      if starts (is T.OpenBrace) ts then block_statement ts
+      else if starts (is T.If) ts then if_statement ts
+      else if starts (is T.While) ts then while_statement ts
+      else if starts (is T.Synchronized) ts then sync_statement ts
+      else plain_statement h in_block ts
+
+unfoldable mutual
+  -- a statement of at most h nodes in height; in a block it may be a declaration
+  pub statement_at : ℕ → Bool → List Token → Res StmtTree
+  statement_at zero in_block ts = beyond (begins_statement in_block) ts
+  statement_at (suc h) in_block ts = statement_with (suc h) (statement_at h) (block_at h) in_block ts
+
+  -- a block that counts as one node, of at most h nodes in height
+  pub block_at : ℕ → List Token → Res (ℕ × List StmtTree × ℕ)
+  block_at zero ts = beyond (is T.OpenBrace) ts
+  block_at (suc h) ts = braces (statement_at h true) ts
