@@ -12,6 +12,7 @@ use Rattle.aj_core.specs.Types.{field_type, field_types}
 use Rattle.aj_core.specs.Typed.{fields_from, is_final_at, IsEntry, IsRunnable}
 use Rattle.aj_syntax.specs.declared.tree.Name.{Name}
 use Rattle.aj_syntax.specs.Trees.{ClassTree, ProgramTree}
+use Rattle.aj_classes.proofs.Parts.{and_then_of}
 use Rattle.aj_classes.specs.Names.{texts_of, has_text, repeats}
 use Rattle.aj_classes.specs.Members.{is_empty, finals_of, class_names, field_names, method_names, is_entry, is_main}
 use Rattle.aj_classes.specs.Faults.{twice_faults, class_faults, missing_run, missing_main}
@@ -23,7 +24,7 @@ use Rattle.aj_elaborate.specs.Locks.{lock_rule}
 use Rattle.aj_elaborate.specs.Rules.{field_named, numbered_field, method_named, numbered_method, parameter_types, final_types, fields_in}
 use Rattle.aj_elaborate.specs.Programs.{all_there, field_node, ascending, guard_path, method_scope, run_of}
 use Rattle.aj_elaborate.proofs.Complete.{front_empty, back_empty}
-use Rattle.aj_elaborate.proofs.Inversions.{map_of, and_then_of}
+use Rattle.aj_elaborate.proofs.Inversions.{map_of}
 use Rattle.aj_elaborate.proofs.TypedExprs.{IsFieldOf, IsMethodOf, IsMade, Agrees}
 use Rattle.aj_elaborate.proofs.Parts.{Each, each_at, each_along, each_mapped, at_left, at_right, there_at, mapped_at, result_at, told_alike, none_mapped, each_faultless}
 use Rattle.aj_elaborate.proofs.Places.{FieldAt, MethodAt, own_fields, own_methods, fields_at, methods_at, field_entry, method_entry, core_field, core_method, field_entries, method_entries, own_method_names, own_fields_long, own_methods_long, own_class, own_method_class, class_entry, IsPlaced, placed, class_of_entry, places, count_up, fields_from_is, places_both, places_none, places_all, other_below, other_above}

@@ -1,5 +1,6 @@
 -- Where a part of a program has no faults, it has a core node.
 use Rattle.std.proofs.Common.{◌≡◌, ℕ, ◌+◌, Bool, true, false, List, [], ◌∷◌, ◌++◌, Option, Some, None, IsSome, flat_map, map, length, Result, Ok, Err, refl, sym, ◌∙◌, ◌&&◌, nat_lt, option_map, if◌then◌else◌}
+use Rattle.std.proofs.lemmas.Bool.{false≢true}
 use Rattle.std.proofs.lemmas.Option.{same_Some}
 use Rattle.aj_syntax.specs.declared.tree.Name.{Name}
 use Rattle.aj_syntax.specs.Trees.{ExprTree, ExprTrees, NumberE, LeastE, TruthE, NullE, ThisE, VarE, ParenE, NotE, NegE, BinaryE, GetE, CallE, NewE, no_exprs, more_exprs}
@@ -32,9 +33,6 @@ pub back_empty : {A : Type 0} (xs ys : List A) → xs ++ ys ≡ [] → ys ≡ []
 back_empty [] ys h = h
 back_empty (x ∷ xs) ys h = absurd cc
 
-pub no_truth : false ≡ true → ⊥
-no_truth h = cc
-
 -- ---- rules
 
 pub gained : {A : Type 0} (r : Result A TypeFault) → loss r ≡ [] → IsSome (gain r)
@@ -43,26 +41,26 @@ gained (Err f) h = absurd cc
 
 pub gave : {A B : Type 0} (rule : A → Result B TypeFault) (o : Option A) → IsSome o → broken rule o ≡ [] → IsSome (given rule o)
 gave rule (Some a) some h = gained (rule a) h
-gave rule None some h = absurd (no_truth some)
+gave rule None some h = absurd (false≢true some)
 
 pub both_some : {A B : Type 0} (o : Option A) (p : Option B) → IsSome o → IsSome p → IsSome (both o p)
 both_some (Some a) (Some b) h k = refl
-both_some None p h k = absurd (no_truth h)
-both_some (Some a) None h k = absurd (no_truth k)
+both_some None p h k = absurd (false≢true h)
+both_some (Some a) None h k = absurd (false≢true k)
 
 pub mapped_some : {A B : Type 0} (f : A → B) (o : Option A) → IsSome o → IsSome (option_map f o)
 mapped_some f (Some a) h = refl
-mapped_some f None h = absurd (no_truth h)
+mapped_some f None h = absurd (false≢true h)
 
 call_gave : (t : TableData) (n : Name) (e : Option TypedData) (args : Option TypedList) → IsSome e → IsSome args
     → call_fault t n e args ≡ [] → IsSome (given (call_rule t n) (both e args))
 call_gave t n (Some e) (Some args) h k none = gained (call_rule t n (e, args)) none
-call_gave t n None args h k none = absurd (no_truth h)
-call_gave t n (Some e) None h k none = absurd (no_truth k)
+call_gave t n None args h k none = absurd (false≢true h)
+call_gave t n (Some e) None h k none = absurd (false≢true k)
 
 new_gave : (t : TableData) (n : Name) (args : Option TypedList) → IsSome args → new_fault t n args ≡ [] → IsSome (given (new_rule t n) args)
 new_gave t n (Some args) k none = gained (new_rule t n args) none
-new_gave t n None k none = absurd (no_truth k)
+new_gave t n None k none = absurd (false≢true k)
 
 -- ---- expressions
 
@@ -297,7 +295,7 @@ module _ (t : TableData) where
 
 pub there : {A : Type 0} (o : Option A) → IsSome o → (a : A) × (o ≡ Some a)
 there (Some a) h = (a, refl)
-there None h = absurd (no_truth h)
+there None h = absurd (false≢true h)
 
 -- a program without faults has a core program
 pub program_there : (tree : ProgramTree) → faults_of tree ≡ [] → (P : Program) × (core_of tree ≡ Some P)

@@ -38,7 +38,3 @@ ok_or_of None f a h = absurd cc
 pub map_of : {A B : Type 0} (f : A → B) (o : Option A) (b : B) → option_map f o ≡ Some b → (a : A) × (o ≡ Some a) × (f a ≡ b)
 map_of f (Some a) b h = (a, refl, same_Some (f a) b h)
 map_of f None b h = absurd cc
-
-pub and_then_of : {A B : Type 0} (f : A → Option B) (o : Option A) (b : B) → option_and_then f o ≡ Some b → (a : A) × (o ≡ Some a) × (f a ≡ Some b)
-and_then_of f (Some a) b h = (a, refl, h)
-and_then_of f None b h = absurd cc

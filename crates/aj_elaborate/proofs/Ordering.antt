@@ -38,14 +38,6 @@ next_class k f fs other h =
     let later : k < f.class = grind (arith, nat_tests, h.0, other) in
     (omega (arith, later), h.1)
 
-pub own_first : (k n : ℕ) (f : Field) (fs : List Field) → (f.class == k) ≡ true → fields_from k n (f ∷ fs) ≡ n ∷ fields_from k (n + 1) fs
-own_first k n f fs own = ap (λ b. if b then n ∷ fields_from k (n + 1) fs else fields_from k (n + 1) fs) own
-
-pub other_first : (k c n : ℕ) (f : Field) (fs : List Field) → f.class ≡ k → k < c → fields_from c n (f ∷ fs) ≡ fields_from c (n + 1) fs
-other_first k c n f fs own later =
-    let other : (f.class == c) ≡ false = grind (arith, nat_tests, own, later) in
-    skipped c n f fs (f.class == c) refl other
-
 -- ---- the fields of a program
 
 -- the fields that are there ascend by their class, from this one on
@@ -94,25 +86,6 @@ pub fields_ascend : (t : TableData) (cs : ProgramTree) (fs : List Field) → all
 fields_ascend t cs fs there = all_ascend 0 (all_fields t 0 cs) fs (classes_ascend t 0 cs) there
 
 -- ---- the fields of a class, taken from the front
-
-pub own_step : (k next after : ℕ) (ids more : List ℕ) (f : Field) (rest : List Field) (whole : List ℕ)
-    → (f.class == k) ≡ true → ids ++ fields_from k next (f ∷ rest) ≡ whole → more ≡ ids ++ next ∷ [] → after ≡ next + 1
-    → more ++ fields_from k after rest ≡ whole
-own_step k next after ids more f rest whole own so is counted =
-    ap (λ z. z ++ fields_from k after rest) is
-    ∙ ap (λ z. (ids ++ next ∷ []) ++ fields_from k z rest) counted
-    ∙ append_assoc ids (next ∷ []) (fields_from k (next + 1) rest)
-    ∙ ap (λ z. ids ++ z) (sym (own_first k next f rest own))
-    ∙ so
-
-pub ascend_step : (k : ℕ) (f : Field) (rest : List Field) → (f.class == k) ≡ true → Ascends k (f ∷ rest) → Ascends k rest
-ascend_step k f rest own h = subst (λ c. Ascends c rest) (eqb-true f.class k own) h.1
-
-pub later_step : (k next after : ℕ) (f : Field) (rest : List Field) (whole : ℕ → List ℕ)
-    → (f.class == k) ≡ true → after ≡ next + 1 → ((c : ℕ) → k < c → fields_from c next (f ∷ rest) ≡ whole c)
-    → (c : ℕ) → k < c → fields_from c after rest ≡ whole c
-later_step k next after f rest whole own counted so c later =
-    ap (λ z. fields_from c z rest) counted ∙ sym (other_first k c next f rest (eqb-true f.class k own) later) ∙ so c later
 
 -- all fields of a class, where later ones follow
 pub ids_end : (k next : ℕ) (ids whole : List ℕ) (rest : List Field) → Ascends (k + 1) rest → ids ++ fields_from k next rest ≡ whole → ids ≡ whole

@@ -4,25 +4,13 @@ use Rattle.std.specs.List.{list_any, position_or_len}
 use Rattle.std.proofs.lemmas.Option.{slice_get-map, same_Some}
 use Rattle.std.proofs.lemmas.List.Elements.{All-cons, All-nil}
 use Rattle.std.proofs.lemmas.Bool.Decides.{nat_tests}
+pub use Rattle.aj_classes.proofs.Parts.{Each, each_both, each_at, nothing_at, mapped_at, before_mapped}
 use Rattle.aj_elaborate.specs.Rulings.{both}
 use Rattle.aj_elaborate.specs.Programs.{all_there}
 use Rattle.aj_elaborate.proofs.Complete.{front_empty, back_empty}
 use Rattle.aj_elaborate.proofs.Inversions.{both_of, map_of}
 
 -- ---- what holds of each part
-
-abbrev pub Each : {A : Type 0} → (A → Type 0) → List A → Type 0
-Each P [] = Unit {0}
-Each P (x ∷ xs) = P x × Each P xs
-
-pub each_both : {A : Type 0} (P : A → Type 0) (xs ys : List A) → Each P xs → Each P ys → Each P (xs ++ ys)
-each_both P [] ys h k = k
-each_both P (x ∷ xs) ys h k = (h.0, each_both P xs ys h.1 k)
-
-pub each_at : {A : Type 0} (P : A → Type 0) (xs : List A) (i : ℕ) (x : A) → Each P xs → slice_get xs i ≡ Some x → P x
-each_at P [] i x h e = absurd (let d : None ≡ Some x = e in cc)
-each_at P (y ∷ ys) zero x h e = subst P (same_Some y x e) h.0
-each_at P (y ∷ ys) (suc i) x h e = each_at P ys i x h.1 e
 
 pub each_along : {A : Type 0} (P Q : A → Type 0) (xs : List A) → ((x : A) → P x → Q x) → Each P xs → Each Q xs
 each_along P Q [] f h = tt
@@ -37,9 +25,6 @@ all_of P [] h = All-nil P
 all_of P (x ∷ xs) h = All-cons P x xs h.0 (all_of P xs h.1)
 
 -- ---- which part stands where
-
-pub nothing_at : {A : Type 0} (i : ℕ) (x : A) → slice_get [] i ≡ Some x → ⊥
-nothing_at i x e = let d : None ≡ Some x = e in cc
 
 pub at_left : {A : Type 0} (xs ys : List A) (i : ℕ) (x : A) → slice_get xs i ≡ Some x → slice_get (xs ++ ys) i ≡ Some x
 at_left [] ys i x e = absurd (nothing_at i x e)
@@ -61,12 +46,6 @@ pub there_at : {A : Type 0} (xs : List A) (i : ℕ) → i < length xs → (x : A
 there_at [] i h = absurd (omega (arith, h))
 there_at (x ∷ xs) zero h = (x, refl)
 there_at (x ∷ xs) (suc i) h = there_at xs i (omega (arith, h))
-
-pub mapped_at : {A B : Type 0} (f : A → B) (xs : List A) (i : ℕ) (x : A) → slice_get xs i ≡ Some x → slice_get (map f xs) i ≡ Some (f x)
-mapped_at f xs i x e = slice_get-map f xs i ∙ ap (option_map f) e
-
-pub before_mapped : {A B : Type 0} (f : A → B) (xs : List A) (i : ℕ) (y : B) → slice_get (map f xs) i ≡ Some y → (x : A) × (slice_get xs i ≡ Some x) × (f x ≡ y)
-before_mapped f xs i y e = map_of f (slice_get xs i) y (sym (slice_get-map f xs i) ∙ e)
 
 -- an element that passes a test, where there is one
 pub any_at : {A : Type 0} (p : A → Bool) (xs : List A) → list_any p xs ≡ true → (i : ℕ) × (x : A) × (slice_get xs i ≡ Some x) × (p x ≡ true)

@@ -2,6 +2,7 @@
 -- and in the core program.
 use Rattle.std.proofs.Common.{◌≡◌, ℕ, ◌+◌, ◌<◌, ◌≤◌, zero, suc, Bool, true, false, List, [], ◌∷◌, ◌++◌, map, length, Option, Some, refl, ap, ap₂, sym, ◌∙◌, subst, slice_get, arith, option_map, ◌==◌, if◌then◌else◌, append_assoc, length-append}
 use Rattle.std.proofs.lemmas.List.{map-append, length-map}
+use Rattle.std.proofs.lemmas.Bool.{eq-eqb}
 use Rattle.std.proofs.lemmas.Bool.Decides.{nat_tests}
 use Rattle.std.proofs.lemmas.Option.{same_Some}
 use Rattle.aj_core.specs.Core.{Field, Method}
@@ -293,9 +294,6 @@ places_both c n (x ∷ xs) ys =
       | false ↦ step
     ]
 
-itself : (c : ℕ) → (c == c) ≡ true
-itself c = grind (arith, nat_tests)
-
 pub other_below : (x c : ℕ) → x < c → (x == c) ≡ false
 other_below x c h = grind (arith, nat_tests)
 
@@ -309,7 +307,7 @@ places_none c n (x ∷ xs) h = ap (λ b. if b then n ∷ places c (n + 1) xs els
 pub places_all : (c n : ℕ) (xs : List ℕ) → Each (λ x. x ≡ c) xs → places c n xs ≡ count_up n (length xs)
 places_all c n [] h = refl
 places_all c n (x ∷ xs) h =
-    ap (λ b. if b then n ∷ places c (n + 1) xs else places c (n + 1) xs) (ap (λ z. z == c) h.0 ∙ itself c)
+    ap (λ b. if b then n ∷ places c (n + 1) xs else places c (n + 1) xs) (ap (λ z. z == c) h.0 ∙ eq-eqb c c refl)
     ∙ ap (λ z. n ∷ z) (places_all c (n + 1) xs h.1)
 
 pub counted_at : (n l i : ℕ) → i < l → slice_get (count_up n l) i ≡ Some (n + i)

@@ -1,6 +1,7 @@
 -- A tree's core nodes are no more than its tokens.
 use Rattle.std.proofs.Common.{◌≡◌, ℕ, ◌+◌, ◌≤◌, Bool, true, false, List, [], ◌∷◌, ◌++◌, length, Some, None, sym, subst, arith, length-append}
 use Rattle.aj_lexer.specs.declared.tokens.Token.{Token}
+use Rattle.aj_lexer.specs.Limits.{greatest_literal}
 use Rattle.aj_syntax.specs.declared.terminal.Terminal.TheVariants as T
 use Rattle.aj_syntax.specs.Tokens.{token, name_token, number_token}
 use Rattle.aj_syntax.specs.Grammar.{Spells, SpellsArgs, SpellsMoreArgs, SpellsStmt, SpellsStmts, SpellsField, SpellsBare, SpellsMember, SpellsClass, Repeats, sign_of}
@@ -19,7 +20,7 @@ long n ts us same h = subst (λ z. n ≤ length z) (sym same) h
 mutual
   pub expr_long : (e : ExprTree) (ts : List Token) → Spells e ts → size e ≤ length ts
   expr_long (NumberE n at) ts (text, below, is) = long 1 ts (number_token n text at ∷ []) is (omega arith)
-  expr_long (LeastE at) ts (text, d, is) = long 1 ts (token T.Minus at ∷ number_token 2147483648 text d ∷ []) is (omega arith)
+  expr_long (LeastE at) ts (text, d, is) = long 1 ts (token T.Minus at ∷ number_token greatest_literal text d ∷ []) is (omega arith)
   expr_long (TruthE true at) ts is = long 1 ts (token T.True at ∷ []) is (omega arith)
   expr_long (TruthE false at) ts is = long 1 ts (token T.False at ∷ []) is (omega arith)
   expr_long (NullE at) ts is = long 1 ts (token T.Null at ∷ []) is (omega arith)

@@ -14,6 +14,7 @@ use Rattle.aj_core.specs.Typed.{fields_from, is_final_at, IsEntry, IsRunnable}
 use Rattle.aj_syntax.specs.declared.tree.Name.{Name}
 use Rattle.aj_syntax.specs.declared.tree.Param.{Param}
 use Rattle.aj_syntax.specs.declared.tree.TypeName.{TypeName}
+use Rattle.aj_syntax.specs.Limits.{most_height, most_tokens}
 use Rattle.aj_syntax.specs.Trees.{LockTree, MethodTree, FieldTree, MemberTree, FieldM, CtorM, MethodM, ClassTree, ProgramTree}
 use Rattle.aj_classes.specs.Names.{has_text}
 use Rattle.aj_classes.specs.Members.{is_empty, finals_of, class_names, field_names, is_entry, is_main}
@@ -90,7 +91,7 @@ all_guarded k (c ∷ cs) ts (us, vs, (ps, rs, xs, d, b, e, public_is, runnable_i
     each_both IsWellGuarded (own_fields k 0 c.members) (fields_at (k + 1) cs) (own_guarded k 0 c.members xs members) (all_guarded (k + 1) cs vs rest)
 
 abbrev IsLow : MethodAt → Type 0
-IsLow d = 1 + stmt_heights d.method.body ≤ 64
+IsLow d = 1 + stmt_heights d.method.body ≤ most_height
 
 max_left : (a b n : ℕ) → max a b ≤ n → a ≤ n
 max_left a b n h = grind arith
@@ -98,19 +99,19 @@ max_left a b n h = grind arith
 max_right : (a b n : ℕ) → max a b ≤ n → b ≤ n
 max_right a b n h = grind arith
 
-own_low : (k : ℕ) (ms : List MemberTree) → highest_member ms ≤ 64 → Each IsLow (own_methods k ms)
+own_low : (k : ℕ) (ms : List MemberTree) → highest_member ms ≤ most_height → Each IsLow (own_methods k ms)
 own_low k [] h = tt
-own_low k (FieldM f ∷ ms) h = own_low k ms (max_right 0 (highest_member ms) 64 h)
-own_low k (CtorM n params sets ∷ ms) h = own_low k ms (max_right 0 (highest_member ms) 64 h)
+own_low k (FieldM f ∷ ms) h = own_low k ms (max_right 0 (highest_member ms) most_height h)
+own_low k (CtorM n params sets ∷ ms) h = own_low k ms (max_right 0 (highest_member ms) most_height h)
 own_low k (MethodM m ∷ ms) h =
-    (max_left (1 + stmt_heights m.body) (highest_member ms) 64 h, own_low k ms (max_right (1 + stmt_heights m.body) (highest_member ms) 64 h))
+    (max_left (1 + stmt_heights m.body) (highest_member ms) most_height h, own_low k ms (max_right (1 + stmt_heights m.body) (highest_member ms) most_height h))
 
-all_low : (k : ℕ) (cs : ProgramTree) → highest_body cs ≤ 64 → Each IsLow (methods_at k cs)
+all_low : (k : ℕ) (cs : ProgramTree) → highest_body cs ≤ most_height → Each IsLow (methods_at k cs)
 all_low k [] h = tt
 all_low k (c ∷ cs) h =
     each_both IsLow (own_methods k c.members) (methods_at (k + 1) cs)
-    (own_low k c.members (max_left (highest_member c.members) (highest_body cs) 64 h))
-    (all_low (k + 1) cs (max_right (highest_member c.members) (highest_body cs) 64 h))
+    (own_low k c.members (max_left (highest_member c.members) (highest_body cs) most_height h))
+    (all_low (k + 1) cs (max_right (highest_member c.members) (highest_body cs) most_height h))
 
 -- ---- what the class faults tell of members
 
@@ -500,7 +501,7 @@ module _ (tree : ProgramTree) (P : Program) (b : IsBuilt tree P) (s : AreSound t
 
   -- ---- size
 
-  pub size_is_low : (ts : List Token) → Repeats SpellsClass tree ts → length ts ≤ 262144 → size_of P ≤ most_nodes
+  pub size_is_low : (ts : List Token) → Repeats SpellsClass tree ts → length ts ≤ most_tokens → size_of P ≤ most_nodes
   size_is_low ts wide few =
       omega (
         arith,
@@ -515,7 +516,7 @@ module _ (tree : ProgramTree) (P : Program) (b : IsBuilt tree P) (s : AreSound t
 
 -- the core program of a tree that the grammar relates to a source's tokens is typed
 pub core_is_typed : (tree : ProgramTree) (P : Program) (ts : List Token) → class_fault.faults_of tree ≡ [] → IsCoreOf tree P → Grammar ts tree
-    → length ts ≤ 262144 → IsTyped P
+    → length ts ≤ most_tokens → IsTyped P
 core_is_typed tree P ts sound_tree core grammar few =
     let b = built tree P core.core in
     let s = all_sound tree sound_tree in
@@ -531,6 +532,6 @@ core_is_typed tree P ts sound_tree core grammar few =
 -- so is what answers with it
 pub result_typed : {A E : Type 0} (view : A → Program) (bad : E → Type 0) (result : Result A E) (tree : ProgramTree) → class_fault.faults_of tree ≡ []
     → MatchResult result (λ p. IsCoreOf tree (view p)) bad
-    → (ts : List Token) → length ts ≤ 262144 → Grammar ts tree → IfOk result (λ p. IsTyped (view p))
+    → (ts : List Token) → length ts ≤ most_tokens → Grammar ts tree → IfOk result (λ p. IsTyped (view p))
 result_typed view bad (Ok p) tree sound_tree core ts few grammar = core_is_typed tree (view p) ts sound_tree core grammar few
 result_typed view bad (Err e) tree sound_tree core ts few grammar = tt

@@ -7,6 +7,7 @@ pub mod Locks
 pub mod Exprs
 pub mod Completion
 pub mod Stmts
+pub mod Inside
 pub mod Programs
 pub mod Gathered
 pub mod Making

@@ -15,7 +15,8 @@ use Rattle.aj_elaborate.specs.Scopes.{Scope, variable, is_bound}
 use Rattle.aj_elaborate.specs.Rules.{TypedData, is_int, is_boolean, receiver_class, type_rule, field_rule, fit_rule}
 use Rattle.aj_elaborate.specs.Locks.{lock_rule}
 use Rattle.aj_elaborate.specs.Exprs.{elaborated, expr_faults}
-use Rattle.aj_elaborate.specs.Completion.{completes, begins_at, locals_in}
+use Rattle.aj_syntax.specs.Offsets.{begins_at}
+use Rattle.aj_elaborate.specs.Completion.{completes, locals_in}
 
 -- ---- the rule of each kind of statement
 
@@ -76,7 +77,7 @@ start_rule t at e = demand (is_runnable t (receiver_class e.ty)) (NoRule at) (St
 
 -- ---- declarations
 
--- of a local, where so many stand before it: it is the 65th or a later one
+-- of a local, where so many stand before it: it is one too many
 abbrev pub too_many : ℕ → Name → List TypeFault
 too_many before n = if nat_lt before most_locals then [] else TooManyLocals n.at ∷ []
 

@@ -5,6 +5,7 @@ ghost use Rattle.aj_core.specs.Core.{Program};
 ghost use Rattle.aj_core.specs.Typed.{IsTyped};
 ghost use Rattle.aj_lexer.specs.declared.tokens.Token.{Token};
 ghost use Rattle.aj_syntax.specs.Grammar.{Grammar};
+ghost use Rattle.aj_syntax.specs.Limits.{most_tokens};
 ghost use Rattle.aj_syntax.specs.Trees.{ProgramTree};
 ghost use Rattle.aj_classes.specs.Faults as classes;
 ghost use Rattle.aj_elaborate.specs.declared.fault.TypeFault.{TypeFault};
@@ -26,5 +27,5 @@ pub fn first_fault_laws()
 /// The core program of a tree that the grammar gives to at most 262,144 tokens is typed, where the tree's classes have no faults.
 pub fn typed_law()
     ensures { (tree : ProgramTree) (P : Program) (ts : List Token) → classes.faults_of tree ≡ [] → IsCoreOf tree P → Grammar ts tree →
-        length ts ≤ 262144 → IsTyped P }
+        length ts ≤ most_tokens → IsTyped P }
 {}

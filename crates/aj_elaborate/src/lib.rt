@@ -1,6 +1,7 @@
 //! The core program of a program, or its first type fault.
 #![tactic(auto)]
 
+mod body;
 mod calls;
 mod classes;
 mod completion;

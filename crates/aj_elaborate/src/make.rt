@@ -9,6 +9,7 @@ ghost use Rattle.aj_core.specs.Typed.{IsTyped};
 ghost use Rattle.aj_core.specs.Views as core;
 ghost use Rattle.aj_lexer.specs.declared.tokens.Token.{Token};
 ghost use Rattle.aj_syntax.specs.Grammar.{Grammar};
+ghost use Rattle.aj_syntax.specs.Limits.{most_tokens};
 ghost use Rattle.aj_syntax.specs.Views.{class_of, program_of};
 ghost use Rattle.aj_elaborate.specs.declared.fault.TypeFault.{TypeFault};
 ghost use Rattle.aj_elaborate.specs.declared.fault.TypeFault.TheVariants.{NoMemory as OutOfMemory};
@@ -108,7 +109,7 @@ pub fn elaborate(
     ensures exact { MatchResult result (λ p. IsCoreOf (program_of program.now) (core.program_of p)) (λ e. (e ≡ OutOfMemory) ⊎ IsFirstFault (program_of program.now) e) }
     ensures core_given { (P : CoreData) → IsCoreOf (program_of program.now) P → MatchResult result (λ p. core.program_of p ≡ P) (λ e. e ≡ OutOfMemory) }
     ensures fault_given { (f : TypeFault) → IsFirstFault (program_of program.now) f → MatchResult result (λ _. ⊥) (λ e. (e ≡ f) ⊎ (e ≡ OutOfMemory)) }
-    ensures typed { (ts : List Token) → length ts ≤ 262144 → Grammar ts (program_of program.now) → IfOk result (λ p. IsTyped (core.program_of p)) }
+    ensures typed { (ts : List Token) → length ts ≤ most_tokens → Grammar ts (program_of program.now) → IfOk result (λ p. IsTyped (core.program_of p)) }
 {
     core_or_fault(alloc, table, program)
 }

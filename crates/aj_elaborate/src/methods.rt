@@ -7,7 +7,7 @@ ghost use Rattle.aj_classes.specs.Views.{table_data};
 ghost use Rattle.aj_core.specs.Views.{method_of, stmt_of};
 ghost use Rattle.aj_core.specs.Core.{BlockS};
 ghost use Rattle.aj_syntax.specs.Views.{lock_of, member_of, stmt_of as tree_of, stmts_from};
-ghost use Rattle.aj_elaborate.specs.Stmts.{block_core, block_faults};
+ghost use Rattle.aj_elaborate.specs.Inside.{block_faults_in, block_in};
 ghost use Rattle.aj_elaborate.specs.Completion.{locals_in_each, completes_each};
 ghost use Rattle.aj_elaborate.specs.Gathered.{method_in, faults_in_method, return_faults};
 ghost use Rattle.aj_elaborate.specs.Locks.{lock_rule};
@@ -17,13 +17,14 @@ ghost use Rattle.aj_elaborate.specs.Programs.{all_there, ascending};
 ghost use Rattle.aj_elaborate.specs.Rulings.{gain, loss, both};
 ghost use Rattle.aj_elaborate.specs.Scopes.{parameters_from};
 
+use crate::body::Body;
 use crate::fault::TypeFault;
 use crate::first::FirstFault;
 use crate::gather::Gathered;
 use crate::lock::lock_path;
 use crate::nodes::StmtPart;
 use crate::scope::Bound;
-use crate::stmts::{Signature, block};
+use crate::stmts::block;
 use aj_classes::ClassTable;
 use aj_core::{CoreMethod, CoreType};
 use aj_paths::{ClassId, Path};
@@ -171,54 +172,58 @@ struct LocksAndBody {
 
 // The locks and the body of a method with these parameters.
 fn locks_and_body<'a>(
-    alloc: Global,
-    table: &ClassTable,
-    method: &Signature,
+    body: &Body,
     params: &[Param<'a>],
     locks: &[Lock],
-    body: &[Stmt<'a>],
+    stmts: &[Stmt<'a>],
     first: &mut FirstFault,
 ) -> Result<LocksAndBody, NoMemory>
-    ensures locks { IfOk result (λ made. option_map (λ v. v.items) made.locks ≡ all_there (map (λ l. gain (lock_rule (table_data table.now) method.now.class (parameters_from (table_data table.now) 1 params.now) l)) (map lock_of locks.now))) }
-    ensures node { IfOk result (λ made. option_map stmt_of made.body.node ≡ option_map BlockS (block_core (table_data table.now) method.now.class method.now.returns method.now.first_local (parameters_from (table_data table.now) 1 params.now) 0 (stmts_from (map tree_of body.now)))) }
-    ensures locals { IfOk result (λ made. made.body.locals ≡ locals_in_each (stmts_from (map tree_of body.now))) }
-    ensures completes { IfOk result (λ made. made.body.completes ≡ completes_each (stmts_from (map tree_of body.now))) }
-    ensures fault { OnOk result (first.new ≡ noted (noted first.old (flat_map (λ l. loss (lock_rule (table_data table.now) method.now.class (parameters_from (table_data table.now) 1 params.now) l)) (map lock_of locks.now))) (block_faults (table_data table.now) method.now.class method.now.returns method.now.first_local (parameters_from (table_data table.now) 1 params.now) 0 true (stmts_from (map tree_of body.now)))) }
+    ensures locks { IfOk result (λ made. option_map (λ v. v.items) made.locks ≡ all_there (map (λ l. gain (lock_rule (table_data body.now.table.now) body.now.class (parameters_from (table_data body.now.table.now) 1 params.now) l)) (map lock_of locks.now))) }
+    ensures node { IfOk result (λ made. option_map stmt_of made.body.node ≡ option_map BlockS (block_in body.now (parameters_from (table_data body.now.table.now) 1 params.now) 0 (stmts_from (map tree_of stmts.now)))) }
+    ensures locals { IfOk result (λ made. made.body.locals ≡ locals_in_each (stmts_from (map tree_of stmts.now))) }
+    ensures completes { IfOk result (λ made. made.body.completes ≡ completes_each (stmts_from (map tree_of stmts.now))) }
+    ensures fault { OnOk result (first.new ≡ noted (noted first.old (flat_map (λ l. loss (lock_rule (table_data body.now.table.now) body.now.class (parameters_from (table_data body.now.table.now) 1 params.now) l)) (map lock_of locks.now))) (block_faults_in body.now (parameters_from (table_data body.now.table.now) 1 params.now) 0 true (stmts_from (map tree_of stmts.now)))) }
 {
-    let mut scope = parameters(alloc, table, params)?;
-    let locks = required(alloc, table, method.class, scope.as_slice(), locks, first)?;
-    let body = block(alloc, table, method, &mut scope, 0, body, first)?;
+    let mut scope = parameters(body.alloc, body.table, params)?;
+    let locks = required(
+        body.alloc,
+        body.table,
+        body.class,
+        scope.as_slice(),
+        locks,
+        first,
+    )?;
+    let body = block(body, &mut scope, 0, stmts, first)?;
     Ok(LocksAndBody { locks, body })
 }
 
 // The core method of these parts. None where one is missing.
 fn core_method(
-    alloc: Global,
-    method: Signature,
+    body: &Body,
     atomic: bool,
     place_at: u32,
     types: Vec<(bool, CoreType)>,
     made: LocksAndBody,
 ) -> Result<Option<CoreMethod>, NoMemory>
-    ensures { IfOk result (λ m. option_map method_of m ≡ option_map (method_with method.class method.returns method.first_local atomic place_at types.items made.body.locals) (both (option_map (λ v. v.items) made.locks) (option_map stmt_of made.body.node))) }
+    ensures { IfOk result (λ m. option_map method_of m ≡ option_map (method_with body.now.class body.now.returns body.now.first_local atomic place_at types.items made.body.locals) (both (option_map (λ v. v.items) made.locks) (option_map stmt_of made.body.node))) }
 {
-    let LocksAndBody { locks, body } = made;
-    let locals = body.locals;
+    let LocksAndBody { locks, body: part } = made;
+    let locals = part.locals;
     let Some(locks) = locks else {
         return Ok(None);
     };
-    let Some(body) = body.node else {
+    let Some(node) = part.node else {
         return Ok(None);
     };
     Ok(Some(CoreMethod {
-        class: method.class,
+        class: body.class,
         place_at,
         annotated: atomic,
-        requires_: ascending(alloc, locks)?,
+        requires_: ascending(body.alloc, locks)?,
         params: types,
-        result: method.returns,
-        slots: slots(method.first_local, locals)?,
-        body,
+        result: body.returns,
+        slots: slots(body.first_local, locals)?,
+        body: node,
     }))
 }
 
@@ -239,28 +244,22 @@ pub(crate) fn method(
         name,
         params,
         requires_,
-        body,
+        body: stmts,
         end: at,
     } = member
     else {
         return Ok(None);
     };
     let params = params.as_slice();
-    let method = Signature {
+    let body = Body {
+        alloc,
+        table,
         class,
         returns: result_of(table, returns),
         first_local: first_local(params)?,
     };
-    let made = locks_and_body(
-        alloc,
-        table,
-        &method,
-        params,
-        requires_.as_slice(),
-        body.as_slice(),
-        first,
-    )?;
+    let made = locks_and_body(&body, params, requires_.as_slice(), stmts.as_slice(), first)?;
     note_missing_return(returns.is_some(), made.body.completes, *at, first);
     let types = param_types(alloc, table, params)?;
-    core_method(alloc, method, *atomic, name.at, types, made)
+    core_method(&body, *atomic, name.at, types, made)
 }

@@ -109,7 +109,7 @@ pub(crate) fn if_alone(
     })
 }
 
-pub(crate) fn while_node(
+fn while_node(
     alloc: Global,
     condition: Option<CoreExpr>,
     body: Option<CoreStmt>,
@@ -127,7 +127,27 @@ pub(crate) fn while_node(
     Ok(Some(CoreStmt::While(condition, body)))
 }
 
-pub(crate) fn sync_node(
+/// A loop around a statement. It completes where its condition may be false.
+pub(crate) fn while_part(
+    alloc: Global,
+    condition: Option<CoreExpr>,
+    completes: bool,
+    inner: StmtPart,
+) -> Result<StmtPart, NoMemory>
+    ensures node { IfOk result (λ p. option_map stmt_of p.node ≡ option_map (λ q. WhileS q.0 q.1) (both (option_map expr_of condition) (option_map stmt_of inner.node))) }
+    ensures locals { IfOk result (λ p. p.locals ≡ inner.locals) }
+    ensures completes { IfOk result (λ p. p.completes ≡ completes) }
+{
+    let locals = inner.locals;
+    let node = while_node(alloc, condition, inner.node)?;
+    Ok(StmtPart {
+        node,
+        locals,
+        completes,
+    })
+}
+
+fn sync_node(
     alloc: Global,
     path: Option<Path>,
     body: Option<CoreStmt>,
@@ -142,4 +162,24 @@ pub(crate) fn sync_node(
     };
     let body = Box::new(alloc, body)?;
     Ok(Some(CoreStmt::Sync(path, body)))
+}
+
+/// A block that holds a lock.
+pub(crate) fn sync_part(
+    alloc: Global,
+    path: Option<Path>,
+    inner: StmtPart,
+) -> Result<StmtPart, NoMemory>
+    ensures node { IfOk result (λ p. option_map stmt_of p.node ≡ option_map (λ q. SyncS q.0 q.1) (both path (option_map stmt_of inner.node))) }
+    ensures locals { IfOk result (λ p. p.locals ≡ inner.locals) }
+    ensures completes { IfOk result (λ p. p.completes ≡ inner.completes) }
+{
+    let locals = inner.locals;
+    let completes = inner.completes;
+    let node = sync_node(alloc, path, inner.node)?;
+    Ok(StmtPart {
+        node,
+        locals,
+        completes,
+    })
 }

@@ -12,23 +12,23 @@ use Rattle.aj_elaborate.proofs.methods.locks_and_body.Goals as goal
 
 pub returns-clause-locks : goal.returns-clause-locks
 returns-clause-locks c =
-    let T = table_data c.args.table.now in
-    let k = c.args.method.now.class in
+    let T = table_data c.args.body.now.table.now in
+    let k = c.args.body.now.class in
     c.in_ok-locks.ensures.paths
     ∙ ap (λ z. all_there (map (λ l. gain (lock_rule T k z l)) (map lock_of c.args.locks.now))) (c.as_slice.ensures.value ∙ c.in_ok-scope.ensures)
 
 pub returns-clause-node : goal.returns-clause-node
 returns-clause-node c =
-    let T = table_data c.args.table.now in
-    let M = c.args.method.now in
+    let T = table_data c.args.body.now.table.now in
+    let M = c.args.body.now in
     c.in_ok-body.ensures.node
-    ∙ ap (λ z. option_map BlockS (block_core T M.class M.returns M.first_local z 0 (stmts_from (map stmt_of c.args.body.now)))) c.in_ok-scope.ensures
+    ∙ ap (λ z. option_map BlockS (block_core T M.class M.returns M.first_local z 0 (stmts_from (map stmt_of c.args.stmts.now)))) c.in_ok-scope.ensures
 
 pub returns-clause-fault : goal.returns-clause-fault
 returns-clause-fault c =
-    let T = table_data c.args.table.now in
-    let M = c.args.method.now in
-    let body = stmts_from (map stmt_of c.args.body.now) in
+    let T = table_data c.args.body.now.table.now in
+    let M = c.args.body.now in
+    let body = stmts_from (map stmt_of c.args.stmts.now) in
     let scope = parameters_from T 1 c.args.params.now in
     let locks = noted c.args.first.now (flat_map (λ l. loss (lock_rule T M.class scope l)) (map lock_of c.args.locks.now)) in
     c.in_ok-body.ensures.fault

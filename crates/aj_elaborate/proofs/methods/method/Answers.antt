@@ -26,7 +26,7 @@ returns-clause-node c =
       name = c.in-Method.name;
       params = c.in-Method.params.items;
       locks = map lock_of c.in-Method.requires_.items;
-      body = stmts_from (map stmt_of c.in-Method.body.items);
+      body = stmts_from (map stmt_of c.in-Method.stmts.items);
       end = c.in-Method.at;
     } in
     let scope = parameters_from T 1 c.as_slice-params.result.now in
@@ -57,7 +57,7 @@ returns-clause-fault c =
       name = c.in-Method.name;
       params = c.in-Method.params.items;
       locks = map lock_of c.in-Method.requires_.items;
-      body = stmts_from (map stmt_of c.in-Method.body.items);
+      body = stmts_from (map stmt_of c.in-Method.stmts.items);
       end = c.in-Method.at;
     } in
     let scope = parameters_from T 1 c.as_slice-params.result.now in

@@ -12,15 +12,16 @@ use Rattle.aj_elaborate.specs.Noted.{noted}
 use Rattle.aj_elaborate.specs.Rulings.{gain, loss}
 use Rattle.aj_elaborate.specs.Stmts.{scope_after, stmt_core, block_core, stmt_faults, block_faults}
 use Rattle.aj_elaborate.proofs.Blocks.{link, blocks_end, statement_step, statement_fault, locals_step, completes_step, sync_made, sync_fault, grown, behind}
+use Rattle.aj_elaborate.proofs.Bodies.{on_ok}
 use Rattle.aj_elaborate.proofs.Gathering.{so_far}
 use Rattle.aj_elaborate.proofs.stmts.+statements.Goals as goal
 
 pub block-loop-s-preserved : goal.block-loop-s-preserved
 block-loop-s-preserved t c =
-    let T = table_data c.args.table.now in
-    let C = c.args.method.now.class in
-    let R = c.args.method.now.returns in
-    let F = c.args.method.now.first_local in
+    let T = table_data c.args.body.now.table.now in
+    let C = c.args.body.now.class in
+    let R = c.args.body.now.returns in
+    let F = c.args.body.now.first_local in
     let S = c.loop-s.scope.items in
     let s = stmt_of c.s-item.result in
     let node = c.in_ok-part.ensures.node ∙ ap (λ n. stmt_core T C R F S n s) c.in_ok-before_s.ensures in
@@ -48,10 +49,10 @@ block-loop-s-preserved t c =
 
 pub block-returns-clause-node : goal.block-returns-clause-node
 block-returns-clause-node t c =
-    let T = table_data c.args.table.now in
-    let C = c.args.method.now.class in
-    let R = c.args.method.now.returns in
-    let F = c.args.method.now.first_local in
+    let T = table_data c.args.body.now.table.now in
+    let C = c.args.body.now.class in
+    let R = c.args.body.now.returns in
+    let F = c.args.body.now.first_local in
     c.block_of.ensures
     ∙ blocks_end (gathered c.loop-s.nodes)
     ∙ ap (λ z. option_map BlockS (so_far core.stmt_of link (gathered c.loop-s.nodes) (block_core T C R F c.loop-s.scope.items (c.args.before + c.loop-s.locals) (stmts_from (map stmt_of z))))) (sym (drop_of_length-le c.args.stmts.now c.loop-s-test.false))
@@ -59,10 +60,10 @@ block-returns-clause-node t c =
 
 pub stmt-returns-in-Block-clause-node : goal.stmt-returns-in-Block-clause-node
 stmt-returns-in-Block-clause-node t c =
-    let T = table_data c.args.table.now in
-    let C = c.args.method.now.class in
-    let R = c.args.method.now.returns in
-    let F = c.args.method.now.first_local in
+    let T = table_data c.args.body.now.table.now in
+    let C = c.args.body.now.class in
+    let R = c.args.body.now.returns in
+    let F = c.args.body.now.first_local in
     let S = c.args.scope.now.items in
     subst (λ z. IfOk c.block.result (λ p. option_map core.stmt_of p.node ≡ z))
     (ap (λ z. option_map BlockS (block_core T C R F S c.args.before (stmts_from (map stmt_of z)))) c.deref.ensures.value
@@ -85,51 +86,57 @@ stmt-returns-in-Block-clause-completes t c =
 
 pub stmt-returns-in-Block-clause-fault : goal.stmt-returns-in-Block-clause-fault
 stmt-returns-in-Block-clause-fault t c =
-    let T = table_data c.args.table.now in
-    let C = c.args.method.now.class in
-    let R = c.args.method.now.returns in
-    let F = c.args.method.now.first_local in
+    let T = table_data c.args.body.now.table.now in
+    let C = c.args.body.now.class in
+    let R = c.args.body.now.returns in
+    let F = c.args.body.now.first_local in
     let S = c.args.scope.now.items in
     subst (λ z. OnOk c.block.result (c.block.new.first ≡ noted c.args.first.now z))
     (ap (λ z. block_faults T C R F S c.args.before true (stmts_from (map stmt_of z))) c.deref.ensures.value
     ∙ ap (stmt_faults T C R F S c.args.before) (sym (ap stmt_of c.in-Block.is ∙ view_block c.in-Block.stmts c.in-Block.field-1)))
     c.block.ensures.fault
 
-pub stmt-returns-in_ok-sync_node-in-Sync-clause-node : goal.stmt-returns-in_ok-sync_node-in-Sync-clause-node
-stmt-returns-in_ok-sync_node-in-Sync-clause-node t c =
-    let T = table_data c.args.table.now in
-    let C = c.args.method.now.class in
-    let R = c.args.method.now.returns in
-    let F = c.args.method.now.first_local in
+pub stmt-returns-in_ok-inner-in-Sync-clause-node : goal.stmt-returns-in_ok-inner-in-Sync-clause-node
+stmt-returns-in_ok-inner-in-Sync-clause-node t c =
+    let T = table_data c.args.body.now.table.now in
+    let C = c.args.body.now.class in
+    let R = c.args.body.now.returns in
+    let F = c.args.body.now.first_local in
     let S = c.args.scope.now.items in
     let L = lock_of c.in-Sync.lock in
-    c.in_ok-sync_node-in-Sync.ensures
-    ∙ sync_made T C R F (stmt_of c.args.s.now) L (stmts_from (map stmt_of c.in-Sync.stmts.items)) c.in-Sync.field-2 c.args.before S c.lock_path-path.result (option_map core.stmt_of c.in_ok-body-in-Sync.body.node)
+    subst (λ z. IfOk c.sync_part.result (λ p. option_map core.stmt_of p.node ≡ z))
+    (sync_made T C R F (stmt_of c.args.s.now) L (stmts_from (map stmt_of c.in-Sync.stmts.items)) c.in-Sync.field-2 c.args.before S c.lock_path-path.result (option_map core.stmt_of c.in_ok-inner-in-Sync.inner.node)
     (ap stmt_of c.in-Sync.is ∙ view_sync c.in-Sync.lock c.in-Sync.stmts c.in-Sync.field-2)
     (c.lock_path-path.ensures.path ∙ ap (λ z. gain (lock_rule T C z L)) c.as_slice-in-Sync.ensures.value)
-    (c.in_ok-body-in-Sync.ensures.node ∙ ap (λ z. option_map BlockS (block_core T C R F S c.args.before (stmts_from (map stmt_of z)))) c.deref-in-Sync.ensures.value)
+    (c.in_ok-inner-in-Sync.ensures.node ∙ ap (λ z. option_map BlockS (block_core T C R F S c.args.before (stmts_from (map stmt_of z)))) c.deref-in-Sync.ensures.value))
+    c.sync_part.ensures.node
 
-pub stmt-returns-in_ok-sync_node-in-Sync-clause-locals : goal.stmt-returns-in_ok-sync_node-in-Sync-clause-locals
-stmt-returns-in_ok-sync_node-in-Sync-clause-locals t c =
-    c.in_ok-body-in-Sync.ensures.locals
+pub stmt-returns-in_ok-inner-in-Sync-clause-locals : goal.stmt-returns-in_ok-inner-in-Sync-clause-locals
+stmt-returns-in_ok-inner-in-Sync-clause-locals t c =
+    subst (λ z. IfOk c.sync_part.result (λ p. p.locals ≡ z))
+    (c.in_ok-inner-in-Sync.ensures.locals
     ∙ ap (λ z. locals_in_each (stmts_from (map stmt_of z))) c.deref-in-Sync.ensures.value
-    ∙ ap locals_in (sym (ap stmt_of c.in-Sync.is ∙ view_sync c.in-Sync.lock c.in-Sync.stmts c.in-Sync.field-2))
+    ∙ ap locals_in (sym (ap stmt_of c.in-Sync.is ∙ view_sync c.in-Sync.lock c.in-Sync.stmts c.in-Sync.field-2)))
+    c.sync_part.ensures.locals
 
-pub stmt-returns-in_ok-sync_node-in-Sync-clause-completes : goal.stmt-returns-in_ok-sync_node-in-Sync-clause-completes
-stmt-returns-in_ok-sync_node-in-Sync-clause-completes t c =
-    c.in_ok-body-in-Sync.ensures.completes
+pub stmt-returns-in_ok-inner-in-Sync-clause-completes : goal.stmt-returns-in_ok-inner-in-Sync-clause-completes
+stmt-returns-in_ok-inner-in-Sync-clause-completes t c =
+    subst (λ z. IfOk c.sync_part.result (λ p. p.completes ≡ z))
+    (c.in_ok-inner-in-Sync.ensures.completes
     ∙ ap (λ z. completes_each (stmts_from (map stmt_of z))) c.deref-in-Sync.ensures.value
-    ∙ ap completes (sym (ap stmt_of c.in-Sync.is ∙ view_sync c.in-Sync.lock c.in-Sync.stmts c.in-Sync.field-2))
+    ∙ ap completes (sym (ap stmt_of c.in-Sync.is ∙ view_sync c.in-Sync.lock c.in-Sync.stmts c.in-Sync.field-2)))
+    c.sync_part.ensures.completes
 
-pub stmt-returns-in_ok-sync_node-in-Sync-clause-fault : goal.stmt-returns-in_ok-sync_node-in-Sync-clause-fault
-stmt-returns-in_ok-sync_node-in-Sync-clause-fault t c =
-    let T = table_data c.args.table.now in
-    let C = c.args.method.now.class in
-    let R = c.args.method.now.returns in
-    let F = c.args.method.now.first_local in
+pub stmt-returns-in_ok-inner-in-Sync-clause-fault : goal.stmt-returns-in_ok-inner-in-Sync-clause-fault
+stmt-returns-in_ok-inner-in-Sync-clause-fault t c =
+    let T = table_data c.args.body.now.table.now in
+    let C = c.args.body.now.class in
+    let R = c.args.body.now.returns in
+    let F = c.args.body.now.first_local in
     let S = c.args.scope.now.items in
     let L = lock_of c.in-Sync.lock in
-    sync_fault T C R F (stmt_of c.args.s.now) L (stmts_from (map stmt_of c.in-Sync.stmts.items)) c.in-Sync.field-2 c.args.before S c.args.first.now c.lock_path-path.new.first c.block-in-Sync.new.first
+    on_ok c.sync_part.result
+    (sync_fault T C R F (stmt_of c.args.s.now) L (stmts_from (map stmt_of c.in-Sync.stmts.items)) c.in-Sync.field-2 c.args.before S c.args.first.now c.lock_path-path.new.first c.block-in-Sync.new.first
     (ap stmt_of c.in-Sync.is ∙ view_sync c.in-Sync.lock c.in-Sync.stmts c.in-Sync.field-2)
     (c.lock_path-path.ensures.fault ∙ ap (λ z. noted c.args.first.now (loss (lock_rule T C z L))) c.as_slice-in-Sync.ensures.value)
-    (c.in_ok-body-in-Sync.ensures.fault ∙ ap (λ z. noted c.lock_path-path.new.first (block_faults T C R F S c.args.before true (stmts_from (map stmt_of z)))) c.deref-in-Sync.ensures.value)
+    (c.in_ok-inner-in-Sync.ensures.fault ∙ ap (λ z. noted c.lock_path-path.new.first (block_faults T C R F S c.args.before true (stmts_from (map stmt_of z)))) c.deref-in-Sync.ensures.value))

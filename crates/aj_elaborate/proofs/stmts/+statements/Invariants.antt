@@ -13,10 +13,10 @@ use Rattle.aj_elaborate.proofs.stmts.+statements.Given as goal
 
 abbrev pub invariant-block-loop-s : goal.invariant-block-loop-s
 invariant-block-loop-s l =
-    (so_far core.stmt_of link (gathered l.nodes) (block_core (table_data l.table) l.method.class l.method.returns l.method.first_local l.scope.items (l.before + l.locals) (stmts_from (map stmt_of (drop l.s-index l.stmts))))
-    ≡ block_core (table_data l.table) l.method.class l.method.returns l.method.first_local l.fn.scope.items l.before (stmts_from (map stmt_of l.stmts)))
+    (so_far core.stmt_of link (gathered l.nodes) (block_core (table_data l.body.table.now) l.body.class l.body.returns l.body.first_local l.scope.items (l.before + l.locals) (stmts_from (map stmt_of (drop l.s-index l.stmts))))
+    ≡ block_core (table_data l.body.table.now) l.body.class l.body.returns l.body.first_local l.fn.scope.items l.before (stmts_from (map stmt_of l.stmts)))
     × ((more : List Bound) × (l.scope.items ≡ l.fn.scope.items ++ more))
     × (l.locals + locals_in_each (stmts_from (map stmt_of (drop l.s-index l.stmts))) ≡ locals_in_each (stmts_from (map stmt_of l.stmts)))
     × ((l.live && completes_each (stmts_from (map stmt_of (drop l.s-index l.stmts)))) ≡ completes_each (stmts_from (map stmt_of l.stmts)))
-    × (noted l.first (block_faults (table_data l.table) l.method.class l.method.returns l.method.first_local l.scope.items (l.before + l.locals) l.live (stmts_from (map stmt_of (drop l.s-index l.stmts))))
-    ≡ noted l.fn.first (block_faults (table_data l.table) l.method.class l.method.returns l.method.first_local l.fn.scope.items l.before true (stmts_from (map stmt_of l.stmts))))
+    × (noted l.first (block_faults (table_data l.body.table.now) l.body.class l.body.returns l.body.first_local l.scope.items (l.before + l.locals) l.live (stmts_from (map stmt_of (drop l.s-index l.stmts))))
+    ≡ noted l.fn.first (block_faults (table_data l.body.table.now) l.body.class l.body.returns l.body.first_local l.fn.scope.items l.before true (stmts_from (map stmt_of l.stmts))))

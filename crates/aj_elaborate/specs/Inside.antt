@@ -1,0 +1,39 @@
+-- What the definitions of statements say inside a body.
+use Rattle.std.specs.Prelude.{ℕ, Bool, List, Option}
+use Rattle.aj_core.specs.Core.{Stmt, Stmts}
+use Rattle.aj_syntax.specs.Trees.{StmtTree, StmtTrees, ExprTree}
+use Rattle.aj_classes.specs.Views.{table_data}
+use Rattle.aj_elaborate.specs.declared.body.Body.{Body}
+use Rattle.aj_elaborate.specs.declared.fault.TypeFault.{TypeFault}
+use Rattle.aj_elaborate.specs.Exprs.{elaborated, expr_faults}
+use Rattle.aj_elaborate.specs.Rules.{TypedData}
+use Rattle.aj_elaborate.specs.Scopes.{Scope}
+use Rattle.aj_elaborate.specs.Stmts.{scope_after, stmt_core, block_core, stmt_faults, block_faults}
+
+-- the type and core node of an expression
+abbrev pub typed_in : Body → Scope → ExprTree → Option TypedData
+typed_in b = elaborated (table_data b.table.now) b.class
+
+-- the faults of an expression
+abbrev pub expr_faults_in : Body → Scope → ExprTree → List TypeFault
+expr_faults_in b = expr_faults (table_data b.table.now) b.class
+
+-- what is in scope after a statement
+abbrev pub scope_in : Body → Scope → ℕ → StmtTree → Scope
+scope_in b = scope_after (table_data b.table.now) b.class b.returns b.first_local
+
+-- the core node of a statement
+abbrev pub core_in : Body → Scope → ℕ → StmtTree → Option Stmt
+core_in b = stmt_core (table_data b.table.now) b.class b.returns b.first_local
+
+-- the core nodes of the statements of a block
+abbrev pub block_in : Body → Scope → ℕ → StmtTrees → Option Stmts
+block_in b = block_core (table_data b.table.now) b.class b.returns b.first_local
+
+-- the faults of a statement
+abbrev pub faults_in : Body → Scope → ℕ → StmtTree → List TypeFault
+faults_in b = stmt_faults (table_data b.table.now) b.class b.returns b.first_local
+
+-- the faults of a block
+abbrev pub block_faults_in : Body → Scope → ℕ → Bool → StmtTrees → List TypeFault
+block_faults_in b = block_faults (table_data b.table.now) b.class b.returns b.first_local
