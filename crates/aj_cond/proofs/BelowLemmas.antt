@@ -3,6 +3,7 @@ use Rattle.std.proofs.Common.{◌≡◌, ◌&&◌, Bool, true, false, refl, sym,
 use Rattle.std.specs.Cmp.{first_so, second_so}
 use Rattle.std.specs.declared.cmp.Ordering.{Ordering}
 use Rattle.std.specs.declared.cmp.Ordering.TheVariants.{Less, Equal, Greater}
+use Rattle.std.proofs.lemmas.Bool.{and_from}
 use Rattle.aj_paths.specs.Paths.{PathData, path_order}
 use Rattle.aj_paths.proofs.PathOrder.{equal_is, greater_turned}
 use Rattle.aj_algebra.specs.declared.basic.Basic.{Basic}
@@ -16,9 +17,6 @@ use Rattle.aj_cond.proofs.NodeLemmas.{Parts, parts-test, parts-tied, parts-none,
 -- the first is at most the second at every set
 abbrev pub IsBelow : Cond → Cond → Type 0
 IsBelow t u = (H : Held) → below_of (value_of t H) (value_of u H) ≡ true
-
-both_so : (a b : Bool) → a ≡ true → b ≡ true → (a && b) ≡ true
-both_so a b first second = (λ i. first i && b) ∙ second
 
 -- the test is exact
 pub record Exact (t u : Cond) (test : Bool) : Type 0 where
@@ -35,7 +33,7 @@ below-step q t u a b c d x y of_t of_u first second = record {
       (let k = of_t.splits H in let m = of_u.splits H in λ i. below_of (k i) (m i))
       ∙ below_if (H q) (value_of a H) (value_of b H) (value_of c H) (value_of d H) (first.sound (first_so x y both) H) (second.sound (second_so x y both) H);
   complete = λ below.
-      both_so x y
+      and_from x y
       (first.complete (λ H. (let k = sym (parts-high q t a b of_t H) in let m = sym (parts-high q u c d of_u H) in λ i. below_of (k i) (m i)) ∙ below (put q true H)))
       (second.complete (λ H. (let k = sym (parts-low q t a b of_t H) in let m = sym (parts-low q u c d of_u H) in λ i. below_of (k i) (m i)) ∙ below (put q false H)));
 }

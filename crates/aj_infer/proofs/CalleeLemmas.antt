@@ -6,6 +6,7 @@ use Rattle.std.proofs.lemmas.Bool.Decides.{nat_tests}
 use Rattle.std.proofs.lemmas.List.{take_more}
 use Rattle.std.proofs.lemmas.Option.{slice_get_within, slice_get-get_or}
 use Rattle.std.proofs.lemmas.List.Elements.{Contains-push, Contains-push_cases, Contains-append_left, Contains-append_right}
+use Rattle.std.proofs.lemmas.Bool.{eqb-true, or_right, or_left, eq-eqb}
 use Rattle.aj_core.specs.Core.{Program, Method, Expr, Exprs, IntE, TruthE, NullE, ThisE, VarE, NotE, NegE, BinaryE, AndE, OrE, GetE, CallE, NewE, no_exprs, and_expr}
 use Rattle.aj_core.specs.Core.{Stmt, Stmts, EmptyS, BlockS, LocalS, SetVarS, SetFieldS, DoS, IfS, WhileS, SyncS, ReturnS, PrintS, StartS, no_stmts, and_stmt}
 use Rattle.aj_core.specs.declared.program.CoreMethod.{CoreMethod}
@@ -18,15 +19,12 @@ or_has : (callee : ℕ) (a b : Bool) (xs ys : List ℕ) → (a || b) ≡ true �
 or_has callee true b xs ys e f g = Contains-append_left xs ys callee (f refl)
 or_has callee false b xs ys e f g = Contains-append_right xs ys callee (g e)
 
-same_number : (m n : ℕ) → (m == n) ≡ true → m ≡ n
-same_number m n e = grind (arith, nat_tests)
-
 module _ (callee : ℕ) where
   abbrev test : ℕ → Bool
   test m = m == callee
 
   one_has : (m : ℕ) → test m ≡ true → Contains (m ∷ []) callee
-  one_has m e = subst (Contains (m ∷ [])) (same_number m callee e) (Contains-push [] m)
+  one_has m e = subst (Contains (m ∷ [])) (eqb-true m callee e) (Contains-push [] m)
 
   mutual
     expr_has : (e : Expr) → expr_calls test e ≡ true → Contains (expr_callees e) callee
@@ -111,23 +109,11 @@ methods_more P rows now count method is before added = record {
       | inr same ↦ inr (ap suc same)
     ]
 
--- what a row contains it has, and the other way round
-or_second : (a b : Bool) → b ≡ true → (a || b) ≡ true
-or_second true b e = refl
-or_second false b e = e
-
-or_first : (a b : Bool) → a ≡ true → (a || b) ≡ true
-or_first true b e = refl
-or_first false b e = absurd (cc)
-
-equal_number : (m n : ℕ) → m ≡ n → (m == n) ≡ true
-equal_number m n e = grind (arith, nat_tests)
-
 pub contained : (row : List ℕ) (caller : ℕ) → Contains row caller → has_caller row caller ≡ true
 contained [] caller has = absurd (contains_none caller has)
 contained (c ∷ row) caller has = elim (contains_cases c row caller has) as (λ _. has_caller (c ∷ row) caller ≡ true) [
-  | inl same ↦ or_first (c == caller) (has_caller row caller) (equal_number c caller same)
-  | inr later ↦ or_second (c == caller) (has_caller row caller) (contained row caller later)
+  | inl same ↦ or_left (c == caller) (has_caller row caller) (eq-eqb c caller same)
+  | inr later ↦ or_right (c == caller) (has_caller row caller) (contained row caller later)
 ]
 
 pub containing : (row : List ℕ) (caller : ℕ) → has_caller row caller ≡ true → Contains row caller

@@ -2,6 +2,7 @@
 use Rattle.std.proofs.Common.{◌≡◌, ℕ, Bool, true, false, List, [], ◌∷◌, map, refl, ap, ◌∙◌, ◌&&◌, ◌||◌}
 use Rattle.std.specs.Prelude.{Option, slice_get, if◌then◌else◌}
 use Rattle.std.specs.List.{list_all}
+use Rattle.std.proofs.lemmas.Bool.{or_left, or_right}
 use Rattle.aj_paths.specs.Paths.{PathData, path_eq}
 use Rattle.aj_paths.specs.Renamings.{under_call}
 use Rattle.aj_paths.proofs.PathOrder.{eq_is, eq_itself}
@@ -13,14 +14,6 @@ use Rattle.aj_rules.specs.Near.{MethodPaths, rel_of}
 use Rattle.aj_rules.specs.Effect.{held_under, required_paths, call_of}
 use Rattle.aj_infer.specs.Tables.{chosen, table_of, assigned}
 use Rattle.aj_infer.specs.Names.{name_in, held_partners}
-
-or_same : (b h : Bool) → b ≡ true → (b || h) ≡ true
-or_same true h e = refl
-or_same false h e = absurd cc
-
-or_right : (b h : Bool) → h ≡ true → (b || h) ≡ true
-or_right true h e = refl
-or_right false h e = e
 
 and_held : (h v : Bool) → h ≡ true → v ≡ (h && v)
 and_held true v e = refl
@@ -42,7 +35,7 @@ module _ (o : Option PathData) (args : List (Option PathData)) where
   partners_of : (H : Held) (rel ps : List PathData) → ((q : PathData) → has_path ps q ≡ true → has_path rel q ≡ true) → held_partners (named_at ps) H ≡ map (held_under rel o args H) ps
   partners_of H rel [] part = refl
   partners_of H rel (p ∷ ps) part =
-      let head = and_held (has_path rel p) (holds_at (under_call o args p) H) (part p (or_same (path_eq p p) (has_path ps p) (eq_itself p))) in
+      let head = and_held (has_path rel p) (holds_at (under_call o args p) H) (part p (or_left (path_eq p p) (has_path ps p) (eq_itself p))) in
       let rest = partners_of H rel ps (λ q has. part q (or_right (path_eq p q) (has_path ps q) has)) in
       λ i. head i ∷ rest i
 

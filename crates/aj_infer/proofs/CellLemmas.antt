@@ -3,6 +3,7 @@ use Rattle.std.proofs.Common.{◌≡◌, ℕ, zero, suc, ◌+◌, ◌-◌, ◌<�
 use Rattle.std.specs.Prelude.{Option, if◌then◌else◌}
 use Rattle.std.proofs.lemmas.List.Sums.{sum_by-cons}
 use Rattle.std.proofs.lemmas.Bool.Decides.{nat_tests}
+use Rattle.std.proofs.lemmas.Bool.{and_from}
 use Rattle.aj_paths.specs.Paths.{PathData}
 use Rattle.aj_algebra.specs.declared.basic.Basic.{Basic}
 use Rattle.aj_algebra.specs.declared.basic.Basic.TheVariants.{Const, Mover, Atomic, Cmpd, Error}
@@ -13,7 +14,7 @@ use Rattle.aj_fix.specs.Assignments.{AreAtLeast, IsAbove}
 use Rattle.aj_fix.proofs.NoteLemmas.{set_at}
 use Rattle.aj_rules.specs.Effect.{Assignment, effect}
 use Rattle.aj_rules.specs.Rules.{IsPart, AtMost, IsFalling}
-use Rattle.aj_rules.proofs.SetLemmas.{both, first, second}
+use Rattle.aj_rules.proofs.SetLemmas.{first, second}
 use Rattle.aj_rules.proofs.Falling.{stmt_falls}
 use Rattle.aj_infer.specs.Tables.{chosen, table_of, assigned}
 use Rattle.aj_infer.specs.Cells.{basic_of, numbers_of, tables_of, count_of_parts, demands_of, demands_at, are_below, joined, table_falls, is_met, room_of, rooms_of, AreTables}
@@ -107,7 +108,7 @@ row_below : (row : List ℕ) (table : List Basic) → AreAtLeast row (map rank_o
 row_below [] [] up = refl
 row_below [] (b ∷ table) up = absurd up
 row_below (n ∷ row) [] up = absurd up
-row_below (n ∷ row) (b ∷ table) up = both (below_of b (basic_of n)) (are_below table (map basic_of row)) (below_number b n up.0) (row_below row table up.1)
+row_below (n ∷ row) (b ∷ table) up = and_from (below_of b (basic_of n)) (are_below table (map basic_of row)) (below_number b n up.0) (row_below row table up.1)
 
 -- the row of a cell
 abbrev pub row_of : Option (List ℕ) → List ℕ

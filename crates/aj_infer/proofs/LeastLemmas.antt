@@ -5,6 +5,7 @@ use Rattle.std.proofs.lemmas.List.Sums.{sum_by-cons}
 use Rattle.std.proofs.lemmas.Nat.{pow_pos}
 use Rattle.std.proofs.Math.Nat.{pow-succ'}
 use Rattle.std.proofs.lemmas.Option.{slice_get_within}
+use Rattle.std.proofs.lemmas.Bool.{and_from}
 use Rattle.aj_paths.specs.Paths.{PathData}
 use Rattle.aj_algebra.specs.declared.basic.Basic.{Basic}
 use Rattle.aj_algebra.specs.declared.basic.Basic.TheVariants.{Const, Mover, Atomic, Cmpd, Error}
@@ -17,7 +18,7 @@ use Rattle.aj_rules.specs.Near.{MethodPaths, AreRelevant, AreFew, rel_of}
 use Rattle.aj_rules.specs.Effect.{Assignment, effect}
 use Rattle.aj_rules.specs.Rules.{IsPart, AtMost, IsFalling, IsClosed, HoldsBound, IsAdmissible, IsAccepted}
 use Rattle.aj_rules.proofs.BasicLemmas.{below_chain}
-use Rattle.aj_rules.proofs.SetLemmas.{both, first, second}
+use Rattle.aj_rules.proofs.SetLemmas.{first, second}
 use Rattle.aj_rules.proofs.Falling.{stmt_falls}
 use Rattle.aj_rules.proofs.UniqueSets.{unique_sets}
 use Rattle.aj_infer.specs.Tables.{chosen, table_of, assigned}
@@ -214,7 +215,7 @@ module _ (P : Program) (rel : ℕ → List PathData) (needs : (m : ℕ) (method 
     pub tables_met : fix.IsClosed (is_met P rel) (numbers_of (tables_in rel B 0 (length P.methods)))
     tables_met m within =
         subst (λ ts. is_met_by P rel ts m ≡ true) (sym (tables_same (tables_in rel B 0 (length P.methods))))
-        (both (table_falls (rel m) (table_of (slice_get (tables_in rel B 0 (length P.methods)) m))) _ (table_in_falls m) (met_at m (slice_get P.methods m) refl))
+        (and_from (table_falls (rel m) (table_of (slice_get (tables_in rel B 0 (length P.methods)) m))) _ (table_in_falls m) (met_at m (slice_get P.methods m) refl))
 
   -- the least numbers that meet every demand, from const on, are the least closed assignment
   pub is_least : (tables : List (List Basic)) → fix.IsClosed (is_met P rel) (numbers_of tables)

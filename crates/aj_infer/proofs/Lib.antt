@@ -8,6 +8,7 @@ pub mod BodyParts
 pub mod TableParts
 pub mod CellLemmas
 pub mod Required
+pub mod EqualTables
 pub mod LeastLemmas
 pub mod RowLemmas
 pub mod Lookups

@@ -1,7 +1,7 @@
 -- The declaration of a final local, by what its near paths were before.
 use Rattle.std.proofs.Common.{◌≡◌, ℕ, Bool, true, false, List, [], ◌∷◌, ◌++◌, Some, None, refl, sym, ap, subst, ◌∙◌, ◌&&◌, ◌||◌, ◌==◌, ◌⊎◌, inl, inr, length, arith}
 use Rattle.std.specs.Prelude.{Option, Contains, slice_get, if◌then◌else◌}
-use Rattle.std.proofs.lemmas.Bool.{cases_lt}
+use Rattle.std.proofs.lemmas.Bool.{cases_lt, or_left, or_right}
 use Rattle.std.proofs.lemmas.Option.{slice_get_within, slice_get_cases}
 use Rattle.aj_paths.specs.Paths.{PathData, path_eq, extended_some}
 use Rattle.aj_paths.proofs.PathOrder.{eq_is}
@@ -83,14 +83,6 @@ has_append (p ∷ ps) qs q = step (path_eq p q) _ (has_path ps q) (has_path qs q
     step : (b h k l : Bool) → h ≡ (k || l) → (b || h) ≡ ((b || k) || l)
     step true h k l e = refl
     step false h k l e = e
-
-or_left : (b h : Bool) → b ≡ true → (b || h) ≡ true
-or_left true h e = refl
-or_left false h e = absurd cc
-
-or_right : (b h : Bool) → h ≡ true → (b || h) ≡ true
-or_right true h e = refl
-or_right false h e = e
 
 sided : (r l : Bool) {A B : Type 0} → A ⊎ B → (A → l ≡ true) → (B → r ≡ true) → (r || l) ≡ true
 sided r l (inl a) first second = or_right r l (first a)

@@ -2,13 +2,14 @@
 use Rattle.std.proofs.Common.{◌≡◌, ℕ, zero, suc, ◌<◌, Bool, true, false, ◌==◌, List, [], ◌∷◌, length, map, slice_get, slice_set, Some, None, refl, sym, ap, subst, ◌∙◌, arith, inl, inr, ◌⊎◌}
 use Rattle.std.specs.Prelude.{Option}
 use Rattle.std.proofs.lemmas.Bool.Decides.{nat_tests}
+use Rattle.std.proofs.lemmas.Bool.{and_from}
 use Rattle.aj_paths.specs.Paths.{PathData}
 use Rattle.aj_algebra.specs.declared.basic.Basic.{Basic}
 use Rattle.aj_algebra.specs.declared.basic.Basic.TheVariants.{Const, Mover, Atomic, Cmpd, Error}
 use Rattle.aj_algebra.specs.Basics.{below_of, join_of}
 use Rattle.aj_algebra.specs.HeldPaths.{Held, has_path}
 use Rattle.aj_core.specs.Core.{Program, Method}
-use Rattle.aj_rules.proofs.SetLemmas.{both, second}
+use Rattle.aj_rules.proofs.SetLemmas.{second}
 use Rattle.aj_fix.proofs.NoteLemmas.{set_at, set_here}
 use Rattle.aj_infer.specs.Called.{method_calls, calls}
 use Rattle.aj_infer.specs.Tables.{chosen, table_of, assigned}
@@ -62,7 +63,7 @@ under_join Error Error = refl
 pub joined_covers : (xs ys : List Basic) → length xs ≡ length ys → are_below xs (joined xs ys) ≡ true
 joined_covers [] ys same = refl
 joined_covers (x ∷ xs) [] same = absurd (omega (arith, same))
-joined_covers (x ∷ xs) (y ∷ ys) same = both (below_of x (join_of x y)) (are_below xs (joined xs ys)) (under_join x y) (joined_covers xs ys (omega (arith, same)))
+joined_covers (x ∷ xs) (y ∷ ys) same = and_from (below_of x (join_of x y)) (are_below xs (joined xs ys)) (under_join x y) (joined_covers xs ys (omega (arith, same)))
 
 module _ (P : Program) (rel : ℕ → List PathData) (tables : List (List Basic)) (m : ℕ) (risen : List Basic) (within : m < length tables) where
   abbrev pub tables_now : List (List Basic)
@@ -97,7 +98,7 @@ module _ (P : Program) (rel : ℕ → List PathData) (tables : List (List Basic)
   pub others_met : AreTables P rel tables_now → are_below (demands_at P rel (assigned rel tables) m) risen ≡ true → (k : ℕ) → calls P k m ≡ false
       → ((k ≡ m → ⊥) → is_met_by P rel tables k ≡ true) → is_met_by P rel tables_now k ≡ true
   others_met each covered k quiet before =
-      both (table_falls (rel k) (table_of (slice_get tables_now k))) (are_below (demands_at P rel (assigned rel tables_now) k) (table_of (slice_get tables_now k)))
+      and_from (table_falls (rel k) (table_of (slice_get tables_now k))) (are_below (demands_at P rel (assigned rel tables_now) k) (table_of (slice_get tables_now k)))
       (each_falls P rel tables_now each k)
       (elim (same_or k m) as (λ _. are_below (demands_at P rel (assigned rel tables_now) k) (table_of (slice_get tables_now k)) ≡ true) [
         | inl same ↦ subst (λ n. are_below (demands_at P rel (assigned rel tables_now) n) (table_of (slice_get tables_now n)) ≡ true) (sym same)

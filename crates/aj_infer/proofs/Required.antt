@@ -4,6 +4,7 @@ use Rattle.std.specs.Prelude.{Contains}
 use Rattle.std.specs.List.{AllByRecursion}
 use Rattle.std.proofs.lemmas.List.Elements.{recursion_from_All}
 use Rattle.std.proofs.lemmas.Option.{slice_get-get_or, slice_get_within}
+use Rattle.std.proofs.lemmas.Bool.{or_cases}
 use Rattle.aj_paths.specs.Paths.{PathData, path_eq}
 use Rattle.aj_paths.proofs.PathOrder.{eq_is}
 use Rattle.aj_algebra.specs.HeldPaths.{has_path}
@@ -15,10 +16,6 @@ use Rattle.aj_core.specs.Typed.{IsTyped, IsLock, IsRoot, parameters, parameters_
 use Rattle.aj_rules.specs.Near.{required, MethodPaths, AreRelevant, rel_of, rel_paths, IsRel}
 use Rattle.aj_rules.specs.Rules.{IsPart}
 use Rattle.aj_rules.proofs.NearOnly.{contains_here, contains_later}
-
-or_cases : (a b : Bool) → (a || b) ≡ true → (a ≡ true) ⊎ (b ≡ true)
-or_cases true b e = inl refl
-or_cases false b e = inr e
 
 -- a path of the list, with what holds of each path of it
 has_with : (L : PathData → Type 0) (ps : List PathData) (q : PathData) → AllByRecursion L ps → has_path ps q ≡ true → Contains ps q × L q

@@ -1,8 +1,13 @@
 -- Rows of basics, one place more at a time.
-use Rattle.std.proofs.Common.{◌≡◌, ℕ, zero, suc, ◌+◌, ◌<◌, true, false, ◌&&◌, List, [], ◌∷◌, ◌++◌, length, drop, get_or, slice_get, None, refl, sym, ap, subst, ◌∙◌, arith, append_assoc}
+use Rattle.std.proofs.Common.{◌≡◌, ℕ, zero, suc, ◌+◌, ◌<◌, Bool, true, false, ◌&&◌, ◌||◌, List, [], ◌∷◌, ◌++◌, length, drop, get_or, slice_get, None, refl, sym, ap, subst, ◌∙◌, arith, append_assoc}
+use Rattle.std.specs.Prelude.{Result, Ok, Err, OnOk}
+use Rattle.std.proofs.lemmas.List.Folds.{list_any-append}
+use Rattle.std.proofs.Math.Seq.{drop-append_seam}
 use Rattle.std.proofs.Math.Numerals.{add-one}
-use Rattle.aj_paths.specs.Paths.{PathData}
+use Rattle.aj_paths.specs.Paths.{PathData, path_eq}
+use Rattle.aj_paths.proofs.PathOrder.{eq_is}
 use Rattle.aj_algebra.specs.declared.basic.Basic.{Basic}
+use Rattle.aj_algebra.specs.HeldPaths.{Held, has_path}
 use Rattle.aj_infer.specs.Cells.{at_parts, below_some, are_below, join_some, joined}
 
 drop_none : (i : ℕ) → drop {A = Basic} i [] ≡ []
@@ -55,3 +60,31 @@ pub parts_more : (f : List PathData → Basic) (old one two : List Basic) (held 
 parts_more f old one two held held1 held2 paths rest p paths_are held2_is held1_is one_is two_is =
     two_is ∙ ap (λ bs. bs ++ at_parts f held2 rest) one_is ∙ append_assoc old (at_parts f held rest) (at_parts f held2 rest)
     ∙ ap (λ hs. old ++ (at_parts f held rest ++ at_parts f hs rest)) (held2_is ∙ ap (λ hs. hs ++ p ∷ []) held1_is) ∙ ap (λ ps. old ++ at_parts f held ps) (sym paths_are)
+
+-- a path that is held already adds nothing to the set
+held_again : (held : List PathData) (p q : PathData) → has_path held p ≡ true → has_path (held ++ p ∷ []) q ≡ has_path held q
+held_again held p q has = list_any-append (λ r. path_eq r q) held (p ∷ []) ∙ elim (path_eq p q) as (λ b. path_eq p q ≡ b → (has_path held q || (b || false)) ≡ has_path held q) [
+  | true ↦ λ e. let here : has_path held q ≡ true = ap (has_path held) (sym (eq_is p q e)) ∙ has in ap (λ b. b || true) here ∙ sym here
+  | false ↦ λ e. or_none (has_path held q)
+] refl
+  where
+    or_none : (b : Bool) → (b || false) ≡ b
+    or_none true = refl
+    or_none false = refl
+
+-- equal sets have equal basics at all parts
+parts_same : (f : Held → Basic) (one two paths : List PathData) → ((q : PathData) → has_path one q ≡ has_path two q) → at_parts (λ qs. f (has_path qs)) one paths ≡ at_parts (λ qs. f (has_path qs)) two paths
+parts_same f one two [] same = ap (λ H. f H ∷ []) (λ i q. same q i)
+parts_same f one two (p ∷ ps) same = let first = parts_same f one two ps same in let second = parts_same f (one ++ p ∷ []) (two ++ p ∷ []) ps (same_more one two p same) in λ i. first i ++ second i
+  where
+    same_more : (xs ys : List PathData) (r : PathData) → ((q : PathData) → has_path xs q ≡ has_path ys q) → (q : PathData) → has_path (xs ++ r ∷ []) q ≡ has_path (ys ++ r ∷ []) q
+    same_more xs ys r equal q = list_any-append (λ s. path_eq s q) xs (r ∷ []) ∙ ap (λ b. b || (path_eq r q || false)) (equal q) ∙ sym (list_any-append (λ s. path_eq s q) ys (r ∷ []))
+
+-- the parts without a path that is held already, twice
+pub parts_repeated : {E : Type 0} (result : Result (Unit {0}) E) (f : Held → Basic) (old one two : List Basic) (held paths rest : List PathData) (p : PathData) (first : ℕ) → paths ≡ p ∷ rest → has_path held p ≡ true → first ≡ length old
+    → one ≡ old ++ at_parts (λ qs. f (has_path qs)) held rest → OnOk result (two ≡ one ++ drop first one) → OnOk result (two ≡ old ++ at_parts (λ qs. f (has_path qs)) held paths)
+parts_repeated (Err e) f old one two held paths rest p first paths_are has first_is one_is repeated = repeated
+parts_repeated (Ok a) f old one two held paths rest p first paths_are has first_is one_is repeated =
+    let parts = at_parts (λ qs. f (has_path qs)) held rest in
+    repeated ∙ ap (λ n. one ++ drop n one) first_is ∙ ap (λ bs. bs ++ drop (length old) bs) one_is ∙ ap (λ bs. (old ++ parts) ++ bs) (drop-append_seam old parts) ∙ append_assoc old parts parts
+    ∙ ap (λ bs. old ++ (parts ++ bs)) (parts_same f held (held ++ p ∷ []) rest λ q. sym (held_again held p q has)) ∙ ap (λ ps. old ++ at_parts (λ qs. f (has_path qs)) held ps) (sym paths_are)

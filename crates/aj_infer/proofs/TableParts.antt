@@ -4,6 +4,7 @@ use Rattle.std.specs.Prelude.{if◌then◌else◌}
 use Rattle.std.proofs.lemmas.List.{length-append, length-take, length-drop}
 use Rattle.std.proofs.lemmas.List.Folds.{list_any-append}
 use Rattle.std.proofs.Math.Seq.{take-append_seam, drop-append_seam}
+use Rattle.std.proofs.lemmas.Bool.{and_from, or_cases, or_left, or_right}
 use Rattle.aj_paths.specs.Paths.{PathData, path_eq}
 use Rattle.aj_paths.proofs.PathOrder.{eq_is, eq_itself}
 use Rattle.aj_algebra.specs.declared.basic.Basic.{Basic}
@@ -12,23 +13,11 @@ use Rattle.aj_algebra.specs.Basics.{below_of, join_of}
 use Rattle.aj_algebra.specs.HeldPaths.{Held, has_path}
 use Rattle.aj_rules.specs.Rules.{IsPart, AtMost}
 use Rattle.aj_rules.proofs.BasicLemmas.{below_itself, below_chain, join_mono}
-use Rattle.aj_rules.proofs.SetLemmas.{both, first, second}
+use Rattle.aj_rules.proofs.SetLemmas.{first, second}
 use Rattle.aj_infer.specs.Tables.{front, half, chosen}
 use Rattle.aj_infer.specs.Cells.{at_parts, count_of_parts, are_below, joined, table_falls}
 
 -- Sets of paths as lists.
-
-or_cases : (a b : Bool) → (a || b) ≡ true → (a ≡ true) ⊎ (b ≡ true)
-or_cases true b e = inl refl
-or_cases false b e = inr e
-
-pub or_left : (a b : Bool) → a ≡ true → (a || b) ≡ true
-or_left true b e = refl
-or_left false b e = absurd cc
-
-pub or_right : (a b : Bool) → b ≡ true → (a || b) ≡ true
-or_right true b e = refl
-or_right false b e = e
 
 -- a path of the first list, or of the second
 pub in_either : (xs ys : List PathData) (q : PathData) → has_path (xs ++ ys) q ≡ true → (has_path xs q ≡ true) ⊎ (has_path ys q ≡ true)
@@ -149,13 +138,13 @@ below_append [] vs [] ys low high e = high
 below_append [] vs (x ∷ xs) ys low high e = absurd (omega arith)
 below_append (u ∷ us) vs [] ys low high e = absurd (omega arith)
 below_append (u ∷ us) vs (x ∷ xs) ys low high e =
-    both (below_of u x) (are_below (us ++ vs) (xs ++ ys)) (first (below_of u x) (are_below us xs) low)
+    and_from (below_of u x) (are_below (us ++ vs) (xs ++ ys)) (first (below_of u x) (are_below us xs) low)
     (below_append us vs xs ys (second (below_of u x) (are_below us xs) low) high (omega arith))
 
 -- two tables over the same paths, where one is below the other at each part
 pub parts_below : (f g : List PathData → Basic) (h k ps : List PathData) → ((qs : List PathData) → IsPart (has_path qs) (has_path ps) → AtMost (f (h ++ qs)) (g (k ++ qs)))
     → are_below (at_parts f h ps) (at_parts g k ps) ≡ true
-parts_below f g h k [] at = both (below_of (f h) (g k)) true (below_parts_at f g h k (at [] (λ q e. e))) refl
+parts_below f g h k [] at = and_from (below_of (f h) (g k)) true (below_parts_at f g h k (at [] (λ q e. e))) refl
 parts_below f g h k (p ∷ ps) at =
     below_append (at_parts f h ps) (at_parts f (h ++ p ∷ []) ps) (at_parts g k ps) (at_parts g (k ++ p ∷ []) ps)
     (parts_below f g h k ps (λ qs part. at qs (λ q e. later p ps q (part q e))))
@@ -169,7 +158,7 @@ below_take : (n : ℕ) (xs ys : List Basic) → are_below xs ys ≡ true → are
 below_take zero xs ys e = refl
 below_take (suc n) [] ys e = refl
 below_take (suc n) (x ∷ xs) [] e = absurd (let k : false ≡ true = e in cc)
-below_take (suc n) (x ∷ xs) (y ∷ ys) e = both (below_of x y) (are_below (take n xs) (take n ys)) (first (below_of x y) (are_below xs ys) e) (below_take n xs ys (second (below_of x y) (are_below xs ys) e))
+below_take (suc n) (x ∷ xs) (y ∷ ys) e = and_from (below_of x y) (are_below (take n xs) (take n ys)) (first (below_of x y) (are_below xs ys) e) (below_take n xs ys (second (below_of x y) (are_below xs ys) e))
 
 below_drop : (n : ℕ) (xs ys : List Basic) → are_below xs ys ≡ true → are_below (drop n xs) (drop n ys) ≡ true
 below_drop zero xs ys e = e
@@ -198,7 +187,7 @@ below_lists [] ys zs e low high = refl
 below_lists (x ∷ xs) [] zs e low high = absurd (let k : false ≡ true = low in cc)
 below_lists (x ∷ xs) (y ∷ ys) [] e low high = absurd (omega arith)
 below_lists (x ∷ xs) (y ∷ ys) (z ∷ zs) e low high =
-    both (below_of x z) (are_below xs zs) (below_chain x y z (first (below_of x y) (are_below xs ys) low) (first (below_of y z) (are_below ys zs) high))
+    and_from (below_of x z) (are_below xs zs) (below_chain x y z (first (below_of x y) (are_below xs ys) low) (first (below_of y z) (are_below ys zs) high))
     (below_lists xs ys zs (omega arith) (second (below_of x y) (are_below xs ys) low) (second (below_of y z) (are_below ys zs) high))
 
 -- Joined tables.
@@ -280,7 +269,7 @@ falls_chosen (p ∷ ps) table e falls H K part =
 -- an empty table falls
 pub none_falls : (ps : List PathData) → table_falls ps [] ≡ true
 none_falls [] = refl
-none_falls (p ∷ ps) = both (table_falls ps []) (table_falls ps []) (none_falls ps) (none_falls ps)
+none_falls (p ∷ ps) = and_from (table_falls ps []) (table_falls ps []) (none_falls ps) (none_falls ps)
 
 -- the held paths with more of them are more
 held_part : (h : List PathData) (p : PathData) (qs : List PathData) → IsPart (has_path (h ++ qs)) (has_path ((h ++ p ∷ []) ++ qs))
@@ -302,10 +291,10 @@ parts_fall f W falls h (p ∷ ps) within =
     let same = length_parts f h ps ∙ sym (length_parts f (h ++ p ∷ []) ps) in
     subst (λ t. (are_below t (half false (without ++ with)) && (table_falls ps (half false (without ++ with)) && table_falls ps t)) ≡ true) (sym (half_is true without with same))
     (subst (λ t. (are_below with t && (table_falls ps t && table_falls ps with)) ≡ true) (sym (half_is false without with same))
-    (both (are_below with without) (table_falls ps without && table_falls ps with)
+    (and_from (are_below with without) (table_falls ps without && table_falls ps with)
     (parts_below f f (h ++ p ∷ []) h ps (λ qs part. falls (h ++ qs) ((h ++ p ∷ []) ++ qs)
     (λ q e. within_more h p ps W within q (append_part (h ++ p ∷ []) qs ps part q e)) (held_part h p qs)))
-    (both (table_falls ps without) (table_falls ps with)
+    (and_from (table_falls ps without) (table_falls ps with)
     (parts_fall f W falls h ps (within_rest h p ps W within)) (parts_fall f W falls (h ++ p ∷ []) ps (within_more h p ps W within)))))
 
 pub below_joined : (us vs xs ys : List Basic) → length us ≡ length vs → length xs ≡ length ys → are_below us xs ≡ true → are_below vs ys ≡ true → are_below (joined us vs) (joined xs ys) ≡ true
@@ -314,7 +303,7 @@ below_joined (u ∷ us) [] xs ys e f low high = absurd (omega arith)
 below_joined (u ∷ us) (v ∷ vs) [] ys e f low high = absurd (let k : false ≡ true = low in cc)
 below_joined (u ∷ us) (v ∷ vs) (x ∷ xs) [] e f low high = absurd (omega arith)
 below_joined (u ∷ us) (v ∷ vs) (x ∷ xs) (y ∷ ys) e f low high =
-    both (below_of (join_of u v) (join_of x y)) (are_below (joined us vs) (joined xs ys))
+    and_from (below_of (join_of u v) (join_of x y)) (are_below (joined us vs) (joined xs ys))
     (join_mono _ _ _ _ (first (below_of u x) (are_below us xs) low) (first (below_of v y) (are_below vs ys) high))
     (below_joined us vs xs ys (omega arith) (omega arith) (second (below_of u x) (are_below us xs) low) (second (below_of v y) (are_below vs ys) high))
 
@@ -326,11 +315,11 @@ joined_falls (p ∷ ps) xs ys e left right =
     let right_rest = second (are_below (half true ys) (half false ys)) (table_falls ps (half false ys) && table_falls ps (half true ys)) right in
     subst (λ t. (are_below t (half false (joined xs ys)) && (table_falls ps (half false (joined xs ys)) && table_falls ps t)) ≡ true) (sym (half_joined true xs ys e))
     (subst (λ t. (are_below (joined (half true xs) (half true ys)) t && (table_falls ps t && table_falls ps (joined (half true xs) (half true ys)))) ≡ true) (sym (half_joined false xs ys e))
-    (both (are_below (joined (half true xs) (half true ys)) (joined (half false xs) (half false ys))) (table_falls ps (joined (half false xs) (half false ys)) && table_falls ps (joined (half true xs) (half true ys)))
+    (and_from (are_below (joined (half true xs) (half true ys)) (joined (half false xs) (half false ys))) (table_falls ps (joined (half false xs) (half false ys)) && table_falls ps (joined (half true xs) (half true ys)))
     (below_joined (half true xs) (half true ys) (half false xs) (half false ys) (half_lengths true xs ys e) (half_lengths false xs ys e)
     (first (are_below (half true xs) (half false xs)) (table_falls ps (half false xs) && table_falls ps (half true xs)) left)
     (first (are_below (half true ys) (half false ys)) (table_falls ps (half false ys) && table_falls ps (half true ys)) right))
-    (both (table_falls ps (joined (half false xs) (half false ys))) (table_falls ps (joined (half true xs) (half true ys)))
+    (and_from (table_falls ps (joined (half false xs) (half false ys))) (table_falls ps (joined (half true xs) (half true ys)))
     (joined_falls ps (half false xs) (half false ys) (half_lengths false xs ys e)
     (first (table_falls ps (half false xs)) (table_falls ps (half true xs)) left_rest) (first (table_falls ps (half false ys)) (table_falls ps (half true ys)) right_rest))
     (joined_falls ps (half true xs) (half true ys) (half_lengths true xs ys e)

@@ -21,13 +21,6 @@ pub own_names : (H : Held) (ps : List PathData) → held_partners (map (λ q. (q
 own_names H [] = refl
 own_names H (p ∷ ps) = ap (λ bits. H p ∷ bits) (own_names H ps)
 
--- Const at each part, once more for a path more.
-pub consts_more : (old one two : List Basic) (held paths rest : List PathData) (p : PathData) → paths ≡ p ∷ rest
-    → one ≡ old ++ at_parts (λ qs. Const) held rest → two ≡ one ++ at_parts (λ qs. Const) (held ++ p ∷ []) rest → two ≡ old ++ at_parts (λ qs. Const) held paths
-consts_more old one two held paths rest p paths_are one_is two_is =
-    two_is ∙ ap (λ bs. bs ++ at_parts (λ qs. Const) (held ++ p ∷ []) rest) one_is ∙ append_assoc old (at_parts (λ qs. Const) held rest) (at_parts (λ qs. Const) (held ++ p ∷ []) rest)
-    ∙ ap (λ ps. old ++ at_parts (λ qs. Const) held ps) (sym paths_are)
-
 -- one table more
 pub tables_more : (rel : ℕ → List PathData) (A : Assignment) (old new all : List (List Basic)) (table : List Basic) (m count : ℕ) → m < count → table ≡ table_in rel A m → new ≡ old ++ table ∷ []
     → old ++ tables_in rel A m (count - m) ≡ all → new ++ tables_in rel A (m + 1) (count - (m + 1)) ≡ all
@@ -36,11 +29,6 @@ tables_more rel A old new all table m count below is new_is so_far =
     let next : suc m ≡ m + 1 = omega arith in
     ap (λ ts. ts ++ tables_in rel A (m + 1) (count - (m + 1))) new_is ∙ append_assoc old (table ∷ []) (tables_in rel A (m + 1) (count - (m + 1)))
     ∙ (λ i. old ++ (is i ∷ tables_in rel A (sym next i) (count - (m + 1)))) ∙ ap (λ n. old ++ tables_in rel A m n) (sym left) ∙ so_far
-
-pub tables_all : (rel : ℕ → List PathData) (A : Assignment) (tables all : List (List Basic)) (m count : ℕ) → count ≤ m → tables ++ tables_in rel A m (count - m) ≡ all → tables ≡ all
-tables_all rel A tables all m count past so_far =
-    let none : count - m ≡ 0 = omega arith in
-    sym (append-nil tables) ∙ ap (λ n. tables ++ tables_in rel A m n) (sym none) ∙ so_far
 
 module _ {S A : Type 0} (k : S → A → Type 0) (v : S → A → Held → Basic) (f : Assignment) where
   -- so many methods have known values, and these are the assignment's

@@ -1,5 +1,5 @@
 //! Rows of basics: those of a value at the parts of a list of paths, and rows compared place by place.
-ghost use Rattle.std.specs.Prelude.{◌≡◌, ◌++◌, IfOk, OnOk, slice_get};
+ghost use Rattle.std.specs.Prelude.{◌≡◌, ◌≤◌, ◌++◌, length, drop, IfOk, OnOk, slice_get};
 ghost use Rattle.aj_algebra.specs.HeldPaths.{has_path};
 ghost use Rattle.aj_infer.specs.Cells.{at_parts, below_some, are_below, join_some, joined};
 
@@ -7,7 +7,23 @@ use aj_algebra::{Algebra, Basic};
 use aj_paths::Path;
 use std::alloc::{AllocError as NoMemory, Global};
 
-/// Adds the basics of a value at the held paths with each part of these paths, in the order of tables.
+/// Whether the list has the path.
+fn holds(paths: &[Path], path: &Path) -> bool
+    ensures { result ≡ has_path paths.now path.now }
+{
+    paths.iter().any(|other| other.same(path))
+}
+
+/// Adds once more what stands from a place on.
+fn repeat_from(row: &mut Vec<Basic>, first: usize) -> Result<(), NoMemory>
+    requires { first ≤ length row.old.items }
+    ensures { OnOk result (row.new.items ≡ row.old.items ++ drop first row.old.items) }
+{
+    row.extend_from_within(first..)
+}
+
+/// Adds the basics of a value at the held paths with each part of these paths, in the order of tables. With a path
+/// that is held already they are the same as without it.
 pub(crate) fn put_parts<G: Algebra>(
     algebra: &G,
     value: &G::A,
@@ -23,7 +39,11 @@ pub(crate) fn put_parts<G: Algebra>(
         row.push(algebra.at(value, held.as_slice()))?;
         return Ok(());
     };
+    let first = row.len();
     put_parts(algebra, value, held, rest, row)?;
+    if holds(held.as_slice(), path) {
+        return repeat_from(row, first);
+    }
     held.push(path.copy())?;
     put_parts(algebra, value, held, rest, row)?;
     held.pop();

@@ -1,5 +1,5 @@
 //! The tables of methods, and the value of one under the names that its paths have elsewhere.
-ghost use Rattle.std.specs.Prelude.{◌≡◌, IfOk, slice_get};
+ghost use Rattle.std.specs.Prelude.{◌≡◌, true, IfOk, slice_get};
 ghost use Rattle.aj_algebra.specs.Values.{Keeps};
 ghost use Rattle.aj_algebra.specs.HeldPaths.{Held};
 ghost use Rattle.aj_infer.specs.Tables.{front, half, chosen, table_of};
@@ -55,6 +55,13 @@ fn half(table: &[Basic], passes: bool) -> &[Basic]
     }
 }
 
+/// Whether both halves of a table have the same entries.
+fn are_equal(one: &[Basic], two: &[Basic]) -> bool
+    ensures { result ≡ true → one.now ≡ two.now }
+{
+    one == two
+}
+
 /// The table's entry at each set, where each pair tells what one of the table's paths is called here.
 pub(crate) fn pick<G: Algebra>(
     alloc: Global,
@@ -73,6 +80,9 @@ pub(crate) fn pick<G: Algebra>(
     let Some(path) = &pair.1 else {
         return Ok(without);
     };
+    if are_equal(half(table, false), half(table, true)) {
+        return Ok(without);
+    }
     let with = pick(alloc, algebra, rest, half(table, true))?;
     algebra.held_or(alloc, path, &with, &without)
 }

@@ -6,9 +6,10 @@ use Rattle.std.specs.List.Sorted.{IsStrictlySortedBy}
 use Rattle.std.specs.declared.cmp.Ordering.TheVariants.{Less, Equal, Greater}
 use Rattle.std.proofs.lemmas.Bool.Decides.{nat_tests}
 use Rattle.std.proofs.lemmas.List.Kept.{IsStrictlySortedBy-filter}
-use Rattle.std.proofs.lemmas.Option.{slice_get_within, slice_get_past}
+use Rattle.std.proofs.lemmas.Option.{slice_get_within, slice_get_past, same_Some}
 use Rattle.std.proofs.lemmas.Map.Keys.{sorted_head, sorted_tail}
 use Rattle.std.proofs.lemmas.List.{map-append}
+use Rattle.std.proofs.lemmas.Bool.{or_cases, or_left, or_right, or_parts, le-leb, lt-ltb, leb-true, ltb-true}
 use Rattle.aj_paths.specs.Paths.{PathData, path_order, path_eq}
 use Rattle.aj_paths.proofs.PathOrder.{equal_is, eq_is, eq_itself, greater_turned, less_chain, order_itself}
 use Rattle.aj_algebra.specs.HeldPaths.{has_path}
@@ -27,22 +28,6 @@ use Rattle.aj_rules.specs.declared.relevance.RuleEnd.TheVariants as end
 use Rattle.aj_rules.proofs.Reaching.{near_from_reached, reached_from_near}
 
 -- By roots.
-
-pub or_cases : (a b : Bool) → (a || b) ≡ true → (a ≡ true) ⊎ (b ≡ true)
-or_cases true b e = inl refl
-or_cases false b e = inr e
-
-pub or_left : (a b : Bool) → a ≡ true → (a || b) ≡ true
-or_left true b e = refl
-or_left false b e = absurd cc
-
-pub or_right : (a b : Bool) → b ≡ true → (a || b) ≡ true
-or_right true b e = refl
-or_right false b e = e
-
-or_none : (a b : Bool) → (a || b) ≡ false → (a ≡ false) × (b ≡ false)
-or_none true b e = absurd cc
-or_none false b e = (refl, e)
 
 later_has : (f : PathData → Bool) (x : PathData) (xs : List PathData) (p : PathData) → (f p ≡ true) × (has_path xs p ≡ true) → (f p ≡ true) × (has_path (x ∷ xs) p ≡ true)
 later_has f x xs p h = (h.0, or_right (path_eq x p) (has_path xs p) h.1)
@@ -72,24 +57,9 @@ filter_has : (f : PathData → Bool) (xs : List PathData) (p : PathData) → f p
 filter_has f [] p kept h = h
 filter_has f (x ∷ xs) p kept h = filter_has_at f x xs p _ refl kept (filter_has f xs p kept) h
 
-within : (n m : ℕ) → n ≤ m → nat_le n m ≡ true
-within n m le = grind (arith, nat_tests)
-
-past : (n m : ℕ) → n < m → nat_lt n m ≡ true
-past n m less = grind (arith, nat_tests)
-
-is_within : (n m : ℕ) → nat_le n m ≡ true → n ≤ m
-is_within n m is = grind (arith, nat_tests)
-
-is_past : (n m : ℕ) → nat_lt n m ≡ true → n < m
-is_past n m is = grind (arith, nat_tests)
-
 abbrev or_else : {A : Type 0} → Option A → A → A
 or_else None d = d
 or_else (Some a) d = a
-
-some_is : {A : Type 0} (x y : A) → Some x ≡ Some y → x ≡ y
-some_is x y e = ap (λ o. or_else o x) e
 
 -- The sets.
 
@@ -101,7 +71,7 @@ parted_at : (near : List (List PathData)) (m : ℕ) (methods : List Method) (k :
 parted_at near m [] k paths at = absurd cc
 parted_at near m (method ∷ methods) zero paths at =
     let e : m ≡ m + 0 = omega arith in
-    (method, refl, sym (some_is _ paths at) ∙ ap (λ n. parted (length method.params) (row_at near n)) e)
+    (method, refl, sym (same_Some _ paths at) ∙ ap (λ n. parted (length method.params) (row_at near n)) e)
 parted_at near m (method ∷ methods) (suc k) paths at =
     let e : m + 1 + k ≡ m + suc k = omega arith in
     let h = parted_at near (m + 1) methods k paths at in
@@ -112,20 +82,20 @@ module _ (P : Program) (near : List (List PathData)) (least : IsLeastFamily (cla
   near_is m p = (λ h. near_from_reached P m p ((least.exact m p).0 h), λ n. (least.exact m p).1 (reached_from_near P m p n))
 
   method_of_outer : (m : ℕ) (method : Method) (p : PathData) → slice_get P.methods m ≡ Some method → IsOuter P m p → p.root ≤ length method.params
-  method_of_outer m method p is (other, there, root) = subst (λ x. p.root ≤ length x.params) (some_is other method (sym there ∙ is)) root
+  method_of_outer m method p is (other, there, root) = subst (λ x. p.root ≤ length x.params) (same_Some other method (sym there ∙ is)) root
 
   method_of_inner : (m : ℕ) (method : Method) (p : PathData) → slice_get P.methods m ≡ Some method → IsInner P m p → length method.params < p.root
-  method_of_inner m method p is (other, there, root) = subst (λ x. length x.params < p.root) (some_is other method (sym there ∙ is)) root
+  method_of_inner m method p is (other, there, root) = subst (λ x. length x.params < p.root) (same_Some other method (sym there ∙ is)) root
 
   parted_are : (m : ℕ) (method : Method) → slice_get P.methods m ≡ Some method → ArePathsOf P m (parted (length method.params) (row_at near m))
   parted_are m method is = record {
     rel = λ p. (
-      λ h. let k = has_filter (λ q. nat_le q.root (length method.params)) (row_at near m) p h in ((near_is m p).0 k.1, (method, is, is_within _ _ k.0)),
-      λ r. filter_has (λ q. nat_le q.root (length method.params)) (row_at near m) p (within _ _ (method_of_outer m method p is r.1)) ((near_is m p).1 r.0),
+      λ h. let k = has_filter (λ q. nat_le q.root (length method.params)) (row_at near m) p h in ((near_is m p).0 k.1, (method, is, leb-true _ _ k.0)),
+      λ r. filter_has (λ q. nat_le q.root (length method.params)) (row_at near m) p (le-leb _ _ (method_of_outer m method p is r.1)) ((near_is m p).1 r.0),
     );
     loc = λ p. (
-      λ h. let k = has_filter (λ q. nat_lt (length method.params) q.root) (row_at near m) p h in ((near_is m p).0 k.1, (method, is, is_past _ _ k.0)),
-      λ r. filter_has (λ q. nat_lt (length method.params) q.root) (row_at near m) p (past _ _ (method_of_inner m method p is r.1)) ((near_is m p).1 r.0),
+      λ h. let k = has_filter (λ q. nat_lt (length method.params) q.root) (row_at near m) p h in ((near_is m p).0 k.1, (method, is, ltb-true _ _ k.0)),
+      λ r. filter_has (λ q. nat_lt (length method.params) q.root) (row_at near m) p (lt-ltb _ _ (method_of_inner m method p is r.1)) ((near_is m p).1 r.0),
     );
     rel_ascends = IsStrictlySortedBy-filter path_order (λ q. nat_le q.root (length method.params)) (row_at near m) (least.ascends m);
     loc_ascends = IsStrictlySortedBy-filter path_order (λ q. nat_lt (length method.params) q.root) (row_at near m) (least.ascends m);
@@ -193,13 +163,13 @@ crowded_in o = nat_lt most_locks (length (rel_paths o)) || nat_lt most_locks (le
 
 few_from : (P : Program) (m : ℕ) (o : Option MethodPaths) (paths : MethodPaths) → o ≡ Some paths → ArePathsOf P m paths → crowded_in o ≡ false → HasFew P m
 few_from P m o paths at are under =
-    let h = or_none (nat_lt most_locks (length paths.rel)) (nat_lt most_locks (length paths.loc)) (subst (λ x. crowded_in x ≡ false) at under) in
+    let h = or_parts (nat_lt most_locks (length paths.rel)) (nat_lt most_locks (length paths.loc)) (subst (λ x. crowded_in x ≡ false) at under) in
     record { paths = paths; are = are; rel = not_past _ _ h.0; loc = not_past _ _ h.1 }
 
 crowded_from : (P : Program) (m : ℕ) (o : Option MethodPaths) (paths : MethodPaths) → o ≡ Some paths → ArePathsOf P m paths → crowded_in o ≡ true → IsCrowded P m
 crowded_from P m o paths at are over = elim (or_cases (nat_lt most_locks (length paths.rel)) (nat_lt most_locks (length paths.loc)) (subst (λ x. crowded_in x ≡ true) at over)) as (λ _. IsCrowded P m) [
-  | inl many ↦ inl (record { paths = paths.rel; ascends = are.rel_ascends; each = λ p h. (are.rel p).0 h; many = is_past _ _ many })
-  | inr many ↦ inr (record { paths = paths.loc; ascends = are.loc_ascends; each = λ p h. (are.loc p).0 h; many = is_past _ _ many })
+  | inl many ↦ inl (record { paths = paths.rel; ascends = are.rel_ascends; each = λ p h. (are.rel p).0 h; many = ltb-true _ _ many })
+  | inr many ↦ inr (record { paths = paths.loc; ascends = are.loc_ascends; each = λ p h. (are.loc p).0 h; many = ltb-true _ _ many })
 ]
 
 get_below : {A : Type 0} (xs : List A) (k : ℕ) → k < length xs → (x : A) × (slice_get xs k ≡ Some x)
@@ -219,11 +189,11 @@ first_from P sets m count relevant all below over before =
     }
 
 few_in : (o : Option MethodPaths) → crowded_in o ≡ false → (length (rel_paths o) ≤ most_locks) × (length (loc_paths o) ≤ most_locks)
-few_in o under = let h = or_none (nat_lt most_locks (length (rel_paths o))) (nat_lt most_locks (length (loc_paths o))) under in (not_past _ _ h.0, not_past _ _ h.1)
+few_in o under = let h = or_parts (nat_lt most_locks (length (rel_paths o))) (nat_lt most_locks (length (loc_paths o))) under in (not_past _ _ h.0, not_past _ _ h.1)
 
 few_at : (sets : List MethodPaths) → ((k : ℕ) → k < length sets → is_crowded sets k ≡ false) → (m : ℕ) → (length (rel_of sets m) ≤ most_locks) × (length (loc_of sets m) ≤ most_locks)
 few_at sets under m = elim (nat_lt m (length sets)) as (λ b. nat_lt m (length sets) ≡ b → (length (rel_of sets m) ≤ most_locks) × (length (loc_of sets m) ≤ most_locks)) [
-  | true ↦ λ e. few_in (slice_get sets m) (under m (is_past m (length sets) e))
+  | true ↦ λ e. few_in (slice_get sets m) (under m (ltb-true m (length sets) e))
   | false ↦ λ e. subst (λ o. (length (rel_paths o) ≤ most_locks) × (length (loc_paths o) ≤ most_locks)) (sym (slice_get_past sets m (not_past m (length sets) e))) (omega arith, omega arith)
 ] refl
 
@@ -257,9 +227,9 @@ well_formed_first P m well first = few_not_crowded P m (well_formed_few P m well
 
 pub first_is : (P : Program) (m n : ℕ) → IsFirstCrowded P m → IsFirstCrowded P n → m ≡ n
 first_is P m n first second = elim (nat_lt m n) as (λ b. nat_lt m n ≡ b → m ≡ n) [
-  | true ↦ λ e. absurd (few_not_crowded P m (second.before m (is_past m n e)) first.crowded)
+  | true ↦ λ e. absurd (few_not_crowded P m (second.before m (ltb-true m n e)) first.crowded)
   | false ↦ λ e. elim (nat_lt n m) as (λ b. nat_lt n m ≡ b → m ≡ n) [
-    | true ↦ λ f. absurd (few_not_crowded P n (first.before n (is_past n m f)) second.crowded)
+    | true ↦ λ f. absurd (few_not_crowded P n (first.before n (ltb-true n m f)) second.crowded)
     | false ↦ λ f. let a = not_past m n e in let b = not_past n m f in omega arith
   ] refl
 ] refl

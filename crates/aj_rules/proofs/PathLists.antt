@@ -10,21 +10,18 @@ use Rattle.std.proofs.lemmas.Bool.Decides.{nat_tests}
 use Rattle.std.proofs.lemmas.List.Folds.{list_any-append}
 use Rattle.std.proofs.lemmas.List.Elements.{All-append, All-cons, All-take, All-drop, All-from_recursion, recursion_from_All}
 use Rattle.std.proofs.lemmas.Map.Keys.{Less-from_sorted}
+use Rattle.std.proofs.lemmas.Bool.{false_from_ne_true, or_right}
 use lib.ListN.{take-append-drop}
 use Rattle.aj_paths.specs.Paths.{PathData, path_order, path_eq}
 use Rattle.aj_paths.proofs.PathOrder.{equal_is, is_equal, less_turned, greater_turned, less_chain, eq_is, is_eq}
 use Rattle.aj_algebra.specs.HeldPaths.{has_path}
 use Rattle.aj_rules.specs.Search.{row_at, rows_of}
 
-pub not_true : (b : Bool) → (b ≡ true → ⊥) → b ≡ false
-not_true true h = absurd (h refl)
-not_true false h = refl
-
 less_is_not : (y p : PathData) → path_order y p ≡ Less → path_eq y p ≡ false
-less_is_not y p less = not_true (path_eq y p) (λ e. let k : Less ≡ Equal = sym less ∙ is_equal y p (eq_is y p e) in absurd cc)
+less_is_not y p less = false_from_ne_true (path_eq y p) (λ e. let k : Less ≡ Equal = sym less ∙ is_equal y p (eq_is y p e) in absurd cc)
 
 greater_is_not : (y p : PathData) → path_order y p ≡ Greater → path_eq y p ≡ false
-greater_is_not y p greater = not_true (path_eq y p) (λ e. let k : Greater ≡ Equal = sym greater ∙ is_equal y p (eq_is y p e) in absurd cc)
+greater_is_not y p greater = false_from_ne_true (path_eq y p) (λ e. let k : Greater ≡ Equal = sym greater ∙ is_equal y p (eq_is y p e) in absurd cc)
 
 index_below : (a b p : PathData) → path_order a b ≡ Less → ordering_index (path_order a p) ≤ ordering_index (path_order b p)
 index_below a b p less = elim (path_order a p) as (λ o. path_order a p ≡ o → ordering_index o ≤ ordering_index (path_order b p)) [
@@ -81,14 +78,10 @@ has_no p (x ∷ xs) h =
     let e : path_eq x p ≡ false = h 0 x (omega arith) in
     ap (λ b. b || has_path xs p) e ∙ has_no p xs (λ k d below. h (suc k) d (omega arith))
 
-or_true : (a b : Bool) → b ≡ true → (a || b) ≡ true
-or_true true b h = refl
-or_true false b h = h
-
 pub has_at : (p : PathData) (xs : List PathData) (i : ℕ) (d : PathData) → i < length xs → path_eq (get_or xs i d) p ≡ true → has_path xs p ≡ true
 has_at p [] i d below is = absurd (omega arith)
 has_at p (x ∷ xs) zero d below is = ap (λ b. b || has_path xs p) is
-has_at p (x ∷ xs) (suc i) d below is = or_true (path_eq x p) (has_path xs p) (has_at p xs i d (omega arith) is)
+has_at p (x ∷ xs) (suc i) d below is = or_right (path_eq x p) (has_path xs p) (has_at p xs i d (omega arith) is)
 
 pub partition_has_no : (p : PathData) (xs : List PathData) (i : ℕ) → AllWithin (λ y. path_order y p ≡ Less) xs 0 i → AllWithin (λ y. path_order y p ≡ Greater) xs i (length xs) → has_path xs p ≡ false
 partition_has_no p xs i before after = has_no p xs (λ k d below. elim (nat_lt k i) as (λ b. nat_lt k i ≡ b → path_eq (get_or xs k d) p ≡ false) [

@@ -3,6 +3,7 @@ use Rattle.std.proofs.Common.{◌≡◌, ℕ, zero, suc, ◌+◌, ◌≤◌, Boo
 use Rattle.std.specs.Prelude.{Option, Contains, slice_get, nat_le, if◌then◌else◌}
 use Rattle.std.proofs.lemmas.List.Elements.{Contains-append_left, Contains-append_right, Contains-append_cases}
 use Rattle.std.proofs.lemmas.Bool.Decides.{nat_tests}
+use Rattle.std.proofs.lemmas.Bool.{le-leb}
 use Rattle.aj_paths.specs.Paths.{PathData, extended, extended_some}
 use Rattle.aj_paths.specs.Renamings.{argument_at, passed}
 use Rattle.aj_core.specs.Core.{Program, Method, Expr, Exprs}
@@ -201,9 +202,6 @@ start_of : (o : Option PathData) (fields : List ℕ) (p : PathData) → extended
 start_of None fields p is = absurd cc
 start_of (Some start) fields p is = (start, refl, is)
 
-within : (n m : ℕ) → n ≤ m → nat_le n m ≡ true
-within n m le = grind (arith, nat_tests)
-
 pub reached_from_near : (P : Program) (m : ℕ) (p : PathData) → Near P m p → Reached (clauses_from P 0 P.methods) m p
 reached_from_near P m p (required has) = given (in_requires P m p has)
 reached_from_near P m p (locked has) = given (mentioned P m (Locks p) (fact m p) has (contains_here (fact m p) []))
@@ -214,7 +212,7 @@ reached_from_near P m p (called e callee args q has near outer under) =
     led link q (reached_from_near P callee q near)
     (mentioned P m (Calls e callee args) (clause.Leads link) has
     (subst (λ o. Contains (call_clauses callee m (params_of o) (path_of P e) (paths_of P args)) (clause.Leads link)) (sym outer.1)
-    (call_in (length outer.0.params) callee m (path_of P e) (paths_of P args) q.root s.0 s.1 (within q.root (length outer.0.params) outer.2))))
+    (call_in (length outer.0.params) callee m (path_of P e) (paths_of P args) q.root s.0 s.1 (le-leb q.root (length outer.0.params) outer.2))))
     refl s.2
 reached_from_near P m p (named q e start near has is fits) =
     let link : Link = record { from = m; root = q.root; to = m; start = start } in

@@ -4,7 +4,7 @@ use Rattle.std.specs.Prelude.{Result, OnOk, Vec, Option, Some, None, Contains, s
 use Rattle.std.proofs.lemmas.Bool.Decides.{nat_tests}
 use Rattle.std.specs.List.Sorted.{IsStrictlySortedBy}
 use Rattle.std.proofs.lemmas.List.Elements.{Contains-append_left, Contains-append_right, Contains-append_cases}
-use Rattle.std.proofs.lemmas.Option.{slice_get-get_or}
+use Rattle.std.proofs.lemmas.Option.{slice_get-get_or, same_Some}
 use Rattle.aj_paths.specs.Paths.{PathData, path_order, path_eq, extended}
 use Rattle.aj_paths.proofs.PathOrder.{eq_is, eq_itself}
 use Rattle.aj_algebra.specs.HeldPaths.{has_path}
@@ -19,20 +19,9 @@ use Rattle.aj_rules.proofs.PathLists.{row_is, row_set_same, row_set_other}
 use Rattle.aj_rules.proofs.ClauseLemmas.{on_ok}
 use Rattle.std.proofs.lemmas.List.{take_more}
 use Rattle.std.specs.declared.alloc.Global.{Global}
+use Rattle.std.proofs.lemmas.Bool.{or_cases, or_left, or_right, not-false}
 
 -- One place.
-
-or_cases : (a b : Bool) → (a || b) ≡ true → (a ≡ true) ⊎ (b ≡ true)
-or_cases true b e = inl refl
-or_cases false b e = inr e
-
-or_left : (a b : Bool) → a ≡ true → (a || b) ≡ true
-or_left true b e = refl
-or_left false b e = absurd cc
-
-or_right : (a b : Bool) → b ≡ true → (a || b) ≡ true
-or_right true b e = refl
-or_right false b e = e
 
 module _ (near new : List (List PathData)) (queue longer : List Place) (place : Place) (agree : Agree near queue)
     (ascends : IsStrictlySortedBy path_order (row_at new place.method))
@@ -151,9 +140,6 @@ take_next xs i x below at = take_more xs i x below ∙ ap (λ y. take i xs ++ y 
 
 pub links_same : (cs : List Clause) (links new : List (List Link)) → AreLinks cs links → ((m : ℕ) → row_at new m ≡ row_at links m) → AreLinks cs new
 links_same cs links new a same = record { exact = λ m link. (λ h. (a.exact m link).0 (subst (λ r. Contains r link) (same m) h), λ h. subst (λ r. Contains r link) (sym (same m)) ((a.exact m link).1 h)) }
-
-pub links_none : AreLinks [] []
-links_none = record { exact = λ m link. (λ h. contains_none link h, λ h. contains_none (clause.Leads link) h.0) }
 
 abbrev leads_is : (c : Clause) (link : Link) → Link
 leads_is (clause.Fact x) link = link
@@ -274,12 +260,9 @@ abbrev unwrapped : {A : Type 0} → Option A → A → A
 unwrapped None d = d
 unwrapped (Some a) d = a
 
-some_is : {A : Type 0} (x y : A) → Some x ≡ Some y → x ≡ y
-some_is x y e = ap (λ o. unwrapped o x) e
-
 get_in : {A : Type 0} (xs : List A) (k : ℕ) (x : A) → slice_get xs k ≡ Some x → Contains xs x
 get_in [] k x at = absurd cc
-get_in (y ∷ xs) zero x at = subst (λ z. Contains (y ∷ xs) z) (some_is y x at) (contains_here y xs)
+get_in (y ∷ xs) zero x at = subst (λ z. Contains (y ∷ xs) z) (same_Some y x at) (contains_here y xs)
 get_in (y ∷ xs) (suc k) x at = contains_later y x xs (get_in xs k x at)
 
 get_append : {A : Type 0} (xs ys : List A) (k : ℕ) (x : A) → k < length xs → slice_get (xs ++ ys) k ≡ Some x → slice_get xs k ≡ Some x
@@ -309,7 +292,7 @@ module _ (cs : List Clause) (links : List (List Link)) (next : ℕ) (near new : 
   step k x y true e under get leads = still y (d.done k x y (grind (arith, nat_tests)) get leads)
   step k x y false e under get leads =
       let same : k ≡ next = grind (arith, nat_tests) in
-      let is_place : x ≡ place = some_is x place (sym get ∙ ap (slice_get queue) same ∙ at) in
+      let is_place : x ≡ place = same_Some x place (sym get ∙ ap (slice_get queue) same ∙ at) in
       g.each y (subst (λ p. IsLed (row_at links p.method) p y) is_place leads)
 
   pub done_more : HasDone cs links (next + 1) new longer
@@ -350,10 +333,6 @@ least_family cs links next near queue a d all = record {
 had_is : (rows grown : List (Vec PathData Global)) (had : Vec PathData Global) (i m : ℕ) → i ≡ m → i + 1 ≤ length grown → ((n : ℕ) → row_at (rows_of grown) n ≡ row_at (rows_of rows) n) → had ≡ get_or grown i had → had.items ≡ row_at (rows_of rows) m
 had_is rows grown had i m is long same at = ap (λ v. v.items) at ∙ sym (row_is grown i had (omega arith)) ∙ same i ∙ ap (row_at (rows_of rows)) is
 
-not_new : (b : Bool) → not b ≡ false → b ≡ true
-not_new true e = refl
-not_new false e = absurd cc
-
 pub take_all : {A : Type 0} (xs : List A) (i : ℕ) → length xs ≤ i → take i xs ≡ xs
 take_all [] zero le = refl
 take_all [] (suc i) le = refl
@@ -383,7 +362,7 @@ module _ (rows grown : List (Vec PathData Global)) (had row : Vec PathData Globa
 
   pub put_known : (is_new : Bool) → is_new ≡ not (has_path had.items place.path) → is_new ≡ false → Grows queue (λ x. x ≡ place) (rows_of (set grown i row)) queue
   put_known is_new fresh old = grows_known (rows_of rows) (rows_of (set grown i row)) queue queue place agree ascends_now paths_now others_now
-      (ap (λ l. has_path l place.path) (sym (had_is rows grown had i place.method is long same at)) ∙ not_new (has_path had.items place.path) (sym fresh ∙ old)) refl
+      (ap (λ l. has_path l place.path) (sym (had_is rows grown had i place.method is long same at)) ∙ not-false (has_path had.items place.path) (sym fresh ∙ old)) refl
 
 pub links_row : (rows grown : List (Vec Link Global)) (had row : Vec Link Global) (i from : ℕ) (link : Link) → i ≡ from → i + 1 ≤ length grown → ((n : ℕ) → row_at (rows_of grown) n ≡ row_at (rows_of rows) n) → had ≡ get_or grown i had → row.items ≡ had.items ++ link ∷ [] → (m : ℕ) → row_at (rows_of (set grown i row)) m ≡ (if m == from then row_at (rows_of rows) m ++ link ∷ [] else row_at (rows_of rows) m)
 links_row rows grown had row i from link is long same at pushed m = elim (m == from) as (λ b. (m == from) ≡ b → row_at (rows_of (set grown i row)) m ≡ (if b then row_at (rows_of rows) m ++ link ∷ [] else row_at (rows_of rows) m)) [
@@ -410,14 +389,11 @@ led_to : (link : Link) (place x : Place) (b : Bool) → (place.path.root == link
 led_to link place x true e l = l.path
 led_to link place x false e l = absurd (let k = l.root in grind (arith, nat_tests))
 
-some_path : (p q : PathData) → Some p ≡ Some q → p ≡ q
-some_path p q e = some_is p q e
-
 pub follow_some : {A E : Type 0} (r : Result A E) (link : Link) (place : Place) (p : PathData) (near : List (List PathData)) (queue longer : List Place) → led_path link place ≡ Some p → OnOk r (Grows queue (λ x. x ≡ record { method = link.to; path = p }) near longer) → OnOk r (Grows queue (LeadsTo link place) near longer)
 follow_some r link place p near queue longer is h = on_ok r (λ g. grows_same near queue longer (λ x. x ≡ record { method = link.to; path = p }) (LeadsTo link place)
     (λ x e. subst (LeadsTo link place) (sym e) (led_from link place p _ refl is))
     (λ x l.
-    let e : x.path ≡ p = some_path x.path p (sym (led_to link place x _ refl l) ∙ is) in
+    let e : x.path ≡ p = same_Some x.path p (sym (led_to link place x _ refl l) ∙ is) in
     let m : x.method ≡ link.to = l.method in
     λ i. record { method = m i; path = e i })
     g) h

@@ -2,6 +2,7 @@
 use Rattle.std.proofs.Common.{◌≡◌, ℕ, Bool, true, false, List, [], ◌∷◌, Some, None, refl, sym, ap, ◌∙◌, ◌&&◌, ◌||◌, ◌==◌}
 use Rattle.std.specs.Prelude.{Option, if◌then◌else◌}
 use Rattle.std.specs.List.{list_all}
+use Rattle.std.proofs.lemmas.Bool.{and_from}
 use Rattle.aj_paths.specs.Paths.{PathData, path_eq, extended}
 use Rattle.aj_paths.specs.Renamings.{under_call}
 use Rattle.aj_paths.proofs.PathOrder.{eq_is}
@@ -10,11 +11,6 @@ use Rattle.aj_core.specs.Core.{Program, Stmt, EmptyS, BlockS, LocalS, SetVarS, S
 use Rattle.aj_core.specs.Locks.{path_of}
 use Rattle.aj_rules.specs.Effect.{held_under, after_local, after_stmt}
 use Rattle.aj_rules.specs.Rules.{IsPart}
-
--- of a conjunction
-pub both : (a b : Bool) → a ≡ true → b ≡ true → (a && b) ≡ true
-both true b h k = k
-both false b h k = absurd cc
 
 pub first : (a b : Bool) → (a && b) ≡ true → a ≡ true
 first true b h = refl
@@ -43,7 +39,7 @@ module _ (H K : Held) (part : IsPart H K) where
 
   pub all_part : (ps : List PathData) → list_all H ps ≡ true → list_all K ps ≡ true
   all_part [] e = refl
-  all_part (p ∷ ps) e = both (K p) (list_all K ps) (part p (first (H p) (list_all H ps) e)) (all_part ps (second (H p) (list_all H ps) e))
+  all_part (p ∷ ps) e = and_from (K p) (list_all K ps) (part p (first (H p) (list_all H ps) e)) (all_part ps (second (H p) (list_all H ps) e))
 
   pub under_part : (rel : List PathData) (o : Option PathData) (args : List (Option PathData)) → IsPart (held_under rel o args H) (held_under rel o args K)
   under_part rel o args q e = and_part (has_path rel q) _ _ (at_part (under_call o args q)) e

@@ -4,12 +4,13 @@ use Rattle.std.specs.Prelude.{slice_get}
 use Rattle.std.specs.List.Sorted.{IsStrictlySortedBy}
 use Rattle.std.specs.declared.cmp.Ordering.TheVariants.{Less, Equal, Greater}
 use Rattle.std.proofs.lemmas.Map.Keys.{sorted_head, sorted_tail}
+use Rattle.std.proofs.lemmas.Bool.{or_cases, or_left, or_right}
 use Rattle.aj_paths.specs.Paths.{PathData, path_order, path_eq}
 use Rattle.aj_paths.proofs.PathOrder.{equal_is, eq_is, eq_itself, greater_turned, less_chain}
 use Rattle.aj_algebra.specs.HeldPaths.{has_path}
 use Rattle.aj_core.specs.Core.{Program}
 use Rattle.aj_rules.specs.Near.{MethodPaths, AreRelevant}
-use Rattle.aj_rules.proofs.LimitLemmas.{or_cases, or_left, or_right, after_head, not_itself}
+use Rattle.aj_rules.proofs.LimitLemmas.{after_head, not_itself}
 
 -- a path that is less than the first of an ascending list isn't in it
 not_before : (x y : PathData) (ys : List PathData) → IsStrictlySortedBy path_order (y ∷ ys) → path_order x y ≡ Less → has_path (y ∷ ys) x ≡ true → ⊥
