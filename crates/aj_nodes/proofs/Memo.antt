@@ -18,7 +18,7 @@ use Rattle.aj_nodes.specs.contracts.calls.SinglePartialEq.TheImpl as singles
 use Rattle.aj_nodes.specs.contracts.calls.PairPartialEq.TheImpl as pairs
 use Rattle.aj_nodes.specs.contracts.calls.CallPartialEq.TheImpl as calls
 use Rattle.aj_nodes.specs.Nodes.{Grows, Stands}
-use Rattle.aj_nodes.specs.Calls.{single_of, pair_of, call_tree, AreThere, IsResult, AreResults}
+use Rattle.aj_nodes.specs.Calls.{single_of, pair_of, call_tree, AreThere, IsResult, AreKept, AreResults}
 
 abbrev pub same : Call → Call → Bool
 same = calls.eq-value.it
@@ -70,6 +70,28 @@ call_is (Sync p n) (Each g m) told = absurd (let h : false ≡ true = told in cc
 call_is (Sync p n) (Both g c d) told = absurd (let h : false ≡ true = told in cc)
 call_is (Sync p n) (HeldOr q c d) told = absurd (let h : false ≡ true = told in cc)
 
+-- what holds of each key and its number still does where it holds of all under another name
+pub kept_on : {K : Type 0} (Was Is : K → ℕ → Type 0) (es : List (K × ℕ)) → ((k : K) (n : ℕ) → Was k n → Is k n) → AreKept Was es → AreKept Is es
+kept_on Was Is [] so are = tt
+kept_on Was Is (e ∷ es) so are = (so e.0 e.1 are.0, kept_on Was Is es so are.1)
+
+module _ {K : Type 0} (test : K → K → Bool) (Is : K → ℕ → Type 0) where
+  pub kept_put : ((x y : K) (n : ℕ) → test x y ≡ true → Is x n → Is y n) → (es : List (K × ℕ)) (x : K) (n : ℕ) → AreKept Is es → Is x n → AreKept Is (insert_entry test es x n)
+  kept_put so [] x n are is = (is, tt)
+  kept_put so (e ∷ es) x n are is =
+      elim (test x e.0) as (λ b. test x e.0 ≡ b → AreKept Is (if b then (e.0, n) ∷ es else e ∷ insert_entry test es x n)) [
+        | true ↦ λ told. (so x e.0 n told is, are.1)
+        | false ↦ λ told. (are.0, kept_put so es x n are.1 is)
+      ] refl
+
+  pub kept_found : ((x y : K) (n : ℕ) → test x y ≡ true → Is y n → Is x n) → (es : List (K × ℕ)) (x : K) → AreKept Is es → IfSome (lookup (test x) es) (Is x)
+  kept_found so [] x are = tt
+  kept_found so (e ∷ es) x are =
+      elim (test x e.0) as (λ b. test x e.0 ≡ b → IfSome (cond b (Some e.1) (lookup (test x) es)) (Is x)) [
+        | true ↦ λ told. so x e.0 e.1 told are.0
+        | false ↦ λ told. kept_found so es x are.1
+      ] refl
+
 -- a call whose operands are there gives the same tree in a longer list
 pub call_on : (old new : List Item) (x : Call) → Grows old new → AreThere old x → call_tree new x ≡ call_tree old x
 call_on old new (Each f n) grows there = ap (each_leaf (single_of f)) (grows.same n there)
@@ -93,24 +115,13 @@ result_on old new x n grows is = record {
 }
 
 pub results_on : (old new : List Item) (es : List (Call × ℕ)) → Grows old new → AreResults old es → AreResults new es
-results_on old new [] grows are = tt
-results_on old new (e ∷ es) grows are = (result_on old new e.0 e.1 grows are.0, results_on old new es grows are.1)
+results_on old new es grows are = kept_on (IsResult old) (IsResult new) es (λ x n. result_on old new x n grows) are
 
 pub results_put : (is : List Item) (es : List (Call × ℕ)) (x : Call) (n : ℕ) → AreResults is es → IsResult is x n → AreResults is (insert_entry same es x n)
-results_put is [] x n are result = (result, tt)
-results_put is (e ∷ es) x n are result =
-    elim (same x e.0) as (λ b. same x e.0 ≡ b → AreResults is (if b then (e.0, n) ∷ es else e ∷ insert_entry same es x n)) [
-      | true ↦ λ told. (subst (λ y. IsResult is y n) (call_is x e.0 told) result, are.1)
-      | false ↦ λ told. (are.0, results_put is es x n are.1 result)
-    ] refl
+results_put is es x n are result = kept_put same (IsResult is) (λ y z m told. subst (λ w. IsResult is w m) (call_is y z told)) es x n are result
 
-pub found : (is : List Item) (es : List (Call × ℕ)) (x : Call) → AreResults is es → IfSome (lookup (same x) es) (λ n. IsResult is x n)
-found is [] x are = tt
-found is (e ∷ es) x are =
-    elim (same x e.0) as (λ b. same x e.0 ≡ b → IfSome (cond b (Some e.1) (lookup (same x) es)) (λ n. IsResult is x n)) [
-      | true ↦ λ told. subst (λ y. IsResult is y e.1) (sym (call_is x e.0 told)) are.0
-      | false ↦ λ told. found is es x are.1
-    ] refl
+found : (is : List Item) (es : List (Call × ℕ)) (x : Call) → AreResults is es → IfSome (lookup (same x) es) (λ n. IsResult is x n)
+found is es x are = kept_found same (IsResult is) (λ y z m told. subst (λ w. IsResult is w m) (sym (call_is y z told))) es x are
 
 pub remembered : (is now : List Item) (es : List (Call × ℕ)) (x : Call) (o : Option ℕ) → is ≡ now → AreResults is es → o ≡ lookup (same x) es → IfSome o (λ n. IsResult now x n)
 remembered is now es x o view are told = subst (λ k. IfSome o (λ n. IsResult k x n)) view (subst (λ p. IfSome p (λ n. IsResult is x n)) (sym told) (found is es x are))

@@ -6,6 +6,7 @@ use Rattle.aj_cond.specs.Conditions.{Cond, value_of}
 use Rattle.aj_cond.proofs.SameValues.{unique}
 use Rattle.aj_cond.proofs.NodeLemmas.{Is}
 use Rattle.aj_nodes.specs.declared.rows.Item.{Item}
+use Rattle.aj_nodes.specs.declared.table.Node.{Node}
 use Rattle.aj_nodes.specs.Nodes.{tree_at, IsTable, Stands}
 
 pub same_number : (is : List Item) (m n : ℕ) (test : Bool) → IsTable is → m < length is → n < length is → test ≡ (m == n)
@@ -13,6 +14,13 @@ pub same_number : (is : List Item) (m n : ℕ) (test : Bool) → IsTable is → 
 same_number is m n test table m_there n_there told = (
   λ same H. ap (λ k. value_of (tree_at is k) H) (eqb-true m n (sym told ∙ same)),
   λ values. told ∙ eq-eqb m n (table.apart m n m_there n_there (unique (tree_at is m) (tree_at is n) (table.canonical m m_there) (table.canonical n n_there) values)),
+)
+
+-- nodes are equal exactly where their numbers are
+pub same_node : (a b : Node) (test : Bool) → test ≡ (a.0 == b.0) → (test ≡ true) ↔ (a ≡ b)
+same_node a b test told = (
+  λ same. (let e = eqb-true a.0 b.0 (sym told ∙ same) in λ i. record { 0 = e i }),
+  λ same. told ∙ eq-eqb a.0 b.0 (ap (λ n. n.0) same),
 )
 
 -- a number that stands for a tree has the values of that tree

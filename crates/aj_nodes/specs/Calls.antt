@@ -1,10 +1,10 @@
 -- Calls on numbers, what each gives, and a list of results.
-use Rattle.std.specs.Prelude.{◌≡◌, ◌<◌, ℕ, List, [], ◌∷◌, length}
+use Rattle.std.specs.Prelude.{◌≡◌, ◌<◌, ℕ, List, [], ◌∷◌, length, Option}
 use Rattle.aj_paths.specs.Paths.{PathData}
 use Rattle.aj_algebra.specs.declared.basic.Basic.{Basic}
 use Rattle.aj_algebra.specs.Basics.{seq_of, join_of, star_of, lift_of}
 use Rattle.aj_cond.specs.Conditions.{Cond, IsCanonical}
-use Rattle.aj_cond.specs.Operations.{node, each_leaf, both_leaves, sync_tree, hold}
+use Rattle.aj_cond.specs.Operations.{node, each_leaf, both_leaves, sync_tree, hold, rename_tree}
 use Rattle.aj_nodes.specs.declared.rows.Item.{Item}
 use Rattle.aj_nodes.specs.declared.calls.Single.{Single}
 use Rattle.aj_nodes.specs.declared.calls.Single.TheVariants.{Star, Lift}
@@ -12,6 +12,7 @@ use Rattle.aj_nodes.specs.declared.calls.Pair.{Pair}
 use Rattle.aj_nodes.specs.declared.calls.Pair.TheVariants.{Seq, Join}
 use Rattle.aj_nodes.specs.declared.calls.Call.{Call}
 use Rattle.aj_nodes.specs.declared.calls.Call.TheVariants.{Each, Both, HeldOr, Sync}
+use Rattle.aj_nodes.specs.declared.calls.Renamed.{Renamed}
 use Rattle.aj_nodes.specs.Nodes.{tree_at, Stands}
 
 -- what a call of one basic gives
@@ -43,10 +44,27 @@ pub record IsResult (is : List Item) (call : Call) (n : ℕ) : Type 0 where
   pub there : AreThere is call
   pub stands : Stands is n (call_tree is call)
 
+-- a number stands for the tree of another, renamed
+pub record IsRenamed (is : List Item) (pairs : List (PathData × Option PathData)) (n renamed : ℕ) : Type 0 where
+  pub there : n < length is
+  pub stands : Stands is renamed (rename_tree pairs (tree_at is n))
+
+-- this holds of each key of a list and the number beside it
+abbrev pub AreKept : {K : Type 0} → (K → ℕ → Type 0) → List (K × ℕ) → Type 0
+AreKept Is [] = Unit {0}
+AreKept Is (e ∷ es) = Is e.0 e.1 × AreKept Is es
+
 -- each number of a list of results is the result of the call beside it
 abbrev pub AreResults : List Item → List (Call × ℕ) → Type 0
-AreResults is [] = Unit {0}
-AreResults is (e ∷ es) = IsResult is e.0 e.1 × AreResults is es
+AreResults is es = AreKept (IsResult is) es
+
+-- each number of a list is the one beside it, renamed
+abbrev pub AreRenamed : List Item → List (PathData × Option PathData) → List (ℕ × ℕ) → Type 0
+AreRenamed is pairs es = AreKept (IsRenamed is pairs) es
+
+-- each number of a list is the one beside it, renamed as told there
+abbrev pub AreRenamings : List Item → List (Renamed × ℕ) → Type 0
+AreRenamings is es = AreKept (λ r. IsRenamed is r.pairs.items r.node) es
 
 -- a call is a test of two numbers that are there
 pub record IsCombined (is : List Item) (call : Call) (p : PathData) (held free : ℕ) : Type 0 where

@@ -40,8 +40,8 @@ impl Algebra for NodeTable {
         Ok(Node(self.sync_at(p, a.0)?))
     }
 
-    fn rename(&mut self, _alloc: Global, map: &Renaming, a: &Node) -> Result<Node, NoMemory> {
-        Ok(Node(self.renamed(map.pairs.as_slice(), a.0)?))
+    fn rename(&mut self, alloc: Global, map: &Renaming, a: &Node) -> Result<Node, NoMemory> {
+        Ok(Node(self.renamed(alloc, map.pairs.as_slice(), a.0)?))
     }
 
     fn below(&self, a: &Node, b: &Node) -> bool {

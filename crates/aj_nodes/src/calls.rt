@@ -1,9 +1,10 @@
 //! Calls on nodes, by which results are found again.
-ghost use Rattle.std.specs.Prelude.{◌≡◌};
+ghost use Rattle.std.specs.Prelude.{◌≡◌, IfOk};
 ghost use Rattle.aj_nodes.specs.Calls.{single_of, pair_of};
 
 use aj_algebra::Basic;
 use aj_paths::Path;
+use std::alloc::{AllocError as NoMemory, Global};
 
 /// A call of one basic.
 #[derive(Clone, Copy, Debug, PartialEq, Eq, Hash)]
@@ -26,6 +27,42 @@ pub(crate) enum Call {
     Both(Pair, usize, usize),
     HeldOr(Path, usize, usize),
     Sync(Path, usize),
+}
+
+/// A number with what a renaming calls some paths.
+#[derive(Debug, Drop, PartialEq, Eq, Hash)]
+pub(crate) struct Renamed {
+    pub(crate) pairs: Vec<(Path, Option<Path>)>,
+    pub(crate) node: usize,
+}
+
+// A copy of a path that may be missing.
+fn copy_of(path: &Option<Path>) -> Option<Path>
+    ensures { result ≡ path.now }
+{
+    match path {
+        Some(path) => Some(path.copy()),
+        None => None,
+    }
+}
+
+/// A number with copies of these pairs.
+pub(crate) fn renamed_by(
+    alloc: Global,
+    pairs: &[(Path, Option<Path>)],
+    node: usize,
+) -> Result<Renamed, NoMemory>
+    ensures pairs { IfOk result (λ r. r.pairs.items ≡ pairs.now) }
+    ensures node { IfOk result (λ r. r.node ≡ node) }
+{
+    let mut copies = Vec::with_capacity(alloc, pairs.len())?;
+    for pair in pairs {
+        copies.push((pair.0.copy(), copy_of(&pair.1)))?;
+    }
+    Ok(Renamed {
+        pairs: copies,
+        node,
+    })
 }
 
 /// The call of one basic.

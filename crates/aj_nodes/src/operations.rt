@@ -1,19 +1,20 @@
 //! The operations of the algebra on numbers of nodes.
-ghost use Rattle.std.specs.Prelude.{◌≡◌, ◌<◌, length, IfOk};
+ghost use Rattle.std.specs.Prelude.{◌≡◌, ◌<◌, length, IfOk, OnOk};
 ghost use Rattle.aj_algebra.specs.Basics.{lift_of};
 ghost use Rattle.aj_algebra.specs.HeldPaths.{is_named};
 ghost use Rattle.aj_cond.specs.Conditions.{IsCanonical};
-ghost use Rattle.aj_cond.specs.Operations.{node, each_leaf, both_leaves, sync_tree, hold, hold_partners, rename_tree};
+ghost use Rattle.aj_cond.specs.Operations.{node, each_leaf, both_leaves, sync_tree, hold, hold_partners, renamed_test, rename_tree};
 ghost use Rattle.aj_nodes.specs.Nodes.{tree_at, Grows, Stands};
-ghost use Rattle.aj_nodes.specs.Calls.{single_of, pair_of};
+ghost use Rattle.aj_nodes.specs.Calls.{single_of, pair_of, AreRenamed};
 
-use crate::calls::{Call, Pair, Single, call_one, call_two};
+use crate::calls::{Call, Pair, Single, call_one, call_two, renamed_by};
 use crate::halves::Split;
 use crate::rows::Item;
 use crate::table::NodeTable;
 use aj_algebra::Basic;
 use aj_paths::{Path, order};
-use std::alloc::AllocError as NoMemory;
+use indexmap::IndexMap;
+use std::alloc::{AllocError as NoMemory, Global};
 use std::cmp::Ordering;
 
 // Whether a renaming names the path.
@@ -158,9 +159,57 @@ impl NodeTable {
         }
     }
 
-    /// Each test renamed, from the leaves on.
+    // A test on a path, as a renaming tells it.
+    fn renamed_test(
+        &mut self,
+        pairs: &[(Path, Option<Path>)],
+        q: &Path,
+        held: usize,
+        free: usize,
+    ) -> Result<usize, NoMemory>
+        requires held_there { held < length self.old }
+        requires free_there { free < length self.old }
+        ensures stands { IfOk result (λ r. Stands self.new r (renamed_test pairs.now q.now (tree_at self.old held) (tree_at self.old free))) }
+        ensures grows { Grows self.old self.new }
+    {
+        if names(pairs, q) {
+            return self.hold_partners(pairs, q, held, free);
+        }
+        self.hold(q, held, free)
+    }
+
+    // Each test renamed, from the leaves on. What was renamed before is `done`.
+    fn renamed_at(
+        &mut self,
+        pairs: &[(Path, Option<Path>)],
+        done: &mut IndexMap<usize, usize>,
+        n: usize,
+    ) -> Result<usize, NoMemory>
+        requires there { n < length self.old }
+        requires done { AreRenamed self.old pairs.now done.old.entries }
+        ensures stands { IfOk result (λ r. Stands self.new r (rename_tree pairs.now (tree_at self.old n))) }
+        ensures grows { Grows self.old self.new }
+        ensures done { OnOk result (AreRenamed self.new pairs.now done.new.entries) }
+    {
+        match self.item(n) {
+            Item::Leaf(_) => Ok(n),
+            Item::Test(q, a, b) => {
+                if let Some(known) = self.renamed_among(pairs, done, n) {
+                    return Ok(known);
+                }
+                let held = self.renamed_at(pairs, done, a)?;
+                let free = self.renamed_at(pairs, done, b)?;
+                let renamed = self.renamed_test(pairs, &q, held, free)?;
+                self.keep_renamed(pairs, done, n, renamed)?;
+                Ok(renamed)
+            }
+        }
+    }
+
+    /// Each test renamed.
     pub(crate) fn renamed(
         &mut self,
+        alloc: Global,
         pairs: &[(Path, Option<Path>)],
         n: usize,
     ) -> Result<usize, NoMemory>
@@ -168,16 +217,17 @@ impl NodeTable {
         ensures stands { IfOk result (λ r. Stands self.new r (rename_tree pairs.now (tree_at self.old n))) }
         ensures grows { Grows self.old self.new }
     {
-        match self.item(n) {
-            Item::Leaf(_) => Ok(n),
-            Item::Test(q, a, b) => {
-                let held = self.renamed(pairs, a)?;
-                let free = self.renamed(pairs, b)?;
-                if names(pairs, &q) {
-                    return self.hold_partners(pairs, &q, held, free);
-                }
-                self.hold(&q, held, free)
-            }
+        let _ = self.number(Basic::Const);
+        if pairs.is_empty() {
+            return Ok(n);
         }
+        let by = renamed_by(alloc, pairs, n)?;
+        if let Some(known) = self.renamed_before(&by) {
+            return Ok(known);
+        }
+        let mut done = IndexMap::new(alloc);
+        let renamed = self.renamed_at(pairs, &mut done, n)?;
+        self.remember_renamed(by, renamed)?;
+        Ok(renamed)
     }
 }

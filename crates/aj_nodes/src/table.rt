@@ -1,14 +1,14 @@
 //! A table of shared nodes, and the results of calls on them.
-ghost use Rattle.std.specs.Prelude.{◌≡◌, ◌<◌, ◌↔◌, [], true, length, map, IfOk, IfSome};
+ghost use Rattle.std.specs.Prelude.{◌≡◌, ◌<◌, ◌↔◌, [], true, length, map, IfOk, OnOk, IfSome};
 ghost use Rattle.aj_algebra.specs.HeldPaths.{Held, has_path};
 ghost use Rattle.aj_cond.specs.Conditions.{LeafC, cond_of, value_of, IsCanonical};
-ghost use Rattle.aj_cond.specs.Operations.{node, below_tree};
+ghost use Rattle.aj_cond.specs.Operations.{node, below_tree, rename_tree};
 ghost use Rattle.aj_nodes.specs.Nodes.{items_of, tree_at, item_tree, AreBefore, IsTable, Grows, Stands};
 ghost use Rattle.aj_nodes.specs.Halving.{IsSplit};
-ghost use Rattle.aj_nodes.specs.Shown.{AreThere, trees_at};
-ghost use Rattle.aj_nodes.specs.Calls.{call_tree, IsResult, IsCombined};
+ghost use Rattle.aj_nodes.specs.Shown.{IsThere, AreThere, node_value, trees_at};
+ghost use Rattle.aj_nodes.specs.Calls.{call_tree, IsResult, IsRenamed, AreRenamed, IsCombined};
 
-use crate::calls::Call;
+use crate::calls::{Call, Renamed};
 use crate::halves::Split;
 use crate::rows::{Item, Rows};
 use aj_algebra::Basic;
@@ -22,23 +22,24 @@ use std::marker::Model;
 #[derive(Clone, Copy, Debug, PartialEq, Eq, Hash)]
 pub struct Node(pub(crate) usize);
 
-/// Shared nodes: each conditional atomicity has one number, and what calls gave is kept, but for renamings.
+/// Shared nodes: each conditional atomicity has one number, and what calls gave is kept.
 #[derive(Drop)]
 pub struct NodeTable {
     pub(crate) rows: Rows,
     calls: IndexMap<Call, usize>,
+    renamings: IndexMap<Renamed, usize>,
 }
 
 impl Model for NodeTable {
     ghost use Rattle.std.specs.Prelude.{List};
     ghost use Rattle.aj_nodes.specs.declared.rows.Item.{Item};
-    ghost use Rattle.aj_nodes.specs.Calls.{AreResults};
+    ghost use Rattle.aj_nodes.specs.Calls.{AreResults, AreRenamings};
 
     ghost Value = { List Item };
 
     ghost view = { λ t. t.rows };
 
-    ghost invariant = { λ t. AreResults t.rows t.calls.entries };
+    ghost invariant = { λ t. AreResults t.rows t.calls.entries × AreRenamings t.rows t.renamings.entries };
 }
 
 impl NodeTable {
@@ -49,7 +50,24 @@ impl NodeTable {
         NodeTable {
             rows: Rows::new(alloc),
             calls: IndexMap::new(alloc),
+            renamings: IndexMap::new(alloc),
         }
+    }
+
+    /// How many nodes there are.
+    pub fn count(&self) -> usize
+        ensures count { result ≡ length self.now }
+        ensures table { IsTable self.now }
+    {
+        self.rows.count()
+    }
+
+    /// The node of a basic.
+    pub fn basic(&self, b: Basic) -> Node
+        ensures known { IsThere (length self.now) result }
+        ensures value { (H : Held) → node_value self.now result H ≡ b }
+    {
+        Node(self.number(b))
     }
 
     /// The canonical tree of a node.
@@ -77,11 +95,12 @@ impl NodeTable {
         Ok(trees)
     }
 
-    /// Whether two nodes have the same basic at every set of held paths: exactly where they have one number.
+    /// Whether two nodes have the same basic at every set of held paths: exactly where they are one.
     pub fn same_value(&self, a: &Node, b: &Node) -> bool
         requires a_known { a.now.0 < length self.now }
         requires b_known { b.now.0 < length self.now }
-        ensures { (result ≡ true) ↔ ((H : Held) → value_of (tree_at self.now a.now.0) H ≡ value_of (tree_at self.now b.now.0) H) }
+        ensures value { (result ≡ true) ↔ ((H : Held) → value_of (tree_at self.now a.now.0) H ≡ value_of (tree_at self.now b.now.0) H) }
+        ensures number { (result ≡ true) ↔ (a.now ≡ b.now) }
     {
         let _count = self.rows.count();
         a == b
@@ -159,6 +178,54 @@ impl NodeTable {
         ensures { self.new ≡ self.old }
     {
         self.calls.insert(call, n)?;
+        Ok(())
+    }
+
+    /// What renaming gave, where that is kept.
+    pub(crate) fn renamed_before(&self, by: &Renamed) -> Option<usize>
+        ensures { IfSome result (λ n. IsRenamed self.now by.now.pairs.items by.now.node n) }
+    {
+        self.renamings.get(by).copied()
+    }
+
+    /// Keeps what renaming gave.
+    pub(crate) fn remember_renamed(&mut self, by: Renamed, n: usize) -> Result<(), NoMemory>
+        requires { IsRenamed self.old by.pairs.items by.node n }
+        ensures { self.new ≡ self.old }
+    {
+        self.renamings.insert(by, n)?;
+        Ok(())
+    }
+
+    /// What renaming a number gave, where that is among these.
+    pub(crate) fn renamed_among(
+        &self,
+        pairs: &[(Path, Option<Path>)],
+        done: &IndexMap<usize, usize>,
+        n: usize,
+    ) -> Option<usize>
+        requires { AreRenamed self.now pairs.now done.now.entries }
+        ensures { IfSome result (λ r. Stands self.now r (rename_tree pairs.now (tree_at self.now n))) }
+    {
+        let _count = self.rows.count();
+        done.get(&n).copied()
+    }
+
+    /// Adds what renaming a number gave.
+    pub(crate) fn keep_renamed(
+        &self,
+        pairs: &[(Path, Option<Path>)],
+        done: &mut IndexMap<usize, usize>,
+        n: usize,
+        renamed: usize,
+    ) -> Result<(), NoMemory>
+        requires done { AreRenamed self.now pairs.now done.old.entries }
+        requires there { n < length self.now }
+        requires stands { Stands self.now renamed (rename_tree pairs.now (tree_at self.now n)) }
+        ensures { OnOk result (AreRenamed self.now pairs.now done.new.entries) }
+    {
+        let _pairs = pairs;
+        done.insert(n, renamed)?;
         Ok(())
     }
 
