@@ -1,5 +1,5 @@
 -- Books are read as they are written, and passing over one gives what reading it gives.
-use Rattle.std.proofs.Common.{◌≡◌, ℕ, zero, suc, ◌+◌, ◌-◌, ◌<◌, ◌≤◌, ◌^◌, ◌&&◌, Bool, true, false, not, List, [], ◌∷◌, ◌++◌, length, length-append, take, codes, decimal, Option, Some, None, Ok, Err, refl, sym, ◌∙◌, ap, subst, arith, append_assoc}
+use Rattle.std.proofs.Common.{◌≡◌, ℕ, zero, suc, ◌+◌, ◌-◌, ◌<◌, ◌≤◌, ◌^◌, ◌&&◌, Bool, true, false, not, List, [], ◌∷◌, ◌++◌, length, length-append, take, codes, decimal, Option, Some, None, Ok, Err, refl, sym, ◌∙◌, ap, subst, arith, append_assoc, append-nil}
 use Rattle.std.proofs.lemmas.Slice.Eq.{bytes_eq-Decides}
 use Rattle.std.specs.Str.{bytes_eq}
 use Rattle.aj_paths.specs.Paths.{PathData}
@@ -19,10 +19,6 @@ use Rattle.aj_deriv.proofs.Several.{unseen}
 use Rattle.aj_deriv.proofs.Complete.{complete_number, complete_tree, complete_canonical, complete_line}
 use Rattle.aj_deriv.proofs.PassLemmas.{pass_seq, pass_same, pass_if, pass_several-is, front_of, front_taken, same_test}
 use Rattle.aj_deriv.proofs.PassBooks.{pass_line-is}
-
-nil : (zs : List ℕ) → zs ++ [] ≡ zs
-nil [] = refl
-nil (z ∷ zs) = ap (λ t. z ∷ t) (nil zs)
 
 -- trees
 
@@ -216,7 +212,7 @@ sound_lines count small ts =
       [],
       refl,
       λ x3 e3 x2 e2 x1 row.
-          (let are = row_lines count x1 ls row in ((λ i. are.0 i ++ (e2 i ++ (nil x3 ∙ e3) i)), are.1)),
+          (let are = row_lines count x1 ls row in ((λ i. are.0 i ++ (e2 i ++ (append-nil x3 ∙ e3) i)), are.1)),
     )
 
 sound_count : (ts : List ℕ) → SoundAt (λ front n. (front ≡ codes "book " ++ (decimal n ++ (newline ∷ []))) × (n < 2 ^ 32)) ts (count_at ts)
@@ -225,7 +221,7 @@ sound_count ts =
     sound_seq (Bytes (codes "book ")) _ ts (expect (codes "book ") ts) _ (sound_expect (codes "book ") ts) λ u r.
     sound_seq (IsNumber (2 ^ 32)) _ r (number_at (2 ^ 32) r) _ (sound_number (2 ^ 32) (omega arith) r) λ n r.
     sound_seq (Bytes (newline ∷ [])) _ r (expect (newline ∷ []) r) _ (sound_expect (newline ∷ []) r) λ u r.
-    ([], refl, λ x3 e3 x2 e2 x1 e1. ((λ i. e1 i ++ (e2.0 i ++ (nil x3 ∙ e3) i)), e2.1))
+    ([], refl, λ x3 e3 x2 e2 x1 e1. ((λ i. e1 i ++ (e2.0 i ++ (append-nil x3 ∙ e3) i)), e2.1))
 
 abbrev pub ReadsBook : List ℕ → Book → Type 0
 ReadsBook front book = (front ≡ book_text book) × IsBook book
@@ -295,7 +291,7 @@ complete_rows count small (l ∷ ls) more are next (suc n) few =
     let some : 0 < length (line_text l) = omega arith in
     rw (first, complete_rows count small ls more are.1 next n (omega (arith, few, size, some))) refl
 
-complete_several : (count : ℕ) → count ≤ 2 ^ 64 → (ls : List Line) (more : List ℕ) → AreLines count ls → begins 109 more ≡ false → several 109 (line_at count) (lines_text ls ++ more) ≡ Ok (ls, more)
+pub complete_several : (count : ℕ) → count ≤ 2 ^ 64 → (ls : List Line) (more : List ℕ) → AreLines count ls → begins 109 more ≡ false → several 109 (line_at count) (lines_text ls ++ more) ≡ Ok (ls, more)
 unfolding several
 complete_several count small ls more are next = complete_rows count small ls more are next (length (lines_text ls ++ more)) (omega arith)
 

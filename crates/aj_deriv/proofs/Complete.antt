@@ -1,5 +1,6 @@
 -- What is written is read again.
 use Rattle.std.proofs.Common.{◌≡◌, ℕ, zero, suc, ◌+◌, ◌==◌, ◌<◌, ◌≤◌, ◌^◌, Bool, true, false, not, List, [], ◌∷◌, ◌++◌, length, length-append, drop, nat_lt, decimal, codes, cond, get_or, if◌then◌else◌, Ok, refl, sym, ◌∙◌, ap, arith, append_assoc}
+use Rattle.std.proofs.lemmas.Bool.{and_parts, lt-ltb, ltb-true}
 use Rattle.std.proofs.lemmas.Fmt.{digits_decimal, digits_value-decimal, decimal_nonempty, first_decimal, decimal_digit}
 use Rattle.std.proofs.lemmas.List.Sums.{take_while-cons}
 use Rattle.std.proofs.lemmas.Bool.Decides.{nat_tests}
@@ -19,7 +20,7 @@ use Rattle.aj_deriv.specs.Books.{Line, IsLine, IsPath, HasPaths, tests_high, IsT
 use Rattle.aj_deriv.specs.Texts.{newline, node_text, nodes_text, line_text}
 use Rattle.aj_deriv.specs.Combine.{Res, begins, at_most, several}
 use Rattle.aj_deriv.specs.Reading.{number_at, number_digits, is_empty, fields_at, path_at, leaf_at, tree_at, canonical_at, word_at_front, premise_with, node_at, line_at}
-use Rattle.aj_deriv.proofs.Digits.{numerals, number_with, number_with-is, is_less, less, and_both}
+use Rattle.aj_deriv.proofs.Digits.{numerals, number_with, number_with-is}
 use Rattle.aj_deriv.proofs.SoundTrees.{test_text}
 
 -- no digit stands first
@@ -42,7 +43,7 @@ run_stops (byte ∷ more) e = take_while-cons is_ascii_digit byte more ∙ no_ru
 run_all : (ds more : List ℕ) → list_all is_ascii_digit ds ≡ true → stops more ≡ true → take_while is_ascii_digit (ds ++ more) ≡ ds
 run_all [] more all stop = run_stops more stop
 run_all (byte ∷ ds) more all stop =
-    let parts = and_both (is_ascii_digit byte) (list_all is_ascii_digit ds) all in
+    let parts = and_parts (is_ascii_digit byte) (list_all is_ascii_digit ds) all in
     take_while-cons is_ascii_digit byte (ds ++ more) ∙ run_cons is_ascii_digit (is_ascii_digit byte) byte ds more refl parts.0 (run_all ds more parts.1 stop)
 
 digits_if : (b : Bool) (byte : ℕ) (ds run : List ℕ) → (byte == 48) ≡ b → (byte ≡ 48 → ds ≡ []) → run ≡ byte ∷ ds → (if b then byte ∷ [] else run) ≡ byte ∷ ds
@@ -77,7 +78,7 @@ complete_number end n more below small stop =
     let fits : n < 2 ^ 64 = omega (arith, below, small) in
     let first : number_digits (decimal n ++ more) ≡ decimal n = digits_front (decimal n) more (decimal_nonempty n fits) (lead n fits) (digits_decimal numerals n fits) stop in
     number_with-is end (decimal n ++ more) ∙ ap (λ ds. number_with end ds (decimal n ++ more)) first
-    ∙ number_if end n (decimal n) (decimal n ++ more) (some (decimal n) (decimal_nonempty n fits)) (is_less n end below) (digits_value-decimal numerals n fits)
+    ∙ number_if end n (decimal n) (decimal n ++ more) (some (decimal n) (decimal_nonempty n fits)) (lt-ltb n end below) (digits_value-decimal numerals n fits)
     ∙ ap (λ z. Ok (n, z)) (drop_front (decimal n) more)
   where
     some : (ds : List ℕ) → 0 < length ds → is_empty ds ≡ false
@@ -91,10 +92,10 @@ complete_fields [] more fit stop next zero few = refl
 complete_fields [] more fit stop next (suc most) few = rw next refl
 complete_fields (f ∷ fs) more fit stop next zero few = absurd (omega (arith, few))
 complete_fields (f ∷ fs) more fit stop next (suc most) few =
-    let parts = and_both (nat_lt f (2 ^ 32)) (list_all (λ f. nat_lt f (2 ^ 32)) fs) fit in
+    let parts = and_parts (nat_lt f (2 ^ 32)) (list_all (λ f. nat_lt f (2 ^ 32)) fs) fit in
     let group : (decimal f ++ dotted fs) ++ more ≡ decimal f ++ (dotted fs ++ more) = append_assoc (decimal f) (dotted fs) more in
     let number : number_at (2 ^ 32) ((decimal f ++ dotted fs) ++ more) ≡ Ok (f, dotted fs ++ more) =
-    ap (number_at (2 ^ 32)) group ∙ complete_number (2 ^ 32) f (dotted fs ++ more) (less f (2 ^ 32) parts.0) (omega arith) (stopping fs) in
+    ap (number_at (2 ^ 32)) group ∙ complete_number (2 ^ 32) f (dotted fs ++ more) (ltb-true f (2 ^ 32) parts.0) (omega arith) (stopping fs) in
     rw (number, complete_fields fs more parts.1 stop next most (omega (arith, few))) refl
   where
     stopping : (fs : List ℕ) → stops (dotted fs ++ more) ≡ true
@@ -113,7 +114,7 @@ complete_path p more is =
     stopping [] = refl
     stopping (f ∷ fs) = refl
 
-complete_leaf : (x : Basic) (more : List ℕ) → leaf_at (name_of x ++ more) ≡ Ok (x, more)
+pub complete_leaf : (x : Basic) (more : List ℕ) → leaf_at (name_of x ++ more) ≡ Ok (x, more)
 unfolding leaf_at
 complete_leaf b.Const more = refl
 complete_leaf b.Mover more = refl

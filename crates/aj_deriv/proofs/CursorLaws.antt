@@ -1,5 +1,5 @@
 -- What the parts of an open book stand for.
-use Rattle.std.proofs.Common.{◌≡◌, ℕ, ◌-◌, ◌<◌, ◌≤◌, ◌^◌, true, false, List, [], ◌∷◌, ◌++◌, length, codes, decimal, Some, None, Ok, Err, refl, sym, ◌∙◌, ap, arith, append_assoc}
+use Rattle.std.proofs.Common.{◌≡◌, ℕ, ◌-◌, ◌<◌, ◌≤◌, ◌^◌, true, false, List, [], ◌∷◌, ◌++◌, length, codes, decimal, Some, None, Ok, Err, refl, sym, ◌∙◌, ap, arith, append_assoc, append-nil}
 use Rattle.aj_deriv.specs.declared.stop.Kind.{Kind}
 use Rattle.aj_deriv.specs.declared.stop.BookFault.{BookFault}
 use Rattle.aj_deriv.specs.declared.word.Word.{Word}
@@ -20,10 +20,6 @@ use Rattle.aj_deriv.proofs.SoundTrees.{ReadsTableLine, sound_table_line}
 use Rattle.aj_deriv.proofs.Complete.{stops, complete_number, complete_word, complete_node, node_before, line_before}
 use Rattle.aj_deriv.proofs.PassLemmas.{pass_node-is, front_taken}
 use Rattle.aj_deriv.proofs.BookLaws.{book_found, found_text, book_fault, complete_book, after_ok, ok_value, sound_ok, row_trees, sound_lines, ReadsLines}
-
-nil : (zs : List ℕ) → zs ++ [] ≡ zs
-nil [] = refl
-nil (z ∷ zs) = ap (λ t. z ∷ t) (nil zs)
 
 -- opening
 
@@ -71,10 +67,10 @@ opened bytes n table lines r e =
     record {
       book = f.book;
       read = f.read ∙ ap (λ z. Ok (f.book, z)) ended;
-      text = record { book_is = t.1; text_is = t.0 ∙ ap (λ z. book_text f.book ++ z) ended ∙ nil (book_text f.book) };
+      text = record { book_is = t.1; text_is = t.0 ∙ ap (λ z. book_text f.book ++ z) ended ∙ append-nil (book_text f.book) };
       trees = t.2;
       table_is = trees.1 ∙ ap (λ z. z ++ lines) row.0;
-      lines_are = l.1 ∙ ap (λ z. l.0 ++ z) ended ∙ nil l.0 ∙ l.2.0;
+      lines_are = l.1 ∙ ap (λ z. l.0 ++ z) ended ∙ append-nil l.0 ∙ l.2.0;
     }
 
 -- one text has one book
@@ -119,7 +115,7 @@ premise_read d ds nums high =
 
 pub premises_of_view : (view : NodeView) (rest : List ℕ) (d : Node) → rest ≡ behind_head (head_at view.bytes.now) → IsViewOf view d → rest ≡ nodes_text (premises_of d) ++ codes ")"
 premises_of_view view rest (node x n ds) e is =
-    e ∙ ap (λ z. behind_head (head_at z)) (is.bytes ∙ sym (nil (node_text (node x n ds)))) ∙ ap behind_head (head_read x n ds [] is.numbered.0)
+    e ∙ ap (λ z. behind_head (head_at z)) (is.bytes ∙ sym (append-nil (node_text (node x n ds)))) ∙ ap behind_head (head_read x n ds [] is.numbered.0)
 
 pub premises_numbered : (view : NodeView) (d : Node) → IsViewOf view d → AreNumbered (2 ^ 32) (premises_of d) × (nodes_high (premises_of d) ≤ most_height)
 premises_numbered view (node x n ds) is = (is.numbered.1, omega (arith, is.high))

@@ -1,13 +1,14 @@
 -- Digits at the front of a text, and the number that they write.
-use Rattle.std.proofs.Common.{◌≡◌, ℕ, ◌-◌, ◌^◌, ◌<◌, ◌≤◌, ◌&&◌, ◌||◌, Bool, true, false, not, nat_lt, List, [], ◌∷◌, length, take, drop, Some, None, if◌then◌else◌, cond, ◌==◌, Result, Ok, Err, refl, sym, ◌∙◌, ap, arith}
-use Rattle.std.proofs.lemmas.Str.Parse.{numerals_by_value, tells_all_ascii_digits, IsNumeralModel}
+use Rattle.std.proofs.Common.{◌≡◌, ℕ, zero, suc, ◌+◌, ◌-◌, ◌*◌, ◌^◌, ◌<◌, ◌≤◌, ◌&&◌, ◌||◌, Bool, true, false, not, nat_lt, List, [], ◌∷◌, length, take, drop, Some, None, if◌then◌else◌, cond, ◌==◌, get_or, Ok, Err, refl, sym, ◌∙◌, ap, arith}
+use Rattle.std.proofs.lemmas.Bool.{and_parts, and_from, and_right, false_from_ne_true, ltb-true, lt-ltb}
+use Rattle.std.proofs.lemmas.Int.Digits.{digits_value_more}
+use Rattle.std.proofs.lemmas.Str.Parse.{numerals_by_value, tells_all_ascii_digits, IsNumeralModel, digits_value-take-le}
 use Rattle.std.proofs.lemmas.List.Sums.{take_while-cons}
 use Rattle.std.proofs.lemmas.List.Folds.{length-prefix_len}
 use Rattle.std.proofs.lemmas.Bool.Decides.{nat_tests}
 use Rattle.std.proofs.lemmas.Grind.{common_steps}
-use Rattle.std.specs.Char.{is_ascii_digit}
+use Rattle.std.specs.Char.{is_ascii_digit, digit_value}
 use Rattle.std.specs.List.{take_while}
-use Rattle.std.specs.Result.{OkIff, result_ok}
 use Rattle.std.specs.Str.{all_ascii_digits}
 use Rattle.std.specs.Str.Parse.{digits_value}
 use Rattle.aj_deriv.specs.declared.stop.Kind.TheVariants.{Form}
@@ -40,32 +41,31 @@ digits_are (byte ∷ text) = digits_cases (byte == 48) byte (take_while is_ascii
 pub take-run : (text : List ℕ) (n : ℕ) → n ≡ length (take_while is_ascii_digit text) → take n text ≡ take_while is_ascii_digit text
 take-run text n e = ap (λ k. take k text) (e ∙ length-prefix_len is_ascii_digit text)
 
-pub and_both : (a b : Bool) → (a && b) ≡ true → (a ≡ true) × (b ≡ true)
-and_both true b e = (refl, e)
-and_both false b e = absurd (cc)
+-- a digit in the middle
+pub digit_at : (digits : List ℕ) (i : ℕ) → all_ascii_digits digits ≡ true → i < length digits → is_ascii_digit (get_or digits i 0) ≡ true
+digit_at [] i are less = absurd (omega (arith, less))
+digit_at (d ∷ digits) zero are less = (and_parts (is_ascii_digit d) (all_ascii_digits digits) are).0
+digit_at (d ∷ digits) (suc i) are less = digit_at digits i (and_parts (is_ascii_digit d) (all_ascii_digits digits) are).1 (omega (arith, less))
 
-pub and_true : (a b : Bool) → a ≡ true → b ≡ true → (a && b) ≡ true
-and_true a b p q = rw (p, q) refl
+pub from_48 : (d : ℕ) → is_ascii_digit d ≡ true → 48 ≤ d
+from_48 d e = grind (arith, nat_tests)
 
-pub false_unless : (b : Bool) → (b ≡ true → ⊥) → b ≡ false
-false_unless true h = absurd (h refl)
-false_unless false h = refl
+worth : (d : ℕ) → is_ascii_digit d ≡ true → digit_value d ≡ d - 48
+worth d e = grind (arith, nat_tests)
 
-pub less : (a b : ℕ) → nat_lt a b ≡ true → a < b
-less a b e = grind (arith, nat_tests)
+-- the number of one digit more
+pub next_number : (digits : List ℕ) (i n : ℕ) → all_ascii_digits digits ≡ true → i < length digits → n ≡ digits_value 10 (take i digits)
+    → digits_value 10 (take (i + 1) digits) ≡ n * 10 + (get_or digits i 0 - 48)
+next_number digits i n are less is = rw (digits_value_more 10 digits i less, worth (get_or digits i 0) (digit_at digits i are less), is) refl
 
-pub is_less : (a b : ℕ) → a < b → nat_lt a b ≡ true
-is_less a b e = grind (arith, nat_tests)
-
--- what `parse` found
-pub parsed : {E : Type 0} (r : Result ℕ E) (length value : ℕ) → OkIff r ((0 < length) × (value < 2 ^ 64)) value →
-    result_ok r ≡ (if nat_lt 0 length && nat_lt value (2 ^ 64) then Some value else None)
-parsed (Ok x) length value h =
-    let test : (nat_lt 0 length && nat_lt value (2 ^ 64)) ≡ true = and_true (nat_lt 0 length) (nat_lt value (2 ^ 64)) (is_less 0 length h.0.0) (is_less value (2 ^ 64) h.0.1) in
-    rw (test, h.1) refl
-parsed (Err e) length value h =
-    let test : (nat_lt 0 length && nat_lt value (2 ^ 64)) ≡ false = false_unless (nat_lt 0 length && nat_lt value (2 ^ 64)) (λ e.
-    let parts = and_both (nat_lt 0 length) (nat_lt value (2 ^ 64)) e in h (less 0 length parts.0, less value (2 ^ 64) parts.1)) in
+-- digits whose front writes a number that doesn't fit
+pub no_number : (digits : List ℕ) (i : ℕ) → (digits_value 10 (take i digits) < 2 ^ 64 → ⊥)
+    → (if nat_lt 0 (length digits) && nat_lt (digits_value 10 digits) (2 ^ 64) then Some (digits_value 10 digits) else None) ≡ None
+no_number digits i large =
+    let most = digits_value-take-le 10 digits i (omega arith) in
+    let test : (nat_lt 0 (length digits) && nat_lt (digits_value 10 digits) (2 ^ 64)) ≡ false =
+    and_right (nat_lt 0 (length digits)) (nat_lt (digits_value 10 digits) (2 ^ 64))
+    (false_from_ne_true (nat_lt (digits_value 10 digits) (2 ^ 64)) (λ e. let small = ltb-true (digits_value 10 digits) (2 ^ 64) e in large (omega (arith, most, small)))) in
     rw test refl
 
 -- the tests of a number, by what the digits are
@@ -94,8 +94,8 @@ read_with : (end : ℕ) (ds ts : List ℕ) (n : ℕ) → Some n ≡ (if nat_lt 0
 unfolding number_with
 read_with end ds ts n found small =
     let w = some_if (nat_lt 0 (length ds) && nat_lt (digits_value 10 ds) (2 ^ 64)) n (digits_value 10 ds) found in
-    let some : is_empty ds ≡ false = not_empty ds (and_both (nat_lt 0 (length ds)) (nat_lt (digits_value 10 ds) (2 ^ 64)) w.0).0 in
-    let fits : nat_lt (digits_value 10 ds) end ≡ true = is_less (digits_value 10 ds) end (omega (arith, small, w.1)) in
+    let some : is_empty ds ≡ false = not_empty ds (and_parts (nat_lt 0 (length ds)) (nat_lt (digits_value 10 ds) (2 ^ 64)) w.0).0 in
+    let fits : nat_lt (digits_value 10 ds) end ≡ true = lt-ltb (digits_value 10 ds) end (omega (arith, small, w.1)) in
     rw (some, fits) (ap (λ m. Ok (m, drop (length ds) ts)) (sym w.1))
 
 large_with : (end : ℕ) (ds ts : List ℕ) (n : ℕ) → Some n ≡ (if nat_lt 0 (length ds) && nat_lt (digits_value 10 ds) (2 ^ 64) then Some (digits_value 10 ds) else None) →
@@ -103,8 +103,8 @@ large_with : (end : ℕ) (ds ts : List ℕ) (n : ℕ) → Some n ≡ (if nat_lt 
 unfolding number_with
 large_with end ds ts n found large =
     let w = some_if (nat_lt 0 (length ds) && nat_lt (digits_value 10 ds) (2 ^ 64)) n (digits_value 10 ds) found in
-    let some : is_empty ds ≡ false = not_empty ds (and_both (nat_lt 0 (length ds)) (nat_lt (digits_value 10 ds) (2 ^ 64)) w.0).0 in
-    let past : nat_lt (digits_value 10 ds) end ≡ false = false_unless (nat_lt (digits_value 10 ds) end) (λ e. absurd (omega (arith, less (digits_value 10 ds) end e, w.1, large))) in
+    let some : is_empty ds ≡ false = not_empty ds (and_parts (nat_lt 0 (length ds)) (nat_lt (digits_value 10 ds) (2 ^ 64)) w.0).0 in
+    let past : nat_lt (digits_value 10 ds) end ≡ false = false_from_ne_true (nat_lt (digits_value 10 ds) end) (λ e. absurd (omega (arith, ltb-true (digits_value 10 ds) end e, w.1, large))) in
     rw (some, past) refl
 
 none_with : (end : ℕ) (ds ts : List ℕ) → None ≡ (if nat_lt 0 (length ds) && nat_lt (digits_value 10 ds) (2 ^ 64) then Some (digits_value 10 ds) else None) →
@@ -113,10 +113,10 @@ unfolding number_with
 none_with end [] ts none small = refl
 none_with end (d ∷ ds) ts none small =
     let test = none_if (nat_lt 0 (length (d ∷ ds)) && nat_lt (digits_value 10 (d ∷ ds)) (2 ^ 64)) (digits_value 10 (d ∷ ds)) none in
-    let past : nat_lt (digits_value 10 (d ∷ ds)) end ≡ false = false_unless (nat_lt (digits_value 10 (d ∷ ds)) end) (λ e.
-    let below = less (digits_value 10 (d ∷ ds)) end e in
+    let past : nat_lt (digits_value 10 (d ∷ ds)) end ≡ false = false_from_ne_true (nat_lt (digits_value 10 (d ∷ ds)) end) (λ e.
+    let below = ltb-true (digits_value 10 (d ∷ ds)) end e in
     let both : (nat_lt 0 (length (d ∷ ds)) && nat_lt (digits_value 10 (d ∷ ds)) (2 ^ 64)) ≡ true =
-    and_true (nat_lt 0 (length (d ∷ ds))) (nat_lt (digits_value 10 (d ∷ ds)) (2 ^ 64)) (is_less 0 (length (d ∷ ds)) (omega arith)) (is_less (digits_value 10 (d ∷ ds)) (2 ^ 64) (omega (arith, below, small))) in
+    and_from (nat_lt 0 (length (d ∷ ds))) (nat_lt (digits_value 10 (d ∷ ds)) (2 ^ 64)) (lt-ltb 0 (length (d ∷ ds)) (omega arith)) (lt-ltb (digits_value 10 (d ∷ ds)) (2 ^ 64) (omega (arith, below, small))) in
     let no : false ≡ true = sym test ∙ both in absurd (cc)) in
     rw past refl
 

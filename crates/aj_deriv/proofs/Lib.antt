@@ -10,4 +10,5 @@ mod PassBooks
 pub mod BookLaws
 pub mod CursorLaws
 pub mod TableLaws
+mod Built
 pub mod MemoryLemmas

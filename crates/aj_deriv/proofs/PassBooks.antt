@@ -47,10 +47,14 @@ line_takes (Ok y) count ts line r s e =
     rest y e = ap (λ z. z.1) (ok_same y (line, r) e)
 line_takes (Err e) count ts line r s h = absurd (cc)
 
+-- a method line takes a byte
+pub line_shorter : (count : ℕ) → count ≤ 2 ^ 64 → (ts : List ℕ) (line : Line) (r : List ℕ) → line_at count ts ≡ Ok (line, r) → length r < length ts
+line_shorter count small ts line r e = line_takes (line_at count ts) count ts line r (sound_line count small ts) e
+
 line_passes : (count : ℕ) → count ≤ 2 ^ 32 → (ts : List ℕ) (u : Unit {0}) (r : List ℕ) → pass_line count ts ≡ Ok (u, r) → length r < length ts
 line_passes count small ts u r e =
     let read = unseen (λ d. tt {0}) (line_at count ts) u r (sym (pass_line-is count ts) ∙ e) in
-    line_takes (line_at count ts) count ts read.0 r (sound_line count (omega (arith, small)) ts) read.1
+    line_shorter count (omega (arith, small)) ts read.0 r read.1
 
 pub lines_more : (count : ℕ) (ts : List ℕ) → count ≤ 2 ^ 32 → begins 109 ts ≡ true →
     pass_several 109 (pass_line count) ts ≡ (pass_line count ts >>= λ u ts. pass_several 109 (pass_line count) ts)

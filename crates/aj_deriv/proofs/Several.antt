@@ -1,7 +1,7 @@
 -- Items while a byte stands first: one more, or the end.
 use Rattle.std.proofs.Common.{◌≡◌, ℕ, zero, suc, ◌<◌, ◌≤◌, Bool, true, false, List, [], ◌∷◌, length, if◌then◌else◌, Ok, Err, refl, ◌∙◌, ap, arith}
 use Rattle.aj_deriv.specs.declared.stop.Kind.{Kind}
-use Rattle.aj_deriv.specs.Combine.{Res, ◌>>=◌, seen, unread, begins, at_most, several}
+use Rattle.aj_deriv.specs.Combine.{Res, ◌>>=◌, seen, begins, at_most, several}
 
 -- what was read, seen by a function, was read
 pub unseen : {A B : Type 0} (f : A → B) (p : Res A) (v : B) (r : List ℕ) → seen f p ≡ Ok (v, r) → (a : A) × (p ≡ Ok (a, r)) × (f a ≡ v)
@@ -64,12 +64,3 @@ several_more byte item takes (b ∷ ts) x r e is =
     let shorter = takes (b ∷ ts) x r is in
     let step : at_most (suc (length ts)) byte item (b ∷ ts) ≡ (at_most (length ts) byte item r >>= λ xs ts. Ok (x ∷ xs, ts)) = rw (e, is) refl in
     step ∙ ap (λ p. p >>= λ xs ts. Ok (x ∷ xs, ts)) (fuel byte item takes (length ts) (length r) r (omega (arith, shorter)) (omega arith))
-
-skipped : {A : Type 0} (x : A) (p : Res (List A)) → unread (p >>= λ xs ts. Ok (x ∷ xs, ts)) ≡ unread p
-skipped x (Ok y) = refl
-skipped x (Err e) = refl
-
--- where several items end, one item further on
-pub several_skip : {A : Type 0} (byte : ℕ) (item : List ℕ → Res A) → Takes item → (ts : List ℕ) (x : A) (r : List ℕ) → begins byte ts ≡ true → item ts ≡ Ok (x, r) →
-    unread (several byte item ts) ≡ unread (several byte item r)
-several_skip byte item takes ts x r e is = ap unread (several_more byte item takes ts x r e is) ∙ skipped x (several byte item r)

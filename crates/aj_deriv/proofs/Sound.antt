@@ -1,16 +1,16 @@
 -- What is read is a front of the text, and spells what was read.
-use Rattle.std.proofs.Common.{◌≡◌, ℕ, zero, suc, ◌==◌, ◌||◌, ◌<◌, ◌≤◌, ◌^◌, Bool, true, false, not, List, [], ◌∷◌, ◌++◌, length, drop, take, nat_le, nat_lt, decimal, get_or, if◌then◌else◌, Ok, Err, refl, sym, ◌∙◌, ap, subst, arith, append_assoc}
+use Rattle.std.proofs.Common.{◌≡◌, ℕ, zero, suc, ◌==◌, ◌||◌, ◌<◌, ◌≤◌, ◌^◌, Bool, true, false, not, List, [], ◌∷◌, ◌++◌, length, drop, take, nat_le, nat_lt, decimal, get_or, if◌then◌else◌, Ok, Err, refl, sym, ◌∙◌, ap, subst, arith, append_assoc, append-nil}
+use Rattle.std.proofs.lemmas.Bool.{ltb-true}
 use Rattle.std.proofs.lemmas.Fmt.{decimal-digits_value}
 use Rattle.std.proofs.lemmas.List.{take-append-drop}
 use Rattle.std.proofs.lemmas.Bool.Decides.{nat_tests}
 use Rattle.std.specs.Char.{is_ascii_digit}
 use Rattle.std.specs.List.{take_while}
 use Rattle.std.specs.Str.Parse.{digits_value}
-use Rattle.aj_deriv.specs.declared.stop.Kind.{Kind}
 use Rattle.aj_deriv.specs.declared.stop.Kind.TheVariants.{Form}
 use Rattle.aj_deriv.specs.Combine.{Res, ◌>>=◌, begins, expect, further, one_of, at_most, several, exactly}
 use Rattle.aj_deriv.specs.Reading.{number_at, number_digits, is_empty}
-use Rattle.aj_deriv.proofs.Digits.{numerals, digits_are, take-run, less}
+use Rattle.aj_deriv.proofs.Digits.{numerals, digits_are, take-run}
 
 -- what was read has a front of the text that L relates to it; a fault stands in the text
 abbrev pub SoundAt : {A : Type 0} → (List ℕ → A → Type 0) → List ℕ → Res A → Type 0
@@ -32,9 +32,6 @@ sound_seq Le L ts (Err e) f s rest = s
 
 pub sound_done : {A : Type 0} (L : List ℕ → A → Type 0) (a : A) (ts : List ℕ) → L [] a → SoundAt L ts (Ok (a, ts))
 sound_done L a ts l = ([], refl, l)
-
-pub sound_stop : {A : Type 0} (L : List ℕ → A → Type 0) (k : Kind) (ts : List ℕ) → SoundAt L ts (Err (k, ts))
-sound_stop L k ts = ([], refl)
 
 pub sound_if : {A : Type 0} (L : List ℕ → A → Type 0) (ts : List ℕ) (b : Bool) (p q : Res A) → (b ≡ true → SoundAt L ts p) → (b ≡ false → SoundAt L ts q) → SoundAt L ts (if b then p else q)
 sound_if L ts true p q h k = h refl
@@ -74,12 +71,8 @@ sound_one_of spell [] ts = ([], refl)
 sound_one_of spell (x ∷ xs) ts =
     sound_further (Spells spell) ts (expect (spell x) ts >>= λ u ts. Ok (x, ts)) (one_of spell xs ts)
     (sound_seq (Bytes (spell x)) (Spells spell) ts (expect (spell x) ts) (λ u ts. Ok (x, ts)) (sound_expect (spell x) ts)
-    (λ u r. sound_done (λ ys b. (zs : List ℕ) → Bytes (spell x) zs u → Spells spell (zs ++ ys) b) x r (λ zs e. nil zs ∙ e)))
+    (λ u r. sound_done (λ ys b. (zs : List ℕ) → Bytes (spell x) zs u → Spells spell (zs ++ ys) b) x r (λ zs e. append-nil zs ∙ e)))
     (sound_one_of spell xs ts)
-  where
-    nil : (zs : List ℕ) → zs ++ [] ≡ zs
-    nil [] = refl
-    nil (z ∷ zs) = ap (λ t. z ∷ t) (nil zs)
 
 -- several items, one after another
 pub data Row {A : Type 0} (L : List ℕ → A → Type 0) : List ℕ → List A → Type 0 where
@@ -94,12 +87,8 @@ sound_at_most L byte item law (suc n) ts =
     (λ h. sound_seq L (Row L) ts (item ts) (λ x ts. at_most n byte item ts >>= λ xs ts. Ok (x ∷ xs, ts)) (law ts)
     (λ x r. sound_seq (Row L) (λ ys b. (zs : List ℕ) → L zs x → Row L (zs ++ ys) b) r (at_most n byte item r) (λ xs ts. Ok (x ∷ xs, ts)) (sound_at_most L byte item law n r)
     (λ xs r. sound_done (λ ys b. (us : List ℕ) → Row L us xs → (zs : List ℕ) → L zs x → Row L (zs ++ (us ++ ys)) b) (x ∷ xs) r
-    (λ us m zs l. subst (λ z. Row L (zs ++ z) (x ∷ xs)) (sym (nil us)) (row_more zs us x xs l m)))))
+    (λ us m zs l. subst (λ z. Row L (zs ++ z) (x ∷ xs)) (sym (append-nil us)) (row_more zs us x xs l m)))))
     (λ h. ([], refl, row_end))
-  where
-    nil : (zs : List ℕ) → zs ++ [] ≡ zs
-    nil [] = refl
-    nil (z ∷ zs) = ap (λ t. z ∷ t) (nil zs)
 
 pub sound_several : {A : Type 0} (L : List ℕ → A → Type 0) (byte : ℕ) (item : List ℕ → Res A) → ((ts : List ℕ) → SoundAt L ts (item ts)) →
     (ts : List ℕ) → SoundAt (Row L) ts (several byte item ts)
@@ -117,11 +106,7 @@ sound_exactly L item law (suc n) ts =
     sound_seq L (RowOf L (suc n)) ts (item ts) (λ x ts. exactly n item ts >>= λ xs ts. Ok (x ∷ xs, ts)) (law ts)
     (λ x r. sound_seq (RowOf L n) (λ ys b. (zs : List ℕ) → L zs x → RowOf L (suc n) (zs ++ ys) b) r (exactly n item r) (λ xs ts. Ok (x ∷ xs, ts)) (sound_exactly L item law n r)
     (λ xs r. sound_done (λ ys b. (us : List ℕ) → RowOf L n us xs → (zs : List ℕ) → L zs x → RowOf L (suc n) (zs ++ (us ++ ys)) b) (x ∷ xs) r
-    (λ us m zs l. (subst (λ z. Row L (zs ++ z) (x ∷ xs)) (sym (nil us)) (row_more zs us x xs l m.0), omega (arith, m.1)))))
-  where
-    nil : (zs : List ℕ) → zs ++ [] ≡ zs
-    nil [] = refl
-    nil (z ∷ zs) = ap (λ t. z ∷ t) (nil zs)
+    (λ us m zs l. (subst (λ z. Row L (zs ++ z) (x ∷ xs)) (sym (append-nil us)) (row_more zs us x xs l m.0), omega (arith, m.1)))))
 
 -- a number in its range
 abbrev pub IsNumber : ℕ → List ℕ → ℕ → Type 0
@@ -155,7 +140,7 @@ number_step end ts true fits e f small = ([], refl)
 number_step end ts false false e f small = ([], refl)
 number_step end ts false true e f small =
     let ds = number_digits ts in
-    let below = less (digits_value 10 ds) end f in (
+    let below = ltb-true (digits_value 10 ds) end f in (
       ds,
       sym (take-append-drop (length ds) ts) ∙ ap (λ z. z ++ drop (length ds) ts) (digits-first ts),
       (sym (decimal-digits_value numerals ds (digits_are ts) (some ds e) (one-digit ts) (omega (arith, below, small))), below),

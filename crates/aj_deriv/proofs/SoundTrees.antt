@@ -1,5 +1,6 @@
 -- Paths, trees, nodes and lines are read as they are written.
-use Rattle.std.proofs.Common.{◌≡◌, ℕ, zero, suc, ◌≤◌, ◌^◌, true, false, List, [], ◌∷◌, ◌++◌, length, drop, nat_lt, codes, if◌then◌else◌, Ok, Err, refl, sym, ◌∙◌, ap, subst, arith, append_assoc}
+use Rattle.std.proofs.Common.{◌≡◌, ℕ, zero, suc, ◌≤◌, ◌^◌, true, false, List, [], ◌∷◌, ◌++◌, length, drop, nat_lt, codes, if◌then◌else◌, Ok, Err, refl, sym, ◌∙◌, ap, subst, arith, append_assoc, append-nil}
+use Rattle.std.proofs.lemmas.Bool.{and_from, lt-ltb}
 use Rattle.std.proofs.lemmas.Bool.Decides.{nat_tests}
 use Rattle.std.specs.List.{list_all}
 use Rattle.aj_paths.specs.Paths.{PathData}
@@ -12,12 +13,7 @@ use Rattle.aj_deriv.specs.Books.{Line, IsLine, IsPath, HasPaths, tests_high, IsT
 use Rattle.aj_deriv.specs.Texts.{newline, node_text, nodes_text, line_text}
 use Rattle.aj_deriv.specs.Combine.{Res, ◌>>=◌, begins, expect, several}
 use Rattle.aj_deriv.specs.Reading.{number_at, fields_at, path_at, leaf_at, basics, test_with, tree_at, canonical_at, table_line, word_at_front, premise_with, node_at, line_at}
-use Rattle.aj_deriv.proofs.Digits.{is_less, and_true}
 use Rattle.aj_deriv.proofs.Sound.{SoundAt, sound_seq, sound_done, sound_if, sound_weaker, Bytes, sound_expect, Spells, sound_one_of, Row, row_end, row_more, sound_several, IsNumber, sound_number}
-
-nil : (zs : List ℕ) → zs ++ [] ≡ zs
-nil [] = refl
-nil (z ∷ zs) = ap (λ t. z ∷ t) (nil zs)
 
 -- fields with their points
 record AreFields (most : ℕ) (front : List ℕ) (fields : List ℕ) : Type 0 where
@@ -35,7 +31,7 @@ point (b ∷ ts) e = ap (λ z. z ∷ ts) (same b e)
 more_fields : (most : ℕ) (xs ys : List ℕ) (f : ℕ) (fs : List ℕ) → IsNumber (2 ^ 32) xs f → AreFields most ys fs → AreFields (suc most) (46 ∷ (xs ++ ys)) (f ∷ fs)
 more_fields most xs ys f fs n more = record {
   spelled = (λ i. 46 ∷ (n.0 i ++ more.spelled i)) ∙ refl;
-  fit = and_true (nat_lt f (2 ^ 32)) (list_all (λ f. nat_lt f (2 ^ 32)) fs) (is_less f (2 ^ 32) n.1) more.fit;
+  fit = and_from (nat_lt f (2 ^ 32)) (list_all (λ f. nat_lt f (2 ^ 32)) fs) (lt-ltb f (2 ^ 32) n.1) more.fit;
   few = omega (arith, more.few);
 }
 
@@ -51,7 +47,7 @@ sound_fields (suc most) ts =
     (sound_seq (IsNumber (2 ^ 32)) (λ ys fs. AreFields (suc most) (46 ∷ ys) fs) (drop 1 ts) (number_at (2 ^ 32) (drop 1 ts)) (λ f ts. fields_at most ts >>= λ fs ts. Ok (f ∷ fs, ts)) (sound_number (2 ^ 32) (omega arith) (drop 1 ts))
     (λ f r. sound_seq (AreFields most) (λ ys b. (xs : List ℕ) → IsNumber (2 ^ 32) xs f → AreFields (suc most) (46 ∷ (xs ++ ys)) b) r (fields_at most r) (λ fs ts. Ok (f ∷ fs, ts)) (sound_fields most r)
     (λ fs r. sound_done (λ zs b. (ys : List ℕ) → AreFields most ys fs → (xs : List ℕ) → IsNumber (2 ^ 32) xs f → AreFields (suc most) (46 ∷ (xs ++ (ys ++ zs))) b) (f ∷ fs) r
-    (λ ys m xs n. subst (λ z. AreFields (suc most) (46 ∷ (xs ++ z)) (f ∷ fs)) (sym (nil ys)) (more_fields most xs ys f fs n m))))))
+    (λ ys m xs n. subst (λ z. AreFields (suc most) (46 ∷ (xs ++ z)) (f ∷ fs)) (sym (append-nil ys)) (more_fields most xs ys f fs n m))))))
     (λ h. ([], refl, record { spelled = refl; fit = refl; few = omega arith }))
 
 -- a path that can be written
@@ -64,7 +60,7 @@ sound_path ts =
     sound_seq (IsNumber (2 ^ 16)) ReadsPath ts (number_at (2 ^ 16) ts) (λ root ts. fields_at 2 ts >>= λ fields ts. Ok (record { root = root; fields = fields }, ts)) (sound_number (2 ^ 16) (omega arith) ts)
     (λ root r. sound_seq (AreFields 2) (λ ys b. (xs : List ℕ) → IsNumber (2 ^ 16) xs root → ReadsPath (xs ++ ys) b) r (fields_at 2 r) (λ fields ts. Ok (record { root = root; fields = fields }, ts)) (sound_fields 2 r)
     (λ fields r. sound_done (λ zs b. (ys : List ℕ) → AreFields 2 ys fields → (xs : List ℕ) → IsNumber (2 ^ 16) xs root → ReadsPath (xs ++ (ys ++ zs)) b) (record { root = root; fields = fields }) r
-    (λ ys m xs n. ((λ i. n.0 i ++ (nil ys ∙ m.spelled) i), record { root = n.1; fields = m.fit; few = m.few }))))
+    (λ ys m xs n. ((λ i. n.0 i ++ (append-nil ys ∙ m.spelled) i), record { root = n.1; fields = m.fit; few = m.few }))))
 
 -- a tree with at most so many tests within each other
 abbrev pub ReadsTree : ℕ → List ℕ → Cond → Type 0
@@ -77,7 +73,7 @@ sound_leaf ts = sound_one_of name_of basics ts
 leaf_tree : (room : ℕ) (ts : List ℕ) → SoundAt (ReadsTree room) ts (leaf_at ts >>= λ b ts. Ok (LeafC b, ts))
 leaf_tree room ts =
     sound_seq (Spells name_of) (ReadsTree room) ts (leaf_at ts) (λ b ts. Ok (LeafC b, ts)) (sound_leaf ts)
-    (λ b r. sound_done (λ ys t. (xs : List ℕ) → Spells name_of xs b → ReadsTree room (xs ++ ys) t) (LeafC b) r (λ xs e. (nil xs ∙ e, tt, omega arith)))
+    (λ b r. sound_done (λ ys t. (xs : List ℕ) → Spells name_of xs b → ReadsTree room (xs ++ ys) t) (LeafC b) r (λ xs e. (append-nil xs ∙ e, tt, omega arith)))
 
 -- the text of a test, grouped as it is read
 pub test_text : (p : PathData) (a b : Cond) → text_of (TestC p a b) ≡ codes "(" ++ (path_text p ++ (codes " " ++ (text_of a ++ (codes " " ++ (text_of b ++ codes ")")))))
@@ -101,7 +97,7 @@ sound_test room inner law ts =
       [],
       refl,
       λ x7 e7 x6 e6 x5 e5 x4 e4 x3 e3 x2 e2 x1 e1. (
-        (λ i. e1 i ++ (e2.0 i ++ (e3 i ++ (e4.0 i ++ (e5 i ++ (e6.0 i ++ (nil x7 ∙ e7) i)))))) ∙ sym (test_text p a b),
+        (λ i. e1 i ++ (e2.0 i ++ (e3 i ++ (e4.0 i ++ (e5 i ++ (e6.0 i ++ (append-nil x7 ∙ e7) i)))))) ∙ sym (test_text p a b),
         (e2.1, e4.1, e6.1),
         omega (arith, e4.2, e6.2),
       ),
@@ -140,7 +136,7 @@ sound_table_line ts =
     sound_seq (Bytes (newline ∷ [])) _ r (expect (newline ∷ []) r) _ (sound_expect (newline ∷ []) r) λ u r. (
       [],
       refl,
-      λ x2 e2 x1 e1. ((λ i. e1.0 i ++ (nil x2 ∙ e2) i), e1.1),
+      λ x2 e2 x1 e1. ((λ i. e1.0 i ++ (append-nil x2 ∙ e2) i), e1.1),
     )
 
 -- a node with a number in the table and at most so many nodes within each other
@@ -186,7 +182,7 @@ sound_node count small (suc room) ts =
       refl,
       λ x5 e5 x4 e4 x3 e3 x2 e2 x1 e1.
           (let row = row_nodes count room x4 ds e4 in
-          ((λ i. e1 i ++ (e2 i ++ (e3.0 i ++ (row.spelled i ++ (nil x5 ∙ e5) i)))), (e3.1, row.numbered), omega (arith, row.high))),
+          ((λ i. e1 i ++ (e2 i ++ (e3.0 i ++ (row.spelled i ++ (append-nil x5 ∙ e5) i)))), (e3.1, row.numbered), omega (arith, row.high))),
     )
 
 abbrev pub ReadsLine : ℕ → List ℕ → Line → Type 0
@@ -205,7 +201,7 @@ sound_line count small ts =
       [],
       refl,
       λ x7 e7 x6 e6 x5 e5 x4 e4 x3 e3 x2 e2 x1 e1. (
-        (λ i. e1 i ++ (e2.0 i ++ (e3 i ++ (e4.0 i ++ (e5 i ++ (e6.0 i ++ (nil x7 ∙ e7) i)))))),
+        (λ i. e1 i ++ (e2.0 i ++ (e3 i ++ (e4.0 i ++ (e5 i ++ (e6.0 i ++ (append-nil x7 ∙ e7) i)))))),
         record { id = e2.1; number = e4.1; numbered = e6.1; high = e6.2 },
       ),
     )

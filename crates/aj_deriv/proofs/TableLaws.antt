@@ -1,5 +1,5 @@
 -- Premises as nodes, and tables built from their text.
-use Rattle.std.proofs.Common.{◌≡◌, ℕ, zero, suc, ◌-◌, ◌<◌, ◌^◌, Bool, true, false, List, [], ◌∷◌, ◌++◌, map, length, codes, Some, None, Ok, Err, if◌then◌else◌, refl, sym, ◌∙◌, ap, subst, arith, append_assoc}
+use Rattle.std.proofs.Common.{◌≡◌, ℕ, zero, suc, ◌-◌, ◌<◌, ◌^◌, Bool, true, false, List, [], ◌∷◌, ◌++◌, map, length, codes, Some, None, Ok, Err, if◌then◌else◌, refl, sym, ◌∙◌, ap, subst, arith, append_assoc, append-nil}
 use Rattle.std.proofs.lemmas.List.{map-append}
 use Rattle.aj_cond.specs.Conditions.{Cond, cond_of}
 use Rattle.aj_cond.specs.declared.tree.Tree.{Tree}
@@ -9,7 +9,7 @@ use Rattle.aj_deriv.specs.declared.cursor.Premises.{Premises}
 use Rattle.aj_deriv.specs.declared.cursor.MethodView.{MethodView}
 use Rattle.aj_deriv.specs.declared.cursor.BookCursor.{BookCursor}
 use Rattle.aj_deriv.specs.Derivations.{Node, node, Nodes, no_nodes, and_node, premises_of, word_at, number_of}
-use Rattle.aj_deriv.specs.Books.{Line, Book, IsLine, AreLines, is_canonical, most_height}
+use Rattle.aj_deriv.specs.Books.{Line, Book, AreLines, is_canonical, most_height}
 use Rattle.aj_deriv.specs.Texts.{newline, table_text}
 use Rattle.aj_deriv.specs.Combine.{Res, ◌>>=◌, expect, exactly}
 use Rattle.aj_deriv.specs.Reading.{node_at, tree_at, canonical_at, table_line}
@@ -48,7 +48,7 @@ first_is (and_node d ds) view inner new next premises =
     }
 
 -- the method lines of a cursor are those of its text
-lines_wider : (count : ℕ) → count < 2 ^ 32 → (ls : List Line) → AreLines count ls → AreLines (2 ^ 32) ls
+pub lines_wider : (count : ℕ) → count < 2 ^ 32 → (ls : List Line) → AreLines count ls → AreLines (2 ^ 32) ls
 lines_wider count small [] are = tt
 lines_wider count small (line ∷ ls) are = (
   record {
@@ -63,11 +63,6 @@ lines_wider count small (line ∷ ls) are = (
 pub lines_are : (cursor : BookCursor) (book : Book) → IsCursorAt cursor book → lines_in cursor.lines.now ≡ book.lines
 lines_are cursor book at =
     ap lines_in at.lines ∙ ap lines_of (complete_lines (2 ^ 32) (omega arith) book.lines (lines_wider (length book.table) at.book_is.few book.lines at.book_is.lines))
-
--- the table and the method lines that stand at a cursor are the book
-pub book_is : (cursor : BookCursor) (book : Book) (table : List Cond) (lines : List Line) → IsCursorAt cursor book → table ≡ book.table → lines ≡ lines_in cursor.lines.now →
-    record { table = table; lines = lines } ≡ book
-book_is cursor book table lines at same_table same_lines = let all = same_lines ∙ lines_are cursor book at in λ i. record { table = same_table i; lines = all i }
 
 pub at_some : (cursor : BookCursor) (book : Book) → IsCursorAt cursor book → IsAtSome cursor
 at_some cursor book at =
@@ -98,28 +93,25 @@ no_line book (line ∷ lines) new next = absurd next
 
 -- tables
 
+-- one item more, before those that are still to come
+pub moved : {A : Type 0} (so_far : List A) (x : A) (p : Res (List A)) → after_those so_far (p >>= λ xs ts. Ok (x ∷ xs, ts)) ≡ after_those (so_far ++ (x ∷ [])) p
+moved so_far x (Ok y) = ap (λ z. Ok (z, y.1)) (sym (append_assoc so_far (x ∷ []) y.0))
+moved so_far x (Err e) = refl
+
 -- one tree more
 pub trees_more : (so_far : List Cond) (left : ℕ) (rest : List ℕ) (t : Cond) (behind : List ℕ) → 0 < left → plain_line rest ≡ Ok (t, behind) →
     after_those so_far (exactly left plain_line rest) ≡ after_those (so_far ++ (t ∷ [])) (exactly (left - 1) plain_line behind)
 trees_more so_far zero rest t behind some e = absurd (omega (arith, some))
 trees_more so_far (suc left) rest t behind some e =
     let same : suc left - 1 ≡ left = omega arith in
-    rw e (moved (exactly left plain_line behind)) ∙ ap (λ k. after_those (so_far ++ (t ∷ [])) (exactly k plain_line behind)) (sym same)
-  where
-    moved : (p : Res (List Cond)) → after_those so_far (p >>= λ xs ts. Ok (t ∷ xs, ts)) ≡ after_those (so_far ++ (t ∷ [])) p
-    moved (Ok y) = ap (λ z. Ok (z, y.1)) (sym (append_assoc so_far (t ∷ []) y.0))
-    moved (Err e) = refl
+    rw e (moved so_far t (exactly left plain_line behind)) ∙ ap (λ k. after_those (so_far ++ (t ∷ [])) (exactly k plain_line behind)) (sym same)
 
 pub trees_started : (p : Res (List Cond)) → p ≡ after_those [] p
 trees_started (Ok y) = refl
 trees_started (Err e) = refl
 
-nil : (xs : List Cond) → xs ++ [] ≡ xs
-nil [] = refl
-nil (x ∷ xs) = ap (λ t. x ∷ t) (nil xs)
-
 pub trees_done : (p : Res (List Cond)) (so_far : List Cond) (left : ℕ) (rest : List ℕ) → p ≡ after_those so_far (exactly left plain_line rest) → (0 < left → ⊥) → IsReadAs so_far p
-trees_done p so_far zero rest e none = subst (IsReadAs so_far) (sym e) (nil so_far)
+trees_done p so_far zero rest e none = subst (IsReadAs so_far) (sym e) (append-nil so_far)
 trees_done p so_far (suc left) rest e none = absurd (none (omega arith))
 
 -- what is read with the test is read without it
@@ -145,13 +137,13 @@ exactly_plain (suc n) ts xs r e =
     let b = after_ok (exactly n table_line a.1) (λ xs ts. Ok (a.0 ∷ xs, ts)) (xs, r) a.3 in
     rw (line_plain ts a.0 a.1 a.2, exactly_plain n a.1 b.0 b.1 b.2) b.3
 
-read_same : (xs ys : List Cond) (r : List ℕ) (p : Res (List Cond)) → IsReadAs xs p → p ≡ Ok (ys, r) → xs ≡ ys
-read_same xs ys r (Ok y) is e = sym is ∙ first e
+pub read_same : {A : Type 0} (xs ys : List A) (r : List ℕ) (p : Res (List A)) → IsReadAs xs p → p ≡ Ok (ys, r) → xs ≡ ys
+read_same {A} xs ys r (Ok y) is e = sym is ∙ first e
   where
-    equal : (y z : List Cond × List ℕ) → (let p : Res (List Cond) = Ok y in p ≡ Ok z) → y ≡ z
+    equal : (y z : List A × List ℕ) → (let p : Res (List A) = Ok y in p ≡ Ok z) → y ≡ z
     equal y z h = cc
 
-    first : (let p : Res (List Cond) = Ok y in p ≡ Ok (ys, r)) → y.0 ≡ ys
+    first : (let p : Res (List A) = Ok y in p ≡ Ok (ys, r)) → y.0 ≡ ys
     first h = ap (λ z. z.0) (equal y (ys, r) h)
 read_same xs ys r (Err d) is e = absurd is
 

@@ -106,7 +106,7 @@ abbrev pub plain_line : List ℕ → Res Cond
 plain_line ts = tree_at most_height ts >>= λ t ts. expect (newline ∷ []) ts >>= λ u ts. Ok (t, ts)
 
 -- more items behind those that were read before
-abbrev pub after_those : List Cond → Res (List Cond) → Res (List Cond)
+abbrev pub after_those : {A : Type 0} → List A → Res (List A) → Res (List A)
 after_those so_far read = read >>= λ more ts. Ok (so_far ++ more, ts)
 
 -- what was read

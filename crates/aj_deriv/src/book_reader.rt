@@ -4,7 +4,7 @@ ghost use Rattle.aj_deriv.specs.Faults.{Gives};
 ghost use Rattle.aj_deriv.specs.Passing.{pass_book, pass_line, pass_lines, pass_several, pass_table, pass_table_line};
 ghost use Rattle.aj_deriv.specs.Reading.{count_at, nothing};
 
-use crate::front::{begins, expect};
+use crate::front::{begins, expect, expect_byte};
 use crate::node_reader::{MOST_HEIGHT, node};
 use crate::numbers::{NUMBERS_END, number};
 use crate::stop::{Kind, Stop};
@@ -25,7 +25,7 @@ fn count<'a>(text: &'a [u8]) -> Result<(u32, &'a [u8]), Stop<'a>>
 {
     let rest = expect(text, b"book ")?;
     let (count, rest) = number(rest, NUMBERS_END)?;
-    let rest = expect(rest, b"\n")?;
+    let rest = expect_byte(rest, b'\n')?;
     Ok((count, rest))
 }
 
@@ -34,7 +34,7 @@ fn table_line<'a>(text: &'a [u8]) -> Result<&'a [u8], Stop<'a>>
     ensures { Gives (λ r. (tt {0}, r.now)) result (pass_table_line text.now) }
 {
     let rest = table_tree(text)?;
-    expect(rest, b"\n")
+    expect_byte(rest, b'\n')
 }
 
 /// Passes over so many lines of the table.
@@ -59,11 +59,11 @@ fn line<'a>(text: &'a [u8], count: u64) -> Result<&'a [u8], Stop<'a>>
 {
     let rest = expect(text, b"method ")?;
     let (_, rest) = number(rest, NUMBERS_END)?;
-    let rest = expect(rest, b" ")?;
+    let rest = expect_byte(rest, b' ')?;
     let (_, rest) = number(rest, count)?;
-    let rest = expect(rest, b"\n")?;
+    let rest = expect_byte(rest, b'\n')?;
     let rest = node(rest, count, MOST_HEIGHT)?;
-    expect(rest, b"\n")
+    expect_byte(rest, b'\n')
 }
 
 /// Passes over method lines.

@@ -8,7 +8,7 @@ ghost use Rattle.aj_deriv.specs.declared.stop.BookFault.{BookFault};
 ghost use Rattle.aj_deriv.specs.Views.{ArePremises, IsCursorAt, IsNext, IsNextLine, IsViewOf, behind_head as behind, head_at, line_view_at, premise_view_at, view_at};
 
 use crate::book_reader::book;
-use crate::front::{begins, expect};
+use crate::front::{begins, expect, expect_byte};
 use crate::names::word;
 use crate::node_reader::{MOST_HEIGHT, node};
 use crate::numbers::{NUMBERS_END, number};
@@ -51,7 +51,7 @@ pub struct BookCursor<'a> {
 fn head<'a>(text: &'a [u8]) -> Result<((Word, u32), &'a [u8]), Stop<'a>>
     ensures { Gives (λ x. (x.0, x.1.now)) result (head_at text.now) }
 {
-    let rest = expect(text, b"(")?;
+    let rest = expect_byte(text, b'(')?;
     let (word, rest) = word(rest)?;
     let (number, rest) = number(rest, NUMBERS_END)?;
     Ok(((word, number), rest))
@@ -78,7 +78,7 @@ fn view<'a>(text: &'a [u8]) -> Result<(NodeView<'a>, &'a [u8]), Stop<'a>>
 fn premise_view<'a>(text: &'a [u8]) -> Result<(NodeView<'a>, &'a [u8]), Stop<'a>>
     ensures { Gives (λ x. ((x.0.word, x.0.number, x.0.bytes.now), x.1.now)) result (premise_view_at text.now) }
 {
-    let rest = expect(text, b" ")?;
+    let rest = expect_byte(text, b' ')?;
     view(rest)
 }
 
@@ -88,11 +88,11 @@ fn line_view<'a>(text: &'a [u8]) -> Result<(MethodView<'a>, &'a [u8]), Stop<'a>>
 {
     let rest = expect(text, b"method ")?;
     let (id, rest) = number(rest, NUMBERS_END)?;
-    let rest = expect(rest, b" ")?;
+    let rest = expect_byte(rest, b' ')?;
     let (number, rest) = number(rest, NUMBERS_END)?;
-    let rest = expect(rest, b"\n")?;
+    let rest = expect_byte(rest, b'\n')?;
     let (node, rest) = view(rest)?;
-    let rest = expect(rest, b"\n")?;
+    let rest = expect_byte(rest, b'\n')?;
     let id = MethodId(id);
     Ok((MethodView { id, number, node }, rest))
 }
@@ -173,6 +173,13 @@ impl<'a> BookCursor<'a> {
         ensures { result.now ≡ self.now.table.now }
     {
         self.table
+    }
+
+    /// The text that begins with the method lines that are still to come.
+    pub(crate) fn lines_text(&self) -> &'a [u8]
+        ensures { result.now ≡ self.now.lines.now }
+    {
+        self.lines
     }
 
     /// The next method line. `None` comes after the last.

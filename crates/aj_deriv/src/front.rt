@@ -1,5 +1,5 @@
 //! Bytes at the front of a text.
-ghost use Rattle.std.specs.Prelude.{◌≡◌, ◌&&◌};
+ghost use Rattle.std.specs.Prelude.{◌≡◌, ◌∷◌, [], ◌&&◌};
 ghost use Rattle.aj_deriv.specs.Combine.{begins as begins_with, expect as expect_at};
 ghost use Rattle.aj_deriv.specs.Faults.{Gives};
 
@@ -15,18 +15,38 @@ pub(crate) fn begins(text: &[u8], byte: u8) -> bool
     }
 }
 
-/// Takes these bytes, or stops at the first that differs.
-pub(crate) fn expect<'a>(text: &'a [u8], wanted: &[u8]) -> Result<&'a [u8], Stop<'a>>
-    ensures { Gives (λ r. (tt, r.now)) result (expect_at wanted.now text.now) }
+/// Takes this byte, or stops.
+pub(crate) fn expect_byte<'a>(text: &'a [u8], byte: u8) -> Result<&'a [u8], Stop<'a>>
+    ensures { Gives (λ r. (tt, r.now)) result (expect_at (byte ∷ []) text.now) }
 {
-    let Some((want, wanted)) = wanted.split_first() else {
-        return Ok(text);
-    };
     match text.split_first() {
-        Some((byte, rest)) if byte == want => expect(rest, wanted),
+        Some((first, rest)) if *first == byte => Ok(rest),
         _ => Err(Stop {
             kind: Kind::Form,
             rest: text,
         }),
     }
+}
+
+/// Takes these bytes, or stops at the first that differs.
+pub(crate) fn expect<'a>(text: &'a [u8], wanted: &[u8]) -> Result<&'a [u8], Stop<'a>>
+    ensures { Gives (λ r. (tt, r.now)) result (expect_at wanted.now text.now) }
+{
+    let mut rest = text;
+    let mut left = wanted;
+    while let Some((want, others)) = left.split_first() {
+        match rest.split_first() {
+            Some((byte, behind)) if byte == want => {
+                rest = behind;
+                left = others;
+            }
+            _ => {
+                return Err(Stop {
+                    kind: Kind::Form,
+                    rest,
+                });
+            }
+        }
+    }
+    Ok(rest)
 }

@@ -6,7 +6,7 @@ ghost use Rattle.aj_deriv.specs.Derivations.{word_text};
 ghost use Rattle.aj_deriv.specs.Faults.{Gives};
 ghost use Rattle.aj_deriv.specs.Reading.{leaf_at, word_at_front};
 
-use crate::front::expect;
+use crate::front::{expect, expect_byte};
 use crate::stop::{Kind, Stop};
 use crate::word::Word;
 use aj_algebra::Basic;
@@ -63,7 +63,7 @@ fn spelled<'a>(text: &'a [u8], word: Word) -> Result<&'a [u8], Stop<'a>>
     ensures { Gives (λ r. (tt, r.now)) result (expect_at (word_text word ++ codes " ") text.now) }
 {
     let rest = expect(text, word.name().as_bytes())?;
-    expect(rest, b" ")
+    expect_byte(rest, b' ')
 }
 
 /// The one of these words that a text begins with, with the blank behind it.
@@ -86,12 +86,60 @@ fn one_word<'a>(text: &'a [u8], words: &[Word]) -> Result<(Word, &'a [u8]), Stop
     }
 }
 
+/// The byte at a place; 0 where there is none.
+fn byte_at(text: &[u8], place: usize) -> u8 {
+    match text.get(place) {
+        Some(byte) => *byte,
+        None => 0,
+    }
+}
+
+/// The only word with which a text may begin, told by its first two bytes; any word where none can be told.
+fn likely_word(text: &[u8]) -> Word {
+    let second = byte_at(text, 1);
+    match byte_at(text, 0) {
+        b'a' => Word::And,
+        b'b' if second == b'i' => Word::Bin,
+        b'b' => Word::Block,
+        b'c' => Word::Call,
+        b'd' => Word::Do,
+        b'g' => Word::Get,
+        b'i' => Word::If,
+        b'l' if second == b'i' => Word::Lit,
+        b'l' => Word::Local,
+        b'n' => Word::New,
+        b'o' => Word::Or,
+        b'p' if second == b'r' => Word::Print,
+        b'p' => Word::Put,
+        b'r' => Word::Return,
+        b's' if second == b'e' => Word::Set,
+        b's' if second == b'k' => Word::Skip,
+        b's' if second == b't' => Word::Start,
+        b's' => Word::Sync,
+        b't' => Word::This,
+        b'u' => Word::Un,
+        b'v' => Word::Var,
+        _ => Word::While,
+    }
+}
+
 /// The word that a text begins with, with the blank behind it.
 #[tactic(auto, unfolding(crate::specs::Reading::word_at_front))]
 pub(crate) fn word<'a>(text: &'a [u8]) -> Result<(Word, &'a [u8]), Stop<'a>>
     ensures { Gives (λ x. (x.0, x.1.now)) result (word_at_front text.now) }
 {
-    one_word(text, &WORDS)
+    let likely = likely_word(text);
+    match spelled(text, likely) {
+        Ok(rest) => Ok((likely, rest)),
+        Err(_) => one_word(text, &WORDS),
+    }
+}
+
+/// The name of a basic.
+fn named<'a>(text: &'a [u8], basic: Basic) -> Result<&'a [u8], Stop<'a>>
+    ensures { Gives (λ r. (tt, r.now)) result (expect_at (name_of basic) text.now) }
+{
+    expect(text, basic.name().as_bytes())
 }
 
 /// The one of these basics that a text begins with.
@@ -104,7 +152,7 @@ fn one_basic<'a>(text: &'a [u8], basics: &[Basic]) -> Result<(Basic, &'a [u8]), 
             rest: text,
         });
     };
-    let here = match expect(text, basic.name().as_bytes()) {
+    let here = match named(text, *basic) {
         Ok(rest) => return Ok((*basic, rest)),
         Err(stop) => stop,
     };
@@ -114,10 +162,25 @@ fn one_basic<'a>(text: &'a [u8], basics: &[Basic]) -> Result<(Basic, &'a [u8]), 
     }
 }
 
+/// The only basic with which a text may begin, told by its first two bytes; any basic where none can be told.
+fn likely_basic(text: &[u8]) -> Basic {
+    match byte_at(text, 0) {
+        b'a' => Basic::Atomic,
+        b'c' if byte_at(text, 1) == b'm' => Basic::Cmpd,
+        b'c' => Basic::Const,
+        b'e' => Basic::Error,
+        _ => Basic::Mover,
+    }
+}
+
 /// The basic that a text begins with.
 #[tactic(auto, unfolding(crate::specs::Reading::leaf_at))]
 pub(crate) fn leaf<'a>(text: &'a [u8]) -> Result<(Basic, &'a [u8]), Stop<'a>>
     ensures { Gives (λ x. (x.0, x.1.now)) result (leaf_at text.now) }
 {
-    one_basic(text, &BASICS)
+    let likely = likely_basic(text);
+    match named(text, likely) {
+        Ok(rest) => Ok((likely, rest)),
+        Err(_) => one_basic(text, &BASICS),
+    }
 }

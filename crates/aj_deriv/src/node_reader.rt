@@ -4,7 +4,7 @@ ghost use Rattle.aj_deriv.specs.Combine.{begins as begins_with};
 ghost use Rattle.aj_deriv.specs.Faults.{Gives};
 ghost use Rattle.aj_deriv.specs.Passing.{pass_node, pass_premise, pass_several};
 
-use crate::front::{begins, expect};
+use crate::front::{begins, expect_byte};
 use crate::names::word;
 use crate::numbers::number;
 use crate::stop::{Kind, Stop};
@@ -22,11 +22,11 @@ pub(crate) fn node<'a>(text: &'a [u8], count: u64, room: u32) -> Result<&'a [u8]
     if room == 0 {
         return Err(beyond(text));
     }
-    let rest = expect(text, b"(")?;
+    let rest = expect_byte(text, b'(')?;
     let (_, rest) = word(rest)?;
     let (_, rest) = number(rest, count)?;
     let rest = premises(rest, count, room - 1)?;
-    expect(rest, b")")
+    expect_byte(rest, b')')
 }
 
 /// Passes over nodes side by side, each after a blank.
@@ -49,7 +49,7 @@ fn premise<'a>(text: &'a [u8], count: u64, room: u32) -> Result<&'a [u8], Stop<'
     requires { count ≤ 2 ^ 32 }
     ensures { Gives (λ r. (tt {0}, r.now)) result (pass_premise (pass_node count room) text.now) }
 {
-    let rest = expect(text, b" ")?;
+    let rest = expect_byte(text, b' ')?;
     node(rest, count, room)
 }
 

@@ -40,10 +40,16 @@ fn value_of(digits: &[u8]) -> Option<u64>
     ensures { result ≡ (if nat_lt 0 (length digits.now) && nat_lt (digits_value 10 digits.now) (2 ^ 64)
         then Some (digits_value 10 digits.now) else None) }
 {
-    let Ok(text) = str::from_utf8(digits) else {
+    if digits.is_empty() {
         return None;
-    };
-    text.parse::<u64>().ok()
+    }
+    let mut number = 0_u64;
+    for digit in digits {
+        number = number
+            .checked_mul(10)?
+            .checked_add(u64::from(*digit - b'0'))?;
+    }
+    Some(number)
 }
 
 /// The number below `end` that a text begins with.

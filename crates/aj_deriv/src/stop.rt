@@ -2,7 +2,7 @@
 ghost use Rattle.std.specs.Prelude.{◌≡◌, ◌-◌, ◌<◌, ◌^◌, length};
 ghost use Rattle.aj_deriv.specs.Faults.{fault_at};
 
-use std::alloc::{AllocError, Global};
+use std::alloc::{AllocError, AllocFailed, Global};
 
 /// Why bytes are no book. Places count bytes from 0.
 #[derive(Clone, Copy, Debug, PartialEq, Eq)]
@@ -39,6 +39,28 @@ pub(crate) enum Kind {
 pub(crate) struct Stop<'a> {
     pub(crate) kind: Kind,
     pub(crate) rest: &'a [u8],
+}
+
+/// Why a part of a book was not built: want of memory. Its text was read before, so no fault is found in it.
+#[derive(Clone, Copy)]
+pub(crate) struct Unbuilt;
+
+impl<'a> From<Stop<'a>> for Unbuilt {
+    fn from(_: Stop<'a>) -> Self {
+        Unbuilt
+    }
+}
+
+impl From<AllocError> for Unbuilt {
+    fn from(_: AllocError) -> Self {
+        Unbuilt
+    }
+}
+
+impl<T: Drop> From<AllocFailed<T>> for Unbuilt {
+    fn from(_: AllocFailed<T>) -> Self {
+        Unbuilt
+    }
 }
 
 /// The fault where reading stopped in a text of this length.

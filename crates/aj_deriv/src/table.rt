@@ -10,34 +10,12 @@ ghost use Rattle.aj_deriv.specs.Views.{IsCursorAt, IsReadAs, plain_line};
 ghost use Rattle.aj_deriv.specs.declared.stop.BookFault.{BookFault};
 
 use crate::cursor::BookCursor;
-use crate::front::{begins, expect};
+use crate::front::{begins, expect_byte};
 use crate::names::leaf;
-use crate::stop::{BookFault, Stop};
+use crate::stop::{BookFault, Unbuilt};
 use crate::tree_reader::{MOST_HEIGHT, path};
 use aj_cond::Tree;
-use std::alloc::{AllocError as NoMemory, AllocFailed, Global};
-
-/// Why a tree was not built: want of memory. Its text was read before, so no fault is found in it.
-#[derive(Clone, Copy)]
-struct Unbuilt;
-
-impl<'a> From<Stop<'a>> for Unbuilt {
-    fn from(_: Stop<'a>) -> Self {
-        Unbuilt
-    }
-}
-
-impl From<NoMemory> for Unbuilt {
-    fn from(_: NoMemory) -> Self {
-        Unbuilt
-    }
-}
-
-impl<T: Drop> From<AllocFailed<T>> for Unbuilt {
-    fn from(_: AllocFailed<T>) -> Self {
-        Unbuilt
-    }
-}
+use std::alloc::{AllocError as NoMemory, Global};
 
 /// The tree that a text begins with.
 #[tactic(auto, unfolding(crate::specs::Reading::tree_at))]
@@ -51,13 +29,13 @@ fn tree<'a>(alloc: Global, text: &'a [u8], room: u32) -> Result<(Tree, &'a [u8])
     if room == 0 {
         return Err(Unbuilt);
     }
-    let rest = expect(text, b"(")?;
+    let rest = expect_byte(text, b'(')?;
     let (path, rest) = path(rest)?;
-    let rest = expect(rest, b" ")?;
+    let rest = expect_byte(rest, b' ')?;
     let (held, rest) = tree(alloc, rest, room - 1)?;
-    let rest = expect(rest, b" ")?;
+    let rest = expect_byte(rest, b' ')?;
     let (free, rest) = tree(alloc, rest, room - 1)?;
-    let rest = expect(rest, b")")?;
+    let rest = expect_byte(rest, b')')?;
     let test = Tree::Test(path, Box::new(alloc, held)?, Box::new(alloc, free)?);
     Ok((test, rest))
 }
@@ -67,7 +45,7 @@ fn line<'a>(alloc: Global, text: &'a [u8]) -> Result<(Tree, &'a [u8]), Unbuilt>
     ensures { IfOk result (λ x. plain_line text.now ≡ Ok (cond_of x.0, x.1.now)) }
 {
     let (tree, rest) = tree(alloc, text, MOST_HEIGHT)?;
-    let rest = expect(rest, b"\n")?;
+    let rest = expect_byte(rest, b'\n')?;
     Ok((tree, rest))
 }
 

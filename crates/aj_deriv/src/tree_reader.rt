@@ -6,7 +6,7 @@ ghost use Rattle.aj_deriv.specs.Faults.{Gives};
 ghost use Rattle.aj_deriv.specs.Passing.{pass_canonical, pass_tree, texts_differ};
 ghost use Rattle.aj_deriv.specs.Reading.{fields_at, path_at};
 
-use crate::front::{begins, expect};
+use crate::front::{begins, expect_byte};
 use crate::names::leaf;
 use crate::numbers::{NUMBERS_END, number};
 use crate::stop::{Kind, Stop};
@@ -96,13 +96,13 @@ fn tree<'a>(text: &'a [u8], room: u32, above: Option<&Path>) -> Result<(bool, &'
             rest: text,
         });
     }
-    let rest = expect(text, b"(")?;
+    let rest = expect_byte(text, b'(')?;
     let (path, rest) = path(rest)?;
-    let first = expect(rest, b" ")?;
+    let first = expect_byte(rest, b' ')?;
     let (first_is, behind_first) = tree(first, room - 1, Some(&path))?;
-    let second = expect(behind_first, b" ")?;
+    let second = expect_byte(behind_first, b' ')?;
     let (second_is, behind_second) = tree(second, room - 1, Some(&path))?;
-    let rest = expect(behind_second, b")")?;
+    let rest = expect_byte(behind_second, b')')?;
     let differ = differ(first, behind_first, second, behind_second);
     let is_canonical = all_four(comes_after(above, &path), differ, first_is, second_is);
     Ok((is_canonical, rest))

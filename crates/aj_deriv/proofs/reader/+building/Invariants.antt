@@ -1,23 +1,23 @@
-use Rattle.std.proofs.Common.{◌≡◌, ◌++◌, ◌+◌, ◌*◌, ◌≤◌, List}
-use Rattle.aj_deriv.specs.Books.{nodes_high}
-use Rattle.aj_deriv.specs.Derivations.{count_nodes}
-use Rattle.aj_deriv.specs.Memory.{nodes_at}
-use Rattle.aj_deriv.specs.declared.derivation.Derivation.{Derivation}
+use Rattle.std.proofs.Common.{◌≡◌, ◌^◌, ◌+◌, ◌*◌, length, map}
+use Rattle.aj_deriv.specs.Combine.{several}
+use Rattle.aj_deriv.specs.Memory.{node_of}
+use Rattle.aj_deriv.specs.Reading.{node_at, premise_with}
+use Rattle.aj_deriv.specs.Views.{after_those}
 use Rattle.aj_deriv.proofs.reader.+building.Given as goal
 
 abbrev pub decreases-derivation : goal.decreases-derivation
-decreases-derivation g l = 2 * nodes_high (g.F.Nodes.nodes l.premises) + 1
+decreases-derivation l = 3 * l.room
 
 abbrev pub decreases-derivations : goal.decreases-derivations
-decreases-derivations g l = 2 * nodes_high (g.F.Nodes.nodes l.nodes)
+decreases-derivations l = 3 * l.room + 2
+
+abbrev pub decreases-premise : goal.decreases-premise
+decreases-premise l = 3 * l.room + 1
 
 -- what is built, and then the rest, is all
-abbrev pub invariant-derivations-nodes : goal.invariant-derivations-nodes
-invariant-derivations-nodes g l = record {
-  kept : g.F.Nodes.AreKept l.rest;
-  smaller : nodes_high (g.F.Nodes.nodes l.rest) ≤ nodes_high (g.F.Nodes.nodes l.fn.nodes);
-  goes : (later : List Derivation) → nodes_at later ≡ g.F.Nodes.nodes l.rest → nodes_at (l.built.items ++ later) ≡ g.F.Nodes.nodes l.fn.nodes;
-}
+abbrev pub invariant-derivations-loop-alloc : goal.invariant-derivations-loop-alloc
+invariant-derivations-loop-alloc l =
+    several 32 (premise_with (node_at (2 ^ 32) l.room)) l.text ≡ after_those (map node_of l.built.items) (several 32 (premise_with (node_at (2 ^ 32) l.room)) l.rest)
 
-abbrev pub decreases-derivations-nodes : goal.decreases-derivations-nodes
-decreases-derivations-nodes g l = count_nodes (g.F.Nodes.nodes l.rest)
+abbrev pub decreases-derivations-loop-alloc : goal.decreases-derivations-loop-alloc
+decreases-derivations-loop-alloc l = length l.rest
