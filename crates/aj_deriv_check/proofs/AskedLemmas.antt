@@ -1,7 +1,6 @@
 -- What is asked of each node.
-use Rattle.std.proofs.Common.{◌≡◌, ℕ, ◌==◌, ◌&&◌, ◌↔◌, Bool, true, false, List, length, Result, Ok, Err, IfOk, refl, sym, ◌∙◌, ap, subst}
-use Rattle.std.proofs.lemmas.Bool.Decides.{nat_tests}
-use Rattle.std.proofs.Common.{arith}
+use Rattle.std.proofs.Common.{◌≡◌, ℕ, ◌==◌, ◌&&◌, ◌↔◌, Bool, true, List, length, Result, Ok, Err, IfOk, sym, ◌∙◌, ap, subst}
+use Rattle.std.proofs.lemmas.Bool.{and_from, and_parts, eq-eqb, eqb-true}
 use Rattle.aj_algebra.specs.HeldPaths.{Held}
 use Rattle.aj_rules.specs.Rules.{AtMost}
 use Rattle.aj_deriv.specs.declared.word.Word.{Word}
@@ -9,32 +8,15 @@ use Rattle.aj_deriv.specs.Derivations.{node, Nodes, count_nodes}
 use Rattle.aj_deriv_check.specs.Parts.{Part, Fits, word_of, parts_of}
 use Rattle.aj_deriv_check.specs.Rules.{Value}
 
-same_count : (a b : ℕ) → (a == b) ≡ true → a ≡ b
-same_count a b e = grind (arith, nat_tests)
-
-count_same : (a b : ℕ) → a ≡ b → (a == b) ≡ true
-count_same a b e = grind (arith, nat_tests)
-
-and_left : (a b : Bool) → (a && b) ≡ true → a ≡ true
-and_left true b e = refl
-and_left false b e = absurd (cc)
-
-and_right : (a b : Bool) → (a && b) ≡ true → b ≡ true
-and_right true b e = e
-and_right false b e = absurd (cc)
-
-and_true : (a b : Bool) → a ≡ true → b ≡ true → (a && b) ≡ true
-and_true a b p q = rw (p, q) refl
-
 -- both tests together say that a node fits
 pub fits_is : (x : Part) (w : Word) (n : ℕ) (ds : Nodes) (same_word same_size : Bool) (parts : List Part) → (same_word ≡ true) ↔ (w ≡ word_of x) → parts ≡ parts_of x →
     same_size ≡ (count_nodes ds == length parts) → ((same_word && same_size) ≡ true) ↔ Fits (record { part = x; at = node w n ds })
 fits_is x w n ds same_word same_size parts words are sizes = (
   (λ e. record {
-    word = words.0 (and_left same_word same_size e);
-    count = same_count (count_nodes ds) (length parts) (sym sizes ∙ and_right same_word same_size e) ∙ ap length are;
+    word = words.0 (and_parts same_word same_size e).0;
+    count = eqb-true (count_nodes ds) (length parts) (sym sizes ∙ (and_parts same_word same_size e).1) ∙ ap length are;
   }),
-  (λ fits. and_true same_word same_size (words.1 fits.word) (sizes ∙ count_same (count_nodes ds) (length parts) (fits.count ∙ ap length (sym are)))),
+  (λ fits. and_from same_word same_size (words.1 fits.word) (sizes ∙ eq-eqb (count_nodes ds) (length parts) (fits.count ∙ ap length (sym are)))),
 )
 
 -- a comparison of two trees, in other words

@@ -1,5 +1,6 @@
 -- What a method line's tree is tested for.
 use Rattle.std.proofs.Common.{◌≡◌, ◌&&◌, ◌||◌, ◌↔◌, Bool, true, false, List, [], ◌∷◌, Result, Ok, Err, IfOk, if◌then◌else◌, refl, sym, ◌∙◌, ap, subst}
+use Rattle.std.proofs.lemmas.Bool.{and_from, and_parts}
 use Rattle.std.specs.List.{list_all}
 use Rattle.aj_paths.specs.Paths.{PathData, path_eq}
 use Rattle.aj_paths.proofs.PathOrder.{eq_is, eq_itself}
@@ -103,18 +104,11 @@ under_is required x y z w u body own same = (
       (under_if (list_all H required) (w H) (z H) (λ e. subst (λ v. AtMost (w H) v) (sym (same H)) (under H (held_all H required e)))))),
 )
 
-both_true : (a b : Bool) → (a && b) ≡ true → (a ≡ true) × (b ≡ true)
-both_true true b e = (refl, e)
-both_true false b e = absurd (cc)
-
-true_both : (a b : Bool) → a ≡ true → b ≡ true → (a && b) ≡ true
-true_both a b p q = rw (p, q) refl
-
 pub tabled_is : (rel : List PathData) (t : Cond) (relevant falls : Bool) → relevant ≡ tests_only rel t → (falls ≡ true) ↔ Falls (value_of t) →
     ((relevant && falls) ≡ true) ↔ IsTabled rel t
 tabled_is rel t relevant falls is test = (
-  (λ e. let both = both_true relevant falls e in record { relevant = sym is ∙ both.0; falls = test.0 both.1 }),
-  (λ tabled. true_both relevant falls (is ∙ tabled.relevant) (test.1 tabled.falls)),
+  (λ e. let both = and_parts relevant falls e in record { relevant = sym is ∙ both.0; falls = test.0 both.1 }),
+  (λ tabled. and_from relevant falls (is ∙ tabled.relevant) (test.1 tabled.falls)),
 )
 
 -- a test, in other words

@@ -1,5 +1,5 @@
 -- Places in lists, and which is the least bad one.
-use Rattle.std.proofs.Common.{◌≡◌, ℕ, zero, suc, ◌+◌, ◌<◌, ◌⊎◌, inl, inr, List, [], ◌∷◌, ◌++◌, length, Some, None, refl, ◌∙◌, ap, subst, arith, slice_get}
+use Rattle.std.proofs.Common.{◌≡◌, ℕ, zero, suc, ◌+◌, ◌<◌, ◌⊎◌, inl, inr, List, [], ◌∷◌, ◌++◌, length, Some, None, ◌∙◌, ap, subst, arith, slice_get}
 use Rattle.std.proofs.lemmas.Option.{slice_get_within}
 use Rattle.aj_deriv_check.specs.Parts.{Place, Each, IsLeastBad}
 
@@ -44,9 +44,6 @@ some_same x y e = cc
 pub each_one : (G : Place → Type 0) (x : Place) → G x → Each G (x ∷ [])
 each_one G x good zero y e = subst G (some_same x y e) good
 each_one G x good (suc k) y e = absurd (let h : None ≡ Some y = e in cc)
-
-pub bad_here : (G : Place → Type 0) (x : Place) (xs : List Place) → (G x → ⊥) → IsLeastBad G (x ∷ xs) 0
-bad_here G x xs bad = record { place = x; is = refl; bad = bad; first = λ j y below e. absurd (omega (arith, below)) }
 
 pub bad_left : (G : Place → Type 0) (xs ys : List Place) (k : ℕ) → IsLeastBad G xs k → IsLeastBad G (xs ++ ys) k
 bad_left G xs ys k b = record {

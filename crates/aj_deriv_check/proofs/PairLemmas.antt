@@ -1,12 +1,14 @@
 -- A sequence is at most a value exactly where each two of its parts are, one after the other.
-use Rattle.std.proofs.Common.{◌≡◌, ◌⊎◌, ℕ, inl, inr, ◌↔◌, ◌&&◌, Bool, true, false, List, [], ◌∷◌, Option, Some, None, Result, Ok, Err, IfOk, if◌then◌else◌, refl, sym, ◌∙◌, ap, subst, map, length, arith, slice_get}
+use Rattle.std.proofs.Common.{◌≡◌, ◌⊎◌, ℕ, inl, inr, ◌↔◌, ◌&&◌, ◌||◌, ◌==◌, ◌++◌, Bool, true, false, List, [], ◌∷◌, Option, Some, None, Result, Ok, Err, IfOk, if◌then◌else◌, refl, sym, ◌∙◌, ap, subst, map, length, arith, slice_get}
+use Rattle.std.proofs.lemmas.Bool.{and_from, and_parts, eqb-true}
+use Rattle.std.proofs.lemmas.Option.{same_Some}
 use Rattle.std.specs.declared.cmp.Ordering.{Ordering}
 use Rattle.std.specs.declared.cmp.Ordering.TheVariants.{Less, Equal, Greater}
 use Rattle.aj_paths.specs.Paths.{PathData, path_order, path_eq}
 use Rattle.aj_paths.proofs.PathOrder.{equal_is, greater_turned, less_chain, eq_is, eq_itself}
 use Rattle.aj_algebra.specs.declared.basic.Basic.{Basic}
 use Rattle.aj_algebra.specs.declared.basic.Basic.TheVariants.{Const, Mover, Atomic, Cmpd, Error}
-use Rattle.aj_algebra.specs.Basics.{below_of, seq_of}
+use Rattle.aj_algebra.specs.Basics.{below_of, join_of, seq_of}
 use Rattle.aj_algebra.specs.HeldPaths.{Held}
 use Rattle.aj_cond.specs.Conditions.{Cond, LeafC, TestC, value_of, IsCanonical}
 use Rattle.aj_cond.specs.Operations.{by_order}
@@ -14,14 +16,14 @@ use Rattle.aj_cond.proofs.PathLemmas.{put}
 use Rattle.aj_cond.proofs.NodeLemmas.{Parts, parts-tied, parts-none, parts-later, parts-high, parts-low}
 use Rattle.aj_rules.specs.Rules.{AtMost}
 use Rattle.aj_rules.proofs.BasicLemmas.{every, implies, follows, each}
-use Rattle.std.specs.List.{list_all}
+use Rattle.std.specs.List.{list_all, list_any}
 use Rattle.aj_core.specs.Core.{Program, Stmt, EmptyS, BlockS, LocalS, SetVarS, SetFieldS, DoS, IfS, WhileS, SyncS, ReturnS, PrintS, StartS}
 use Rattle.aj_core.specs.declared.tree.CoreStmt.{CoreStmt}
 use Rattle.aj_core.specs.Views.{stmt_of, stmts_from}
 use Rattle.aj_rules.specs.Effect.{after_stmt}
-use Rattle.aj_deriv_check.specs.Rules.{Value, in_sequence, block_value}
+use Rattle.aj_deriv_check.specs.Rules.{Value, in_sequence, block_value, choice_value}
 use Rattle.aj_deriv_check.specs.Good.{tree_value, table_value}
-use Rattle.aj_deriv_check.specs.Pairs.{IsPairBelow, ArePairsBelow, IsSequenceBelow, root_of, lesser_of, held_branch, free_branch, leaves_below, keeps_paths}
+use Rattle.aj_deriv_check.specs.Pairs.{IsPairBelow, ArePairsBelow, IsSequenceBelow, IsAbsorbed, AreAbsorbed, root_of, lesser_of, held_branch, free_branch, leaves_below, keeps_paths}
 
 -- a path is before a root, or is it
 abbrev NotAfter : PathData → Option PathData → Type 0
@@ -34,18 +36,15 @@ not_after_chain p r (Some q) (inl less) (inl later) = inl (less_chain p r q less
 not_after_chain p r (Some q) (inl less) (inr same) = inl (subst (λ z. path_order p z ≡ Less) same less)
 not_after_chain p r (Some q) (inr is) second = subst (λ z. NotAfter z (Some q)) (sym is) second
 
-some_is : (p q : PathData) → Some p ≡ Some q → p ≡ q
-some_is p q e = cc
-
 both_of : (p q r : PathData) (o : Ordering) → path_order p q ≡ o → by_order o (Some p) (Some p) (Some q) ≡ Some r → NotAfter r (Some p) × NotAfter r (Some q)
-both_of p q r Less o e = (inr (sym (some_is p r e)), subst (λ z. NotAfter z (Some q)) (some_is p r e) (inl o))
-both_of p q r Equal o e = (inr (sym (some_is p r e)), inr (sym (some_is p r e) ∙ equal_is p q o))
-both_of p q r Greater o e = (subst (λ z. NotAfter z (Some p)) (some_is q r e) (inl (greater_turned p q o)), inr (sym (some_is q r e)))
+both_of p q r Less o e = (inr (sym (same_Some _ _ e)), subst (λ z. NotAfter z (Some q)) (same_Some _ _ e) (inl o))
+both_of p q r Equal o e = (inr (sym (same_Some _ _ e)), inr (sym (same_Some _ _ e) ∙ equal_is p q o))
+both_of p q r Greater o e = (subst (λ z. NotAfter z (Some p)) (same_Some _ _ e) (inl (greater_turned p q o)), inr (sym (same_Some _ _ e)))
 
 lesser_some : (o k : Option PathData) (r : PathData) → lesser_of o k ≡ Some r → NotAfter r o × NotAfter r k
 lesser_some None None r e = (tt, tt)
-lesser_some None (Some q) r e = (tt, inr (sym (some_is q r e)))
-lesser_some (Some p) None r e = (inr (sym (some_is p r e)), tt)
+lesser_some None (Some q) r e = (tt, inr (sym (same_Some _ _ e)))
+lesser_some (Some p) None r e = (inr (sym (same_Some _ _ e)), tt)
 lesser_some (Some p) (Some q) r e = both_of p q r (path_order p q) refl e
 
 none_of : (p q : PathData) (o : Ordering) → by_order o (Some p) (Some p) (Some q) ≡ None → ⊥
@@ -338,10 +337,6 @@ kept_set P (ReturnS v) H e = refl
 kept_set P (PrintS v) H e = refl
 kept_set P (StartS v) H e = refl
 
-both_true : (a b : Bool) → (a && b) ≡ true → (a ≡ true) × (b ≡ true)
-both_true true b e = (refl, e)
-both_true false b e = absurd (cc)
-
 unit_after : (a : Basic) → seq_of a Const ≡ a
 unit_after Const = refl
 unit_after Mover = refl
@@ -356,7 +351,7 @@ block_kept P V [] [] H same kept = refl
 block_kept P V [] (n ∷ numbers) H same kept = absurd (omega (arith, same))
 block_kept P V (s ∷ body) [] H same kept = absurd (omega (arith, same))
 block_kept P V (s ∷ body) (n ∷ numbers) H same kept =
-    let both = both_true (keeps_paths (stmt_of s)) (list_all (λ s. keeps_paths (stmt_of s)) body) kept in
+    let both = and_parts (keeps_paths (stmt_of s)) (list_all (λ s. keeps_paths (stmt_of s)) body) kept in
     ap (λ K. seq_of (V n H) (block_value P (stmts_from body) (map V numbers) K)) (kept_set P (stmt_of s) H both.0)
     ∙ ap (λ z. seq_of (V n H) z) (block_kept P V body numbers H (omega (arith, same)) both.1)
 
@@ -370,3 +365,77 @@ block_below P V body numbers l d kept (Ok b) same is holds const test =
       (λ all. test.1 (λ H. subst (λ z. AtMost z (d H)) (sym (as_one H)) (all H))),
     )
 block_below P V body numbers l d kept (Err e) same is holds const test = tt
+
+-- a rule that is a sequence before a last value
+pub sequence_step : {E : Type 0} (r : Result Bool E) (vs : List Value) (l last d rule : Value) → ((H : Held) → rule H ≡ seq_of (in_sequence vs H) (last H)) →
+    ((H : Held) → l H ≡ last H) → IfOk r (λ b. (b ≡ true) ↔ IsSequenceBelow vs l d) → IfOk r (λ b. (b ≡ true) ↔ ((H : Held) → AtMost (rule H) (d H)))
+sequence_step (Ok b) vs l last d rule is same test =
+    let as_one : (H : Held) → seq_of (in_sequence vs H) (l H) ≡ rule H = λ H. ap (seq_of (in_sequence vs H)) (same H) ∙ sym (is H) in (
+      (λ e H. subst (λ z. AtMost z (d H)) (as_one H) (test.0 e H)),
+      (λ all. test.1 (λ H. subst (λ z. AtMost z (d H)) (sym (as_one H)) (all H))),
+    )
+sequence_step (Err e) vs l last d rule is same test = tt
+
+-- two values, under other names
+pub pair_as : {E : Type 0} (r : Result Bool E) (x y v w d : Value) → Same x v → Same y w → IfOk r (λ b. (b ≡ true) ↔ IsPairBelow x y d) → IfOk r (λ b. (b ≡ true) ↔ IsPairBelow v w d)
+pair_as (Ok b) x y v w d first second test = (
+  (λ e. pair_same x v w d first (pair_same_second x y w d second (test.0 e))),
+  (λ all. test.1 (pair_same_second x w y d (back y w second) (pair_same v x w d (back x v first) all))),
+)
+pair_as (Err e) x y v w d first second test = tt
+
+-- either of two, behind a value
+either_first : (a b c d : Basic) → AtMost (seq_of a (join_of b c)) d → AtMost (seq_of a b) d
+either_first a b c d = follows _ _ (four (λ a b c d. implies (below_of (seq_of a (join_of b c)) d) (below_of (seq_of a b) d)) refl a b c d)
+
+either_second : (a b c d : Basic) → AtMost (seq_of a (join_of b c)) d → AtMost (seq_of a c) d
+either_second a b c d = follows _ _ (four (λ a b c d. implies (below_of (seq_of a (join_of b c)) d) (below_of (seq_of a c) d)) refl a b c d)
+
+either_both : (a b c d : Basic) → AtMost (seq_of a b) d → AtMost (seq_of a c) d → AtMost (seq_of a (join_of b c)) d
+either_both a b c d first second =
+    follows _ _ (follows _ _ (four (λ a b c d. implies (below_of (seq_of a b) d) (implies (below_of (seq_of a c) d) (below_of (seq_of a (join_of b c)) d))) refl a b c d) first) second
+
+pub choice_below : (V : ℕ → Value) (numbers branches others none : List ℕ) (c v w : ℕ) (d : Value) (a b both : Bool) → numbers ≡ c ∷ branches → branches ≡ v ∷ others → others ≡ w ∷ none →
+    both ≡ (a && b) → (a ≡ true) ↔ IsPairBelow (V c) (V v) d → (b ≡ true) ↔ IsPairBelow (V c) (V w) d → (both ≡ true) ↔ ((H : Held) → AtMost (choice_value (map V numbers) H) (d H))
+choice_below V numbers branches others none c v w d a b both first second third is in_first in_second =
+    let whole : numbers ≡ c ∷ (v ∷ (w ∷ none)) = first ∙ ap (λ z. c ∷ z) (second ∙ ap (λ z. v ∷ z) third) in
+    subst (λ z. (both ≡ true) ↔ ((H : Held) → AtMost (choice_value (map V z) H) (d H))) (sym whole) (
+      (λ e. let parts = and_parts a b (sym is ∙ e) in λ H. either_both (V c H) (V v H) (V w H) (d H) (in_first.0 parts.0 H) (in_second.0 parts.1 H)),
+      (λ all. is ∙ and_from a b (in_first.1 (λ H. either_first (V c H) (V v H) (V w H) (d H) (all H))) (in_second.1 (λ H. either_second (V c H) (V v H) (V w H) (d H) (all H)))),
+    )
+
+-- values that change nothing before another
+
+absorbed_one : (b c : Bool) (V : ℕ → Value) (v : Value) (k n : ℕ) → (k == n) ≡ b → (b || c) ≡ true → IsAbsorbed V v k → (c ≡ true → IsAbsorbed V v n) → IsAbsorbed V v n
+absorbed_one true c V v k n e test here later = subst (IsAbsorbed V v) (eqb-true k n e) here
+absorbed_one false c V v k n e test here later = later test
+
+pub absorbed_at : (V : ℕ → Value) (v : Value) (ns : List ℕ) (n : ℕ) → AreAbsorbed V v ns → list_any (λ m. m == n) ns ≡ true → IsAbsorbed V v n
+absorbed_at V v [] n are test = absurd (let wrong : false ≡ true = test in cc)
+absorbed_at V v (k ∷ ns) n are test = absorbed_one (k == n) (list_any (λ m. m == n) ns) V v k n refl test are.0 (λ e. absorbed_at V v ns n are.1 e)
+
+absorbed_append : (V : ℕ → Value) (v : Value) (ns : List ℕ) (n : ℕ) → AreAbsorbed V v ns → IsAbsorbed V v n → AreAbsorbed V v (ns ++ (n ∷ []))
+absorbed_append V v [] n are is = (is, tt)
+absorbed_append V v (k ∷ ns) n are is = (are.0, absorbed_append V v ns n are.1 is)
+
+pub absorbed_pushed : (V : ℕ → Value) (v : Value) (old new : List ℕ) (n : ℕ) → new ≡ old ++ (n ∷ []) → AreAbsorbed V v old → IsAbsorbed V v n → AreAbsorbed V v new
+absorbed_pushed V v old new n pushed are is = subst (AreAbsorbed V v) (sym pushed) (absorbed_append V v old n are is)
+
+absorbed_same : (V : ℕ → Value) (v w : Value) (ns : List ℕ) → Same v w → AreAbsorbed V v ns → AreAbsorbed V w ns
+absorbed_same V v w [] same are = tt
+absorbed_same V v w (n ∷ ns) same are = ((λ H. subst (λ z. seq_of (V n H) z ≡ z) (same H) (are.0 H)), absorbed_same V v w ns same are.1)
+
+-- a statement whose value is absorbed
+pub statement_absorbed : (P : Program) (V : ℕ → Value) (v : Value) (ns : List ℕ) (n : ℕ) (s : Stmt) → keeps_paths s ≡ true → list_any (λ m. m == n) ns ≡ true → AreAbsorbed V v ns →
+    (H : Held) → v H ≡ seq_of (V n H) (v (after_stmt P s H))
+statement_absorbed P V v ns n s kept test are H =
+    sym (absorbed_at V v ns n are test H) ∙ ap (λ K. seq_of (V n H) (v K)) (sym (kept_set P s H kept))
+
+-- what is absorbed before a statement that changes nothing
+pub absorbed_before : (P : Program) (V : ℕ → Value) (v later first whole : Value) (ns : List ℕ) (n : ℕ) (s : Stmt) → keeps_paths s ≡ true → Same later whole →
+    ((H : Held) → later H ≡ v (after_stmt P s H)) → Same first (V n) → ((H : Held) → whole H ≡ seq_of (first H) (later H)) → AreAbsorbed V v ns →
+    AreAbsorbed V whole ns × IsAbsorbed V whole n
+absorbed_before P V v later first whole ns n s kept same moved is sequence are = (
+  absorbed_same V v whole ns (λ H. ap v (sym (kept_set P s H kept)) ∙ sym (moved H) ∙ same H) are,
+  (λ H. (λ i. seq_of (sym (is H) i) (sym (same H) i)) ∙ sym (sequence H)),
+)

@@ -1,5 +1,5 @@
 -- The two passes, line by line.
-use Rattle.std.proofs.Common.{◌≡◌, ℕ, zero, suc, ◌+◌, ◌<◌, ◌≤◌, ◌⊎◌, inl, inr, List, [], ◌∷◌, ◌++◌, map, length, drop, get_or, slice_get, Option, Some, None, Ok, Err, refl, sym, ◌∙◌, ap, subst, arith}
+use Rattle.std.proofs.Common.{◌≡◌, ℕ, zero, suc, ◌+◌, ◌<◌, ◌≤◌, ◌⊎◌, inl, inr, List, [], ◌∷◌, ◌++◌, map, length, drop, get_or, slice_get, Option, Some, None, Ok, Err, refl, sym, ◌∙◌, ap, subst, arith, append-nil}
 use Rattle.std.proofs.lemmas.Option.{slice_get_cases, slice_get_past}
 use Rattle.aj_paths.specs.Paths.{PathData}
 use Rattle.aj_cond.specs.Conditions.{Cond}
@@ -116,10 +116,6 @@ shape_wrong view P rel book m numbers method (line ∷ behind) fault so_far is s
     fault_here P rel book m (Some method) (Some line) fault is (front_of book.lines m line behind (sym so_far.at)).here so_far.shaped step
 
 -- behind the last method
-nil : (xs : List ℕ) → xs ++ [] ≡ xs
-nil [] = refl
-nil (x ∷ xs) = ap (λ t. x ∷ t) (nil xs)
-
 shaped_past : (methods : List Method) (lines : List Line) (m : ℕ) → m ≡ length methods → m ≡ length lines → ((k : ℕ) → k < m → IsShapedAt k (slice_get methods k) (slice_get lines k)) →
     (k : ℕ) → IsShapedAt k (slice_get methods k) (slice_get lines k)
 shaped_past methods lines m size size_too before k = chosen (slice_get_cases methods k).1
@@ -134,7 +130,7 @@ pub shapes_done : (P : Program) (rel : ℕ → List PathData) (book : Book) (m :
 shapes_done P rel book m numbers rest none so_far size =
     let e : [] ≡ drop m book.lines = sym none ∙ so_far.at in
     let past = past_of book.lines m so_far.within (sym e) in
-    (sym (nil numbers) ∙ ap (λ ls. numbers ++ numbers_of ls) e ∙ so_far.counted, sym past.1 ∙ size, shaped_past P.methods book.lines m size past.1 so_far.shaped)
+    (sym (append-nil numbers) ∙ ap (λ ls. numbers ++ numbers_of ls) e ∙ so_far.counted, sym past.1 ∙ size, shaped_past P.methods book.lines m size past.1 so_far.shaped)
 
 pub shapes_more_lines : (P : Program) (rel : ℕ → List PathData) (book : Book) (m : ℕ) (numbers : List ℕ) (rest behind : List Line) (line : Line) → rest ≡ line ∷ behind →
     ShapesSoFar P.methods book.lines m numbers rest → m ≡ length P.methods → IsWrong P rel book (wrong.Shape m 0)

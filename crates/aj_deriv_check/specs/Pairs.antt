@@ -1,5 +1,5 @@
 -- Parts of a sequence, two by two; and trees by the least path that they test.
-use Rattle.std.specs.Prelude.{List, [], ◌∷◌, Bool, true, false, Option, Some, None, if◌then◌else◌}
+use Rattle.std.specs.Prelude.{◌≡◌, ℕ, List, [], ◌∷◌, Bool, true, false, Option, Some, None, if◌then◌else◌}
 use Rattle.aj_paths.specs.Paths.{PathData, path_order, path_eq}
 use Rattle.aj_algebra.specs.Basics.{seq_of, below_of}
 use Rattle.aj_algebra.specs.HeldPaths.{Held}
@@ -21,6 +21,15 @@ ArePairsBelow v (w ∷ ws) d = IsPairBelow v w d × ArePairsBelow v ws d
 -- so are all of these, one after another, before a last one
 abbrev pub IsSequenceBelow : List Value → Value → Value → Type 0
 IsSequenceBelow vs l d = (H : Held) → AtMost (seq_of (in_sequence vs H) (l H)) (d H)
+
+-- a value changes nothing before another
+abbrev pub IsAbsorbed : (ℕ → Value) → Value → ℕ → Type 0
+IsAbsorbed V v n = (H : Held) → seq_of (V n H) (v H) ≡ v H
+
+-- none of these values does
+abbrev pub AreAbsorbed : (ℕ → Value) → Value → List ℕ → Type 0
+AreAbsorbed V v [] = Unit {0}
+AreAbsorbed V v (n ∷ ns) = IsAbsorbed V v n × AreAbsorbed V v ns
 
 -- the path that a tree tests first
 abbrev pub root_of : Cond → Option PathData

@@ -67,23 +67,6 @@ fn judged_book<L: Lines>(
     lines(alloc, &judge, from)
 }
 
-/// The judgement of the book at which a cursor stands.
-fn judged_text(
-    alloc: Global,
-    program: &CoreProgram,
-    sets: &RelevantSets,
-    cursor: BookCursor<'_>,
-) -> Result<(), Wrong>
-    requires { (book : Book) × IsCursorAt cursor book }
-    ensures { (book : Book) → IsCursorAt cursor.entry book → IsVerdict (program_of program.now) (rel_of sets.now) book result }
-{
-    let table = match cursor.table(alloc) {
-        Ok(table) => table,
-        Err(_) => return Err(Wrong::Memory),
-    };
-    judged_book(alloc, program, sets, table.as_slice(), cursor)
-}
-
 /// The judgement of a book in memory.
 fn judged_memory(
     alloc: Global,
@@ -97,6 +80,23 @@ fn judged_memory(
         lines: book.methods.as_slice(),
     };
     judged_book(alloc, program, sets, book.table.as_slice(), lines)
+}
+
+/// The judgement of the book at which a cursor stands. It is read into memory: there a node's premises are passed over at once.
+fn judged_text(
+    alloc: Global,
+    program: &CoreProgram,
+    sets: &RelevantSets,
+    cursor: BookCursor<'_>,
+) -> Result<(), Wrong>
+    requires { (book : Book) × IsCursorAt cursor book }
+    ensures { (book : Book) → IsCursorAt cursor.entry book → IsVerdict (program_of program.now) (rel_of sets.now) book result }
+{
+    let book = match cursor.book(alloc) {
+        Ok(book) => book,
+        Err(_) => return Err(Wrong::Memory),
+    };
+    judged_memory(alloc, program, sets, &book)
 }
 
 /// The judgement of a text for a program.

@@ -12,14 +12,13 @@ ghost use Rattle.aj_deriv_check.specs.Rules.{block_value, rule_of, stmt_rule as 
 ghost use Rattle.aj_deriv_check.specs.Walks.{part_of};
 
 use crate::judge::Judge;
-use crate::lookups::conclusion;
-use crate::pairs::{all_keep_paths, sequence_below};
+use crate::lookups::tree_at;
 use crate::parts::{BodyPart, inner_parts, part_word, same_length};
 use crate::rules::{expr_rule, stmt_rule};
-use crate::values::{below, leaf};
+use crate::sequences::{block_below, expr_below, stmt_below};
+use crate::values::below;
 use crate::walk::Asked;
-use crate::work::Work;
-use aj_algebra::Basic;
+use crate::work::{LITTLE, Work};
 use aj_cond::Tree;
 use aj_core::CoreStmt;
 use aj_deriv::{Nodes, Word};
@@ -107,30 +106,6 @@ fn rule_within(
     }
 }
 
-/// Whether a block's value is at most a tree, by pairs of its statements, none of which may declare a final local.
-#[tactic(auto, using(crate::proofs::PairLemmas::block_below))]
-fn block_below(
-    work: Work<'_>,
-    judge: &Judge<'_>,
-    body: &[CoreStmt],
-    numbers: &[u32],
-    d: &Tree,
-) -> Result<bool, NoMemory>
-    requires canonical { AreCanonical (judge_table judge.now) }
-    requires known { IsCanonical (cond_of d.now) }
-    ensures { IfOk result (λ b. (b ≡ true) ↔ ((H : Held) →
-        AtMost (block_value (judge_program judge.now) (stmts_from body.now) (map (judge_value judge.now) numbers.now) H) (value_of (cond_of d.now) H))) }
-{
-    if body.len() != numbers.len() {
-        return Err(NoMemory);
-    }
-    if !all_keep_paths(body) {
-        return Err(NoMemory);
-    }
-    let last = leaf(Basic::Const);
-    sequence_below(work, judge, numbers, &last, d)
-}
-
 /// Whether a tree is at or above the value that a statement's rule gives, with no tree for that value. Only for blocks; want of
 /// memory elsewhere.
 fn stmt_by_pairs(
@@ -173,7 +148,7 @@ fn is_step_by_pairs(
 /// Whether a tree is at or above the value that a part's rule gives. Where that value would be too large a tree, a block is judged
 /// by pairs of its statements.
 #[tactic(auto, using(crate::proofs::AskedLemmas::step_is))]
-fn is_step(
+fn is_step_by_value(
     alloc: Global,
     work: Work<'_>,
     judge: &Judge<'_>,
@@ -192,7 +167,50 @@ fn is_step(
     }
 }
 
-/// Asks whether a node's conclusion is at or above its rule's value.
+/// Whether a tree is at or above the value that a part's rule gives, where that takes little work and no tree for the value.
+fn is_step_at_once(
+    alloc: Global,
+    work: Work<'_>,
+    little: Work<'_>,
+    judge: &Judge<'_>,
+    part: BodyPart<'_>,
+    numbers: &[u32],
+    d: &Tree,
+) -> Result<bool, NoMemory>
+    requires canonical { AreCanonical (judge_table judge.now) }
+    requires known { IsCanonical (cond_of d.now) }
+    ensures { IfOk result (λ b. (b ≡ true) ↔ ((H : Held) →
+        AtMost (rule_of (judge_program judge.now) (judge_rel judge.now) (judge_assignment judge.now) (part_of part.entry) (map (judge_value judge.now) numbers.now) H) (value_of (cond_of d.now) H))) }
+{
+    match part {
+        BodyPart::Expr(e) => expr_below(alloc, work, little, judge, e, numbers, d),
+        BodyPart::Stmt(s) => stmt_below(alloc, work, little, judge, s, numbers, d),
+    }
+}
+
+/// Whether a tree is at or above the value that a part's rule gives.
+fn is_step(
+    alloc: Global,
+    work: Work<'_>,
+    judge: &Judge<'_>,
+    part: BodyPart<'_>,
+    numbers: &[u32],
+    d: &Tree,
+) -> Result<bool, NoMemory>
+    requires canonical { AreCanonical (judge_table judge.now) }
+    requires known { IsCanonical (cond_of d.now) }
+    ensures { IfOk result (λ b. (b ≡ true) ↔ ((H : Held) →
+        AtMost (rule_of (judge_program judge.now) (judge_rel judge.now) (judge_assignment judge.now) (part_of part.entry) (map (judge_value judge.now) numbers.now) H) (value_of (cond_of d.now) H))) }
+{
+    let left = Cell::new(LITTLE);
+    match is_step_at_once(alloc, work, Work::little(&left), judge, part, numbers, d) {
+        Ok(is) => Ok(is),
+        Err(_) => is_step_by_value(alloc, work, judge, part, numbers, d),
+    }
+}
+
+/// Asks whether a node's conclusion is at or above its rule's value. Want of memory where its number has no tree, which no book
+/// has.
 #[derive(Clone, Copy)]
 pub(crate) struct Steps<'a> {
     pub(crate) judge: &'a Judge<'a>,
@@ -212,15 +230,10 @@ impl<'a> Asked for Steps<'a> {
         number: u32,
         premises: F,
     ) -> Result<bool, NoMemory> {
+        let Some(d) = tree_at(self.judge.table, number) else {
+            return Err(NoMemory);
+        };
         let numbers = numbers(alloc, premises)?;
-        let conclusion = conclusion(alloc, self.work, self.judge, number)?;
-        is_step(
-            alloc,
-            self.work,
-            self.judge,
-            part,
-            numbers.as_slice(),
-            &conclusion,
-        )
+        is_step(alloc, self.work, self.judge, part, numbers.as_slice(), d)
     }
 }

@@ -13,6 +13,7 @@ mod pairs;
 mod parts;
 mod passes;
 mod rules;
+mod sequences;
 mod values;
 mod walk;
 mod work;

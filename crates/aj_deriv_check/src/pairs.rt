@@ -1,6 +1,6 @@
 //! Whether a sequence is at most a tree, with no tree for the sequence: it is exactly where each two of its parts are, the one
 //! after the other. Two parts are compared with the tree at once, down all three, and nothing takes memory.
-ghost use Rattle.std.specs.Prelude.{◌≡◌, ◌↔◌, true, map, IfOk};
+ghost use Rattle.std.specs.Prelude.{◌≡◌, ◌↔◌, ◌&&◌, true, map, IfOk};
 ghost use Rattle.std.specs.List.{list_all};
 ghost use Rattle.std.specs.Option.{option_copied};
 ghost use Rattle.aj_cond.specs.Conditions.{cond_of, value_of, IsCanonical};
@@ -77,7 +77,13 @@ fn leaves_below(t: &Tree, u: &Tree, d: &Tree) -> bool
 }
 
 /// Whether two trees, one after the other, are at most a third.
-fn pair_below(work: Work<'_>, depth: u32, t: &Tree, u: &Tree, d: &Tree) -> Result<bool, NoMemory>
+pub(crate) fn pair_below(
+    work: Work<'_>,
+    depth: u32,
+    t: &Tree,
+    u: &Tree,
+    d: &Tree,
+) -> Result<bool, NoMemory>
     requires first { IsCanonical (cond_of t.now) }
     requires second { IsCanonical (cond_of u.now) }
     requires third { IsCanonical (cond_of d.now) }
@@ -156,8 +162,15 @@ pub(crate) fn sequence_below(
     pair_below(work, MOST_DEPTH, &none, last, d)
 }
 
+/// Whether both hold.
+pub(crate) fn both(first: bool, second: bool) -> bool
+    ensures { result ≡ (first && second) }
+{
+    first && second
+}
+
 /// Whether the paths that are held behind a statement are those before it.
-fn keeps_paths(s: &CoreStmt) -> bool
+pub(crate) fn keeps_paths(s: &CoreStmt) -> bool
     ensures { result ≡ keeps_paths_of (stmt_of s.now) }
 {
     !matches!(s, CoreStmt::Local { is_final: true, .. })

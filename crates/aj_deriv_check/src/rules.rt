@@ -1,6 +1,8 @@
 //! The rules on trees: the value of a node from the numbers of its premises' conclusions.
-ghost use Rattle.std.specs.Prelude.{◌≡◌, IfOk, map, slice_get, if◌then◌else◌};
+ghost use Rattle.std.specs.Prelude.{◌≡◌, ◌==◌, ℕ, true, IfOk, map, slice_get, if◌then◌else◌};
+ghost use Rattle.std.specs.List.{list_any};
 ghost use Rattle.std.specs.Option.{option_copied};
+ghost use Rattle.aj_algebra.specs.declared.basic.Basic.TheVariants.{Const};
 ghost use Rattle.aj_algebra.specs.Basics.{seq_of};
 ghost use Rattle.aj_algebra.specs.HeldPaths.{Held};
 ghost use Rattle.aj_cond.specs.Conditions.{cond_of, value_of, IsCanonical};
@@ -10,11 +12,13 @@ ghost use Rattle.aj_rules.specs.Effect.{access_of, after_stmt, call_of, required
 ghost use Rattle.aj_rules.specs.Mentions.{paths_of};
 ghost use Rattle.aj_rules.specs.Near.{rel_of};
 ghost use Rattle.aj_deriv_check.specs.Judges.{judge_assignment, judge_program, judge_rel, judge_table, judge_value, AreCanonical};
-ghost use Rattle.aj_deriv_check.specs.Rules.{block_value, choice_value, expr_rule as expr_rule_of, in_sequence, lock_value, loop_value, stmt_rule as stmt_rule_of};
+ghost use Rattle.aj_deriv_check.specs.Rules.{block_value, choice_value, expr_rule as expr_rule_of, in_sequence, lock_value, loop_value, stmt_rule as stmt_rule_of, Value};
+ghost use Rattle.aj_deriv_check.specs.Pairs.{AreAbsorbed, IsAbsorbed};
 
 use crate::judge::Judge;
 use crate::lookups::{assigned, conclusion, required};
 use crate::names::{at_call, before, with_required};
+use crate::pairs::{both, keeps_paths};
 use crate::values::{held_or, join, leaf, seq, star, sync, then_basic};
 use crate::work::Work;
 use aj_algebra::Basic;
@@ -23,6 +27,9 @@ use aj_core::{CoreExpr, CoreProgram, CoreStmt, path_of};
 use aj_paths::{FieldId, MethodId, Path};
 use aj_rules::{Guard, guard_at};
 use std::alloc::{AllocError as NoMemory, Global};
+
+/// How many numbers are noted at most.
+const MOST_NOTED: usize = 16;
 
 /// Premises one after another. Their number is that of a call's arguments at most, so the recursion isn't deep.
 fn sequence(
@@ -58,7 +65,7 @@ fn held_or_else(
 }
 
 /// Reading or writing a field of this receiver.
-fn access(
+pub(crate) fn access(
     alloc: Global,
     work: Work<'_>,
     program: &CoreProgram,
@@ -129,7 +136,7 @@ fn call_by_paths(
 }
 
 /// The last part of a call.
-fn call(
+pub(crate) fn call(
     alloc: Global,
     work: Work<'_>,
     judge: &Judge<'_>,
@@ -265,6 +272,52 @@ fn locked(
     sync(alloc, work, path, &body)
 }
 
+/// The value of the rest of a block, and the numbers of trees that are known to change nothing before it.
+#[derive(Drop)]
+struct Rest {
+    value: Tree,
+    absorbed: Vec<u32>,
+}
+
+/// What is left behind the last statement.
+fn nothing_left(alloc: Global) -> Rest
+    ensures known { IsCanonical (cond_of result.value) }
+    ensures absorbed { (V : ℕ → Value) → AreAbsorbed V (value_of (cond_of result.value)) result.absorbed.items }
+    ensures value { (H : Held) → value_of (cond_of result.value) H ≡ Const }
+{
+    Rest {
+        value: Tree::Leaf(Basic::Const),
+        absorbed: Vec::new(alloc),
+    }
+}
+
+/// Whether a list has a number.
+fn has_number(numbers: &[u32], number: u32) -> bool
+    ensures { result ≡ list_any (λ n. n == number) numbers.now }
+{
+    numbers.contains(&number)
+}
+
+/// The list with a number that is absorbed, where the list is short; no list where the number isn't.
+fn noted(
+    alloc: Global,
+    absorbed: Vec<u32>,
+    number: u32,
+    is_absorbed: bool,
+) -> Result<Vec<u32>, NoMemory>
+    ensures { (V : ℕ → Value) (v : Value) → (is_absorbed ≡ true → AreAbsorbed V v absorbed.items × IsAbsorbed V v number) → IfOk result (λ r. AreAbsorbed V v r.items) }
+{
+    if !is_absorbed {
+        return Ok(Vec::new(alloc));
+    }
+    if absorbed.len() >= MOST_NOTED {
+        return Ok(absorbed);
+    }
+    let mut longer = absorbed;
+    longer.push(number)?;
+    Ok(longer)
+}
+
 /// A statement of a block and then the rest of the block, from the rest's value.
 fn statement_and_rest(
     alloc: Global,
@@ -272,17 +325,29 @@ fn statement_and_rest(
     judge: &Judge<'_>,
     s: &CoreStmt,
     number: u32,
-    rest: Tree,
-) -> Result<Tree, NoMemory>
+    rest: Rest,
+) -> Result<Rest, NoMemory>
     requires canonical { AreCanonical (judge_table judge.now) }
-    requires known { IsCanonical (cond_of rest) }
-    ensures known { IfOk result (λ r. IsCanonical (cond_of r)) }
-    ensures value { IfOk result (λ r. (H : Held) → value_of (cond_of r) H ≡
-        seq_of (judge_value judge.now number H) (value_of (cond_of rest) (after_stmt (judge_program judge.now) (stmt_of s.now) H))) }
+    requires known { IsCanonical (cond_of rest.value) }
+    requires absorbed { AreAbsorbed (judge_value judge.now) (value_of (cond_of rest.value)) rest.absorbed.items }
+    ensures known { IfOk result (λ r. IsCanonical (cond_of r.value)) }
+    ensures absorbed { IfOk result (λ r. AreAbsorbed (judge_value judge.now) (value_of (cond_of r.value)) r.absorbed.items) }
+    ensures value { IfOk result (λ r. (H : Held) → value_of (cond_of r.value) H ≡
+        seq_of (judge_value judge.now number H) (value_of (cond_of rest.value) (after_stmt (judge_program judge.now) (stmt_of s.now) H))) }
 {
+    let keeps = keeps_paths(s);
+    if both(keeps, has_number(rest.absorbed.as_slice(), number)) {
+        return Ok(rest);
+    }
+    let Rest { value, absorbed } = rest;
+    let later = before(alloc, work, judge.program, s, value)?;
     let first = conclusion(alloc, work, judge, number)?;
-    let rest = before(alloc, work, judge.program, s, rest)?;
-    seq(alloc, work, &first, &rest)
+    let whole = seq(alloc, work, &first, &later)?;
+    let longer = noted(alloc, absorbed, number, both(keeps, whole.same(&later)))?;
+    Ok(Rest {
+        value: whole,
+        absorbed: longer,
+    })
 }
 
 /// The statements of a block, from the last to the first.
@@ -298,13 +363,13 @@ fn block(
     ensures value { IfOk result (λ r. (H : Held) → value_of (cond_of r) H ≡
         block_value (judge_program judge.now) (stmts_from body.now) (map (judge_value judge.now) numbers.now) H) }
 {
-    let mut rest = leaf(Basic::Const);
+    let mut rest = nothing_left(alloc);
     let mut place = body.len().min(numbers.len());
     while place > 0 {
         place -= 1;
         rest = statement_and_rest(alloc, work, judge, &body[place], numbers[place], rest)?;
     }
-    Ok(rest)
+    Ok(rest.value)
 }
 
 /// The value of a statement's node.

@@ -5,6 +5,9 @@ use std::cell::Cell;
 /// How many pairs of subtrees one operation may visit, where the near paths of the method don't ask for more.
 const SMALL: u32 = 1 << 14;
 
+/// How many pairs of subtrees the step of a node may visit where no tree is made for its value. What needs more is begun anew.
+pub(crate) const LITTLE: u32 = 1 << 8;
+
 /// How deep an operation may go.
 pub(crate) const MOST_DEPTH: u32 = 512;
 
@@ -36,6 +39,11 @@ impl<'a> Work<'a> {
             free: pairs_over(near),
             left,
         }
+    }
+
+    /// This little work.
+    pub(crate) fn little(left: &'a Cell<u32>) -> Work<'a> {
+        Work { free: 0, left }
     }
 
     /// The work for any method.

@@ -18,8 +18,9 @@ use Rattle.aj_safe.specs.Safe.{IsFree, IsSafe, flags_after}
 use Rattle.aj_turn.specs.Turn.{Accepted}
 use Rattle.aj_state.proofs.MemoryLemmas.{set_other}
 use Rattle.std.specs.Prelude.{slice_set}
+use Rattle.std.proofs.lemmas.Bool.{eqb-false}
 use Rattle.aj_steps.proofs.Changed.{ThreadAfter, kept, begun, thread_after}
-use Rattle.aj_held.proofs.SafeSteps.{step_fine, step_safe, initial_safe, other_number}
+use Rattle.aj_held.proofs.SafeSteps.{step_fine, step_safe, initial_safe}
 use Rattle.aj_held.proofs.UnitWords.{Judged, added_entry, judged_words, itself}
 
 moves_in : (P : Program) (q r : State) (t : ℕ) (o : Outcome) → outcome P q t ≡ o → state_after q t o ≡ Some r → (move : Move) × (outcome P q t ≡ Moves move) × (moved t move q ≡ r)
@@ -79,7 +80,7 @@ module _ (P : Program) (rel : ℕ → List PathData) (A : Assignment) (accepted 
 
   other_inside : (q : State) (t v : ℕ) (move : Move) → (v == t) ≡ false → inside P (moved t move q) v ≡ inside P q v
   other_inside q t v move other =
-      inside_after move.change _ _ (thread_after move.change (record q { threads = slice_set q.threads t move.thread }) v) ∙ ap (is_inside_some P) (set_other q.threads t v move.thread (other_number v t other))
+      inside_after move.change _ _ (thread_after move.change (record q { threads = slice_set q.threads t move.thread }) v) ∙ ap (is_inside_some P) (set_other q.threads t v move.thread (eqb-false v t other))
 
   other_flag : (q : State) (flags : ℕ → Bool) (t v : ℕ) (move : Move) → (v == t) ≡ false → call_flag q flags v ≡ call_flag (moved t move q) (flags_after P q flags t move.kind) v
   other_flag q flags t v move other = λ i. sym (other_inside q t v move other) i && sym (ap (λ b. if b then (inside P q t && flags t) || is_commit move.kind else flags v) other) i

@@ -4,7 +4,7 @@ use Rattle.std.specs.Prelude.{Option, slice_get, slice_set, if◌then◌else◌}
 use Rattle.std.proofs.lemmas.Bool.Decides.{nat_tests}
 use Rattle.std.specs.FinMap as M
 use Rattle.std.specs.FinMap.{get-empty}
-use Rattle.std.proofs.lemmas.Bool.{eqb-true}
+use Rattle.std.proofs.lemmas.Bool.{eqb-true, eqb-false}
 use Rattle.aj_paths.specs.Paths.{PathData}
 use Rattle.aj_core.specs.Core.{Program}
 use Rattle.aj_rules.specs.Effect.{Assignment}
@@ -25,9 +25,6 @@ use Rattle.aj_turn.specs.Turn.{Accepted, StepFine, Fine, StartFine}
 use Rattle.aj_steps.specs.Changes.{objects_after, locks_after}
 use Rattle.aj_turn.proofs.ThreadTurn.{turn_fine}
 use Rattle.aj_steps.proofs.Changed.{heap_after, locks_are, ThreadAfter, kept, begun, thread_after}
-
-pub other_number : (a b : ℕ) → (a == b) ≡ false → a ≢ b
-other_number a b e = grind (arith, nat_tests)
 
 module _ (P : Program) (rel : ℕ → List PathData) (A : Assignment) where
   -- a step of another thread keeps a thread safe
@@ -72,7 +69,7 @@ module _ (P : Program) (rel : ℕ → List PathData) (A : Assignment) where
           subst (λ v. IsSafeThread P rel A next_memory (locks_after move.change (M.get q.locks)) v ((inside P q t && flags t) || is_commit move.kind) (slice_get half.threads v)) (sym (eqb-true u t same))
           (subst (IsSafeThread P rel A next_memory (locks_after move.change (M.get q.locks)) t ((inside P q t && flags t) || is_commit move.kind)) (sym own_thread) fine.thread)
       before_start u false other =
-          subst (IsSafeThread P rel A next_memory (locks_after move.change (M.get q.locks)) u (flags u)) (sym (set_other q.threads t u move.thread (other_number u t other)))
+          subst (IsSafeThread P rel A next_memory (locks_after move.change (M.get q.locks)) u (flags u)) (sym (set_other q.threads t u move.thread (eqb-false u t other)))
           (others_safe (memory_of P (M.get q.heap)) next_memory (M.get q.locks) (locks_after move.change (M.get q.locks)) u (flags u) fine.grows (fine.others u other) (slice_get q.threads u) (safe.at u))
 
       thread_safe : (u : ℕ) → IsSafeThread P rel A next_memory (locks_after move.change (M.get q.locks)) u (flags_after P q flags t move.kind u) (slice_get (moved t move q).threads u)

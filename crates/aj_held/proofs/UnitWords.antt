@@ -3,6 +3,7 @@ use Rattle.std.proofs.Common.{◌≡◌, ℕ, zero, suc, Bool, true, false, ◌&
 use Rattle.std.specs.Prelude.{slice_get, if◌then◌else◌}
 use Rattle.std.specs.List.{list_all}
 use Rattle.std.proofs.lemmas.Bool.Decides.{nat_tests}
+use Rattle.std.proofs.lemmas.Bool.{and_from}
 use Rattle.aj_state.specs.declared.value.StepKind.{StepKind}
 use Rattle.aj_state.specs.declared.value.StepKind.TheVariants.{Both, Right, Left, Other, Bare}
 use Rattle.aj_steps.specs.Units.{Entry, added, is_of_thread, is_commit, word_of, units}
@@ -14,10 +15,6 @@ use Rattle.aj_safe.specs.Phases.{phase_of, allowed}
 abbrev pub accepts : (committed : Bool) → List StepKind → Bool
 accepts c [] = true
 accepts c (k ∷ ks) = allowed (phase_of true c) k && accepts (c || is_commit k) ks
-
-pub both_true : (a b : Bool) → a ≡ true → b ≡ true → (a && b) ≡ true
-both_true true b e k = k
-both_true false b e k = absurd cc
 
 lefts : (word : List StepKind) → accepts true word ≡ true → list_all moves_left word ≡ true
 lefts [] e = refl
@@ -72,12 +69,12 @@ module _ (e : Entry) where
   judged_added [] S T others own allow j = ((λ v is. first_word v (same_thread e.thread v (eqb_turned v e.thread ∙ is))), tt)
     where
       first_word : (v : ℕ) → v ≡ e.thread → (allowed (phase_of true (S v)) e.kind && true) ≡ true
-      first_word v same = both_true _ true (ap (λ w. allowed (phase_of true (S w)) e.kind) same ∙ allow) refl
+      first_word v same = and_from _ true (ap (λ w. allowed (phase_of true (S w)) e.kind) same ∙ allow) refl
   judged_added (u ∷ us) S T others own allow j = by_thread (is_of_thread e.thread u) refl (λ S2 T2 o w. judged_added us S2 T2 o w)
     where
       -- the first unit is of the entry's thread
       whole_word : is_of_thread e.thread u ≡ true → (v : ℕ) → v ≡ e.thread → (allowed (phase_of true (S v)) e.kind && accepts (S v || is_commit e.kind) (word_of u)) ≡ true
-      whole_word mine v same = both_true _ _ (ap (λ w. allowed (phase_of true (S w)) e.kind) same ∙ allow)
+      whole_word mine v same = and_from _ _ (ap (λ w. allowed (phase_of true (S w)) e.kind) same ∙ allow)
           (ap (λ w. accepts (S w || is_commit e.kind) (word_of u)) same ∙ ap (λ b. accepts b (word_of u)) (sym own) ∙ j.0 e.thread mine)
 
       rest_same : is_of_thread e.thread u ≡ true → (v : ℕ) (b : Bool) → (v == e.thread) ≡ b → (if is_of_thread v u then false else T v) ≡ (if e.thread == v then false else S v)
@@ -109,7 +106,7 @@ pub added_entry : (e : Entry) (us : List (List Entry)) (S T : ℕ → Bool) → 
     → allowed (phase_of true (S e.thread)) e.kind ≡ true → Judged T us → Judged S (if after then added e us else (e ∷ []) ∷ us)
 added_entry e us S T others true stays leaves allow j = judged_added e us S T others (stays refl) allow j
 added_entry e us S T others false stays leaves allow j = (
-  (λ v is. both_true _ true (ap (λ w. allowed (phase_of true (S w)) e.kind) (same_thread e.thread v (eqb_turned v e.thread ∙ is)) ∙ allow) refl),
+  (λ v is. and_from _ true (ap (λ w. allowed (phase_of true (S w)) e.kind) (same_thread e.thread v (eqb_turned v e.thread ∙ is)) ∙ allow) refl),
   judged_same T (λ v. if e.thread == v then false else S v) (λ v. rest v (v == e.thread) refl) us j,
 )
   where

@@ -8,7 +8,8 @@ pub loop-place-init : goal.loop-place-init
 loop-place-init c = record {
   within = omega (arith, c.min-place.ensures);
   counted = omega (arith, c.min-place.ensures);
-  known = c.leaf-rest.ensures.known;
-  value = λ H. c.leaf-rest.ensures.value H
+  known = c.nothing_left-rest.ensures.known;
+  absorbed = c.nothing_left-rest.ensures.absorbed (judge_value c.args.judge.now);
+  value = λ H. c.nothing_left-rest.ensures.value H
       ∙ sym (block_end (judge_program c.args.judge.now) (judge_value c.args.judge.now) c.args.body.now c.args.numbers.now c.min-place.result H c.min-place.ensures);
 }

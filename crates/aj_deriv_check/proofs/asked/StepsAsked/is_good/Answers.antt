@@ -3,19 +3,20 @@ use Rattle.std.proofs.Common.{ap, map, ◌∙◌}
 use Rattle.aj_cond.specs.Conditions.{cond_of, value_of}
 use Rattle.aj_deriv.specs.Derivations.{node}
 use Rattle.aj_deriv_check.specs.Good.{rule_at}
-use Rattle.aj_deriv_check.specs.Judges.{judge_assignment, judge_program, judge_rel, judge_value}
+use Rattle.aj_deriv_check.specs.Judges.{judge_assignment, judge_program, judge_rel, judge_table, judge_value}
 use Rattle.aj_deriv_check.specs.Rules.{rule_of}
 use Rattle.aj_deriv_check.specs.Walks.{part_of}
 use Rattle.aj_deriv_check.proofs.AskedLemmas.{step_is}
+use Rattle.aj_deriv_check.proofs.PairLemmas.{tabled_same}
 use Rattle.aj_deriv_check.proofs.asked.StepsAsked.is_good.Goals as goal
 
 pub returns : goal.returns
 returns g c =
     let j = c.args.self.now.judge.now in
     step_is c.is_step.result (rule_of (judge_program j) (judge_rel j) (judge_assignment j) (part_of c.args.part) (map (judge_value j) c.as_slice.result.now))
-    (value_of (cond_of c.in_ok-conclusion.conclusion))
+    (value_of (cond_of c.in-Some.d.now))
     (rule_at (judge_program j) (judge_rel j) (judge_value j) (judge_assignment j) (record { part = part_of c.args.part; at = node c.args._word c.args.number (g.F.Nodes.nodes c.args.premises) }))
     (judge_value j c.args.number)
     (λ H. ap (λ vs. rule_of (judge_program j) (judge_rel j) (judge_assignment j) (part_of c.args.part) vs H) (ap (map (judge_value j)) c.as_slice.ensures.value ∙ c.in_ok-numbers.ensures (judge_value j)))
-    (λ H. c.in_ok-conclusion.ensures.value H)
+    (tabled_same (judge_table j) c.args.number (cond_of c.in-Some.d.now) c.in-Some.ensures.tree)
     c.is_step.ensures

@@ -2,7 +2,7 @@
 use Rattle.aj_cond.specs.Conditions.{cond_of, value_of}
 use Rattle.aj_deriv_check.specs.Judges.{judge_program, judge_value}
 use Rattle.aj_deriv_check.proofs.PairLemmas.{block_below}
-use Rattle.aj_deriv_check.proofs.asked.block_below.Goals as goal
+use Rattle.aj_deriv_check.proofs.sequences.block_below.Goals as goal
 
 pub returns : goal.returns
 returns c =
