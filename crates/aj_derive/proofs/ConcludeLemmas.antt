@@ -1,27 +1,24 @@
 -- What nodes conclude stays so over more trees, and under other numbers.
-use Rattle.std.proofs.Common.{◌≡◌, ℕ, zero, suc, ◌+◌, ◌-◌, ◌<◌, List, [], ◌∷◌, ◌++◌, map, length, Some, slice_get, refl, sym, ◌∙◌, ap, subst, arith, ◌⊎◌, inl, inr}
+use Rattle.std.proofs.Common.{◌≡◌, ℕ, zero, suc, ◌<◌, List, [], ◌∷◌, ◌++◌, length, Some, slice_get, refl, sym, ◌∙◌, ap, subst, arith}
 use Rattle.std.proofs.lemmas.Option.{slice_get_within}
 use Rattle.aj_paths.specs.Paths.{PathData}
 use Rattle.aj_algebra.specs.HeldPaths.{Held}
 use Rattle.aj_core.specs.Core.{Program}
-use Rattle.aj_cond.specs.Conditions.{Cond, value_of, IsCanonical}
+use Rattle.aj_cond.specs.Conditions.{Cond, value_of}
 use Rattle.aj_rules.specs.Effect.{Assignment}
 use Rattle.aj_deriv.specs.declared.word.Word.{Word}
 use Rattle.aj_deriv.specs.Derivations.{Node, node, Nodes, no_nodes, and_node, number_of, count_nodes}
 use Rattle.aj_deriv.specs.Books.{IsNumbered, AreNumbered}
 use Rattle.aj_deriv_check.specs.Parts.{Part, word_of, parts_of, places, places_of, Fits, Each}
-use Rattle.aj_deriv_check.specs.Rules.{Value, rule_of}
+use Rattle.aj_deriv_check.specs.Rules.{rule_of}
 use Rattle.aj_deriv_check.specs.Good.{tree_value, table_value, conclusions, IsExact}
 use Rattle.aj_deriv.specs.Memory.{node_of, nodes_at}
 use Rattle.aj_deriv.specs.declared.derivation.Derivation.{Derivation}
-use Rattle.aj_deriv_check.specs.declared.judge.Judge.{Judge}
-use Rattle.aj_deriv_check.specs.Judges.{number_value, judge_program, judge_rel, judge_assignment, judge_table, judge_value, AreCanonical}
 use Rattle.aj_deriv_check.proofs.Lists.{each_both, each_none, each_one}
 use Rattle.aj_deriv_check.proofs.Above.{part_effect, effects_of, rule_is}
-use Rattle.aj_derive.specs.Derived.{trees_assign}
-use Rattle.aj_derive.specs.Concluded.{Concludes, ConcludeAll, numbers_from, BeginsWith}
+use Rattle.aj_derive.specs.Concluded.{Concludes, ConcludeAll, BeginsWith}
 use Rattle.aj_derive.specs.Moved.{IsSame, AreSame}
-use Rattle.aj_derive.proofs.Rows.{get_begins, get_last, get_pushed, pushed_more}
+use Rattle.aj_derive.proofs.Rows.{get_begins, get_last}
 
 -- as many nodes, and as many values
 same_count : (from to : List Cond) (ds es : Nodes) → AreSame from to ds es → count_nodes es ≡ count_nodes ds
@@ -155,20 +152,6 @@ module _ (P : Program) (rel : ℕ → List PathData) (A : Assignment) where
           let rest = all_effects xs ds all.1 in
           λ i. first i ∷ rest i
 
--- the numbers of the first trees are those of the assignment
-first_assigned : (own table : List Cond) (k m : ℕ) (H : Held) → ((i : ℕ) (t : Cond) → slice_get own i ≡ Some t → slice_get table (k + i) ≡ Some t) →
-    number_value table (slice_get (numbers_from k (length own)) m) H ≡ tree_value (slice_get own m) H
-first_assigned [] table k m H at = refl
-first_assigned (t ∷ own) table k zero H at = let e : k + 0 ≡ k = omega arith in ap (λ o. tree_value o H) (ap (slice_get table) (sym e) ∙ at 0 t refl)
-first_assigned (t ∷ own) table k (suc m) H at =
-    first_assigned own table (suc k) m H (λ i u e. let same : suc k + i ≡ k + suc i = omega arith in ap (slice_get table) same ∙ at (suc i) u e)
-
-pub assigned_first : (own table : List Cond) (lines : List ℕ) → lines ≡ numbers_from 0 (length own) → BeginsWith own table → (m : ℕ) (H : Held) →
-    number_value table (slice_get lines m) H ≡ trees_assign own m H
-assigned_first own table lines e begins m H =
-    ap (λ ls. number_value table (slice_get ls m) H) e
-    ∙ first_assigned own table 0 m H (λ i t at. let same : 0 + i ≡ i = omega arith in ap (slice_get table) same ∙ get_begins own table i t begins at)
-
 -- one part more, and then the others
 pub all_more : (P : Program) (rel : ℕ → List PathData) (A : Assignment) (mid table : List Cond) (xs : List Part) (x : Part) (rest : List Part) (d : Derivation) (later : List Derivation) → xs ≡ x ∷ rest →
     BeginsWith mid table → Concludes P rel A mid x (node_of d) → ConcludeAll P rel A table rest (nodes_at later) → ConcludeAll P rel A table xs (nodes_at (d ∷ later))
@@ -177,30 +160,3 @@ all_more P rel A mid table xs x rest d later e begins first others =
 
 pub all_none : (P : Program) (rel : ℕ → List PathData) (A : Assignment) (table : List Cond) (xs : List Part) → xs ≡ [] → ConcludeAll P rel A table xs no_nodes
 all_none P rel A table xs e = subst (λ k. ConcludeAll P rel A table k no_nodes) (sym e) tt
-
-pub canonical_pushed : (table new : List Cond) (t : Cond) → AreCanonical table → IsCanonical t → new ≡ table ++ (t ∷ []) → AreCanonical new
-canonical_pushed table new t are is pushed = subst AreCanonical (sym pushed) (λ n u at. chosen n u (get_pushed table t n u at))
-  where
-    chosen : (n : ℕ) (u : Cond) → (slice_get table n ≡ Some u) ⊎ ((n ≡ length table) × (t ≡ u)) → IsCanonical u
-    chosen n u (inl at) = are n u at
-    chosen n u (inr last) = subst IsCanonical last.1 is
-
--- what a rule gives in memory
-pub judged_rule : (judge : Judge) (own : List Cond) (x : Part) (numbers : List ℕ) (ds : Nodes) → judge.lines.now ≡ numbers_from 0 (length own) → BeginsWith own (judge_table judge) →
-    ((V : ℕ → Value) → map V numbers ≡ conclusions V ds) → (H : Held) →
-    rule_of (judge_program judge) (judge_rel judge) (judge_assignment judge) x (map (judge_value judge) numbers) H
-    ≡ rule_of (judge_program judge) (judge_rel judge) (trees_assign own) x (conclusions (table_value (judge_table judge)) ds) H
-judged_rule judge own x numbers ds e begins same H =
-    let one : judge_assignment judge ≡ trees_assign own = λ i m K. assigned_first own (judge_table judge) judge.lines.now e begins m K i in
-    ap (λ vs. rule_of (judge_program judge) (judge_rel judge) (judge_assignment judge) x vs H) (same (judge_value judge))
-    ∙ ap (λ A. rule_of (judge_program judge) (judge_rel judge) A x (conclusions (table_value (judge_table judge)) ds) H) one
-
--- one number more
-pub numbers_more : (numbers new all : List ℕ) (n k count : ℕ) → n < count → k ≡ n → new ≡ numbers ++ (k ∷ []) → numbers ++ numbers_from n (count - n) ≡ all → new ++ numbers_from (n + 1) (count - (n + 1)) ≡ all
-numbers_more numbers new all n k count below same pushed so_far =
-    let left : count - n ≡ suc (count - (n + 1)) = omega (arith, below) in
-    let next : n + 1 ≡ suc n = omega arith in
-    pushed_more numbers new k (numbers_from (n + 1) (count - (n + 1))) pushed
-    ∙ (λ i. numbers ++ (same i ∷ numbers_from (next i) (count - (n + 1))))
-    ∙ ap (λ c. numbers ++ numbers_from n c) (sym left)
-    ∙ so_far

@@ -1,5 +1,8 @@
 -- The lemmas that several proofs share.
 mod Rows
+mod Tables
+mod Blocks
+mod RuleLemmas
 mod PoolLemmas
 mod ConcludeLemmas
 mod MoveLemmas

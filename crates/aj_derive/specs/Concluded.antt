@@ -1,5 +1,5 @@
 -- What nodes conclude exactly.
-use Rattle.std.specs.Prelude.{◌≡◌, ℕ, zero, suc, ◌<◌, List, [], ◌∷◌, ◌++◌, map, length}
+use Rattle.std.specs.Prelude.{◌≡◌, ℕ, ◌<◌, List, [], ◌∷◌, ◌++◌, map, length}
 use Rattle.aj_paths.specs.Paths.{PathData}
 use Rattle.aj_core.specs.Core.{Program}
 use Rattle.aj_core.specs.Views.{program_of}
@@ -25,11 +25,6 @@ module _ (P : Program) (rel : ℕ → List PathData) (A : Assignment) (table : L
     ConcludeAll [] (and_node d ds) = ⊥
     ConcludeAll (x ∷ xs) no_nodes = ⊥
     ConcludeAll (x ∷ xs) (and_node d ds) = Concludes x d × ConcludeAll xs ds
-
--- so many numbers from this one on
-abbrev pub numbers_from : ℕ → ℕ → List ℕ
-numbers_from first zero = []
-numbers_from first (suc count) = first ∷ numbers_from (suc first) count
 
 -- the trees that are assigned to the methods
 abbrev pub own_trees : Basis → List Cond

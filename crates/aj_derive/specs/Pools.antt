@@ -1,7 +1,8 @@
 -- Trees, each once.
-use Rattle.std.specs.Prelude.{◌≡◌, ◌⊎◌, ℕ, ◌^◌, ◌<◌, List, [], ◌∷◌, ◌++◌, map, length, Some, slice_get, string_bytes}
+use Rattle.std.specs.Prelude.{◌≡◌, ◌⊎◌, ℕ, ◌^◌, ◌<◌, List, [], ◌∷◌, ◌++◌, map, length, Some, slice_get}
 use Rattle.aj_cond.specs.Conditions.{Cond, cond_of}
-use Rattle.aj_cond.specs.Texts.{text_of}
+use Rattle.aj_nodes.specs.Nodes.{Items}
+use Rattle.aj_nodes.specs.Shown.{AreThere, trees_at}
 use Rattle.aj_deriv.specs.Books.{AreTrees, HasPaths, tests_high}
 use Rattle.aj_derive.specs.declared.pool.Pool.{Pool}
 use Rattle.aj_derive.specs.Derived.{AreDistinct}
@@ -10,12 +11,17 @@ use Rattle.aj_derive.specs.Derived.{AreDistinct}
 abbrev pub pool_table : Pool → List Cond
 pool_table pool = map cond_of pool.trees.items
 
--- the trees can stand in a table, each stands once, and the texts are theirs
-pub record IsPool (pool : Pool) : Type 0 where
-  pub few : length (pool_table pool) < 2 ^ 32
-  pub trees : AreTrees (pool_table pool)
-  pub distinct : AreDistinct (pool_table pool)
-  pub texts : map string_bytes pool.texts.keys ≡ map text_of (pool_table pool)
+-- the trees can stand in a table, and each stands once
+pub record ArePooled (table : List Cond) : Type 0 where
+  pub few : length table < 2 ^ 32
+  pub trees : AreTrees table
+  pub distinct : AreDistinct table
+
+-- the trees are those of the nodes
+pub record IsPool (is : Items) (pool : Pool) : Type 0 where
+  pub pooled : ArePooled (pool_table pool)
+  pub there : AreThere (length is) pool.nodes.keys
+  pub nodes : trees_at is pool.nodes.keys ≡ pool_table pool
 
 -- the number of a tree in a table, to which it was added where it wasn't there
 abbrev pub IsNumberIn : List Cond → Cond → ℕ → List Cond → Type 0

@@ -1,89 +1,115 @@
 //! What the nodes of a body conclude, from the leaves up.
-ghost use Rattle.std.specs.Prelude.{◌≡◌, ℕ, map, length, IfOk, OnOk};
+ghost use Rattle.std.specs.Prelude.{◌≡◌, map, length, IfOk, OnOk};
 ghost use Rattle.aj_algebra.specs.HeldPaths.{Held};
-ghost use Rattle.aj_cond.specs.Conditions.{cond_of, value_of, IsCanonical};
 ghost use Rattle.aj_core.specs.Views.{program_of};
 ghost use Rattle.aj_deriv.specs.Memory.{node_of, nodes_at};
 ghost use Rattle.aj_deriv_check.specs.Good.{conclusions, table_value};
-ghost use Rattle.aj_deriv_check.specs.Judges.{AreCanonical};
-ghost use Rattle.aj_deriv_check.specs.Rules.{Value, rule_of};
+ghost use Rattle.aj_deriv_check.specs.Rules.{rule_of};
 ghost use Rattle.aj_deriv_check.specs.Walks.{list_of, part_of};
 ghost use Rattle.aj_rules.specs.Near.{rel_of};
+ghost use Rattle.aj_nodes.specs.Nodes.{Grows, IsTable};
+ghost use Rattle.aj_nodes.specs.Shown.{IsThere, AreThere, node_value, trees_at};
 ghost use Rattle.aj_derive.specs.Derived.{trees_assign};
-ghost use Rattle.aj_derive.specs.Concluded.{own_trees, numbers_from, BeginsWith, ConcludesOn, ConcludeAllOn};
+ghost use Rattle.aj_derive.specs.Concluded.{own_trees, BeginsWith, ConcludesOn, ConcludeAllOn};
 
 use crate::basis::Basis;
-use aj_cond::Tree;
+use crate::rules::rule;
+use aj_algebra::Basic;
 use aj_deriv::Derivation;
-use aj_deriv_check::{BodyPart, Judge, Parts, inner_parts, part_word, rule};
+use aj_deriv_check::{BodyPart, Parts, inner_parts, part_word};
+use aj_nodes::{Node, NodeTable};
 use std::alloc::{AllocError as NoMemory, Global};
 
-/// The numbers of the conclusions of nodes.
-fn numbers_of(alloc: Global, nodes: &[Derivation]) -> Result<Vec<u32>, NoMemory>
-    ensures { IfOk result (λ numbers. (V : ℕ → Value) → map V numbers.items ≡ conclusions V (nodes_at nodes.now)) }
+/// The node with this number; const where there is none.
+fn node_at(table: &NodeTable, nodes: &[Node], number: u32) -> Node
+    requires { AreThere (length table.now) nodes.now }
+    ensures known { IsThere (length table.now) result }
+    ensures value { (H : Held) → node_value table.now result H ≡ table_value (trees_at table.now nodes.now) number H }
 {
-    let mut numbers = Vec::new(alloc);
-    for node in nodes {
-        numbers.push(node.lent().number)?;
+    match nodes.get(number as usize) {
+        Some(node) => *node,
+        None => table.basic(Basic::Const),
     }
-    Ok(numbers)
 }
 
-/// The number of the next tree; want of memory where none is left.
-fn next_number(trees: &[Tree]) -> Result<u32, NoMemory>
-    ensures { IfOk result (λ n. n ≡ length trees.now) }
+/// The nodes that derivations conclude.
+fn premises_of(
+    alloc: Global,
+    table: &NodeTable,
+    nodes: &[Node],
+    premises: &[Derivation],
+) -> Result<Vec<Node>, NoMemory>
+    requires { AreThere (length table.now) nodes.now }
+    ensures known { IfOk result (λ found. AreThere (length table.now) found.items) }
+    ensures values { IfOk result (λ found. map (node_value table.now) found.items ≡ conclusions (table_value (trees_at table.now nodes.now)) (nodes_at premises.now)) }
 {
-    if trees.len() >= u32::MAX as usize {
+    let mut found = Vec::with_capacity(alloc, premises.len())?;
+    for premise in premises {
+        found.push(node_at(table, nodes, premise.lent().number))?;
+    }
+    Ok(found)
+}
+
+/// The number of the next node; want of memory where none is left.
+fn next_number(nodes: &[Node]) -> Result<u32, NoMemory>
+    ensures { IfOk result (λ n. n ≡ length nodes.now) }
+{
+    if nodes.len() >= u32::MAX as usize {
         return Err(NoMemory);
     }
-    Ok(trees.len() as u32)
+    Ok(nodes.len() as u32)
 }
 
-/// The value of a part's rule, from what its premises conclude.
+/// The node of a part, from what its premises conclude.
 fn value(
     alloc: Global,
     basis: &Basis<'_>,
-    trees: &[Tree],
+    table: &mut NodeTable,
+    nodes: &[Node],
     part: BodyPart<'_>,
     premises: &[Derivation],
-) -> Result<Tree, NoMemory>
-    requires numbered { basis.now.lines.now ≡ numbers_from 0 (length (own_trees basis.now)) }
-    requires own { BeginsWith (own_trees basis.now) (map cond_of trees.now) }
-    requires canonical { AreCanonical (map cond_of trees.now) }
-    ensures known { IfOk result (λ r. IsCanonical (cond_of r)) }
-    ensures value { IfOk result (λ r. (H : Held) → value_of (cond_of r) H ≡ rule_of (program_of basis.now.program.now) (rel_of basis.now.sets.now)
-        (trees_assign (own_trees basis.now)) (part_of part.entry) (conclusions (table_value (map cond_of trees.now)) (nodes_at premises.now)) H) }
+) -> Result<Node, NoMemory>
+    requires { AreThere (length table.old) nodes.now }
+    ensures known { IfOk result (λ r. IsThere (length table.new) r) }
+    ensures value { IfOk result (λ r. (H : Held) → node_value table.new r H ≡ rule_of (program_of basis.now.program.now) (rel_of basis.now.sets.now)
+        (trees_assign (own_trees basis.now)) (part_of part.entry) (conclusions (table_value (trees_at table.old nodes.now)) (nodes_at premises.now)) H) }
+    ensures grows { OnOk result (Grows table.old table.new) }
 {
-    let numbers = numbers_of(alloc, premises)?;
-    let judge = Judge {
-        program: basis.program,
-        sets: basis.sets,
-        table: trees,
-        lines: basis.lines,
-    };
-    rule(alloc, &judge, part, numbers.as_slice())
+    let premises = premises_of(alloc, table, nodes, premises)?;
+    let _before = table.count();
+    let node = rule(alloc, basis, table, part, premises.as_slice())?;
+    let _after = table.count();
+    Ok(node)
 }
 
-/// The derivation of a part. What its nodes conclude goes behind the trees.
+/// The derivation of a part. What its nodes conclude goes behind the nodes.
 #[tactic(auto, using(crate::proofs::PartSizes::parts_smaller))]
 #[cycle(concluding)]
 pub(crate) fn concluded(
     alloc: Global,
     basis: &Basis<'_>,
-    trees: &mut Vec<Tree>,
+    table: &mut NodeTable,
+    nodes: &mut Vec<Node>,
     part: BodyPart<'_>,
 ) -> Result<Derivation, NoMemory>
-    requires numbered { basis.now.lines.now ≡ numbers_from 0 (length (own_trees basis.now)) }
-    requires own { BeginsWith (own_trees basis.now) (map cond_of trees.old.items) }
-    requires canonical { AreCanonical (map cond_of trees.old.items) }
-    ensures more { OnOk result (BeginsWith (map cond_of trees.old.items) (map cond_of trees.new.items)) }
-    ensures canonical { OnOk result (AreCanonical (map cond_of trees.new.items)) }
-    ensures concludes { IfOk result (λ d. ConcludesOn basis.now (map cond_of trees.new.items) (part_of part.entry) (node_of d)) }
+    requires there { AreThere (length table.old) nodes.old.items }
+    requires table { IsTable table.old }
+    ensures grows { OnOk result (Grows table.old table.new) }
+    ensures there { OnOk result (AreThere (length table.new) nodes.new.items) }
+    ensures more { OnOk result (BeginsWith (trees_at table.old nodes.old.items) (trees_at table.new nodes.new.items)) }
+    ensures concludes { IfOk result (λ d. ConcludesOn basis.now (trees_at table.new nodes.new.items) (part_of part.entry) (node_of d)) }
 {
-    let premises = all_concluded(alloc, basis, trees, inner_parts(part))?;
-    let value = value(alloc, basis, trees.as_slice(), part, premises.as_slice())?;
-    let number = next_number(trees.as_slice())?;
-    trees.push(value)?;
+    let premises = all_concluded(alloc, basis, table, nodes, inner_parts(part))?;
+    let node = value(
+        alloc,
+        basis,
+        table,
+        nodes.as_slice(),
+        part,
+        premises.as_slice(),
+    )?;
+    let number = next_number(nodes.as_slice())?;
+    nodes.push(node)?;
     Ok(Derivation::new(part_word(part), number, premises))
 }
 
@@ -92,20 +118,21 @@ pub(crate) fn concluded(
 fn all_concluded(
     alloc: Global,
     basis: &Basis<'_>,
-    trees: &mut Vec<Tree>,
+    table: &mut NodeTable,
+    nodes: &mut Vec<Node>,
     parts: Parts<'_>,
 ) -> Result<Vec<Derivation>, NoMemory>
-    requires numbered { basis.now.lines.now ≡ numbers_from 0 (length (own_trees basis.now)) }
-    requires own { BeginsWith (own_trees basis.now) (map cond_of trees.old.items) }
-    requires canonical { AreCanonical (map cond_of trees.old.items) }
-    ensures more { OnOk result (BeginsWith (map cond_of trees.old.items) (map cond_of trees.new.items)) }
-    ensures canonical { OnOk result (AreCanonical (map cond_of trees.new.items)) }
-    ensures conclude { IfOk result (λ ds. ConcludeAllOn basis.now (map cond_of trees.new.items) (list_of parts.entry) (nodes_at ds.items)) }
+    requires there { AreThere (length table.old) nodes.old.items }
+    requires table { IsTable table.old }
+    ensures grows { OnOk result (Grows table.old table.new) }
+    ensures there { OnOk result (AreThere (length table.new) nodes.new.items) }
+    ensures more { OnOk result (BeginsWith (trees_at table.old nodes.old.items) (trees_at table.new nodes.new.items)) }
+    ensures conclude { IfOk result (λ ds. ConcludeAllOn basis.now (trees_at table.new nodes.new.items) (list_of parts.entry) (nodes_at ds.items)) }
 {
     let mut premises = Vec::new(alloc);
     let mut rest = parts;
     'premises: while let Some((part, others)) = rest.first() {
-        let premise = concluded(alloc, basis, trees, part)?;
+        let premise = concluded(alloc, basis, table, nodes, part)?;
         premises.push(premise)?;
         rest = others;
     }

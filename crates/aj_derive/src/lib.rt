@@ -6,7 +6,9 @@ mod conclude;
 mod derive_book;
 mod laws;
 mod moving;
+mod names;
 mod pool;
+mod rules;
 
 pub use derive_book::derive;
 pub use laws::shown_trees_law;

@@ -1,11 +1,14 @@
 //! Trees, each once, in order of first use.
-ghost use Rattle.std.specs.Prelude.{◌≡◌, ◌^◌, [], true, nat_lt, IfOk, OnOk};
+ghost use Rattle.std.specs.Prelude.{◌≡◌, ◌^◌, [], true, length, nat_lt, IfOk, OnOk};
 ghost use Rattle.std.specs.List.{list_all};
-ghost use Rattle.aj_cond.specs.Conditions.{cond_of, IsCanonical};
+ghost use Rattle.aj_cond.specs.Conditions.{cond_of};
+ghost use Rattle.aj_nodes.specs.Nodes.{Items};
+ghost use Rattle.aj_nodes.specs.Shown.{IsThere, node_tree};
 ghost use Rattle.aj_deriv.specs.Books.{IsPath};
 ghost use Rattle.aj_derive.specs.Pools.{pool_table, IsAtMost, IsNumberIn, IsPool};
 
-use aj_cond::{Tree, tree_text};
+use aj_cond::Tree;
+use aj_nodes::{Node, NodeTable};
 use aj_paths::{FieldId, Path};
 use indexmap::IndexSet;
 use std::alloc::{AllocError as NoMemory, Global};
@@ -16,11 +19,11 @@ const BEYOND_HEIGHT: u32 = 65;
 /// Where the range of 32 bits ends.
 const NUMBERS_END: u64 = 1 << 32;
 
-/// Trees, each once, in order of first use, and the texts by which they are found.
+/// Trees, each once, in order of first use, and the nodes by which they are found.
 #[derive(Drop)]
 pub(crate) struct Pool {
     pub(crate) trees: Vec<Tree>,
-    pub(crate) texts: IndexSet<String>,
+    pub(crate) nodes: IndexSet<Node>,
 }
 
 /// Whether all numbers fit 32 bits, as they do.
@@ -54,35 +57,42 @@ fn fits(t: &Tree, room: u32) -> bool
 impl Pool {
     /// No trees.
     pub(crate) fn new(alloc: Global) -> Pool
-        ensures pool { IsPool result }
+        ensures pool { (is : Items) → IsPool is result }
         ensures none { pool_table result ≡ [] }
     {
         Pool {
             trees: Vec::new(alloc),
-            texts: IndexSet::new(alloc),
+            nodes: IndexSet::new(alloc),
         }
     }
 
-    /// The number of a tree, which is added where it isn't there. Want of memory is also the answer to a tree with more than 64 tests
-    /// within each other, and where no number is left.
-    pub(crate) fn number_of(&mut self, alloc: Global, tree: &Tree) -> Result<u32, NoMemory>
-        requires pool { IsPool self.old }
-        requires known { IsCanonical (cond_of tree.now) }
-        ensures pool { OnOk result (IsPool self.new) }
-        ensures number { IfOk result (λ n. IsNumberIn (pool_table self.old) (cond_of tree.now) n (pool_table self.new)) }
+    /// The number of a node's tree, which is added where it isn't there. Want of memory is also the answer to a tree with more than 64
+    /// tests within each other, and where no number is left.
+    pub(crate) fn number_of(
+        &mut self,
+        alloc: Global,
+        table: &NodeTable,
+        node: &Node,
+    ) -> Result<u32, NoMemory>
+        requires pool { IsPool table.now self.old }
+        requires known { IsThere (length table.now) node.now }
+        ensures pool { OnOk result (IsPool table.now self.new) }
+        ensures number { IfOk result (λ n. IsNumberIn (pool_table self.old) (node_tree table.now node.now) n (pool_table self.new)) }
     {
-        if !fits(tree, BEYOND_HEIGHT) {
-            return Err(NoMemory);
-        }
         let number = self.trees.len();
         if number >= u32::MAX as usize {
             return Err(NoMemory);
         }
-        let (place, is_new) = self.texts.insert_full(tree_text(alloc, tree)?)?;
+        let _count = table.count();
+        let (place, is_new) = self.nodes.insert_full(*node)?;
         if !is_new {
             return Ok(place as u32);
         }
-        self.trees.push(tree.copy(alloc)?)?;
+        let tree = table.tree_of(alloc, node)?;
+        if !fits(&tree, BEYOND_HEIGHT) {
+            return Err(NoMemory);
+        }
+        self.trees.push(tree)?;
         Ok(number as u32)
     }
 }

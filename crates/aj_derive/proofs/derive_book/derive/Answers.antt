@@ -1,5 +1,5 @@
 -- The book of all lines.
-use Rattle.std.proofs.Common.{length, map, sym, subst}
+use Rattle.std.proofs.Common.{length, map, sym, ap, subst, arith}
 use Rattle.aj_cond.specs.Conditions.{cond_of}
 use Rattle.aj_core.specs.Views.{program_of}
 use Rattle.aj_deriv.specs.Memory.{book_of, line_of}
@@ -12,6 +12,9 @@ use Rattle.aj_infer.proofs.Required.{required_in_rel}
 use Rattle.aj_rules.specs.Near.{rel_of}
 use Rattle.aj_derive.proofs.derive_book.derive.Goals as goal
 
+pub lines-requires-clause-few : goal.lines-requires-clause-few
+lines-requires-clause-few c = let own = ap (λ trees. length (map cond_of trees)) c.as_slice-own.ensures.value in omega (arith, own, c.requires.count, c.requires.typed.size)
+
 pub new-requires : goal.new-requires
 new-requires c =
     let P = program_of c.args.program.now in
@@ -21,7 +24,7 @@ new-requires c =
     let lines = map line_of c.in_ok-methods.methods.items in
     let pool = c.in_ok-methods.ensures.pool in
     let made = subst (λ own. AreLinesOf P rel (map cond_of own) (length P.methods) table lines) c.as_slice-own.ensures.value c.in_ok-methods.ensures.lines in
-    written P rel trees table lines made c.requires.count c.requires.typed c.requires.few pool.few pool.trees
+    written P rel trees table lines made c.requires.count c.requires.typed (omega (arith, c.requires.typed.size)) pool.few pool.trees
 
 pub returns-clause-derived : goal.returns-clause-derived
 returns-clause-derived c =

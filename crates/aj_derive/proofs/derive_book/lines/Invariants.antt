@@ -1,5 +1,4 @@
-use Rattle.std.proofs.Common.{◌≡◌, map}
-use Rattle.aj_cond.specs.Conditions.{cond_of}
+use Rattle.std.proofs.Common.{map}
 use Rattle.aj_core.specs.Views.{program_of}
 use Rattle.aj_deriv.specs.Memory.{line_of}
 use Rattle.aj_rules.specs.Near.{rel_of}
@@ -11,7 +10,6 @@ use Rattle.aj_derive.proofs.derive_book.lines.Given as goal
 -- the lines of the methods before this one
 abbrev pub invariant-loop-m : goal.invariant-loop-m
 invariant-loop-m l = record {
-  own : map cond_of l.trees.items ≡ own_trees l.basis;
-  pool : IsPool l.pool;
+  pool : IsPool l.table l.pool;
   lines : AreLinesOf (program_of l.basis.program.now) (rel_of l.basis.sets.now) (own_trees l.basis) l.m (pool_table l.pool) (map line_of l.lines.items);
 }

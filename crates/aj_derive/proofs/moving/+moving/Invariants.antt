@@ -1,5 +1,6 @@
-use Rattle.std.proofs.Common.{◌+◌, ◌*◌, ◌≤◌, ◌++◌, List, map, length}
-use Rattle.aj_cond.specs.Conditions.{Cond, cond_of}
+use Rattle.std.proofs.Common.{◌+◌, ◌*◌, ◌≤◌, ◌++◌, List, length}
+use Rattle.aj_cond.specs.Conditions.{Cond}
+use Rattle.aj_nodes.specs.Shown.{trees_at}
 use Rattle.aj_deriv.specs.Books.{AreNumbered, node_high, nodes_high}
 use Rattle.aj_deriv.specs.Memory.{node_of, nodes_at}
 use Rattle.aj_deriv.specs.declared.derivation.Derivation.{Derivation}
@@ -16,11 +17,11 @@ decreases-all_moved l = 2 * nodes_high (nodes_at l.derivations.now) + 1
 -- whatever is moved of the rest is moved of the whole
 abbrev pub invariant-all_moved-premises : goal.invariant-all_moved-premises
 invariant-all_moved-premises l = record {
-  pool : IsPool l.pool;
+  pool : IsPool l.table l.pool;
   smaller : nodes_high (nodes_at l.rest) ≤ nodes_high (nodes_at l.derivations);
-  numbered : AreNumbered (length (map cond_of l.trees)) (nodes_at l.rest);
-  goes : (later : List Derivation) (new : List Cond) → AreMoved (map cond_of l.trees) (pool_table l.pool) new (nodes_at l.rest) (nodes_at later) →
-      AreMoved (map cond_of l.trees) (pool_table l.fn.pool) new (nodes_at l.derivations) (nodes_at (l.moved_so_far.items ++ later));
+  numbered : AreNumbered (length (trees_at l.table l.nodes)) (nodes_at l.rest);
+  goes : (later : List Derivation) (new : List Cond) → AreMoved (trees_at l.table l.nodes) (pool_table l.pool) new (nodes_at l.rest) (nodes_at later) →
+      AreMoved (trees_at l.table l.nodes) (pool_table l.fn.pool) new (nodes_at l.derivations) (nodes_at (l.moved_so_far.items ++ later));
 }
 
 abbrev pub decreases-all_moved-premises : goal.decreases-all_moved-premises
