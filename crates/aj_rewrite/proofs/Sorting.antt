@@ -113,7 +113,7 @@ each_added Q e q (u ∷ us) h = by (is_of_thread e.thread u) (each_added Q e q u
     by true later = ((q, h.0), h.1)
     by false later = (h.0, later)
 
-each_units : (Q : Entry → Type 0) (es : List Entry) → Each Q es → Each (Each Q) (units es)
+pub each_units : (Q : Entry → Type 0) (es : List Entry) → Each Q es → Each (Each Q) (units es)
 each_units Q [] h = tt
 each_units Q (e ∷ es) h = by e.inside (each_units Q es h.1)
   where

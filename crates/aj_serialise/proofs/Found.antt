@@ -1,288 +1,250 @@
--- Commit places found from the end of a run: each unit is known by the place of its last entry.
-use Rattle.std.proofs.Common.{◌≡◌, ◌≢◌, ℕ, ◌+◌, ◌<◌, ◌≤◌, Bool, true, false, ◌||◌, ◌==◌, List, [], ◌∷◌, Some, None, refl, sym, ap, subst, ◌∙◌, arith}
-use Rattle.std.specs.Prelude.{Option, map, if◌then◌else◌}
-use Rattle.std.proofs.lemmas.Bool.Decides.{nat_tests}
-use Rattle.std.proofs.lemmas.Bool.{eqb-true}
-use Rattle.aj_steps.specs.Units.{Entry, added, is_of_thread, is_commit, units, commit_place, in_order, schedule_of}
-use Rattle.aj_order.specs.Sorted.{sort_by}
-use Rattle.aj_order.proofs.Insertions.{Each, each_more, each_left, each_right}
-use Rattle.aj_order.proofs.Blocks.{flat, IsSome, Keyed}
-use Rattle.aj_order.proofs.Written.{Rises, AllApart, units_well, units_by_key}
-use Rattle.aj_rewrite.proofs.Shape.{itself}
-use Rattle.aj_serialise.specs.Tables.{put_at}
+-- Sizes and commit places of units, found from the end of a run.
+use Rattle.std.proofs.Common.{◌≡◌, ◌≢◌, ℕ, suc, ◌+◌, ◌<◌, ◌≤◌, Bool, true, false, ◌==◌, List, [], ◌∷◌, length, Some, None, refl, sym, ap, subst, ◌∙◌, add-one, arith}
+use Rattle.std.specs.Prelude.{Option, drop, if◌then◌else◌}
+use Rattle.std.proofs.lemmas.Bool.{eqb-true, ne_eqb}
+use Rattle.std.proofs.lemmas.List.{length-drop}
+use Rattle.aj_steps.specs.Units.{Entry, added, is_of_thread, is_commit, units, commit_place}
+use Rattle.aj_rewrite.proofs.Shape.{Each, each_more, IsFine, itself, fine_above, commit_added}
+use Rattle.aj_rewrite.proofs.Sorting.{Rises, fine_units}
 use Rattle.aj_serialise.specs.Entries.{entries_of}
-use Rattle.aj_serialise.specs.UnitMaps.{end_for, commits_with, UnitMaps, unit_maps, commit_of}
-use Rattle.aj_serialise.specs.Placed.{placed_entry}
-use Rattle.aj_serialise.specs.declared.order.Placed.{Placed}
+use Rattle.aj_serialise.specs.UnitMaps.{UnitMaps, unit_for, commit_with, with_size, with_unit, with_entry, unit_maps}
 use Rattle.aj_serialise.specs.declared.step.Step.{Step}
 
--- the place of the last entry of a unit
-abbrev pub last_place : List Entry → ℕ
-last_place [] = 0
-last_place (e ∷ []) = e.place
-last_place (e ∷ f ∷ u) = last_place (f ∷ u)
+-- the commit place of the first unit of a thread, where there is one
+abbrev pub first_commit : ℕ → List (List Entry) → Option ℕ
+first_commit t [] = None
+first_commit t (u ∷ us) = if is_of_thread t u then Some (commit_place u) else first_commit t us
 
--- the place of the last entry of the first unit of a thread, where there is one
-abbrev pub first_end : ℕ → List (List Entry) → Option ℕ
-first_end t [] = None
-first_end t (u ∷ us) = if is_of_thread t u then Some (last_place u) else first_end t us
+-- how many entries the unit with this commit place has; 0 where there is none
+abbrev pub size_at : List (List Entry) → ℕ → ℕ
+size_at [] p = 0
+size_at (u ∷ us) p = if commit_place u == p then length u else size_at us p
 
--- a unit whose entries lead to its last place, and that to its commit place
-pub record Told (ends commits : ℕ → ℕ) (u : List Entry) : Type 0 where
-  pub ends_are : Each (λ (x : Entry). ends x.place ≡ last_place u) u
-  pub commits_are : commits (last_place u) ≡ commit_place u
+-- no unit commits at this place
+abbrev pub NoneAt : ℕ → List (List Entry) → Type 0
+NoneAt p us = Each (λ u. p ≢ commit_place u) us
 
--- all units are told, and the first one of each thread
-pub record Found (us : List (List Entry)) (ends commits : ℕ → ℕ) (first : ℕ → Option ℕ) : Type 0 where
-  pub told : Each (Told ends commits) us
-  pub firsts : (t : ℕ) → first t ≡ first_end t us
+-- different units commit at different places
+abbrev pub CommitsApart : List (List Entry) → Type 0
+CommitsApart [] = Unit {0}
+CommitsApart (u ∷ us) = NoneAt (commit_place u) us × CommitsApart us
 
-differ : (a b : ℕ) → a ≢ b → (a == b) ≡ false
-differ a b other = grind (arith, nat_tests)
+none_before : (n p : ℕ) → p < n → (us : List (List Entry)) → Each (IsFine n) us → NoneAt p us
+none_before n p less us fine = each_more (IsFine n) (λ u. p ≢ commit_place u) (λ u f same. let above = fine_above n u f in omega (arith, less, above, same)) us fine
 
-put_here : {A : Type 0} (f : ℕ → A) (n : ℕ) (v : A) → put_at f n v n ≡ v
-put_here f n v = ap (λ (b : Bool). if b then v else f n) (itself n)
+pub size_none : (p : ℕ) (us : List (List Entry)) → NoneAt p us → size_at us p ≡ 0
+size_none p [] none = refl
+size_none p (u ∷ us) none = ap (λ (b : Bool). if b then length u else size_at us p) (ne_eqb (commit_place u) p (λ same. none.0 (sym same))) ∙ size_none p us none.1
 
-put_other : {A : Type 0} (f : ℕ → A) (n : ℕ) (v : A) (m : ℕ) → n ≢ m → put_at f n v m ≡ f m
-put_other f n v m other = ap (λ (b : Bool). if b then v else f m) (differ n m other)
-
--- what holds of each place of a unit holds of its last one
-last_each : (Q : ℕ → Type 0) (u : List Entry) → IsSome u → Each (λ (x : Entry). Q x.place) u → Q (last_place u)
-last_each Q [] some h = absurd some
-last_each Q (e ∷ []) some h = h.0
-last_each Q (e ∷ f ∷ u) some h = last_each Q (f ∷ u) tt h.1
-
-first_each : (Q : ℕ → Type 0) (t n : ℕ) (us : List (List Entry)) → Each IsSome us → Each (λ (x : Entry). Q x.place) (flat us) → first_end t us ≡ Some n → Q n
-first_each Q t n [] some h e = absurd cc
-first_each Q t n (u ∷ us) some h e = by (is_of_thread t u) e (λ g. first_each Q t n us some.1 (each_right (λ (x : Entry). Q x.place) u (flat us) h) g)
+first_other : (t c p : ℕ) (us : List (List Entry)) → NoneAt p us → first_commit t us ≡ Some c → p ≢ c
+first_other t c p [] none is = absurd cc
+first_other t c p (u ∷ us) none is = by (is_of_thread t u) is (λ g. first_other t c p us none.1 g)
   where
-    by : (b : Bool) → (if b then Some (last_place u) else first_end t us) ≡ Some n → (first_end t us ≡ Some n → Q n) → Q n
-    by true e later = let same : last_place u ≡ n = cc in subst Q same (last_each Q u some.0 (each_left (λ (x : Entry). Q x.place) u (flat us) h))
-    by false e later = later e
+    by : (b : Bool) → (if b then Some (commit_place u) else first_commit t us) ≡ Some c → (first_commit t us ≡ Some c → p ≢ c) → p ≢ c
+    by true is later = let here : commit_place u ≡ c = cc in λ same. none.0 (same ∙ sym here)
+    by false is later = later is
 
-last_later : (e : Entry) (u : List Entry) → IsSome u → last_place (e ∷ u) ≡ last_place u
-last_later e [] some = absurd some
-last_later e (f ∷ u) some = refl
-
-commit_later : (e : Entry) (u : List Entry) → IsSome u → commit_place (e ∷ u) ≡ (if is_commit e.kind then e.place else commit_place u)
-commit_later e [] some = absurd some
-commit_later e (f ∷ u) some = refl
+-- the maps that units have
+abbrev pub maps_at : List (List Entry) → UnitMaps
+maps_at us = record { sizes = size_at us; firsts = λ t. first_commit t us }
 
 -- one entry more, before the units of a run
-module _ (ends commits : ℕ → ℕ) (e : Entry) where
-  abbrev Behind : List Entry → Type 0
-  Behind u = Each (λ (x : Entry). e.place < x.place) u
-
-  below_other : (a b : ℕ) → a < b → a ≢ b
-  below_other a b less same = omega (arith, less, same)
-
-  commits_other : (end m : ℕ) → end ≢ m → commits_with commits e end m ≡ commits m
-  commits_other end m other = by ((end == e.place) || is_commit e.kind)
+module _ (e : Entry) (n : ℕ) where
+  -- what holds of the entry's place and of commit places holds of those with the entry
+  commit_each : (Q : ℕ → Type 0) (us : List (List Entry)) → Each (IsFine n) us → Q e.place → Each (λ u. Q (commit_place u)) us → Each (λ u. Q (commit_place u)) (added e us)
+  commit_each Q [] fine q h = (q, tt)
+  commit_each Q (u ∷ us) fine q h = by (is_of_thread e.thread u) (commit_each Q us fine.1 q h.1)
     where
-      by : (b : Bool) → (if b then put_at commits end e.place else commits) m ≡ commits m
-      by true = put_other commits end e.place m other
+      here : (c : Bool) → Q (if c then e.place else commit_place u)
+      here true = q
+      here false = h.0
+
+      by : (b : Bool) → Each (λ v. Q (commit_place v)) (added e us) → Each (λ v. Q (commit_place v)) (if b then (e ∷ u) ∷ us else u ∷ added e us)
+      by true rest = (subst Q (sym (commit_added e u n fine.0)) (here (is_commit e.kind)), h.1)
+      by false rest = (h.0, rest)
+
+  apart_added : (us : List (List Entry)) → Each (IsFine n) us → NoneAt e.place us → CommitsApart us → CommitsApart (added e us)
+  apart_added [] fine none apart = (tt, tt)
+  apart_added (u ∷ us) fine none apart = by (is_of_thread e.thread u) (apart_added us fine.1 none.1 apart.1)
+    where
+      here : (c : Bool) → NoneAt (if c then e.place else commit_place u) us
+      here true = none.1
+      here false = apart.0
+
+      by : (b : Bool) → CommitsApart (added e us) → CommitsApart (if b then (e ∷ u) ∷ us else u ∷ added e us)
+      by true rest = (subst (λ c. NoneAt c us) (sym (commit_added e u n fine.0)) (here (is_commit e.kind)), apart.1)
+      by false rest = (commit_each (λ m. commit_place u ≢ m) us fine.1 (λ same. none.0 (sym same)) apart.0, rest)
+
+  -- the sizes where the entry joins a unit
+  module _ (p : ℕ) where
+    sizes_here : (u : List Entry) (us : List (List Entry)) → IsFine n u → NoneAt (commit_place u) us → with_size (size_at (u ∷ us)) (commit_place u) (commit_with e (commit_place u)) p ≡ size_at ((e ∷ u) ∷ us) p
+    sizes_here u us fine apart =
+        by (commit_with e (commit_place u) == p) (commit_place u == p) (ap (λ (b : Bool). (if b then length u else size_at us (commit_place u)) + 1) (itself (commit_place u)) ∙ add-one (length u))
+        (λ at. size_none p us (subst (λ c. NoneAt c us) (eqb-true (commit_place u) p at) apart))
+        ∙ ap (λ (c : ℕ). if c == p then suc (length u) else size_at us p) (sym (commit_added e u n fine))
+      where
+        by : (b d : Bool) → size_at (u ∷ us) (commit_place u) + 1 ≡ suc (length u) → (d ≡ true → size_at us p ≡ 0)
+            → (if b then size_at (u ∷ us) (commit_place u) + 1 else (if d then 0 else (if d then length u else size_at us p))) ≡ (if b then suc (length u) else size_at us p)
+        by true d same none = same
+        by false true same none = sym (none refl)
+        by false false same none = refl
+
+    sizes_later : (c : ℕ) (u : List Entry) (us : List (List Entry)) → e.place ≢ commit_place u → commit_place u ≢ c → with_size (size_at us) c (commit_with e c) p ≡ size_at (added e us) p
+        → with_size (size_at (u ∷ us)) c (commit_with e c) p ≡ size_at (u ∷ added e us) p
+    sizes_later c u us before other rest =
+        by (commit_with e c == p) (c == p) (commit_place u == p) (ap (λ (b : Bool). (if b then length u else size_at us c) + 1) (ne_eqb (commit_place u) c other))
+        (λ g b. commit_other (is_commit e.kind) (eqb-true (commit_place u) p g ∙ sym (eqb-true (commit_with e c) p b)))
+        (λ g d. other (eqb-true (commit_place u) p g ∙ sym (eqb-true c p d))) rest
+      where
+        commit_other : (b : Bool) → commit_place u ≡ (if b then e.place else c) → ⊥
+        commit_other true same = before (sym same)
+        commit_other false same = other same
+
+        by : (b d g : Bool) → size_at (u ∷ us) c + 1 ≡ size_at us c + 1 → (g ≡ true → b ≡ true → ⊥) → (g ≡ true → d ≡ true → ⊥)
+            → (if b then size_at us c + 1 else (if d then 0 else size_at us p)) ≡ size_at (added e us) p
+            → (if b then size_at (u ∷ us) c + 1 else (if d then 0 else (if g then length u else size_at us p))) ≡ (if g then length u else size_at (added e us) p)
+        by true d true same one two rest = absurd (one refl refl)
+        by false true true same one two rest = absurd (two refl refl)
+        by false false true same one two rest = refl
+        by true d false same one two rest = same ∙ rest
+        by false true false same one two rest = rest
+        by false false false same one two rest = rest
+
+    sizes_on : (c : ℕ) (us : List (List Entry)) → Each (IsFine n) us → NoneAt e.place us → CommitsApart us → first_commit e.thread us ≡ Some c → with_size (size_at us) c (commit_with e c) p ≡ size_at (added e us) p
+    sizes_on c [] fine none apart is = absurd cc
+    sizes_on c (u ∷ us) fine none apart is = by (is_of_thread e.thread u) is (λ g. sizes_on c us fine.1 none.1 apart.1 g)
+      where
+        by : (b : Bool) → (if b then Some (commit_place u) else first_commit e.thread us) ≡ Some c → (first_commit e.thread us ≡ Some c → with_size (size_at us) c (commit_with e c) p ≡ size_at (added e us) p)
+            → with_size (size_at (u ∷ us)) c (commit_with e c) p ≡ size_at (if b then (e ∷ u) ∷ us else u ∷ added e us) p
+        by true is rest = let here : commit_place u ≡ c = cc in subst (λ m. with_size (size_at (u ∷ us)) m (commit_with e m) p ≡ size_at ((e ∷ u) ∷ us) p) here (sizes_here u us fine.0 apart.0)
+        by false is rest = sizes_later c u us none.0 (first_other e.thread c (commit_place u) us apart.0 is) (rest is)
+
+    -- and where it begins one
+    sizes_new : (us : List (List Entry)) → NoneAt e.place us → with_size (size_at us) e.place (commit_with e e.place) p ≡ (if e.place == p then 1 else size_at us p)
+    sizes_new us none = ap (λ (c : ℕ). with_size (size_at us) e.place c p) (own (is_commit e.kind)) ∙ by (e.place == p)
+      where
+        own : (b : Bool) → (if b then e.place else e.place) ≡ e.place
+        own true = refl
+        own false = refl
+
+        by : (b : Bool) → (if b then size_at us e.place + 1 else (if b then 0 else size_at us p)) ≡ (if b then 1 else size_at us p)
+        by true = ap (λ (m : ℕ). m + 1) (size_none e.place us none)
+        by false = refl
+
+    size_last : (us : List (List Entry)) → NoneAt e.place us → first_commit e.thread us ≡ None → size_at (added e us) p ≡ (if e.place == p then 1 else size_at us p)
+    size_last [] none is = refl
+    size_last (u ∷ us) none is = by (is_of_thread e.thread u) is (λ g. size_last us none.1 g)
+      where
+        swap : (b g : Bool) → (b ≡ true → g ≡ true → ⊥) → (m : ℕ) → m ≡ (if b then 1 else size_at us p) → (if g then length u else m) ≡ (if b then 1 else (if g then length u else size_at us p))
+        swap true true never m h = absurd (never refl refl)
+        swap true false never m h = h
+        swap false true never m h = refl
+        swap false false never m h = h
+
+        by : (b : Bool) → (if b then Some (commit_place u) else first_commit e.thread us) ≡ None → (first_commit e.thread us ≡ None → size_at (added e us) p ≡ (if e.place == p then 1 else size_at us p))
+            → size_at (if b then (e ∷ u) ∷ us else u ∷ added e us) p ≡ (if e.place == p then 1 else size_at (u ∷ us) p)
+        by true is rest = absurd cc
+        by false is rest = swap (e.place == p) (commit_place u == p) (λ b g. none.0 (eqb-true e.place p b ∙ sym (eqb-true (commit_place u) p g))) (size_at (added e us) p) (rest is)
+
+  -- the first unit of each thread where the entry joins one
+  module _ (t : ℕ) where
+    another : (u : List Entry) → is_of_thread e.thread u ≡ false → (c : ℕ) (rest later : Option ℕ) → rest ≡ (if e.thread == t then Some c else later)
+        → (if is_of_thread t u then Some (commit_place u) else rest) ≡ (if e.thread == t then Some c else (if is_of_thread t u then Some (commit_place u) else later))
+    another u at c rest later h = by (e.thread == t) (is_of_thread t u) (λ b d. let k : true ≡ false = sym (subst (λ m. is_of_thread m u ≡ true) (sym (eqb-true e.thread t b)) d) ∙ at in cc) h
+      where
+        by : (b d : Bool) → (b ≡ true → d ≡ true → ⊥) → rest ≡ (if b then Some c else later) → (if d then Some (commit_place u) else rest) ≡ (if b then Some c else (if d then Some (commit_place u) else later))
+        by true true never h = absurd (never refl refl)
+        by true false never h = h
+        by false true never h = refl
+        by false false never h = h
+
+    first_on : (c : ℕ) (us : List (List Entry)) → Each (IsFine n) us → first_commit e.thread us ≡ Some c → first_commit t (added e us) ≡ (if e.thread == t then Some (commit_with e c) else first_commit t us)
+    first_on c [] fine is = absurd cc
+    first_on c (u ∷ us) fine is = by (is_of_thread e.thread u) refl is (λ g. first_on c us fine.1 g)
+      where
+        own : (v : List Entry) → is_of_thread e.thread v ≡ true → is_of_thread t v ≡ (e.thread == t)
+        own [] h = absurd cc
+        own (f ∷ v) h = ap (λ m. m == t) (eqb-true f.thread e.thread h)
+
+        here : (b d : Bool) → d ≡ b → (m : ℕ) → (if b then Some m else first_commit t us) ≡ (if b then Some m else (if d then Some (commit_place u) else first_commit t us))
+        here true d same m = refl
+        here false true same m = absurd cc
+        here false false same m = refl
+
+        by : (b : Bool) → is_of_thread e.thread u ≡ b → (if b then Some (commit_place u) else first_commit e.thread us) ≡ Some c → (first_commit e.thread us ≡ Some c → first_commit t (added e us) ≡ (if e.thread == t then Some (commit_with e c) else first_commit t us))
+            → first_commit t (if b then (e ∷ u) ∷ us else u ∷ added e us) ≡ (if e.thread == t then Some (commit_with e c) else first_commit t (u ∷ us))
+        by true at is rest =
+            let same : commit_place u ≡ c = cc in
+            ap (λ (m : ℕ). if e.thread == t then Some m else first_commit t us) (commit_added e u n fine.0 ∙ ap (commit_with e) same)
+            ∙ here (e.thread == t) (is_of_thread t u) (own u at) (commit_with e c)
+        by false at is rest = another u at (commit_with e c) (first_commit t (added e us)) (first_commit t us) (rest is)
+
+    first_last : (us : List (List Entry)) → first_commit e.thread us ≡ None → first_commit t (added e us) ≡ (if e.thread == t then Some e.place else first_commit t us)
+    first_last [] is = refl
+    first_last (u ∷ us) is = by (is_of_thread e.thread u) refl is (λ g. first_last us g)
+      where
+        by : (b : Bool) → is_of_thread e.thread u ≡ b → (if b then Some (commit_place u) else first_commit e.thread us) ≡ None → (first_commit e.thread us ≡ None → first_commit t (added e us) ≡ (if e.thread == t then Some e.place else first_commit t us))
+            → first_commit t (if b then (e ∷ u) ∷ us else u ∷ added e us) ≡ (if e.thread == t then Some e.place else first_commit t (u ∷ us))
+        by true at is rest = absurd cc
+        by false at is rest = another u at e.place (first_commit t (added e us)) (first_commit t us) (rest is)
+
+  own_commit : commit_with e e.place ≡ e.place
+  own_commit = by (is_commit e.kind)
+    where
+      by : (b : Bool) → (if b then e.place else e.place) ≡ e.place
+      by true = refl
       by false = refl
 
-  -- another unit is told as before
-  told_other : (end : ℕ) (u : List Entry) → Behind u → end ≢ last_place u → Told ends commits u → Told (put_at ends e.place end) (commits_with commits e end) u
-  told_other end u behind other told = record {
-    ends_are = by (last_place u) u behind told.ends_are;
-    commits_are = commits_other end (last_place u) other ∙ told.commits_are;
-  }
+  with_more : (us : List (List Entry)) → Each (IsFine n) us → NoneAt e.place us → CommitsApart us → with_entry e (maps_at us) ≡ maps_at (if e.inside then added e us else (e ∷ []) ∷ us)
+  with_more us fine none apart = by e.inside (first_commit e.thread us) refl
     where
-      by : (l : ℕ) (xs : List Entry) → Behind xs → Each (λ (x : Entry). ends x.place ≡ l) xs → Each (λ (x : Entry). put_at ends e.place end x.place ≡ l) xs
-      by l [] behind h = tt
-      by l (x ∷ xs) behind h = (put_other ends e.place end x.place (below_other e.place x.place behind.0) ∙ h.0, by l xs behind.1 h.1)
+      by : (b : Bool) (o : Option ℕ) → first_commit e.thread us ≡ o → with_unit e (maps_at us) (unit_for b o e.place) ≡ maps_at (if b then added e us else (e ∷ []) ∷ us)
+      by false o is = λ i. record {
+        sizes = λ p. sizes_new p us none i;
+        firsts = λ t. (ap (λ (c : ℕ). if e.thread == t then Some c else first_commit t us) own_commit) i;
+      }
+      by true None is = λ i. record {
+        sizes = λ p. (sizes_new p us none ∙ sym (size_last p us none is)) i;
+        firsts = λ t. (ap (λ (c : ℕ). if e.thread == t then Some c else first_commit t us) own_commit ∙ sym (first_last t us is)) i;
+      }
+      by true (Some c) is = λ i. record {
+        sizes = λ p. sizes_on p c us fine none apart is i;
+        firsts = λ t. (sym (first_on t c us fine is)) i;
+      }
 
-  told_others : (end : ℕ) (us : List (List Entry)) → Behind (flat us) → Each (λ u. end ≢ last_place u) us → Each (Told ends commits) us → Each (Told (put_at ends e.place end) (commits_with commits e end)) us
-  told_others end [] behind other told = tt
-  told_others end (u ∷ us) behind other told = (
-    told_other end u (each_left (λ (x : Entry). e.place < x.place) u (flat us) behind) other.0 told.0,
-    told_others end us (each_right (λ (x : Entry). e.place < x.place) u (flat us) behind) other.1 told.1,
-  )
-
-  -- the unit that goes on
-  told_longer : (u : List Entry) → IsSome u → Behind u → e.place ≢ last_place u → Told ends commits u → Told (put_at ends e.place (last_place u)) (commits_with commits e (last_place u)) (e ∷ u)
-  told_longer u some behind other told = record {
-    ends_are = (put_here ends e.place (last_place u) ∙ sym (last_later e u some), by u behind told.ends_are);
-    commits_are = ap (commits_with commits e (last_place u)) (last_later e u some)
-        ∙ ap (λ (b : Bool). (if b || is_commit e.kind then put_at commits (last_place u) e.place else commits) (last_place u)) (differ (last_place u) e.place (λ same. other (sym same)))
-        ∙ commit (is_commit e.kind) ∙ sym (commit_later e u some);
-  }
-    where
-      by : (xs : List Entry) → Behind xs → Each (λ (x : Entry). ends x.place ≡ last_place u) xs → Each (λ (x : Entry). put_at ends e.place (last_place u) x.place ≡ last_place (e ∷ u)) xs
-      by [] behind h = tt
-      by (x ∷ xs) behind h = (put_other ends e.place (last_place u) x.place (below_other e.place x.place behind.0) ∙ h.0 ∙ sym (last_later e u some), by xs behind.1 h.1)
-
-      commit : (b : Bool) → (if b then put_at commits (last_place u) e.place else commits) (last_place u) ≡ (if b then e.place else commit_place u)
-      commit true = put_here commits (last_place u) e.place
-      commit false = told.commits_are
-
-  -- the unit of the entry is the only one that changes
-  told_on : (n : ℕ) (us : List (List Entry)) → Each IsSome us → Behind (flat us) → AllApart us → first_end e.thread us ≡ Some n → Each (Told ends commits) us → Each (Told (put_at ends e.place n) (commits_with commits e n)) (added e us)
-  told_on n [] some behind apart is told = absurd cc
-  told_on n (u ∷ us) some behind apart is told = by (is_of_thread e.thread u) is (λ g. told_on n us some.1 (each_right (λ (x : Entry). e.place < x.place) u (flat us) behind) apart.1 g told.1)
-    where
-      here : Behind u
-      here = each_left (λ (x : Entry). e.place < x.place) u (flat us) behind
-
-      later : Behind (flat us)
-      later = each_right (λ (x : Entry). e.place < x.place) u (flat us) behind
-
-      -- no entry of another unit has the last place of the first
-      last_apart : Each (λ (y : Entry). last_place u ≢ y.place) (flat us)
-      last_apart = last_each (λ m. Each (λ (y : Entry). m ≢ y.place) (flat us)) u some.0 apart.0
-
-      lasts_apart : (vs : List (List Entry)) → Each IsSome vs → Each (λ (y : Entry). last_place u ≢ y.place) (flat vs) → Each (λ v. last_place u ≢ last_place v) vs
-      lasts_apart [] some h = tt
-      lasts_apart (v ∷ vs) some h = (
-        last_each (λ m. last_place u ≢ m) v some.0 (each_left (λ (y : Entry). last_place u ≢ y.place) v (flat vs) h),
-        lasts_apart vs some.1 (each_right (λ (y : Entry). last_place u ≢ y.place) v (flat vs) h),
-      )
-
-      by : (b : Bool) → (if b then Some (last_place u) else first_end e.thread us) ≡ Some n → (first_end e.thread us ≡ Some n → Each (Told (put_at ends e.place n) (commits_with commits e n)) (added e us))
-          → Each (Told (put_at ends e.place n) (commits_with commits e n)) (if b then (e ∷ u) ∷ us else u ∷ added e us)
-      by true is rest = let same : last_place u ≡ n = cc in subst (λ m. Each (Told (put_at ends e.place m) (commits_with commits e m)) ((e ∷ u) ∷ us)) same (
-        told_longer u some.0 here (last_each (λ m. e.place ≢ m) u some.0 (each_more (λ (x : Entry). e.place < x.place) (λ (x : Entry). e.place ≢ x.place) (λ x k. below_other e.place x.place k) u here)) told.0,
-        told_others (last_place u) us later (lasts_apart us some.1 last_apart) told.1,
-      )
-      by false is rest = (
-        told_other n u here (first_each (λ m. m ≢ last_place u) e.thread n us some.1 (each_more (λ (y : Entry). last_place u ≢ y.place) (λ (y : Entry). y.place ≢ last_place u) (λ y k same. k (sym same)) (flat us) last_apart) is) told.0,
-        rest is,
-      )
-
-  -- an entry that begins a unit of its own
-  told_alone : Told (put_at ends e.place e.place) (commits_with commits e e.place) (e ∷ [])
-  told_alone = record {
-    ends_are = (put_here ends e.place e.place, tt);
-    commits_are = ap (λ (b : Bool). (if b || is_commit e.kind then put_at commits e.place e.place else commits) e.place) (itself e.place) ∙ put_here commits e.place e.place;
-  }
-
-  told_before : (us : List (List Entry)) → Each IsSome us → Behind (flat us) → Each (Told ends commits) us → Each (Told (put_at ends e.place e.place) (commits_with commits e e.place)) us
-  told_before us some behind told = told_others e.place us behind (lasts us some behind) told
-    where
-      lasts : (vs : List (List Entry)) → Each IsSome vs → Behind (flat vs) → Each (λ v. e.place ≢ last_place v) vs
-      lasts [] some h = tt
-      lasts (v ∷ vs) some h = (
-        last_each (λ m. e.place ≢ m) v some.0 (each_more (λ (x : Entry). e.place < x.place) (λ (x : Entry). e.place ≢ x.place) (λ x k. below_other e.place x.place k) v (each_left (λ (x : Entry). e.place < x.place) v (flat vs) h)),
-        lasts vs some.1 (each_right (λ (x : Entry). e.place < x.place) v (flat vs) h),
-      )
-
-  -- a unit behind those of other threads
-  each_added : (Q : List Entry → Type 0) (us : List (List Entry)) → first_end e.thread us ≡ None → Q (e ∷ []) → Each Q us → Each Q (added e us)
-  each_added Q [] none q h = (q, tt)
-  each_added Q (u ∷ us) none q h = by (is_of_thread e.thread u) none (λ g. each_added Q us g q h.1)
-    where
-      by : (b : Bool) → (if b then Some (last_place u) else first_end e.thread us) ≡ None → (first_end e.thread us ≡ None → Each Q (added e us)) → Each Q (if b then (e ∷ u) ∷ us else u ∷ added e us)
-      by true none rest = absurd cc
-      by false none rest = (h.0, rest none)
-
-  -- the first units of all threads, with an entry that goes on, and with one that begins a unit behind all others
-  firsts_on : (n : ℕ) (us : List (List Entry)) → Each IsSome us → first_end e.thread us ≡ Some n → (t : ℕ) → first_end t (added e us) ≡ (if e.thread == t then Some n else first_end t us)
-  firsts_on n [] some is t = absurd cc
-  firsts_on n (u ∷ us) some is t = by (is_of_thread e.thread u) refl is (λ g. firsts_on n us some.1 g t)
-    where
-      own : (v : List Entry) → is_of_thread e.thread v ≡ true → is_of_thread t v ≡ (e.thread == t)
-      own [] h = absurd cc
-      own (f ∷ v) h = ap (λ m. m == t) (eqb-true f.thread e.thread h)
-
-      one : (b c : Bool) → b ≡ c → (m : ℕ) → last_place (e ∷ u) ≡ m → (rest : Option ℕ) → (if c then Some (last_place (e ∷ u)) else rest) ≡ (if c then Some m else (if b then Some (last_place u) else rest))
-      one true true s m e1 rest = ap Some e1
-      one false false s m e1 rest = refl
-      one true false s m e1 rest = absurd cc
-      one false true s m e1 rest = absurd cc
-
-      another : (c d : Bool) → (d ≡ true → c ≡ true → ⊥) → (l : Option ℕ) (rest later : Option ℕ) → rest ≡ (if c then Some n else later) → (if d then l else rest) ≡ (if c then Some n else (if d then l else later))
-      another true true never l rest later s = absurd (never refl refl)
-      another true false never l rest later s = s
-      another false true never l rest later s = refl
-      another false false never l rest later s = s
-
-      by : (b : Bool) → is_of_thread e.thread u ≡ b → (if b then Some (last_place u) else first_end e.thread us) ≡ Some n → (first_end e.thread us ≡ Some n → first_end t (added e us) ≡ (if e.thread == t then Some n else first_end t us))
-          → first_end t (if b then (e ∷ u) ∷ us else u ∷ added e us) ≡ (if e.thread == t then Some n else first_end t (u ∷ us))
-      by true at is rest = let same : last_place u ≡ n = cc in one (is_of_thread t u) (e.thread == t) (own u at) n (last_later e u some.0 ∙ same) (first_end t us)
-      by false at is rest = another (e.thread == t) (is_of_thread t u) (λ d c. let k : true ≡ false = sym (subst (λ m. is_of_thread m u ≡ true) (sym (eqb-true e.thread t c)) d) ∙ at in cc) (Some (last_place u)) (first_end t (added e us)) (first_end t us) (rest is)
-
-  firsts_alone : (us : List (List Entry)) → first_end e.thread us ≡ None → (t : ℕ) → first_end t (added e us) ≡ (if e.thread == t then Some e.place else first_end t us)
-  firsts_alone [] none t = refl
-  firsts_alone (u ∷ us) none t = by (is_of_thread e.thread u) refl none (λ g. firsts_alone us g t)
-    where
-      another : (c d : Bool) → (d ≡ true → c ≡ true → ⊥) → (l : Option ℕ) (rest later : Option ℕ) → rest ≡ (if c then Some e.place else later) → (if d then l else rest) ≡ (if c then Some e.place else (if d then l else later))
-      another true true never l rest later s = absurd (never refl refl)
-      another true false never l rest later s = s
-      another false true never l rest later s = refl
-      another false false never l rest later s = s
-
-      by : (b : Bool) → is_of_thread e.thread u ≡ b → (if b then Some (last_place u) else first_end e.thread us) ≡ None → (first_end e.thread us ≡ None → first_end t (added e us) ≡ (if e.thread == t then Some e.place else first_end t us))
-          → first_end t (if b then (e ∷ u) ∷ us else u ∷ added e us) ≡ (if e.thread == t then Some e.place else first_end t (u ∷ us))
-      by true at none rest = absurd cc
-      by false at none rest = another (e.thread == t) (is_of_thread t u) (λ d c. let k : true ≡ false = sym (subst (λ m. is_of_thread m u ≡ true) (sym (eqb-true e.thread t c)) d) ∙ at in cc) (Some (last_place u)) (first_end t (added e us)) (first_end t us) (rest none)
-
-  module _ (first : ℕ → Option ℕ) where
-    -- the last place of the entry's unit
-    abbrev pub end : ℕ
-    end = end_for e.inside (first e.thread) e.place
-
-    pub found_step : (us : List (List Entry)) → Each IsSome us → Behind (flat us) → AllApart us → Found us ends commits first
-        → Found (if e.inside then added e us else (e ∷ []) ∷ us) (put_at ends e.place end) (commits_with commits e end) (put_at first e.thread (Some end))
-    found_step us some behind apart found = by e.inside (first e.thread) refl
-      where
-        Goal : Bool → Option ℕ → Type 0
-        Goal b o = Found (if b then added e us else (e ∷ []) ∷ us) (put_at ends e.place (end_for b o e.place)) (commits_with commits e (end_for b o e.place)) (put_at first e.thread (Some (end_for b o e.place)))
-
-        same_first : (n : ℕ) (t : ℕ) → put_at first e.thread (Some n) t ≡ (if e.thread == t then Some n else first_end t us)
-        same_first n t = ap (λ (o : Option ℕ). if e.thread == t then Some n else o) (found.firsts t)
-
-        by : (b : Bool) (o : Option ℕ) → first e.thread ≡ o → Goal b o
-        by false o is = record { told = (told_alone, told_before us some behind found.told); firsts = same_first e.place }
-        by true None is = record {
-          told = each_added (Told (put_at ends e.place e.place) (commits_with commits e e.place)) us (sym (found.firsts e.thread) ∙ is) told_alone (told_before us some behind found.told);
-          firsts = λ t. same_first e.place t ∙ sym (firsts_alone us (sym (found.firsts e.thread) ∙ is) t);
-        }
-        by true (Some n) is = record {
-          told = told_on n us some behind apart (sym (found.firsts e.thread) ∙ is) found.told;
-          firsts = λ t. same_first n t ∙ sym (firsts_on n us some (sym (found.firsts e.thread) ∙ is) t);
-        }
+pub units_apart : (es : List Entry) (n : ℕ) → Rises n es → CommitsApart (units es)
+units_apart [] n rises = tt
+units_apart (e ∷ es) n rises =
+    let fine = fine_units es (suc e.place) rises.1 in
+    by e.inside fine (none_before (suc e.place) e.place (omega arith) (units es) fine) (units_apart es (suc e.place) rises.1)
+  where
+    by : (b : Bool) → Each (IsFine (suc e.place)) (units es) → NoneAt e.place (units es) → CommitsApart (units es) → CommitsApart (if b then added e (units es) else (e ∷ []) ∷ units es)
+    by true fine none apart = apart_added e (suc e.place) (units es) fine none apart
+    by false fine none apart = (none, apart)
 
 -- what the maps of a run's entries have
-maps_found : (n : ℕ) (es : List Entry) → Rises n es → Found (units es) (unit_maps es).ends (unit_maps es).commits (unit_maps es).firsts
-maps_found n [] rises = record { told = tt; firsts = λ t. refl }
-maps_found n (e ∷ es) rises =
-    let w = units_well es (n + 1) rises.1 in
-    let maps = unit_maps es in
-    found_step maps.ends maps.commits e maps.firsts (units es) w.some
-    (each_more (λ (x : Entry). n + 1 ≤ x.place) (λ (x : Entry). e.place < x.place) (λ x k. below e.place n x.place rises.0 k) (flat (units es)) w.above) w.apart (maps_found (n + 1) es rises.1)
+pub maps_found : (es : List Entry) (n : ℕ) → Rises n es → unit_maps es ≡ maps_at (units es)
+maps_found [] n rises = refl
+maps_found (e ∷ es) n rises =
+    let fine = fine_units es (suc e.place) rises.1 in
+    ap (with_entry e) (maps_found es (suc e.place) rises.1)
+    ∙ with_more e (suc e.place) (units es) fine (none_before (suc e.place) e.place (omega arith) (units es) fine) (units_apart es (suc e.place) rises.1)
+
+-- no unit has more entries than there are
+sizes_bound : (n : ℕ) (steps : List Step) (p : ℕ) → (unit_maps (entries_of n steps)).sizes p ≤ length steps
+sizes_bound n [] p = omega arith
+sizes_bound n (step ∷ steps) p =
+    let maps = unit_maps (entries_of (n + 1) steps) in
+    let unit = unit_for step.inside (maps.firsts step.thread) n in
+    by (commit_with (record { place = n; thread = step.thread; kind = step.kind; inside = step.inside }) unit == p) (unit == p) (sizes_bound (n + 1) steps unit) (sizes_bound (n + 1) steps p)
   where
-    below : (p n m : ℕ) → p ≡ n → n + 1 ≤ m → p < m
-    below p n m e k = omega (arith, e, k)
+    by : (b d : Bool) {m k l : ℕ} → m ≤ l → k ≤ l → (if b then m + 1 else (if d then 0 else k)) ≤ suc l
+    by true d low same = omega (arith, low)
+    by false true low same = omega arith
+    by false false low same = omega (arith, same)
 
-told_keyed : (maps : UnitMaps) (us : List (List Entry)) → Each IsSome us → Each (Told maps.ends maps.commits) us → Each (Keyed (λ (e : Entry). commit_of maps e.place)) us
-told_keyed maps [] some told = tt
-told_keyed maps (u ∷ us) some told = (
-  record {
-    some = some.0;
-    keys = each_more (λ (x : Entry). maps.ends x.place ≡ last_place u) (λ (x : Entry). commit_of maps x.place ≡ commit_place u) (λ x e. ap maps.commits e ∙ told.0.commits_are) u told.0.ends_are;
-  },
-  told_keyed maps us some.1 told.1,
-)
-
--- the units in order are the entries sorted by what the maps say
-maps_sorted : (es : List Entry) → Rises 0 es → schedule_of (in_order (units es)) ≡ map (λ (e : Entry). e.thread) (sort_by (λ (e : Entry). commit_of (unit_maps es) e.place) es)
-maps_sorted es rises = units_by_key (λ (e : Entry). commit_of (unit_maps es) e.place) es rises (told_keyed (unit_maps es) (units es) (units_well es 0 rises).some (maps_found 0 es rises).told)
-
-entries_rise : (n : ℕ) (steps : List Step) → Rises n (entries_of n steps)
-entries_rise n [] = tt
-entries_rise n (x ∷ steps) = (refl, entries_rise (n + 1) steps)
-
-placed_threads : (maps : UnitMaps) (es : List Entry) → map (λ (p : Placed). p.thread) (map (placed_entry maps) es) ≡ map (λ (e : Entry). e.thread) es
-placed_threads maps [] = refl
-placed_threads maps (e ∷ es) = ap (λ (ts : List ℕ). e.thread ∷ ts) (placed_threads maps es)
-
--- the threads of the steps sorted by commit places
-pub threads_sorted : (maps : UnitMaps) (steps : List Step) (placed sorted : List Placed) (threads : List ℕ) → maps ≡ unit_maps (entries_of 0 steps) → placed ≡ map (placed_entry maps) (entries_of 0 steps)
-    → ((other : UnitMaps) (es : List Entry) → placed ≡ map (placed_entry other) es → sorted ≡ map (placed_entry other) (sort_by (λ (e : Entry). commit_of other e.place) es))
-    → threads ≡ map (λ (p : Placed). p.thread) sorted → threads ≡ schedule_of (in_order (units (entries_of 0 steps)))
-threads_sorted maps steps placed sorted threads found is sorts told =
-    told ∙ ap (map (λ (p : Placed). p.thread)) (sorts maps (entries_of 0 steps) is) ∙ placed_threads maps (sort_by (λ (e : Entry). commit_of maps e.place) (entries_of 0 steps))
-    ∙ ap (λ (m : UnitMaps). map (λ (e : Entry). e.thread) (sort_by (λ (e : Entry). commit_of m e.place) (entries_of 0 steps))) found
-    ∙ sym (maps_sorted (entries_of 0 steps) (entries_rise 0 steps))
+pub sizes_low : (maps : UnitMaps) (n : ℕ) (steps : List Step) → maps ≡ unit_maps (entries_of n (drop n steps)) → length steps ≤ 200000 → (p : ℕ) → maps.sizes p ≤ 200000
+sizes_low maps n steps is low p =
+    let bound = sizes_bound n (drop n steps) p in
+    let short = length-drop n steps in
+    subst (λ (m : UnitMaps). m.sizes p ≤ 200000) (sym is) (omega (arith, bound, short, low))

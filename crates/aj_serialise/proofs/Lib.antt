@@ -1,6 +1,6 @@
 -- Lemmas on rewriting.
 mod Found
-mod StableSorts
+mod Spread
 mod Endings
 mod AtomicCalls
 mod SeenFrames

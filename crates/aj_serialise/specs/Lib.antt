@@ -1,5 +1,5 @@
 -- What the contracts of rewriting cite. A reader of the public calls needs Rewritten alone; the others serve the private
--- functions, from Tables to Placed those that put steps in order, Made and Refusals those that run the machine.
+-- functions, from Tables to UnitMaps those that put steps in order, Made and Refusals those that run the machine.
 pub mod Rewritten
 pub mod Refusals
 pub mod Calls
@@ -7,4 +7,3 @@ pub mod Made
 pub mod Tables
 pub mod Entries
 pub mod UnitMaps
-pub mod Placed

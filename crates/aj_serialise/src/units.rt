@@ -1,22 +1,20 @@
 // The units of a run, found from its last step to its first.
-ghost use Rattle.std.specs.Prelude.{◌≡◌, ◌≤◌, [], length, OnOk, IfOk};
+ghost use Rattle.std.specs.Prelude.{◌≡◌, ◌≤◌, ℕ, [], length, OnOk, IfOk};
 ghost use Rattle.aj_steps.specs.Units.{is_commit};
 ghost use Rattle.aj_serialise.specs.Entries.{entry_of, entries_of};
-ghost use Rattle.aj_serialise.specs.UnitMaps.{end_for, with_entry, unit_maps, commit_of, maps_of};
+ghost use Rattle.aj_serialise.specs.UnitMaps.{unit_for, with_entry, unit_maps, maps_of};
 
 use crate::step::Step;
 use crate::tables::{put, value_at};
 use aj_state::StepKind;
 use std::alloc::{AllocError as NoMemory, Global};
 
-/// The units of the steps from some place on. A unit is known by the place of its last step.
+/// The units of the steps from some place on. A unit is known by its commit place.
 #[derive(Drop)]
 pub(crate) struct UnitTables {
-    /// By a step's place, the last place of its unit.
-    ends: Vec<u32>,
-    /// By the last place of a unit, its commit place.
-    commits: Vec<u32>,
-    /// By thread, the last place of its first unit.
+    /// By commit place, how many steps the unit has.
+    sizes: Vec<u32>,
+    /// By thread, the commit place of its first unit.
     firsts: Vec<Option<u32>>,
 }
 
@@ -33,39 +31,39 @@ impl UnitTables {
         ensures { maps_of result ≡ unit_maps [] }
     {
         UnitTables {
-            ends: Vec::new(alloc),
-            commits: Vec::new(alloc),
+            sizes: Vec::new(alloc),
             firsts: Vec::new(alloc),
         }
     }
 
-    /// The last place of the unit of a step.
-    fn end_of(&self, place: u32, step: Step) -> u32
-        ensures { result ≡ end_for step.inside ((maps_of self.now).firsts step.thread) place }
+    /// The unit that a step joins, or a new one at its place.
+    fn unit_for(&self, place: u32, step: Step) -> u32
+        ensures { result ≡ unit_for step.inside ((maps_of self.now).firsts step.thread) place }
     {
         match value_at(&self.firsts, None, step.thread) {
-            Some(end) if step.inside => end,
+            Some(unit) if step.inside => unit,
             _ => place,
         }
     }
 
     /// Adds the step at a place, before all others.
     fn note(&mut self, place: u32, step: Step) -> Result<(), NoMemory>
+        requires { (commit : ℕ) → (maps_of self.old).sizes commit ≤ 200000 }
         ensures { OnOk result (maps_of self.new ≡ with_entry (entry_of place step) (maps_of self.old)) }
     {
-        let end = self.end_of(place, step);
-        put(&mut self.ends, 0, place, end)?;
-        if end == place || is_commit(step.kind) {
-            put(&mut self.commits, 0, end, place)?;
-        }
-        put(&mut self.firsts, None, step.thread, Some(end))
+        let unit = self.unit_for(place, step);
+        let commit = if is_commit(step.kind) { place } else { unit };
+        let size = value_at(&self.sizes, 0, unit);
+        put(&mut self.sizes, 0, unit, 0)?;
+        put(&mut self.sizes, 0, commit, size + 1)?;
+        put(&mut self.firsts, None, step.thread, Some(commit))
     }
 
-    /// The commit place of the unit of the step at a place.
-    pub(crate) fn commit_of(&self, place: u32) -> u32
-        ensures { result ≡ commit_of (maps_of self.now) place }
+    /// How many steps the unit has that commits at a place.
+    pub(crate) fn size_of(&self, place: u32) -> u32
+        ensures { result ≡ (maps_of self.now).sizes place }
     {
-        value_at(&self.commits, 0, value_at(&self.ends, 0, place))
+        value_at(&self.sizes, 0, place)
     }
 }
 
