@@ -3,10 +3,14 @@ use Rattle.std.proofs.Common.{◌≡◌, ℕ, ◌^◌, ◌<◌, ◌≤◌, ◌&&
 use Rattle.std.proofs.lemmas.Fmt.{first_decimal, decimal_digit, decimal-digits_value, decimal_nonempty}
 use Rattle.std.proofs.lemmas.Str.Parse.{numerals_by_value, tells_all_ascii_digits, IsNumeralModel, digits_value-take-le}
 use Rattle.std.proofs.lemmas.Int.Digits.{digits_value_more}
-use Rattle.std.proofs.lemmas.List.Sums.{take_while-cons}
+use Rattle.std.proofs.lemmas.List.{take-take}
+use Rattle.std.proofs.lemmas.List.Sums.{take_while-cons, prefix_len_passes, prefix_len_stops}
 use Rattle.std.proofs.lemmas.List.Folds.{length-prefix_len}
 use Rattle.std.proofs.lemmas.Slice.Eq.{bytes_eq-Decides}
+use Rattle.std.proofs.lemmas.Bool.{ltb-false, le-ltb}
 use Rattle.std.proofs.lemmas.Bool.Decides.{nat_tests}
+use Rattle.std.proofs.lemmas.Option.{cond_some}
+use Rattle.std.specs.List.{prefix_len}
 use Rattle.std.specs.Char.{is_ascii_digit, digit_value}
 use Rattle.std.specs.Str.{all_ascii_digits, bytes_eq}
 use Rattle.std.specs.Str.Parse.{digits_value}
@@ -104,30 +108,67 @@ plain_number digits are first = same_test (nat_lt 0 (length digits) && nat_lt (d
     let some : 0 < length digits = subst (λ ds. 0 < length ds) n.0 (decimal_nonempty (digits_value 10 digits) n.2) in
     and_true (nat_lt 0 (length digits)) (nat_lt (digits_value 10 digits) (2 ^ 64)) (is_less 0 (length digits) some) (is_less (digits_value 10 digits) (2 ^ 64) n.2))
 
--- a digit in the middle
-pub digit_at : (digits : List ℕ) (i : ℕ) → all_ascii_digits digits ≡ true → i < length digits → is_ascii_digit (get_or digits i 0) ≡ true
-digit_at [] i are less = absurd (omega (arith, less))
-digit_at (d ∷ digits) zero are less = (and_both (is_ascii_digit d) (all_ascii_digits digits) are).0
-digit_at (d ∷ digits) (suc i) are less = digit_at digits i (and_both (is_ascii_digit d) (all_ascii_digits digits) are).1 (omega (arith, less))
+-- no digits write no number
+pub no_digits : (digits : List ℕ) → length digits ≡ 0 → writes_number 0 (2 ^ 64) digits ≡ false
+no_digits [] none = sym (plain_number [] refl refl)
+no_digits (d ∷ digits) none = absurd (omega (arith, none))
 
-pub from_48 : (d : ℕ) → is_ascii_digit d ≡ true → 48 ≤ d
-from_48 d e = grind (arith, nat_tests)
+-- the test of digits without a leading zero is whether the number fits
+pub some_digits : (digits : List ℕ) → all_ascii_digits digits ≡ true → (nat_lt 1 (length digits) && (get_or digits 0 0 == 48)) ≡ false → 0 < length digits →
+    nat_lt (digits_value 10 digits) (2 ^ 64) ≡ writes_number 0 (2 ^ 64) digits
+some_digits digits are first some = sym (ap (λ b. b && nat_lt (digits_value 10 digits) (2 ^ 64)) (is_less 0 (length digits) some)) ∙ plain_number digits are first
+
+-- A text's digits so far.
+
+-- one more digit
+pub more_digits : (text : List ℕ) (i : ℕ) → i ≤ prefix_len is_ascii_digit text → i < length text → is_ascii_digit (get_or text i 0) ≡ true → i + 1 ≤ prefix_len is_ascii_digit text
+more_digits text i so_far within is = by (nat_lt i (prefix_len is_ascii_digit text)) refl
+  where
+    by : (b : Bool) → nat_lt i (prefix_len is_ascii_digit text) ≡ b → i + 1 ≤ prefix_len is_ascii_digit text
+    by true e = let l = less i (prefix_len is_ascii_digit text) e in omega (arith, l)
+    by false e =
+        let over = ltb-false i (prefix_len is_ascii_digit text) e in
+        let same : prefix_len is_ascii_digit text ≡ i = omega (arith, so_far, over) in
+        let stops = prefix_len_stops is_ascii_digit text 0 (omega (arith, same, within)) in
+        let clash : true ≡ false = sym is ∙ ap (λ k. is_ascii_digit (get_or text k 0)) (sym same) ∙ stops in absurd cc
+
+-- no more digit
+pub all_digits : (text : List ℕ) (i : ℕ) → i ≤ prefix_len is_ascii_digit text → is_ascii_digit (get_or text i 0) ≡ false → i ≡ prefix_len is_ascii_digit text
+all_digits text i so_far is = by (nat_lt i (prefix_len is_ascii_digit text)) refl
+  where
+    by : (b : Bool) → nat_lt i (prefix_len is_ascii_digit text) ≡ b → i ≡ prefix_len is_ascii_digit text
+    by true e = let clash : true ≡ false = sym (prefix_len_passes is_ascii_digit text i 0 (less i (prefix_len is_ascii_digit text) e)) ∙ is in absurd cc
+    by false e = let over = ltb-false i (prefix_len is_ascii_digit text) e in omega (arith, so_far, over)
 
 worth : (d : ℕ) → is_ascii_digit d ≡ true → digit_value d ≡ d - 48
 worth d e = grind (arith, nat_tests)
 
 -- the number of one digit more
-pub next_number : (digits : List ℕ) (i n : ℕ) → all_ascii_digits digits ≡ true → i < length digits → n ≡ digits_value 10 (take i digits)
-    → digits_value 10 (take (i + 1) digits) ≡ n * 10 + (get_or digits i 0 - 48)
-next_number digits i n are less is = rw (digits_value_more 10 digits i less, worth (get_or digits i 0) (digit_at digits i are less), is) refl
+pub next_number : (text : List ℕ) (i n : ℕ) → i < length text → is_ascii_digit (get_or text i 0) ≡ true → n ≡ digits_value 10 (take i text)
+    → digits_value 10 (take (i + 1) text) ≡ n * 10 + (get_or text i 0 - 48)
+next_number text i n within is so_far = rw (digits_value_more 10 text i within, worth (get_or text i 0) is, so_far) refl
+
+-- a number that fits, and one that doesn't
+pub fits_then : (m n : ℕ) → Some n ≡ (if nat_lt m (2 ^ 64) then Some m else None) → (n ≡ m) × (n < 2 ^ 64)
+fits_then m n e =
+    let parts = cond_some (nat_lt m (2 ^ 64)) m n (sym e) in
+    (sym parts.1, subst (λ k. k < 2 ^ 64) parts.1 (less m (2 ^ 64) parts.0))
+
+pub none_then : (m : ℕ) → None ≡ (if nat_lt m (2 ^ 64) then Some m else None) → nat_lt m (2 ^ 64) ≡ false
+none_then m e = by (nat_lt m (2 ^ 64)) e
+  where
+    by : (b : Bool) → None ≡ (if b then Some m else None) → b ≡ false
+    by true e = absurd cc
+    by false e = refl
+
+pub fitting : (n m : ℕ) → n ≡ m → n < 2 ^ 64 → Some n ≡ (if nat_lt m (2 ^ 64) then Some m else None)
+fitting n m same small = subst (λ k. Some n ≡ (if nat_lt k (2 ^ 64) then Some k else None)) same (rw (is_less n (2 ^ 64) small) refl)
 
 -- digits whose front writes a number that doesn't fit
-pub no_number : (digits : List ℕ) (i : ℕ) → (digits_value 10 (take i digits) < 2 ^ 64 → ⊥)
-    → (if nat_lt 0 (length digits) && nat_lt (digits_value 10 digits) (2 ^ 64) then Some (digits_value 10 digits) else None) ≡ None
-no_number digits i large =
-    let most = digits_value-take-le 10 digits i (omega arith) in
-    let test : (nat_lt 0 (length digits) && nat_lt (digits_value 10 digits) (2 ^ 64)) ≡ false =
-    false_unless (nat_lt 0 (length digits) && nat_lt (digits_value 10 digits) (2 ^ 64)) (λ e.
-    let small = less (digits_value 10 digits) (2 ^ 64) (and_both (nat_lt 0 (length digits)) (nat_lt (digits_value 10 digits) (2 ^ 64)) e).1 in
-    large (omega (arith, most, small))) in
-    rw test refl
+pub too_large : (text : List ℕ) (i m : ℕ) → i ≤ prefix_len is_ascii_digit text → digits_value 10 (take i text) ≡ m → nat_lt m (2 ^ 64) ≡ false
+    → None ≡ (if nat_lt (digits_value 10 (first_digits text)) (2 ^ 64) then Some (digits_value 10 (first_digits text)) else None)
+too_large text i m within is large =
+    let most = digits_value-take-le 10 (first_digits text) i (omega arith) in
+    let front : digits_value 10 (take i (first_digits text)) ≡ m = ap (digits_value 10) (take-take i (prefix_len is_ascii_digit text) text within) ∙ is in
+    let over = ltb-false m (2 ^ 64) large in
+    rw (le-ltb (digits_value 10 (first_digits text)) (2 ^ 64) (omega (arith, most, front, over))) refl

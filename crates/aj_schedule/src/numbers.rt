@@ -1,6 +1,6 @@
 //! Numbers in the text of a schedule.
-ghost use Rattle.std.specs.Prelude.{◌≡◌, ◌≤◌, ◌+◌, ◌&&◌, ◌==◌, ◌^◌, length, true, nat_lt, slice_index, if◌then◌else◌, Some, None};
-ghost use Rattle.std.specs.Str.{all_ascii_digits};
+ghost use Rattle.std.specs.Prelude.{◌≡◌, ◌≤◌, ◌+◌, ◌-◌, ◌*◌, ◌&&◌, ◌==◌, ◌^◌, length, true, nat_lt, slice_index, if◌then◌else◌, Some, None};
+ghost use Rattle.std.specs.Char.{is_ascii_digit};
 ghost use Rattle.std.specs.Str.Parse.{digits_value};
 ghost use Rattle.aj_schedule.specs.Faults.{first_digits, writes_number};
 
@@ -11,6 +11,18 @@ pub(crate) struct Number {
     pub(crate) value: Option<u64>,
 }
 
+impl Number {
+    /// The same digits, of which no number is told.
+    fn without_value(self) -> Number
+        ensures { result ≡ record { length = self.length; value = None } }
+    {
+        Number {
+            length: self.length,
+            value: None,
+        }
+    }
+}
+
 /// The number that a text begins with.
 fn first_number(text: &[u8]) -> Number
     ensures length { result.length ≡ length (first_digits text.now) }
@@ -18,18 +30,14 @@ fn first_number(text: &[u8]) -> Number
     ensures value { result.value ≡ (if writes_number 0 (2 ^ 64) (first_digits text.now)
         then Some (digits_value 10 (first_digits text.now)) else None) }
 {
-    let length = digits_length(text);
-    let digits = &text[..length];
-    if has_leading_zero(digits) {
-        return Number {
-            length,
-            value: None,
-        };
+    let found = leading_digits(text);
+    if found.length == 0 {
+        return found.without_value();
     }
-    Number {
-        length,
-        value: number_of(digits),
+    if has_leading_zero(&text[..found.length]) {
+        return found.without_value();
     }
+    found
 }
 
 /// The same, where the number is from `low` to `high`.
@@ -39,24 +47,17 @@ pub(crate) fn number_within(text: &[u8], low: u64, high: u64) -> Number
     ensures value { result.value ≡ (if writes_number low (high + 1) (first_digits text.now)
         then Some (digits_value 10 (first_digits text.now)) else None) }
 {
-    let Number { length, value } = first_number(text);
-    let none = Number {
-        length,
-        value: None,
-    };
-    let Some(number) = value else {
-        return none;
+    let found = first_number(text);
+    let Some(number) = found.value else {
+        return found;
     };
     if number < low {
-        return none;
+        return found.without_value();
     }
     if number > high {
-        return none;
+        return found.without_value();
     }
-    Number {
-        length,
-        value: Some(number),
-    }
+    found
 }
 
 /// Whether digits begin with a 0 that is not the only one.
@@ -74,20 +75,35 @@ fn digits_length(text: &[u8]) -> usize
     text.iter().take_while(|byte| byte.is_ascii_digit()).count()
 }
 
-/// The number that digits write, leading zeros or not, if there are any and it fits 64 bits.
-fn number_of(digits: &[u8]) -> Option<u64>
-    requires { all_ascii_digits digits.now ≡ true }
-    ensures { result ≡ (if nat_lt 0 (length digits.now) && nat_lt (digits_value 10 digits.now) (2 ^ 64)
-        then Some (digits_value 10 digits.now) else None) }
+/// The digits that a text begins with, and the number that they write, leading zeros or not, if it fits 64 bits.
+fn leading_digits(text: &[u8]) -> Number
+    ensures length { result.length ≡ length (first_digits text.now) }
+    ensures inside { result.length ≤ length text.now }
+    ensures value { result.value ≡ (if nat_lt (digits_value 10 (first_digits text.now)) (2 ^ 64)
+        then Some (digits_value 10 (first_digits text.now)) else None) }
 {
-    if digits.is_empty() {
-        return None;
+    let mut value = 0_u64;
+    let mut length = 0;
+    'digits: while length < text.len() && text[length].is_ascii_digit() {
+        let Some(more) = with_digit(value, text[length]) else {
+            return Number {
+                length: digits_length(text),
+                value: None,
+            };
+        };
+        value = more;
+        length += 1;
     }
-    let mut number = 0_u64;
-    for digit in digits {
-        number = number
-            .checked_mul(10)?
-            .checked_add(u64::from(*digit - b'0'))?;
+    Number {
+        length,
+        value: Some(value),
     }
-    Some(number)
+}
+
+/// The number with one digit more, if it fits 64 bits.
+fn with_digit(number: u64, digit: u8) -> Option<u64>
+    requires { is_ascii_digit digit ≡ true }
+    ensures { result ≡ (if nat_lt (number * 10 + (digit - 48)) (2 ^ 64) then Some (number * 10 + (digit - 48)) else None) }
+{
+    number.checked_mul(10)?.checked_add(u64::from(digit - b'0'))
 }

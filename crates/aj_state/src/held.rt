@@ -1,5 +1,5 @@
 // The held locks by the addresses of their objects.
-ghost use Rattle.std.specs.Prelude.{◌≡◌, ◌<◌, ◌^◌, ◌-◌, Some, None, IsSome, MatchOption, IfOk, OnOk, OnErr, slice_get};
+ghost use Rattle.std.specs.Prelude.{count_by, ◌≡◌, ◌==◌, ◌<◌, ◌^◌, ◌-◌, Some, None, IsSome, MatchOption, IfOk, OnOk, OnErr, slice_get};
 ghost use Rattle.std.specs.FinMap as map;
 ghost use Rattle.aj_state.specs.Memory.{with_lock};
 ghost use Rattle.aj_state.specs.Stored.{found_lock, MayTake, taken_by, given_back};
@@ -69,6 +69,13 @@ impl Locks {
         ensures { result ≡ map.len self.now }
     {
         self.held.len()
+    }
+
+    /// How many of the held locks are those of objects that this thread made.
+    pub fn held_of(&self, thread: u32) -> usize
+        ensures { result ≡ count_by (λ a. a.thread == thread) (map.keys self.now) }
+    {
+        self.held.filled(thread)
     }
 
     /// The held lock at a place, in ascending order of addresses: the address, the holder and the count.

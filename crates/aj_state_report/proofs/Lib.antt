@@ -1,2 +1,2 @@
 mod Sights
-mod EntryLemmas
+mod Rows

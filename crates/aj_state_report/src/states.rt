@@ -1,13 +1,13 @@
 //! The text of a state.
 
-ghost use Rattle.std.specs.Prelude.{◌≡◌, ◌++◌, [], map, option_map, slice_get, string_bytes, unwrap_or, IfOk, OnOk};
+ghost use Rattle.std.specs.Prelude.{◌≡◌, ◌++◌, ◌+◌, [], length, map, option_map, slice_get, string_bytes, unwrap_or, IfOk, OnOk};
 ghost use Rattle.std.specs.List.{flat_map};
 ghost use Rattle.std.specs.FinMap as finite;
 ghost use Rattle.aj_classes.specs.Views.{table_data};
 ghost use Rattle.aj_core.specs.Views.{program_of};
 ghost use Rattle.aj_machine.specs.Standing.{program_run, StandsFor};
 ghost use Rattle.aj_state.specs.States.{State, fields_of};
-ghost use Rattle.aj_state_report.specs.Entries.{line_at};
+ghost use Rattle.aj_state_report.specs.Entries.{of_thread, entry_at};
 ghost use Rattle.aj_state_report.specs.States.{class_text, print_line, field_value_text, field_values_text, object_line, lock_line, top_text, status_text, thread_line, threads_text, sight_of, text_of, state_text};
 
 use crate::numbers::write_number;
@@ -59,7 +59,7 @@ fn write_print(text: &mut String, number: i32) -> Result<(), NoMemory>
     text.push_str("\n")
 }
 
-/// Writes a line for each object.
+/// Writes a line for each object, thread by thread.
 fn write_objects(
     text: &mut String,
     program: &CoreProgram,
@@ -68,27 +68,64 @@ fn write_objects(
 ) -> Result<(), NoMemory>
     ensures { OnOk result (string_bytes text.new ≡ string_bytes text.old ++ flat_map (object_line (program_of program.now) (table_data table.now)) (finite.entries heap.now)) }
 {
-    for place in 0..heap.len() {
-        write_object_at(text, program, table, heap, place)?;
+    let mut left = heap.len();
+    let mut thread = 0;
+    'threads: while left > 0 {
+        left -= write_made(text, program, table, heap, thread)?;
+        thread = after(thread)?;
     }
     Ok(())
 }
 
-/// Writes the line of the object at this place in ascending order of address, where there is one.
+/// Writes a line for each object that a thread made, and tells how many there are.
+fn write_made(
+    text: &mut String,
+    program: &CoreProgram,
+    table: &ClassTable,
+    heap: &Heap,
+    thread: u32,
+) -> Result<usize, NoMemory>
+    ensures text { OnOk result (string_bytes text.new ≡ string_bytes text.old ++ flat_map (object_line (program_of program.now) (table_data table.now)) (of_thread thread (finite.entries heap.now))) }
+    ensures made { IfOk result (λ made. made ≡ length (of_thread thread (finite.entries heap.now))) }
+{
+    let made = heap.made(thread);
+    let mut left = made;
+    let mut count = 0;
+    'counts: while left > 0 {
+        left -= write_object_at(text, program, table, heap, Address { thread, count })?;
+        count = after(count)?;
+    }
+    Ok(made)
+}
+
+/// The number after that of a thread or of an object.
+fn after(number: u32) -> Result<u32, NoMemory>
+    ensures { IfOk result (λ next. next ≡ number + 1) }
+{
+    // No address has a larger number.
+    if number == u32::MAX {
+        return Err(NoMemory);
+    }
+    Ok(number + 1)
+}
+
+/// Writes the line of the object at an address, where there is one, and tells how many that is.
 fn write_object_at(
     text: &mut String,
     program: &CoreProgram,
     table: &ClassTable,
     heap: &Heap,
-    place: usize,
-) -> Result<(), NoMemory>
-    ensures { OnOk result (string_bytes text.new ≡ string_bytes text.old ++ line_at (object_line (program_of program.now) (table_data table.now)) (finite.entries heap.now) place) }
+    address: Address,
+) -> Result<usize, NoMemory>
+    ensures text { OnOk result (string_bytes text.new ≡ string_bytes text.old ++ flat_map (object_line (program_of program.now) (table_data table.now)) (entry_at address (finite.get heap.now address))) }
+    ensures count { IfOk result (λ count. count ≡ length (entry_at address (finite.get heap.now address))) }
 {
-    match heap.at(place) {
-        Some((address, class, values)) => {
-            write_object(text, program, table, address, class, values)
+    match heap.find(address) {
+        Some((class, values)) => {
+            write_object(text, program, table, address, class, values)?;
+            Ok(1)
         }
-        None => Ok(()),
+        None => Ok(0),
     }
 }
 
@@ -161,23 +198,45 @@ fn write_field_value(
     write_value(text, value)
 }
 
-/// Writes a line for each held lock.
+/// Writes a line for each held lock, thread by thread.
 fn write_locks(text: &mut String, locks: &Locks) -> Result<(), NoMemory>
     ensures { OnOk result (string_bytes text.new ≡ string_bytes text.old ++ flat_map lock_line (finite.entries locks.now)) }
 {
-    for place in 0..locks.len() {
-        write_lock_at(text, locks, place)?;
+    let mut left = locks.len();
+    let mut thread = 0;
+    'threads: while left > 0 {
+        left -= write_held(text, locks, thread)?;
+        thread = after(thread)?;
     }
     Ok(())
 }
 
-/// Writes the line of the held lock at this place in ascending order of address, where there is one.
-fn write_lock_at(text: &mut String, locks: &Locks, place: usize) -> Result<(), NoMemory>
-    ensures { OnOk result (string_bytes text.new ≡ string_bytes text.old ++ line_at lock_line (finite.entries locks.now) place) }
+/// Writes a line for each held lock of an object that a thread made, and tells how many there are.
+fn write_held(text: &mut String, locks: &Locks, thread: u32) -> Result<usize, NoMemory>
+    ensures text { OnOk result (string_bytes text.new ≡ string_bytes text.old ++ flat_map lock_line (of_thread thread (finite.entries locks.now))) }
+    ensures held { IfOk result (λ held. held ≡ length (of_thread thread (finite.entries locks.now))) }
 {
-    match locks.at(place) {
-        Some((address, holder, count)) => write_lock(text, address, holder, count),
-        None => Ok(()),
+    let held = locks.held_of(thread);
+    let mut left = held;
+    let mut count = 0;
+    'counts: while left > 0 {
+        left -= write_lock_at(text, locks, Address { thread, count })?;
+        count = after(count)?;
+    }
+    Ok(held)
+}
+
+/// Writes the line of the held lock of an address, where there is one, and tells how many that is.
+fn write_lock_at(text: &mut String, locks: &Locks, address: Address) -> Result<usize, NoMemory>
+    ensures text { OnOk result (string_bytes text.new ≡ string_bytes text.old ++ flat_map lock_line (entry_at address (finite.get locks.now address))) }
+    ensures count { IfOk result (λ count. count ≡ length (entry_at address (finite.get locks.now address))) }
+{
+    match locks.find(address) {
+        Some((holder, count)) => {
+            write_lock(text, address, holder, count)?;
+            Ok(1)
+        }
+        None => Ok(0),
     }
 }
 
