@@ -1,8 +1,8 @@
 #!/usr/bin/env python3
 """as_test.py: writes the test file that holds each example of this folder against the lines that the README states.
 
-    python3 as_test.py > ../crates/atomic_cli/src/tests/examples.rt
-    python3 as_test.py --check ../crates/atomic_cli/src/tests/examples.rt
+    python3 as_test.py > ../crates/atomic_cli/src/examples.rt
+    python3 as_test.py --check ../crates/atomic_cli/src/examples.rt
 
 With --check nothing is written: the exit status is 1 where the test file isn't the one of today's examples.
 """

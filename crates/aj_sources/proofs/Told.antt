@@ -35,7 +35,3 @@ right_of_more R S more NoMemory is = tt
 -- what refuses a program of the grammar refuses a well-formed source
 pub refused_source : (file : List ℕ) (r : Refusal) → IsRight (NoProgram file) r → IsRight (NoSource file) r
 refused_source file r is = right_of_more (NoProgram file) (NoSource file) (λ ending line i. no_program i) r is
-
--- what refuses a well-formed source refuses an accepted one
-pub refused_accepted : (file : List ℕ) (r : Refusal) → IsRight (NoSource file) r → IsRight (NoAccepted file) r
-refused_accepted file r is = right_of_more (NoSource file) (NoAccepted file) (λ ending line i. no_source i) r is

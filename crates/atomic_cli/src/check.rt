@@ -13,6 +13,7 @@ use aj_paths::MethodId;
 use aj_report::atomicity_text;
 use aj_sources::{Ending, Refusal, accepted, read_source};
 use std::alloc::{AllocError as NoMemory, Global};
+use std::mem::forget;
 
 /// Writes the line of a method, with its tree.
 fn write_line(
@@ -49,5 +50,6 @@ pub fn check(alloc: Global, bytes: &[u8]) -> Result<Vec<u8>, Refusal>
     let source = read_source(alloc, bytes)?;
     let inferred = accepted(alloc, &source)?;
     let text = report(alloc, &source.table, inferred.methods.as_slice())?;
+    forget(source);
     Ok(text.into_bytes())
 }

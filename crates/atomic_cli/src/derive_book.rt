@@ -8,6 +8,7 @@ use aj_deriv::write_book;
 use aj_derive::derive;
 use aj_sources::{Ending, Refusal, accepted, read_source};
 use std::alloc::Global;
+use std::mem::forget;
 
 /// Writes the book of a source that the rules accept, or refuses it.
 #[tactic(auto, using(crate::proofs::BookRows::derive_source_refused))]
@@ -19,5 +20,7 @@ pub fn derive_book(alloc: Global, bytes: &[u8]) -> Result<Vec<u8>, Refusal>
     let inferred = accepted(alloc, &source)?;
     let book = derive(alloc, &source.program, &source.sets, &inferred)?;
     let text = write_book(alloc, &book)?;
+    forget(book);
+    forget(source);
     Ok(text)
 }

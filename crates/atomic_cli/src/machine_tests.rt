@@ -12,7 +12,7 @@ use aj_deriv_check::{Checked, accept_text};
 use aj_held::Watched;
 use aj_machine::{Machine, StepEnd};
 use aj_sources::{Source, read_source};
-use aj_state::StepKind;
+use aj_state::{Address, StepKind};
 use aj_swap::{SwapEnd, swap_at};
 use std::alloc::Global;
 use std::process::Abort;
@@ -83,6 +83,39 @@ fn exchange(
     }
     run_whole(alloc, &source.program, &code, schedule)?;
     Ok(swap_at(alloc, &source.program, &code, schedule, place))
+}
+
+/// Copies of heap, locks and threads, made while a thread is inside the call that holds the lock of the cell.
+#[test]
+fn copies_have_what_they_copy(rt: HostRuntime) -> Result<(), Fail> {
+    let alloc = rt.alloc();
+    let source = source_of(alloc, COUNTER)?;
+    let code = compile(alloc, &source.program)?;
+    let schedule = schedule_of(alloc, &[(0, 10), (1, 12)])?;
+    if schedule.len() > 200000 {
+        return Err(Fail::new("a long schedule"));
+    }
+    let mut machine = Machine::start(alloc, &source.program, &code)?;
+    if machine.run(alloc, schedule.as_slice()).is_err() {
+        return Err(Fail::new("the schedule stops"));
+    }
+    let heap = machine.heap().copy(alloc)?;
+    assert_eq!(rt; heap.len(), 4);
+    assert_eq!(rt; heap.made(0), 4);
+    let locks = machine.locks().copy(alloc)?;
+    let cell = Address {
+        thread: 0,
+        count: 1,
+    };
+    assert!(rt; matches!(locks.find(cell), Some((1, 1))));
+    for thread in machine.threads() {
+        let copied = thread.copy(alloc)?;
+        assert_eq!(rt; copied.frames(), thread.frames());
+        assert_eq!(rt; copied.slots(), thread.slots());
+        assert_eq!(rt; copied.operands(), thread.operands());
+        assert_eq!(rt; copied.taken(), thread.taken());
+    }
+    Ok(())
 }
 
 #[test]

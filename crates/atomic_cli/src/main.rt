@@ -6,6 +6,8 @@ mod book_tests;
 mod check;
 mod command;
 mod derive_book;
+#[cfg(test)]
+mod examples;
 mod files;
 #[cfg(test)]
 mod large_tests;

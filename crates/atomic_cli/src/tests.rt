@@ -1,5 +1,6 @@
 //! What the program answers, over a folder and a sink in memory.
 
+use crate::examples::EXAMPLES;
 use crate::run::run;
 use aj_edge::{MemFolder, MemSink};
 use itoa::Buffer;
@@ -83,102 +84,120 @@ pub fn counter(alloc: Global, in_cell: &str, in_main: &str, behind: &str) -> Res
     Ok(source)
 }
 
+/// Each file of `examples/` that `check` judges gets the lines that the README there states.
+#[test]
+fn examples_say_what_their_readme_states(rt: HostRuntime) -> Result<(), Fail> {
+    for (_, source, status, text) in EXAMPLES {
+        expect(
+            &rt,
+            rt.alloc(),
+            &["check", "a"],
+            source.as_bytes(),
+            status,
+            text,
+        )?;
+    }
+    Ok(())
+}
+
+/// What is put into the counter program, in the order of `counter`, with the status of `check` and its text.
+const COUNTER_ROWS: [(&str, &str, &str, u8, &str); 13] = [
+    (
+        "",
+        "",
+        "",
+        0,
+        "Cell.inc this ? mover : atomic\nW.run this.c ? mover : atomic\nMain.main cmpd\n",
+    ),
+    (
+        "atomic void twice() { this.inc(); this.inc(); } ",
+        "",
+        "",
+        2,
+        "Cell.twice: declared atomic, found cmpd\n",
+    ),
+    (
+        "atomic void twice() { synchronized (this) { this.inc(); this.inc(); } } ",
+        "",
+        "",
+        0,
+        "Cell.inc this ? mover : atomic\nCell.twice this ? mover : atomic\nW.run this.c ? mover : atomic\nMain.main cmpd\n",
+    ),
+    (
+        "int peek() { return this.v; } ",
+        "",
+        "",
+        2,
+        "Cell.peek: declared cmpd, found error\n",
+    ),
+    (
+        "int peek() requires this { return this.v; } ",
+        "",
+        "",
+        0,
+        "Cell.inc this ? mover : atomic\nCell.peek mover\nW.run this.c ? mover : atomic\nMain.main cmpd\n",
+    ),
+    (
+        "int peek() requires this { return this.v; } ",
+        "c.peek(); ",
+        "",
+        2,
+        "Main.main: declared cmpd, found error\n",
+    ),
+    (
+        "atomic void fill() { synchronized (this) { while (this.v < 10) { this.v = this.v + 1; } } } ",
+        "",
+        "",
+        0,
+        "Cell.inc this ? mover : atomic\nCell.fill this ? mover : atomic\nW.run this.c ? mover : atomic\nMain.main cmpd\n",
+    ),
+    (
+        "int u; atomic void grow() { while (this.u < 10) { this.u = this.u + 1; } } ",
+        "",
+        "",
+        2,
+        "Cell.grow: declared atomic, found cmpd\n",
+    ),
+    (
+        "atomic void down(int k) requires this { if (k > 0) { this.v = this.v + k; this.down(k - 1); this.down(k - 1); } } ",
+        "",
+        "",
+        0,
+        "Cell.inc this ? mover : atomic\nCell.down mover\nW.run this.c ? mover : atomic\nMain.main cmpd\n",
+    ),
+    (
+        "",
+        "",
+        "class Box { final Cell c; Box(Cell c) { this.c = c; } atomic void clear() { final Cell x = this.c; synchronized (x) { x.v = 0; } } }",
+        0,
+        "Cell.inc this ? mover : atomic\nW.run this.c ? mover : atomic\nMain.main cmpd\nBox.clear this.c ? mover : atomic\n",
+    ),
+    (
+        "",
+        "",
+        "class Box { final Cell c; Box(Cell c) { this.c = c; } atomic void clear() { final Cell x = this.c; synchronized (x) { x.v = 0; this.c.v = 1; } } }",
+        2,
+        "Box.clear: declared atomic, found error\n",
+    ),
+    (
+        "Cell self() { return this; } int far() requires this { return this.self().v; } ",
+        "",
+        "",
+        2,
+        "Cell.far: declared cmpd, found error\n",
+    ),
+    (
+        "void Cell() { boolean b = null == null; } ",
+        "",
+        "",
+        0,
+        "Cell.inc this ? mover : atomic\nCell.Cell mover\nW.run this.c ? mover : atomic\nMain.main cmpd\n",
+    ),
+];
+
 #[test]
 fn check_judges_the_counter_program(rt: HostRuntime) -> Result<(), Fail> {
-    let rows: [(&str, &str, &str, u8, &str); 13] = [
-        (
-            "",
-            "",
-            "",
-            0,
-            "Cell.inc this ? mover : atomic\nW.run this.c ? mover : atomic\nMain.main cmpd\n",
-        ),
-        (
-            "atomic void twice() { this.inc(); this.inc(); } ",
-            "",
-            "",
-            2,
-            "Cell.twice: declared atomic, found cmpd\n",
-        ),
-        (
-            "atomic void twice() { synchronized (this) { this.inc(); this.inc(); } } ",
-            "",
-            "",
-            0,
-            "Cell.inc this ? mover : atomic\nCell.twice this ? mover : atomic\nW.run this.c ? mover : atomic\nMain.main cmpd\n",
-        ),
-        (
-            "int peek() { return this.v; } ",
-            "",
-            "",
-            2,
-            "Cell.peek: declared cmpd, found error\n",
-        ),
-        (
-            "int peek() requires this { return this.v; } ",
-            "",
-            "",
-            0,
-            "Cell.inc this ? mover : atomic\nCell.peek mover\nW.run this.c ? mover : atomic\nMain.main cmpd\n",
-        ),
-        (
-            "int peek() requires this { return this.v; } ",
-            "c.peek(); ",
-            "",
-            2,
-            "Main.main: declared cmpd, found error\n",
-        ),
-        (
-            "atomic void fill() { synchronized (this) { while (this.v < 10) { this.v = this.v + 1; } } } ",
-            "",
-            "",
-            0,
-            "Cell.inc this ? mover : atomic\nCell.fill this ? mover : atomic\nW.run this.c ? mover : atomic\nMain.main cmpd\n",
-        ),
-        (
-            "int u; atomic void grow() { while (this.u < 10) { this.u = this.u + 1; } } ",
-            "",
-            "",
-            2,
-            "Cell.grow: declared atomic, found cmpd\n",
-        ),
-        (
-            "atomic void down(int k) requires this { if (k > 0) { this.v = this.v + k; this.down(k - 1); this.down(k - 1); } } ",
-            "",
-            "",
-            0,
-            "Cell.inc this ? mover : atomic\nCell.down mover\nW.run this.c ? mover : atomic\nMain.main cmpd\n",
-        ),
-        (
-            "",
-            "",
-            "class Box { final Cell c; Box(Cell c) { this.c = c; } atomic void clear() { final Cell x = this.c; synchronized (x) { x.v = 0; } } }",
-            0,
-            "Cell.inc this ? mover : atomic\nW.run this.c ? mover : atomic\nMain.main cmpd\nBox.clear this.c ? mover : atomic\n",
-        ),
-        (
-            "",
-            "",
-            "class Box { final Cell c; Box(Cell c) { this.c = c; } atomic void clear() { final Cell x = this.c; synchronized (x) { x.v = 0; this.c.v = 1; } } }",
-            2,
-            "Box.clear: declared atomic, found error\n",
-        ),
-        (
-            "Cell self() { return this; } int far() requires this { return this.self().v; } ",
-            "",
-            "",
-            2,
-            "Cell.far: declared cmpd, found error\n",
-        ),
-        (
-            "void Cell() { boolean b = null == null; } ",
-            "",
-            "",
-            0,
-            "Cell.inc this ? mover : atomic\nCell.Cell mover\nW.run this.c ? mover : atomic\nMain.main cmpd\n",
-        ),
-    ];
-    for (in_cell, in_main, behind, status, text) in rows {
+    for (in_cell, in_main, behind, status, text) in COUNTER_ROWS {
         let source = counter(rt.alloc(), in_cell, in_main, behind)?;
         expect(
             &rt,

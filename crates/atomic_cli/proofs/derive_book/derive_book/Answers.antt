@@ -5,7 +5,6 @@ use Rattle.aj_cond.specs.Conditions.{cond_of}
 use Rattle.aj_core.specs.Views.{program_of}
 use Rattle.aj_deriv.specs.Memory.{book_of}
 use Rattle.aj_sources.specs.Verdicts.{NoAccepted}
-use Rattle.aj_sources.proofs.Verdicts.{few_methods}
 use Rattle.atomic_cli.specs.Derive.{DeriveAnswer}
 use Rattle.atomic_cli.proofs.BookRows.{not_accepted_derive, source_keeps, derived_text}
 use Rattle.atomic_cli.proofs.ScheduleRows.{more_refused}
@@ -16,9 +15,6 @@ returns-in_err-inferred c =
     let p = err_from_is_err_and c.from_residual-in_err-inferred.result c.from_residual-in_err-inferred.ensures.1 in
     more_refused (NoAccepted c.args.bytes.now) (DeriveAnswer c.args.bytes.now) _ c.from_residual-in_err-inferred.result p.0 c.in_err-inferred.field-0.0 p.1 p.2
     (not_accepted_derive c.args.bytes.now) (c.in_err-inferred.ensures c.args.bytes.now c.in_ok-source.ensures)
-
-pub derive-requires-clause-few : goal.derive-requires-clause-few
-derive-requires-clause-few c = few_methods (program_of c.in_ok-source.source.program) c.in_ok-source.ensures.1.typed
 
 pub derive-requires-clause-count : goal.derive-requires-clause-count
 derive-requires-clause-count c = (c.in_ok-inferred.ensures c.args.bytes.now c.in_ok-source.ensures).shown.count

@@ -1,0 +1,125 @@
+//! The files of `examples/`, with the lines that its README states. Written by `examples/as_test.py`.
+
+/// Name, text, status and lines.
+pub const EXAMPLES: [(&str, &str, u8, &str); 20] = [
+    (
+        "locked.java",
+        "class Main { int v guarded_by this; atomic void main() { synchronized (this) { this.v = 7; } } }\n",
+        0,
+        "Main.main this ? mover : atomic\n",
+    ),
+    (
+        "unguarded.java",
+        "class Main {\n    int low;\n    int high;\n    atomic void main() {\n        this.low = 1;\n        this.high = 2;\n    }\n}\n",
+        2,
+        "Main.main: declared atomic, found cmpd\n",
+    ),
+    (
+        "repaired.java",
+        "class Main {\n    int low guarded_by this;\n    int high guarded_by this;\n    atomic void main() {\n        synchronized (this) {\n            this.low = 1;\n            this.high = 2;\n        }\n    }\n}\n",
+        0,
+        "Main.main this ? mover : atomic\n",
+    ),
+    (
+        "unlocked.java",
+        "class Main {\n    int v guarded_by this;\n    void main() {\n        this.v = 7;\n    }\n}\n",
+        2,
+        "Main.main: declared cmpd, found error\n",
+    ),
+    (
+        "required.java",
+        "class Main {\n    int v guarded_by this;\n    void main() {\n    }\n    void set() requires this {\n        this.v = 1;\n    }\n}\n",
+        0,
+        "Main.main const\nMain.set mover\n",
+    ),
+    (
+        "counter.java",
+        "class Cell {\n    int v guarded_by this;\n    atomic void inc() {\n        synchronized (this) {\n            this.v = this.v + 1;\n        }\n    }\n}\n\nclass W implements Runnable {\n    final Cell c;\n    W(Cell c) { this.c = c; }\n    public void run() {\n        this.c.inc();\n    }\n}\n\nclass Main {\n    void main() {\n        final Cell c = new Cell();\n        new Thread(new W(c)).start();\n        new Thread(new W(c)).start();\n    }\n}\n",
+        0,
+        "Cell.inc this ? mover : atomic\nW.run this.c ? mover : atomic\nMain.main cmpd\n",
+    ),
+    (
+        "twice.java",
+        "class Cell {\n    int v guarded_by this;\n    atomic void inc() {\n        synchronized (this) {\n            this.v = this.v + 1;\n        }\n    }\n    atomic void twice() {\n        this.inc();\n        this.inc();\n    }\n}\n\nclass W implements Runnable {\n    final Cell c;\n    W(Cell c) { this.c = c; }\n    public void run() {\n        this.c.twice();\n    }\n}\n\nclass Main {\n    void main() {\n        final Cell c = new Cell();\n        new Thread(new W(c)).start();\n        new Thread(new W(c)).start();\n    }\n}\n",
+        2,
+        "Cell.twice: declared atomic, found cmpd\n",
+    ),
+    (
+        "twice_locked.java",
+        "class Cell {\n    int v guarded_by this;\n    atomic void inc() {\n        synchronized (this) {\n            this.v = this.v + 1;\n        }\n    }\n    atomic void twice() {\n        synchronized (this) {\n            this.inc();\n            this.inc();\n        }\n    }\n}\n\nclass W implements Runnable {\n    final Cell c;\n    W(Cell c) { this.c = c; }\n    public void run() {\n        this.c.twice();\n    }\n}\n\nclass Main {\n    void main() {\n        final Cell c = new Cell();\n        new Thread(new W(c)).start();\n        new Thread(new W(c)).start();\n    }\n}\n",
+        0,
+        "Cell.inc this ? mover : atomic\nCell.twice this ? mover : atomic\nW.run this.c ? mover : atomic\nMain.main cmpd\n",
+    ),
+    (
+        "append.java",
+        "class Buf {\n    int n guarded_by this;\n    atomic int length() {\n        synchronized (this) { return this.n; }\n    }\n    atomic int get(int k) {\n        synchronized (this) { return this.n - k; }\n    }\n    atomic void append(final Buf sb) {\n        synchronized (this) {\n            int k = sb.length();\n            this.n = this.n + sb.get(k);\n        }\n    }\n}\n\nclass Main {\n    void main() { }\n}\n",
+        2,
+        "Buf.append: declared atomic, found cmpd\n",
+    ),
+    (
+        "append_locked.java",
+        "class Buf {\n    int n guarded_by this;\n    atomic int length() {\n        synchronized (this) { return this.n; }\n    }\n    atomic int get(int k) {\n        synchronized (this) { return this.n - k; }\n    }\n    atomic void append(final Buf sb) {\n        synchronized (this) {\n            synchronized (sb) {\n                int k = sb.length();\n                this.n = this.n + sb.get(k);\n            }\n        }\n    }\n}\n\nclass Main {\n    void main() { }\n}\n",
+        0,
+        "Buf.length this ? mover : atomic\nBuf.get this ? mover : atomic\nBuf.append this ? (sb ? mover : atomic) : atomic\nMain.main const\n",
+    ),
+    (
+        "no_rule.java",
+        "class Main {\n    void main() {\n        int a = true;\n    }\n}\n",
+        1,
+        "refused at 3:13: no rule\n",
+    ),
+    (
+        "account_java.java",
+        "public class Account {\n    private int balance = 0;\n\n    public synchronized int read() {\n        return balance;\n    }\n\n    public synchronized void add(int amount) {\n        balance += amount;\n    }\n\n    public void move(Account other, int amount) {\n        if (read() >= amount) {\n            add(-amount);\n            other.add(amount);\n        }\n    }\n\n    public static void main(String[] args) {\n        Account[] accounts = { new Account(), new Account() };\n        accounts[0].add(100);\n        for (int k = 0; k < 2; k++) {\n            new Thread(() -> {\n                for (int i = 0; i < 60; i++) {\n                    accounts[0].move(accounts[1], 1);\n                }\n            }).start();\n        }\n    }\n}\n",
+        1,
+        "refused at 19:35: bad character\n",
+    ),
+    (
+        "account.java",
+        "class Account {\n    int balance guarded_by this;\n\n    atomic int read() {\n        synchronized (this) {\n            return this.balance;\n        }\n    }\n\n    atomic void add(int amount) {\n        synchronized (this) {\n            this.balance = this.balance + amount;\n        }\n    }\n\n    atomic void move(Account other, int amount) {\n        if (this.read() >= amount) {\n            this.add(-amount);\n            other.add(amount);\n        }\n    }\n}\n\nclass Mover implements Runnable {\n    final Account from;\n    final Account to;\n\n    Mover(Account from, Account to) {\n        this.from = from;\n        this.to = to;\n    }\n\n    public void run() {\n        int i = 0;\n        while (i < 60) {\n            this.from.move(this.to, 1);\n            i = i + 1;\n        }\n    }\n}\n\nclass Main {\n    void main() {\n        final Account first = new Account();\n        final Account second = new Account();\n        first.add(100);\n        new Thread(new Mover(first, second)).start();\n        new Thread(new Mover(first, second)).start();\n    }\n}\n",
+        2,
+        "Account.move: declared atomic, found cmpd\n",
+    ),
+    (
+        "account_bare.java",
+        "class Account {\n    int balance guarded_by this;\n\n    atomic int read() {\n        synchronized (this) {\n            return this.balance;\n        }\n    }\n\n    atomic void add(int amount) {\n        synchronized (this) {\n            this.balance = this.balance + amount;\n        }\n    }\n\n    atomic void move(Account other, int amount) {\n        if (this.balance >= amount) {\n            synchronized (this) {\n                this.add(-amount);\n                other.add(amount);\n            }\n        }\n    }\n}\n\nclass Mover implements Runnable {\n    final Account from;\n    final Account to;\n\n    Mover(Account from, Account to) {\n        this.from = from;\n        this.to = to;\n    }\n\n    public void run() {\n        int i = 0;\n        while (i < 60) {\n            this.from.move(this.to, 1);\n            i = i + 1;\n        }\n    }\n}\n\nclass Main {\n    void main() {\n        final Account first = new Account();\n        final Account second = new Account();\n        first.add(100);\n        new Thread(new Mover(first, second)).start();\n        new Thread(new Mover(first, second)).start();\n    }\n}\n",
+        2,
+        "Account.move: declared atomic, found error\n",
+    ),
+    (
+        "account_repaired.java",
+        "class Account {\n    int balance guarded_by this;\n\n    atomic int read() {\n        synchronized (this) {\n            return this.balance;\n        }\n    }\n\n    atomic void add(int amount) {\n        synchronized (this) {\n            this.balance = this.balance + amount;\n        }\n    }\n\n    atomic void move(Account other, int amount) {\n        synchronized (this) {\n            if (this.balance >= amount) {\n                this.add(-amount);\n                other.add(amount);\n            }\n        }\n    }\n}\n\nclass Mover implements Runnable {\n    final Account from;\n    final Account to;\n\n    Mover(Account from, Account to) {\n        this.from = from;\n        this.to = to;\n    }\n\n    public void run() {\n        int i = 0;\n        while (i < 60) {\n            this.from.move(this.to, 1);\n            i = i + 1;\n        }\n    }\n}\n\nclass Main {\n    void main() {\n        final Account first = new Account();\n        final Account second = new Account();\n        first.add(100);\n        new Thread(new Mover(first, second)).start();\n        new Thread(new Mover(first, second)).start();\n    }\n}\n",
+        0,
+        "Account.read this ? mover : atomic\nAccount.add this ? mover : atomic\nAccount.move atomic\nMover.run cmpd\nMain.main cmpd\n",
+    ),
+    (
+        "account_not_a_lock.java",
+        "class Account {\n    int balance guarded_by this;\n\n    atomic int read() {\n        synchronized (this) {\n            return this.balance;\n        }\n    }\n\n    atomic void add(int amount) {\n        synchronized (this) {\n            this.balance = this.balance + amount;\n        }\n    }\n\n    atomic void move(Account other, int amount) {\n        synchronized (this) {\n            synchronized (other) {\n                if (this.balance >= amount) {\n                    this.add(-amount);\n                    other.add(amount);\n                }\n            }\n        }\n    }\n}\n\nclass Mover implements Runnable {\n    final Account from;\n    final Account to;\n\n    Mover(Account from, Account to) {\n        this.from = from;\n        this.to = to;\n    }\n\n    public void run() {\n        int i = 0;\n        while (i < 60) {\n            this.from.move(this.to, 1);\n            i = i + 1;\n        }\n    }\n}\n\nclass Main {\n    void main() {\n        final Account first = new Account();\n        final Account second = new Account();\n        first.add(100);\n        new Thread(new Mover(first, second)).start();\n        new Thread(new Mover(first, second)).start();\n    }\n}\n",
+        1,
+        "refused at 18:27: not a lock\n",
+    ),
+    (
+        "account_both.java",
+        "class Account {\n    int balance guarded_by this;\n\n    atomic int read() {\n        synchronized (this) {\n            return this.balance;\n        }\n    }\n\n    atomic void add(int amount) {\n        synchronized (this) {\n            this.balance = this.balance + amount;\n        }\n    }\n\n    atomic void move(final Account other, int amount) {\n        synchronized (this) {\n            synchronized (other) {\n                if (this.balance >= amount) {\n                    this.add(-amount);\n                    other.add(amount);\n                }\n            }\n        }\n    }\n}\n\nclass Mover implements Runnable {\n    final Account from;\n    final Account to;\n\n    Mover(Account from, Account to) {\n        this.from = from;\n        this.to = to;\n    }\n\n    public void run() {\n        int i = 0;\n        while (i < 60) {\n            this.from.move(this.to, 1);\n            i = i + 1;\n        }\n    }\n}\n\nclass Main {\n    void main() {\n        final Account first = new Account();\n        final Account second = new Account();\n        first.add(100);\n        new Thread(new Mover(first, second)).start();\n        new Thread(new Mover(first, second)).start();\n    }\n}\n",
+        0,
+        "Account.read this ? mover : atomic\nAccount.add this ? mover : atomic\nAccount.move this ? (other ? mover : atomic) : atomic\nMover.run this.from ? (this.to ? mover : cmpd) : cmpd\nMain.main cmpd\n",
+    ),
+    (
+        "published.java",
+        "class Gauge {\n    int level write_guarded_by this;\n    atomic int read() {\n        return this.level;\n    }\n    atomic void raise() {\n        this.level = this.level + 1;\n    }\n}\n\nclass Main {\n    void main() {\n        new Gauge().raise();\n    }\n}\n",
+        2,
+        "Gauge.raise: declared atomic, found error\n",
+    ),
+    (
+        "published_repaired.java",
+        "class Gauge {\n    int level write_guarded_by this;\n    atomic int read() {\n        return this.level;\n    }\n    atomic void raise() {\n        synchronized (this) {\n            this.level = this.level + 1;\n        }\n    }\n}\n\nclass Main {\n    void main() {\n        new Gauge().raise();\n    }\n}\n",
+        0,
+        "Gauge.read this ? mover : atomic\nGauge.raise atomic\nMain.main atomic\n",
+    ),
+    (
+        "published_twice.java",
+        "class Gauge {\n    int level write_guarded_by this;\n    atomic int read() {\n        return this.level;\n    }\n    atomic void raise() {\n        synchronized (this) {\n            this.level = this.level + 1;\n            this.level = this.level + 1;\n        }\n    }\n}\n\nclass Main {\n    void main() {\n        new Gauge().raise();\n    }\n}\n",
+        2,
+        "Gauge.raise: declared atomic, found cmpd\n",
+    ),
+];
