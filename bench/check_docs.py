@@ -3,7 +3,8 @@
 
 It reads the tables of docs/repairs.md (a line, and the source for it in the last cell) and of examples/README.md (a
 file, the lines, the status), and the blocks of lines in docs/tutorial.md. Where crates/atomic_cli has a test of the
-examples, it is held against examples/as_test.py. The exit status is 0 where all of them hold.
+examples, it is held against examples/as_test.py. The book that `derive` writes of each accepted example has to be
+good, and changed books of it are refused with their lines. The exit status is 0 where all of them hold.
 """
 import os
 import re
@@ -32,6 +33,34 @@ def source_of(cell):
     if byte:
         return bytes([int(byte[1], 16)])
     return "".join(text * int(times or 1) for times, text in TEXT.findall(cell)).encode()
+
+
+def with_tree(book, tree, change):
+    """The book with one tree more, whose number is handed to a change of the method lines."""
+    head, rest = book.split("\n", 1)
+    count = int(head.split()[1])
+    at = rest.index("method ")
+    return f"book {count + 1}\n{rest[:at]}{tree}\n{change(rest[at:], count)}"
+
+
+def changed_books(book):
+    """The book itself and changed ones, each with a pattern for the line that is wanted."""
+    yield "verified", book
+    methods = re.findall(r"method \d+ \d+\n.*\n", book)
+    count, last = len(methods), methods[-1]
+    shape = "book refused: method {} node 0: shape"
+    yield shape.format(count - 1), book.replace(last, "")
+    more = re.sub(r"^method \d+", f"method {count}", last)
+    yield shape.format(count), book.replace(last, last + more)
+    yield shape.format(0), book.replace("\n(block ", "\n(start ", 1)
+    yield r"book refused: method \d+ node \d+: shape", re.sub(r" \(\w+ \d+\)", "", book, count=1)
+    yield "book refused at byte 0: form", book[1:]
+    yield rf"book refused at byte {len(book) - 1}: form", book[:-1]
+    line = lambda lines, number: re.sub(r"^method 0 \d+", f"method 0 {number}", lines)
+    yield "book refused: method 0: table", with_tree(book, "(63 const error)", line)
+    yield "book refused: method 0: table", with_tree(book, "(0 error const)", line)
+    root = lambda lines, number: re.sub(r"^(method 0 \d+\n\(\w+) \d+", rf"\1 {number}", lines)
+    yield r"book refused: method 0(: table| node 0: step)", with_tree(book, "error", root)
 
 
 class Checker:
@@ -92,8 +121,26 @@ class Checker:
             name = named[-1] if named else name
 
 
+    def books(self):
+        """The derived book of each accepted example, and what is said of it where it is changed."""
+        with tempfile.TemporaryDirectory() as folder:
+            path = os.path.join(folder, "book")
+            for name, _, status in (row for row in table_rows(read("examples", "README.md")) if len(row) == 3):
+                source = os.path.join(TOP, "examples", name.strip("`"))
+                if status.strip() != "0" or not os.path.exists(source):
+                    continue
+                book = subprocess.run([self.program, "derive", source], capture_output=True).stdout.decode()
+                for wanted, text in changed_books(book):
+                    with open(path, "w", encoding="utf-8") as file:
+                        file.write(text)
+                    done = subprocess.run([self.program, "verify", source, path], capture_output=True)
+                    self.count += 1
+                    if not re.fullmatch(wanted + "\n", done.stdout.decode()) or done.returncode != (11 if "refused" in wanted else 0):
+                        self.wrong += 1
+                        print(f"{name}: wanted {wanted}, given {done.returncode} {done.stdout.decode()!r} of\n{text}")
+
     def examples_test(self):
-        path = os.path.join(TOP, "crates", "atomic_cli", "src", "tests", "examples.rt")
+        path = os.path.join(TOP, "crates", "atomic_cli", "src", "examples.rt")
         script = os.path.join(TOP, "examples", "as_test.py")
         if os.path.exists(path) and subprocess.run([sys.executable, script, "--check", path]).returncode:
             self.wrong += 1
@@ -106,6 +153,7 @@ def main():
     checker.examples()
     checker.tutorial()
     checker.examples_test()
+    checker.books()
     print(f"{checker.count} answers, {checker.wrong} wrong")
     sys.exit(1 if checker.wrong else 0)
 

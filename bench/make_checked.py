@@ -8,6 +8,7 @@ chain       3,000 methods, each of which calls the next; the last one is compoun
 chain_back  the same, each of which calls the one before; the first one is compound
 cycle       1,000 methods in a circle
 paths       thousands of blocks that lock a path of two fields
+calls       methods with eight relevant and eight local paths, and bodies of a hundred calls on them
 """
 import sys
 
@@ -62,6 +63,17 @@ def locks():
     )
 
 
+def calls():
+    params = ", ".join(f"final C {p}" for p in "abcdefgh")
+    locals_ = "".join(f"final C {p} = new C(); synchronized ({p}) {{ " for p in "ijklmnop")
+    body = "".join(f"{'abcdefghijklmnop'[k % 16]}.f(); " for k in range(100))
+    return filled(
+        "class C { int v guarded_by this; void f() requires this { this.v = 0; } }\n" + MAIN + "class L {\n",
+        lambda k: f"void m{k}({params}) requires {', '.join('abcdefgh')} {{ {locals_}{body}{'} ' * 8}}}\n",
+        "}\n",
+    )
+
+
 def chain(forward):
     count, part = 3000, []
     for k in range(count):
@@ -90,6 +102,7 @@ KINDS = {
     "methods": methods,
     "statements": statements,
     "locks": locks,
+    "calls": calls,
     "chain": lambda: chain(True),
     "chain_back": lambda: chain(False),
     "cycle": cycle,

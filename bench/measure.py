@@ -5,7 +5,8 @@ import subprocess
 import sys
 import time
 
-KINDS = "classes methods statements locks paths chain chain_back cycle".split()
+KINDS = "classes methods statements locks paths calls chain chain_back cycle".split()
+BOOKS = "classes methods statements locks paths calls chain".split()
 HOSTILE = "braces letters not_text parentheses nots dots".split()
 SCHEDULES = "workers objects deep prints".split()
 ROWS = [("print", "full"), ("print", "half"), ("check", "full"), ("check", "half")]
@@ -67,6 +68,19 @@ def main():
             cells += [shown(a, 8), shown(b, 8), shown(a and b and a / b, 6)]
         same = not ours or ours[3] == theirs[3]
         print(f"{words[0]:9} {words[1]:10} {' '.join(cells)}  status {theirs[3][0]}{'' if same else ' ANSWERS DIFFER'}", flush=True)
+    books(programs[0])
+
+
+def books(program):
+    """What deriving a book and verifying it cost beside checking the source, in millions of instructions."""
+    print("book", *"check derive verify bytes answer".split())
+    for kind in BOOKS:
+        book = subprocess.run([program, "derive", kind], capture_output=True).stdout
+        with open(f"{kind}.book", "wb") as file:
+            file.write(book)
+        costs = [millions([program, *words]) for words in (("check", kind), ("derive", kind), ("verify", kind, f"{kind}.book"))]
+        said = subprocess.run([program, "verify", kind, f"{kind}.book"], capture_output=True).stdout.decode().strip()
+        print(kind, *(shown(cost, 8) for cost in costs), len(book), said, flush=True)
 
 
 main()

@@ -1,6 +1,7 @@
 //! A plain program that does what `atomic` does: to compare answers and times with. Nothing of it is proved.
 #![forbid(unsafe_code)]
 
+mod book;
 mod classes;
 mod code;
 mod core;
@@ -108,6 +109,20 @@ fn serialise(table: &Table<'_, '_>, program: &Program, bytes: &[u8]) -> Answer {
     Ok(out)
 }
 
+/// What a text has as a book, whatever it is a book for.
+fn read_book(bytes: &[u8]) -> Answer {
+    match book::read(bytes) {
+        Ok(book) => {
+            let last = book.nodes.last().map_or(0, |node| node.end + u32::from(node.word) + node.number);
+            Ok(format!("{} trees, {} methods, {} nodes, {last}\n", book.trees.len(), book.methods.len(), book.nodes.len()))
+        }
+        Err(fault) => {
+            let kind = if fault.kind == book::Kind::Form { "form" } else { "too deep" };
+            Err((11, format!("book refused at byte {}: {kind}\n", fault.at)))
+        }
+    }
+}
+
 fn answer(words: &[&str]) -> Answer {
     match words {
         ["print", name] => {
@@ -131,6 +146,7 @@ fn answer(words: &[&str]) -> Answer {
                 Ok(checked.and_then(|_| serialise(table, program, &schedule)))
             })
         }
+        ["read-book", name] => read_book(&read(name, LARGEST_SCHEDULE)?),
         _ => Err((9, USAGE.to_string())),
     }
 }
