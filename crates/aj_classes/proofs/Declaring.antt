@@ -1,5 +1,5 @@
 -- The names of a table are those that the tree declares, in the same order.
-use Rattle.std.proofs.Common.{◌≡◌, ℕ, ◌+◌, ◌<◌, ◌-◌, ◌==◌, zero, suc, false, List, [], ◌∷◌, ◌++◌, map, flat_map, Option, Some, None, refl, ap, ap₂, sym, ◌∙◌, subst, slice_get, option_map, option_and_then, arith, if◌then◌else◌}
+use Rattle.std.proofs.Common.{◌≡◌, ℕ, ◌+◌, ◌<◌, ◌-◌, ◌==◌, zero, suc, false, List, [], ◌∷◌, ◌++◌, map, flat_map, Some, refl, ap, ap₂, sym, ◌∙◌, subst, slice_get, option_map, arith, if◌then◌else◌}
 use Rattle.std.specs.Prelude.{codes}
 use Rattle.std.specs.List.{All}
 use Rattle.std.proofs.lemmas.List.{map-append}

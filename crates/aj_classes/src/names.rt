@@ -1,25 +1,53 @@
 //! A set of names, each once, in order of first appearance.
 
-ghost use Rattle.std.specs.Prelude.{◌≡◌, [], not, bytes_eq, position, slice_get, length, option_map, IfOk, OnOk, OnErr};
+ghost use Rattle.std.specs.Prelude.{◌≡◌, [], ◌<◌, not, bytes_eq, position, slice_get, length, option_map, IfOk, IfSome, OnOk, OnErr};
+ghost use Rattle.std.specs.List.{list_any};
 ghost use Rattle.aj_classes.specs.Names.{has_text, with_text};
 
 use indexmap::IndexSet;
 use std::alloc::{AllocError as NoMemory, Global};
 use std::marker::Model;
 
-/// A set of names, slices of the source, seen in contracts as their texts in order of first appearance.
+/// How many names are held in a plain list, before those that are hashed.
+const FEW: usize = 4;
+
+/// A set of names, slices of the source, seen in contracts as their texts in order of first appearance. Most sets have
+/// few names, and a comparison with each of these takes less than a hash.
 #[derive(Drop)]
 pub struct NameSet<'a> {
-    names: IndexSet<&'a str>,
+    few: Vec<&'a str>,
+    more: IndexSet<&'a str>,
 }
 
 impl<'a> Model for NameSet<'a> {
-    ghost use Rattle.std.specs.Prelude.{ℕ, List, map};
+    ghost use Rattle.std.specs.Prelude.{ℕ, List, map, ◌++◌};
     ghost use Rattle.aj_classes.specs.Shows.{shows};
 
     ghost Value = { List (List ℕ) };
 
-    ghost view = { λ s. map shows s.names.keys };
+    ghost view = { λ s. map shows (s.few.items ++ s.more.keys) };
+}
+
+/// Whether two names are the same. Most are told by their lengths.
+fn is_same(name: &str, other: &str) -> bool
+    ensures { result ≡ bytes_eq name.now other.now }
+{
+    name.len() == other.len() && name == other
+}
+
+/// Whether a list has a name.
+fn is_in(names: &[&str], text: &str) -> bool
+    ensures { result ≡ list_any (λ name. bytes_eq text.now name.now) names.now }
+{
+    names.iter().any(|name| is_same(text, name))
+}
+
+/// The place of a name in a list.
+fn place_in(names: &[&str], text: &str) -> Option<usize>
+    ensures place { result ≡ position (λ name. bytes_eq text.now name.now) names.now }
+    ensures within { IfSome result (λ place. place < length names.now) }
+{
+    names.iter().position(|name| is_same(text, name))
 }
 
 impl<'a> NameSet<'a> {
@@ -27,7 +55,8 @@ impl<'a> NameSet<'a> {
         ensures { result ≡ [] }
     {
         NameSet {
-            names: IndexSet::new(alloc),
+            few: Vec::new(alloc),
+            more: IndexSet::new(alloc),
         }
     }
 
@@ -37,33 +66,51 @@ impl<'a> NameSet<'a> {
         ensures names { OnOk result (self.new ≡ with_text self.old text.now) }
         ensures err { OnErr result (self.new ≡ self.old) }
     {
-        Ok(self.names.insert(text)?)
+        if is_in(&self.few, text) {
+            return Ok(false);
+        }
+        if self.more.is_empty() && self.few.len() < FEW {
+            self.few.push(text)?;
+            return Ok(true);
+        }
+        Ok(self.more.insert(text)?)
     }
 
     pub fn contains(&self, text: &str) -> bool
         ensures { result ≡ has_text self.now text.now }
     {
-        self.names.contains(text)
+        is_in(&self.few, text) || self.more.contains(text)
     }
 
     /// The number of a name, counted from 0.
     pub fn number_of(&self, text: &str) -> Option<usize>
         ensures { result ≡ position (bytes_eq text.now) self.now }
     {
-        self.names.get_index_of(text)
+        match place_in(&self.few, text) {
+            Some(place) => Some(place),
+            None => {
+                let _ = self.more.len();
+                let place = self.more.get_index_of(text)?;
+                Some(self.few.len() + place)
+            }
+        }
     }
 
     /// The name with this number.
     pub fn name_at(&self, index: usize) -> Option<&'a str>
         ensures { option_map (λ n. n.now) result ≡ slice_get self.now index }
     {
-        let name = self.names.get_index(index)?;
-        Some(*name)
+        if index < self.few.len() {
+            Some(self.few[index])
+        } else {
+            let name = self.more.get_index(index - self.few.len())?;
+            Some(*name)
+        }
     }
 
     pub fn len(&self) -> usize
         ensures { result ≡ length self.now }
     {
-        self.names.len()
+        self.few.len() + self.more.len()
     }
 }

@@ -1,3 +1,4 @@
+pub mod Tables
 pub mod Closing
 pub mod Numbers
 pub mod Fronts

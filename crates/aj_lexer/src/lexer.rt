@@ -6,12 +6,12 @@ ghost use Rattle.aj_lexer.specs.declared.tokens.Token.{Token};
 ghost use Rattle.aj_lexer.specs.declared.faults.LexFault.{LexFault};
 ghost use Rattle.aj_lexer.specs.Limits.{greatest_literal, longest_source};
 ghost use Rattle.aj_lexer.specs.Pieces.{is_piece, is_number};
-ghost use Rattle.aj_lexer.specs.Reserved.{is_reserved};
 ghost use Rattle.aj_lexer.specs.Tokens.{word_kind, meaning, Tokens, FirstFault, FaultFrom, Longest};
 ghost use Rattle.aj_lexer.specs.Reading.{front as find, IsCut, tokens_of};
 
 use crate::faults::LexFault;
 use crate::pieces::{Front, Piece, find_front};
+use crate::reserved::is_reserved;
 use crate::tokens::{Token, TokenKind};
 use std::alloc::{AllocError as NoMemory, Global};
 
@@ -23,87 +23,6 @@ pub const GREATEST_LITERAL: u32 = 2_147_483_648;
 
 /// How many bytes a word may have.
 const LONGEST_WORD: usize = 64;
-
-// The reserved words, by their first letters.
-const FROM_A: [&str; 3] = ["abstract", "assert", "atomic"];
-
-const FROM_B: [&str; 3] = ["boolean", "break", "byte"];
-
-const FROM_C: [&str; 6] = ["case", "catch", "char", "class", "const", "continue"];
-
-const FROM_D: [&str; 3] = ["default", "do", "double"];
-
-const FROM_E: [&str; 3] = ["else", "enum", "extends"];
-
-const FROM_F: [&str; 5] = ["final", "finally", "float", "for", "false"];
-
-const FROM_G: [&str; 2] = ["goto", "guarded_by"];
-
-const FROM_I: [&str; 6] = [
-    "if",
-    "implements",
-    "import",
-    "instanceof",
-    "int",
-    "interface",
-];
-
-const FROM_L: [&str; 1] = ["long"];
-
-const FROM_N: [&str; 3] = ["native", "new", "null"];
-
-const FROM_P: [&str; 4] = ["package", "private", "protected", "public"];
-
-const FROM_R: [&str; 2] = ["return", "requires"];
-
-const FROM_S: [&str; 6] = [
-    "short",
-    "static",
-    "strictfp",
-    "super",
-    "switch",
-    "synchronized",
-];
-
-const FROM_T: [&str; 6] = ["this", "throw", "throws", "transient", "try", "true"];
-
-const FROM_V: [&str; 2] = ["void", "volatile"];
-
-const FROM_W: [&str; 2] = ["while", "write_guarded_by"];
-
-const FROM_CAPITAL_R: [&str; 1] = ["Runnable"];
-
-const FROM_CAPITAL_S: [&str; 1] = ["System"];
-
-const FROM_CAPITAL_T: [&str; 1] = ["Thread"];
-
-/// Whether a word is reserved: its first letter leaves at most six words to compare it with.
-fn is_reserved(word: &str) -> bool
-    ensures { result ≡ is_reserved word.now }
-{
-    match word.as_bytes() {
-        [b'a', ..] => FROM_A.contains(&word),
-        [b'b', ..] => FROM_B.contains(&word),
-        [b'c', ..] => FROM_C.contains(&word),
-        [b'd', ..] => FROM_D.contains(&word),
-        [b'e', ..] => FROM_E.contains(&word),
-        [b'f', ..] => FROM_F.contains(&word),
-        [b'g', ..] => FROM_G.contains(&word),
-        [b'i', ..] => FROM_I.contains(&word),
-        [b'l', ..] => FROM_L.contains(&word),
-        [b'n', ..] => FROM_N.contains(&word),
-        [b'p', ..] => FROM_P.contains(&word),
-        [b'r', ..] => FROM_R.contains(&word),
-        [b's', ..] => FROM_S.contains(&word),
-        [b't', ..] => FROM_T.contains(&word),
-        [b'v', ..] => FROM_V.contains(&word),
-        [b'w', ..] => FROM_W.contains(&word),
-        [b'R', ..] => FROM_CAPITAL_R.contains(&word),
-        [b'S', ..] => FROM_CAPITAL_S.contains(&word),
-        [b'T', ..] => FROM_CAPITAL_T.contains(&word),
-        _ => false,
-    }
-}
 
 /// The number that the digits write, where it isn't too large.
 fn literal(digits: &str) -> Option<u32>

@@ -1,8 +1,8 @@
 //! The piece at the start of a text: blanks, a comment, a word, a number or a sign.
 
-ghost use Rattle.std.specs.Prelude.{◌≡◌, ◌+◌, ◌^◌, ◌<◌, ◌≤◌, length, IfSome};
+ghost use Rattle.std.specs.Prelude.{◌≡◌, ◌+◌, ◌^◌, ◌<◌, ◌≤◌, ◌∷◌, true, length, IfSome, Some};
 ghost use Rattle.std.specs.List.{prefix_len};
-ghost use Rattle.aj_lexer.specs.Pieces.{is_blank, is_letter, is_digit, is_word_byte, is_in_line, is_sign, starts_close};
+ghost use Rattle.aj_lexer.specs.Pieces.{is_blank, is_digit, is_word_byte, is_in_line, is_sign, starts_close};
 ghost use Rattle.aj_lexer.specs.Reading.{close_end, block_front, slash_front, sign_front, front};
 
 /// What a piece of a source is.
@@ -24,16 +24,11 @@ pub struct Front {
     pub len: usize,
 }
 
+/// Whether a byte is a blank. Most bytes that are asked are above all blanks, and so one comparison tells them.
 fn is_blank(byte: u8) -> bool
     ensures { result ≡ is_blank byte }
 {
-    matches!(byte, b' ' | b'\t' | b'\n' | 12 | b'\r')
-}
-
-fn is_letter(byte: u8) -> bool
-    ensures { result ≡ is_letter byte }
-{
-    matches!(byte, b'a'..=b'z' | b'A'..=b'Z' | b'_')
+    byte <= b' ' && matches!(byte, b' ' | b'\t' | b'\n' | 12 | b'\r')
 }
 
 fn is_digit(byte: u8) -> bool
@@ -42,10 +37,22 @@ fn is_digit(byte: u8) -> bool
     matches!(byte, b'0'..=b'9')
 }
 
+/// For each byte, 1 where a word may go on with it, and 0 where it may not.
+const WORD_BYTES: [u8; 256] = [
+    0, 0, 0, 0, 0, 0, 0, 0, 0, 0, 0, 0, 0, 0, 0, 0, 0, 0, 0, 0, 0, 0, 0, 0, 0, 0, 0, 0, 0, 0, 0, 0,
+    0, 0, 0, 0, 0, 0, 0, 0, 0, 0, 0, 0, 0, 0, 0, 0, 1, 1, 1, 1, 1, 1, 1, 1, 1, 1, 0, 0, 0, 0, 0, 0,
+    0, 1, 1, 1, 1, 1, 1, 1, 1, 1, 1, 1, 1, 1, 1, 1, 1, 1, 1, 1, 1, 1, 1, 1, 1, 1, 1, 0, 0, 0, 0, 1,
+    0, 1, 1, 1, 1, 1, 1, 1, 1, 1, 1, 1, 1, 1, 1, 1, 1, 1, 1, 1, 1, 1, 1, 1, 1, 1, 1, 0, 0, 0, 0, 0,
+    0, 0, 0, 0, 0, 0, 0, 0, 0, 0, 0, 0, 0, 0, 0, 0, 0, 0, 0, 0, 0, 0, 0, 0, 0, 0, 0, 0, 0, 0, 0, 0,
+    0, 0, 0, 0, 0, 0, 0, 0, 0, 0, 0, 0, 0, 0, 0, 0, 0, 0, 0, 0, 0, 0, 0, 0, 0, 0, 0, 0, 0, 0, 0, 0,
+    0, 0, 0, 0, 0, 0, 0, 0, 0, 0, 0, 0, 0, 0, 0, 0, 0, 0, 0, 0, 0, 0, 0, 0, 0, 0, 0, 0, 0, 0, 0, 0,
+    0, 0, 0, 0, 0, 0, 0, 0, 0, 0, 0, 0, 0, 0, 0, 0, 0, 0, 0, 0, 0, 0, 0, 0, 0, 0, 0, 0, 0, 0, 0, 0,
+];
+
 fn is_word_byte(byte: u8) -> bool
     ensures { result ≡ is_word_byte byte }
 {
-    is_letter(byte) || is_digit(byte)
+    WORD_BYTES[byte as usize] == 1
 }
 
 fn is_in_line(byte: u8) -> bool
@@ -168,31 +175,42 @@ fn sign_front(text: &[u8]) -> Option<Front>
     }
 }
 
+/// The longest piece at the start of a text that begins with a letter or a digit, of which `rest` is what follows.
+fn word_front(first: u8, rest: &[u8]) -> Front
+    requires word { is_word_byte first ≡ true }
+    requires small { length rest.now < 2 ^ 32 }
+    ensures { Some result ≡ front (first ∷ rest.now) }
+{
+    if !is_digit(first) {
+        Front {
+            kind: Piece::Word,
+            len: 1 + word_bytes(rest),
+        }
+    } else if first == b'0' {
+        Front {
+            kind: Piece::Number,
+            len: 1,
+        }
+    } else {
+        Front {
+            kind: Piece::Number,
+            len: 1 + digits(rest),
+        }
+    }
+}
+
 /// The longest piece at the start of a text.
 pub fn find_front(text: &[u8]) -> Option<Front>
     requires { length text.now < 2 ^ 32 }
     ensures { result ≡ front text.now }
 {
     let (first, rest) = text.split_first()?;
-    if is_blank(*first) {
+    if is_word_byte(*first) {
+        Some(word_front(*first, rest))
+    } else if is_blank(*first) {
         Some(Front {
             kind: Piece::Blanks,
             len: 1 + blanks(rest),
-        })
-    } else if is_letter(*first) {
-        Some(Front {
-            kind: Piece::Word,
-            len: 1 + word_bytes(rest),
-        })
-    } else if *first == b'0' {
-        Some(Front {
-            kind: Piece::Number,
-            len: 1,
-        })
-    } else if is_digit(*first) {
-        Some(Front {
-            kind: Piece::Number,
-            len: 1 + digits(rest),
         })
     } else if *first == b'/' {
         Some(slash_front(rest))
