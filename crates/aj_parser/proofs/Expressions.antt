@@ -18,7 +18,7 @@ use Rattle.aj_parser.proofs.Right.{Right, Any, Some_of, right_seq, right_weaker}
 use Rattle.aj_parser.proofs.Parts.{One, Through_next, right_first, right_one, right_tok, right_name, right_a_name, right_done, right_if, right_allow, right_beyond, x_name, is_token, name_if_is, when_true}
 use Rattle.aj_parser.proofs.LoopLaw.{right_loop, loop_takes, Takes}
 use Rattle.aj_parser.proofs.Lists.{right_separated}
-use Rattle.aj_parser.specs.Combine.{Res, ◌>>=◌, starts, first, when}
+use Rattle.aj_parser.specs.Combine.{Res, ◌>>=◌, starts, first}
 use Rattle.aj_parser.specs.Words.{a_name, is_name, a_number, number_if, small_number, is_number, a_least, is_least, least_number, op_of, op_at, an_op, is_op, field_name}
 use Rattle.aj_parser.specs.Expressions.{is_leaf, begins_expression, leaf, arguments, call_arguments, new_rest, parenthesised, primary, member_rest, member_step, dots, postfix, negated, unary, op_step, chain_with, chain_at}
 

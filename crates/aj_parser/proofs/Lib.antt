@@ -8,6 +8,7 @@ pub mod Loops
 pub mod MemberLoops
 pub mod Members
 pub mod Parts
+pub mod Ranks
 pub mod Right
 pub mod StatementLoops
 pub mod Statements

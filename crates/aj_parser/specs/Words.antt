@@ -1,6 +1,5 @@
 -- Reading names, numbers, operators, locks and types from lists of tokens.
-use Rattle.std.specs.Prelude.{ℕ, ◌==◌, nat_lt, Bool, false, ◌&&◌, ◌||◌, List, Option, Some, None, is_some, Ok, codes, if◌then◌else◌}
-use Rattle.std.specs.Str.{bytes_eq}
+use Rattle.std.specs.Prelude.{ℕ, ◌==◌, nat_lt, Bool, false, List, Option, Some, None, is_some, Ok, if◌then◌else◌}
 use Rattle.aj_lexer.specs.declared.tokens.Token.{Token}
 use Rattle.aj_lexer.specs.declared.tokens.TokenKind.{TokenKind}
 use Rattle.aj_lexer.specs.declared.tokens.TokenKind.TheVariants as K
@@ -58,16 +57,7 @@ is_least x = least_number (number_if x.kind)
 abbrev pub a_least : Token → Option ℕ
 a_least x = when (is_least x) x.at
 
--- the operator that the text of a sign is
-abbrev pub op_of_sign : List ℕ → Option Op
-op_of_sign text =
-    if bytes_eq text (codes "*") then Some O.Mul else if bytes_eq text (codes "/") then Some O.Div else if bytes_eq text (codes "%") then Some O.Rem
-    else if bytes_eq text (codes "+") then Some O.Add else if bytes_eq text (codes "-") then Some O.Sub
-    else if bytes_eq text (codes "<") then Some O.Lt else if bytes_eq text (codes "<=") then Some O.Le
-    else if bytes_eq text (codes ">") then Some O.Gt else if bytes_eq text (codes ">=") then Some O.Ge
-    else if bytes_eq text (codes "==") then Some O.Eq else if bytes_eq text (codes "!=") then Some O.Ne
-    else if bytes_eq text (codes "&&") then Some O.And else if bytes_eq text (codes "||") then Some O.Or else None
-
+-- the operator that a token is
 unfoldable pub op_of : Token → Option Op
 op_of x =
     if is T.Star x then Some O.Mul else if is T.Slash x then Some O.Div else if is T.Percent x then Some O.Rem

@@ -10,12 +10,12 @@ ghost use Rattle.aj_parser.specs.Combine.{comma_step, loop};
 ghost use Rattle.aj_parser.specs.Words.{is_op, field_name as field_name_at};
 ghost use Rattle.aj_parser.specs.Expressions.{arguments as arguments_at, below, call_arguments, chain_at, chain_with, dots as dots_at, leaf as leaf_at, member_rest as member_rest_at, member_step as member_step_at, negated as negated_at, new_rest as new_rest_at, op_step, parenthesised as parenthesised_at, postfix as postfix_at, primary as primary_at, unary as unary_at};
 
+use crate::lexeme::Lexeme;
 use crate::stop::{Fault, Stop};
 use crate::tokens::{
     begins, begins_any_operator, begins_expression, begins_least, begins_number, begins_operator,
     least, name, number, operator, take,
 };
-use aj_lexer::Token;
 use aj_syntax::{Expr, Name, Op, Terminal};
 use std::alloc::Global;
 
@@ -27,7 +27,7 @@ pub const LEVELS: u32 = 6;
 pub struct Parsed<'t, 'a> {
     pub tree: Expr<'a>,
     pub height: u32,
-    pub rest: &'t [Token<'a>],
+    pub rest: &'t [Lexeme<'a>],
 }
 
 /// Arguments, the height of the highest, and the tokens behind them.
@@ -35,10 +35,10 @@ pub struct Parsed<'t, 'a> {
 pub struct Arguments<'t, 'a> {
     pub items: Vec<Expr<'a>>,
     pub height: u32,
-    pub rest: &'t [Token<'a>],
+    pub rest: &'t [Lexeme<'a>],
 }
 
-fn leaf_of<'t, 'a>(tree: Expr<'a>, rest: &'t [Token<'a>]) -> Parsed<'t, 'a>
+fn leaf_of<'t, 'a>(tree: Expr<'a>, rest: &'t [Lexeme<'a>]) -> Parsed<'t, 'a>
     ensures tree { expr_of result.tree ≡ expr_of tree.entry }
     ensures height { result.height ≡ 1 }
     ensures rest { result.rest.now ≡ rest.now }
@@ -52,7 +52,7 @@ fn leaf_of<'t, 'a>(tree: Expr<'a>, rest: &'t [Token<'a>]) -> Parsed<'t, 'a>
 
 /// A number, a truth value, `null`, `this` or a name.
 #[tactic(auto, unfolding(crate::specs::Expressions::leaf))]
-pub fn leaf<'t, 'a>(tokens: &'t [Token<'a>]) -> Result<Parsed<'t, 'a>, Stop<'t, 'a>>
+pub fn leaf<'t, 'a>(tokens: &'t [Lexeme<'a>]) -> Result<Parsed<'t, 'a>, Stop<'t, 'a>>
     ensures tree { Gives (λ x. (expr_of x.tree, x.rest.now)) result (leaf_at tokens.now) }
     ensures height { IfOk result (λ x. x.height ≡ height_of (expr_of x.tree)) }
     ensures limit { IfOk result (λ x. x.height ≡ 1) }
@@ -84,8 +84,8 @@ pub fn leaf<'t, 'a>(tokens: &'t [Token<'a>]) -> Result<Parsed<'t, 'a>, Stop<'t, 
 /// A dot and a name.
 #[tactic(auto, unfolding(crate::specs::Words::field_name))]
 pub fn field_name<'t, 'a>(
-    tokens: &'t [Token<'a>],
-) -> Result<(Name<'a>, &'t [Token<'a>]), Stop<'t, 'a>>
+    tokens: &'t [Lexeme<'a>],
+) -> Result<(Name<'a>, &'t [Lexeme<'a>]), Stop<'t, 'a>>
     ensures { Gives (λ x. (x.0, x.1.now)) result (field_name_at tokens.now) }
 {
     let (_, rest) = take(tokens, Terminal::Dot)?;
@@ -147,7 +147,7 @@ fn next_argument<'t, 'a>(
 #[tactic(auto, unfolding(crate::specs::Expressions::arguments), using(crate::proofs::Loops::argument_more, crate::proofs::Loops::argument_done))]
 fn argument_list<'t, 'a>(
     alloc: Global,
-    tokens: &'t [Token<'a>],
+    tokens: &'t [Lexeme<'a>],
     high: u32,
 ) -> Result<Arguments<'t, 'a>, Stop<'t, 'a>>
     requires high { high ≤ most_height }
@@ -179,7 +179,7 @@ fn argument_list<'t, 'a>(
 #[tactic(auto, unfolding(crate::specs::Expressions::call_arguments))]
 fn arguments_in_parentheses<'t, 'a>(
     alloc: Global,
-    tokens: &'t [Token<'a>],
+    tokens: &'t [Lexeme<'a>],
     high: u32,
 ) -> Result<Arguments<'t, 'a>, Stop<'t, 'a>>
     requires high { high ≤ most_height }
@@ -208,7 +208,7 @@ fn arguments_in_parentheses<'t, 'a>(
 #[tactic(auto, unfolding(crate::specs::Expressions::new_rest))]
 pub fn new_rest<'t, 'a>(
     alloc: Global,
-    tokens: &'t [Token<'a>],
+    tokens: &'t [Lexeme<'a>],
     high: u32,
     at: u32,
 ) -> Result<Parsed<'t, 'a>, Stop<'t, 'a>>
@@ -236,7 +236,7 @@ pub fn new_rest<'t, 'a>(
 #[tactic(auto, unfolding(crate::specs::Expressions::parenthesised))]
 fn parenthesised<'t, 'a>(
     alloc: Global,
-    tokens: &'t [Token<'a>],
+    tokens: &'t [Lexeme<'a>],
     high: u32,
 ) -> Result<Parsed<'t, 'a>, Stop<'t, 'a>>
     requires high { high ≤ most_height }
@@ -259,7 +259,7 @@ fn parenthesised<'t, 'a>(
 #[tactic(auto, unfolding(crate::specs::Expressions::primary))]
 pub fn primary<'t, 'a>(
     alloc: Global,
-    tokens: &'t [Token<'a>],
+    tokens: &'t [Lexeme<'a>],
     high: u32,
 ) -> Result<Parsed<'t, 'a>, Stop<'t, 'a>>
     requires high { high ≤ most_height }
@@ -285,7 +285,7 @@ fn member_rest<'t, 'a>(
     alloc: Global,
     receiver: Parsed<'t, 'a>,
     member: Name<'a>,
-    tokens: &'t [Token<'a>],
+    tokens: &'t [Lexeme<'a>],
     high: u32,
 ) -> Result<Parsed<'t, 'a>, Stop<'t, 'a>>
     requires high { high ≤ most_height }
@@ -373,7 +373,7 @@ pub fn dots<'t, 'a>(
 #[tactic(auto, unfolding(crate::specs::Expressions::postfix))]
 fn postfix<'t, 'a>(
     alloc: Global,
-    tokens: &'t [Token<'a>],
+    tokens: &'t [Lexeme<'a>],
     high: u32,
 ) -> Result<Parsed<'t, 'a>, Stop<'t, 'a>>
     requires high { high ≤ most_height }
@@ -391,7 +391,7 @@ fn postfix<'t, 'a>(
 #[tactic(auto, unfolding(crate::specs::Expressions::negated))]
 fn negated<'t, 'a>(
     alloc: Global,
-    tokens: &'t [Token<'a>],
+    tokens: &'t [Lexeme<'a>],
     high: u32,
     at: u32,
 ) -> Result<Parsed<'t, 'a>, Stop<'t, 'a>>
@@ -417,7 +417,7 @@ fn negated<'t, 'a>(
 #[tactic(auto, unfolding(crate::specs::Expressions::unary))]
 fn unary<'t, 'a>(
     alloc: Global,
-    tokens: &'t [Token<'a>],
+    tokens: &'t [Lexeme<'a>],
     high: u32,
 ) -> Result<Parsed<'t, 'a>, Stop<'t, 'a>>
     requires high { high ≤ most_height }
@@ -509,7 +509,7 @@ fn operators<'t, 'a>(
 #[tactic(auto, using(crate::proofs::Loops::chain_levels, crate::proofs::Loops::levels_more, crate::proofs::Loops::levels_done, crate::proofs::Loops::levels_quiet))]
 fn operations<'t, 'a>(
     alloc: Global,
-    tokens: &'t [Token<'a>],
+    tokens: &'t [Lexeme<'a>],
     high: u32,
     levels: u32,
 ) -> Result<Parsed<'t, 'a>, Stop<'t, 'a>>
@@ -537,7 +537,7 @@ fn operations<'t, 'a>(
 #[tactic(auto, using(crate::proofs::Loops::chain_zero, crate::proofs::Loops::chain_positive))]
 pub fn chain<'t, 'a>(
     alloc: Global,
-    tokens: &'t [Token<'a>],
+    tokens: &'t [Lexeme<'a>],
     high: u32,
     levels: u32,
 ) -> Result<Parsed<'t, 'a>, Stop<'t, 'a>>

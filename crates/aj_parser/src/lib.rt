@@ -3,6 +3,7 @@
 
 mod expression;
 mod faults;
+mod lexeme;
 mod member;
 mod parser;
 mod statement;

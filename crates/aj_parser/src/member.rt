@@ -11,19 +11,19 @@ ghost use Rattle.aj_parser.specs.Statements.{goes_on as may_go_on};
 ghost use Rattle.aj_parser.specs.Members.{bare_member as bare_member_at, class_at, ctor_rest as ctor_rest_at, field_rest as field_rest_at, final_field as final_field_at, guard as guard_at, member as member_at, method_rest as method_rest_at, named_member as named_member_at, param as param_at, param_list as param_list_at, params as params_at, plain_method as plain_method_at, program as program_at, required as required_at, result_type as result_type_at, runnable as runnable_at, set as set_at, typed_rest as typed_rest_at};
 
 use crate::expression::field_name;
+use crate::lexeme::Lexeme;
 use crate::statement::{Braces, block, lock, type_name};
 use crate::stop::Stop;
 use crate::tokens::{begins, begins_name, flag, goes_on, name, take};
-use aj_lexer::Token;
 use aj_syntax::{Class, Lock, MOST_HEIGHT, Member, Name, Param, Terminal, TypeName};
 use std::alloc::Global;
 
 /// A parameter. A constructor's is never final, whatever its text says.
 #[tactic(auto, unfolding(crate::specs::Members::param))]
 fn param<'t, 'a>(
-    tokens: &'t [Token<'a>],
+    tokens: &'t [Lexeme<'a>],
     of_ctor: bool,
-) -> Result<(Param<'a>, &'t [Token<'a>]), Stop<'t, 'a>>
+) -> Result<(Param<'a>, &'t [Lexeme<'a>]), Stop<'t, 'a>>
     ensures { Gives (λ x. (x.0, x.1.now)) result (param_at of_ctor tokens.now) }
 {
     let (says_final, rest) = flag(tokens, Terminal::Final);
@@ -42,9 +42,9 @@ fn param<'t, 'a>(
 /// One parameter more, behind its comma.
 #[tactic(auto, using(crate::proofs::MemberLoops::param_shorter, crate::proofs::Loops::take_shorter))]
 fn next_param<'t, 'a>(
-    so_far: (Vec<Param<'a>>, &'t [Token<'a>]),
+    so_far: (Vec<Param<'a>>, &'t [Lexeme<'a>]),
     of_ctor: bool,
-) -> Result<(Vec<Param<'a>>, &'t [Token<'a>]), Stop<'t, 'a>>
+) -> Result<(Vec<Param<'a>>, &'t [Lexeme<'a>]), Stop<'t, 'a>>
     ensures tree { Gives (λ x. (x.0.items, x.1.now)) result (comma_step (param_at of_ctor) so_far.entry.0.items so_far.entry.1.now) }
     ensures shorter { IfOk result (λ x. length x.1.now < length so_far.entry.1.now) }
 {
@@ -59,9 +59,9 @@ fn next_param<'t, 'a>(
 #[tactic(auto, unfolding(crate::specs::Members::param_list), using(crate::proofs::MemberLoops::param_more, crate::proofs::MemberLoops::param_done))]
 fn param_list<'t, 'a>(
     alloc: Global,
-    tokens: &'t [Token<'a>],
+    tokens: &'t [Lexeme<'a>],
     of_ctor: bool,
-) -> Result<(Vec<Param<'a>>, &'t [Token<'a>]), Stop<'t, 'a>>
+) -> Result<(Vec<Param<'a>>, &'t [Lexeme<'a>]), Stop<'t, 'a>>
     ensures { Gives (λ x. (x.0.items, x.1.now)) result (param_list_at of_ctor tokens.now) }
 {
     let mut list = (Vec::new(alloc), tokens);
@@ -81,9 +81,9 @@ fn param_list<'t, 'a>(
 #[tactic(auto, unfolding(crate::specs::Members::params))]
 fn params<'t, 'a>(
     alloc: Global,
-    tokens: &'t [Token<'a>],
+    tokens: &'t [Lexeme<'a>],
     of_ctor: bool,
-) -> Result<(Vec<Param<'a>>, &'t [Token<'a>]), Stop<'t, 'a>>
+) -> Result<(Vec<Param<'a>>, &'t [Lexeme<'a>]), Stop<'t, 'a>>
     ensures { Gives (λ x. (x.0.items, x.1.now)) result (params_at of_ctor tokens.now) }
 {
     let (_, rest) = take(tokens, Terminal::OpenParen)?;
@@ -96,8 +96,8 @@ fn params<'t, 'a>(
 #[tactic(auto, using(crate::proofs::MemberLoops::lock_shorter, crate::proofs::Loops::take_shorter))]
 fn next_lock<'t, 'a>(
     alloc: Global,
-    so_far: (Vec<Lock<'a>>, &'t [Token<'a>]),
-) -> Result<(Vec<Lock<'a>>, &'t [Token<'a>]), Stop<'t, 'a>>
+    so_far: (Vec<Lock<'a>>, &'t [Lexeme<'a>]),
+) -> Result<(Vec<Lock<'a>>, &'t [Lexeme<'a>]), Stop<'t, 'a>>
     ensures tree { Gives (λ x. (map lock_of x.0.items, x.1.now)) result (comma_step lock_at (map lock_of so_far.entry.0.items) so_far.entry.1.now) }
     ensures shorter { IfOk result (λ x. length x.1.now < length so_far.entry.1.now) }
 {
@@ -112,8 +112,8 @@ fn next_lock<'t, 'a>(
 #[tactic(auto, unfolding(crate::specs::Members::required), using(crate::proofs::MemberLoops::lock_more, crate::proofs::MemberLoops::lock_done))]
 fn required<'t, 'a>(
     alloc: Global,
-    tokens: &'t [Token<'a>],
-) -> Result<(Vec<Lock<'a>>, &'t [Token<'a>]), Stop<'t, 'a>>
+    tokens: &'t [Lexeme<'a>],
+) -> Result<(Vec<Lock<'a>>, &'t [Lexeme<'a>]), Stop<'t, 'a>>
     ensures { Gives (λ x. (map lock_of x.0.items, x.1.now)) result (required_at tokens.now) }
 {
     let mut list = (Vec::new(alloc), tokens);
@@ -137,8 +137,8 @@ fn method_rest<'t, 'a>(
     atomic: bool,
     returns: Option<TypeName<'a>>,
     name: Name<'a>,
-    tokens: &'t [Token<'a>],
-) -> Result<(Member<'a>, &'t [Token<'a>]), Stop<'t, 'a>>
+    tokens: &'t [Lexeme<'a>],
+) -> Result<(Member<'a>, &'t [Lexeme<'a>]), Stop<'t, 'a>>
     ensures { Gives (λ x. (member_of x.0, x.1.now)) result (method_rest_at atomic returns.entry name.entry tokens.now) }
 {
     let (params, rest) = params(alloc, tokens, false)?;
@@ -166,8 +166,8 @@ fn method_rest<'t, 'a>(
 /// An assignment of a constructor: the field, and the parameter.
 #[tactic(auto, unfolding(crate::specs::Members::set))]
 fn set<'t, 'a>(
-    tokens: &'t [Token<'a>],
-) -> Result<((Name<'a>, Name<'a>), &'t [Token<'a>]), Stop<'t, 'a>>
+    tokens: &'t [Lexeme<'a>],
+) -> Result<((Name<'a>, Name<'a>), &'t [Lexeme<'a>]), Stop<'t, 'a>>
     ensures { Gives (λ x. (x.0, x.1.now)) result (set_at tokens.now) }
 {
     let (_, rest) = take(tokens, Terminal::This)?;
@@ -181,8 +181,8 @@ fn set<'t, 'a>(
 /// One assignment more of a constructor.
 #[tactic(auto, using(crate::proofs::MemberLoops::set_shorter))]
 fn next_set<'t, 'a>(
-    so_far: (Vec<(Name<'a>, Name<'a>)>, &'t [Token<'a>]),
-) -> Result<(Vec<(Name<'a>, Name<'a>)>, &'t [Token<'a>]), Stop<'t, 'a>>
+    so_far: (Vec<(Name<'a>, Name<'a>)>, &'t [Lexeme<'a>]),
+) -> Result<(Vec<(Name<'a>, Name<'a>)>, &'t [Lexeme<'a>]), Stop<'t, 'a>>
     ensures tree { Gives (λ x. (x.0.items, x.1.now)) result (item_step set_at so_far.entry.0.items so_far.entry.1.now) }
     ensures shorter { IfOk result (λ x. length x.1.now < length so_far.entry.1.now) }
 {
@@ -195,8 +195,8 @@ fn next_set<'t, 'a>(
 #[tactic(auto, using(crate::proofs::MemberLoops::set_more, crate::proofs::MemberLoops::set_done))]
 fn sets<'t, 'a>(
     alloc: Global,
-    tokens: &'t [Token<'a>],
-) -> Result<(Vec<(Name<'a>, Name<'a>)>, &'t [Token<'a>]), Stop<'t, 'a>>
+    tokens: &'t [Lexeme<'a>],
+) -> Result<(Vec<(Name<'a>, Name<'a>)>, &'t [Lexeme<'a>]), Stop<'t, 'a>>
     ensures { Gives (λ x. (x.0.items, x.1.now)) result (several may_go_on set_at tokens.now) }
 {
     let mut list = (Vec::new(alloc), tokens);
@@ -211,8 +211,8 @@ fn sets<'t, 'a>(
 fn ctor_rest<'t, 'a>(
     alloc: Global,
     name: Name<'a>,
-    tokens: &'t [Token<'a>],
-) -> Result<(Member<'a>, &'t [Token<'a>]), Stop<'t, 'a>>
+    tokens: &'t [Lexeme<'a>],
+) -> Result<(Member<'a>, &'t [Lexeme<'a>]), Stop<'t, 'a>>
     ensures { Gives (λ x. (member_of x.0, x.1.now)) result (ctor_rest_at name.entry tokens.now) }
 {
     let (params, rest) = params(alloc, tokens, true)?;
@@ -226,8 +226,8 @@ fn ctor_rest<'t, 'a>(
 #[tactic(auto, unfolding(crate::specs::Members::guard))]
 fn guard<'t, 'a>(
     alloc: Global,
-    tokens: &'t [Token<'a>],
-) -> Result<((Option<Lock<'a>>, bool), &'t [Token<'a>]), Stop<'t, 'a>>
+    tokens: &'t [Lexeme<'a>],
+) -> Result<((Option<Lock<'a>>, bool), &'t [Lexeme<'a>]), Stop<'t, 'a>>
     ensures { Gives (λ x. ((option_map lock_of x.0.0, x.0.1), x.1.now)) result (guard_at tokens.now) }
 {
     if begins(tokens, Terminal::GuardedBy) {
@@ -249,8 +249,8 @@ fn field_rest<'t, 'a>(
     alloc: Global,
     ty: TypeName<'a>,
     name: Name<'a>,
-    tokens: &'t [Token<'a>],
-) -> Result<(Member<'a>, &'t [Token<'a>]), Stop<'t, 'a>>
+    tokens: &'t [Lexeme<'a>],
+) -> Result<(Member<'a>, &'t [Lexeme<'a>]), Stop<'t, 'a>>
     ensures { Gives (λ x. (member_of x.0, x.1.now)) result (field_rest_at ty.entry name.entry tokens.now) }
 {
     let ((guard, writes_only), rest) = guard(alloc, tokens)?;
@@ -272,8 +272,8 @@ fn field_rest<'t, 'a>(
 fn typed_rest<'t, 'a>(
     alloc: Global,
     ty: TypeName<'a>,
-    tokens: &'t [Token<'a>],
-) -> Result<(Member<'a>, &'t [Token<'a>]), Stop<'t, 'a>>
+    tokens: &'t [Lexeme<'a>],
+) -> Result<(Member<'a>, &'t [Lexeme<'a>]), Stop<'t, 'a>>
     ensures { Gives (λ x. (member_of x.0, x.1.now)) result (typed_rest_at ty.entry tokens.now) }
 {
     let (name, rest) = name(tokens)?;
@@ -285,8 +285,8 @@ fn typed_rest<'t, 'a>(
 
 #[tactic(auto, unfolding(crate::specs::Members::final_field))]
 fn final_field<'t, 'a>(
-    tokens: &'t [Token<'a>],
-) -> Result<(Member<'a>, &'t [Token<'a>]), Stop<'t, 'a>>
+    tokens: &'t [Lexeme<'a>],
+) -> Result<(Member<'a>, &'t [Lexeme<'a>]), Stop<'t, 'a>>
     ensures { Gives (λ x. (member_of x.0, x.1.now)) result (final_field_at tokens.now) }
 {
     let (_, rest) = take(tokens, Terminal::Final)?;
@@ -308,8 +308,8 @@ fn final_field<'t, 'a>(
 /// The type of a result, or `void`.
 #[tactic(auto, unfolding(crate::specs::Members::result_type))]
 fn result_type<'t, 'a>(
-    tokens: &'t [Token<'a>],
-) -> Result<(Option<TypeName<'a>>, &'t [Token<'a>]), Stop<'t, 'a>>
+    tokens: &'t [Lexeme<'a>],
+) -> Result<(Option<TypeName<'a>>, &'t [Lexeme<'a>]), Stop<'t, 'a>>
     ensures { Gives (λ x. (x.0, x.1.now)) result (result_type_at tokens.now) }
 {
     if begins(tokens, Terminal::Void) {
@@ -324,8 +324,8 @@ fn result_type<'t, 'a>(
 fn plain_method<'t, 'a>(
     alloc: Global,
     atomic: bool,
-    tokens: &'t [Token<'a>],
-) -> Result<(Member<'a>, &'t [Token<'a>]), Stop<'t, 'a>>
+    tokens: &'t [Lexeme<'a>],
+) -> Result<(Member<'a>, &'t [Lexeme<'a>]), Stop<'t, 'a>>
     ensures { Gives (λ x. (member_of x.0, x.1.now)) result (plain_method_at atomic tokens.now) }
 {
     let (returns, rest) = result_type(tokens)?;
@@ -337,8 +337,8 @@ fn plain_method<'t, 'a>(
 #[tactic(auto, unfolding(crate::specs::Members::named_member))]
 fn named_member<'t, 'a>(
     alloc: Global,
-    tokens: &'t [Token<'a>],
-) -> Result<(Member<'a>, &'t [Token<'a>]), Stop<'t, 'a>>
+    tokens: &'t [Lexeme<'a>],
+) -> Result<(Member<'a>, &'t [Lexeme<'a>]), Stop<'t, 'a>>
     ensures { Gives (λ x. (member_of x.0, x.1.now)) result (named_member_at tokens.now) }
 {
     let (first, rest) = name(tokens)?;
@@ -352,8 +352,8 @@ fn named_member<'t, 'a>(
 #[tactic(auto, unfolding(crate::specs::Members::bare_member))]
 fn bare_member<'t, 'a>(
     alloc: Global,
-    tokens: &'t [Token<'a>],
-) -> Result<(Member<'a>, &'t [Token<'a>]), Stop<'t, 'a>>
+    tokens: &'t [Lexeme<'a>],
+) -> Result<(Member<'a>, &'t [Lexeme<'a>]), Stop<'t, 'a>>
     ensures { Gives (λ x. (member_of x.0, x.1.now)) result (bare_member_at tokens.now) }
 {
     if begins(tokens, Terminal::Final) {
@@ -376,8 +376,8 @@ fn bare_member<'t, 'a>(
 #[tactic(auto, unfolding(crate::specs::Members::member))]
 fn member<'t, 'a>(
     alloc: Global,
-    tokens: &'t [Token<'a>],
-) -> Result<(Member<'a>, &'t [Token<'a>]), Stop<'t, 'a>>
+    tokens: &'t [Lexeme<'a>],
+) -> Result<(Member<'a>, &'t [Lexeme<'a>]), Stop<'t, 'a>>
     ensures { Gives (λ x. (member_of x.0, x.1.now)) result (member_at tokens.now) }
 {
     let (_, rest) = flag(tokens, Terminal::Public);
@@ -388,8 +388,8 @@ fn member<'t, 'a>(
 #[tactic(auto, using(crate::proofs::MemberLoops::member_shorter))]
 fn next_member<'t, 'a>(
     alloc: Global,
-    so_far: (Vec<Member<'a>>, &'t [Token<'a>]),
-) -> Result<(Vec<Member<'a>>, &'t [Token<'a>]), Stop<'t, 'a>>
+    so_far: (Vec<Member<'a>>, &'t [Lexeme<'a>]),
+) -> Result<(Vec<Member<'a>>, &'t [Lexeme<'a>]), Stop<'t, 'a>>
     ensures tree { Gives (λ x. (map member_of x.0.items, x.1.now)) result (item_step member_at (map member_of so_far.entry.0.items) so_far.entry.1.now) }
     ensures shorter { IfOk result (λ x. length x.1.now < length so_far.entry.1.now) }
 {
@@ -402,8 +402,8 @@ fn next_member<'t, 'a>(
 #[tactic(auto, using(crate::proofs::MemberLoops::member_more, crate::proofs::MemberLoops::member_done))]
 fn members<'t, 'a>(
     alloc: Global,
-    tokens: &'t [Token<'a>],
-) -> Result<(Vec<Member<'a>>, &'t [Token<'a>]), Stop<'t, 'a>>
+    tokens: &'t [Lexeme<'a>],
+) -> Result<(Vec<Member<'a>>, &'t [Lexeme<'a>]), Stop<'t, 'a>>
     ensures { Gives (λ x. (map member_of x.0.items, x.1.now)) result (several may_go_on member_at tokens.now) }
 {
     let mut list = (Vec::new(alloc), tokens);
@@ -415,7 +415,7 @@ fn members<'t, 'a>(
 
 /// `implements Runnable`, or nothing.
 #[tactic(auto, unfolding(crate::specs::Members::runnable))]
-fn runnable<'t, 'a>(tokens: &'t [Token<'a>]) -> Result<(bool, &'t [Token<'a>]), Stop<'t, 'a>>
+fn runnable<'t, 'a>(tokens: &'t [Lexeme<'a>]) -> Result<(bool, &'t [Lexeme<'a>]), Stop<'t, 'a>>
     ensures { Gives (λ x. (x.0, x.1.now)) result (runnable_at tokens.now) }
 {
     if begins(tokens, Terminal::Implements) {
@@ -429,8 +429,8 @@ fn runnable<'t, 'a>(tokens: &'t [Token<'a>]) -> Result<(bool, &'t [Token<'a>]), 
 #[tactic(auto, unfolding(crate::specs::Members::class_at))]
 fn class<'t, 'a>(
     alloc: Global,
-    tokens: &'t [Token<'a>],
-) -> Result<(Class<'a>, &'t [Token<'a>]), Stop<'t, 'a>>
+    tokens: &'t [Lexeme<'a>],
+) -> Result<(Class<'a>, &'t [Lexeme<'a>]), Stop<'t, 'a>>
     ensures { Gives (λ x. (class_of x.0, x.1.now)) result (class_at tokens.now) }
 {
     let (_, rest) = flag(tokens, Terminal::Public);
@@ -454,8 +454,8 @@ fn class<'t, 'a>(
 #[tactic(auto, using(crate::proofs::MemberLoops::class_shorter))]
 fn next_class<'t, 'a>(
     alloc: Global,
-    so_far: (Vec<Class<'a>>, &'t [Token<'a>]),
-) -> Result<(Vec<Class<'a>>, &'t [Token<'a>]), Stop<'t, 'a>>
+    so_far: (Vec<Class<'a>>, &'t [Lexeme<'a>]),
+) -> Result<(Vec<Class<'a>>, &'t [Lexeme<'a>]), Stop<'t, 'a>>
     ensures tree { Gives (λ x. (map class_of x.0.items, x.1.now)) result (item_step class_at (map class_of so_far.entry.0.items) so_far.entry.1.now) }
     ensures shorter { IfOk result (λ x. length x.1.now < length so_far.entry.1.now) }
 {
@@ -469,8 +469,8 @@ fn next_class<'t, 'a>(
 #[tactic(auto, unfolding(crate::specs::Members::program), using(crate::proofs::MemberLoops::class_more, crate::proofs::MemberLoops::class_done))]
 pub fn classes<'t, 'a>(
     alloc: Global,
-    tokens: &'t [Token<'a>],
-) -> Result<(Vec<Class<'a>>, &'t [Token<'a>]), Stop<'t, 'a>>
+    tokens: &'t [Lexeme<'a>],
+) -> Result<(Vec<Class<'a>>, &'t [Lexeme<'a>]), Stop<'t, 'a>>
     ensures { Gives (λ x. (map class_of x.0.items, x.1.now)) result (program_at tokens.now) }
 {
     let mut list = (Vec::new(alloc), tokens);
@@ -481,7 +481,7 @@ pub fn classes<'t, 'a>(
 }
 
 /// Whether a token is left.
-fn stands(tokens: &[Token]) -> bool
+fn stands(tokens: &[Lexeme]) -> bool
     ensures { result ≡ starts (λ x. true) tokens.now }
 {
     !tokens.is_empty()

@@ -12,6 +12,7 @@ ghost use Rattle.aj_syntax.specs.Trees.{ProgramTree};
 ghost use Rattle.aj_syntax.specs.Views.{program_of};
 
 use crate::faults::ParseFault;
+use crate::lexeme::{Lexeme, lexemes};
 use crate::member::classes;
 use crate::stop::{Fault, Stop};
 use aj_lexer::Token;
@@ -23,7 +24,6 @@ use std::alloc::Global;
 /// The grammar is Java's of classes, statements and expressions, restated for a small language; an `else` belongs to the
 /// nearest `if`. A text may have both faults, at different places; then either may be told. The depth of the recursion is
 /// bounded by the limit of height, and the work is linear in the number of tokens.
-#[tactic(auto, using(crate::proofs::Whole::read_right, crate::proofs::Whole::read_only, crate::proofs::Whole::unexpected_right, crate::proofs::Whole::deep_right, crate::proofs::Whole::place_fits))]
 pub fn parse<'a>(alloc: Global, tokens: &[Token<'a>]) -> Result<Program<'a>, ParseFault>
     requires { length tokens.now ≤ most_tokens }
     // What is answered is in the grammar.
@@ -32,6 +32,23 @@ pub fn parse<'a>(alloc: Global, tokens: &[Token<'a>]) -> Result<Program<'a>, Par
     ensures only { (tree : ProgramTree) → Grammar tokens.now tree →
         MatchResult result (λ program. program_of program ≡ tree) (λ fault. fault ≡ ParseFault.NoMemory) }
     // Each name is the text of a token at its offset, and so a slice of the source.
+    ensures names { IfOk result (λ program. All (λ n. Contains tokens.now (name_token n)) (names_of_program (program_of program))) }
+    ensures unexpected { (place : ℕ) → IsErrOf result (ParseFault.Unexpected place) → IsUnexpected tokens.now place }
+    ensures too_deep { (place : ℕ) → IsErrOf result (ParseFault.TooDeep place) → IsTooDeep tokens.now place }
+{
+    match lexemes(alloc, tokens) {
+        Ok(lexemes) => read(alloc, lexemes.as_slice()),
+        Err(_) => Err(ParseFault::NoMemory),
+    }
+}
+
+/// The tree of the lexemes.
+#[tactic(auto, using(crate::proofs::Whole::read_right, crate::proofs::Whole::read_only, crate::proofs::Whole::unexpected_right, crate::proofs::Whole::deep_right, crate::proofs::Whole::place_fits))]
+fn read<'a>(alloc: Global, tokens: &[Lexeme<'a>]) -> Result<Program<'a>, ParseFault>
+    requires { length tokens.now ≤ most_tokens }
+    ensures found { IfOk result (λ program. Grammar tokens.now (program_of program)) }
+    ensures only { (tree : ProgramTree) → Grammar tokens.now tree →
+        MatchResult result (λ program. program_of program ≡ tree) (λ fault. fault ≡ ParseFault.NoMemory) }
     ensures names { IfOk result (λ program. All (λ n. Contains tokens.now (name_token n)) (names_of_program (program_of program))) }
     ensures unexpected { (place : ℕ) → IsErrOf result (ParseFault.Unexpected place) → IsUnexpected tokens.now place }
     ensures too_deep { (place : ℕ) → IsErrOf result (ParseFault.TooDeep place) → IsTooDeep tokens.now place }

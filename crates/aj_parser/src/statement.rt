@@ -14,12 +14,12 @@ ghost use Rattle.aj_parser.specs.Expressions.{below};
 ghost use Rattle.aj_parser.specs.Statements.{assigned as assigned_at, block_at, block_statement, braces, call_end as call_end_at, condition as condition_at, else_part as else_part_at, expression as expression_at, expression_statement as expression_statement_at, finish as finish_at, finish_from as finish_from_at, goes_on as may_go_on, if_statement as if_statement_at, local_rest as local_rest_at, local_statement as local_statement_at, name_statement as name_statement_at, new_statement as new_statement_at, plain_statement as plain_statement_at, print_statement as print_statement_at, return_statement as return_statement_at, start_rest as start_rest_at, statement_at, statement_with, sync_statement as sync_statement_at, target as target_at, while_statement as while_statement_at};
 
 use crate::expression::{LEVELS, Parsed, chain, dots, field_name, new_rest, primary};
+use crate::lexeme::Lexeme;
 use crate::stop::{Fault, Stop};
 use crate::tokens::{
     begins, begins_declaration, begins_name, begins_second_name, begins_statement, goes_on, name,
     take,
 };
-use aj_lexer::Token;
 use aj_syntax::{Expr, Lock, Name, Stmt, Terminal, TypeName};
 use std::alloc::Global;
 
@@ -33,8 +33,8 @@ pub struct Braces<'a> {
 
 #[tactic(auto, unfolding(crate::specs::Words::type_name))]
 pub fn type_name<'t, 'a>(
-    tokens: &'t [Token<'a>],
-) -> Result<(TypeName<'a>, &'t [Token<'a>]), Stop<'t, 'a>>
+    tokens: &'t [Lexeme<'a>],
+) -> Result<(TypeName<'a>, &'t [Lexeme<'a>]), Stop<'t, 'a>>
     ensures { Gives (λ x. (x.0, x.1.now)) result (type_name_at tokens.now) }
 {
     if begins(tokens, Terminal::Int) {
@@ -52,8 +52,8 @@ pub fn type_name<'t, 'a>(
 /// One field more behind the root of a lock.
 #[tactic(auto, using(crate::proofs::StatementLoops::field_shorter))]
 fn next_field<'t, 'a>(
-    so_far: (Vec<Name<'a>>, &'t [Token<'a>]),
-) -> Result<(Vec<Name<'a>>, &'t [Token<'a>]), Stop<'t, 'a>>
+    so_far: (Vec<Name<'a>>, &'t [Lexeme<'a>]),
+) -> Result<(Vec<Name<'a>>, &'t [Lexeme<'a>]), Stop<'t, 'a>>
     ensures tree { Gives (λ x. (x.0.items, x.1.now)) result (item_step field_name_at so_far.entry.0.items so_far.entry.1.now) }
     ensures shorter { IfOk result (λ x. length x.1.now < length so_far.entry.1.now) }
 {
@@ -67,8 +67,8 @@ fn next_field<'t, 'a>(
 #[tactic(auto, using(crate::proofs::StatementLoops::field_more, crate::proofs::StatementLoops::field_done))]
 fn fields<'t, 'a>(
     alloc: Global,
-    tokens: &'t [Token<'a>],
-) -> Result<(Vec<Name<'a>>, &'t [Token<'a>]), Stop<'t, 'a>>
+    tokens: &'t [Lexeme<'a>],
+) -> Result<(Vec<Name<'a>>, &'t [Lexeme<'a>]), Stop<'t, 'a>>
     ensures { Gives (λ x. (x.0.items, x.1.now)) result (several (is Terminal.Dot) field_name_at tokens.now) }
 {
     let mut list = (Vec::new(alloc), tokens);
@@ -81,8 +81,8 @@ fn fields<'t, 'a>(
 #[tactic(auto, unfolding(crate::specs::Words::lock))]
 pub fn lock<'t, 'a>(
     alloc: Global,
-    tokens: &'t [Token<'a>],
-) -> Result<(Lock<'a>, &'t [Token<'a>]), Stop<'t, 'a>>
+    tokens: &'t [Lexeme<'a>],
+) -> Result<(Lock<'a>, &'t [Lexeme<'a>]), Stop<'t, 'a>>
     ensures { Gives (λ x. (lock_of x.0, x.1.now)) result (lock_at tokens.now) }
 {
     if begins(tokens, Terminal::This) {
@@ -113,9 +113,9 @@ pub fn lock<'t, 'a>(
 /// An expression that is a part of a node at most `high` nodes high.
 fn expression<'t, 'a>(
     alloc: Global,
-    tokens: &'t [Token<'a>],
+    tokens: &'t [Lexeme<'a>],
     high: u32,
-) -> Result<(Expr<'a>, &'t [Token<'a>]), Stop<'t, 'a>>
+) -> Result<(Expr<'a>, &'t [Lexeme<'a>]), Stop<'t, 'a>>
     requires high { high ≤ most_height }
     requires positive { 0 < high }
     ensures { Gives (λ x. (expr_of x.0, x.1.now)) result (expression_at high tokens.now) }
@@ -132,9 +132,9 @@ fn expression<'t, 'a>(
 #[tactic(auto, unfolding(crate::specs::Statements::condition))]
 fn condition<'t, 'a>(
     alloc: Global,
-    tokens: &'t [Token<'a>],
+    tokens: &'t [Lexeme<'a>],
     high: u32,
-) -> Result<(Expr<'a>, &'t [Token<'a>]), Stop<'t, 'a>>
+) -> Result<(Expr<'a>, &'t [Lexeme<'a>]), Stop<'t, 'a>>
     requires high { high ≤ most_height }
     requires positive { 0 < high }
     ensures { Gives (λ x. (expr_of x.0, x.1.now)) result (condition_at high tokens.now) }
@@ -148,9 +148,9 @@ fn condition<'t, 'a>(
 #[tactic(auto, unfolding(crate::specs::Statements::return_statement))]
 fn return_statement<'t, 'a>(
     alloc: Global,
-    tokens: &'t [Token<'a>],
+    tokens: &'t [Lexeme<'a>],
     high: u32,
-) -> Result<(Stmt<'a>, &'t [Token<'a>]), Stop<'t, 'a>>
+) -> Result<(Stmt<'a>, &'t [Lexeme<'a>]), Stop<'t, 'a>>
     requires high { high ≤ most_height }
     requires positive { 0 < high }
     ensures { Gives (λ x. (stmt_of x.0, x.1.now)) result (return_statement_at high tokens.now) }
@@ -168,9 +168,9 @@ fn return_statement<'t, 'a>(
 #[tactic(auto, unfolding(crate::specs::Statements::print_statement))]
 fn print_statement<'t, 'a>(
     alloc: Global,
-    tokens: &'t [Token<'a>],
+    tokens: &'t [Lexeme<'a>],
     high: u32,
-) -> Result<(Stmt<'a>, &'t [Token<'a>]), Stop<'t, 'a>>
+) -> Result<(Stmt<'a>, &'t [Lexeme<'a>]), Stop<'t, 'a>>
     requires high { high ≤ most_height }
     requires positive { 0 < high }
     ensures { Gives (λ x. (stmt_of x.0, x.1.now)) result (print_statement_at high tokens.now) }
@@ -189,10 +189,10 @@ fn print_statement<'t, 'a>(
 #[tactic(auto, unfolding(crate::specs::Statements::start_rest))]
 fn start_rest<'t, 'a>(
     alloc: Global,
-    tokens: &'t [Token<'a>],
+    tokens: &'t [Lexeme<'a>],
     high: u32,
     at: u32,
-) -> Result<(Stmt<'a>, &'t [Token<'a>]), Stop<'t, 'a>>
+) -> Result<(Stmt<'a>, &'t [Lexeme<'a>]), Stop<'t, 'a>>
     requires high { high ≤ most_height }
     requires positive { 0 < high }
     ensures { Gives (λ x. (stmt_of x.0, x.1.now)) result (start_rest_at high at tokens.now) }
@@ -211,9 +211,9 @@ fn start_rest<'t, 'a>(
 #[tactic(auto, unfolding(crate::specs::Statements::assigned))]
 fn assigned<'t, 'a>(
     alloc: Global,
-    tokens: &'t [Token<'a>],
+    tokens: &'t [Lexeme<'a>],
     high: u32,
-) -> Result<((Box<Expr<'a>>, u32), &'t [Token<'a>]), Stop<'t, 'a>>
+) -> Result<((Box<Expr<'a>>, u32), &'t [Lexeme<'a>]), Stop<'t, 'a>>
     requires high { high ≤ most_height }
     requires positive { 0 < high }
     ensures { Gives (λ x. ((expr_of x.0.0.value, x.0.1), x.1.now)) result (assigned_at high tokens.now) }
@@ -231,9 +231,9 @@ fn local_rest<'t, 'a>(
     is_final: bool,
     ty: TypeName<'a>,
     at: u32,
-    tokens: &'t [Token<'a>],
+    tokens: &'t [Lexeme<'a>],
     high: u32,
-) -> Result<(Stmt<'a>, &'t [Token<'a>]), Stop<'t, 'a>>
+) -> Result<(Stmt<'a>, &'t [Lexeme<'a>]), Stop<'t, 'a>>
     requires high { high ≤ most_height }
     requires positive { 0 < high }
     ensures { Gives (λ x. (stmt_of x.0, x.1.now)) result (local_rest_at high is_final ty.entry at tokens.now) }
@@ -256,9 +256,9 @@ fn local_rest<'t, 'a>(
 #[tactic(auto, unfolding(crate::specs::Statements::local_statement))]
 fn local_statement<'t, 'a>(
     alloc: Global,
-    tokens: &'t [Token<'a>],
+    tokens: &'t [Lexeme<'a>],
     high: u32,
-) -> Result<(Stmt<'a>, &'t [Token<'a>]), Stop<'t, 'a>>
+) -> Result<(Stmt<'a>, &'t [Lexeme<'a>]), Stop<'t, 'a>>
     requires high { high ≤ most_height }
     requires positive { 0 < high }
     ensures { Gives (λ x. (stmt_of x.0, x.1.now)) result (local_statement_at high tokens.now) }
@@ -289,7 +289,7 @@ fn call_end<'t, 'a>(
     alloc: Global,
     front: Parsed<'t, 'a>,
     high: u32,
-) -> Result<(Stmt<'a>, &'t [Token<'a>]), Stop<'t, 'a>>
+) -> Result<(Stmt<'a>, &'t [Lexeme<'a>]), Stop<'t, 'a>>
     requires height { front.height ≡ height_of (expr_of front.tree) }
     ensures { Gives (λ x. (stmt_of x.0, x.1.now)) result (call_end_at high (expr_of front.entry.tree) front.entry.rest.now) }
 {
@@ -310,9 +310,9 @@ fn call_end<'t, 'a>(
 fn target<'t, 'a>(
     alloc: Global,
     tree: Expr<'a>,
-    tokens: &'t [Token<'a>],
+    tokens: &'t [Lexeme<'a>],
     high: u32,
-) -> Result<(Stmt<'a>, &'t [Token<'a>]), Stop<'t, 'a>>
+) -> Result<(Stmt<'a>, &'t [Lexeme<'a>]), Stop<'t, 'a>>
     requires high { high ≤ most_height }
     requires positive { 0 < high }
     ensures { Gives (λ x. (stmt_of x.0, x.1.now)) result (target_at high (expr_of tree.entry) tokens.now) }
@@ -336,7 +336,7 @@ fn finish<'t, 'a>(
     alloc: Global,
     front: Parsed<'t, 'a>,
     high: u32,
-) -> Result<(Stmt<'a>, &'t [Token<'a>]), Stop<'t, 'a>>
+) -> Result<(Stmt<'a>, &'t [Lexeme<'a>]), Stop<'t, 'a>>
     requires high { high ≤ most_height }
     requires positive { 0 < high }
     requires height { front.height ≡ height_of (expr_of front.tree) }
@@ -359,7 +359,7 @@ fn finish_from<'t, 'a>(
     alloc: Global,
     front: Parsed<'t, 'a>,
     high: u32,
-) -> Result<(Stmt<'a>, &'t [Token<'a>]), Stop<'t, 'a>>
+) -> Result<(Stmt<'a>, &'t [Lexeme<'a>]), Stop<'t, 'a>>
     requires high { high ≤ most_height }
     requires positive { 0 < high }
     requires height { front.height ≡ height_of (expr_of front.tree) }
@@ -373,9 +373,9 @@ fn finish_from<'t, 'a>(
 #[tactic(auto, unfolding(crate::specs::Statements::new_statement))]
 fn new_statement<'t, 'a>(
     alloc: Global,
-    tokens: &'t [Token<'a>],
+    tokens: &'t [Lexeme<'a>],
     high: u32,
-) -> Result<(Stmt<'a>, &'t [Token<'a>]), Stop<'t, 'a>>
+) -> Result<(Stmt<'a>, &'t [Lexeme<'a>]), Stop<'t, 'a>>
     requires high { high ≤ most_height }
     requires positive { 0 < high }
     ensures { Gives (λ x. (stmt_of x.0, x.1.now)) result (new_statement_at high tokens.now) }
@@ -392,10 +392,10 @@ fn new_statement<'t, 'a>(
 #[tactic(auto, unfolding(crate::specs::Statements::name_statement))]
 fn name_statement<'t, 'a>(
     alloc: Global,
-    tokens: &'t [Token<'a>],
+    tokens: &'t [Lexeme<'a>],
     high: u32,
     in_block: bool,
-) -> Result<(Stmt<'a>, &'t [Token<'a>]), Stop<'t, 'a>>
+) -> Result<(Stmt<'a>, &'t [Lexeme<'a>]), Stop<'t, 'a>>
     requires high { high ≤ most_height }
     requires positive { 0 < high }
     ensures { Gives (λ x. (stmt_of x.0, x.1.now)) result (name_statement_at high in_block tokens.now) }
@@ -416,9 +416,9 @@ fn name_statement<'t, 'a>(
 #[tactic(auto, unfolding(crate::specs::Statements::expression_statement))]
 fn expression_statement<'t, 'a>(
     alloc: Global,
-    tokens: &'t [Token<'a>],
+    tokens: &'t [Lexeme<'a>],
     high: u32,
-) -> Result<(Stmt<'a>, &'t [Token<'a>]), Stop<'t, 'a>>
+) -> Result<(Stmt<'a>, &'t [Lexeme<'a>]), Stop<'t, 'a>>
     requires high { high ≤ most_height }
     requires positive { 0 < high }
     ensures { Gives (λ x. (stmt_of x.0, x.1.now)) result (expression_statement_at high tokens.now) }
@@ -431,10 +431,10 @@ fn expression_statement<'t, 'a>(
 #[tactic(auto, unfolding(crate::specs::Statements::plain_statement))]
 fn plain_statement<'t, 'a>(
     alloc: Global,
-    tokens: &'t [Token<'a>],
+    tokens: &'t [Lexeme<'a>],
     high: u32,
     in_block: bool,
-) -> Result<(Stmt<'a>, &'t [Token<'a>]), Stop<'t, 'a>>
+) -> Result<(Stmt<'a>, &'t [Lexeme<'a>]), Stop<'t, 'a>>
     requires high { high ≤ most_height }
     requires positive { 0 < high }
     ensures { Gives (λ x. (stmt_of x.0, x.1.now)) result (plain_statement_at high in_block tokens.now) }
@@ -498,9 +498,9 @@ fn else_part<'t, 'a>(
     condition: Box<Expr<'a>>,
     branch: Box<Stmt<'a>>,
     at: u32,
-    tokens: &'t [Token<'a>],
+    tokens: &'t [Lexeme<'a>],
     high: u32,
-) -> Result<(Stmt<'a>, &'t [Token<'a>]), Stop<'t, 'a>>
+) -> Result<(Stmt<'a>, &'t [Lexeme<'a>]), Stop<'t, 'a>>
     requires high { high ≤ most_height }
     requires positive { 0 < high }
     ensures { Gives (λ x. (stmt_of x.0, x.1.now)) result (else_part_at high (statement_at (high - 1)) (block_at (high - 1)) at (expr_of condition.entry.value) (stmt_of branch.entry.value) tokens.now) }
@@ -518,9 +518,9 @@ fn else_part<'t, 'a>(
 #[tactic(auto, unfolding(crate::specs::Statements::if_statement))]
 fn if_statement<'t, 'a>(
     alloc: Global,
-    tokens: &'t [Token<'a>],
+    tokens: &'t [Lexeme<'a>],
     high: u32,
-) -> Result<(Stmt<'a>, &'t [Token<'a>]), Stop<'t, 'a>>
+) -> Result<(Stmt<'a>, &'t [Lexeme<'a>]), Stop<'t, 'a>>
     requires high { high ≤ most_height }
     requires positive { 0 < high }
     ensures { Gives (λ x. (stmt_of x.0, x.1.now)) result (if_statement_at high (statement_at (high - 1)) (block_at (high - 1)) tokens.now) }
@@ -537,9 +537,9 @@ fn if_statement<'t, 'a>(
 #[tactic(auto, unfolding(crate::specs::Statements::while_statement))]
 fn while_statement<'t, 'a>(
     alloc: Global,
-    tokens: &'t [Token<'a>],
+    tokens: &'t [Lexeme<'a>],
     high: u32,
-) -> Result<(Stmt<'a>, &'t [Token<'a>]), Stop<'t, 'a>>
+) -> Result<(Stmt<'a>, &'t [Lexeme<'a>]), Stop<'t, 'a>>
     requires high { high ≤ most_height }
     requires positive { 0 < high }
     ensures { Gives (λ x. (stmt_of x.0, x.1.now)) result (while_statement_at high (statement_at (high - 1)) (block_at (high - 1)) tokens.now) }
@@ -557,9 +557,9 @@ fn while_statement<'t, 'a>(
 #[tactic(auto, unfolding(crate::specs::Statements::sync_statement))]
 fn sync_statement<'t, 'a>(
     alloc: Global,
-    tokens: &'t [Token<'a>],
+    tokens: &'t [Lexeme<'a>],
     high: u32,
-) -> Result<(Stmt<'a>, &'t [Token<'a>]), Stop<'t, 'a>>
+) -> Result<(Stmt<'a>, &'t [Lexeme<'a>]), Stop<'t, 'a>>
     requires high { high ≤ most_height }
     requires positive { 0 < high }
     ensures { Gives (λ x. (stmt_of x.0, x.1.now)) result (sync_statement_at high (statement_at (high - 1)) (block_at (high - 1)) tokens.now) }
@@ -582,9 +582,9 @@ fn sync_statement<'t, 'a>(
 #[tactic(auto, using(crate::proofs::StatementLoops::statement_shorter))]
 fn next_statement<'t, 'a>(
     alloc: Global,
-    so_far: (Vec<Stmt<'a>>, &'t [Token<'a>]),
+    so_far: (Vec<Stmt<'a>>, &'t [Lexeme<'a>]),
     high: u32,
-) -> Result<(Vec<Stmt<'a>>, &'t [Token<'a>]), Stop<'t, 'a>>
+) -> Result<(Vec<Stmt<'a>>, &'t [Lexeme<'a>]), Stop<'t, 'a>>
     requires high { high < most_height }
     ensures tree { Gives (λ x. (map stmt_of x.0.items, x.1.now)) result (item_step (statement_at high true) (map stmt_of so_far.entry.0.items) so_far.entry.1.now) }
     ensures shorter { IfOk result (λ x. length x.1.now < length so_far.entry.1.now) }
@@ -600,9 +600,9 @@ fn next_statement<'t, 'a>(
 #[tactic(auto, using(crate::proofs::StatementLoops::statement_more, crate::proofs::StatementLoops::statement_done))]
 fn statements<'t, 'a>(
     alloc: Global,
-    tokens: &'t [Token<'a>],
+    tokens: &'t [Lexeme<'a>],
     high: u32,
-) -> Result<(Vec<Stmt<'a>>, &'t [Token<'a>]), Stop<'t, 'a>>
+) -> Result<(Vec<Stmt<'a>>, &'t [Lexeme<'a>]), Stop<'t, 'a>>
     requires high { high < most_height }
     ensures { Gives (λ x. (map stmt_of x.0.items, x.1.now)) result (several may_go_on (statement_at high true) tokens.now) }
 {
@@ -618,9 +618,9 @@ fn statements<'t, 'a>(
 #[tactic(auto, unfolding(crate::specs::Statements::braces), using(crate::proofs::StatementLoops::block_zero, crate::proofs::StatementLoops::block_positive))]
 pub fn block<'t, 'a>(
     alloc: Global,
-    tokens: &'t [Token<'a>],
+    tokens: &'t [Lexeme<'a>],
     high: u32,
-) -> Result<(Braces<'a>, &'t [Token<'a>]), Stop<'t, 'a>>
+) -> Result<(Braces<'a>, &'t [Lexeme<'a>]), Stop<'t, 'a>>
     requires high { high ≤ most_height }
     ensures { Gives (λ x. ((x.0.at, map stmt_of x.0.statements.items, x.0.end), x.1.now)) result (block_at high tokens.now) }
 {
@@ -648,10 +648,10 @@ pub fn block<'t, 'a>(
 #[tactic(auto, unfolding(crate::specs::Statements::statement_with), using(crate::proofs::StatementLoops::statement_zero, crate::proofs::StatementLoops::statement_positive, crate::proofs::StatementLoops::block_statement_is))]
 pub fn statement<'t, 'a>(
     alloc: Global,
-    tokens: &'t [Token<'a>],
+    tokens: &'t [Lexeme<'a>],
     high: u32,
     in_block: bool,
-) -> Result<(Stmt<'a>, &'t [Token<'a>]), Stop<'t, 'a>>
+) -> Result<(Stmt<'a>, &'t [Lexeme<'a>]), Stop<'t, 'a>>
     requires high { high ≤ most_height }
     ensures { Gives (λ x. (stmt_of x.0, x.1.now)) result (statement_at high in_block tokens.now) }
 {

@@ -2,7 +2,7 @@
 
 ghost use Rattle.std.specs.Prelude.{◌≡◌};
 
-use aj_lexer::Token;
+use crate::lexeme::Lexeme;
 use std::alloc::{AllocError, AllocFailed};
 
 #[derive(Clone, Copy, Debug, PartialEq, Eq)]
@@ -15,7 +15,7 @@ pub enum Fault {
 #[derive(Drop)]
 pub enum Stop<'t, 'a> {
     Memory,
-    Fault(Fault, &'t [Token<'a>]),
+    Fault(Fault, &'t [Lexeme<'a>]),
 }
 
 impl<'t, 'a> From<AllocError> for Stop<'t, 'a> {

@@ -5,21 +5,22 @@ ghost use Rattle.aj_syntax.specs.Grammar.{level as level_of, offset as offset_of
 ghost use Rattle.aj_syntax.specs.Tokens.{is};
 ghost use Rattle.aj_parser.specs.Answer.{Gives};
 ghost use Rattle.aj_parser.specs.Combine.{Res, beyond as beyond_at, first, flag as flag_at, starts, take_one};
-ghost use Rattle.aj_parser.specs.Words.{a_least, a_name, a_number, an_op, is_least, is_name, is_number, is_any_op, is_op, op_of, op_of_sign};
+ghost use Rattle.aj_parser.specs.Words.{a_least, a_name, a_number, an_op, is_least, is_name, is_number, is_any_op, is_op, op_of};
 ghost use Rattle.aj_parser.specs.Expressions.{begins_expression as may_begin_expression, is_leaf as may_be_leaf};
 ghost use Rattle.aj_parser.specs.Statements.{begins_statement as may_begin_statement, goes_on as may_go_on, begins_local};
 
+use crate::lexeme::Lexeme;
 use crate::stop::{Fault, Stop};
-use aj_lexer::{GREATEST_LITERAL, Token, TokenKind};
+use aj_lexer::{GREATEST_LITERAL, TokenKind};
 use aj_syntax::{Name, Op, Terminal};
 
 /// Whether the terminal stands first.
 #[inline(always)]
-pub fn begins(tokens: &[Token], terminal: Terminal) -> bool
+pub fn begins(tokens: &[Lexeme], terminal: Terminal) -> bool
     ensures { result ≡ starts (is terminal) tokens.now }
 {
     match tokens {
-        [token, ..] => terminal.matches(token),
+        [token, ..] => token.is(terminal),
         [] => false,
     }
 }
@@ -27,30 +28,30 @@ pub fn begins(tokens: &[Token], terminal: Terminal) -> bool
 /// Takes the terminal, and gives its offset.
 #[inline(always)]
 pub fn take<'t, 'a>(
-    tokens: &'t [Token<'a>],
+    tokens: &'t [Lexeme<'a>],
     terminal: Terminal,
-) -> Result<(u32, &'t [Token<'a>]), Stop<'t, 'a>>
+) -> Result<(u32, &'t [Lexeme<'a>]), Stop<'t, 'a>>
     ensures { Gives (λ x. (x.0, x.1.now)) result (take_one terminal tokens.now) }
 {
     match tokens {
-        [token, rest @ ..] if terminal.matches(token) => Ok((token.at, rest)),
+        [token, rest @ ..] if token.is(terminal) => Ok((token.at, rest)),
         _ => Err(Stop::Fault(Fault::Unexpected, tokens)),
     }
 }
 
 /// Takes the terminal where it stands first.
 #[inline(always)]
-pub fn flag<'t, 'a>(tokens: &'t [Token<'a>], terminal: Terminal) -> (bool, &'t [Token<'a>])
+pub fn flag<'t, 'a>(tokens: &'t [Lexeme<'a>], terminal: Terminal) -> (bool, &'t [Lexeme<'a>])
     ensures { (result.0, result.1.now) ≡ flag_at terminal tokens.now }
 {
     match tokens {
-        [token, rest @ ..] if terminal.matches(token) => (true, rest),
+        [token, rest @ ..] if token.is(terminal) => (true, rest),
         _ => (false, tokens),
     }
 }
 
 /// The offset of the first token, or 0.
-pub fn offset(tokens: &[Token]) -> u32
+pub fn offset(tokens: &[Lexeme]) -> u32
     ensures { result ≡ offset_of tokens.now }
 {
     match tokens {
@@ -59,7 +60,7 @@ pub fn offset(tokens: &[Token]) -> u32
     }
 }
 
-fn is_name_token(token: &Token) -> bool
+fn is_name_token(token: &Lexeme) -> bool
     ensures { result ≡ is_name token.now }
 {
     match token.kind {
@@ -68,7 +69,7 @@ fn is_name_token(token: &Token) -> bool
     }
 }
 
-fn is_number_token(token: &Token) -> bool
+fn is_number_token(token: &Lexeme) -> bool
     ensures { result ≡ is_number token.now }
 {
     match token.kind {
@@ -77,7 +78,7 @@ fn is_number_token(token: &Token) -> bool
     }
 }
 
-fn is_least_token(token: &Token) -> bool
+fn is_least_token(token: &Lexeme) -> bool
     ensures { result ≡ is_least token.now }
 {
     match token.kind {
@@ -86,7 +87,7 @@ fn is_least_token(token: &Token) -> bool
     }
 }
 
-pub fn begins_name(tokens: &[Token]) -> bool
+pub fn begins_name(tokens: &[Lexeme]) -> bool
     ensures { result ≡ starts is_name tokens.now }
 {
     match tokens {
@@ -95,7 +96,7 @@ pub fn begins_name(tokens: &[Token]) -> bool
     }
 }
 
-pub fn begins_number(tokens: &[Token]) -> bool
+pub fn begins_number(tokens: &[Lexeme]) -> bool
     ensures { result ≡ starts is_number tokens.now }
 {
     match tokens {
@@ -105,7 +106,7 @@ pub fn begins_number(tokens: &[Token]) -> bool
 }
 
 /// Whether 2147483648 stands first, which is the least number behind a `-`.
-pub fn begins_least(tokens: &[Token]) -> bool
+pub fn begins_least(tokens: &[Lexeme]) -> bool
     ensures { result ≡ starts is_least tokens.now }
 {
     match tokens {
@@ -114,7 +115,7 @@ pub fn begins_least(tokens: &[Token]) -> bool
     }
 }
 
-pub fn name<'t, 'a>(tokens: &'t [Token<'a>]) -> Result<(Name<'a>, &'t [Token<'a>]), Stop<'t, 'a>>
+pub fn name<'t, 'a>(tokens: &'t [Lexeme<'a>]) -> Result<(Name<'a>, &'t [Lexeme<'a>]), Stop<'t, 'a>>
     ensures { Gives (λ x. (x.0, x.1.now)) result (first a_name tokens.now) }
 {
     match tokens {
@@ -128,8 +129,8 @@ pub fn name<'t, 'a>(tokens: &'t [Token<'a>]) -> Result<(Name<'a>, &'t [Token<'a>
 
 /// Takes a number up to 2147483647, and gives it and its offset.
 pub fn number<'t, 'a>(
-    tokens: &'t [Token<'a>],
-) -> Result<((u32, u32), &'t [Token<'a>]), Stop<'t, 'a>>
+    tokens: &'t [Lexeme<'a>],
+) -> Result<((u32, u32), &'t [Lexeme<'a>]), Stop<'t, 'a>>
     ensures { Gives (λ x. (x.0, x.1.now)) result (first a_number tokens.now) }
 {
     match tokens {
@@ -141,7 +142,7 @@ pub fn number<'t, 'a>(
     }
 }
 
-pub fn least<'t, 'a>(tokens: &'t [Token<'a>]) -> Result<(u32, &'t [Token<'a>]), Stop<'t, 'a>>
+pub fn least<'t, 'a>(tokens: &'t [Lexeme<'a>]) -> Result<(u32, &'t [Lexeme<'a>]), Stop<'t, 'a>>
     ensures { Gives (λ x. (x.0, x.1.now)) result (first a_least tokens.now) }
 {
     match tokens {
@@ -150,35 +151,39 @@ pub fn least<'t, 'a>(tokens: &'t [Token<'a>]) -> Result<(u32, &'t [Token<'a>]), 
     }
 }
 
-/// The operator that a sign is.
-fn sign_operator(sign: &[u8]) -> Option<Op>
-    ensures { result ≡ op_of_sign sign.now }
-{
-    match sign {
-        b"*" => Some(Op::Mul),
-        b"/" => Some(Op::Div),
-        b"%" => Some(Op::Rem),
-        b"+" => Some(Op::Add),
-        b"-" => Some(Op::Sub),
-        b"<" => Some(Op::Lt),
-        b"<=" => Some(Op::Le),
-        b">" => Some(Op::Gt),
-        b">=" => Some(Op::Ge),
-        b"==" => Some(Op::Eq),
-        b"!=" => Some(Op::Ne),
-        b"&&" => Some(Op::And),
-        b"||" => Some(Op::Or),
-        _ => None,
-    }
-}
-
+/// The operator that a token is.
 #[tactic(auto, unfolding(crate::specs::Words::op_of))]
-fn operator_of(token: &Token) -> Option<Op>
+fn operator_of(token: &Lexeme) -> Option<Op>
     ensures { result ≡ op_of token.now }
 {
-    match token.kind {
-        TokenKind::Sign => sign_operator(token.text.as_bytes()),
-        TokenKind::Name | TokenKind::Word | TokenKind::Number(_) => None,
+    if token.is(Terminal::Star) {
+        Some(Op::Mul)
+    } else if token.is(Terminal::Slash) {
+        Some(Op::Div)
+    } else if token.is(Terminal::Percent) {
+        Some(Op::Rem)
+    } else if token.is(Terminal::Plus) {
+        Some(Op::Add)
+    } else if token.is(Terminal::Minus) {
+        Some(Op::Sub)
+    } else if token.is(Terminal::Less) {
+        Some(Op::Lt)
+    } else if token.is(Terminal::LessEqual) {
+        Some(Op::Le)
+    } else if token.is(Terminal::Greater) {
+        Some(Op::Gt)
+    } else if token.is(Terminal::GreaterEqual) {
+        Some(Op::Ge)
+    } else if token.is(Terminal::EqualTo) {
+        Some(Op::Eq)
+    } else if token.is(Terminal::NotEqual) {
+        Some(Op::Ne)
+    } else if token.is(Terminal::AndAnd) {
+        Some(Op::And)
+    } else if token.is(Terminal::OrOr) {
+        Some(Op::Or)
+    } else {
+        None
     }
 }
 
@@ -197,7 +202,7 @@ fn level(op: Op) -> u32
 }
 
 /// Whether an operator stands first.
-pub fn begins_any_operator(tokens: &[Token]) -> bool
+pub fn begins_any_operator(tokens: &[Lexeme]) -> bool
     ensures { result ≡ starts is_any_op tokens.now }
 {
     match tokens {
@@ -207,7 +212,7 @@ pub fn begins_any_operator(tokens: &[Token]) -> bool
 }
 
 /// Whether an operator of the level stands first.
-pub fn begins_operator(tokens: &[Token], levels: u32) -> bool
+pub fn begins_operator(tokens: &[Lexeme], levels: u32) -> bool
     ensures { result ≡ starts (is_op levels) tokens.now }
 {
     match tokens {
@@ -221,9 +226,9 @@ pub fn begins_operator(tokens: &[Token], levels: u32) -> bool
 
 /// Takes an operator of the level, and gives it and its offset.
 pub fn operator<'t, 'a>(
-    tokens: &'t [Token<'a>],
+    tokens: &'t [Lexeme<'a>],
     levels: u32,
-) -> Result<((Op, u32), &'t [Token<'a>]), Stop<'t, 'a>>
+) -> Result<((Op, u32), &'t [Lexeme<'a>]), Stop<'t, 'a>>
     ensures { Gives (λ x. (x.0, x.1.now)) result (first (an_op levels) tokens.now) }
 {
     match tokens {
@@ -235,30 +240,30 @@ pub fn operator<'t, 'a>(
     }
 }
 
-fn is_leaf(token: &Token) -> bool
+fn is_leaf(token: &Lexeme) -> bool
     ensures { result ≡ may_be_leaf token.now }
 {
     is_number_token(token)
-        || Terminal::True.matches(token)
-        || Terminal::False.matches(token)
-        || Terminal::Null.matches(token)
-        || Terminal::This.matches(token)
+        || token.is(Terminal::True)
+        || token.is(Terminal::False)
+        || token.is(Terminal::Null)
+        || token.is(Terminal::This)
         || is_name_token(token)
 }
 
 #[tactic(auto, unfolding(crate::specs::Expressions::begins_expression))]
-fn begins_expression_token(token: &Token) -> bool
+fn begins_expression_token(token: &Lexeme) -> bool
     ensures { result ≡ may_begin_expression token.now }
 {
-    Terminal::OpenParen.matches(token)
-        || Terminal::New.matches(token)
-        || Terminal::Bang.matches(token)
-        || Terminal::Minus.matches(token)
+    token.is(Terminal::OpenParen)
+        || token.is(Terminal::New)
+        || token.is(Terminal::Bang)
+        || token.is(Terminal::Minus)
         || is_leaf(token)
 }
 
 /// Whether a token that may begin an expression stands first.
-pub fn begins_expression(tokens: &[Token]) -> bool
+pub fn begins_expression(tokens: &[Lexeme]) -> bool
     ensures { result ≡ starts may_begin_expression tokens.now }
 {
     match tokens {
@@ -267,33 +272,31 @@ pub fn begins_expression(tokens: &[Token]) -> bool
     }
 }
 
-fn begins_local_token(token: &Token) -> bool
+fn begins_local_token(token: &Lexeme) -> bool
     ensures { result ≡ begins_local token.now }
 {
-    Terminal::Final.matches(token)
-        || Terminal::Int.matches(token)
-        || Terminal::Boolean.matches(token)
+    token.is(Terminal::Final) || token.is(Terminal::Int) || token.is(Terminal::Boolean)
 }
 
 #[tactic(auto, unfolding(crate::specs::Statements::begins_statement))]
-fn begins_statement_token(token: &Token, in_block: bool) -> bool
+fn begins_statement_token(token: &Lexeme, in_block: bool) -> bool
     ensures { result ≡ may_begin_statement in_block token.now }
 {
-    Terminal::OpenBrace.matches(token)
-        || Terminal::Semicolon.matches(token)
-        || Terminal::If.matches(token)
-        || Terminal::While.matches(token)
-        || Terminal::Synchronized.matches(token)
-        || Terminal::Return.matches(token)
-        || Terminal::System.matches(token)
-        || Terminal::New.matches(token)
-        || Terminal::OpenParen.matches(token)
+    token.is(Terminal::OpenBrace)
+        || token.is(Terminal::Semicolon)
+        || token.is(Terminal::If)
+        || token.is(Terminal::While)
+        || token.is(Terminal::Synchronized)
+        || token.is(Terminal::Return)
+        || token.is(Terminal::System)
+        || token.is(Terminal::New)
+        || token.is(Terminal::OpenParen)
         || is_leaf(token)
         || (in_block && begins_local_token(token))
 }
 
 /// Whether a token that may begin a statement stands first; in a block it may be a declaration.
-pub fn begins_statement(tokens: &[Token], in_block: bool) -> bool
+pub fn begins_statement(tokens: &[Lexeme], in_block: bool) -> bool
     ensures { result ≡ starts (may_begin_statement in_block) tokens.now }
 {
     match tokens {
@@ -303,7 +306,7 @@ pub fn begins_statement(tokens: &[Token], in_block: bool) -> bool
 }
 
 /// Whether a declaration may stand here and a token that begins one does.
-pub fn begins_declaration(tokens: &[Token], in_block: bool) -> bool
+pub fn begins_declaration(tokens: &[Lexeme], in_block: bool) -> bool
     ensures { result ≡ starts (λ x. in_block && begins_local x) tokens.now }
 {
     match tokens {
@@ -313,7 +316,7 @@ pub fn begins_declaration(tokens: &[Token], in_block: bool) -> bool
 }
 
 /// Whether a declaration may stand here and a second name says that it does.
-pub fn begins_second_name(tokens: &[Token], in_block: bool) -> bool
+pub fn begins_second_name(tokens: &[Lexeme], in_block: bool) -> bool
     ensures { result ≡ starts (λ x. in_block && is_name x) tokens.now }
 {
     match tokens {
@@ -323,11 +326,11 @@ pub fn begins_second_name(tokens: &[Token], in_block: bool) -> bool
 }
 
 /// Whether something stands before the closing brace.
-pub fn goes_on(tokens: &[Token]) -> bool
+pub fn goes_on(tokens: &[Lexeme]) -> bool
     ensures { result ≡ starts may_go_on tokens.now }
 {
     match tokens {
-        [token, ..] => !Terminal::CloseBrace.matches(token),
+        [token, ..] => !token.is(Terminal::CloseBrace),
         [] => false,
     }
 }

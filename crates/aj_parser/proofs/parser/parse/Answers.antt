@@ -1,7 +1,17 @@
-use Rattle.std.proofs.Common.{map}
-use Rattle.aj_syntax.specs.Views.{class_of}
-use Rattle.aj_parser.proofs.Whole.{named_right}
+use Rattle.std.proofs.Common.{◌∙◌, ℕ, IfOk, IsErrOf, subst}
+use Rattle.std.specs.List.{All, Contains}
+use Rattle.aj_syntax.specs.Faults.{IsUnexpected}
+use Rattle.aj_syntax.specs.Names.{names_of_program}
+use Rattle.aj_syntax.specs.Tokens.{name_token}
+use Rattle.aj_syntax.specs.Views.{program_of}
+use Rattle.aj_parser.specs.declared.faults.ParseFault.TheVariants as ParseFault
 use Rattle.aj_parser.proofs.parser.parse.Goals as goal
 
 pub returns-in-Ok-clause-names : goal.returns-in-Ok-clause-names
-returns-in-Ok-clause-names c = named_right c.args.tokens.now (map class_of c.in-Ok.classes.items) _ c.in-Ok.ensures
+returns-in-Ok-clause-names c =
+    subst (λ ts. IfOk c.read.result (λ program. All (λ n. Contains ts (name_token n)) (names_of_program (program_of program))))
+    (c.as_slice.ensures.value ∙ c.in-Ok.ensures) c.read.ensures.names
+
+pub returns-in-Ok-clause-unexpected : goal.returns-in-Ok-clause-unexpected
+returns-in-Ok-clause-unexpected c =
+    subst (λ ts. (place : ℕ) → IsErrOf c.read.result (ParseFault.Unexpected place) → IsUnexpected ts place) (c.as_slice.ensures.value ∙ c.in-Ok.ensures) c.read.ensures.unexpected

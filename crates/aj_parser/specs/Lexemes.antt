@@ -1,0 +1,69 @@
+-- The numbers of the terminals, by which the parser tells them apart.
+use Rattle.std.specs.Prelude.{◌≡◌, ℕ, ◌==◌, List, codes, if◌then◌else◌}
+use Rattle.std.specs.Str.{bytes_eq}
+use Rattle.aj_lexer.specs.declared.tokens.Token.{Token}
+use Rattle.aj_syntax.specs.declared.terminal.Terminal.{Terminal}
+use Rattle.aj_syntax.specs.declared.terminal.Terminal.TheVariants as T
+use Rattle.aj_syntax.specs.Tokens.{is}
+
+-- the number of a terminal
+abbrev pub rank_of : Terminal → ℕ
+rank_of T.Public = 0
+rank_of T.Class = 1
+rank_of T.Implements = 2
+rank_of T.Runnable = 3
+rank_of T.Final = 4
+rank_of T.GuardedBy = 5
+rank_of T.WriteGuardedBy = 6
+rank_of T.This = 7
+rank_of T.Atomic = 8
+rank_of T.Void = 9
+rank_of T.Requires = 10
+rank_of T.Int = 11
+rank_of T.Boolean = 12
+rank_of T.If = 13
+rank_of T.Else = 14
+rank_of T.While = 15
+rank_of T.Synchronized = 16
+rank_of T.Return = 17
+rank_of T.System = 18
+rank_of T.New = 19
+rank_of T.Thread = 20
+rank_of T.True = 21
+rank_of T.False = 22
+rank_of T.Null = 23
+rank_of T.Out = 24
+rank_of T.Println = 25
+rank_of T.Start = 26
+rank_of T.OpenParen = 27
+rank_of T.CloseParen = 28
+rank_of T.OpenBrace = 29
+rank_of T.CloseBrace = 30
+rank_of T.Semicolon = 31
+rank_of T.Comma = 32
+rank_of T.Dot = 33
+rank_of T.Assign = 34
+rank_of T.EqualTo = 35
+rank_of T.NotEqual = 36
+rank_of T.Less = 37
+rank_of T.LessEqual = 38
+rank_of T.Greater = 39
+rank_of T.GreaterEqual = 40
+rank_of T.Plus = 41
+rank_of T.Minus = 42
+rank_of T.Star = 43
+rank_of T.Slash = 44
+rank_of T.Percent = 45
+rank_of T.Bang = 46
+rank_of T.AndAnd = 47
+rank_of T.OrOr = 48
+
+-- a number that is a terminal's exactly where the token is that terminal's
+abbrev pub IsRank : Token → ℕ → Type 0
+IsRank x rank = (t : Terminal) → is t x ≡ (rank == rank_of t)
+
+-- the number of the terminal that a name is, by its text
+abbrev pub name_rank : List ℕ → ℕ
+name_rank text =
+    if bytes_eq text (codes "out") then rank_of T.Out else if bytes_eq text (codes "println") then rank_of T.Println
+    else if bytes_eq text (codes "start") then rank_of T.Start else 49
