@@ -6,7 +6,7 @@ ghost use Rattle.aj_core.specs.Locks.{path_of, get_path, leads_on};
 use crate::program::CoreProgram;
 use crate::tree::CoreExpr;
 use crate::types::CoreType;
-use aj_paths::{FieldId, Path, extend};
+use aj_paths::{FieldId, Path};
 
 /// The path of a lock expression; `None` exactly where the expression is none.
 pub fn path_of(program: &CoreProgram, e: &CoreExpr) -> Option<Path>
@@ -29,7 +29,9 @@ fn get_path(program: &CoreProgram, field: FieldId, receiver: Option<Path>) -> Op
     ensures { result ≡ get_path (program_of program.now) field receiver }
 {
     if leads_on(program, field) {
-        extend(&receiver?, &[field])
+        let mut path = receiver?;
+        path.fields.try_push(field).ok()?;
+        Some(path)
     } else {
         None
     }

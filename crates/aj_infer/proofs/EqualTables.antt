@@ -1,8 +1,7 @@
 -- The test for equal rows of basics is exact.
-use Rattle.std.proofs.Common.{◌≡◌, ◌==◌, Bool, true, List, refl, sym, ap, ◌∙◌}
+use Rattle.std.proofs.Common.{◌≡◌, ◌==◌, Bool, true, refl, sym, ap, ◌∙◌}
 use Rattle.std.specs.Bool.{Decides}
 use Rattle.std.proofs.lemmas.Bool.{eqb-true}
-use Rattle.std.proofs.lemmas.Slice.Eq.{slice_eq-Decides}
 use Rattle.aj_algebra.specs.declared.basic.Basic.{Basic}
 use Rattle.aj_algebra.specs.Basics.{rank_of}
 use Rattle.aj_algebra.specs.contracts.basic.BasicPartialEq.TheImpl as basics

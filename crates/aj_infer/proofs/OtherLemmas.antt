@@ -1,8 +1,7 @@
 -- After a rise the demands of the methods that don't call the risen one are met as they were, and its own is met.
 use Rattle.std.proofs.Common.{◌≡◌, ℕ, zero, suc, ◌<◌, Bool, true, false, ◌==◌, List, [], ◌∷◌, length, map, slice_get, slice_set, Some, None, refl, sym, ap, subst, ◌∙◌, arith, inl, inr, ◌⊎◌}
 use Rattle.std.specs.Prelude.{Option}
-use Rattle.std.proofs.lemmas.Bool.Decides.{nat_tests}
-use Rattle.std.proofs.lemmas.Bool.{and_from}
+use Rattle.std.proofs.lemmas.Bool.{and_from, eq-eqb}
 use Rattle.aj_paths.specs.Paths.{PathData}
 use Rattle.aj_algebra.specs.declared.basic.Basic.{Basic}
 use Rattle.aj_algebra.specs.declared.basic.Basic.TheVariants.{Const, Mover, Atomic, Cmpd, Error}
@@ -19,9 +18,6 @@ use Rattle.aj_infer.proofs.CellLemmas.{each_falls}
 
 not_true : (b : Bool) → b ≡ true → b ≡ false → ⊥
 not_true b e f = let k : true ≡ false = sym e ∙ f in absurd cc
-
-itself : (m : ℕ) → (m == m) ≡ true
-itself m = grind (arith, nat_tests)
 
 same_or : (k m : ℕ) → (k ≡ m) ⊎ (k ≡ m → ⊥)
 same_or zero zero = inl refl
@@ -76,7 +72,7 @@ module _ (P : Program) (rel : ℕ → List PathData) (tables : List (List Basic)
   ]
 
   assigned_same : (k : ℕ) → (k == m) ≡ false → (H : Held) → assigned rel tables k H ≡ assigned rel tables_now k H
-  assigned_same k differs H = ap (λ o. chosen (map H (rel k)) (table_of o)) (sym (table_same k (λ e. not_true (k == m) (subst (λ n. (k == n) ≡ true) e (itself k)) differs)))
+  assigned_same k differs H = ap (λ o. chosen (map H (rel k)) (table_of o)) (sym (table_same k (λ e. not_true (k == m) (subst (λ n. (k == n) ≡ true) e (eq-eqb k k refl)) differs)))
 
   -- what a method demands that doesn't call the risen one
   demands_same : (k : ℕ) (o : Option Method) → method_calls o m ≡ false → demands_of P rel (assigned rel tables) k o ≡ demands_of P rel (assigned rel tables_now) k o

@@ -1,5 +1,5 @@
 -- Rows of basics, one place more at a time.
-use Rattle.std.proofs.Common.{◌≡◌, ℕ, zero, suc, ◌+◌, ◌<◌, Bool, true, false, ◌&&◌, ◌||◌, List, [], ◌∷◌, ◌++◌, length, drop, get_or, slice_get, None, refl, sym, ap, subst, ◌∙◌, arith, append_assoc}
+use Rattle.std.proofs.Common.{◌≡◌, ℕ, zero, suc, ◌+◌, ◌<◌, ◌≤◌, Bool, true, false, ◌&&◌, ◌||◌, List, [], ◌∷◌, ◌++◌, length, length-append, drop, get_or, slice_get, None, refl, sym, ap, subst, ◌∙◌, arith, append_assoc}
 use Rattle.std.specs.Prelude.{Result, Ok, Err, OnOk}
 use Rattle.std.proofs.lemmas.List.Folds.{list_any-append}
 use Rattle.std.proofs.Math.Seq.{drop-append_seam}
@@ -7,6 +7,7 @@ use Rattle.std.proofs.Math.Numerals.{add-one}
 use Rattle.aj_paths.specs.Paths.{PathData, path_eq}
 use Rattle.aj_paths.proofs.PathOrder.{eq_is}
 use Rattle.aj_algebra.specs.declared.basic.Basic.{Basic}
+use Rattle.aj_algebra.specs.declared.basic.Basic.TheVariants.{Const}
 use Rattle.aj_algebra.specs.HeldPaths.{Held, has_path}
 use Rattle.aj_infer.specs.Cells.{at_parts, below_some, are_below, join_some, joined}
 
@@ -88,3 +89,16 @@ parts_repeated (Ok a) f old one two held paths rest p first paths_are has first_
     let parts = at_parts (λ qs. f (has_path qs)) held rest in
     repeated ∙ ap (λ n. one ++ drop n one) first_is ∙ ap (λ bs. bs ++ drop (length old) bs) one_is ∙ ap (λ bs. (old ++ parts) ++ bs) (drop-append_seam old parts) ∙ append_assoc old parts parts
     ∙ ap (λ bs. old ++ (parts ++ bs)) (parts_same f held (held ++ p ∷ []) rest λ q. sym (held_again held p q has)) ∙ ap (λ ps. old ++ at_parts (λ qs. f (has_path qs)) held ps) (sym paths_are)
+
+pub consts_longer : (old one : List Basic) (rest : List PathData) (first : ℕ) → first ≡ length old → ((held : List PathData) → one ≡ old ++ at_parts (λ qs. Const) held rest) → first ≤ length one
+consts_longer old one rest first first_is one_is = omega (arith, first_is, ap length (one_is []), length-append old (at_parts (λ qs. Const) [] rest))
+
+-- const at all parts, twice
+pub consts_repeated : {E : Type 0} (result : Result (Unit {0}) E) (old one two : List Basic) (paths rest : List PathData) (p : PathData) (first : ℕ) → paths ≡ p ∷ rest → first ≡ length old
+    → ((held : List PathData) → one ≡ old ++ at_parts (λ qs. Const) held rest) → OnOk result (two ≡ one ++ drop first one) → OnOk result ((held : List PathData) → two ≡ old ++ at_parts (λ qs. Const) held paths)
+consts_repeated (Err e) old one two paths rest p first paths_are first_is one_is repeated = repeated
+consts_repeated (Ok a) old one two paths rest p first paths_are first_is one_is repeated = λ held.
+    let parts = at_parts (λ qs. Const) held rest in
+    let others = at_parts (λ qs. Const) (held ++ p ∷ []) rest in
+    repeated ∙ ap (λ n. one ++ drop n one) first_is ∙ (let front = one_is held in let back = one_is (held ++ p ∷ []) in λ i. front i ++ drop (length old) (back i))
+    ∙ ap (λ bs. (old ++ parts) ++ bs) (drop-append_seam old others) ∙ append_assoc old parts others ∙ ap (λ ps. old ++ at_parts (λ qs. Const) held ps) (sym paths_are)

@@ -1,5 +1,5 @@
 -- The values of tables: what is read through the relevant paths themselves, and values one method at a time.
-use Rattle.std.proofs.Common.{◌≡◌, ℕ, zero, suc, ◌+◌, ◌-◌, ◌<◌, ◌≤◌, Bool, true, false, List, [], ◌∷◌, ◌++◌, length, map, slice_get, Some, None, refl, sym, ap, subst, ◌∙◌, arith, append_assoc, append-nil}
+use Rattle.std.proofs.Common.{◌≡◌, ℕ, zero, suc, ◌+◌, ◌-◌, ◌<◌, ◌≤◌, Bool, true, false, List, [], ◌∷◌, ◌++◌, length, map, slice_get, Some, None, refl, sym, ap, subst, ◌∙◌, arith, append_assoc}
 use Rattle.std.specs.Prelude.{Option, IfSome, nat_lt}
 use Rattle.std.proofs.lemmas.Bool.Decides.{nat_tests}
 use Rattle.std.proofs.lemmas.List.{length-append}
@@ -12,7 +12,7 @@ use Rattle.aj_algebra.specs.Values.{Keeps}
 use Rattle.aj_rules.specs.Effect.{Assignment}
 use Rattle.aj_infer.specs.Tables.{chosen, table_of, assigned}
 use Rattle.aj_infer.specs.Names.{held_partners}
-use Rattle.aj_infer.specs.Cells.{at_parts, table_in, tables_in}
+use Rattle.aj_infer.specs.Cells.{table_in, tables_in}
 use Rattle.aj_infer.specs.Verdicts.{AreKnown, basic_at, assignment_of}
 use Rattle.aj_infer.proofs.TableParts.{chosen_none}
 

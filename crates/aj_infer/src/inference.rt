@@ -16,6 +16,7 @@ use crate::bounds::Inferred;
 use crate::callers::callers_of;
 use crate::cells::{Cells, settle};
 use crate::judged::Judged;
+use crate::rows::repeat_from;
 use crate::table::{Table, pick, table_at};
 use aj_algebra::{Algebra, Basic};
 use aj_core::CoreProgram;
@@ -117,8 +118,9 @@ fn put_consts(paths: &[Path], basics: &mut Vec<Basic>) -> Result<(), NoMemory>
         basics.push(Basic::Const)?;
         return Ok(());
     };
+    let first = basics.len();
     put_consts(rest, basics)?;
-    put_consts(rest, basics)
+    repeat_from(basics, first)
 }
 
 /// The values of tables, method by method.

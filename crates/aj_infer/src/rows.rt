@@ -15,7 +15,7 @@ fn holds(paths: &[Path], path: &Path) -> bool
 }
 
 /// Adds once more what stands from a place on.
-fn repeat_from(row: &mut Vec<Basic>, first: usize) -> Result<(), NoMemory>
+pub(crate) fn repeat_from(row: &mut Vec<Basic>, first: usize) -> Result<(), NoMemory>
     requires { first ≤ length row.old.items }
     ensures { OnOk result (row.new.items ≡ row.old.items ++ drop first row.old.items) }
 {
@@ -83,7 +83,7 @@ fn basic_at(table: &[Basic], place: usize) -> Option<Basic>
 pub(crate) fn joined(alloc: Global, row: &[Basic], table: &[Basic]) -> Result<Vec<Basic>, NoMemory>
     ensures { IfOk result (λ greater. greater.items ≡ joined row.now table.now) }
 {
-    let mut greater = Vec::new(alloc);
+    let mut greater = Vec::with_capacity(alloc, row.len())?;
     for (place, basic) in row.iter().enumerate() {
         greater.push(greater_of(*basic, basic_at(table, place)))?;
     }

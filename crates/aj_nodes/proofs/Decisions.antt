@@ -5,7 +5,7 @@ use Rattle.std.specs.List.{list_any}
 use Rattle.std.proofs.lemmas.List.{map-append}
 use Rattle.std.proofs.lemmas.Option.{slice_get_within, slice_get-map}
 use Rattle.indexmap.specs.IndexSet.{insert_key}
-use Rattle.aj_paths.specs.Paths.{path_eq}
+use Rattle.aj_paths.specs.Paths.{PathData, path_eq}
 use Rattle.aj_algebra.specs.declared.basic.Basic.TheVariants.{Const, Mover, Atomic, Cmpd, Error}
 use Rattle.aj_paths.proofs.PathOrder.{eq_is, eq_itself}
 use Rattle.aj_cond.specs.Conditions.{TestC, IsCanonical}
@@ -111,6 +111,19 @@ item_at ds old d n k view table e at =
     ap (slice_get old) (e ∙ sym (five_more k)) ∙ ap (λ is. slice_get is (suc (suc (suc (suc (suc k)))))) (sym view) ∙ slice_get-map test_of ds k ∙ ap (option_map test_of) at in
     let old_table = subst IsTable view table in
     (got old n (test_of d) old_table there, old_table.before n (test_of d) there)
+
+-- the number of a decision that a hint tells
+pub hinted : (ds : List Decision) (now : List Item) (d : Decision) (p : PathData) (held free at : ℕ) → items_of ds ≡ now → IsTable (items_of ds) → slice_get ds at ≡ Some d
+    → d.held ≡ held → d.free ≡ free → d.path ≡ p → Stands now (5 + at) (TestC p (tree_at now held) (tree_at now free))
+hinted ds now d p held free at view table told held_is free_is path_is =
+    let there : slice_get now (suc (suc (suc (suc (suc at))))) ≡ Some (test_of d) =
+    ap (λ is. slice_get is (suc (suc (suc (suc (suc at)))))) (sym view) ∙ slice_get-map test_of ds at ∙ ap (option_map test_of) told in
+    subst (λ m. Stands now m (TestC p (tree_at now held) (tree_at now free))) (five_more at)
+    record {
+      there = slice_get_within now (suc (suc (suc (suc (suc at))))) (test_of d) there;
+      tree = got now (suc (suc (suc (suc (suc at))))) (test_of d) (subst IsTable view table) there
+          ∙ (λ i. TestC (path_is i) (tree_at now (held_is i)) (tree_at now (free_is i)));
+    }
 
 pub at_most_one : (b : Bool) → (if b then 1 else 0) ≤ 1
 at_most_one true = omega arith

@@ -1,8 +1,9 @@
 -- Results that are kept: they stay right while the list grows, and the one that is found is that of the call.
-use Rattle.std.proofs.Common.{◌≡◌, ◌==◌, ◌&&◌, cond, ℕ, Bool, true, false, List, [], ◌∷◌, Option, Some, IfSome, refl, sym, ◌∙◌, ap, subst, arith, eqb-true, if◌then◌else◌}
+use Rattle.std.proofs.Common.{◌≡◌, ◌==◌, ◌&&◌, cond, ℕ, Bool, true, false, List, [], ◌∷◌, Option, Some, None, IfSome, zero, suc, slice_get, refl, sym, ◌∙◌, ap, subst, arith, eqb-true, if◌then◌else◌}
 use Rattle.std.specs.Cmp.{first_so, second_so}
 use Rattle.indexmap.specs.IndexMap.{insert_entry}
 use Rattle.std.specs.Map.{lookup}
+use Rattle.std.proofs.lemmas.Option.{same_Some}
 use Rattle.aj_paths.specs.Paths.{path_eq}
 use Rattle.aj_paths.proofs.PathOrder.{eq_is}
 use Rattle.aj_cond.specs.Conditions.{Cond}
@@ -125,3 +126,20 @@ found is es x are = kept_found same (IsResult is) (λ y z m told. subst (λ w. I
 
 pub remembered : (is now : List Item) (es : List (Call × ℕ)) (x : Call) (o : Option ℕ) → is ≡ now → AreResults is es → o ≡ lookup (same x) es → IfSome o (λ n. IsResult now x n)
 remembered is now es x o view are told = subst (λ k. IfSome o (λ n. IsResult k x n)) view (subst (λ p. IfSome p (λ n. IsResult is x n)) (sym told) (found is es x are))
+
+kept_at : {K : Type 0} (Is : K → ℕ → Type 0) (es : List (K × ℕ)) (x : K) (n at : ℕ) → AreKept Is es → slice_get es at ≡ Some (x, n) → Is x n
+kept_at Is [] x n at are told = absurd (let h : None ≡ Some (x, n) = told in cc)
+kept_at Is (e ∷ es) x n zero are told = subst (λ (p : _ × ℕ). Is p.0 p.1) (same_Some e (x, n) told) are.0
+kept_at Is (e ∷ es) x n (suc at) are told = kept_at Is es x n at are.1 told
+
+-- the result that a hint tells
+pub hinted : (is now : List Item) (es : List (Call × ℕ)) (x y : Call) (n at : ℕ) → is ≡ now → AreResults is es → slice_get es at ≡ Some (y, n) → same y x ≡ true → IsResult now x n
+hinted is now es x y n at view are told test =
+    subst (λ k. IsResult k x n) view (subst (λ w. IsResult is w n) (call_is y x test) (kept_at (IsResult is) es y n at are told))
+
+-- the same of a call of two basics, told by its parts
+pub hinted_both : (is now : List Item) (es : List (Call × ℕ)) (x : Call) (f g : Pair) (m n a b r at : ℕ) → is ≡ now → AreResults is es → slice_get es at ≡ Some (x, r) → x ≡ Both g a b
+    → pairs.eq-value.it g f ≡ true → a ≡ m → b ≡ n → IsResult now (Both f m n) r
+hinted_both is now es x f g m n a b r at view are told x_is test a_is b_is =
+    let first = pair_is g f test in
+    subst (λ k. IsResult k (Both f m n) r) view (subst (λ w. IsResult is w r) (x_is ∙ (λ i. Both (first i) (a_is i) (b_is i))) (kept_at (IsResult is) es x r at are told))

@@ -25,7 +25,7 @@ use Rattle.aj_nodes.specs.Calls.{single_of, pair_of, call_tree, AreThere, IsComb
 use Rattle.aj_nodes.proofs.Memo.{call_on, there_on, stands_on}
 
 -- a test of two numbers that differ is a test
-node_apart : (is : List Item) (p : PathData) (m n : ℕ) → IsTable is → m < length is → n < length is → (m ≡ n → ⊥) → node p (tree_at is m) (tree_at is n) ≡ TestC p (tree_at is m) (tree_at is n)
+pub node_apart : (is : List Item) (p : PathData) (m n : ℕ) → IsTable is → m < length is → n < length is → (m ≡ n → ⊥) → node p (tree_at is m) (tree_at is n) ≡ TestC p (tree_at is m) (tree_at is n)
 node_apart is p m n table m_there n_there differ = by (cond_eq (tree_at is m) (tree_at is n)) refl
   where
     by : (b : Bool) → cond_eq (tree_at is m) (tree_at is n) ≡ b → node p (tree_at is m) (tree_at is n) ≡ TestC p (tree_at is m) (tree_at is n)

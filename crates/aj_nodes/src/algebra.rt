@@ -21,15 +21,15 @@ impl Algebra for NodeTable {
     }
 
     fn held_or(&mut self, _alloc: Global, p: &Path, a: &Node, b: &Node) -> Result<Node, NoMemory> {
-        Ok(Node(self.hold(p, a.0, b.0)?))
+        Ok(Node(self.choice(p, a.0, b.0)?))
     }
 
     fn seq(&mut self, _alloc: Global, a: &Node, b: &Node) -> Result<Node, NoMemory> {
-        Ok(Node(self.both(Pair::Seq, a.0, b.0)?))
+        Ok(Node(self.pair(Pair::Seq, a.0, b.0)?))
     }
 
     fn join(&mut self, _alloc: Global, a: &Node, b: &Node) -> Result<Node, NoMemory> {
-        Ok(Node(self.both(Pair::Join, a.0, b.0)?))
+        Ok(Node(self.pair(Pair::Join, a.0, b.0)?))
     }
 
     fn star(&mut self, _alloc: Global, a: &Node) -> Result<Node, NoMemory> {

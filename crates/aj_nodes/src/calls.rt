@@ -1,7 +1,8 @@
 //! Calls on nodes, by which results are found again.
-ghost use Rattle.std.specs.Prelude.{◌≡◌, IfOk};
+ghost use Rattle.std.specs.Prelude.{◌≡◌, ◌<◌, IfOk};
 ghost use Rattle.aj_nodes.specs.Calls.{single_of, pair_of};
 
+use crate::rows::{hint_at, number_of};
 use aj_algebra::Basic;
 use aj_paths::Path;
 use std::alloc::{AllocError as NoMemory, Global};
@@ -34,6 +35,30 @@ pub(crate) enum Call {
 pub(crate) struct Renamed {
     pub(crate) pairs: Vec<(Path, Option<Path>)>,
     pub(crate) node: usize,
+}
+
+/// Which hint is that of a call of two basics.
+#[inline(always)]
+pub(crate) fn hint_of_both(f: Pair, m: usize, n: usize) -> usize
+    ensures { result < 256 }
+{
+    match f {
+        Pair::Seq => hint_at(0, m, n),
+        Pair::Join => hint_at(2, m, n),
+    }
+}
+
+/// Which hint is that of a call.
+#[inline(always)]
+pub(crate) fn hint_of(call: &Call) -> usize
+    ensures { result < 256 }
+{
+    match call {
+        Call::Each(_, n) => hint_at(1, *n, 0),
+        Call::Both(f, m, n) => hint_of_both(*f, *m, *n),
+        Call::HeldOr(p, m, n) => hint_at(number_of(p), *m, *n),
+        Call::Sync(p, n) => hint_at(number_of(p), *n, 3),
+    }
 }
 
 // A copy of a path that may be missing.

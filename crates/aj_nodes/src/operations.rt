@@ -45,6 +45,27 @@ impl NodeTable {
         }
     }
 
+    /// The basics of two numbers joined by a call, which is told in place where `Const` is one of them or a hint tells it.
+    #[inline(always)]
+    pub(crate) fn pair(&mut self, f: Pair, m: usize, n: usize) -> Result<usize, NoMemory>
+        requires m_there { m < length self.old }
+        requires n_there { n < length self.old }
+        ensures stands { IfOk result (λ r. Stands self.new r (both_leaves (pair_of f) (tree_at self.old m) (tree_at self.old n))) }
+        ensures grows { Grows self.old self.new }
+    {
+        let unit = self.number(Basic::Const);
+        if m == unit {
+            return Ok(n);
+        }
+        if n == unit {
+            return Ok(m);
+        }
+        if let Some(known) = self.both_before(f, m, n) {
+            return Ok(known);
+        }
+        self.both(f, m, n)
+    }
+
     /// The basics of two numbers joined by a call. `Const` before or after the other changes nothing.
     pub(crate) fn both(&mut self, f: Pair, m: usize, n: usize) -> Result<usize, NoMemory>
         requires m_there { m < length self.old }
@@ -59,18 +80,35 @@ impl NodeTable {
         if n == unit {
             return Ok(m);
         }
+        if let (Some(x), Some(y)) = (self.basic_of(m), self.basic_of(n)) {
+            return Ok(self.number(call_two(f, x, y)));
+        }
+        let call = Call::Both(f, m, n);
+        if let Some(known) = self.remembered(&call) {
+            return Ok(known);
+        }
         match self.split(m, n) {
             Split::Leaves(x, y) => Ok(self.number(call_two(f, x, y))),
             Split::Tests(p, a, b, c, d) => {
-                let call = Call::Both(f, m, n);
-                if let Some(known) = self.remembered(&call) {
-                    return Ok(known);
-                }
                 let held = self.both(f, a, c)?;
                 let free = self.both(f, b, d)?;
                 self.combine(call, &p, held, free)
             }
         }
+    }
+
+    /// The first where the path is held, else the second. Of two basics it is told in place.
+    #[inline(always)]
+    pub(crate) fn choice(&mut self, p: &Path, m: usize, n: usize) -> Result<usize, NoMemory>
+        requires m_there { m < length self.old }
+        requires n_there { n < length self.old }
+        ensures stands { IfOk result (λ r. Stands self.new r (hold p.now (tree_at self.old m) (tree_at self.old n))) }
+        ensures grows { Grows self.old self.new }
+    {
+        if let (Some(_), Some(_)) = (self.basic_of(m), self.basic_of(n)) {
+            return self.node(p, m, n);
+        }
+        self.hold(p, m, n)
     }
 
     /// The first where the path is held, else the second.

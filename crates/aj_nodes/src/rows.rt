@@ -1,5 +1,5 @@
 //! Nodes in one list. Equal trees have one number.
-ghost use Rattle.std.specs.Prelude.{◌≡◌, ◌<◌, [], length, IfOk};
+ghost use Rattle.std.specs.Prelude.{◌≡◌, ◌<◌, [], length, IfOk, IfSome};
 ghost use Rattle.aj_cond.specs.Conditions.{LeafC, TestC, IsCanonical};
 ghost use Rattle.aj_cond.specs.Operations.{node};
 ghost use Rattle.aj_nodes.specs.Nodes.{items_of, test_of, tree_at, item_tree, AreBefore, IsTable, Grows, Stands};
@@ -29,10 +29,15 @@ pub(crate) struct Decision {
 /// The number of the first decision: the five basics come before.
 pub(crate) const BASICS: usize = 5;
 
-/// A list of nodes. The five basics have the first numbers and take no memory.
+/// How many hints a table has.
+pub(crate) const HINTS: usize = 256;
+
+/// A list of nodes. The five basics have the first numbers and take no memory. A hint tells where a decision may stand
+/// in the list, so that one which was asked for lately is found without a search.
 #[derive(Drop)]
 pub(crate) struct Rows {
     decisions: IndexSet<Decision>,
+    hints: [usize; HINTS],
 }
 
 impl Model for Rows {
@@ -54,6 +59,7 @@ impl Rows {
     {
         Rows {
             decisions: IndexSet::new(alloc),
+            hints: [0; HINTS],
         }
     }
 
@@ -76,6 +82,22 @@ impl Rows {
             Basic::Atomic => 2,
             Basic::Cmpd => 3,
             Basic::Error => 4,
+        }
+    }
+
+    /// The basic that a number stands for, where it is one.
+    pub(crate) fn basic_of(&self, n: usize) -> Option<Basic>
+        ensures basic { IfSome result (λ b. tree_at self.now n ≡ LeafC b) }
+        ensures table { IsTable self.now }
+    {
+        let _ = &self.decisions;
+        match n {
+            0 => Some(Basic::Const),
+            1 => Some(Basic::Mover),
+            2 => Some(Basic::Atomic),
+            3 => Some(Basic::Cmpd),
+            4 => Some(Basic::Error),
+            _ => None,
         }
     }
 
@@ -108,15 +130,39 @@ impl Rows {
         if held == free {
             return Ok(held);
         }
-        self.add(Decision {
-            path: p.copy(),
-            held,
-            free,
-        })
+        let hint = hint_at(number_of(p), held, free);
+        if let Some(known) = self.hinted(hint, p, held, free) {
+            return Ok(known);
+        }
+        self.add(
+            hint,
+            Decision {
+                path: p.copy(),
+                held,
+                free,
+            },
+        )
     }
 
-    // The number of a decision, which is found or added.
-    fn add(&mut self, decision: Decision) -> Result<usize, NoMemory>
+    // The number of a test, where the hint tells it.
+    fn hinted(&self, hint: usize, p: &Path, held: usize, free: usize) -> Option<usize>
+        requires { hint < 256 }
+        ensures stands { IfSome result (λ n. Stands self.now n (TestC p.now (tree_at self.now held) (tree_at self.now free))) }
+        ensures table { IsTable self.now }
+    {
+        let at = self.hints[hint];
+        let _len = self.decisions.len();
+        let decision = self.decisions.get_index(at)?;
+        if decision.held == held && decision.free == free && decision.path.same(p) {
+            Some(BASICS + at)
+        } else {
+            None
+        }
+    }
+
+    // The number of a decision, which is found or added. The hint tells it from now on.
+    fn add(&mut self, hint: usize, decision: Decision) -> Result<usize, NoMemory>
+        requires hint { hint < 256 }
         requires held_there { decision.held < length self.old }
         requires free_there { decision.free < length self.old }
         requires canonical { IsCanonical (TestC decision.path (tree_at self.old decision.held) (tree_at self.old decision.free)) }
@@ -125,8 +171,32 @@ impl Rows {
     {
         let _len = self.decisions.len();
         let (n, _) = self.decisions.insert_full(decision)?;
+        self.hints[hint] = n;
         Ok(BASICS + n)
     }
+}
+
+/// A number of a path, by which it has a hint.
+#[inline(always)]
+pub(crate) fn number_of(p: &Path) -> usize {
+    let root = p.root as usize;
+    match p.fields.as_slice().last() {
+        Some(field) => root
+            .wrapping_add(8)
+            .wrapping_add((field.0 as usize).wrapping_mul(16)),
+        None => root,
+    }
+}
+
+/// Which hint is that of three numbers.
+#[inline(always)]
+pub(crate) fn hint_at(first: usize, second: usize, third: usize) -> usize
+    ensures { result < 256 }
+{
+    first
+        .wrapping_add(second.wrapping_mul(29))
+        .wrapping_add(third.wrapping_mul(47))
+        % HINTS
 }
 
 // A decision as an item.

@@ -6,11 +6,12 @@ ghost use Rattle.aj_cond.specs.Operations.{node, below_tree, rename_tree};
 ghost use Rattle.aj_nodes.specs.Nodes.{items_of, tree_at, item_tree, AreBefore, IsTable, Grows, Stands};
 ghost use Rattle.aj_nodes.specs.Halving.{IsSplit};
 ghost use Rattle.aj_nodes.specs.Shown.{IsThere, AreThere, node_value, trees_at};
+ghost use Rattle.aj_nodes.specs.declared.calls.Call.TheVariants.{Both};
 ghost use Rattle.aj_nodes.specs.Calls.{call_tree, IsResult, IsRenamed, AreRenamed, IsCombined};
 
-use crate::calls::{Call, Renamed};
+use crate::calls::{Call, Pair, Renamed, hint_of, hint_of_both};
 use crate::halves::Split;
-use crate::rows::{Item, Rows};
+use crate::rows::{HINTS, Item, Rows};
 use aj_algebra::Basic;
 use aj_cond::Tree;
 use aj_paths::Path;
@@ -22,11 +23,13 @@ use std::marker::Model;
 #[derive(Clone, Copy, Debug, PartialEq, Eq, Hash)]
 pub struct Node(pub(crate) usize);
 
-/// Shared nodes: each conditional atomicity has one number, and what calls gave is kept.
+/// Shared nodes: each conditional atomicity has one number, and what calls gave is kept. A hint tells where a call may
+/// stand among those, so that one which was made lately is found without a search.
 #[derive(Drop)]
 pub struct NodeTable {
     pub(crate) rows: Rows,
     calls: IndexMap<Call, usize>,
+    hints: [usize; HINTS],
     renamings: IndexMap<Renamed, usize>,
 }
 
@@ -50,6 +53,7 @@ impl NodeTable {
         NodeTable {
             rows: Rows::new(alloc),
             calls: IndexMap::new(alloc),
+            hints: [0; HINTS],
             renamings: IndexMap::new(alloc),
         }
     }
@@ -115,6 +119,14 @@ impl NodeTable {
         self.rows.leaf(b)
     }
 
+    /// The basic that a number stands for, where it is one.
+    pub(crate) fn basic_of(&self, n: usize) -> Option<Basic>
+        ensures basic { IfSome result (λ b. tree_at self.now n ≡ LeafC b) }
+        ensures table { IsTable self.now }
+    {
+        self.rows.basic_of(n)
+    }
+
     /// What a number stands for.
     pub(crate) fn item(&self, n: usize) -> Item
         requires { n < length self.now }
@@ -169,7 +181,23 @@ impl NodeTable {
     pub(crate) fn remembered(&self, call: &Call) -> Option<usize>
         ensures { IfSome result (λ n. IsResult self.now call.now n) }
     {
+        if let Some((known, n)) = self.calls.get_index(self.hints[hint_of(call)]) {
+            if known == call {
+                return Some(*n);
+            }
+        }
         self.calls.get(call).copied()
+    }
+
+    /// What a call of two basics gave, where a hint tells it.
+    #[inline(always)]
+    pub(crate) fn both_before(&self, f: Pair, m: usize, n: usize) -> Option<usize>
+        ensures { IfSome result (λ r. IsResult self.now (Both f m n) r) }
+    {
+        match self.calls.get_index(self.hints[hint_of_both(f, m, n)]) {
+            Some((Call::Both(g, a, b), known)) if *g == f && *a == m && *b == n => Some(*known),
+            _ => None,
+        }
     }
 
     // Keeps what a call gave.
@@ -177,7 +205,9 @@ impl NodeTable {
         requires { IsResult self.old call n }
         ensures { self.new ≡ self.old }
     {
-        self.calls.insert(call, n)?;
+        let hint = hint_of(&call);
+        let (at, _) = self.calls.insert_full(call, n)?;
+        self.hints[hint] = at;
         Ok(())
     }
 

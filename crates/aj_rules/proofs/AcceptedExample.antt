@@ -7,7 +7,7 @@ use Rattle.aj_paths.specs.Renamings.{under_call}
 use Rattle.aj_paths.proofs.PathOrder.{eq_is, eq_itself}
 use Rattle.aj_algebra.specs.HeldPaths.{has_path}
 use Rattle.aj_algebra.specs.declared.basic.Basic.TheVariants.{Mover, Atomic}
-use Rattle.aj_core.specs.Core.{Program, Method, Expr, Exprs, ThisE, no_exprs}
+use Rattle.aj_core.specs.Core.{Method, Expr, Exprs, ThisE, no_exprs}
 use Rattle.aj_core.specs.Locks.{path_of}
 use Rattle.aj_core.specs.Examples.{counter, this_path, inc_body, run_body, main_body}
 use Rattle.aj_core.proofs.ExampleProofs.{EachFrom, each}

@@ -11,6 +11,9 @@ use crate::clauses::{Clause, Link, Place};
 use aj_paths::{MethodId, Path, extend};
 use std::alloc::{AllocError as NoMemory, Global};
 
+/// How many paths a list has at most which is read from its front. No method of a well-formed program has more.
+const SHORT: usize = 16;
+
 /// For each method the near paths found so far, ascending, and all places in the order in which they were found.
 #[derive(Drop)]
 struct Family {
@@ -119,13 +122,23 @@ fn facts_of(alloc: Global, clauses: &[Clause]) -> Result<Family, NoMemory>
     Ok(family)
 }
 
-/// Puts a path at its place in an ascending list. Answers false where the list has it already.
+/// Whether the list has the path.
+fn has(paths: &[Path], path: &Path) -> bool
+    ensures { result ≡ has_path paths.now path.now }
+{
+    paths.iter().any(|other| other.same(path))
+}
+
+/// Puts a path at its place in an ascending list. A short list is first read from its front. Answers false where the list has it already.
 fn insert(paths: &mut Vec<Path>, path: &Path) -> Result<bool, NoMemory>
     requires { IsStrictlySortedBy path_order paths.old.items }
     ensures ascends { OnOk result (IsStrictlySortedBy path_order paths.new.items) }
     ensures is_new { IfOk result (λ is_new. is_new ≡ not (has_path paths.old.items path.now)) }
     ensures paths { OnOk result ((q : PathData) → has_path paths.new.items q ≡ (path_eq path.now q || has_path paths.old.items q)) }
 {
+    if paths.len() <= SHORT && has(paths.as_slice(), path) {
+        return Ok(false);
+    }
     match paths.binary_search(path) {
         Ok(_) => Ok(false),
         Err(at) => {
@@ -142,20 +155,20 @@ impl Family {
         ensures { OnOk result (Grows self.old.queue.items (λ x. clause.now ≡ Clause.Fact x) (rows_of self.new.near.items) self.new.queue.items) }
     {
         match clause {
-            Clause::Fact(place) => self.put(alloc, place.copy()),
+            Clause::Fact(place) => self.put(alloc, place),
             Clause::Leads(_) => Ok(()),
         }
     }
 
     /// One more place, if it isn't known.
-    fn put(&mut self, alloc: Global, place: Place) -> Result<(), NoMemory>
+    fn put(&mut self, alloc: Global, place: &Place) -> Result<(), NoMemory>
         requires { Agree (rows_of self.old.near.items) self.old.queue.items }
-        ensures { OnOk result (Grows self.old.queue.items (λ x. x ≡ place) (rows_of self.new.near.items) self.new.queue.items) }
+        ensures { OnOk result (Grows self.old.queue.items (λ x. x ≡ place.now) (rows_of self.new.near.items) self.new.queue.items) }
     {
         let method = number(place.method);
         grow(alloc, &mut self.near, method + 1)?;
         if insert(&mut self.near[method], &place.path)? {
-            self.queue.push(place)?;
+            self.queue.push(place.copy())?;
         }
         Ok(())
     }
@@ -167,13 +180,13 @@ impl Family {
     {
         match led_path(link, place) {
             None => Ok(()),
-            Some(path) => self.put(
-                alloc,
-                Place {
+            Some(path) => {
+                let place = Place {
                     method: link.to,
                     path,
-                },
-            ),
+                };
+                self.put(alloc, &place)
+            }
         }
     }
 

@@ -1,6 +1,13 @@
-use Rattle.std.proofs.Common.{sym, ap, not}
+use Rattle.std.proofs.Common.{sym, ◌∙◌, ap, not}
+use Rattle.aj_algebra.specs.HeldPaths.{has_path}
 use Rattle.aj_rules.proofs.PathLists.{found_has, has_already, missing_ascends, missing_has, missing_is}
 use Rattle.aj_rules.proofs.search.insert.Goals as goal
+
+pub returns-then-has-clause-is_new : goal.returns-then-has-clause-is_new
+returns-then-has-clause-is_new c = ap not (sym (ap (λ l. has_path l c.args.path.now) (sym c.as_slice.ensures.value) ∙ sym c.has.ensures ∙ c.if-has.true))
+
+pub returns-then-has-clause-paths : goal.returns-then-has-clause-paths
+returns-then-has-clause-paths c = has_already c.args.path.now c.args.paths.now.items (ap (λ l. has_path l c.args.path.now) (sym c.as_slice.ensures.value) ∙ sym c.has.ensures ∙ c.if-has.true)
 
 pub returns-in-Ok-clause-is_new : goal.returns-in-Ok-clause-is_new
 returns-in-Ok-clause-is_new c = ap not (sym (found_has c.args.path.now c.deref.result.now c.args.paths.now.items c.in-Ok.field-0 c.deref.ensures.value c.in-Ok.ensures.bound c.in-Ok.ensures.ok))

@@ -6,7 +6,7 @@ use Rattle.aj_nodes.proofs.algebra.NodeTableAlgebra.seq.Goals as goal
 
 pub returns-clause-value : goal.returns-clause-value
 returns-clause-value c =
-    let f = c.in_ok-both.ensures in
+    let f = c.in_ok-pair.ensures in
     let old = c.args.self.now in
-    value_by c.both.new.self c.in_ok-both.field-0 _ _ f.stands
+    value_by c.pair.new.self c.in_ok-pair.field-0 _ _ f.stands
     (both-is seq_of (tree_at old c.args.a.now.0) (tree_at old c.args.b.now.0) (f.grows.was.canonical c.args.a.now.0 c.requires.a_known) (f.grows.was.canonical c.args.b.now.0 c.requires.b_known))
