@@ -162,7 +162,7 @@ found_same n m t l a b r s e =
     equal : (y z : (ℕ × List ℕ × List ℕ) × List ℕ) → (let p : Res (ℕ × List ℕ × List ℕ) = Ok y in p ≡ Ok z) → y ≡ z
     equal y z h = cc
 
-book_by : (ts : List ℕ) (n : ℕ) (table lines r : List ℕ) (trees : List Cond) (ls : List Line) → count_at ts ≡ Ok (n, table) → exactly n table_line table ≡ Ok (trees, lines) →
+pub book_by : (ts : List ℕ) (n : ℕ) (table lines r : List ℕ) (trees : List Cond) (ls : List Line) → count_at ts ≡ Ok (n, table) → exactly n table_line table ≡ Ok (trees, lines) →
     lines_at n lines ≡ Ok (ls, r) → book_at ts ≡ Ok (record { table = trees; lines = ls }, r)
 unfolding book_at
 book_by ts n table lines r trees ls c t l = rw (c, t, l) refl

@@ -1,5 +1,5 @@
 -- Parts of a book that are built one after another, each from the front of what is still to come.
-use Rattle.std.proofs.Common.{◌≡◌, ℕ, ◌<◌, ◌^◌, true, false, List, [], ◌∷◌, ◌++◌, map, length, codes, Ok, Err, refl, sym, ◌∙◌, ap, subst, arith, append-nil}
+use Rattle.std.proofs.Common.{◌≡◌, ℕ, ◌<◌, ◌≤◌, ◌^◌, true, false, List, [], ◌∷◌, ◌++◌, map, length, codes, Ok, Err, refl, sym, ◌∙◌, ap, arith, append-nil}
 use Rattle.std.proofs.lemmas.List.{map-append}
 use Rattle.aj_cond.specs.Conditions.{cond_of}
 use Rattle.aj_cond.specs.declared.tree.Tree.{Tree}
@@ -8,16 +8,18 @@ use Rattle.aj_deriv.specs.declared.derivation.Derivation.{Derivation}
 use Rattle.aj_deriv.specs.declared.word.Word.{Word}
 use Rattle.aj_deriv.specs.Derivations.{Node, node, and_node, nodes_from}
 use Rattle.aj_deriv.specs.Books.{Line, Book}
-use Rattle.aj_deriv.specs.Texts.{newline}
-use Rattle.aj_deriv.specs.Combine.{Res, begins, several}
+use Rattle.aj_deriv.specs.Texts.{newline, book_text, IsTextOf}
+use Rattle.aj_deriv.specs.Combine.{Res, begins, exactly, several}
 use Rattle.aj_deriv.specs.Memory.{book_of, line_of, node_of, nodes_at}
-use Rattle.aj_deriv.specs.Reading.{line_at, node_at, premise_with}
-use Rattle.aj_deriv.specs.Views.{after_those, IsCursorAt, IsReadAs}
-use Rattle.aj_deriv.proofs.BookLaws.{complete_several}
+use Rattle.aj_deriv.specs.Passing.{pass_table}
+use Rattle.aj_deriv.specs.Reading.{count_at, line_at, lines_at, node_at, premise_with, table_line}
+use Rattle.aj_deriv.specs.Views.{after_those, plain_line, IsCursorAt, IsReadAs}
+use Rattle.aj_deriv.proofs.BookLaws.{book_by, complete_several, found_text, ok_value, pass_table-is, Found}
+use Rattle.aj_deriv.proofs.CursorLaws.{lines_end}
 use Rattle.aj_deriv.proofs.PassBooks.{line_shorter}
 use Rattle.aj_deriv.proofs.PassLemmas.{premise_takes}
-use Rattle.aj_deriv.proofs.Several.{Takes, several_done, several_more}
-use Rattle.aj_deriv.proofs.TableLaws.{lines_wider, moved, read_same}
+use Rattle.aj_deriv.proofs.Several.{Takes, several_done, several_more, unseen}
+use Rattle.aj_deriv.proofs.TableLaws.{exactly_plain, lines_wider, moved, read_same}
 
 -- one item more
 item_pushed : {T A : Type 0} (f : T → A) (byte : ℕ) (item : List ℕ → Res A) → Takes item → (old new : List T) (t : T) (rest behind : List ℕ) →
@@ -40,21 +42,21 @@ started (Err e) = refl
 
 -- premises
 
-pub premise_pushed : (room : ℕ) (old new : List Derivation) (d : Derivation) (text rest behind : List ℕ) →
-    several 32 (premise_with (node_at (2 ^ 32) room)) text ≡ after_those (map node_of old) (several 32 (premise_with (node_at (2 ^ 32) room)) rest) → begins 32 rest ≡ true →
-    premise_with (node_at (2 ^ 32) room) rest ≡ Ok (node_of d, behind) → new ≡ old ++ (d ∷ []) →
-    several 32 (premise_with (node_at (2 ^ 32) room)) text ≡ after_those (map node_of new) (several 32 (premise_with (node_at (2 ^ 32) room)) behind)
-premise_pushed room old new d text rest behind before go e pushed =
-    before ∙ item_pushed node_of 32 (premise_with (node_at (2 ^ 32) room)) (λ ts x r is. premise_takes (2 ^ 32) (omega arith) room ts x r is) old new d rest behind go e pushed
+pub premise_pushed : (count room : ℕ) (old new : List Derivation) (d : Derivation) (text rest behind : List ℕ) → count ≤ 2 ^ 32 →
+    several 32 (premise_with (node_at count room)) text ≡ after_those (map node_of old) (several 32 (premise_with (node_at count room)) rest) → begins 32 rest ≡ true →
+    premise_with (node_at count room) rest ≡ Ok (node_of d, behind) → new ≡ old ++ (d ∷ []) →
+    several 32 (premise_with (node_at count room)) text ≡ after_those (map node_of new) (several 32 (premise_with (node_at count room)) behind)
+premise_pushed count room old new d text rest behind small before go e pushed =
+    before ∙ item_pushed node_of 32 (premise_with (node_at count room)) (λ ts x r is. premise_takes count (omega (arith, small)) room ts x r is) old new d rest behind go e pushed
 
-pub premises_built : (room : ℕ) (so_far : List Derivation) (text rest : List ℕ) →
-    several 32 (premise_with (node_at (2 ^ 32) room)) text ≡ after_those (map node_of so_far) (several 32 (premise_with (node_at (2 ^ 32) room)) rest) → begins 32 rest ≡ false →
-    several 32 (premise_with (node_at (2 ^ 32) room)) text ≡ Ok (map node_of so_far, rest)
-premises_built room so_far text rest e stop =
-    items_done 32 (premise_with (node_at (2 ^ 32) room)) (map node_of so_far) rest (several 32 (premise_with (node_at (2 ^ 32) room)) text) e stop
+pub premises_built : (count room : ℕ) (so_far : List Derivation) (text rest : List ℕ) →
+    several 32 (premise_with (node_at count room)) text ≡ after_those (map node_of so_far) (several 32 (premise_with (node_at count room)) rest) → begins 32 rest ≡ false →
+    several 32 (premise_with (node_at count room)) text ≡ Ok (map node_of so_far, rest)
+premises_built count room so_far text rest e stop =
+    items_done 32 (premise_with (node_at count room)) (map node_of so_far) rest (several 32 (premise_with (node_at count room)) text) e stop
 
-pub premise_shorter : (room : ℕ) (text rest : List ℕ) (d : Node) → premise_with (node_at (2 ^ 32) room) text ≡ Ok (d, rest) → length rest < length text
-premise_shorter room text rest d e = premise_takes (2 ^ 32) (omega arith) room text d rest e
+pub premise_shorter : (count room : ℕ) (text rest : List ℕ) (d : Node) → count ≤ 2 ^ 32 → premise_with (node_at count room) text ≡ Ok (d, rest) → length rest < length text
+premise_shorter count room text rest d small e = premise_takes count (omega (arith, small)) room text d rest e
 
 -- the premises of a node in memory
 pub nodes_same : (ds : List Derivation) → nodes_from (map node_of ds) ≡ nodes_at ds
@@ -64,32 +66,45 @@ nodes_same (d ∷ ds) = ap (and_node (node_of d)) (nodes_same ds)
 pub node_built : (x : Word) (n : ℕ) (ds : List Derivation) (d : Derivation) → node_of d ≡ node x n (nodes_at ds) → node x n (nodes_from (map node_of ds)) ≡ node_of d
 node_built x n ds d e = ap (node x n) (nodes_same ds) ∙ sym e
 
-pub line_shorter_in : (text rest : List ℕ) (line : Line) → line_at (2 ^ 32) text ≡ Ok (line, rest) → length rest < length text
-line_shorter_in text rest line e = line_shorter (2 ^ 32) (omega arith) text line rest e
-
 -- method lines
 
-pub line_pushed : (old new : List (ℕ × ℕ × Derivation)) (line : ℕ × ℕ × Derivation) (text rest behind : List ℕ) →
-    several 109 (line_at (2 ^ 32)) text ≡ after_those (map line_of old) (several 109 (line_at (2 ^ 32)) rest) → begins 109 rest ≡ true →
-    line_at (2 ^ 32) rest ≡ Ok (line_of line, behind) → new ≡ old ++ (line ∷ []) →
-    several 109 (line_at (2 ^ 32)) text ≡ after_those (map line_of new) (several 109 (line_at (2 ^ 32)) behind)
-line_pushed old new line text rest behind before go e pushed =
-    before ∙ item_pushed line_of 109 (line_at (2 ^ 32)) (λ ts x r is. line_shorter (2 ^ 32) (omega arith) ts x r is) old new line rest behind go e pushed
+pub line_shorter_in : (count : ℕ) (text rest : List ℕ) (line : Line) → count ≤ 2 ^ 32 → line_at count text ≡ Ok (line, rest) → length rest < length text
+line_shorter_in count text rest line small e = line_shorter count (omega (arith, small)) text line rest e
 
-pub lines_built : (so_far : List (ℕ × ℕ × Derivation)) (text rest : List ℕ) →
-    several 109 (line_at (2 ^ 32)) text ≡ after_those (map line_of so_far) (several 109 (line_at (2 ^ 32)) rest) → begins 109 rest ≡ false →
-    IsReadAs (map line_of so_far) (several 109 (line_at (2 ^ 32)) text)
-lines_built so_far text rest e stop =
-    subst (IsReadAs (map line_of so_far)) (sym (items_done 109 (line_at (2 ^ 32)) (map line_of so_far) rest (several 109 (line_at (2 ^ 32)) text) e stop)) refl
+pub line_pushed : (count : ℕ) (old new : List (ℕ × ℕ × Derivation)) (line : ℕ × ℕ × Derivation) (text rest behind : List ℕ) → count ≤ 2 ^ 32 →
+    several 109 (line_at count) text ≡ after_those (map line_of old) (several 109 (line_at count) rest) → begins 109 rest ≡ true →
+    line_at count rest ≡ Ok (line_of line, behind) → new ≡ old ++ (line ∷ []) →
+    several 109 (line_at count) text ≡ after_those (map line_of new) (several 109 (line_at count) behind)
+line_pushed count old new line text rest behind small before go e pushed =
+    before ∙ item_pushed line_of 109 (line_at count) (λ ts x r is. line_shorter count (omega (arith, small)) ts x r is) old new line rest behind go e pushed
 
-pub lines_same : (cursor : BookCursor) (book : Book) (lines : List Line) → IsCursorAt cursor book →
-    IsReadAs lines (several 109 (line_at (2 ^ 32)) cursor.lines.now) → lines ≡ book.lines
-lines_same cursor book lines at is =
+pub lines_built : (count : ℕ) (so_far : List (ℕ × ℕ × Derivation)) (text rest : List ℕ) →
+    several 109 (line_at count) text ≡ after_those (map line_of so_far) (several 109 (line_at count) rest) → begins 109 rest ≡ false →
+    several 109 (line_at count) text ≡ Ok (map line_of so_far, rest)
+lines_built count so_far text rest e stop = items_done 109 (line_at count) (map line_of so_far) rest (several 109 (line_at count) text) e stop
+
+pub lines_same : (cursor : BookCursor) (book : Book) (lines : List Line) (rest : List ℕ) → IsCursorAt cursor book →
+    several 109 (line_at (2 ^ 32)) cursor.lines.now ≡ Ok (lines, rest) → lines ≡ book.lines
+lines_same cursor book lines rest at is =
     let behind = codes "end" ++ (newline ∷ []) in
-    read_same lines book.lines behind (several 109 (line_at (2 ^ 32)) cursor.lines.now) is
-    (ap (several 109 (line_at (2 ^ 32))) at.lines
+    ok_value lines book.lines rest behind
+    (sym is
+    ∙ ap (several 109 (line_at (2 ^ 32))) at.lines
     ∙ complete_several (2 ^ 32) (omega arith) book.lines behind (lines_wider (length book.table) at.book_is.few book.lines at.book_is.lines) refl)
 
 -- a table and method lines are the book
 pub book_is : (book : Book) (table : List Tree) (lines : List (ℕ × ℕ × Derivation)) → map cond_of table ≡ book.table → map line_of lines ≡ book.lines → book_of (table, lines) ≡ book
 book_is book table lines same_table same_lines = λ i. record { table = same_table i; lines = same_lines i }
+
+-- a table and method lines, each read from its part of a text, are the book of the text
+pub book_built : (bytes : List ℕ) (n : ℕ) (table lines rest : List ℕ) (trees : List Tree) (ls : List (ℕ × ℕ × Derivation)) → count_at bytes ≡ Ok (n, table) → pass_table n table ≡ Ok (tt, lines) →
+    IsReadAs (map cond_of trees) (exactly n plain_line table) → lines_at n lines ≡ Ok (map line_of ls, rest) → IsTextOf bytes (book_of (trees, ls))
+book_built bytes n table lines rest trees ls counted passed built read =
+    let whole = unseen (λ t. tt {0}) (exactly n table_line table) tt lines (sym (pass_table-is n table) ∙ passed) in
+    let same : map cond_of trees ≡ whole.0 = read_same (map cond_of trees) whole.0 lines (exactly n plain_line table) built (exactly_plain n table whole.0 lines whole.1) in
+    let tabled : exactly n table_line table ≡ Ok (map cond_of trees, lines) = whole.1 ∙ ap (λ z. Ok (z, lines)) (sym same) in
+    let book = book_of (trees, ls) in
+    let found : Found bytes n table lines rest = record { book = book; read = book_by bytes n table lines rest (map cond_of trees) (map line_of ls) counted tabled read; count = counted; trees = tabled; rest = read } in
+    let text = found_text bytes n table lines rest found in
+    let ended : rest ≡ [] = lines_end n lines (map line_of ls) rest read in
+    record { book_is = text.1; text_is = text.0 ∙ ap (λ z. book_text book ++ z) ended ∙ append-nil (book_text book) }

@@ -33,7 +33,7 @@ nothing_left [] r u e = sym (rest_same e)
     rest_same h = ap (λ z. z.1) (equal (tt, []) (u, r) h)
 nothing_left (x ∷ ts) r u e = absurd (cc)
 
-lines_end : (n : ℕ) (ts : List ℕ) (ls : List Line) (r : List ℕ) → lines_at n ts ≡ Ok (ls, r) → r ≡ []
+pub lines_end : (n : ℕ) (ts : List ℕ) (ls : List Line) (r : List ℕ) → lines_at n ts ≡ Ok (ls, r) → r ≡ []
 unfolding lines_at
 lines_end n ts ls r e =
     let a = after_ok (several 109 (line_at n) ts) (λ lines ts. expect (codes "end" ++ (newline ∷ [])) ts >>= λ u ts. nothing ts >>= λ u ts. Ok (lines, ts)) (ls, r) e in

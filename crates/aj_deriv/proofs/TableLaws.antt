@@ -130,7 +130,7 @@ line_plain ts t r e =
     let p = canonical_plain (tree_at most_height ts) ts a.0 a.1 a.2 in
     rw p a.3
 
-exactly_plain : (n : ℕ) (ts : List ℕ) (xs : List Cond) (r : List ℕ) → exactly n table_line ts ≡ Ok (xs, r) → exactly n plain_line ts ≡ Ok (xs, r)
+pub exactly_plain : (n : ℕ) (ts : List ℕ) (xs : List Cond) (r : List ℕ) → exactly n table_line ts ≡ Ok (xs, r) → exactly n plain_line ts ≡ Ok (xs, r)
 exactly_plain zero ts xs r e = e
 exactly_plain (suc n) ts xs r e =
     let a = after_ok (table_line ts) (λ x ts. exactly n table_line ts >>= λ xs ts. Ok (x ∷ xs, ts)) (xs, r) e in

@@ -20,7 +20,7 @@ pub(crate) struct Parts<'a> {
 
 /// The count of the trees, in its line.
 #[tactic(auto, unfolding(crate::specs::Reading::count_at))]
-fn count<'a>(text: &'a [u8]) -> Result<(u32, &'a [u8]), Stop<'a>>
+pub(crate) fn count<'a>(text: &'a [u8]) -> Result<(u32, &'a [u8]), Stop<'a>>
     ensures { Gives (λ x. (x.0, x.1.now)) result (count_at text.now) }
 {
     let rest = expect(text, b"book ")?;
@@ -39,7 +39,7 @@ fn table_line<'a>(text: &'a [u8]) -> Result<&'a [u8], Stop<'a>>
 
 /// Passes over so many lines of the table.
 #[tactic(auto, using(crate::proofs::PassBooks::table_more, crate::proofs::PassBooks::table_done))]
-fn table<'a>(text: &'a [u8], count: u32) -> Result<&'a [u8], Stop<'a>>
+pub(crate) fn table<'a>(text: &'a [u8], count: u32) -> Result<&'a [u8], Stop<'a>>
     ensures { Gives (λ r. (tt {0}, r.now)) result (pass_table count text.now) }
 {
     let mut rest = text;
@@ -80,7 +80,7 @@ fn several_lines<'a>(text: &'a [u8], count: u64) -> Result<&'a [u8], Stop<'a>>
 }
 
 /// Nothing stands here.
-fn end<'a>(text: &'a [u8]) -> Result<&'a [u8], Stop<'a>>
+pub(crate) fn end<'a>(text: &'a [u8]) -> Result<&'a [u8], Stop<'a>>
     ensures { Gives (λ r. (tt {0}, r.now)) result (nothing text.now) }
 {
     if text.is_empty() {

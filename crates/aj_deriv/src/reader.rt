@@ -4,11 +4,12 @@ ghost use Rattle.aj_deriv.specs.Books.{Book};
 ghost use Rattle.aj_deriv.specs.Combine.{several};
 ghost use Rattle.aj_deriv.specs.Faults.{first_fault};
 ghost use Rattle.aj_deriv.specs.Memory.{book_of, line_of, node_of};
-ghost use Rattle.aj_deriv.specs.Reading.{line_at, node_at, premise_with};
-ghost use Rattle.aj_deriv.specs.Views.{IsCursorAt, IsReadAs};
+ghost use Rattle.aj_deriv.specs.Reading.{line_at, lines_at, node_at, premise_with};
+ghost use Rattle.aj_deriv.specs.Views.{IsCursorAt};
 ghost use Rattle.aj_deriv.specs.Texts.{IsTextOf};
 ghost use Rattle.aj_deriv.specs.declared.stop.BookFault.{BookFault};
 
+use crate::book_reader::{count, end, table};
 use crate::books::DerivBook;
 use crate::cursor::BookCursor;
 use crate::derivation::Derivation;
@@ -17,26 +18,30 @@ use crate::names::word;
 use crate::node_reader::MOST_HEIGHT;
 use crate::numbers::{NUMBERS_END, number};
 use crate::stop::{BookFault, Unbuilt};
+use crate::table::trees;
+use aj_cond::Tree;
 use aj_paths::MethodId;
 use std::alloc::{AllocError as NoMemory, Global};
 
-/// The node that a text begins with, with at most `room` nodes within each other.
+/// The node that a text begins with, with at most `room` nodes within each other, whose numbers are below `end`.
 #[tactic(auto, unfolding(crate::specs::Reading::node_at), using(crate::proofs::Built::node_built))]
 #[cycle(building)]
 fn derivation<'a>(
     alloc: Global,
     text: &'a [u8],
+    end: u64,
     room: u32,
 ) -> Result<(Derivation, &'a [u8]), Unbuilt>
-    ensures { IfOk result (λ x. node_at (2 ^ 32) room text.now ≡ Ok (node_of x.0, x.1.now)) }
+    requires { end ≤ 2 ^ 32 }
+    ensures { IfOk result (λ x. node_at end room text.now ≡ Ok (node_of x.0, x.1.now)) }
 {
     if room == 0 {
         return Err(Unbuilt);
     }
     let rest = expect_byte(text, b'(')?;
     let (word, rest) = word(rest)?;
-    let (number, rest) = number(rest, NUMBERS_END)?;
-    let (premises, rest) = derivations(alloc, rest, room - 1)?;
+    let (number, rest) = number(rest, end)?;
+    let (premises, rest) = derivations(alloc, rest, end, room - 1)?;
     let rest = expect_byte(rest, b')')?;
     Ok((Derivation::new(word, number, premises), rest))
 }
@@ -47,14 +52,16 @@ fn derivation<'a>(
 fn derivations<'a>(
     alloc: Global,
     text: &'a [u8],
+    end: u64,
     room: u32,
 ) -> Result<(Vec<Derivation>, &'a [u8]), Unbuilt>
-    ensures { IfOk result (λ x. several 32 (premise_with (node_at (2 ^ 32) room)) text.now ≡ Ok (map node_of x.0.items, x.1.now)) }
+    requires { end ≤ 2 ^ 32 }
+    ensures { IfOk result (λ x. several 32 (premise_with (node_at end room)) text.now ≡ Ok (map node_of x.0.items, x.1.now)) }
 {
     let mut built = Vec::new(alloc);
     let mut rest = text;
     while begins(rest, b' ') {
-        let (next, behind) = premise(alloc, rest, room)?;
+        let (next, behind) = premise(alloc, rest, end, room)?;
         built.push(next)?;
         rest = behind;
     }
@@ -63,11 +70,17 @@ fn derivations<'a>(
 
 /// The node after a blank that a text begins with.
 #[cycle(building)]
-fn premise<'a>(alloc: Global, text: &'a [u8], room: u32) -> Result<(Derivation, &'a [u8]), Unbuilt>
-    ensures { IfOk result (λ x. premise_with (node_at (2 ^ 32) room) text.now ≡ Ok (node_of x.0, x.1.now)) }
+fn premise<'a>(
+    alloc: Global,
+    text: &'a [u8],
+    end: u64,
+    room: u32,
+) -> Result<(Derivation, &'a [u8]), Unbuilt>
+    requires { end ≤ 2 ^ 32 }
+    ensures { IfOk result (λ x. premise_with (node_at end room) text.now ≡ Ok (node_of x.0, x.1.now)) }
 {
     let rest = expect_byte(text, b' ')?;
-    derivation(alloc, rest, room)
+    derivation(alloc, rest, end, room)
 }
 
 /// The method line that a text begins with.
@@ -75,32 +88,80 @@ fn premise<'a>(alloc: Global, text: &'a [u8], room: u32) -> Result<(Derivation, 
 fn method_line<'a>(
     alloc: Global,
     text: &'a [u8],
+    end: u64,
 ) -> Result<((MethodId, u32, Derivation), &'a [u8]), Unbuilt>
-    ensures { IfOk result (λ x. line_at (2 ^ 32) text.now ≡ Ok (line_of x.0, x.1.now)) }
+    requires { end ≤ 2 ^ 32 }
+    ensures { IfOk result (λ x. line_at end text.now ≡ Ok (line_of x.0, x.1.now)) }
 {
     let rest = expect(text, b"method ")?;
     let (id, rest) = number(rest, NUMBERS_END)?;
     let rest = expect_byte(rest, b' ')?;
-    let (number, rest) = number(rest, NUMBERS_END)?;
+    let (number, rest) = number(rest, end)?;
     let rest = expect_byte(rest, b'\n')?;
-    let (body, rest) = derivation(alloc, rest, MOST_HEIGHT)?;
+    let (body, rest) = derivation(alloc, rest, end, MOST_HEIGHT)?;
     let rest = expect_byte(rest, b'\n')?;
     Ok(((MethodId(id), number, body), rest))
 }
 
 /// The method lines that a text begins with.
 #[tactic(auto, using(crate::proofs::Built::line_pushed, crate::proofs::Built::lines_built, crate::proofs::Built::line_shorter_in, crate::proofs::Built::started))]
-fn method_lines(alloc: Global, text: &[u8]) -> Result<Vec<(MethodId, u32, Derivation)>, Unbuilt>
-    ensures { IfOk result (λ lines. IsReadAs (map line_of lines.items) (several 109 (line_at (2 ^ 32)) text.now)) }
+fn method_lines<'a>(
+    alloc: Global,
+    text: &'a [u8],
+    end: u64,
+) -> Result<(Vec<(MethodId, u32, Derivation)>, &'a [u8]), Unbuilt>
+    requires { end ≤ 2 ^ 32 }
+    ensures { IfOk result (λ x. several 109 (line_at end) text.now ≡ Ok (map line_of x.0.items, x.1.now)) }
 {
     let mut built = Vec::new(alloc);
     let mut rest = text;
     while begins(rest, b'm') {
-        let (line, behind) = method_line(alloc, rest)?;
+        let (line, behind) = method_line(alloc, rest, end)?;
         built.push(line)?;
         rest = behind;
     }
-    Ok(built)
+    Ok((built, rest))
+}
+
+/// The method lines that a text begins with, up to the end of the book.
+#[tactic(auto, unfolding(crate::specs::Reading::lines_at))]
+fn last_lines<'a>(
+    alloc: Global,
+    text: &'a [u8],
+    numbers: u64,
+) -> Result<(Vec<(MethodId, u32, Derivation)>, &'a [u8]), Unbuilt>
+    requires { numbers ≤ 2 ^ 32 }
+    ensures { IfOk result (λ x. lines_at numbers text.now ≡ Ok (map line_of x.0.items, x.1.now)) }
+{
+    let (lines, rest) = method_lines(alloc, text, numbers)?;
+    let rest = expect(rest, b"end\n")?;
+    let rest = end(rest)?;
+    Ok((lines, rest))
+}
+
+/// The table and the method lines of the book whose text these bytes are. Each byte of the method lines is read once.
+fn parts(
+    alloc: Global,
+    bytes: &[u8],
+) -> Result<(Vec<Tree>, Vec<(MethodId, u32, Derivation)>), Unbuilt>
+    ensures { IfOk result (λ x. IsTextOf bytes.now (book_of (x.0.items, x.1.items))) }
+{
+    let (size, first) = count(bytes)?;
+    let behind = table(first, size)?;
+    let trees = trees(alloc, first, size)?;
+    let (lines, _) = last_lines(alloc, behind, size as u64)?;
+    Ok((trees, lines))
+}
+
+/// The book whose text these bytes are, with each byte of its method lines read once. Want of memory also where they are no book's:
+/// `BookCursor::open` tells the fault.
+pub fn read_at_once(alloc: Global, bytes: &[u8]) -> Result<DerivBook, NoMemory>
+    ensures { IfOk result (λ book. IsTextOf bytes.now (book_of book)) }
+{
+    match parts(alloc, bytes) {
+        Ok((table, methods)) => Ok(DerivBook::new(table, methods)),
+        Err(_) => Err(NoMemory),
+    }
 }
 
 impl<'a> BookCursor<'a> {
@@ -108,8 +169,8 @@ impl<'a> BookCursor<'a> {
     fn methods(&self, alloc: Global) -> Result<Vec<(MethodId, u32, Derivation)>, NoMemory>
         ensures { (book : Book) → IsCursorAt self.now book → IfOk result (λ lines. map line_of lines.items ≡ book.lines) }
     {
-        match method_lines(alloc, self.lines_text()) {
-            Ok(lines) => Ok(lines),
+        match method_lines(alloc, self.lines_text(), NUMBERS_END) {
+            Ok((lines, _)) => Ok(lines),
             Err(_) => Err(NoMemory),
         }
     }
@@ -137,7 +198,11 @@ pub fn read_book(alloc: Global, bytes: &[u8]) -> Result<DerivBook, BookFault>
     ensures only_book { (book : Book) → IsTextOf bytes.now book → MatchResult result (λ read. book_of read ≡ book) (λ fault. fault ≡ BookFault.NoMemory) }
     ensures only_fault { (fault : BookFault) → first_fault bytes.now ≡ Some fault → MatchResult result (λ _. ⊥) (λ found. found ≡ fault) }
 {
-    let cursor = BookCursor::open(bytes)?;
-    let book = cursor.book(alloc)?;
-    Ok(book)
+    if let Ok(book) = read_at_once(alloc, bytes) {
+        return Ok(book);
+    }
+    match BookCursor::open(bytes) {
+        Ok(_) => Err(BookFault::NoMemory),
+        Err(fault) => Err(fault),
+    }
 }

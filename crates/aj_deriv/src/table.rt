@@ -50,7 +50,7 @@ fn line<'a>(alloc: Global, text: &'a [u8]) -> Result<(Tree, &'a [u8]), Unbuilt>
 }
 
 /// The trees in so many lines of the table.
-fn trees(alloc: Global, text: &[u8], count: u32) -> Result<Vec<Tree>, Unbuilt>
+pub(crate) fn trees(alloc: Global, text: &[u8], count: u32) -> Result<Vec<Tree>, Unbuilt>
     ensures { IfOk result (λ trees. IsReadAs (map cond_of trees.items) (exactly count plain_line text.now)) }
 {
     let mut trees = Vec::new(alloc);

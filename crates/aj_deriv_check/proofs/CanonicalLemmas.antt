@@ -1,6 +1,6 @@
 -- The trees of a book's table are canonical, and what is judged by them is the book.
 use Rattle.std.proofs.Common.{◌≡◌, ℕ, zero, suc, inl, inr, ◌&&◌, Bool, true, false, not, List, [], ◌∷◌, length, slice_get, Option, Some, None, Result, Ok, Err, refl, sym, ◌∙◌, ap, subst}
-use Rattle.std.proofs.lemmas.Option.{slice_get_within}
+use Rattle.std.proofs.lemmas.Option.{same_Some, slice_get_within}
 use Rattle.std.specs.declared.cmp.Ordering.{Ordering}
 use Rattle.std.specs.declared.cmp.Ordering.TheVariants.{Less, Equal, Greater}
 use Rattle.aj_paths.specs.Paths.{PathData, path_order}
@@ -59,11 +59,8 @@ pub trees_canonical : (ts : List Cond) → AreTrees ts → AreCanonical ts
 trees_canonical [] are = λ n t e. absurd (let h : None ≡ Some t = e in cc)
 trees_canonical (x ∷ ts) are = let rest = trees_canonical ts are.1 in λ n t e. chosen rest n t e
   where
-    some_same : (x y : Cond) → Some x ≡ Some y → x ≡ y
-    some_same x y e = cc
-
     chosen : AreCanonical ts → (n : ℕ) (t : Cond) → slice_get (x ∷ ts) n ≡ Some t → IsCanonical t
-    chosen rest zero t e = subst IsCanonical (some_same x t e) (canonical_is None x are.0.canonical).0
+    chosen rest zero t e = subst IsCanonical (same_Some x t e) (canonical_is None x are.0.canonical).0
     chosen rest (suc n) t e = rest n t e
 
 -- from what was judged in memory to the book

@@ -10,6 +10,8 @@ mod AskedLemmas
 mod LineLemmas
 mod VerdictLemmas
 mod PairLemmas
+mod BranchLemmas
+mod UnmovedLemmas
 mod PassLemmas
 mod CanonicalLemmas
 mod OneVerdict

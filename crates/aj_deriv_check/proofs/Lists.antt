@@ -1,6 +1,6 @@
 -- Places in lists, and which is the least bad one.
 use Rattle.std.proofs.Common.{◌≡◌, ℕ, zero, suc, ◌+◌, ◌<◌, ◌⊎◌, inl, inr, List, [], ◌∷◌, ◌++◌, length, Some, None, ◌∙◌, ap, subst, arith, slice_get}
-use Rattle.std.proofs.lemmas.Option.{slice_get_within}
+use Rattle.std.proofs.lemmas.Option.{same_Some, slice_get_within}
 use Rattle.aj_deriv_check.specs.Parts.{Place, Each, IsLeastBad}
 
 pub get_left : {A : Type 0} (xs ys : List A) (k : ℕ) (x : A) → slice_get xs k ≡ Some x → slice_get (xs ++ ys) k ≡ Some x
@@ -38,11 +38,8 @@ each_both G xs ys first second = λ k x e. chosen (get_split xs ys k x e)
 pub each_none : (G : Place → Type 0) → Each G []
 each_none G = λ k x e. absurd (let h : None ≡ Some x = e in cc)
 
-some_same : {A : Type 0} (x y : A) → Some x ≡ Some y → x ≡ y
-some_same x y e = cc
-
 pub each_one : (G : Place → Type 0) (x : Place) → G x → Each G (x ∷ [])
-each_one G x good zero y e = subst G (some_same x y e) good
+each_one G x good zero y e = subst G (same_Some x y e) good
 each_one G x good (suc k) y e = absurd (let h : None ≡ Some y = e in cc)
 
 pub bad_left : (G : Place → Type 0) (xs ys : List Place) (k : ℕ) → IsLeastBad G xs k → IsLeastBad G (xs ++ ys) k

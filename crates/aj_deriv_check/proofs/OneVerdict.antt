@@ -1,6 +1,6 @@
 -- A text has one verdict.
 use Rattle.std.proofs.Common.{◌≡◌, ◌≢◌, ℕ, ◌<◌, ◌≤◌, ◌⊎◌, inl, inr, List, length, get_or, slice_get, Option, Some, None, refl, sym, ◌∙◌, ap, subst, arith}
-use Rattle.std.proofs.lemmas.Option.{slice_get_cases}
+use Rattle.std.proofs.lemmas.Option.{same_Some, slice_get_cases}
 use Rattle.aj_paths.specs.Paths.{PathData}
 use Rattle.aj_core.specs.Core.{Program, Method}
 use Rattle.aj_cond.specs.Conditions.{Cond}
@@ -15,9 +15,6 @@ use Rattle.aj_deriv_check.proofs.Lists.{one_least, none_bad}
 
 tied : (j k : ℕ) → (j < k → ⊥) → (k < j → ⊥) → j ≡ k
 tied j k below above = omega (arith, below, above)
-
-some_same : {A : Type 0} (x y : A) → Some x ≡ Some y → x ≡ y
-some_same x y e = cc
 
 -- a right shape has no fault
 shaped_no_fault : (m node : ℕ) (method : Option Method) (line : Option Line) → IsShapedAt m method line → HasShapeFault m method line node → ⊥
@@ -92,8 +89,8 @@ module _ (P : Program) (rel : ℕ → List PathData) where
         let T = book.table in let A = book_assignment book in
         let position : m ≡ j = tied m j (λ below. good_no_verdict T A m a.method a.line w (b.before m a.method a.line below a.method_is a.line_is) a.verdict)
         (λ below. good_no_verdict T A j b.method b.line v (a.before j b.method b.line below b.method_is b.line_is) b.verdict) in
-        let method : a.method ≡ b.method = some_same a.method b.method (sym a.method_is ∙ ap (slice_get P.methods) position ∙ b.method_is) in
-        let line : a.line ≡ b.line = some_same a.line b.line (sym a.line_is ∙ ap (slice_get book.lines) position ∙ b.line_is) in
+        let method : a.method ≡ b.method = same_Some a.method b.method (sym a.method_is ∙ ap (slice_get P.methods) position ∙ b.method_is) in
+        let line : a.line ≡ b.line = same_Some a.line b.line (sym a.line_is ∙ ap (slice_get book.lines) position ∙ b.line_is) in
         one_verdict T A j b.method b.line w v
         (subst (λ k. IsLineVerdict P rel T A k b.method b.line (Some w)) position (subst (λ x. IsLineVerdict P rel T A m x b.line (Some w)) method
         (subst (λ l. IsLineVerdict P rel T A m a.method l (Some w)) line a.verdict))) b.verdict

@@ -7,7 +7,7 @@ use Rattle.std.specs.declared.cmp.Ordering.TheVariants.{Less, Equal, Greater}
 use Rattle.aj_paths.specs.Paths.{PathData, path_order, path_eq}
 use Rattle.aj_paths.proofs.PathOrder.{equal_is, greater_turned, less_chain, eq_is, eq_itself}
 use Rattle.aj_algebra.specs.declared.basic.Basic.{Basic}
-use Rattle.aj_algebra.specs.declared.basic.Basic.TheVariants.{Const, Mover, Atomic, Cmpd, Error}
+use Rattle.aj_algebra.specs.declared.basic.Basic.TheVariants.{Const}
 use Rattle.aj_algebra.specs.Basics.{below_of, join_of, seq_of}
 use Rattle.aj_algebra.specs.HeldPaths.{Held}
 use Rattle.aj_cond.specs.Conditions.{Cond, LeafC, TestC, value_of, IsCanonical}
@@ -23,7 +23,8 @@ use Rattle.aj_core.specs.Views.{stmt_of, stmts_from}
 use Rattle.aj_rules.specs.Effect.{after_stmt}
 use Rattle.aj_deriv_check.specs.Rules.{Value, in_sequence, block_value, choice_value}
 use Rattle.aj_deriv_check.specs.Good.{tree_value, table_value}
-use Rattle.aj_deriv_check.specs.Pairs.{IsPairBelow, ArePairsBelow, IsSequenceBelow, IsAbsorbed, AreAbsorbed, root_of, lesser_of, held_branch, free_branch, leaves_below, keeps_paths}
+use Rattle.aj_deriv_check.proofs.Laws.{unit_after}
+use Rattle.aj_deriv_check.specs.Pairs.{IsPairBelow, ArePairsBelow, IsSequenceBelow, IsAbsorbed, AreAbsorbed, root_of, lesser_of, held_branch, free_branch, keeps_paths}
 
 -- a path is before a root, or is it
 abbrev NotAfter : PathData → Option PathData → Type 0
@@ -64,11 +65,6 @@ before_all o k n r e =
       | None ↦ λ z after. let none = lesser_none o k z in (subst (λ x. NotAfter r x) (sym none.0) tt, subst (λ x. NotAfter r x) (sym none.1) tt)
       | Some s ↦ λ z after. let both = lesser_some o k s z in (not_after_chain r s o after both.0, not_after_chain r s k after both.1)
     ] refl outer.0 in (inner.0, inner.1, outer.1)
-
-none_all : (o k n : Option PathData) → lesser_of (lesser_of o k) n ≡ None → (o ≡ None) × (k ≡ None) × (n ≡ None)
-none_all o k n e =
-    let outer = lesser_none (lesser_of o k) n e in
-    let inner = lesser_none o k outer.0 in (inner.0, inner.1, outer.1)
 
 -- a tree in two parts by a path that it doesn't test later
 split : (p : PathData) (t : Cond) → NotAfter p (root_of t) → IsCanonical t → Parts p t (held_branch p t) (free_branch p t)
@@ -168,17 +164,12 @@ branch_known p (LeafC b) is = (tt, tt)
 branch_known p (TestC q a b) is =
     elim (path_eq q p) as (λ c. IsCanonical (if c then a else TestC q a b) × IsCanonical (if c then b else TestC q a b)) [ true ↦ (is.a_is, is.b_is) | false ↦ (is, is) ]
 
-pub pair_leaves : (o : Option PathData) (t u d : Cond) (x : Bool) → o ≡ lesser_of (lesser_of (root_of t) (root_of u)) (root_of d) → o ≡ None → x ≡ leaves_below t u d →
-    (x ≡ true) ↔ IsBelowAt t u d
-pair_leaves o t u d x least is test =
-    let none = none_all (root_of t) (root_of u) (root_of d) (sym least ∙ is) in
-    at t u d none.0 none.1 none.2 test
-  where
-    at : (t u d : Cond) → root_of t ≡ None → root_of u ≡ None → root_of d ≡ None → x ≡ leaves_below t u d → (x ≡ true) ↔ IsBelowAt t u d
-    at (LeafC a) (LeafC b) (LeafC c) first second third e = ((λ holds H. sym e ∙ holds), (λ below. e ∙ below (λ q. false)))
-    at (TestC p a b) u d first second third e = absurd (cc)
-    at (LeafC a) (TestC q b c) d first second third e = absurd (cc)
-    at (LeafC a) (LeafC b) (TestC r c k) first second third e = absurd (cc)
+pub leaves_decide : (t u d : Cond) (x y z both : Basic) (b : Bool) → t ≡ LeafC x → u ≡ LeafC y → d ≡ LeafC z → both ≡ seq_of x y → b ≡ below_of both z →
+    (b ≡ true) ↔ IsPairBelow (value_of t) (value_of u) (value_of d)
+leaves_decide t u d x y z both b is_t is_u is_d together test =
+    let same : (H : Held) → below_of (seq_of (value_of t H) (value_of u H)) (value_of d H) ≡ b =
+    λ H. (λ i. below_of (seq_of (value_of (is_t i) H) (value_of (is_u i) H)) (value_of (is_d i) H)) ∙ ap (λ k. below_of k z) (sym together) ∙ sym test in
+    ((λ e H. same H ∙ e), (λ all. sym (same (λ q. false)) ∙ all (λ q. false)))
 
 four : (p : Basic → Basic → Basic → Basic → Bool) → every (λ a. every (λ b. every (λ c. every (λ d. p a b c d)))) ≡ true → (a b c d : Basic) → p a b c d ≡ true
 four p all a b c d =
@@ -337,13 +328,6 @@ kept_set P (ReturnS v) H e = refl
 kept_set P (PrintS v) H e = refl
 kept_set P (StartS v) H e = refl
 
-unit_after : (a : Basic) → seq_of a Const ≡ a
-unit_after Const = refl
-unit_after Mover = refl
-unit_after Atomic = refl
-unit_after Cmpd = refl
-unit_after Error = refl
-
 -- a block whose statements all do has the value of their sequence
 block_kept : (P : Program) (V : ℕ → Value) (body : List CoreStmt) (numbers : List ℕ) (H : Held) → length body ≡ length numbers → list_all (λ s. keeps_paths (stmt_of s)) body ≡ true →
     block_value P (stmts_from body) (map V numbers) H ≡ in_sequence (map V numbers) H
@@ -355,16 +339,22 @@ block_kept P V (s ∷ body) (n ∷ numbers) H same kept =
     ap (λ K. seq_of (V n H) (block_value P (stmts_from body) (map V numbers) K)) (kept_set P (stmt_of s) H both.0)
     ∙ ap (λ z. seq_of (V n H) z) (block_kept P V body numbers H (omega (arith, same)) both.1)
 
-pub block_below : {E : Type 0} (P : Program) (V : ℕ → Value) (body : List CoreStmt) (numbers : List ℕ) (l d : Value) (kept : Bool) (r : Result Bool E) → length body ≡ length numbers →
-    kept ≡ list_all (λ s. keeps_paths (stmt_of s)) body → kept ≡ true → ((H : Held) → l H ≡ Const) → IfOk r (λ b. (b ≡ true) ↔ IsSequenceBelow (map V numbers) l d) →
-    IfOk r (λ b. (b ≡ true) ↔ ((H : Held) → AtMost (block_value P (stmts_from body) (map V numbers) H) (d H)))
-block_below P V body numbers l d kept (Ok b) same is holds const test =
-    let as_one : (H : Held) → seq_of (in_sequence (map V numbers) H) (l H) ≡ block_value P (stmts_from body) (map V numbers) H =
-    λ H. ap (λ z. seq_of (in_sequence (map V numbers) H) z) (const H) ∙ unit_after (in_sequence (map V numbers) H) ∙ sym (block_kept P V body numbers H same (sym is ∙ holds)) in (
+-- a block that has the value of the sequence of its statements
+pub block_step : {E : Type 0} (r : Result Bool E) (vs : List Value) (block l d : Value) → ((H : Held) → block H ≡ in_sequence vs H) → ((H : Held) → l H ≡ Const) →
+    IfOk r (λ b. (b ≡ true) ↔ IsSequenceBelow vs l d) → IfOk r (λ b. (b ≡ true) ↔ ((H : Held) → AtMost (block H) (d H)))
+block_step (Ok b) vs block l d same const test =
+    let as_one : (H : Held) → seq_of (in_sequence vs H) (l H) ≡ block H =
+    λ H. ap (λ z. seq_of (in_sequence vs H) z) (const H) ∙ unit_after (in_sequence vs H) ∙ sym (same H) in (
       (λ e H. subst (λ z. AtMost z (d H)) (as_one H) (test.0 e H)),
       (λ all. test.1 (λ H. subst (λ z. AtMost z (d H)) (sym (as_one H)) (all H))),
     )
-block_below P V body numbers l d kept (Err e) same is holds const test = tt
+block_step (Err e) vs block l d same const test = tt
+
+pub block_below : {E : Type 0} (P : Program) (V : ℕ → Value) (body : List CoreStmt) (numbers : List ℕ) (l d : Value) (kept : Bool) (r : Result Bool E) → length body ≡ length numbers →
+    kept ≡ list_all (λ s. keeps_paths (stmt_of s)) body → kept ≡ true → ((H : Held) → l H ≡ Const) → IfOk r (λ b. (b ≡ true) ↔ IsSequenceBelow (map V numbers) l d) →
+    IfOk r (λ b. (b ≡ true) ↔ ((H : Held) → AtMost (block_value P (stmts_from body) (map V numbers) H) (d H)))
+block_below P V body numbers l d kept r same is holds const test =
+    block_step r (map V numbers) (λ H. block_value P (stmts_from body) (map V numbers) H) l d (λ H. block_kept P V body numbers H same (sym is ∙ holds)) const test
 
 -- a rule that is a sequence before a last value
 pub sequence_step : {E : Type 0} (r : Result Bool E) (vs : List Value) (l last d rule : Value) → ((H : Held) → rule H ≡ seq_of (in_sequence vs H) (last H)) →

@@ -1,6 +1,6 @@
 -- The two passes, line by line.
 use Rattle.std.proofs.Common.{◌≡◌, ℕ, zero, suc, ◌+◌, ◌<◌, ◌≤◌, ◌⊎◌, inl, inr, List, [], ◌∷◌, ◌++◌, map, length, drop, get_or, slice_get, Option, Some, None, Ok, Err, refl, sym, ◌∙◌, ap, subst, arith, append-nil}
-use Rattle.std.proofs.lemmas.Option.{slice_get_cases, slice_get_past}
+use Rattle.std.proofs.lemmas.Option.{same_Some, slice_get_cases, slice_get_past}
 use Rattle.aj_paths.specs.Paths.{PathData}
 use Rattle.aj_cond.specs.Conditions.{Cond}
 use Rattle.aj_core.specs.Core.{Program, Method}
@@ -146,9 +146,6 @@ pub record LinesSoFar (judge : Judge) (lines : List Line) (m : ℕ) (rest : List
 pub no_lines : (judge : Judge) (lines : List Line) → LinesSoFar judge lines 0 lines
 no_lines judge lines = record { within = omega arith; at = refl; good = λ k method line below is at. absurd (omega (arith, below)) }
 
-some_same : {A : Type 0} (x y : A) → Some x ≡ Some y → x ≡ y
-some_same x y e = cc
-
 good_more : (judge : Judge) (book : Book) (m : ℕ) (method : Method) (line : Line) → slice_get (judge_program judge).methods m ≡ Some method → slice_get book.lines m ≡ Some line →
     IsGoodLine (judge_program judge) (judge_rel judge) (judge_table judge) (judge_assignment judge) m method line → AreGoodLines judge book m → AreGoodLines judge book (m + 1)
 good_more judge book m method line is at good before = λ k other own below other_is own_is. chosen k other own other_is own_is (below_or k m below)
@@ -157,8 +154,8 @@ good_more judge book m method line is at good before = λ k other own below othe
         IsGoodLine (judge_program judge) (judge_rel judge) (judge_table judge) (judge_assignment judge) k other own
     chosen k other own other_is own_is (inl l) = before k other own l other_is own_is
     chosen k other own other_is own_is (inr e) =
-        let same_method : method ≡ other = some_same method other (sym is ∙ ap (slice_get (judge_program judge).methods) (sym e) ∙ other_is) in
-        let same_line : line ≡ own = some_same line own (sym at ∙ ap (slice_get book.lines) (sym e) ∙ own_is) in
+        let same_method : method ≡ other = same_Some method other (sym is ∙ ap (slice_get (judge_program judge).methods) (sym e) ∙ other_is) in
+        let same_line : line ≡ own = same_Some line own (sym at ∙ ap (slice_get book.lines) (sym e) ∙ own_is) in
         subst (λ j. IsGoodLine (judge_program judge) (judge_rel judge) (judge_table judge) (judge_assignment judge) j other own) (sym e)
         (subst (λ x. IsGoodLine (judge_program judge) (judge_rel judge) (judge_table judge) (judge_assignment judge) m x own) same_method
         (subst (λ l. IsGoodLine (judge_program judge) (judge_rel judge) (judge_table judge) (judge_assignment judge) m method l) same_line good))

@@ -1,5 +1,5 @@
 -- What the contracts of checking books cite. To read the contract: Parts, Rules, Good, Faults, Checks. The others are what the private
--- functions cite: Judges, Walks, Pairs, Passes.
+-- functions cite: Judges, Walks, Pairs, Branches, Passes.
 pub mod Parts
 pub mod Rules
 pub mod Good
@@ -8,4 +8,5 @@ pub mod Checks
 pub mod Judges
 pub mod Walks
 pub mod Pairs
+pub mod Branches
 pub mod Passes

@@ -1,7 +1,7 @@
 -- Parts of a sequence, two by two; and trees by the least path that they test.
-use Rattle.std.specs.Prelude.{◌≡◌, ℕ, List, [], ◌∷◌, Bool, true, false, Option, Some, None, if◌then◌else◌}
+use Rattle.std.specs.Prelude.{◌≡◌, ◌==◌, ◌&&◌, not, ℕ, List, [], ◌∷◌, Bool, true, false, Option, Some, None, if◌then◌else◌}
 use Rattle.aj_paths.specs.Paths.{PathData, path_order, path_eq}
-use Rattle.aj_algebra.specs.Basics.{seq_of, below_of}
+use Rattle.aj_algebra.specs.Basics.{seq_of}
 use Rattle.aj_algebra.specs.HeldPaths.{Held}
 use Rattle.aj_cond.specs.Conditions.{Cond, LeafC, TestC}
 use Rattle.aj_cond.specs.Operations.{by_order}
@@ -52,12 +52,12 @@ abbrev pub free_branch : PathData → Cond → Cond
 free_branch p (LeafC b) = LeafC b
 free_branch p (TestC q a b) = if path_eq q p then b else TestC q a b
 
--- whether the first two leaves one after the other are at most the third
-abbrev pub leaves_below : Cond → Cond → Cond → Bool
-leaves_below (LeafC x) (LeafC y) (LeafC z) = below_of (seq_of x y) z
-leaves_below _ _ _ = false
-
 -- whether the paths that are held behind a statement are those before it, which is so unless it declares a final local
 abbrev pub keeps_paths : Stmt → Bool
 keeps_paths (LocalS x true ty e) = false
 keeps_paths _ = true
+
+-- whether a tree tests no path of this slot
+abbrev pub avoids : ℕ → Cond → Bool
+avoids x (LeafC b) = true
+avoids x (TestC p a b) = not (p.root == x) && (avoids x a && avoids x b)

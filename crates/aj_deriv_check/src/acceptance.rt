@@ -1,5 +1,5 @@
 //! Whether the text of a book is good for a program.
-ghost use Rattle.std.specs.Prelude.{◌≡◌, ◌≢◌, ◌≤◌, ◌⊎◌, length, map, Some, IfOk, IfErr, MatchResult};
+ghost use Rattle.std.specs.Prelude.{◌≡◌, ◌≢◌, ◌≤◌, ◌⊎◌, ℕ, List, length, map, Some, IfOk, IfErr, MatchResult};
 ghost use Rattle.aj_core.specs.Typed.{IsTyped};
 ghost use Rattle.aj_core.specs.Views.{program_of};
 ghost use Rattle.aj_cond.specs.Conditions.{cond_of};
@@ -22,9 +22,10 @@ use crate::passes::{lines, shapes};
 use crate::wrong::{TextWrong, Wrong};
 use aj_cond::Tree;
 use aj_core::CoreProgram;
-use aj_deriv::{BookCursor, DerivBook, Lines, LinesInMemory};
+use aj_deriv::{BookCursor, DerivBook, Lines, LinesInMemory, read_at_once};
 use aj_rules::RelevantSets;
 use std::alloc::Global;
+use std::mem::forget;
 
 /// A program whose book was refused, with its relevant sets and the reason.
 #[derive(Drop)]
@@ -82,8 +83,30 @@ fn judged_memory(
     judged_book(alloc, program, sets, book.table.as_slice(), lines)
 }
 
-/// The judgement of the book at which a cursor stands. It is read into memory: there a node's premises are passed over at once.
-fn judged_text(
+/// How many bytes of text are judged in memory at most. A derivation takes up to 21 times the bytes of its text there, so that a
+/// longer text is judged in place, which takes memory for its table alone.
+const MOST_IN_MEMORY: usize = 4_000_000;
+
+/// The judgement of a book whose memory is given back when the program ends: to give it back node by node takes as long as a fifth
+/// of all that is judged.
+fn judged_and_kept(
+    alloc: Global,
+    program: &CoreProgram,
+    sets: &RelevantSets,
+    book: DerivBook,
+) -> Result<(), TextWrong>
+    ensures { (bytes : List ℕ) → IsTextOf bytes (book_of book) → IsJudged (program_of program.now) (rel_of sets.now) bytes result }
+{
+    let verdict = judged_memory(alloc, program, sets, &book);
+    forget(book);
+    match verdict {
+        Ok(()) => Ok(()),
+        Err(wrong) => Err(TextWrong::Wrong(wrong)),
+    }
+}
+
+/// The judgement of the book at which a cursor stands, with no derivation in memory.
+fn judged_at(
     alloc: Global,
     program: &CoreProgram,
     sets: &RelevantSets,
@@ -92,15 +115,15 @@ fn judged_text(
     requires { (book : Book) × IsCursorAt cursor book }
     ensures { (book : Book) → IsCursorAt cursor.entry book → IsVerdict (program_of program.now) (rel_of sets.now) book result }
 {
-    let book = match cursor.book(alloc) {
-        Ok(book) => book,
+    let table = match cursor.table(alloc) {
+        Ok(table) => table,
         Err(_) => return Err(Wrong::Memory),
     };
-    judged_memory(alloc, program, sets, &book)
+    judged_book(alloc, program, sets, table.as_slice(), cursor)
 }
 
-/// The judgement of a text for a program.
-fn judged(
+/// The judgement of a text for a program, with no derivation in memory.
+fn judged_in_place(
     alloc: Global,
     program: &CoreProgram,
     sets: &RelevantSets,
@@ -113,9 +136,28 @@ fn judged(
         Ok(cursor) => cursor,
         Err(fault) => return Err(TextWrong::Book(fault)),
     };
-    match judged_text(alloc, program, sets, cursor) {
+    match judged_at(alloc, program, sets, cursor) {
         Ok(()) => Ok(()),
         Err(wrong) => Err(TextWrong::Wrong(wrong)),
+    }
+}
+
+/// The judgement of a text for a program. A short text is read into memory: there a node's premises are passed over at once.
+fn judged(
+    alloc: Global,
+    program: &CoreProgram,
+    sets: &RelevantSets,
+    bytes: &[u8],
+) -> Result<(), TextWrong>
+    requires { length bytes.now ≤ 16777216 }
+    ensures { IsJudged (program_of program.now) (rel_of sets.now) bytes.now result }
+{
+    if bytes.len() > MOST_IN_MEMORY {
+        return judged_in_place(alloc, program, sets, bytes);
+    }
+    match read_at_once(alloc, bytes) {
+        Ok(book) => judged_and_kept(alloc, program, sets, book),
+        Err(_) => judged_in_place(alloc, program, sets, bytes),
     }
 }
 

@@ -11,6 +11,7 @@ ghost use Rattle.aj_deriv_check.specs.Parts.{Fits};
 ghost use Rattle.aj_deriv_check.specs.Rules.{block_value, rule_of, stmt_rule as stmt_rule_of, Value};
 ghost use Rattle.aj_deriv_check.specs.Walks.{part_of};
 
+use crate::branching::plain_step;
 use crate::judge::Judge;
 use crate::lookups::tree_at;
 use crate::parts::{BodyPart, inner_parts, part_word, same_length};
@@ -233,6 +234,9 @@ impl<'a> Asked for Steps<'a> {
         let Some(d) = tree_at(self.judge.table, number) else {
             return Err(NoMemory);
         };
+        if let Some(is) = plain_step(self.judge.program, self.judge.table, part, premises, d) {
+            return Ok(is);
+        }
         let numbers = numbers(alloc, premises)?;
         is_step(alloc, self.work, self.judge, part, numbers.as_slice(), d)
     }

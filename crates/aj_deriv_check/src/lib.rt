@@ -4,6 +4,7 @@
 
 mod acceptance;
 mod asked;
+mod branching;
 mod checked;
 mod judge;
 mod line;
@@ -14,6 +15,7 @@ mod parts;
 mod passes;
 mod rules;
 mod sequences;
+mod unmoved;
 mod values;
 mod walk;
 mod work;

@@ -1,12 +1,12 @@
 //! Whether a sequence is at most a tree, with no tree for the sequence: it is exactly where each two of its parts are, the one
 //! after the other. Two parts are compared with the tree at once, down all three, and nothing takes memory.
-ghost use Rattle.std.specs.Prelude.{◌≡◌, ◌↔◌, ◌&&◌, true, map, IfOk};
+ghost use Rattle.std.specs.Prelude.{◌≡◌, ◌↔◌, ◌&&◌, true, map, IfOk, IfSome};
 ghost use Rattle.std.specs.List.{list_all};
 ghost use Rattle.std.specs.Option.{option_copied};
-ghost use Rattle.aj_cond.specs.Conditions.{cond_of, value_of, IsCanonical};
+ghost use Rattle.aj_cond.specs.Conditions.{cond_of, value_of, IsCanonical, LeafC};
 ghost use Rattle.aj_core.specs.Views.{stmt_of};
 ghost use Rattle.aj_deriv_check.specs.Judges.{judge_table, judge_value, AreCanonical};
-ghost use Rattle.aj_deriv_check.specs.Pairs.{free_branch, held_branch, keeps_paths as keeps_paths_of, leaves_below as leaves_below_of, lesser_of, root_of, ArePairsBelow, IsPairBelow, IsSequenceBelow};
+ghost use Rattle.aj_deriv_check.specs.Pairs.{free_branch, held_branch, keeps_paths as keeps_paths_of, lesser_of, root_of, ArePairsBelow, IsPairBelow, IsSequenceBelow};
 
 use crate::judge::Judge;
 use crate::lookups::tree_at;
@@ -51,7 +51,7 @@ fn least<'a>(t: &'a Tree, u: &'a Tree, d: &'a Tree) -> Option<&'a Path>
 }
 
 /// A tree that tests no lesser path, where this one is held and where it isn't.
-fn branches<'a>(path: &Path, t: &'a Tree) -> (&'a Tree, &'a Tree)
+pub(crate) fn branches<'a>(path: &Path, t: &'a Tree) -> (&'a Tree, &'a Tree)
     ensures held { cond_of result.0.now ≡ held_branch path.now (cond_of t.now) }
     ensures free { cond_of result.1.now ≡ free_branch path.now (cond_of t.now) }
 {
@@ -66,14 +66,25 @@ fn branches<'a>(path: &Path, t: &'a Tree) -> (&'a Tree, &'a Tree)
     }
 }
 
-/// Whether two leaves, one after the other, are at most a third.
-fn leaves_below(t: &Tree, u: &Tree, d: &Tree) -> bool
-    ensures { result ≡ leaves_below_of (cond_of t.now) (cond_of u.now) (cond_of d.now) }
+/// The basic of a leaf.
+pub(crate) fn leaf_of(t: &Tree) -> Option<Basic>
+    ensures { IfSome result (λ b. cond_of t.now ≡ LeafC b) }
 {
-    match (t, u, d) {
-        (Tree::Leaf(x), Tree::Leaf(y), Tree::Leaf(z)) => x.seq(*y).below(*z),
-        _ => false,
+    match t {
+        Tree::Leaf(basic) => Some(*basic),
+        Tree::Test(_, _, _) => None,
     }
+}
+
+/// Whether two leaves, one after the other, are at most a third, where all three are leaves.
+fn at_leaves(t: &Tree, u: &Tree, d: &Tree) -> Option<bool>
+    ensures { IfSome result (λ b. (b ≡ true) ↔ IsPairBelow (value_of (cond_of t.now)) (value_of (cond_of u.now)) (value_of (cond_of d.now))) }
+{
+    let first = leaf_of(t)?;
+    let second = leaf_of(u)?;
+    let most = leaf_of(d)?;
+    let both = first.seq(second);
+    Some(both.below(most))
 }
 
 /// Whether two trees, one after the other, are at most a third.
@@ -93,8 +104,11 @@ pub(crate) fn pair_below(
         return Err(NoMemory);
     }
     work.take(1)?;
+    if let Some(is) = at_leaves(t, u, d) {
+        return Ok(is);
+    }
     let Some(path) = least(t, u, d) else {
-        return Ok(leaves_below(t, u, d));
+        return Err(NoMemory);
     };
     let first = branches(path, t);
     let second = branches(path, u);

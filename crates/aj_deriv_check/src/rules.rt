@@ -15,6 +15,7 @@ ghost use Rattle.aj_deriv_check.specs.Judges.{judge_assignment, judge_program, j
 ghost use Rattle.aj_deriv_check.specs.Rules.{block_value, choice_value, expr_rule as expr_rule_of, in_sequence, lock_value, loop_value, stmt_rule as stmt_rule_of, Value};
 ghost use Rattle.aj_deriv_check.specs.Pairs.{AreAbsorbed, IsAbsorbed};
 
+use crate::branching::{Branching, access_value};
 use crate::judge::Judge;
 use crate::lookups::{assigned, conclusion, required};
 use crate::names::{at_call, before, with_required};
@@ -25,7 +26,6 @@ use aj_algebra::Basic;
 use aj_cond::Tree;
 use aj_core::{CoreExpr, CoreProgram, CoreStmt, path_of};
 use aj_paths::{FieldId, MethodId, Path};
-use aj_rules::{Guard, guard_at};
 use std::alloc::{AllocError as NoMemory, Global};
 
 /// How many numbers are noted at most.
@@ -77,17 +77,9 @@ pub(crate) fn access(
     ensures value { IfOk result (λ r. (H : Held) → let P = program_of program.now in
         value_of (cond_of r) H ≡ access_of P writes field (path_of P (expr_of receiver.now)) H) }
 {
-    match guard_at(program, receiver, field) {
-        Guard::Final => Ok(leaf(Basic::Const)),
-        Guard::Free => Ok(leaf(Basic::Atomic)),
-        Guard::Unnamed => Ok(leaf(Basic::Error)),
-        Guard::WriteUnnamed if writes => Ok(leaf(Basic::Error)),
-        Guard::WriteUnnamed => Ok(leaf(Basic::Atomic)),
-        Guard::Named(path) => held_or_else(alloc, work, &path, Basic::Mover, Basic::Error),
-        Guard::WriteNamed(path) if writes => {
-            held_or_else(alloc, work, &path, Basic::Atomic, Basic::Error)
-        }
-        Guard::WriteNamed(path) => held_or_else(alloc, work, &path, Basic::Mover, Basic::Atomic),
+    match access_value(program, receiver, field, writes) {
+        Branching::Always(basic) => Ok(leaf(basic)),
+        Branching::Where(path, held, free) => held_or_else(alloc, work, &path, held, free),
     }
 }
 

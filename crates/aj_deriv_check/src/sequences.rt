@@ -16,6 +16,7 @@ use crate::judge::Judge;
 use crate::lookups::tree_at;
 use crate::pairs::{all_keep_paths, both, pair_below, sequence_below};
 use crate::rules::{access, call};
+use crate::unmoved::is_sequence;
 use crate::values::leaf;
 use crate::work::{MOST_DEPTH, Work};
 use aj_algebra::Basic;
@@ -156,7 +157,7 @@ pub(crate) fn block_below(
     sequence_below(work, judge, numbers, &last, d)
 }
 
-/// The same of a block of few statements; want of memory for others.
+/// The same of a block of few statements, each of which keeps the values of the later ones; want of memory for others.
 fn few_below(
     work: Work<'_>,
     judge: &Judge<'_>,
@@ -172,7 +173,14 @@ fn few_below(
     if body.len() > FEW {
         return Err(NoMemory);
     }
-    block_below(work, judge, body, numbers, d)
+    if body.len() != numbers.len() {
+        return Err(NoMemory);
+    }
+    if !is_sequence(work, judge, body, numbers)? {
+        return Err(NoMemory);
+    }
+    let last = leaf(Basic::Const);
+    sequence_below(work, judge, numbers, &last, d)
 }
 
 /// Whether two trees of the table, one after the other, are at most another. Want of memory where a number has no tree, which no

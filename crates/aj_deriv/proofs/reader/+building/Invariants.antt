@@ -1,4 +1,4 @@
-use Rattle.std.proofs.Common.{◌≡◌, ◌^◌, ◌+◌, ◌*◌, length, map}
+use Rattle.std.proofs.Common.{◌≡◌, ◌+◌, ◌*◌, length, map}
 use Rattle.aj_deriv.specs.Combine.{several}
 use Rattle.aj_deriv.specs.Memory.{node_of}
 use Rattle.aj_deriv.specs.Reading.{node_at, premise_with}
@@ -17,7 +17,7 @@ decreases-premise l = 3 * l.room + 1
 -- what is built, and then the rest, is all
 abbrev pub invariant-derivations-loop-alloc : goal.invariant-derivations-loop-alloc
 invariant-derivations-loop-alloc l =
-    several 32 (premise_with (node_at (2 ^ 32) l.room)) l.text ≡ after_those (map node_of l.built.items) (several 32 (premise_with (node_at (2 ^ 32) l.room)) l.rest)
+    several 32 (premise_with (node_at l.end l.room)) l.text ≡ after_those (map node_of l.built.items) (several 32 (premise_with (node_at l.end l.room)) l.rest)
 
 abbrev pub decreases-derivations-loop-alloc : goal.decreases-derivations-loop-alloc
 decreases-derivations-loop-alloc l = length l.rest

@@ -1,8 +1,9 @@
 -- The tree that is asked for is the conclusion's.
-use Rattle.std.proofs.Common.{ap, map, ◌∙◌}
+use Rattle.std.proofs.Common.{ap, map, subst, sym, ◌∙◌}
 use Rattle.aj_cond.specs.Conditions.{cond_of, value_of}
 use Rattle.aj_deriv.specs.Derivations.{node}
-use Rattle.aj_deriv_check.specs.Good.{rule_at}
+use Rattle.aj_rules.specs.Rules.{AtMost}
+use Rattle.aj_deriv_check.specs.Good.{conclusions, rule_at}
 use Rattle.aj_deriv_check.specs.Judges.{judge_assignment, judge_program, judge_rel, judge_table, judge_value}
 use Rattle.aj_deriv_check.specs.Rules.{rule_of}
 use Rattle.aj_deriv_check.specs.Walks.{part_of}
@@ -20,3 +21,13 @@ returns g c =
     (λ H. ap (λ vs. rule_of (judge_program j) (judge_rel j) (judge_assignment j) (part_of c.args.part) vs H) (ap (map (judge_value j)) c.as_slice.ensures.value ∙ c.in_ok-numbers.ensures (judge_value j)))
     (tabled_same (judge_table j) c.args.number (cond_of c.in-Some.d.now) c.in-Some.ensures.tree)
     c.is_step.ensures
+
+pub returns-in-Some-plain_step : goal.returns-in-Some-plain_step
+returns-in-Some-plain_step g c =
+    let j = c.args.self.now.judge.now in
+    let vs = conclusions (judge_value j) (g.F.Nodes.nodes c.args.premises) in
+    let same = tabled_same (judge_table j) c.args.number (cond_of c.in-Some.d.now) c.in-Some.ensures.tree in
+    let test = c.in-Some-plain_step.ensures (judge_rel j) (judge_assignment j) in (
+      (λ e H. subst (λ z. AtMost (rule_of (judge_program j) (judge_rel j) (judge_assignment j) (part_of c.args.part) vs H) z) (same H) (test.0 e H)),
+      (λ all. test.1 (λ H. subst (λ z. AtMost (rule_of (judge_program j) (judge_rel j) (judge_assignment j) (part_of c.args.part) vs H) z) (sym (same H)) (all H))),
+    )

@@ -1,0 +1,18 @@
+-- What was judged of the cursor's lines holds of the book.
+use Rattle.std.proofs.Common.{◌≡◌, ◌∙◌, ap, map, subst}
+use Rattle.aj_cond.specs.Conditions.{cond_of}
+use Rattle.aj_core.specs.Views.{program_of}
+use Rattle.aj_deriv.specs.Views.{lines_in}
+use Rattle.aj_deriv.proofs.TableLaws.{lines_are, at_some}
+use Rattle.aj_rules.specs.Near.{rel_of}
+use Rattle.aj_deriv_check.specs.Passes.{IsVerdict}
+use Rattle.aj_deriv_check.proofs.acceptance.judged_at.Goals as goal
+
+pub judged_book-requires-clause-kept : goal.judged_book-requires-clause-kept
+judged_book-requires-clause-kept c = at_some c.args.cursor c.requires.0 c.requires.1
+
+pub returns : goal.returns
+returns c = λ book at.
+    let table : map cond_of c.as_slice.result.now ≡ book.table = ap (map cond_of) c.as_slice.ensures.value ∙ c.in-Ok.ensures book at in
+    let lines : lines_in c.args.cursor.lines.now ≡ book.lines = lines_are c.args.cursor book at in
+    subst (λ b. IsVerdict (program_of c.args.program.now) (rel_of c.args.sets.now) b c.judged_book.result) (λ i. record { table = table i; lines = lines i }) c.judged_book.ensures
