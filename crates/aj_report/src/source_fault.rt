@@ -1,6 +1,7 @@
 //! The line for the first fault of a source.
 
 ghost use Rattle.std.specs.Prelude.{◌≡◌, ◌++◌, ◌≤◌, length, codes, decimal, string_bytes, IfOk, OnOk};
+ghost use Rattle.aj_lexer.specs.Limits.{longest_source};
 ghost use Rattle.aj_lexer.specs.Places.{line_of, column_of};
 ghost use Rattle.aj_report.specs.SourceFaults.{IsTold, offset_of, lex_offset_of, class_offset_of, type_offset_of, kind_of, lex_kind, parse_kind, class_kind, type_kind, source_fault_line};
 
@@ -152,7 +153,7 @@ fn type_offset(fault: TypeFault) -> u32
 
 /// The place of an offset in a text; one past the text's end stands at the end.
 fn place_in(text: &str, at: u32) -> Place
-    requires { length text.now ≤ 262144 }
+    requires { length text.now ≤ longest_source }
     ensures line { result.line ≡ line_of text.now at }
     ensures column { result.column ≡ column_of text.now at }
 {
@@ -168,7 +169,7 @@ fn write_number(line: &mut String, number: u32) -> Result<(), NoMemory>
 
 /// The line for a fault of this source, or, for bytes that aren't UTF-8, of their longest front that is.
 pub fn source_fault_text(alloc: Global, text: &str, fault: &SourceFault) -> Result<String, NoMemory>
-    requires small { length text.now ≤ 262144 }
+    requires small { length text.now ≤ longest_source }
     requires told { IsTold fault.now }
     ensures { IfOk result (λ line. string_bytes line ≡ source_fault_line text.now fault.now) }
 {

@@ -1,5 +1,5 @@
 -- A file has one tree and one core program, and what refuses it excludes what it is refused as.
-use Rattle.std.proofs.Common.{◌≡◌, ℕ, ◌≤◌, List, [], ◌∷◌, length, Some, refl, suc, zero, sym, subst, ap, ◌∙◌, arith, Contains, IsUtf8}
+use Rattle.std.proofs.Common.{◌≡◌, ℕ, ◌≤◌, List, [], ◌∷◌, length, refl, suc, zero, sym, subst, ap, ◌∙◌, arith, Contains, IsUtf8}
 use Rattle.std.proofs.lemmas.List.{take_all}
 use Rattle.std.proofs.lemmas.Option.{same_Some}
 use Rattle.aj_lexer.specs.declared.tokens.Token.{Token}

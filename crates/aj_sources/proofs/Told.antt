@@ -12,7 +12,6 @@ use Rattle.aj_sources.specs.declared.refusal.Refusal.TheVariants.{Line, NoMemory
 use Rattle.aj_sources.specs.Refusals.{IsRight, Tells}
 use Rattle.aj_sources.specs.Programs.{NoProgram}
 use Rattle.aj_sources.specs.Checking.{NoSource, no_program}
-use Rattle.aj_sources.specs.Verdicts.{NoAccepted, no_source}
 
 -- the first fault of the tokens isn't want of memory
 pub lex_told : (text : List ℕ) (its : LexFault) → FirstFault text its → IsTold (source.Lex its)

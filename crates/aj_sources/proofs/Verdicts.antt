@@ -1,5 +1,5 @@
 -- From the least assignment and the verdict on it to the accepted source or its refusal.
-use Rattle.std.proofs.Common.{◌≡◌, ◌↔◌, ℕ, ◌<◌, ◌≤◌, ◌^◌, true, false, List, Option, Some, None, Result, IfSome, is_ok, sym, subst, ap, ◌∙◌, arith, length, slice_get, option_map}
+use Rattle.std.proofs.Common.{◌≡◌, ◌↔◌, ℕ, ◌≤◌, ◌^◌, true, false, List, Option, Some, None, Result, IfSome, is_ok, sym, subst, ap, ◌∙◌, arith, length, slice_get, option_map}
 use Rattle.std.proofs.lemmas.List.{length-map}
 use Rattle.std.proofs.lemmas.Option.{slice_get-map, same_Some}
 use Rattle.aj_algebra.specs.declared.basic.Basic.{Basic}

@@ -1,6 +1,7 @@
 //! Takes a tree of the grammar to its core program and the locks that matter, or to the line that refuses it.
 
 ghost use Rattle.std.specs.Prelude.{◌≡◌, ◌≤◌, ℕ, List, [], length, MatchResult, slice_get};
+ghost use Rattle.aj_lexer.specs.Limits.{longest_source};
 ghost use Rattle.aj_syntax.specs.Trees.{ProgramTree};
 ghost use Rattle.aj_syntax.specs.Views.{program_of as tree_of};
 ghost use Rattle.aj_classes.specs.Faults.{faults_of};
@@ -38,7 +39,7 @@ pub struct Source<'a> {
 
 /// The class table of the tree of this text.
 fn class_table<'a>(alloc: Global, text: &str, tree: &Program<'a>) -> Result<ClassTable<'a>, Refusal>
-    requires small { length text.now ≤ 262144 }
+    requires small { length text.now ≤ longest_source }
     requires program { IsProgram text.now (tree_of tree.now) }
     ensures { MatchResult result (λ t. (faults_of (tree_of tree.now) ≡ []) × (table_data t ≡ table_of (tree_of tree.now))) (IsRight (NoSource text.now)) }
 {
@@ -56,7 +57,7 @@ fn core_program(
     table: &ClassTable,
     tree: &Program,
 ) -> Result<CoreProgram, Refusal>
-    requires small { length text.now ≤ 262144 }
+    requires small { length text.now ≤ longest_source }
     requires program { IsProgram text.now (tree_of tree.now) }
     requires no_class_faults { faults_of (tree_of tree.now) ≡ [] }
     requires table { table_data table.now ≡ table_of (tree_of tree.now) }
@@ -81,7 +82,7 @@ fn name_offset(program: &CoreProgram, method: MethodId) -> u32
 
 /// The refusal of this text where its relevant sets end so.
 fn too_many_locks(alloc: Global, text: &str, program: &CoreProgram, end: RuleEnd) -> Refusal
-    requires small { length text.now ≤ 262144 }
+    requires small { length text.now ≤ longest_source }
     requires core { (tree : ProgramTree) × HasCore text.now tree (program_of program.now) }
     requires first { (m : ℕ) → end ≡ RuleEnd.TooManyLocks m → IsFirstCrowded (program_of program.now) m }
     ensures { IsRight (NoSource text.now) result }
@@ -97,7 +98,7 @@ fn too_many_locks(alloc: Global, text: &str, program: &CoreProgram, end: RuleEnd
 
 /// The locks that matter for the methods of this text.
 fn relevant_sets(alloc: Global, text: &str, program: &CoreProgram) -> Result<RelevantSets, Refusal>
-    requires small { length text.now ≤ 262144 }
+    requires small { length text.now ≤ longest_source }
     requires core { (tree : ProgramTree) × HasCore text.now tree (program_of program.now) }
     requires typed { IsTyped (program_of program.now) }
     ensures { MatchResult result (λ s. AreRelevant (program_of program.now) s × AreFew s) (IsRight (NoSource text.now)) }
@@ -110,7 +111,7 @@ fn relevant_sets(alloc: Global, text: &str, program: &CoreProgram) -> Result<Rel
 
 /// Checks the tree of this text: its classes, its types, and how many locks matter.
 pub fn well_formed<'a>(alloc: Global, text: &str, tree: &Program<'a>) -> Result<Source<'a>, Refusal>
-    requires small { length text.now ≤ 262144 }
+    requires small { length text.now ≤ longest_source }
     requires program { IsProgram text.now (tree_of tree.now) }
     ensures { MatchResult result (IsSource text.now (tree_of tree.now)) (IsRight (NoSource text.now)) }
 {
@@ -128,7 +129,7 @@ pub fn well_formed<'a>(alloc: Global, text: &str, tree: &Program<'a>) -> Result<
 /// back node by node takes as long as a tenth of all that `check` does.
 #[tactic(auto, using(crate::proofs::Told::refused_source))]
 pub fn read_source<'a>(alloc: Global, bytes: &'a [u8]) -> Result<Source<'a>, Refusal>
-    requires { length bytes.now ≤ 262144 }
+    requires { length bytes.now ≤ longest_source }
     ensures { MatchResult result (IsSourceOf bytes.now) (IsRight (NoSource bytes.now)) }
 {
     let text = text_of(alloc, bytes)?;

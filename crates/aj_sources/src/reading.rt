@@ -2,6 +2,7 @@
 
 ghost use Rattle.std.specs.Prelude.{◌≡◌, ◌≤◌, ◌⊎◌, ℕ, List, length, IfOk, MatchResult, IsUtf8};
 ghost use Rattle.std.specs.Str.{IsValidUpTo};
+ghost use Rattle.aj_lexer.specs.Limits.{longest_source};
 ghost use Rattle.aj_lexer.specs.Tokens.{Tokens, FirstFault};
 ghost use Rattle.aj_syntax.specs.Faults.{IsUnexpected, IsTooDeep};
 ghost use Rattle.aj_syntax.specs.Views.{program_of};
@@ -16,7 +17,7 @@ use aj_syntax::Program;
 use std::alloc::Global;
 
 fn not_text(alloc: Global, bytes: &[u8], fault: NotText) -> Refusal
-    requires small { length bytes.now ≤ 262144 }
+    requires small { length bytes.now ≤ longest_source }
     requires front { IsValidUpTo bytes.now fault.at }
     ensures { IsRight (NoProgram bytes.now) result }
 {
@@ -28,7 +29,7 @@ fn not_text(alloc: Global, bytes: &[u8], fault: NotText) -> Refusal
 
 /// The text that the bytes of a source are. Takes memory for a refusal alone.
 pub fn text_of(alloc: Global, bytes: &[u8]) -> Result<&str, Refusal>
-    requires { length bytes.now ≤ 262144 }
+    requires { length bytes.now ≤ longest_source }
     ensures { MatchResult result (λ text. text.now ≡ bytes.now) (IsRight (NoProgram bytes.now)) }
 {
     match utf8_text(bytes) {
@@ -38,7 +39,7 @@ pub fn text_of(alloc: Global, bytes: &[u8]) -> Result<&str, Refusal>
 }
 
 fn no_tokens(alloc: Global, text: &str, fault: LexFault) -> Refusal
-    requires small { length text.now ≤ 262144 }
+    requires small { length text.now ≤ longest_source }
     requires first { FirstFault text.now fault }
     ensures { IsRight (NoProgram text.now) result }
 {
@@ -47,7 +48,7 @@ fn no_tokens(alloc: Global, text: &str, fault: LexFault) -> Refusal
 
 /// The tokens of a text.
 fn tokens_of<'a>(alloc: Global, text: &'a str) -> Result<Vec<Token<'a>>, Refusal>
-    requires { length text.now ≤ 262144 }
+    requires { length text.now ≤ longest_source }
     ensures { MatchResult result (λ tokens. Tokens text.now tokens.items) (IsRight (NoProgram text.now)) }
 {
     match lex(alloc, text) {
@@ -59,7 +60,7 @@ fn tokens_of<'a>(alloc: Global, text: &'a str) -> Result<Vec<Token<'a>>, Refusal
 
 /// The offset of a token, or the length of the text for its end.
 fn offset_of(text: &str, tokens: &[Token], place: u32) -> u32
-    requires { length text.now ≤ 262144 }
+    requires { length text.now ≤ longest_source }
     ensures { result ≡ token_offset text.now tokens.now place }
 {
     match tokens.get(place as usize) {
@@ -70,7 +71,7 @@ fn offset_of(text: &str, tokens: &[Token], place: u32) -> u32
 
 /// The refusal of a text for a fault at one of its tokens.
 fn no_tree(alloc: Global, text: &str, tokens: &[Token], fault: ParseFault, place: u32) -> Refusal
-    requires small { length text.now ≤ 262144 }
+    requires small { length text.now ≤ longest_source }
     requires cut { Tokens text.now tokens.now }
     requires stands { ((fault ≡ ParseFault.Unexpected place) × IsUnexpected tokens.now place) ⊎ ((fault ≡ ParseFault.TooDeep place) × IsTooDeep tokens.now place) }
     ensures { IsRight (NoProgram text.now) result }
@@ -81,7 +82,7 @@ fn no_tree(alloc: Global, text: &str, tokens: &[Token], fault: ParseFault, place
 
 /// The tree that the grammar relates to the tokens of a text.
 pub fn tree_of<'a>(alloc: Global, text: &'a str) -> Result<Program<'a>, Refusal>
-    requires { length text.now ≤ 262144 }
+    requires { length text.now ≤ longest_source }
     ensures { MatchResult result (λ tree. IsProgram text.now (program_of tree)) (IsRight (NoProgram text.now)) }
 {
     let tokens = tokens_of(alloc, text)?;

@@ -1,6 +1,7 @@
 //! How a command on files ends, and a refusal on the way.
 
 ghost use Rattle.std.specs.Prelude.{◌≡◌, ◌≤◌, length};
+ghost use Rattle.aj_lexer.specs.Limits.{longest_source};
 ghost use Rattle.aj_report.specs.SourceFaults.{IsTold, source_fault_line};
 ghost use Rattle.aj_sources.specs.Refusals.{Tells};
 
@@ -67,7 +68,7 @@ impl From<AllocError> for Refusal {
 
 /// The refusal of a source for a fault of this text.
 pub fn refuse(alloc: Global, text: &str, fault: &SourceFault) -> Refusal
-    requires small { length text.now ≤ 262144 }
+    requires small { length text.now ≤ longest_source }
     requires told { IsTold fault.now }
     ensures line { Tells Ending.Refused (source_fault_line text.now fault.now) result }
     ensures told { IsTold fault.now }

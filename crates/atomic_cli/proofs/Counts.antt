@@ -2,6 +2,7 @@
 use Rattle.std.proofs.Common.{◌≡◌, ℕ, ◌+◌, ◌≤◌, ◌==◌, Bool, true, false, List, [], ◌∷◌, length, cond, count_by, refl, sym, ap, ◌∙◌, arith}
 use Rattle.std.proofs.lemmas.Bool.Decides.{nat_tests}
 use Rattle.std.proofs.lemmas.List.Recursion.{is_count_by}
+use Rattle.std.proofs.lemmas.Bool.{eq-eqb}
 use Rattle.aj_steps.specs.Run.{IsRearrangement}
 
 -- how often a number stands in a list
@@ -37,11 +38,8 @@ without : (t : ℕ) (r : List ℕ) → 1 ≤ times t r → Without t r
 without t [] le = absurd (omega (arith, le))
 without t (x ∷ xs) le = without_at t x xs (x == t) refl le (without t xs)
 
-itself : (x : ℕ) → (x == x) ≡ true
-itself x = grind (arith, nat_tests)
-
 stands : (x : ℕ) (xs : List ℕ) → times x (x ∷ xs) ≡ 1 + times x xs
-stands x xs = ap (λ b. cond b (1 + times x xs) (times x xs)) (itself x)
+stands x xs = ap (λ b. cond b (1 + times x xs) (times x xs)) (eq-eqb x x refl)
 
 same_times : (s r : List ℕ) → ((t : ℕ) → times t s ≡ times t r) → length s ≡ length r
 same_times [] [] h = refl

@@ -15,6 +15,7 @@ use aj_deriv::BookFault;
 use aj_deriv_check::{Checked, TextWrong, Wrong, accept_text};
 use aj_sources::{Ending, Refusal, Source, read_source};
 use std::alloc::{AllocError as NoMemory, Global};
+use std::mem::forget;
 
 /// The line for the first fault of a text.
 fn fault_line(alloc: Global, fault: BookFault) -> Result<String, NoMemory>
@@ -76,9 +77,18 @@ pub fn verify_book(alloc: Global, file: &[u8], bytes: &[u8]) -> Result<Vec<u8>, 
     ensures { MatchResult result (λ out. VerifyAnswer file.now bytes.now Ending.Done out.items) (IsRight (VerifyAnswer file.now bytes.now)) }
 {
     let source = read_source(alloc, file)?;
-    let Source { program, sets, .. } = source;
+    let Source {
+        table,
+        program,
+        sets,
+    } = source;
+    forget(table);
     match accept_text(alloc, program, sets, bytes) {
-        Ok(checked) => verified(alloc, &checked),
+        Ok(checked) => {
+            let text = verified(alloc, &checked);
+            forget(checked);
+            text
+        }
         Err(refused) => Err(refuse_book(alloc, refused.why)),
     }
 }

@@ -13,7 +13,7 @@ returns-in_err-source c =
     (λ ended line told. no_source told) c.in_err-source.ensures
 
 pub returns-in-Ok : goal.returns-in-Ok
-returns-in-Ok c = verified_result c.args.file.now c.args.bytes.now c.in_ok-source.source c.verified.result _ c.in_ok-source.ensures c.in-Ok.ensures.accepted c.in-Ok.ensures.checked c.verified.ensures
+returns-in-Ok c = verified_result c.args.file.now c.args.bytes.now c.in_ok-source.source c.verified-text.result _ c.in_ok-source.ensures c.in-Ok.ensures.accepted c.in-Ok.ensures.checked c.verified-text.ensures
 
-pub returns : goal.returns
-returns c = book_refusal c.args.file.now c.args.bytes.now c.in_ok-source.source c.in-Err.refused.why c.refuse_book.result c.in_ok-source.ensures c.in-Err.ensures.refused c.in-Err.ensures.only_good c.refuse_book.ensures
+pub returns-in-Err : goal.returns-in-Err
+returns-in-Err c = book_refusal c.args.file.now c.args.bytes.now c.in_ok-source.source c.in-Err.refused.why c.refuse_book.result c.in_ok-source.ensures c.in-Err.ensures.refused c.in-Err.ensures.only_good c.refuse_book.ensures
