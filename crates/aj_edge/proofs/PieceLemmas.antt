@@ -3,11 +3,8 @@ use Rattle.std.proofs.Common.{◌≡◌, ℕ, ◌+◌, ◌-◌, ◌≤◌, List,
 use Rattle.std.proofs.Math.Seq.{take-add}
 use Rattle.std.proofs.lemmas.Grind.{common_steps}
 use Rattle.std.specs.Io.KnownBytes.{Appends}
+use Rattle.std.proofs.lemmas.List.{take_rest}
 use Rattle.aj_edge.specs.Pieces.{GivesFrom}
-
--- the rest of a list, as a slice to its end
-pub take-rest : (n : ℕ) (xs : List ℕ) → take (length xs - n) (drop n xs) ≡ drop n xs
-take-rest n xs = grind (arith, common_steps)
 
 -- what was appended grows by a front of the rest
 pub appends_more : (old mid new : Option (List ℕ)) (bytes : List ℕ) (w n : ℕ) →
@@ -16,7 +13,7 @@ appends_more None mid new bytes w n e f = tt
 appends_more (Some a) None new bytes w n e f = absurd e
 appends_more (Some a) (Some b) None bytes w n e f = absurd f
 appends_more (Some a) (Some b) (Some c) bytes w n e f =
-    let g : c ≡ b ++ take n (drop w bytes) = rw (take-rest w bytes) at f in
+    let g : c ≡ b ++ take n (drop w bytes) = rw (take_rest bytes w) at f in
     rw (take-add w n bytes) (cc (append_assoc a (take w bytes) (take n (drop w bytes))))
 
 -- the length after one chunk more

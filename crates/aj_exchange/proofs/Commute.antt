@@ -4,6 +4,7 @@ use Rattle.std.specs.Prelude.{Option, cond, slice_set}
 use Rattle.std.specs.FinMap as M
 use Rattle.std.specs.FinMap.{same_map, get-insert, get-remove}
 use Rattle.std.specs.Ordering.{eq_by_cmp}
+use Rattle.std.proofs.lemmas.List.{length-set}
 use Rattle.aj_state.specs.declared.value.Address.{Address}
 use Rattle.aj_state.specs.declared.value.Value.{Value}
 use Rattle.aj_state.specs.Memory.{Object, Hold, Heap, Locks, address_cmp, with_value, with_object, with_field, with_lock}
@@ -161,17 +162,12 @@ added_commute (ObjectIs a p) d threads clear = refl
 added_commute (LockIs a h) d threads clear = refl
 added_commute (Prints n) d threads clear = refl
 
-pub length_set : {A : Type 0} (xs : List A) (i : ℕ) (v : A) → length (slice_set xs i v) ≡ length xs
-length_set [] i v = refl
-length_set (x ∷ xs) zero v = refl
-length_set (x ∷ xs) (suc i) v = ap suc (length_set xs i v)
-
 threads_commute : (c d : Change) (threads : List Thread) (t u : ℕ) (x y : Thread) → (t ≡ u → ⊥) → t < length threads → u < length threads → AreClear c d
     → on_threads c (slice_set (on_threads d (slice_set threads u y)) t x) ≡ on_threads d (slice_set (on_threads c (slice_set threads t x)) u y)
 threads_commute c d threads t u x y other ht hu clear =
-    ap (on_threads c) (set_added d (slice_set threads u y) t x (omega (arith, ht, length_set threads u y)) ∙ ap (on_threads d) (set_apart threads t u x y other))
+    ap (on_threads c) (set_added d (slice_set threads u y) t x (omega (arith, ht, length-set threads u y)) ∙ ap (on_threads d) (set_apart threads t u x y other))
     ∙ added_commute c d (slice_set (slice_set threads t x) u y) clear
-    ∙ sym (ap (on_threads d) (set_added c (slice_set threads t x) u y (omega (arith, hu, length_set threads t x))))
+    ∙ sym (ap (on_threads d) (set_added c (slice_set threads t x) u y (omega (arith, hu, length-set threads t x))))
 
 -- two steps of different threads with clear changes commute
 pub moved_swap : (q : State) (t u : ℕ) (m n : Move) → (t ≡ u → ⊥) → t < length q.threads → u < length q.threads → AreClear m.change n.change → moved t m (moved u n q) ≡ moved u n (moved t m q)

@@ -1,6 +1,5 @@
 -- Which steps can't pass each other: two accesses to one field of which one writes, two steps on one lock.
-use Rattle.std.proofs.Common.{◌≡◌, ◌≢◌, ℕ, ◌-◌, ◌==◌, Bool, true, false, ◌||◌, List, [], ◌∷◌, refl, sym, ap, subst, ◌∙◌, Some, None, arith, IsSome}
-use Rattle.std.proofs.lemmas.Bool.Decides.{nat_tests}
+use Rattle.std.proofs.Common.{◌≡◌, ◌≢◌, ℕ, ◌-◌, Bool, true, false, ◌||◌, List, [], ◌∷◌, refl, sym, ap, subst, ◌∙◌, Some, None, IsSome}
 use Rattle.std.specs.Prelude.{Option, is_some, slice_get, option_and_then, cond, nat_lt, if◌then◌else◌}
 use Rattle.std.specs.FinMap as M
 use Rattle.std.proofs.lemmas.Bool.{eqb-true}

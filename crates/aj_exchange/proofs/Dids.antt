@@ -8,7 +8,7 @@ use Rattle.aj_state.specs.declared.value.Value.{Value}
 use Rattle.aj_state.specs.Values.{top}
 use Rattle.aj_state.specs.Memory.{Object, Hold, field_value}
 use Rattle.aj_state.specs.Work as W
-use Rattle.aj_state.specs.Work.{Action, Item, Next, unfolded}
+use Rattle.aj_state.specs.Work.{Action, Item, Next}
 use Rattle.aj_state.specs.States.{Frame, Thread, Ready, Running, Done, Faulted}
 use Rattle.aj_steps.specs.Step.{Shared, Move, Outcome, Moves, Absent, IsDone, HadFaulted, Waits, unless_final, value_at, load, store, binary, and_then, or_else, choose, loop, get, get_value, put, put_value, new, call, call_on, enter, acquire, take, take_held, release, release_held, return_to, start, start_run, act, act_next, enter_first, turn}
 use Rattle.aj_steps.specs.Asks.{Ask, Alone, Reads, Writes, Counts, Takes, Gives, Runs, asks_at, act_asks, next_asks, asks}

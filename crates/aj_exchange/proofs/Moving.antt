@@ -1,5 +1,5 @@
 -- The exchange in runs of typed programs, and what the kinds mean.
-use Rattle.std.proofs.Common.{◌≡◌, ◌≢◌, ℕ, Bool, true, false, ◌||◌, length, refl, ap, Some}
+use Rattle.std.proofs.Common.{◌≡◌, ◌≢◌, ℕ, true, ◌||◌, length, ap, Some}
 use Rattle.std.proofs.lemmas.Bool.{or_right}
 use Rattle.aj_core.specs.Core.{Program}
 use Rattle.aj_core.specs.Typed.{IsTyped}

@@ -6,7 +6,7 @@ use Rattle.aj_core.specs.Core.{Stmt, Stmts, EmptyS, BlockS, LocalS, SetVarS, Set
 use Rattle.aj_state.specs.declared.value.Address.{Address}
 use Rattle.aj_state.specs.Memory.{Heap}
 use Rattle.aj_state.specs.Work as W
-use Rattle.aj_state.specs.Work.{Action, Item, Ex, St, Act, Next, exprs_items, stmts_items, gets, open_expr, open_new, open_stmt, open_block, opened, first_release, open_return, settled, settled_some, unfolded}
+use Rattle.aj_state.specs.Work.{Item, Ex, St, Act, Next, exprs_items, stmts_items, gets, open_expr, open_new, open_stmt, open_block, opened, first_release, open_return, settled, settled_some, unfolded}
 use Rattle.aj_exchange.specs.Sound.{IsSoundAction, AreSoundItems}
 
 module _ (heap : Heap) where

@@ -9,7 +9,7 @@ use Rattle.aj_core.specs.Typed.{IsTyped, LeadsOn, IsLock}
 use Rattle.aj_state.specs.declared.value.Address.{Address}
 use Rattle.aj_state.specs.declared.value.Value.{Value}
 use Rattle.aj_state.specs.Values.{top, under, address_of}
-use Rattle.aj_state.specs.Memory.{Object, Heap, address_cmp, with_value, with_field, new_values}
+use Rattle.aj_state.specs.Memory.{Object, Heap, address_cmp, with_value}
 use Rattle.aj_state.specs.Work as W
 use Rattle.aj_state.specs.Work.{Action, Next, unfolded}
 use Rattle.aj_state.specs.States.{Frame, Thread, Ready, Running, Done, Faulted, State, initial, main_address, new_object, fields_of}

@@ -3,6 +3,7 @@ use Rattle.std.proofs.Common.{◌≡◌, ◌≢◌, ℕ, zero, suc, ◌<◌, Boo
 use Rattle.std.specs.Prelude.{Option, is_some, slice_get, slice_set, if◌then◌else◌}
 use Rattle.std.specs.FinMap as M
 use Rattle.std.proofs.lemmas.Option.{same_Some}
+use Rattle.std.proofs.lemmas.List.{length-set}
 use Rattle.aj_core.specs.Core.{Program, Field}
 use Rattle.aj_state.specs.declared.value.Address.{Address}
 use Rattle.aj_state.specs.declared.value.Value.{Value}
@@ -260,16 +261,11 @@ added_other (LockIs a h) threads u other = refl
 added_other (Prints n) threads u other = refl
 added_other (Starts a m) threads u other = append_other threads (Ready a m) u (λ e. other (ap Some (sym e)))
 
-set_length : {A : Type 0} (xs : List A) (i : ℕ) (v : A) → length (slice_set xs i v) ≡ length xs
-set_length [] i v = refl
-set_length (x ∷ xs) zero v = refl
-set_length (x ∷ xs) (suc i) v = ap suc (set_length xs i v)
-
 -- another thread is as before a step that doesn't start it
 pub thread_kept : (q : State) (t u : ℕ) (m : Move) → (t ≡ u → ⊥) → (started (length q.threads) m.change ≡ Some u → ⊥) → slice_get (moved t m q).threads u ≡ slice_get q.threads u
 thread_kept q t u m other fresh =
     ap (λ (s : State). slice_get s.threads u) (moved_is t m q)
-    ∙ added_other m.change (slice_set q.threads t m.thread) u (subst (λ n. started n m.change ≡ Some u → ⊥) (sym (set_length q.threads t m.thread)) fresh)
+    ∙ added_other m.change (slice_set q.threads t m.thread) u (subst (λ n. started n m.change ≡ Some u → ⊥) (sym (length-set q.threads t m.thread)) fresh)
     ∙ set_other q.threads t u m.thread (λ e. absurd (other (sym e)))
 
 -- a thread that steps is there

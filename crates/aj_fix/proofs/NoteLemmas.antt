@@ -2,7 +2,7 @@
 use Rattle.std.proofs.Common.{◌≡◌, ◌⊎◌, ℕ, zero, suc, ◌+◌, ◌<◌, Bool, true, false, List, [], ◌∷◌, ◌++◌, length, take, get_or, slice_get, slice_set, Some, ◌∙◌, refl, ap, subst, sym, arith, inl, inr}
 use Rattle.std.specs.Prelude.{Option, Contains}
 use Rattle.std.proofs.lemmas.List.Elements.{Contains-push, Contains-push_cases, Contains-append_left, Contains-append_cases}
-use Rattle.std.proofs.lemmas.List.{take_more}
+use Rattle.std.proofs.lemmas.List.{take_more, length-set}
 use Rattle.aj_fix.specs.Waiting.{IsNoted}
 
 -- an item of a list that had one item set
@@ -20,11 +20,6 @@ pub set_here : {A : Type 0} (xs : List A) (m : ℕ) (x : A) → m < length xs �
 set_here [] m x below = absurd (omega arith)
 set_here (y ∷ xs) zero x below = refl
 set_here (y ∷ xs) (suc m) x below = set_here xs m x (omega arith)
-
-pub length_changed : {A : Type 0} (xs : List A) (m : ℕ) (x : A) → length (slice_set xs m x) ≡ length xs
-length_changed [] m x = refl
-length_changed (y ∷ xs) zero x = refl
-length_changed (y ∷ xs) (suc m) x = ap suc (length_changed xs m x)
 
 -- what lists contain
 pub contains_none : (c : ℕ) → Contains [] c → ⊥
@@ -55,7 +50,7 @@ not_both {o} e f = let k : Some true ≡ Some false = sym e ∙ f in absurd (cc)
 -- one cell was noted
 pub noted_one : (cell : ℕ) (waits : List Bool) (listed : List ℕ) → cell < length waits → IsNoted (λ c. c ≡ cell) waits (slice_set waits cell true) listed (listed ++ cell ∷ [])
 noted_one cell waits listed below = record {
-  size = length_changed waits cell true;
+  size = length-set waits cell true;
   all = λ c within same. subst (λ k. slice_get (slice_set waits cell true) k ≡ Some true) (sym same) (set_here waits cell true below);
   still = λ c e. elim (set_at waits cell true c) as (λ _. slice_get (slice_set waits cell true) c ≡ Some true) [
     | inl here ↦ here.1

@@ -3,12 +3,12 @@ use Rattle.std.proofs.Common.{◌≡◌, ◌≢◌, ◌⊎◌, ℕ, zero, suc, �
 use Rattle.std.specs.Prelude.{Result, Ok, Err, OnOk, Contains}
 use Rattle.std.proofs.lemmas.List.Elements.{Contains-push, Contains-append_left, Contains-append_right, Contains-append_cases}
 use Rattle.std.proofs.lemmas.Bool.Decides.{nat_tests}
-use Rattle.std.proofs.lemmas.List.{drop_more}
+use Rattle.std.proofs.lemmas.List.{drop_more, length-set}
 use Rattle.std.proofs.lemmas.Option.{slice_get_within}
 use Rattle.aj_fix.specs.Assignments.{Assignment, IsAbove, IsClosed, IsBetween}
 use Rattle.aj_fix.specs.Waiting.{IsNoted, AreWaiting}
 use Rattle.aj_fix.proofs.AssignmentLemmas.{IsAbove-trans, length-above}
-use Rattle.aj_fix.proofs.NoteLemmas.{set_at, set_here, length_changed, contains_none, contains_cases, flag, not_both}
+use Rattle.aj_fix.proofs.NoteLemmas.{set_at, set_here, contains_none, contains_cases, flag, not_both}
 
 -- between the start and each closed assignment, and on from there
 pub between_then : (met : Assignment → ℕ → Bool) (start x y : Assignment) → IsBetween met start x → IsBetween met x y → IsBetween met start y
@@ -80,7 +80,7 @@ module _ (met : Assignment → ℕ → Bool) (x : Assignment) (waits : List Bool
   -- its demand was met
   pub waiting_met : cell < length waits → IsTrue (met x cell) → AreWaiting met x without (rest ++ next)
   waiting_met below here = record {
-    size = length_changed waits cell false ∙ waiting.size;
+    size = length-set waits cell false ∙ waiting.size;
     quiet = λ c e. elim (set_at waits cell false c) as (λ _. IsTrue (met x c)) [
       | inl same ↦ subst (λ k. IsTrue (met x k)) same.0 here
       | inr other ↦ waiting.quiet c (sym other ∙ e)
@@ -95,7 +95,7 @@ module _ (met : Assignment → ℕ → Bool) (x : Assignment) (waits : List Bool
       → IsNoted (λ c. looks c cell ≡ true) without now next longer → AreWaiting met risen now (rest ++ longer)
   waiting_risen looks risen now longer below above others noted =
       let same = length-above risen x above in
-      let size : length without ≡ length x = length_changed waits cell false ∙ waiting.size in
+      let size : length without ≡ length x = length-set waits cell false ∙ waiting.size in
       record {
         size = noted.size ∙ size ∙ sym same;
         quiet = λ c e. elim (flag without c (subst (λ n. c < n) noted.size (slice_get_within now c false e))) as (λ _. IsTrue (met risen c)) [

@@ -18,13 +18,14 @@ use Rattle.aj_safe.specs.Safe.{IsFree, IsSafe, flags_after}
 use Rattle.aj_turn.specs.Turn.{Accepted}
 use Rattle.aj_state.proofs.MemoryLemmas.{set_other}
 use Rattle.std.specs.Prelude.{slice_set}
-use Rattle.std.proofs.lemmas.Bool.{eqb-false}
+use Rattle.std.proofs.lemmas.Bool.{eqb-false, eq-eqb}
+use Rattle.std.proofs.lemmas.Option.{same_Some}
 use Rattle.aj_steps.proofs.Changed.{ThreadAfter, kept, begun, thread_after}
 use Rattle.aj_held.proofs.SafeSteps.{step_fine, step_safe, initial_safe}
-use Rattle.aj_held.proofs.UnitWords.{Judged, added_entry, judged_words, itself}
+use Rattle.aj_held.proofs.UnitWords.{Judged, added_entry, judged_words}
 
 moves_in : (P : Program) (q r : State) (t : ℕ) (o : Outcome) → outcome P q t ≡ o → state_after q t o ≡ Some r → (move : Move) × (outcome P q t ≡ Moves move) × (moved t move q ≡ r)
-moves_in P q r t (Moves move) is e = (move, is, Rattle.aj_turn.proofs.Actions.some_same e)
+moves_in P q r t (Moves move) is e = (move, is, same_Some _ _ e)
 moves_in P q r t Absent is e = absurd (let k : None ≡ Some r = e in cc)
 moves_in P q r t IsDone is e = absurd (let k : None ≡ Some r = e in cc)
 moves_in P q r t (HadFaulted why) is e = absurd (let k : None ≡ Some r = e in cc)
@@ -39,7 +40,7 @@ module _ (P : Program) (rel : ℕ → List PathData) (A : Assignment) (accepted 
   -- a state that a schedule runs to from a safe one is safe
   pub run_safe : (s : List ℕ) (q r : State) (flags : ℕ → Bool) → IsNumbered q.heap → IsSafe P rel A q flags → run_from P q s ≡ Some r → (later : ℕ → Bool) × IsSafe P rel A r later × IsNumbered r.heap
   run_safe [] q r flags numbered safe is =
-      let same : q ≡ r = Rattle.aj_turn.proofs.Actions.some_same is in
+      let same : q ≡ r = same_Some _ _ is in
       (flags, subst (λ x. IsSafe P rel A x flags) same safe, subst (λ (x : State). IsNumbered x.heap) same numbered)
   run_safe (t ∷ s) q r flags numbered safe is =
       elim (step P q t) as (λ o. step P q t ≡ o → option_and_then (λ next. run_from P next s) o ≡ Some r → (later : ℕ → Bool) × IsSafe P rel A r later × IsNumbered r.heap) [
@@ -50,7 +51,7 @@ module _ (P : Program) (rel : ℕ → List PathData) (A : Assignment) (accepted 
       ] refl is
 
   kind_is : (o : Outcome) → kind_in o ≡ Some Bare → (move : Move) × (o ≡ Moves move) × (move.kind ≡ Bare)
-  kind_is (Moves move) e = (move, refl, Rattle.aj_turn.proofs.Actions.some_same e)
+  kind_is (Moves move) e = (move, refl, same_Some _ _ e)
   kind_is Absent e = absurd (let k : None ≡ Some Bare = e in cc)
   kind_is IsDone e = absurd (let k : None ≡ Some Bare = e in cc)
   kind_is (HadFaulted why) e = absurd (let k : None ≡ Some Bare = e in cc)
@@ -86,7 +87,7 @@ module _ (P : Program) (rel : ℕ → List PathData) (A : Assignment) (accepted 
   other_flag q flags t v move other = λ i. sym (other_inside q t v move other) i && sym (ap (λ b. if b then (inside P q t && flags t) || is_commit move.kind else flags v) other) i
 
   own_flag : (q : State) (flags : ℕ → Bool) (t : ℕ) (kind : StepKind) → flags_after P q flags t kind t ≡ (call_flag q flags t || is_commit kind)
-  own_flag q flags t kind = ap (λ b. if b then (inside P q t && flags t) || is_commit kind else flags t) (itself t)
+  own_flag q flags t kind = ap (λ b. if b then (inside P q t && flags t) || is_commit kind else flags t) (eq-eqb t t refl)
 
   -- what a phase admits outside, a new call admits
   inner_allowed : (i c : Bool) (kind : StepKind) → allowed (phase_of i c) kind ≡ true → allowed (phase_of true (i && c)) kind ≡ true

@@ -1,7 +1,6 @@
 -- The state at the start is safe, and a step of a thread keeps every thread safe.
-use Rattle.std.proofs.Common.{◌≡◌, ◌≢◌, ℕ, zero, suc, Bool, true, false, ◌&&◌, ◌||◌, ◌==◌, List, [], Some, None, refl, sym, ap, subst, ◌∙◌, arith}
+use Rattle.std.proofs.Common.{◌≡◌, ℕ, zero, suc, Bool, true, false, ◌&&◌, ◌||◌, ◌==◌, List, [], Some, None, refl, sym, ap, subst, ◌∙◌}
 use Rattle.std.specs.Prelude.{Option, slice_get, slice_set, if◌then◌else◌}
-use Rattle.std.proofs.lemmas.Bool.Decides.{nat_tests}
 use Rattle.std.specs.FinMap as M
 use Rattle.std.specs.FinMap.{get-empty}
 use Rattle.std.proofs.lemmas.Bool.{eqb-true, eqb-false}
@@ -13,7 +12,7 @@ use Rattle.aj_state.specs.Memory.{Hold, IsNumbered, address_cmp}
 use Rattle.aj_state.specs.States.{Thread, Ready, Running, Done, Faulted, State, initial}
 use Rattle.aj_state.proofs.MemoryLemmas.{set_other, set_same}
 use Rattle.aj_state.proofs.Numbering.{next_free}
-use Rattle.aj_steps.specs.Step.{Change, Starts, Move, Outcome, Moves, Absent, IsDone, HadFaulted, Waits, seen_by, turn, outcome, changed, moved}
+use Rattle.aj_steps.specs.Step.{Change, Move, Outcome, Moves, Absent, seen_by, turn, outcome, moved}
 use Rattle.aj_steps.specs.Run.{inside}
 use Rattle.aj_steps.specs.Units.{is_commit}
 use Rattle.aj_safe.specs.Phases.{phase_of}

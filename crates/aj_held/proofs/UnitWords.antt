@@ -3,7 +3,8 @@ use Rattle.std.proofs.Common.{◌≡◌, ℕ, zero, suc, Bool, true, false, ◌&
 use Rattle.std.specs.Prelude.{slice_get, if◌then◌else◌}
 use Rattle.std.specs.List.{list_all}
 use Rattle.std.proofs.lemmas.Bool.Decides.{nat_tests}
-use Rattle.std.proofs.lemmas.Bool.{and_from}
+use Rattle.std.proofs.lemmas.Bool.{and_from, eq-eqb}
+use Rattle.std.proofs.lemmas.Option.{same_Some}
 use Rattle.aj_state.specs.declared.value.StepKind.{StepKind}
 use Rattle.aj_state.specs.declared.value.StepKind.TheVariants.{Both, Right, Left, Other, Bare}
 use Rattle.aj_steps.specs.Units.{Entry, added, is_of_thread, is_commit, word_of, units}
@@ -57,9 +58,6 @@ other_unit (e ∷ u) t v is other = not_two e.thread t v is other
 
 pub same_thread : (t v : ℕ) → (v == t) ≡ true → v ≡ t
 same_thread t v e = grind (arith, nat_tests)
-
-pub itself : (t : ℕ) → (t == t) ≡ true
-itself t = grind (arith, nat_tests)
 
 -- one more entry at the front of the first unit of its thread
 module _ (e : Entry) where
@@ -117,8 +115,8 @@ added_entry e us S T others false stays leaves allow j = (
 -- units that are judged have reducible words
 pub judged_words : (us : List (List Entry)) (S : ℕ → Bool) → Judged S us → (n : ℕ) (u : List Entry) → slice_get us n ≡ Some u → IsReducible (word_of u)
 judged_words [] S j n u is = absurd (let e : None ≡ Some u = is in cc)
-judged_words ([] ∷ us) S j zero u is = subst (λ x. IsReducible (word_of x)) (Rattle.aj_turn.proofs.Actions.some_same is) (reducible_is [] refl)
-judged_words ((e ∷ u) ∷ us) S j zero w is = subst (λ x. IsReducible (word_of x)) (Rattle.aj_turn.proofs.Actions.some_same is) (accepted_word (S e.thread) (word_of (e ∷ u)) (j.0 e.thread (itself e.thread)))
+judged_words ([] ∷ us) S j zero u is = subst (λ x. IsReducible (word_of x)) (same_Some _ _ is) (reducible_is [] refl)
+judged_words ((e ∷ u) ∷ us) S j zero w is = subst (λ x. IsReducible (word_of x)) (same_Some _ _ is) (accepted_word (S e.thread) (word_of (e ∷ u)) (j.0 e.thread (eq-eqb e.thread e.thread refl)))
 judged_words (u ∷ us) S j (suc n) w is = judged_words us (λ v. if is_of_thread v u then false else S v) j.1 n w is
 
 -- Phases.
@@ -143,7 +141,7 @@ other_phase : (committed : ℕ → Bool) (e : Entry) (v : ℕ) → (v == e.threa
 other_phase committed e v other = sym (ap (λ b. if b then e.inside && (committed e.thread || is_commit e.kind) else committed v) other)
 
 own_phase : (committed : ℕ → Bool) (e : Entry) → next_phase committed e e.thread ≡ (e.inside && (committed e.thread || is_commit e.kind))
-own_phase committed e = ap (λ b. if b then e.inside && (committed e.thread || is_commit e.kind) else committed e.thread) (itself e.thread)
+own_phase committed e = ap (λ b. if b then e.inside && (committed e.thread || is_commit e.kind) else committed e.thread) (eq-eqb e.thread e.thread refl)
 
 phases_judged : (es : List Entry) (committed : ℕ → Bool) → FitPhases committed es → Judged committed (units es)
 phases_judged [] committed f = tt

@@ -17,7 +17,7 @@ use Rattle.aj_machine.specs.declared.machine.StepEnd.TheVariants as ends
 use Rattle.aj_machine.specs.Likeness.{StateStands}
 use Rattle.aj_machine.specs.MachineValue.{MachineValue}
 use Rattle.aj_machine.specs.Standing.{program_run, StandsFor, IsTurn, IsSame}
-use Rattle.aj_held.specs.Watching.{HasMade, IsWatched, IsGuarded, IsWatchedTurn}
+use Rattle.aj_held.specs.Watching.{IsWatched, IsGuarded, IsWatchedTurn}
 use Rattle.aj_held.proofs.Theorem.{held, words}
 
 pub guarded : (m : MachineValue) (s : List ℕ) → IsWatched m s → IsGuarded m s

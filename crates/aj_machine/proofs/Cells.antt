@@ -7,7 +7,7 @@ use Rattle.std.proofs.lemmas.List.{map-set, map-append, set-append_left, set-get
 use Rattle.aj_state.specs.States.{ThreadOf}
 use Rattle.aj_state.specs.Frames.{CellFrame, CodeFrame, code_thread, top_frame}
 
-the_same : {A : Type 0} (o : Option A) (x y : A) → o ≡ Some x → o ≡ Some y → x ≡ y
+pub the_same : {A : Type 0} (o : Option A) (x y : A) → o ≡ Some x → o ≡ Some y → x ≡ y
 the_same o x y a b = cc
 
 module _ (ts : List (ThreadOf CellFrame)) (t : ℕ) (cell : ThreadOf CellFrame) (there : slice_get ts t ≡ Some cell) where

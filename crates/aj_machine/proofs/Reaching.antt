@@ -12,7 +12,7 @@ use Rattle.aj_state.specs.declared.value.Value.TheVariants as value
 use Rattle.aj_state.specs.declared.value.Fault.TheVariants as fault
 use Rattle.aj_state.specs.Values.{under, dropped, taken}
 use Rattle.aj_state.specs.Work as W
-use Rattle.aj_state.specs.Work.{Action, Item, unfolded}
+use Rattle.aj_state.specs.Work.{Action, Item}
 use Rattle.aj_state.specs.States.{Frame, Thread, ThreadOf, Ready, Running, Done, Faulted, StateOf, State}
 use Rattle.aj_state.specs.Frames.{CellFrame, CodeFrame, code_frame, code_thread, frames_in, given, rest_of, HasSpare}
 use Rattle.aj_compile.specs.declared.stack.Code.{Code}

@@ -12,7 +12,7 @@ use Rattle.aj_state.specs.declared.value.StepKind.TheVariants.{Both, Right, Left
 use Rattle.aj_state.specs.Values.{top, under, taken, dropped, as_int, as_truth, address_of, unary_value, binary_value}
 use Rattle.aj_state.specs.Memory.{Hold}
 use Rattle.aj_state.specs.Work as W
-use Rattle.aj_state.specs.Work.{Action, Item, Ex, St, Act, Next, unfolded}
+use Rattle.aj_state.specs.Work.{Action, Item, Ex, St, Act, unfolded}
 use Rattle.aj_state.specs.States.{Frame, ThreadOf, Thread, Running, Done, Faulted, new_frame}
 use Rattle.aj_state.specs.Frames.{CodeFrame, rest_of, first_frame}
 use Rattle.aj_state.specs.Stored as S
@@ -22,11 +22,11 @@ use Rattle.aj_compile.specs.Standing.{Agree, Stands}
 use Rattle.aj_compile.specs.IsCode.{IsCodeOf}
 use Rattle.aj_compile.proofs.Depth.{stands_once}
 use Rattle.aj_steps.specs.Step as D
-use Rattle.aj_steps.specs.Step.{Shared, Change, Nothing, FieldIs, ObjectIs, LockIs, Prints, Starts, MoveOf, OutcomeOf, Outcome, Moves, Absent, IsDone, HadFaulted, Waits, value_at, access_kind, unless_final, index_of, run_of, class_finals, has_result, most_frames, with_result, release_kind, seen_by, act, act_next, turn, changed, moved, outcome, step, state_after, kind_in, kind_of}
+use Rattle.aj_steps.specs.Step.{Shared, Change, Nothing, FieldIs, LockIs, Prints, Starts, OutcomeOf, Outcome, Moves, Absent, IsDone, HadFaulted, Waits, value_at, access_kind, unless_final, index_of, run_of, has_result, most_frames, with_result, release_kind, act, act_next, turn}
 use Rattle.aj_machine.specs.declared.deed.Deed.{Deed}
 use Rattle.aj_machine.specs.declared.deed.Deed.TheVariants as deed
 use Rattle.aj_machine.specs.CodeMachine as C
-use Rattle.aj_machine.specs.CodeMachine.{code_frame_at, deed_of, deed_at, done, code_turn, code_outcome, code_step, code_initial}
+use Rattle.aj_machine.specs.CodeMachine.{code_frame_at, deed_of, deed_at, done, code_turn}
 use Rattle.aj_machine.specs.Likeness.{with_work, IsLeft, FramesStand, no_frames, more_frames, ThreadStands, ready_stands, running_stands, done_stands, faulted_stands}
 
 -- outcomes that stand for outcomes: of the same kind and change, with threads that stand for threads

@@ -21,6 +21,7 @@ use Rattle.aj_machine.specs.declared.deed.Deed.{Deed}
 use Rattle.aj_machine.specs.declared.deed.Deed.TheVariants as deed
 use Rattle.aj_machine.specs.Rooms.{HasRoomOf}
 use Rattle.aj_machine.specs.Counts.{IsCounted}
+use Rattle.aj_machine.proofs.Cells.{the_same}
 use Rattle.aj_machine.proofs.Counting.{deed_ok}
 use Rattle.aj_machine.proofs.Following.{follows, room_followed}
 use Rattle.aj_machine.proofs.Simulation.{same_place}
@@ -36,9 +37,6 @@ frames_code (Ready a m) = refl
 frames_code (Running fs) = refl
 frames_code Done = refl
 frames_code (Faulted kind fs) = refl
-
-the_same : {A : Type 0} (o : Option A) (x y : A) → o ≡ Some x → o ≡ Some y → x ≡ y
-the_same o x y a b = cc
 
 none_turn : {F : Type 0} {a : Address} {m place most : ℕ} {kind : Fault} → turn.Enters a m place most ≡ turn.Fails kind → F
 none_turn is = absurd cc

@@ -23,7 +23,7 @@ use Rattle.aj_machine.specs.declared.deed.Deed.TheVariants as deed
 use Rattle.aj_machine.specs.declared.deed.Turn.{Turn}
 use Rattle.aj_machine.specs.declared.deed.Turn.TheVariants as turn
 use Rattle.aj_machine.specs.CodeMachine as C
-use Rattle.aj_machine.specs.CodeMachine.{deed_of, done, code_turn, deed_at, code_frame_at, entered, next_object, enter_first}
+use Rattle.aj_machine.specs.CodeMachine.{deed_of, done, code_turn, code_frame_at, entered, next_object, enter_first}
 use Rattle.aj_machine.specs.Deeds.{Can, IsOwned, called_thread, deed_thread, deed_heap, deed_locks, deed_output}
 use Rattle.aj_machine.specs.Reasons.{IsReason}
 use Rattle.aj_machine.specs.declared.machine.StepEnd.TheVariants as ends

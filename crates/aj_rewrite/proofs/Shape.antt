@@ -1,6 +1,5 @@
 -- Units: each is of one thread and has places of its own, and a thread's units stand in turn.
-use Rattle.std.proofs.Common.{◌≡◌, ℕ, ◌<◌, ◌≤◌, Bool, true, false, ◌==◌, List, [], ◌∷◌, ◌++◌, refl, sym, subst, arith}
-use Rattle.std.proofs.lemmas.Bool.Decides.{nat_tests}
+use Rattle.std.proofs.Common.{◌≡◌, ℕ, ◌<◌, ◌≤◌, Bool, true, false, List, [], ◌∷◌, ◌++◌, refl, sym, subst, arith}
 use Rattle.std.specs.Prelude.{nat_le, if◌then◌else◌}
 use Rattle.std.proofs.lemmas.Bool.{leb-true, leb-false}
 use Rattle.aj_steps.specs.Units.{Entry, is_of_thread, is_commit, commit_place, placed, in_order}
@@ -54,9 +53,6 @@ pub record IsFine (n : ℕ) (u : List Entry) : Type 0 where
   pub is : u ≡ first ∷ rest
   pub one : Each (IsOf first.thread) u
   pub places : Each (λ e. n ≤ e.place) u
-
-pub itself : (a : ℕ) → (a == a) ≡ true
-itself a = grind (arith, nat_tests)
 
 -- a commit place is the place of an entry of the unit
 pub commit_above : (n : ℕ) (e : Entry) (u : List Entry) → n ≤ e.place → Each (λ x. n ≤ x.place) u → n ≤ commit_place (e ∷ u)

@@ -1,8 +1,8 @@
 -- Entries slide past each other: runs to the same state, in which each thread passes through the same own states.
 use Rattle.std.proofs.Common.{◌≡◌, ◌≢◌, ℕ, suc, zero, ◌<◌, ◌≤◌, ◌==◌, Bool, true, false, ◌⊎◌, inl, inr, List, [], ◌∷◌, ◌++◌, length, refl, sym, ap, subst, ◌∙◌, Some, arith}
-use Rattle.std.proofs.lemmas.Bool.Decides.{nat_tests}
 use Rattle.std.specs.Prelude.{map, slice_get, slice_set, if◌then◌else◌}
 use Rattle.std.proofs.lemmas.Bool.{eqb-true}
+use Rattle.std.proofs.lemmas.List.{length-set}
 use Rattle.aj_core.specs.Core.{Program}
 use Rattle.aj_core.specs.Typed.{IsTyped}
 use Rattle.aj_state.specs.declared.value.StepKind.{StepKind}
@@ -49,11 +49,6 @@ length_append : {A : Type 0} (xs : List A) (x : A) → length (xs ++ x ∷ []) �
 length_append [] x = refl
 length_append (y ∷ ys) x = ap suc (length_append ys x)
 
-set_length : {A : Type 0} (xs : List A) (i : ℕ) (v : A) → length (slice_set xs i v) ≡ length xs
-set_length [] i v = refl
-set_length (x ∷ xs) zero v = refl
-set_length (x ∷ xs) (suc i) v = ap suc (set_length xs i v)
-
 grown : (c : Change) (threads : List Thread) → length threads ≤ length (on_threads c threads)
 grown Nothing threads = omega arith
 grown (FieldIs a i v) threads = omega arith
@@ -67,7 +62,7 @@ pub threads_grow : (q : State) (t : ℕ) (m : Move) → length q.threads ≤ len
 threads_grow q t m =
     let e = ap (λ (s : State). length s.threads) (moved_is t m q) in
     let g = grown m.change (slice_set q.threads t m.thread) in
-    let l = set_length q.threads t m.thread in
+    let l = length-set q.threads t m.thread in
     omega (arith, e, g, l)
 
 -- a thread's own state after its step

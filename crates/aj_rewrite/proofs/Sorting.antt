@@ -1,8 +1,8 @@
 -- A run becomes the run of its units in order, by induction on the run from its end.
-use Rattle.std.proofs.Common.{◌≡◌, ◌≢◌, ℕ, suc, ◌<◌, ◌≤◌, ◌==◌, Bool, true, false, ◌||◌, ◌&&◌, inl, inr, List, [], ◌∷◌, ◌++◌, length, refl, sym, ap, subst, ◌∙◌, arith}
+use Rattle.std.proofs.Common.{◌≡◌, ◌≢◌, ℕ, suc, ◌<◌, ◌≤◌, ◌==◌, Bool, true, false, ◌||◌, inl, inr, List, [], ◌∷◌, ◌++◌, length, refl, sym, ap, subst, ◌∙◌, arith}
 use Rattle.std.specs.Prelude.{if◌then◌else◌}
 use Rattle.std.specs.List.{list_all}
-use Rattle.std.proofs.lemmas.Bool.{eqb-true, and_parts, or_right}
+use Rattle.std.proofs.lemmas.Bool.{eqb-true, and_parts, or_right, eq-eqb}
 use Rattle.aj_core.specs.Core.{Program}
 use Rattle.aj_core.specs.Typed.{IsTyped}
 use Rattle.aj_state.specs.declared.value.StepKind.{StepKind}
@@ -14,7 +14,7 @@ use Rattle.aj_steps.proofs.WordLemmas.{left_reducible}
 use Rattle.aj_exchange.specs.Sound.{IsSound}
 use Rattle.aj_exchange.proofs.Swap.{stepper}
 use Rattle.aj_rewrite.specs.Runs.{Run}
-use Rattle.aj_rewrite.proofs.Shape.{Each, each_more, flat, has, got, without, IsOf, IsFine, IsLater, InTurn, itself, fine_above, commit_added, each_in_order}
+use Rattle.aj_rewrite.proofs.Shape.{Each, each_more, flat, has, got, without, IsOf, IsFine, IsLater, InTurn, fine_above, commit_added, each_in_order}
 use Rattle.aj_rewrite.proofs.Ordering.{added_by, has_by, got_by, without_by, least_first, added_in_order, commit_in_order, alone_in_order, got_each, has_in_order}
 use Rattle.aj_rewrite.proofs.Slides.{Passes, Becomes, behind, behind_all, becomes_itself, becomes_then, slide, slide_all, sound_fits, fits_grow}
 
@@ -175,7 +175,7 @@ right_no_other Bare r e = cc
 
 -- entries of a unit of another thread
 others : (t : ℕ) (u : List Entry) (n : ℕ) → IsFine n u → is_of_thread t u ≡ false → Each (λ x. x.thread ≡ t → ⊥) u
-others t u n f not = each_more (IsOf f.first.thread) (λ x. x.thread ≡ t → ⊥) (λ x h e. absurd (let c : true ≡ false = sym (itself t) ∙ ap (λ k. k == t) (sym e ∙ h) ∙ sym (ap (is_of_thread t) f.is) ∙ not in cc)) u f.one
+others t u n f not = each_more (IsOf f.first.thread) (λ x. x.thread ≡ t → ⊥) (λ x h e. absurd (let c : true ≡ false = sym (eq-eqb t t refl) ∙ ap (λ k. k == t) (sym e ∙ h) ∙ sym (ap (is_of_thread t) f.is) ∙ not in cc)) u f.one
 
 owns : (t : ℕ) (u : List Entry) (n : ℕ) → IsFine n u → is_of_thread t u ≡ true → Each (IsOf t) u
 owns t u n f is = each_more (IsOf f.first.thread) (IsOf t) (λ x h. h ∙ of_first t u n f is) u f.one

@@ -1,7 +1,7 @@
 -- A list that fits fits each smaller phase, and a memory that has grown; and what a return leaves of it fits too.
-use Rattle.std.proofs.Common.{◌≡◌, ℕ, Bool, true, false, ◌||◌, ◌==◌, List, [], ◌∷◌, ◌++◌, Some, None, refl, sym, ap, subst, arith}
-use Rattle.std.proofs.lemmas.Bool.Decides.{nat_tests}
+use Rattle.std.proofs.Common.{◌≡◌, ℕ, Bool, true, false, ◌||◌, ◌==◌, List, [], ◌∷◌, ◌++◌, Some, None, refl, sym, ap, subst}
 use Rattle.std.specs.Prelude.{Option, slice_get, unwrap_or, if◌then◌else◌}
+use Rattle.std.proofs.lemmas.Bool.{eq-eqb}
 use Rattle.aj_paths.specs.Paths.{PathData}
 use Rattle.aj_algebra.specs.declared.basic.Basic.TheVariants.{Atomic}
 use Rattle.aj_algebra.specs.Basics.{seq_of, join_of, star_of}
@@ -139,11 +139,8 @@ module _ (P : Program) (rel : ℕ → List PathData) (A : Assignment) (h k : Mem
   fits_moves [] env os p q small f = falls p q small f
   fits_moves (i ∷ more) env os p q small f = item_moves more (Fits P rel A h outer K more) (Fits P rel A k outer L more) (λ e r. fits_moves more e r) i env os p q small f
 
-itself : (x : ℕ) → (x == x) ≡ true
-itself x = grind (arith, nat_tests)
-
 pub same_slot : (env : Env) (x : ℕ) (v : Value) → with_slot env x v x ≡ v
-same_slot env x v = ap (λ b. if b then v else env x) (itself x)
+same_slot env x v = ap (λ b. if b then v else env x) (eq-eqb x x refl)
 
 pub other_slot : (env : Env) (x : ℕ) (v : Value) (y : ℕ) → (x == y) ≡ false → with_slot env x v y ≡ env y
 other_slot env x v y e = ap (λ b. if b then v else env y) e

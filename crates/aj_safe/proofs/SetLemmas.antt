@@ -1,8 +1,8 @@
 -- Sets of held paths along the statements of a block.
-use Rattle.std.proofs.Common.{◌≡◌, ℕ, Bool, true, false, ◌||◌, ◌==◌, List, ◌++◌, Some, None, refl, sym, ap, subst, ◌∙◌, arith}
+use Rattle.std.proofs.Common.{◌≡◌, ℕ, Bool, true, false, ◌==◌, List, ◌++◌, Some, None, refl, sym, ap, subst, ◌∙◌, arith}
 use Rattle.std.specs.Prelude.{Option, length, nat_le, if◌then◌else◌}
 use Rattle.std.proofs.lemmas.Bool.Decides.{nat_tests}
-use Rattle.std.proofs.lemmas.Bool.{eqb-true}
+use Rattle.std.proofs.lemmas.Bool.{eqb-true, or_parts}
 use Rattle.aj_paths.specs.Paths.{PathData, extended, most_fields}
 use Rattle.aj_algebra.specs.HeldPaths.{Held, holds_at}
 use Rattle.aj_core.specs.Core.{Program, Expr, Stmt, Stmts, EmptyS, BlockS, LocalS, SetVarS, SetFieldS, DoS, IfS, WhileS, SyncS, ReturnS, PrintS, StartS, and_stmt}
@@ -13,14 +13,6 @@ use Rattle.aj_state.specs.declared.value.Value.TheVariants as value
 use Rattle.aj_safe.specs.Leads.{Env, Memory, lead_from, lead, Sound, MayLeadTo}
 use Rattle.aj_safe.specs.Fits.{Agrees, Apart, Fresh, FreshEach, stores, stores_each}
 use Rattle.aj_safe.proofs.LeadLemmas.{then_parts, from_append}
-
-pub first_false : (a b : Bool) → (a || b) ≡ false → a ≡ false
-first_false true b e = e
-first_false false b e = refl
-
-pub second_false : (a b : Bool) → (a || b) ≡ false → b ≡ false
-second_false true b e = absurd (let k : true ≡ false = e in cc)
-second_false false b e = e
 
 if_chosen : {A : Type 0} (t : Bool) (x y : A) → (if t then Some x else None) ≡ Some y → x ≡ y
 if_chosen true x y e = cc
@@ -97,16 +89,16 @@ module _ (H : Held) (ss : Stmts) (x : ℕ) (apart : stores_each ss x ≡ false) 
   local_fresh (Some p) = record { at = λ q has. alias_fresh p q (q.root == x) refl has }
 
 pub after_fresh : (P : Program) (st : Stmt) (ss : Stmts) (H : Held) → Apart st ss → FreshEach H (and_stmt st ss) → FreshEach (after_stmt P st H) ss
-after_fresh P (LocalS x true ty e) ss H apart f = local_fresh H ss x apart (λ q has. second_false (x == q.root) (stores_each ss q.root) (f.at q has)) (path_of P e)
-after_fresh P (LocalS x false ty e) ss H apart f = record { at = λ q has. second_false (stores (LocalS x false ty e) q.root) (stores_each ss q.root) (f.at q has) }
+after_fresh P (LocalS x true ty e) ss H apart f = local_fresh H ss x apart (λ q has. (or_parts (x == q.root) (stores_each ss q.root) (f.at q has)).1) (path_of P e)
+after_fresh P (LocalS x false ty e) ss H apart f = record { at = λ q has. (or_parts (stores (LocalS x false ty e) q.root) (stores_each ss q.root) (f.at q has)).1 }
 after_fresh P EmptyS ss H apart f = record { at = λ q has. f.at q has }
-after_fresh P (BlockS ts) ss H apart f = record { at = λ q has. second_false (stores (BlockS ts) q.root) (stores_each ss q.root) (f.at q has) }
-after_fresh P (SetVarS x e) ss H apart f = record { at = λ q has. second_false (stores (SetVarS x e) q.root) (stores_each ss q.root) (f.at q has) }
+after_fresh P (BlockS ts) ss H apart f = record { at = λ q has. (or_parts (stores (BlockS ts) q.root) (stores_each ss q.root) (f.at q has)).1 }
+after_fresh P (SetVarS x e) ss H apart f = record { at = λ q has. (or_parts (stores (SetVarS x e) q.root) (stores_each ss q.root) (f.at q has)).1 }
 after_fresh P (SetFieldS e x g) ss H apart f = record { at = λ q has. f.at q has }
 after_fresh P (DoS e drops) ss H apart f = record { at = λ q has. f.at q has }
-after_fresh P (IfS c t u) ss H apart f = record { at = λ q has. second_false (stores (IfS c t u) q.root) (stores_each ss q.root) (f.at q has) }
-after_fresh P (WhileS c t) ss H apart f = record { at = λ q has. second_false (stores (WhileS c t) q.root) (stores_each ss q.root) (f.at q has) }
-after_fresh P (SyncS p t) ss H apart f = record { at = λ q has. second_false (stores (SyncS p t) q.root) (stores_each ss q.root) (f.at q has) }
+after_fresh P (IfS c t u) ss H apart f = record { at = λ q has. (or_parts (stores (IfS c t u) q.root) (stores_each ss q.root) (f.at q has)).1 }
+after_fresh P (WhileS c t) ss H apart f = record { at = λ q has. (or_parts (stores (WhileS c t) q.root) (stores_each ss q.root) (f.at q has)).1 }
+after_fresh P (SyncS p t) ss H apart f = record { at = λ q has. (or_parts (stores (SyncS p t) q.root) (stores_each ss q.root) (f.at q has)).1 }
 after_fresh P (ReturnS e) ss H apart f = record { at = λ q has. f.at q has }
 after_fresh P (PrintS e) ss H apart f = record { at = λ q has. f.at q has }
 after_fresh P (StartS e) ss H apart f = record { at = λ q has. f.at q has }

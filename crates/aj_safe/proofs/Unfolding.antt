@@ -3,6 +3,7 @@ use Rattle.std.proofs.Common.{◌≡◌, ◌⊎◌, inl, inr, ℕ, zero, suc, �
 use Rattle.std.specs.Prelude.{Option, slice_get, length, nat_le, if◌then◌else◌}
 use Rattle.std.specs.List.{list_all}
 use Rattle.std.proofs.lemmas.Bool.Decides.{nat_tests}
+use Rattle.std.proofs.lemmas.Bool.{or_parts}
 use Rattle.aj_paths.specs.Paths.{PathData, extended, most_fields}
 use Rattle.aj_algebra.specs.declared.basic.Basic.TheVariants.{Const, Mover, Atomic}
 use Rattle.aj_algebra.specs.Basics.{seq_of, join_of, star_of}
@@ -26,7 +27,7 @@ use Rattle.aj_safe.specs.Fits.{Agrees, Fresh, FreshEach, TidyE, TidyEach, TidyS,
 use Rattle.aj_safe.proofs.PhaseLemmas.{passes_map, passes_seq, const_stays, const_passes, mover_stays}
 use Rattle.aj_safe.proofs.LeadLemmas.{sound_more}
 use Rattle.aj_safe.proofs.FitLemmas.{fits_left, same_slot, other_slot}
-use Rattle.aj_safe.proofs.SetLemmas.{after_sound, after_fresh, first_false, second_false}
+use Rattle.aj_safe.proofs.SetLemmas.{after_sound, after_fresh}
 
 -- Releases in lists of parts, and paths of arguments.
 
@@ -206,14 +207,14 @@ module _ (P : Program) (rel : ℕ → List PathData) (A : Assignment) (h : Memor
     set = H;
     sound = sound_more P h env H (held_at more) (held_at (stmts_items ss more)) (λ a is. or_first (has_release a more) _ (outer a) (sym (stmts_release a ss more)) is) s;
     rest = (
-      record { at = λ q has. first_false (stores st q.root) (stores_each ss q.root) (fresh.at q has) },
+      record { at = λ q has. (or_parts (stores st q.root) (stores_each ss q.root) (fresh.at q has)).0 },
       tidy.0,
       passes_map _ _ p (effect P rel A st H)
           (λ q g later agrees.
-          let first : Fresh H st = record { at = λ x has. first_false (stores st x.root) (stores_each ss x.root) (fresh.at x has) } in
+          let first : Fresh H st = record { at = λ x has. (or_parts (stores st x.root) (stores_each ss x.root) (fresh.at x has)).0 } in
           block_fits ss more later (after_stmt P st H) q (after_sound P h env later (held_at more) st H agrees first s) (after_fresh P st ss H tidy.1 fresh) tidy.2
           (passes_map _ _ q (block_effect P rel A ss (after_stmt P st H))
-          (λ x k last kept. k last (λ y other. kept y (second_false (stores st y) (stores_each ss y) other) ∙ agrees.kept y (first_false (stores st y) (stores_each ss y) other))) g))
+          (λ x k last kept. k last (λ y other. kept y ((or_parts (stores st y) (stores_each ss y) other).1) ∙ agrees.kept y ((or_parts (stores st y) (stores_each ss y) other).0))) g))
           (passes_seq _ p (effect P rel A st H) (block_effect P rel A ss (after_stmt P st H)) r),
     );
   }
@@ -306,8 +307,8 @@ module _ (P : Program) (rel : ℕ → List PathData) (A : Assignment) (h : Memor
           set = H;
           sound = s;
           rest = (
-            record { at = λ x has. first_false (stores t x.root) (stores u x.root) (fresh.at x has) },
-            record { at = λ x has. second_false (stores t x.root) (stores u x.root) (fresh.at x has) },
+            record { at = λ x has. (or_parts (stores t x.root) (stores u x.root) (fresh.at x has)).0 },
+            record { at = λ x has. (or_parts (stores t x.root) (stores u x.root) (fresh.at x has)).1 },
             tidy.2,
             tidy.3,
             passes_map (After (IfS c t u) more env) _ q (join_of (effect P rel A t H) (effect P rel A u H)) (λ x k later kept. k later (record { kept = kept; local = tt })) g,

@@ -9,10 +9,11 @@ use Rattle.std.specs.Char.{is_ascii_digit}
 use Rattle.std.specs.Option.{option_map}
 use Rattle.std.specs.Str.{all_ascii_digits}
 use Rattle.std.specs.Str.Parse.{digits_value}
+use Rattle.std.proofs.lemmas.Bool.{eqb-true, false_from_ne_true}
 use Rattle.aj_schedule.specs.Text.{Piece, blank, comment, single, group, spelled, is_blank, ends_entry, ends_comment, IsPiece, joined, ArePieces}
 use Rattle.aj_schedule.specs.Faults.{writes_number, first_digits, after_digits, begins_count, count_fault, form_fault, HasFormFault}
 use Rattle.aj_schedule.specs.Fronts.{IsFront, ends_in_star, NoNumber}
-use Rattle.aj_schedule.proofs.NumberLemmas.{digits_are, take-digits, false_unless, number_is, same_number}
+use Rattle.aj_schedule.proofs.NumberLemmas.{digits_are, take-digits, number_is}
 use Rattle.aj_schedule.proofs.FrontLemmas.{fault_cases}
 use Rattle.aj_schedule.proofs.UniqueLemmas.{begins_with, first_of, digits_all, front_digit, drop-front, Reads, reads_of, same_piece}
 
@@ -57,7 +58,7 @@ some_digits low end ds small w =
     subst (λ d. 0 < length d) n.0 (decimal_nonempty (digits_value 10 ds) (omega (arith, n.2, small)))
 
 none_written : (low end : ℕ) → end ≤ 2 ^ 64 → writes_number low end [] ≡ false
-none_written low end small = false_unless (writes_number low end []) (λ w. let some = some_digits low end [] small w in omega (arith, some))
+none_written low end small = false_from_ne_true (writes_number low end []) (λ w. let some = some_digits low end [] small w in omega (arith, some))
 
 -- a byte that is no digit
 digits_none : (byte : ℕ) (more : List ℕ) → is_ascii_digit byte ≡ false → first_digits (byte ∷ more) ≡ []
@@ -183,7 +184,7 @@ behind_count_breaks ds es (byte ∷ more) all w alle we goes stop = bad_byte byt
 
 star_first : (rest : List ℕ) → begins_count rest ≡ true → rest ≡ 42 ∷ drop 1 rest
 star_first [] e = absurd (cc)
-star_first (byte ∷ more) e = ap (λ b. b ∷ more) (same_number byte 42 e)
+star_first (byte ∷ more) e = ap (λ b. b ∷ more) (eqb-true byte 42 e)
 
 -- fronts of entries
 front_single : (ds : List ℕ) → writes_number 0 (2 ^ 32) ds ≡ true → IsFront ds

@@ -5,15 +5,12 @@ use Rattle.std.proofs.lemmas.Grind.{common_steps}
 use Rattle.std.specs.List.{prefix_len, list_all}
 use Rattle.std.specs.Option.{option_map}
 use Rattle.std.specs.Str.Parse.{digits_value}
+use Rattle.std.proofs.lemmas.List.{take_rest}
 use Rattle.aj_schedule.specs.Text.{blank, comment, single, group, is_blank, ends_entry, ends_comment, BeginsWith, BeginsWithCount}
 use Rattle.aj_schedule.specs.Faults.{writes_number, first_digits, after_digits, begins_count, count_fault, form_fault}
 use Rattle.aj_schedule.proofs.NumberLemmas.{take-digits, number_is}
 
--- the rest of a list, as a slice to its end
-pub take-rest : (n : ℕ) (xs : List ℕ) → take (length xs - n) (drop n xs) ≡ drop n xs
-take-rest n xs = grind (arith, common_steps)
-
-drop-drop : (n m : ℕ) (xs : List ℕ) → drop n (drop m xs) ≡ drop (m + n) xs
+pub drop-drop : (n m : ℕ) (xs : List ℕ) → drop n (drop m xs) ≡ drop (m + n) xs
 drop-drop n m xs = grind (arith, common_steps)
 
 written_if : (b : Bool) (n m : ℕ) → Some n ≡ (if b then Some m else None) → (b ≡ true) × (n ≡ m)
@@ -34,14 +31,14 @@ pub count_front : (text : List ℕ) (count size : ℕ) → size ≡ length (firs
     ends_entry (take (length text - size) (drop size text)) ≡ true → BeginsWithCount text count size
 count_front text count size at within found ends =
     let number = found_number text 1 (2 ^ 64) count size at found in
-    record { bytes = number.1; within = within; positive = number.2; fits = number.3; ends = subst (λ t. ends_entry t ≡ true) (take-rest size text) ends }
+    record { bytes = number.1; within = within; positive = number.2; fits = number.3; ends = subst (λ t. ends_entry t ≡ true) (take_rest text size) ends }
 
 pub single_front : (text : List ℕ) (thread size : ℕ) → size ≡ length (first_digits text) → size ≤ length text →
     Some thread ≡ (if writes_number 0 (2 ^ 32) (first_digits text) then Some (digits_value 10 (first_digits text)) else None) →
     ends_entry (take (length text - size) (drop size text)) ≡ true → BeginsWith text (single thread) size
 single_front text thread size at within found ends =
     let number = found_number text 0 (2 ^ 32) thread size at found in
-    record { bytes = number.1; within = within; piece_is = (number.3, subst (λ t. ends_entry t ≡ true) (take-rest size text) ends) }
+    record { bytes = number.1; within = within; piece_is = (number.3, subst (λ t. ends_entry t ≡ true) (take_rest text size) ends) }
 
 -- a list that begins with a byte
 first_byte : (rest : List ℕ) (byte : ℕ) → 0 < length rest → get_or rest 0 0 ≡ byte → rest ≡ byte ∷ drop 1 rest
@@ -68,8 +65,8 @@ pub star_rest : (text : List ℕ) (size : ℕ) → ends_entry (take (length text
     drop size text ≡ 42 ∷ drop 1 (drop size text)
 star_rest text size goes star =
     let rest = drop size text in
-    let goes' : ends_entry rest ≡ false = subst (λ t. ends_entry t ≡ false) (take-rest size text) goes in
-    let star' : get_or rest 0 0 ≡ 42 = subst (λ t. get_or t 0 0 ≡ 42) (take-rest size text) star in
+    let goes' : ends_entry rest ≡ false = subst (λ t. ends_entry t ≡ false) (take_rest text size) goes in
+    let star' : get_or rest 0 0 ≡ 42 = subst (λ t. get_or t 0 0 ≡ 42) (take_rest text size) star in
     first_byte rest 42 (some rest goes') star'
   where
     some : (t : List ℕ) → ends_entry t ≡ false → 0 < length t
@@ -78,7 +75,7 @@ star_rest text size goes star =
 
 -- the text behind the star, as a slice of a slice
 pub star_tail : (text : List ℕ) (size : ℕ) → take (length (take (length text - size) (drop size text)) - 1) (drop 1 (take (length text - size) (drop size text))) ≡ drop 1 (drop size text)
-star_tail text size = take-rest 1 (take (length text - size) (drop size text)) ∙ ap (drop 1) (take-rest size text)
+star_tail text size = take_rest (take (length text - size) (drop size text)) 1 ∙ ap (drop 1) (take_rest text size)
 
 pub group_front : (text tail : List ℕ) (thread size count digits : ℕ) → size ≡ length (first_digits text) → size ≤ length text →
     Some thread ≡ (if writes_number 0 (2 ^ 32) (first_digits text) then Some (digits_value 10 (first_digits text)) else None) →
@@ -108,7 +105,7 @@ pub count_behind : (text tail : List ℕ) (thread size offset : ℕ) → ends_en
 count_behind text tail thread size offset begins at found goes rest fault =
     let number = found_number text 0 (2 ^ 32) thread size at found in
     let after : after_digits text ≡ 42 ∷ tail = ap (λ n. drop n text) (sym at) ∙ rest in
-    let goes' : ends_entry (after_digits text) ≡ false = subst (λ t. ends_entry t ≡ false) (take-rest size text ∙ ap (λ n. drop n text) at) goes in
+    let goes' : ends_entry (after_digits text) ≡ false = subst (λ t. ends_entry t ≡ false) (take_rest text size ∙ ap (λ n. drop n text) at) goes in
     let star : begins_count (after_digits text) ≡ true = ap begins_count after in
     let fault' : count_fault (drop 1 (after_digits text)) ≡ Some offset = ap (λ t. count_fault (drop 1 t)) after ∙ fault in
     fault_cases (ends_entry text) (writes_number 0 (2 ^ 32) (first_digits text)) (ends_entry (after_digits text)) (begins_count (after_digits text)) (length (first_digits text)) offset (count_fault (drop 1 (after_digits text)))
@@ -118,7 +115,7 @@ pub blank_front : (text : List ℕ) → 0 < length text → is_blank (get_or tex
 blank_front [] some e = absurd (omega arith)
 blank_front (byte ∷ text) some e = record { bytes = refl; within = omega arith; piece_is = e }
 
-one_more : (n : ℕ) → 1 + n ≡ suc n
+pub one_more : (n : ℕ) → 1 + n ≡ suc n
 one_more n = omega arith
 
 not_false : (b : Bool) → not b ≡ false → b ≡ true

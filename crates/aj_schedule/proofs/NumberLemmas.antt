@@ -7,7 +7,7 @@ use Rattle.std.proofs.lemmas.List.{take-take}
 use Rattle.std.proofs.lemmas.List.Sums.{take_while-cons, prefix_len_passes, prefix_len_stops}
 use Rattle.std.proofs.lemmas.List.Folds.{length-prefix_len}
 use Rattle.std.proofs.lemmas.Slice.Eq.{bytes_eq-Decides}
-use Rattle.std.proofs.lemmas.Bool.{ltb-false, le-ltb}
+use Rattle.std.proofs.lemmas.Bool.{ltb-false, le-ltb, eqb-true, false_from_ne_true, and_from}
 use Rattle.std.proofs.lemmas.Bool.Decides.{nat_tests}
 use Rattle.std.proofs.lemmas.Option.{cond_some}
 use Rattle.std.specs.List.{prefix_len}
@@ -37,13 +37,6 @@ pub and_both : (a b : Bool) → (a && b) ≡ true → (a ≡ true) × (b ≡ tru
 and_both true b e = (refl, e)
 and_both false b e = absurd (cc)
 
-pub and_true : (a b : Bool) → a ≡ true → b ≡ true → (a && b) ≡ true
-and_true a b p q = rw (p, q) refl
-
-pub false_unless : (b : Bool) → (b ≡ true → ⊥) → b ≡ false
-false_unless true h = absurd (h refl)
-false_unless false h = refl
-
 same_test : (a b : Bool) → (a ≡ true → b ≡ true) → (b ≡ true → a ≡ true) → a ≡ b
 same_test true true to from = refl
 same_test true false to from = sym (to refl)
@@ -62,9 +55,6 @@ is_less a b e = grind (arith, nat_tests)
 is_at_most : (a b : ℕ) → a ≤ b → nat_le a b ≡ true
 is_at_most a b e = grind (arith, nat_tests)
 
-pub same_number : (a b : ℕ) → (a == b) ≡ true → a ≡ b
-same_number a b e = grind (arith, nat_tests)
-
 -- what the test says
 pub number_is : (low end : ℕ) (digits : List ℕ) → writes_number low end digits ≡ true →
     (decimal (digits_value 10 digits) ≡ digits) × (low ≤ digits_value 10 digits) × (digits_value 10 digits < end)
@@ -76,7 +66,7 @@ number_is low end digits e =
 pub is_number : (low end n : ℕ) (digits : List ℕ) → n ≡ digits_value 10 digits → decimal n ≡ digits → low ≤ n → n < end → writes_number low end digits ≡ true
 is_number low end n digits value same from to =
     subst (λ m. (bytes_eq (decimal m) digits && (nat_le low m && nat_lt m end)) ≡ true) value
-    (and_true (bytes_eq (decimal n) digits) (nat_le low n && nat_lt n end) ((bytes_eq-Decides (decimal n) digits).1 same) (and_true (nat_le low n) (nat_lt n end) (is_at_most low n from) (is_less n end to)))
+    (and_from (bytes_eq (decimal n) digits) (nat_le low n && nat_lt n end) ((bytes_eq-Decides (decimal n) digits).1 same) (and_from (nat_le low n) (nat_lt n end) (is_at_most low n from) (is_less n end to)))
 
 no_leading_zero : (n : ℕ) (digits : List ℕ) → decimal n ≡ digits → n < 2 ^ 64 → 1 < length digits → get_or digits 0 0 ≡ 48 → ⊥
 no_leading_zero zero digits same small long first =
@@ -90,8 +80,8 @@ no_leading_zero (suc n) digits same small long first =
 pub leading_zero : (digits : List ℕ) → (nat_lt 1 (length digits) && (get_or digits 0 0 == 48)) ≡ true → writes_number 0 (2 ^ 64) digits ≡ false
 leading_zero digits e =
     let parts = and_both (nat_lt 1 (length digits)) (get_or digits 0 0 == 48) e in
-    false_unless (writes_number 0 (2 ^ 64) digits) (λ w. let n = number_is 0 (2 ^ 64) digits w in
-    no_leading_zero (digits_value 10 digits) digits n.0 n.2 (less 1 (length digits) parts.0) (same_number (get_or digits 0 0) 48 parts.1))
+    false_from_ne_true (writes_number 0 (2 ^ 64) digits) (λ w. let n = number_is 0 (2 ^ 64) digits w in
+    no_leading_zero (digits_value 10 digits) digits n.0 n.2 (less 1 (length digits) parts.0) (eqb-true (get_or digits 0 0) 48 parts.1))
 
 one_digit : (digits : List ℕ) → (nat_lt 1 (length digits) && (get_or digits 0 0 == 48)) ≡ false → get_or digits 0 0 ≡ 48 → 0 < length digits → length digits ≡ 1
 one_digit digits e first some = grind (arith, nat_tests)
@@ -106,7 +96,7 @@ plain_number digits are first = same_test (nat_lt 0 (length digits) && nat_lt (d
     is_number 0 (2 ^ 64) (digits_value 10 digits) digits refl (decimal-digits_value numerals digits are some (λ zero. one_digit digits first zero some) small) (omega arith) small)
     (λ w. let n = number_is 0 (2 ^ 64) digits w in
     let some : 0 < length digits = subst (λ ds. 0 < length ds) n.0 (decimal_nonempty (digits_value 10 digits) n.2) in
-    and_true (nat_lt 0 (length digits)) (nat_lt (digits_value 10 digits) (2 ^ 64)) (is_less 0 (length digits) some) (is_less (digits_value 10 digits) (2 ^ 64) n.2))
+    and_from (nat_lt 0 (length digits)) (nat_lt (digits_value 10 digits) (2 ^ 64)) (is_less 0 (length digits) some) (is_less (digits_value 10 digits) (2 ^ 64) n.2))
 
 -- no digits write no number
 pub no_digits : (digits : List ℕ) → length digits ≡ 0 → writes_number 0 (2 ^ 64) digits ≡ false

@@ -2,8 +2,9 @@
 use Rattle.std.proofs.Common.{◌≡◌, ℕ, ◌+◌, ◌<◌, ◌≤◌, List, [], ◌∷◌, ◌++◌, length, drop, Option, Some, None, unwrap_or, replicate, refl, sym, ◌∙◌, ap, subst, arith, append_assoc}
 use Rattle.std.proofs.lemmas.List.{take-append-drop, append-nil}
 use Rattle.std.proofs.lemmas.Grind.{common_steps}
-use Rattle.aj_schedule.specs.Text.{Piece, spelled, IsPiece, BeginsWith, count_of, thread_of, entry_of, joined, ArePieces, total, steps, Begins, IsSchedule}
-use Rattle.aj_schedule.specs.Faults.{form_fault, HasFormFault, HasLengthFault}
+use Rattle.aj_schedule.specs.Text.{Piece, spelled, IsPiece, BeginsWith, count_of, thread_of, entry_of, joined, ArePieces, total, steps, Begins}
+use Rattle.aj_schedule.specs.Faults.{HasLengthFault}
+use Rattle.aj_schedule.proofs.FrontLemmas.{drop-drop}
 
 -- what was read before a place
 pub record SoFar (text : List ℕ) (at : ℕ) (schedule : List ℕ) : Type 0 where
@@ -43,17 +44,8 @@ length-steps (p ∷ pieces) = grind (arith, common_steps, length-steps pieces)
 front_split : (text : List ℕ) (piece : Piece) (size : ℕ) → BeginsWith text piece size → text ≡ spelled piece ++ drop size text
 front_split text piece size front = sym (take-append-drop size text) ∙ ap (λ t. t ++ drop size text) front.bytes
 
-drop-drop : (n m : ℕ) (xs : List ℕ) → drop n (drop m xs) ≡ drop (m + n) xs
-drop-drop n m xs = grind (arith, common_steps)
-
 length-spelled : (text : List ℕ) (piece : Piece) (size : ℕ) → BeginsWith text piece size → length (spelled piece) ≡ size
 length-spelled text piece size front = ap length (sym front.bytes) ∙ grind (arith, common_steps, front.within)
-
-drop-past : (n : ℕ) (xs : List ℕ) → length xs ≤ n → drop n xs ≡ []
-drop-past n xs past = grind (arith, common_steps)
-
-pub so_far_none : (text : List ℕ) → SoFar text 0 []
-so_far_none text = record { pieces = []; begins = record { whole = refl; pieces_are = tt; within = omega arith }; at_is = refl; steps_are = refl; within = omega arith }
 
 -- one piece more
 pub so_far_more : (text schedule next : List ℕ) (at size : ℕ) (piece : Piece) → SoFar text at schedule → BeginsWith (drop at text) piece size →
@@ -102,23 +94,6 @@ so_far_entry text schedule next at size thread count before front fits is =
 -- how many steps there are so far
 pub so_far_within : (text schedule : List ℕ) (at : ℕ) → SoFar text at schedule → length schedule ≤ 200000
 so_far_within text schedule at before = omega (arith, ap length before.steps_are, length-steps before.pieces, before.begins.within)
-
-pub so_far_all : (text schedule : List ℕ) (at : ℕ) → SoFar text at schedule → length text ≤ at → IsSchedule text schedule
-so_far_all text schedule at before past = record {
-  pieces = before.pieces;
-  begins = subst (Begins text before.pieces) (drop-past at text past) before.begins;
-  steps_are = before.steps_are;
-}
-
-pub so_far_form : (text schedule : List ℕ) (at offset : ℕ) → SoFar text at schedule → form_fault (drop at text) ≡ Some offset → HasFormFault text (at + offset)
-so_far_form text schedule at offset before fault = record {
-  pieces = before.pieces;
-  rest = drop at text;
-  offset = offset;
-  begins = before.begins;
-  fault = fault;
-  place_is = ap (λ n. n + offset) before.at_is;
-}
 
 pub so_far_long : (text schedule : List ℕ) (at size thread : ℕ) (count : Option ℕ) → SoFar text at schedule → BeginsWith (drop at text) (entry_of thread count) size →
     200000 < length schedule + unwrap_or count 1 → HasLengthFault text at

@@ -11,6 +11,7 @@ use Rattle.std.specs.List.{take_while, list_all}
 use Rattle.std.specs.Option.{option_map}
 use Rattle.std.specs.Str.{all_ascii_digits}
 use Rattle.std.specs.Str.Parse.{digits_value}
+use Rattle.std.proofs.lemmas.Bool.{or_parts}
 use Rattle.aj_schedule.specs.Text.{Piece, blank, comment, single, group, spelled, is_blank, ends_entry, ends_comment, IsPiece, count_of, joined, ArePieces, total, steps, Begins, IsSchedule}
 use Rattle.aj_schedule.specs.Faults.{writes_number, first_digits, after_digits, begins_count, count_fault, form_fault, HasFormFault, HasLengthFault, IsAnswer}
 use Rattle.aj_schedule.specs.declared.reader.SchedFault.{SchedFault}
@@ -42,10 +43,6 @@ digits_all [] all = refl
 digits_all (d ∷ ds) all =
     let parts = and_both (is_ascii_digit d) (all_ascii_digits ds) all in
     rw (parts.0, digits_all ds parts.1) refl
-
-or_both : (a b : Bool) → (a || b) ≡ false → (a ≡ false) × (b ≡ false)
-or_both true b e = absurd (cc)
-or_both false b e = (refl, e)
 
 ends_no_digit : (more : List ℕ) → ends_entry more ≡ true → begins_with is_ascii_digit more ≡ false
 ends_no_digit [] e = refl
@@ -99,7 +96,7 @@ piece_at (byte ∷ rest) = if is_blank byte then blank byte else (if byte == 35 
 entry_front : (text : List ℕ) → ends_entry text ≡ false → piece_at text ≡ entry_at text
 unfolding piece_at
 entry_front [] goes = absurd (cc)
-entry_front (byte ∷ rest) goes = let parts = or_both (is_blank byte) (byte == 35) goes in rw (parts.0, parts.1) refl
+entry_front (byte ∷ rest) goes = let parts = or_parts (is_blank byte) (byte == 35) goes in rw (parts.0, parts.1) refl
 
 entry_single : (star : Bool) (thread count : ℕ) (n : ℕ) → star ≡ false → thread ≡ n → (if star then group thread count else single thread) ≡ single n
 entry_single star thread count n e is = rw e (ap single is)

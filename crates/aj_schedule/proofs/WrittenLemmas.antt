@@ -2,14 +2,10 @@
 use Rattle.std.proofs.Common.{◌≡◌, ℕ, ◌+◌, ◌^◌, ◌<◌, ◌≤◌, ◌==◌, Bool, true, false, List, [], ◌∷◌, ◌++◌, length, map, drop, None, slice_get, get_or, replicate, if◌then◌else◌, cond, suc, refl, sym, ◌∙◌, ap, arith, append_assoc, add-one}
 use Rattle.std.proofs.lemmas.Bool.Decides.{nat_tests}
 use Rattle.std.specs.List.{prefix_len, join_with_byte}
+use Rattle.std.proofs.lemmas.Bool.{eqb-true}
 use Rattle.aj_schedule.specs.Text.{Piece, blank, single, group, spelled, ends_entry, IsPiece, count_of, thread_of, joined, ArePieces, total, steps, IsSchedule}
 use Rattle.aj_schedule.specs.Written.{with_step, groups_of, group_text, written}
-
-same_number : (a b : ℕ) → (a == b) ≡ true → a ≡ b
-same_number a b e = grind (arith, nat_tests)
-
-one_more : (n : ℕ) → 1 + n ≡ suc n
-one_more n = omega arith
+use Rattle.aj_schedule.proofs.FrontLemmas.{one_more}
 
 -- how long a schedule goes on with a thread
 abbrev pub run_of : ℕ → List ℕ → ℕ
@@ -18,7 +14,7 @@ run_of thread steps = prefix_len (λ step. step == thread) steps
 group_step : (x y : ℕ) (ys : List ℕ) (b : Bool) → (y == x) ≡ b → groups_of (y ∷ ys) ≡ (y, 1 + run_of y ys) ∷ groups_of (drop (run_of y ys) ys) →
     with_step x (groups_of (y ∷ ys)) ≡ (x, 1 + cond b (1 + run_of x ys) 0) ∷ groups_of (drop (cond b (1 + run_of x ys) 0) (y ∷ ys))
 group_step x y ys true e before =
-    let same = same_number y x e in
+    let same = eqb-true y x e in
     let run : run_of y ys ≡ run_of x ys = ap (λ z. run_of z ys) same in
     ap (with_step x) before ∙ rw e (ap (λ n. (x, (1 + n) + 1) ∷ groups_of (drop n ys)) run ∙ ap (λ n. (x, n) ∷ groups_of (drop (run_of x ys) ys)) (omega arith)
     ∙ ap (λ n. (x, 1 + (1 + run_of x ys)) ∷ groups_of (drop n (y ∷ ys))) (sym (one_more (run_of x ys))))
@@ -100,7 +96,7 @@ unfolding AreGroups counts expanded
 grouped_onto x schedule g gs true e small before = record {
   are = (small, omega arith, before.are.2);
   counted = omega (arith, before.counted);
-  same = ap (λ t. t ++ expanded gs) (replicate-more g.1 x) ∙ ap (λ z. x ∷ (replicate g.1 z ++ expanded gs)) (sym (same_number g.0 x e)) ∙ ap (λ t. x ∷ t) before.same;
+  same = ap (λ t. t ++ expanded gs) (replicate-more g.1 x) ∙ ap (λ z. x ∷ (replicate g.1 z ++ expanded gs)) (sym (eqb-true g.0 x e)) ∙ ap (λ t. x ∷ t) before.same;
 }
 grouped_onto x schedule g gs false e small before = record {
   are = (small, omega arith, before.are);
@@ -137,7 +133,7 @@ record IsGroup (g : ℕ × ℕ) (piece : Piece) : Type 0 where
   stands : (rest : List ℕ) → g.0 < 2 ^ 32 → 0 < g.1 → g.1 < 2 ^ 64 → ends_entry rest ≡ true → IsPiece piece rest
 
 group_at : (g : ℕ × ℕ) (b : Bool) → (g.1 == 1) ≡ b → IsGroup g (if b then single g.0 else group g.0 g.1)
-group_at g true e = record { text = rw e refl; count = sym (same_number g.1 1 e); thread = refl; stands = λ rest small some fits ends. (small, ends) }
+group_at g true e = record { text = rw e refl; count = sym (eqb-true g.1 1 e); thread = refl; stands = λ rest small some fits ends. (small, ends) }
 group_at g false e = record { text = rw e refl; count = refl; thread = refl; stands = λ rest small some fits ends. (small, some, fits, ends) }
 
 group_is : (g : ℕ × ℕ) → IsGroup g (piece_of g)

@@ -1,10 +1,10 @@
 -- Sizes and commit places of units, found from the end of a run.
 use Rattle.std.proofs.Common.{◌≡◌, ◌≢◌, ℕ, suc, ◌+◌, ◌<◌, ◌≤◌, Bool, true, false, ◌==◌, List, [], ◌∷◌, length, Some, None, refl, sym, ap, subst, ◌∙◌, add-one, arith}
 use Rattle.std.specs.Prelude.{Option, drop, if◌then◌else◌}
-use Rattle.std.proofs.lemmas.Bool.{eqb-true, ne_eqb}
+use Rattle.std.proofs.lemmas.Bool.{eqb-true, ne_eqb, eq-eqb}
 use Rattle.std.proofs.lemmas.List.{length-drop}
 use Rattle.aj_steps.specs.Units.{Entry, added, is_of_thread, is_commit, units, commit_place}
-use Rattle.aj_rewrite.proofs.Shape.{Each, each_more, IsFine, itself, fine_above, commit_added}
+use Rattle.aj_rewrite.proofs.Shape.{Each, each_more, IsFine, fine_above, commit_added}
 use Rattle.aj_rewrite.proofs.Sorting.{Rises, fine_units}
 use Rattle.aj_serialise.specs.Entries.{entries_of}
 use Rattle.aj_serialise.specs.UnitMaps.{UnitMaps, unit_for, commit_with, with_size, with_unit, with_entry, unit_maps}
@@ -79,7 +79,7 @@ module _ (e : Entry) (n : ℕ) where
   module _ (p : ℕ) where
     sizes_here : (u : List Entry) (us : List (List Entry)) → IsFine n u → NoneAt (commit_place u) us → with_size (size_at (u ∷ us)) (commit_place u) (commit_with e (commit_place u)) p ≡ size_at ((e ∷ u) ∷ us) p
     sizes_here u us fine apart =
-        by (commit_with e (commit_place u) == p) (commit_place u == p) (ap (λ (b : Bool). (if b then length u else size_at us (commit_place u)) + 1) (itself (commit_place u)) ∙ add-one (length u))
+        by (commit_with e (commit_place u) == p) (commit_place u == p) (ap (λ (b : Bool). (if b then length u else size_at us (commit_place u)) + 1) (eq-eqb (commit_place u) (commit_place u) refl) ∙ add-one (length u))
         (λ at. size_none p us (subst (λ c. NoneAt c us) (eqb-true (commit_place u) p at) apart))
         ∙ ap (λ (c : ℕ). if c == p then suc (length u) else size_at us p) (sym (commit_added e u n fine))
       where

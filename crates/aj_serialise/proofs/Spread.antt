@@ -1,10 +1,10 @@
 -- The units in order, written place by place.
 use Rattle.std.proofs.Common.{◌≡◌, ◌≢◌, ℕ, suc, ◌+◌, ◌<◌, ◌≤◌, Bool, true, false, ◌==◌, List, [], ◌∷◌, ◌++◌, length, replicate, refl, sym, ap, subst, ◌∙◌, arith}
 use Rattle.std.specs.Prelude.{map, nat_le, if◌then◌else◌}
-use Rattle.std.proofs.lemmas.Bool.{eqb-true, eqb-false, ne_eqb, leb-true, leb-false}
+use Rattle.std.proofs.lemmas.Bool.{eqb-true, eqb-false, ne_eqb, leb-true, leb-false, eq-eqb}
 use Rattle.std.proofs.lemmas.Bool.Decides.{nat_tests}
 use Rattle.aj_steps.specs.Units.{Entry, is_commit, units, commit_place, placed, in_order, schedule_of}
-use Rattle.aj_rewrite.proofs.Shape.{Each, each_more, IsOf, IsFine, itself, fine_above, each_placed, each_in_order}
+use Rattle.aj_rewrite.proofs.Shape.{Each, each_more, IsOf, IsFine, fine_above, each_placed, each_in_order}
 use Rattle.aj_rewrite.proofs.Sorting.{Rises, fine_units, each_units}
 use Rattle.aj_serialise.specs.Entries.{entries_of}
 use Rattle.aj_serialise.specs.UnitMaps.{UnitMaps, unit_maps, spread}
@@ -76,7 +76,7 @@ other_less n m low same = omega (arith, low, same)
 are_steps : (n : ℕ) (steps : List Step) → Each (IsStep n steps) (entries_of n steps)
 are_steps n [] = tt
 are_steps n (step ∷ steps) = (
-  (ap (λ (b : Bool). if b then step.thread else thread_in (n + 1) steps n) (sym (itself n)), omega arith, omega arith),
+  (ap (λ (b : Bool). if b then step.thread else thread_in (n + 1) steps n) (sym (eq-eqb n n refl)), omega arith, omega arith),
   each_more (IsStep (n + 1) steps) (IsStep n (step ∷ steps)) (λ x k. later x.thread x.place k.0 k.1 k.2) (entries_of (n + 1) steps) (are_steps (n + 1) steps),
 )
   where
@@ -144,8 +144,8 @@ spread_is n (step ∷ steps) (u ∷ us) strict at = by (n == commit_place u) ref
     here : n ≡ commit_place u → (Each (IsAt (n + 1) steps) us → spread (size_at us) (n + 1) steps ≡ schedule_of us) → spread (size_at (u ∷ us)) n (step ∷ steps) ≡ schedule_of (u ∷ us)
     here is rest =
         let less = each_more (λ v. commit_place u < commit_place v) (λ v. n < commit_place v) (λ v k. omega (arith, is, k)) us strict.0 in
-        let size : size_at (u ∷ us) n ≡ length u = ap (λ (b : Bool). if b then length u else size_at us n) (ap (λ (m : ℕ). commit_place u == m) is ∙ itself (commit_place u)) in
-        let own : thread_in n (step ∷ steps) (commit_place u) ≡ step.thread = ap (λ (b : Bool). if b then step.thread else thread_in (n + 1) steps (commit_place u)) (ap (λ (m : ℕ). m == commit_place u) is ∙ itself (commit_place u)) in
+        let size : size_at (u ∷ us) n ≡ length u = ap (λ (b : Bool). if b then length u else size_at us n) (ap (λ (m : ℕ). commit_place u == m) is ∙ eq-eqb (commit_place u) (commit_place u) refl) in
+        let own : thread_in n (step ∷ steps) (commit_place u) ≡ step.thread = ap (λ (b : Bool). if b then step.thread else thread_in (n + 1) steps (commit_place u)) (ap (λ (m : ℕ). m == commit_place u) is ∙ eq-eqb (commit_place u) (commit_place u) refl) in
         ap (λ (m : ℕ). replicate m step.thread ++ spread (size_at (u ∷ us)) (n + 1) steps) size
         ∙ ap (λ l. l ++ spread (size_at (u ∷ us)) (n + 1) steps) (threads_of step.thread u (subst (λ t. Each (IsOf t) u) own (at.0).own))
         ∙ ap (λ l. map (λ (e : Entry). e.thread) u ++ l) (

@@ -1,11 +1,12 @@
 -- The order of addresses.
-use Rattle.std.proofs.Common.{◌≡◌, ◌≢◌, ℕ, Bool, true, false, refl, ap}
+use Rattle.std.proofs.Common.{◌≡◌, ◌≢◌, ℕ, true, false, refl, ap}
 use Rattle.std.specs.Cmp.{IsTotalOrder, nat_cmp_total, tied_itself}
 use Rattle.std.specs.Ordering.{nat_cmp, eq_by_cmp, is_eq}
 use Rattle.std.specs.declared.cmp.Ordering.{Ordering}
 use Rattle.std.specs.declared.cmp.Ordering.TheVariants.{Less, Equal, Greater}
 use Rattle.std.proofs.lemmas.Cmp.{on_total, then_total}
 use Rattle.std.proofs.lemmas.Map.Lookups.{CmpEqualImpliesEq, exact_pairs, exact_unsigned}
+use Rattle.std.proofs.lemmas.Bool.{false_from_ne_true}
 use Rattle.aj_state.specs.declared.value.Address.{Address}
 use Rattle.aj_state.specs.Memory.{address_cmp}
 
@@ -23,13 +24,9 @@ equal_test Less e = absurd cc
 equal_test Equal e = refl
 equal_test Greater e = absurd cc
 
-false_test : (b : Bool) → (b ≡ true → ⊥) → b ≡ false
-false_test true h = absurd (h refl)
-false_test false h = refl
-
 -- the key test of maps, at another address and at the same
 pub apart : (a b : Address) → b ≢ a → eq_by_cmp address_cmp b a ≡ false
-apart a b other = false_test _ (λ e. other (address_exact b a (equal_test _ e)))
+apart a b other = false_from_ne_true _ (λ e. other (address_exact b a (equal_test _ e)))
 
 pub alike : (a : Address) → eq_by_cmp address_cmp a a ≡ true
 alike a = ap is_eq (address_itself a)

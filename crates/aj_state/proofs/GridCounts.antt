@@ -1,15 +1,13 @@
 -- How many entries of a table a thread has.
-use Rattle.std.proofs.Common.{◌≡◌, ℕ, zero, suc, ◌+◌, ◌<◌, true, false, cond, List, [], ◌∷◌, ◌++◌, refl, ap, ◌∙◌, arith, ◌==◌}
+use Rattle.std.proofs.Common.{◌≡◌, ℕ, zero, suc, ◌+◌, ◌<◌, false, cond, List, [], ◌∷◌, ◌++◌, refl, ap, ◌∙◌, arith, ◌==◌}
 use Rattle.std.specs.Prelude.{Option, Some, None, map, count_by, slice_get}
 use Rattle.std.specs.FinMap as M
 use Rattle.std.proofs.lemmas.List.Sums.{sum_by-cons}
 use Rattle.std.proofs.lemmas.Bool.Decides.{nat_tests}
+use Rattle.std.proofs.lemmas.Bool.{eq-eqb}
 use Rattle.aj_state.specs.declared.value.Address.{Address}
 use Rattle.aj_state.specs.Slots.{filled_in, filled_row, slots_entries, rows_entries, grid_map}
 use Rattle.aj_state.proofs.GridMaps.{entries_grid}
-
-own : (t : ℕ) → (t == t) ≡ true
-own t = grind (arith, nat_tests)
 
 another : (t u : ℕ) → u < t → (t == u) ≡ false
 another t u less = grind (arith, nat_tests)
@@ -33,7 +31,7 @@ module _ {X : Type 0} (thread : ℕ) where
   count_own c (None ∷ slots) = count_own (c + 1) slots
   count_own c (Some v ∷ slots) =
       count-cons (record { thread = thread; count = c }, v) (slots_entries thread (c + 1) slots)
-      ∙ (λ j. cond (own thread j) 1 0 + count_own (c + 1) slots j)
+      ∙ (λ j. cond (eq-eqb thread thread refl j) 1 0 + count_own (c + 1) slots j)
 
   count_other : (t c : ℕ) (slots : List (Option X)) → (t == thread) ≡ false → count (slots_entries t c slots) ≡ 0
   count_other t c [] other = refl

@@ -10,27 +10,22 @@ use Rattle.std.specs.declared.cmp.Ordering.TheVariants.{Less, Equal, Greater}
 use Rattle.std.specs.FinMap as M
 use Rattle.std.specs.FinMap.{FinMap, find, is_sorted, get-from_sorted, entries-from_sorted, get-insert, get-remove, same_map, len-insert, len-remove, len-entries, empty_of_len}
 use Rattle.std.specs.FinMap.Entries.{below_all}
+use Rattle.std.proofs.lemmas.Bool.{eqb-true, eqb-false}
 use Rattle.aj_state.specs.declared.value.Address.{Address}
 use Rattle.aj_state.specs.Memory.{address_cmp}
 use Rattle.aj_state.specs.Slots.{slot_at, in_row, grid_at, slots_entries, rows_entries, grid_map, Written, IsPlaced}
 use Rattle.aj_state.proofs.Addresses.{address_total, address_exact, apart, alike}
-
-same_number : (a b : ℕ) → (a == b) ≡ true → a ≡ b
-same_number a b e = grind (arith, nat_tests)
-
-other_number : (a b : ℕ) → (a == b) ≡ false → a ≢ b
-other_number a b e same = grind (arith, nat_tests)
 
 number_test : (a b : ℕ) → a ≢ b → (a == b) ≡ false
 number_test a b other = grind (arith, nat_tests)
 
 pub key_test : (b a : Address) → eq_by_cmp address_cmp b a ≡ ((b.thread == a.thread) && (b.count == a.count))
 key_test b a = elim (b.thread == a.thread) as (λ x. (b.thread == a.thread) ≡ x → eq_by_cmp address_cmp b a ≡ (x && (b.count == a.count))) [
-  | false ↦ λ e. apart a b (λ same. other_number _ _ e (ap (λ c. c.thread) same))
+  | false ↦ λ e. apart a b (λ same. eqb-false _ _ e (ap (λ c. c.thread) same))
   | true ↦ λ e. elim (b.count == a.count) as (λ y. (b.count == a.count) ≡ y → eq_by_cmp address_cmp b a ≡ y) [
-    | false ↦ λ f. apart a b (λ same. other_number _ _ f (ap (λ c. c.count) same))
+    | false ↦ λ f. apart a b (λ same. eqb-false _ _ f (ap (λ c. c.count) same))
     | true ↦ λ f.
-        let same : b ≡ a = λ j. record { thread = same_number b.thread a.thread e j; count = same_number b.count a.count f j } in
+        let same : b ≡ a = λ j. record { thread = eqb-true b.thread a.thread e j; count = eqb-true b.count a.count f j } in
         subst (λ c. eq_by_cmp address_cmp b c ≡ true) same (alike b)
   ] refl
 ] refl
@@ -231,7 +226,7 @@ module _ {X : Type 0} where
       row_set rows a.thread b.thread b.count slots' below
       ∙ ap (λ x. cond (b.thread == a.thread) x (grid_at rows b)) (written b.count)
       ∙ two_tests (b.thread == a.thread) (b.count == a.count) o (slot_at slots b.count) (grid_at rows b)
-      (λ e. ap (λ t. in_row (slice_get rows t) b.count) (same_number b.thread a.thread e) ∙ row_get rows a.thread b.count slots is)
+      (λ e. ap (λ t. in_row (slice_get rows t) b.count) (eqb-true b.thread a.thread e) ∙ row_get rows a.thread b.count slots is)
       ∙ ap (λ x. cond x o (grid_at rows b)) (sym (key_test b a))
 
   -- the row of an entry that is there
@@ -255,7 +250,7 @@ module _ {X : Type 0} where
   kept_put (Err e) old mid a slots slots' same is below h =
       λ b. row_set mid a.thread b.thread b.count slots' below
       ∙ one_test (b.thread == a.thread) (slot_at slots' b.count) (grid_at mid b)
-      (λ t. h b.count ∙ sym (row_get mid a.thread b.count slots is) ∙ sym (ap (λ u. in_row (slice_get mid u) b.count) (same_number b.thread a.thread t)))
+      (λ t. h b.count ∙ sym (row_get mid a.thread b.count slots is) ∙ sym (ap (λ u. in_row (slice_get mid u) b.count) (eqb-true b.thread a.thread t)))
       ∙ same b
 
   -- where an entry is there the table has some

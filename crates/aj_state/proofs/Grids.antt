@@ -1,5 +1,5 @@
 -- Slots, rows of them, and what stands in them.
-use Rattle.std.proofs.Common.{◌≡◌, ℕ, zero, suc, ◌+◌, ◌-◌, ◌<◌, ◌≤◌, true, false, List, [], ◌∷◌, ◌++◌, length, drop, get_or, drop-cons, refl, sym, ap, subst, ◌∙◌, arith, ◌==◌}
+use Rattle.std.proofs.Common.{◌≡◌, ℕ, zero, suc, ◌+◌, ◌-◌, ◌<◌, ◌≤◌, false, List, [], ◌∷◌, ◌++◌, length, drop, get_or, drop-cons, refl, sym, ap, subst, ◌∙◌, arith, ◌==◌}
 use Rattle.std.specs.Prelude.{Option, Some, None, IsSome, slice_get, if◌then◌else◌}
 use Rattle.std.specs.Option.{option_map}
 use Rattle.std.proofs.lemmas.Option.{slice_get_read}
@@ -27,9 +27,6 @@ filled_within (Some v ∷ slots) = let p = filled_within slots in omega arith
 
 test_suc : (c k : ℕ) → (suc c == suc k) ≡ (c == k)
 test_suc c k = grind (arith, nat_tests)
-
-test_self : (k : ℕ) → (k == k) ≡ true
-test_self k = grind (arith, nat_tests)
 
 test_zero : (k : ℕ) → (0 == suc k) ≡ false
 test_zero k = grind (arith, nat_tests)

@@ -1,6 +1,6 @@
 -- Reads after writes.
 use Rattle.std.proofs.Common.{◌≡◌, ◌≢◌, ℕ, zero, suc, ◌+◌, Bool, true, false, List, [], ◌∷◌, Some, None, refl, sym, ap, subst, ◌∙◌, arith}
-use Rattle.std.specs.Prelude.{Option, length, slice_get, slice_set, cond, if◌then◌else◌, ◌==◌}
+use Rattle.std.specs.Prelude.{Option, length, slice_get, slice_set, cond, if◌then◌else◌}
 use Rattle.std.specs.FinMap as M
 use Rattle.std.specs.FinMap.{get-insert}
 use Rattle.std.specs.Ordering.{eq_by_cmp}

@@ -9,6 +9,7 @@ use Rattle.std.specs.declared.cmp.Ordering.{Ordering}
 use Rattle.std.specs.declared.cmp.Ordering.TheVariants.{Less, Equal, Greater}
 use Rattle.std.proofs.lemmas.List.Sums.{sum_by-cons}
 use Rattle.std.proofs.lemmas.Bool.Decides.{nat_tests}
+use Rattle.std.proofs.lemmas.Bool.{eqb-true, eqb-false}
 use Rattle.aj_state.specs.declared.value.Address.{Address}
 use Rattle.aj_state.specs.Memory.{Heap, Object, address_cmp, made_by, next_address, IsNumbered, with_object, with_field, with_value}
 use Rattle.aj_state.proofs.Addresses.{address_total, tied}
@@ -68,9 +69,6 @@ addresses_kept k o x (e ∷ es) sorted found =
 
 -- Maps.
 
-thread_test : ℕ → Address → Bool
-thread_test t a = a.thread == t
-
 made_by-insert_new : (t : ℕ) (heap : Heap) (k : Address) (o : Object) → M.get heap k ≡ None → made_by t (M.insert heap k o) ≡ cond (k.thread == t) 1 0 + made_by t heap
 made_by-insert_new t heap k o none =
     ap (λ (es : List (Address × Object)). count_by (λ a. a.thread == t) (map (λ e. e.0) es)) (entries-insert address_total heap k o)
@@ -91,12 +89,6 @@ not_less n = grind (arith, nat_tests)
 pub next_free : (heap : Heap) (t : ℕ) → IsNumbered heap → M.get heap (next_address t heap) ≡ None
 next_free heap t numbered = none_is _ (numbered t (made_by t heap) ∙ not_less _)
 
-same_number : (a b : ℕ) → (a == b) ≡ true → a ≡ b
-same_number a b e = grind (arith, nat_tests)
-
-other_number : (a b : ℕ) → (a == b) ≡ false → a ≢ b
-other_number a b e = grind (arith, nat_tests)
-
 less_more : (n m : ℕ) → n ≡ m → true ≡ nat_lt n (1 + m)
 less_more n m e = grind (arith, nat_tests)
 
@@ -109,17 +101,17 @@ module _ (heap : Heap) (t : ℕ) (o : Object) (numbered : IsNumbered heap) where
 
   there : (u n : ℕ) → (b : Bool) → (t == u) ≡ b → (d : Bool) → (n == made_by t heap) ≡ d → is_some (M.get (M.insert heap (next_address t heap) o) (record { thread = u; count = n })) ≡ nat_lt n (cond b 1 0 + made_by u heap)
   there u n false other d e =
-      ap is_some (get-insert_other heap (next_address t heap) _ o (λ same. other_number t u other (sym (ap (λ a. a.thread) same))))
+      ap is_some (get-insert_other heap (next_address t heap) _ o (λ same. eqb-false t u other (sym (ap (λ a. a.thread) same))))
       ∙ numbered u n ∙ ap (nat_lt n) (omega arith)
   there u n true same true next =
-      let thread : t ≡ u = same_number t u same in
-      let count : n ≡ made_by t heap = same_number n _ next in
+      let thread : t ≡ u = eqb-true t u same in
+      let count : n ≡ made_by t heap = eqb-true n _ next in
       let address : next_address t heap ≡ record { thread = u; count = n } = λ i. record { thread = thread i; count = sym count i } in
       ap is_some (subst (λ a. M.get (M.insert heap (next_address t heap) o) a ≡ Some o) address (get-insert_same heap (next_address t heap) o))
       ∙ less_more n (made_by u heap) (count ∙ ap (λ x. made_by x heap) thread)
   there u n true same false another =
-      let thread : t ≡ u = same_number t u same in
-      let differs : n ≢ made_by t heap = other_number n _ another in
+      let thread : t ≡ u = eqb-true t u same in
+      let differs : n ≢ made_by t heap = eqb-false n _ another in
       ap is_some (get-insert_other heap (next_address t heap) _ o (λ at. differs (ap (λ a. a.count) at)))
       ∙ numbered u n ∙ less_same n (made_by u heap) (λ e. differs (e ∙ ap (λ x. made_by x heap) (sym thread)))
 

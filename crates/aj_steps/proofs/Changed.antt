@@ -4,7 +4,7 @@ use Rattle.std.specs.Prelude.{Option, slice_get, cond, if◌then◌else◌}
 use Rattle.std.proofs.lemmas.Bool.Decides.{nat_tests}
 use Rattle.std.specs.FinMap as M
 use Rattle.std.specs.FinMap.{get-remove}
-use Rattle.std.proofs.lemmas.Bool.{eqb-true, and_parts}
+use Rattle.std.proofs.lemmas.Bool.{eqb-true, and_parts, eq-eqb}
 use Rattle.aj_state.specs.declared.value.Address.{Address}
 use Rattle.aj_state.specs.declared.value.Value.{Value}
 use Rattle.aj_state.specs.Values.{address_eq}
@@ -27,11 +27,8 @@ same_address a b e =
     let second = eqb-true a.count b.count parts.1 in
     λ i. record { thread = first i; count = second i }
 
-number_itself : (n : ℕ) → (n == n) ≡ true
-number_itself n = grind (arith, nat_tests)
-
 pub address_itself : (a : Address) → address_eq a a ≡ true
-address_itself a = ap (λ b. b && (a.count == a.count)) (number_itself a.thread) ∙ number_itself a.count
+address_itself a = ap (λ b. b && (a.count == a.count)) (eq-eqb a.thread a.thread refl) ∙ eq-eqb a.count a.count refl
 
 differ : (a b : Address) → address_eq a b ≡ false → b ≢ a
 differ a b other same = let e : true ≡ false = sym (address_itself a) ∙ ap (address_eq a) (sym same) ∙ other in absurd cc

@@ -1,7 +1,7 @@
 -- The test for uninterrupted schedules is exact.
 use Rattle.std.proofs.Common.{◌≡◌, ℕ, zero, suc, ◌+◌, Bool, true, false, not, List, [], ◌∷◌, Some, refl, sym, ap, ◌∙◌, arith, ◌==◌, ◌&&◌, ◌||◌}
 use Rattle.std.specs.Prelude.{take, slice_get, option_and_then, IsSome}
-use Rattle.std.proofs.lemmas.Bool.{eqb-true, eq-eqb, and_from}
+use Rattle.std.proofs.lemmas.Bool.{eqb-true, eq-eqb, and_from, and_parts}
 use Rattle.aj_core.specs.Core.{Program}
 use Rattle.aj_state.specs.States.{State, initial}
 use Rattle.aj_steps.specs.Step.{Outcome, Moves, Absent, IsDone, HadFaulted, Waits, outcome, moved, state_after}
@@ -11,14 +11,6 @@ use Rattle.aj_steps.specs.Units.{Entry, entry_then, entries_from, entries, are_k
 -- kept, by places, in a run from any state
 abbrev Kept : Program → State → List ℕ → Type 0
 Kept P q s = (place t u : ℕ) (r : State) → slice_get s place ≡ Some t → slice_get s (suc place) ≡ Some u → run_from P q (take (suc place) s) ≡ Some r → inside P r t ≡ true → u ≡ t
-
-first_of_both : (a b : Bool) → (a && b) ≡ true → a ≡ true
-first_of_both true b h = refl
-first_of_both false b h = absurd cc
-
-second_of_both : (a b : Bool) → (a && b) ≡ true → b ≡ true
-second_of_both true b h = h
-second_of_both false b h = absurd cc
 
 unless : (a b : Bool) → (not a || b) ≡ true → a ≡ true → b ≡ true
 unless true b h e = h
@@ -54,12 +46,12 @@ module _ (P : Program) where
         let same_t : t0 ≡ t = cc in
         let same_u : t1 ≡ u = cc in
         let stands : e.inside ≡ true = inside_is ∙ ap (λ x. inside P x t0) same_r ∙ ap (inside P r) same_t ∙ is in
-        let same = eqb-true _ _ (unless e.inside (first.0.thread == e.thread) (first_of_both (not e.inside || (first.0.thread == e.thread)) (are_kept (entries_from P q1 place (t1 ∷ s))) tests) stands) in
+        let same = eqb-true _ _ (unless e.inside (first.0.thread == e.thread) ((and_parts (not e.inside || (first.0.thread == e.thread)) (are_kept (entries_from P q1 place (t1 ∷ s))) tests).0) stands) in
         sym same_u ∙ sym first.3 ∙ same ∙ thread_is ∙ same_t
     kept_step further kept (suc k) t u r here next ran is =
         let first = first_entry q1 place t1 s runs in
         let tests = sym (test_kept e _ first.1 first.0 first.2) ∙ kept in
-        further (second_of_both (not e.inside || (first.0.thread == e.thread)) (are_kept (entries_from P q1 place (t1 ∷ s))) tests) k t u r here next ran is
+        further ((and_parts (not e.inside || (first.0.thread == e.thread)) (are_kept (entries_from P q1 place (t1 ∷ s))) tests).1) k t u r here next ran is
 
     test_step : (Further : Kept P q1 (t1 ∷ s) → are_kept (entries_from P q1 place (t1 ∷ s)) ≡ true) →
         ((k t u : ℕ) (r : State) → slice_get (t0 ∷ t1 ∷ s) k ≡ Some t → slice_get (t1 ∷ s) k ≡ Some u → run_from P q1 (take k (t1 ∷ s)) ≡ Some r → inside P r t ≡ true → u ≡ t) →

@@ -13,7 +13,7 @@ use Rattle.aj_state.specs.Work as W
 use Rattle.aj_state.specs.Work.{Action, Item, Next, unfolded}
 use Rattle.aj_state.specs.States.{Frame, Thread, Ready, Running, Done, Faulted, new_object}
 use Rattle.aj_steps.specs.Step.{Shared, Outcome, LockIs, ObjectIs, Nothing, FieldIs, index_of, class_finals, release_kind, given_back, unless_final, value_at, access_kind, faults, goes_on, get, get_value, put, put_value, new, acquire, take, release, release_held, start, start_run, act, act_next, turn}
-use Rattle.aj_steps.specs.Asks.{Ask, asks, act_asks, next_asks, mine, LooksSame}
+use Rattle.aj_steps.specs.Asks.{asks, act_asks, next_asks, mine, LooksSame}
 
 module _ (P : Program) (t : ℕ) (see other : Shared) (f : Frame) (below : List Frame) (rest : List Item) where
   get_same : (a : Address) (field : Option Field) (v : Option Value) → access_kind P see t false a field ≡ access_kind P other t false a field → get_value P see t f below rest a field v ≡ get_value P other t f below rest a field v

@@ -1,14 +1,13 @@
 -- The canonical text is cut into the tokens that were laid out.
-use Rattle.std.proofs.Common.{◌≡◌, ℕ, zero, suc, ◌+◌, ◌-◌, ◌<◌, ◌≤◌, ◌==◌, ◌&&◌, ◌||◌, not, Bool, true, false, List, [], ◌∷◌, ◌++◌, length, codes, refl, ap, sym, ◌∙◌, subst, arith, append_assoc, append-nil, decimal, bytes_eq, eqb-true, inl, inr, ◌⊎◌, if◌then◌else◌}
+use Rattle.std.proofs.Common.{◌≡◌, ℕ, zero, suc, ◌+◌, ◌-◌, ◌==◌, ◌&&◌, not, Bool, true, false, List, [], ◌∷◌, ◌++◌, length, codes, refl, sym, subst, arith, append_assoc, decimal, eqb-true, inl, inr, if◌then◌else◌}
 use Rattle.std.proofs.lemmas.Bool.{and_parts, or_cases}
 use Rattle.std.proofs.lemmas.Bool.Decides.{nat_tests}
 use Rattle.std.specs.List.{list_all, list_any}
 use Rattle.aj_lexer.specs.declared.tokens.Token.{Token}
-use Rattle.aj_lexer.specs.declared.tokens.TokenKind.{TokenKind}
 use Rattle.aj_lexer.specs.declared.tokens.TokenKind.TheVariants as K
-use Rattle.aj_lexer.specs.Pieces.{is_blank, is_blanks, is_word, is_number, is_sign, is_letter, is_digit, is_word_byte}
+use Rattle.aj_lexer.specs.Pieces.{is_blank, is_word, is_number, is_letter, is_digit, is_word_byte}
 use Rattle.aj_lexer.specs.Tokens.{IsOfKind, TokensFrom, at_end}
-use Rattle.aj_lexer.specs.Written.{stops, may_follow, sign_goes_on}
+use Rattle.aj_lexer.specs.Written.{stops, may_follow}
 use Rattle.aj_lexer.proofs.Written.{written_token, written_gap}
 use Rattle.aj_syntax.specs.declared.page.Lead.{Lead}
 use Rattle.aj_syntax.specs.declared.page.Lead.TheVariants as L

@@ -1,16 +1,15 @@
 -- In the tokens of a tree nothing that begins with `=` follows a `!`.
-use Rattle.std.proofs.Common.{◌≡◌, ℕ, Bool, true, false, ◌&&◌, List, [], ◌∷◌, ◌++◌, Option, Some, None, refl, sym, subst}
-use Rattle.aj_syntax.specs.declared.terminal.Terminal.{Terminal}
+use Rattle.std.proofs.Common.{◌≡◌, Bool, true, false, ◌&&◌, List, [], ◌∷◌, ◌++◌, Option, Some, None, refl, sym, subst}
 use Rattle.aj_syntax.specs.declared.terminal.Terminal.TheVariants as T
 use Rattle.aj_syntax.specs.declared.tree.Name.{Name}
 use Rattle.aj_syntax.specs.declared.tree.Param.{Param}
 use Rattle.aj_syntax.specs.declared.tree.TypeName.{TypeName}
 use Rattle.aj_syntax.specs.declared.tree.TypeName.TheVariants as Y
 use Rattle.aj_syntax.specs.Grammar.{sign_of}
-use Rattle.aj_syntax.specs.Layout.{Lexeme, Fixed, Named, Numeral}
-use Rattle.aj_syntax.specs.Printing.{all_lexemes, further_lexemes, listed_lexemes, flag_lexemes, name_lexeme, type_lexeme, result_lexeme, dotted_lexemes, root_lexeme, lock_lexemes, expr_lexemes, args_lexemes, more_args_lexemes, stmt_lexemes, stmts_lexemes, param_lexemes, set_lexemes, guard_lexemes, requires_lexemes, member_lexemes, method_lexemes, runnable_lexemes, class_lexemes, program_lexemes}
-use Rattle.aj_syntax.specs.Reprinted.{Parted, is_bang, begins_with_assign}
-use Rattle.aj_syntax.specs.Trees.{LockTree, ExprTree, ExprTrees, NumberE, LeastE, TruthE, NullE, ThisE, VarE, ParenE, NotE, NegE, BinaryE, GetE, CallE, NewE, no_exprs, more_exprs, StmtTree, StmtTrees, EmptyS, BlockS, LocalS, SetVarS, SetFieldS, DoS, IfS, IfElseS, WhileS, SyncS, ReturnS, PrintS, StartS, no_stmts, more_stmts, MethodTree, MemberTree, FieldM, CtorM, MethodM, ClassTree, ProgramTree}
+use Rattle.aj_syntax.specs.Layout.{Lexeme, Fixed}
+use Rattle.aj_syntax.specs.Printing.{all_lexemes, further_lexemes, listed_lexemes, flag_lexemes, name_lexeme, type_lexeme, result_lexeme, dotted_lexemes, root_lexeme, lock_lexemes, expr_lexemes, args_lexemes, more_args_lexemes, stmt_lexemes, stmts_lexemes, param_lexemes, set_lexemes, guard_lexemes, requires_lexemes, member_lexemes, runnable_lexemes, class_lexemes, program_lexemes}
+use Rattle.aj_syntax.specs.Reprinted.{Parted, is_bang}
+use Rattle.aj_syntax.specs.Trees.{LockTree, ExprTree, ExprTrees, NumberE, LeastE, TruthE, NullE, ThisE, VarE, ParenE, NotE, NegE, BinaryE, GetE, CallE, NewE, no_exprs, more_exprs, StmtTree, StmtTrees, EmptyS, BlockS, LocalS, SetVarS, SetFieldS, DoS, IfS, IfElseS, WhileS, SyncS, ReturnS, PrintS, StartS, no_stmts, more_stmts, MemberTree, FieldM, CtorM, MethodM, ClassTree, ProgramTree}
 
 never : {A : Type 0} → false ≡ true → A
 never h = absurd (cc)

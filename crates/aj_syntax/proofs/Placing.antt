@@ -14,10 +14,9 @@ use Rattle.aj_lexer.specs.Tokens.{IsOfKind}
 use Rattle.aj_syntax.specs.declared.terminal.Terminal.{Terminal}
 use Rattle.aj_syntax.specs.declared.terminal.Terminal.TheVariants as T
 use Rattle.aj_syntax.specs.declared.tree.Name.{Name}
-use Rattle.aj_syntax.specs.Grammar.{offset}
 use Rattle.aj_syntax.specs.Layout.{Lexeme, token_at}
 use Rattle.aj_syntax.specs.Reprinted.{AreLexemes}
-use Rattle.aj_syntax.specs.Tokens.{kind_of, spelling, token}
+use Rattle.aj_syntax.specs.Tokens.{kind_of, spelling}
 
 -- the tokens, the first at the offset with the number k, and so on
 abbrev pub placed : (ℕ → ℕ) → ℕ → List Lexeme → List Token

@@ -1,5 +1,5 @@
 -- Offsets don't matter for heights, and the printed text reads back.
-use Rattle.std.proofs.Common.{◌≡◌, ℕ, zero, suc, ◌+◌, ◌≤◌, max, Bool, false, List, [], ◌∷◌, ◌++◌, map, Option, Some, None, refl, ap, ap₂, sym, ◌∙◌, subst}
+use Rattle.std.proofs.Common.{◌≡◌, ℕ, zero, suc, ◌+◌, ◌≤◌, max, false, List, [], ◌∷◌, map, Some, None, refl, ap, ap₂, sym, ◌∙◌, subst}
 use Rattle.aj_lexer.specs.declared.tokens.Token.{Token}
 use Rattle.aj_lexer.specs.Tokens.{Tokens}
 use Rattle.aj_lexer.proofs.Written.{kinds_from}
@@ -10,8 +10,8 @@ use Rattle.aj_syntax.specs.Layout.{Lexeme, token_at}
 use Rattle.aj_syntax.specs.Limits.{most_height}
 use Rattle.aj_syntax.specs.Printing.{canonical, program_lexemes}
 use Rattle.aj_syntax.specs.Reprinted.{AreTokensOf, ReadsBack}
-use Rattle.aj_syntax.specs.Trees.{ExprTree, ExprTrees, NumberE, LeastE, TruthE, NullE, ThisE, VarE, ParenE, NotE, NegE, BinaryE, GetE, CallE, NewE, no_exprs, more_exprs, StmtTree, StmtTrees, EmptyS, BlockS, LocalS, SetVarS, SetFieldS, DoS, IfS, IfElseS, WhileS, SyncS, ReturnS, PrintS, StartS, no_stmts, more_stmts, MethodTree, MemberTree, FieldM, CtorM, MethodM, ClassTree, ProgramTree}
-use Rattle.aj_syntax.specs.Unplaced.{bare_expr, bare_exprs, bare_stmt, bare_stmts, bare_member, bare_class, without_offsets}
+use Rattle.aj_syntax.specs.Trees.{ExprTree, ExprTrees, NumberE, LeastE, TruthE, NullE, ThisE, VarE, ParenE, NotE, NegE, BinaryE, GetE, CallE, NewE, no_exprs, more_exprs, StmtTree, StmtTrees, EmptyS, BlockS, LocalS, SetVarS, SetFieldS, DoS, IfS, IfElseS, WhileS, SyncS, ReturnS, PrintS, StartS, no_stmts, more_stmts, MemberTree, FieldM, CtorM, MethodM, ProgramTree}
+use Rattle.aj_syntax.specs.Unplaced.{bare_expr, bare_exprs, bare_stmt, bare_stmts, bare_member, without_offsets}
 use Rattle.aj_syntax.proofs.Cutting.{cut}
 use Rattle.aj_syntax.proofs.Placing.{placed, known_all}
 use Rattle.aj_syntax.proofs.Moving.{program_law}

@@ -68,10 +68,6 @@ writes_first {E} {r} {p} {q} {n} {ys} xs e h = record { told = subst (λ z. OnOk
 pub put_last : {E : Type 0} {r : Result (Unit {0}) E} {p n : Page} {x : Lexeme} → OnOk r (n ≡ put p x) → Adds r p n (x ∷ [])
 put_last {E} {r} {p} {n} {x} h = record { told = subst (λ z. OnOk r (n ≡ z)) (sym (writes_one p x [] ∙ writes_none (put p x))) h }
 
--- last tokens
-pub writes_last : {E : Type 0} {r : Result (Unit {0}) E} {p n : Page} {xs : List Lexeme} → OnOk r (n ≡ writes p xs) → Adds r p n xs
-writes_last h = record { told = h }
-
 pub added : {E : Type 0} (r : Result (Unit {0}) E) (p n : Page) (xs ys : List Lexeme) → ys ≡ xs → Adds r p n xs → OnOk r (n ≡ writes p ys)
 added r p n xs ys e h = subst (λ z. OnOk r (n ≡ writes p z)) (sym e) h.told
 

@@ -1,7 +1,6 @@
 -- Canonical text: how tokens are laid out in lines.
 use Rattle.std.specs.Prelude.{ℕ, zero, suc, ◌+◌, ◌-◌, List, [], ◌∷◌, ◌++◌, codes, decimal}
 use Rattle.aj_lexer.specs.declared.tokens.Token.{Token}
-use Rattle.aj_lexer.specs.declared.tokens.TokenKind.{TokenKind}
 use Rattle.aj_lexer.specs.declared.tokens.TokenKind.TheVariants as K
 use Rattle.aj_syntax.specs.declared.page.Lead.{Lead}
 use Rattle.aj_syntax.specs.declared.page.Lead.TheVariants as L
@@ -9,7 +8,7 @@ use Rattle.aj_syntax.specs.declared.page.Place.{Place}
 use Rattle.aj_syntax.specs.declared.page.Place.TheVariants as P
 use Rattle.aj_syntax.specs.declared.terminal.Terminal.{Terminal}
 use Rattle.aj_syntax.specs.declared.terminal.Terminal.TheVariants as T
-use Rattle.aj_syntax.specs.Tokens.{kind_of, spelling, token, number_token}
+use Rattle.aj_syntax.specs.Tokens.{spelling, token, number_token}
 
 -- a token without its offset: a terminal of the grammar, a name, or a number
 pub data Lexeme : Type 0 where

@@ -8,7 +8,7 @@ use Rattle.aj_syntax.specs.declared.tree.Lock.{Lock}
 use Rattle.aj_syntax.specs.declared.tree.Member.{Member}
 use Rattle.aj_syntax.specs.declared.tree.Member.TheVariants as M
 use Rattle.aj_syntax.specs.declared.tree.Program.{Program}
-use Rattle.aj_syntax.specs.declared.tree.Stmt.{Stmt, Row_of-Stmt, end_of-Stmt, more_of-Stmt, Held-Stmt-If-2, None', Some'}
+use Rattle.aj_syntax.specs.declared.tree.Stmt.{Stmt, Row_of-Stmt, end_of-Stmt, more_of-Stmt, None', Some'}
 use Rattle.aj_syntax.specs.declared.tree.Stmt as S
 use Rattle.aj_syntax.specs.Trees.{LockTree, ExprTree, ExprTrees, NumberE, LeastE, TruthE, NullE, ThisE, VarE, ParenE, NotE, NegE, BinaryE, GetE, CallE, NewE, no_exprs, more_exprs, StmtTree, StmtTrees, EmptyS, BlockS, LocalS, SetVarS, SetFieldS, DoS, IfS, IfElseS, WhileS, SyncS, ReturnS, PrintS, StartS, no_stmts, more_stmts, MemberTree, FieldM, CtorM, MethodM, ClassTree, ProgramTree}
 

@@ -1,6 +1,7 @@
 -- What safe states need of a program, from its types, its relevant sets and an admissible assignment.
 use Rattle.std.proofs.Common.{◌≡◌, ℕ, Bool, true, List, [], Some, sym, subst, ◌∙◌}
 use Rattle.std.specs.Prelude.{Option, IfSome, length, ◌+◌}
+use Rattle.std.proofs.lemmas.Option.{same_Some}
 use Rattle.aj_algebra.specs.declared.basic.Basic.TheVariants.{Atomic}
 use Rattle.aj_algebra.specs.HeldPaths.{has_path}
 use Rattle.aj_core.specs.Core.{Program, Method}
@@ -11,12 +12,11 @@ use Rattle.aj_rules.specs.Rules.{AtMost, IsAdmissible, declared_bound}
 use Rattle.aj_rules.proofs.BasicLemmas.{below_chain}
 use Rattle.aj_safe.specs.Safe.{IsFree}
 use Rattle.aj_turn.specs.Turn.{Accepted}
-use Rattle.aj_tidy.proofs.Typing.{some_same}
 use Rattle.aj_tidy.proofs.Scopes.{stmt_tidy}
 use Rattle.aj_tidy.proofs.Roots.{parameters_scope, relevant_rooted}
 
 entry_free : (P : Program) (class m : ℕ) → IsEntry P class m → IsFree P m
-entry_free P class m entry method is = let same : entry.method ≡ method = some_same (sym entry.is ∙ is) in subst (λ (x : Method). x.requires_ ≡ []) same entry.no_locks
+entry_free P class m entry method is = let same : entry.method ≡ method = same_Some _ _ (sym entry.is ∙ is) in subst (λ (x : Method). x.requires_ ≡ []) same entry.no_locks
 
 -- a thread may begin with `main`
 pub main_free : (P : Program) → IsTyped P → IsFree P P.main

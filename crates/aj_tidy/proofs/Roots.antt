@@ -1,6 +1,7 @@
 -- The roots of the paths near a method are `this`, final parameters, or locals.
 use Rattle.std.proofs.Common.{◌≡◌, inl, inr, ℕ, zero, suc, ◌+◌, ◌<◌, ◌≤◌, Bool, true, false, List, [], ◌∷◌, ◌++◌, length, Some, None, refl, sym, ap, subst, ◌∙◌, arith}
 use Rattle.std.specs.Prelude.{Option, slice_get, Contains, nat_le, if◌then◌else◌}
+use Rattle.std.proofs.lemmas.Option.{same_Some}
 use Rattle.aj_paths.specs.Paths.{PathData, extended_some, most_fields}
 use Rattle.aj_paths.specs.Renamings.{argument_at, passed}
 use Rattle.aj_algebra.specs.HeldPaths.{has_path}
@@ -17,7 +18,6 @@ use Rattle.aj_rules.specs.Near.{Near, required, locked, guarded, called, named, 
 use Rattle.aj_rules.proofs.NearOnly.{rel_is}
 use Rattle.aj_core.specs.Core as core
 use Rattle.aj_safe.specs.Fits.{stores}
-use Rattle.aj_tidy.proofs.Typing.{some_same}
 use Rattle.aj_tidy.proofs.Scopes.{Fixed, Scope, scope_more, scope_local, fixed_by, contains_cases, final_stays}
 
 -- a root that is a parameter's slot or that of `this` is fixed
@@ -304,8 +304,8 @@ module _ (P : Program) (typed : IsTyped P) where
   relevant_rooted sets relevant m method is q has =
       let r = rel_is P sets relevant m (slice_get sets m) refl q has in
       let g = near_good m q r.0 in
-      let same : g.0 ≡ method = some_same (sym g.1 ∙ is) in
-      let same_outer : (r.1).0 ≡ method = some_same (sym (r.1).1 ∙ is) in
+      let same : g.0 ≡ method = same_Some _ _ (sym g.1 ∙ is) in
+      let same_outer : (r.1).0 ≡ method = same_Some _ _ (sym (r.1).1 ∙ is) in
       let outer : q.root ≤ length method.params = subst (λ (x : Method). q.root ≤ length x.params) same_outer (r.1).2 in
       let good : GoodIn method q.root = subst (λ x. GoodIn x q.root) same g.2 in
       let low : q.root < 1 + length method.params = omega (arith, outer) in

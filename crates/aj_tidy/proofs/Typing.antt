@@ -1,8 +1,9 @@
 -- Typed expressions are tidy.
 use Rattle.std.proofs.Common.{◌≡◌, ℕ, suc, ◌+◌, Bool, true, false, ◌&&◌, ◌||◌, List, [], ◌∷◌, Some, None, refl, sym, ap, ◌∙◌, arith}
-use Rattle.std.specs.Prelude.{Option, slice_get, length, filter, cond, is_some, unwrap_or, if◌then◌else◌}
+use Rattle.std.specs.Prelude.{Option, slice_get, length, filter, cond, is_some, if◌then◌else◌}
 use Rattle.std.specs.List.{cons_option}
 use Rattle.std.proofs.lemmas.List.{length-map}
+use Rattle.std.proofs.lemmas.Option.{same_Some}
 use Rattle.aj_paths.specs.Paths.{extended_some}
 use Rattle.aj_core.specs.declared.types.CoreOp.{CoreOp}
 use Rattle.aj_core.specs.declared.types.CoreOp.TheVariants.{Eq, Ne, Lt, Le, Gt, Ge, Add, Sub, Mul, Div, Rem}
@@ -16,13 +17,10 @@ use Rattle.aj_core.specs.Typed.{gives_value, is_final_at, IsTyped}
 use Rattle.aj_steps.specs.Step.{has_result}
 use Rattle.aj_safe.specs.Fits.{arity_of, finals_of, count_of, valued, TidyE, TidyEach}
 
-pub some_same : {A : Type 0} {x y : A} → Some x ≡ Some y → x ≡ y
-some_same {A = A} {x = x} e = ap (λ o. unwrap_or o x) e
-
 -- Types that give a value.
 
 ints_give : (result A B T : NodeType) → of_ints result A B ≡ Some T → (gives_value A ≡ true) × (gives_value B ≡ true) × (result ≡ T)
-ints_give result (ValueT type.Int) (ValueT type.Int) T e = (refl, refl, some_same e)
+ints_give result (ValueT type.Int) (ValueT type.Int) T e = (refl, refl, same_Some _ _ e)
 ints_give result (ValueT type.Int) (ValueT type.Boolean) T e = absurd (let k : None ≡ Some T = e in cc)
 ints_give result (ValueT type.Int) (ValueT (type.Class c)) T e = absurd (let k : None ≡ Some T = e in cc)
 ints_give result (ValueT type.Int) NullT T e = absurd (let k : None ≡ Some T = e in cc)
@@ -33,7 +31,7 @@ ints_give result NullT B T e = absurd (let k : None ≡ Some T = e in cc)
 ints_give result VoidT B T e = absurd (let k : None ≡ Some T = e in cc)
 
 equal_true : (b : Bool) (T : NodeType) → of_equals b ≡ Some T → (b ≡ true) × (boolean_type ≡ T)
-equal_true true T e = (refl, some_same e)
+equal_true true T e = (refl, same_Some _ _ e)
 equal_true false T e = absurd (let k : None ≡ Some T = e in cc)
 
 pub fits_gives : (A B : NodeType) → fits A B ≡ true → (gives_value A ≡ true) × (gives_value B ≡ true)

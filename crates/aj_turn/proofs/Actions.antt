@@ -2,6 +2,8 @@
 use Rattle.std.proofs.Common.{◌≡◌, ℕ, ◌+◌, Bool, true, false, ◌||◌, ◌==◌, List, [], ◌∷◌, Some, None, refl, sym, ap, subst, ◌∙◌, arith}
 use Rattle.std.specs.Prelude.{Option, slice_get, slice_set, unwrap_or, nat_lt, length, if◌then◌else◌}
 use Rattle.std.proofs.lemmas.Bool.Decides.{nat_tests}
+use Rattle.std.proofs.lemmas.Bool.{or_parts}
+use Rattle.std.proofs.lemmas.Option.{same_Some}
 use Rattle.aj_paths.specs.Paths.{PathData, extended, extended_some}
 use Rattle.aj_algebra.specs.declared.basic.Basic.{Basic}
 use Rattle.aj_algebra.specs.declared.basic.Basic.TheVariants.{Atomic}
@@ -22,8 +24,8 @@ use Rattle.aj_state.specs.declared.value.StepKind.TheVariants.{Both, Other}
 use Rattle.aj_state.specs.Values.{top, under, dropped, as_int, address_of}
 use Rattle.aj_state.specs.Memory.{Object, Hold, field_value}
 use Rattle.aj_state.specs.Work as W
-use Rattle.aj_state.specs.Work.{Item, Ex, St, Act}
-use Rattle.aj_state.specs.States.{Frame, Running}
+use Rattle.aj_state.specs.Work.{Item, Ex, St}
+use Rattle.aj_state.specs.States.{Frame}
 use Rattle.aj_steps.specs.Step.{Change, Nothing, FieldIs, ObjectIs, Prints, Starts, Shared, run_of, run_of_class, unless_final, holds, value_at, access_kind, faults, goes_on, load, store, binary, and_then, or_else, choose, loop, get, get_value, put, put_value, new, new_address, start, start_run}
 use Rattle.aj_safe.specs.Phases.{Phase, Passes, phase_of, allowed, stepped, Falls}
 use Rattle.aj_safe.specs.Leads.{Env, env_of, with_slot, memory_of, Grows, next_value, lead, Paths, LeadsTo, MayLeadTo, top_path, under_path, dropped_paths}
@@ -32,7 +34,7 @@ use Rattle.aj_safe.specs.Safe.{LeadEach, FramesFit, Owns, frames_inside, outer_p
 use Rattle.aj_safe.proofs.PhaseLemmas.{le_itself, passes_map, passes_falls, passes_rises, passes_seq, passes_join, atomic_stays, atomic_allows, both_allowed, phase_stepped, turn_below}
 use Rattle.aj_safe.proofs.LeadLemmas.{grows_itself, each_top, each_under, each_dropped, leads_from}
 use Rattle.aj_safe.proofs.FitLemmas.{fits_falls}
-use Rattle.aj_safe.proofs.SetLemmas.{first_false, second_false, sound_kept, extended_is}
+use Rattle.aj_safe.proofs.SetLemmas.{sound_kept, extended_is}
 use Rattle.aj_safe.proofs.Unfolding.{on_pushed}
 use Rattle.aj_turn.specs.Turn.{Accepted, StartFine, Fine}
 use Rattle.aj_steps.specs.Changes.{objects_after, locks_after}
@@ -48,11 +50,8 @@ join_left a b = each (λ b. below_of a (join_of a b)) (each (λ a. every (λ b. 
 pub join_right : (a b : Basic) → AtMost b (join_of a b)
 join_right a b = each (λ b. below_of b (join_of a b)) (each (λ a. every (λ b. below_of b (join_of a b))) refl a) b
 
-pub some_same : {A : Type 0} {x y : A} → Some x ≡ Some y → x ≡ y
-some_same {A = A} {x = x} e = ap (λ o. unwrap_or o x) e
-
 pub address_is : (v : Value) (a : Address) → address_of v ≡ Some a → v ≡ value.Ref a
-address_is (value.Ref b) a e = ap value.Ref (some_same e)
+address_is (value.Ref b) a e = ap value.Ref (same_Some _ _ e)
 address_is (value.Int n) a e = absurd (let k : None ≡ Some a = e in cc)
 address_is (value.Truth b) a e = absurd (let k : None ≡ Some a = e in cc)
 address_is value.Null a e = absurd (let k : None ≡ Some a = e in cc)
@@ -131,7 +130,7 @@ module _ (P : Program) (rel : ℕ → List PathData) (A : Assignment) (see : Sha
 
       may_of : (o : Option PathData) (v : Value) → LeadsTo P (memory_of P see.object_at) slots o v → MayLeadTo P (memory_of P see.object_at) slots o v
       may_of None v leads = tt
-      may_of (Some p) v leads = λ w is. some_same (sym leads ∙ is)
+      may_of (Some p) v leads = λ w is. same_Some _ _ (sym leads ∙ is)
 
       pub store_fine : (x : ℕ) → ((v : Value) → MayLeadTo P (memory_of P see.object_at) slots (top_path os) v → List_fits rest (with_slot slots x v) now []) → (old : Option Value) → slice_get f.slots x ≡ old → Fine P rel A see t stands flag (store P see t f below rest x old)
       store_fine x fits None is = fault_fine fault.Null
@@ -202,7 +201,7 @@ module _ (P : Program) (rel : ℕ → List PathData) (A : Assignment) (see : Sha
           a.rest.0,
           a.rest.2,
           passes_falls (Leaves (λ y. stores s y || stores u y) slots) _ now now (effect P rel A s a.set) (join_of (effect P rel A s a.set) (effect P rel A u a.set)) (le_itself now) (join_left (effect P rel A s a.set) (effect P rel A u a.set))
-              (λ p q small g later agrees. leaves_falls (λ y. stores s y || stores u y) slots p q small g later (λ y other. agrees.kept y (first_false (stores s y) (stores u y) other))) a.rest.4,
+              (λ p q small g later agrees. leaves_falls (λ y. stores s y || stores u y) slots p q small g later (λ y other. agrees.kept y ((or_parts (stores s y) (stores u y) other).0))) a.rest.4,
         );
       }) (λ a. refl)
       choose_fine s u a false = go Both (under f.operands) (St u ∷ rest) [] (both_allowed now) tt (record {
@@ -212,7 +211,7 @@ module _ (P : Program) (rel : ℕ → List PathData) (A : Assignment) (see : Sha
           a.rest.1,
           a.rest.3,
           passes_falls (Leaves (λ y. stores s y || stores u y) slots) _ now now (effect P rel A u a.set) (join_of (effect P rel A s a.set) (effect P rel A u a.set)) (le_itself now) (join_right (effect P rel A s a.set) (effect P rel A u a.set))
-              (λ p q small g later agrees. leaves_falls (λ y. stores s y || stores u y) slots p q small g later (λ y other. agrees.kept y (second_false (stores s y) (stores u y) other))) a.rest.4,
+              (λ p q small g later agrees. leaves_falls (λ y. stores s y || stores u y) slots p q small g later (λ y other. agrees.kept y ((or_parts (stores s y) (stores u y) other).1))) a.rest.4,
         );
       }) (λ a. refl)
 

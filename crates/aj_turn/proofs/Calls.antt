@@ -19,7 +19,7 @@ use Rattle.aj_state.specs.declared.value.Value.TheVariants as value
 use Rattle.aj_state.specs.declared.value.Fault.TheVariants as fault
 use Rattle.aj_state.specs.Values.{top, under, taken, dropped, address_of}
 use Rattle.aj_state.specs.Work as W
-use Rattle.aj_state.specs.Work.{Item, St, Act}
+use Rattle.aj_state.specs.Work.{Item}
 use Rattle.aj_state.specs.States.{Frame, new_frame, new_slots}
 use Rattle.aj_steps.specs.Run.{is_annotated}
 use Rattle.aj_steps.specs.Step.{Shared, most_frames, call, call_on, enter, enter_first}
@@ -27,7 +27,7 @@ use Rattle.aj_safe.specs.Phases.{Phase, Free, Opened, Committed, Passes, phase_o
 use Rattle.aj_safe.specs.Leads.{Env, env_of, Memory, memory_of, lead_from, lead, Sound, Paths, LeadsTo, top_path, under_path, taken_paths, dropped_paths}
 use Rattle.aj_safe.specs.Fits.{has_release, count_release, arity_of, awaited, FitsAct, Fits}
 use Rattle.aj_safe.specs.Safe.{LeadEach, FramesFit, Owns, IsFree, frames_inside, outer_phase, held_by, count_frames, held_count}
-use Rattle.aj_safe.proofs.PhaseLemmas.{passes_falls, le_itself, no_error, both_allowed}
+use Rattle.aj_safe.proofs.PhaseLemmas.{passes_falls, no_error, both_allowed}
 use Rattle.aj_safe.proofs.LeadLemmas.{grows_itself, each_top, each_under, each_dropped, aligned_taken, aligned_at, leads_from}
 use Rattle.aj_safe.proofs.SetLemmas.{extended_is, holds_some}
 use Rattle.aj_turn.specs.Turn.{Accepted, Fine}

@@ -2,6 +2,8 @@
 use Rattle.std.proofs.Common.{◌≡◌, ℕ, ◌+◌, ◌-◌, Bool, true, false, ◌||◌, ◌==◌, List, [], ◌∷◌, Some, None, refl, sym, ap, subst, ◌∙◌, arith}
 use Rattle.std.specs.Prelude.{Option, nat_lt, if◌then◌else◌}
 use Rattle.std.proofs.lemmas.Bool.Decides.{nat_tests}
+use Rattle.std.proofs.lemmas.Bool.{eq-eqb}
+use Rattle.std.proofs.lemmas.Option.{same_Some}
 use Rattle.aj_paths.specs.Paths.{PathData}
 use Rattle.aj_algebra.specs.Basics.{lift_of}
 use Rattle.aj_algebra.specs.HeldPaths.{Held, with_path}
@@ -28,12 +30,9 @@ use Rattle.aj_safe.proofs.LeadLemmas.{grows_itself, each_top, sound_more}
 use Rattle.aj_turn.specs.Turn.{Fine}
 use Rattle.aj_turn.proofs.FrameLemmas.{held_counts}
 use Rattle.aj_steps.proofs.Changed.{same_address, address_itself}
-use Rattle.aj_turn.proofs.Actions.{fault_fine, list_falls, some_same, address_is}
+use Rattle.aj_turn.proofs.Actions.{fault_fine, list_falls, address_is}
 
 -- Numbers.
-
-number_itself : (n : ℕ) → (n == n) ≡ true
-number_itself n = grind (arith, nat_tests)
 
 not_both : (a t u : ℕ) → (a == t) ≡ true → (u == t) ≡ false → (a == u) ≡ false
 not_both a t u e k = grind (arith, nat_tests)
@@ -134,7 +133,7 @@ module _ (P : Program) (rel : ℕ → List PathData) (A : Assignment) (see : Sha
       held_part : H p ≡ true → (has_release a rest || held_by below a) ≡ true
       held_part has =
           let at = sound.at p has in
-          let same : value.Ref a ≡ value.Ref at.0 = some_same (sym leads ∙ at.1) in
+          let same : value.Ref a ≡ value.Ref at.0 = same_Some _ _ (sym leads ∙ at.1) in
           subst (λ b. (has_release b rest || held_by below b) ≡ true) (sym (ref_same same)) at.2
         where
           ref_same : {x y : Address} → value.Ref x ≡ value.Ref y → x ≡ y
@@ -186,7 +185,7 @@ module _ (P : Program) (rel : ℕ → List PathData) (A : Assignment) (see : Sha
 
       free_counts : (b : Address) → see.lock_at a ≡ None → (same : Bool) → address_eq b a ≡ same
           → held_count t (if same then Some (record { holder = t; count = 1 }) else see.lock_at b) ≡ (if same then 1 + count_release b rest else count_release b rest) + count_frames b below
-      free_counts b none true is = chosen (t == t) 1 0 (number_itself t) ∙ one_of (count_release b rest) (count_frames b below) (sym (ap (λ c. held_count t (see.lock_at c)) (same_address b a is) ∙ ap (held_count t) none) ∙ own_rest b)
+      free_counts b none true is = chosen (t == t) 1 0 (eq-eqb t t refl) ∙ one_of (count_release b rest) (count_frames b below) (sym (ap (λ c. held_count t (see.lock_at c)) (same_address b a is) ∙ ap (held_count t) none) ∙ own_rest b)
       free_counts b none false is = own_rest b
 
       again_counts : (b : Address) (hold : Hold) → see.lock_at a ≡ Some hold → (hold.holder == t) ≡ true → (same : Bool) → address_eq b a ≡ same

@@ -1,7 +1,7 @@
 -- A cell whose demand was met waits no longer, and after its rise the cells that look at it wait.
 use Rattle.std.proofs.Common.{◌≡◌, ◌<◌, length, ◌++◌, slice_set, false, true, subst, sym, ◌∙◌}
+use Rattle.std.proofs.lemmas.List.{length-set}
 use Rattle.aj_fix.proofs.AssignmentLemmas.{between_none, length-above, met_now}
-use Rattle.aj_fix.proofs.NoteLemmas.{length_changed}
 use Rattle.aj_fix.proofs.WaitLemmas.{waiting_met, waiting_risen, on_ok}
 use Rattle.aj_fix.specs.Assignments.{IsBetween}
 use Rattle.aj_fix.specs.Waiting.{IsNoted, AreWaiting}
@@ -29,7 +29,7 @@ returns-then-not-branch-clause-waiting g c = λ rest waiting.
 
 pub note_readers-requires : goal.note_readers-requires
 note_readers-requires g c =
-    length_changed c.args.waits.now c.args.cell false ∙ c.requires.size
+    length-set c.args.waits.now c.args.cell false ∙ c.requires.size
     ∙ sym (length-above (g.R.Rising.marks c.raise.new.self) (g.R.Rising.marks c.args.rising.now) (c.in_ok-raise.ensures.rises c.if-not-branch.false))
 
 pub returns-clause-waiting : goal.returns-clause-waiting

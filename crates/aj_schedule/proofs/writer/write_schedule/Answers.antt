@@ -1,8 +1,8 @@
 -- One group more is written, and at the end the line reads back.
 use Rattle.std.proofs.Common.{◌≡◌, ◌++◌, ◌-◌, ◌∙◌, ap, sym, arith, length, take, drop, string_bytes}
 use Rattle.std.proofs.lemmas.Grind.{common_steps}
+use Rattle.std.proofs.lemmas.List.{take_rest}
 use Rattle.aj_schedule.specs.Written.{written}
-use Rattle.aj_schedule.proofs.FrontLemmas.{take-rest}
 use Rattle.aj_schedule.proofs.WrittenLemmas.{group_written, read_back, none_left}
 use Rattle.aj_schedule.proofs.writer.write_schedule.Goals as goal
 
@@ -13,7 +13,7 @@ groups-preserved c =
     let first = c.in-Some.ensures.item.3 in
     record {
       done = group_written (string_bytes c.groups.text) (string_bytes c.write_group.new.text) (string_bytes c.end_group.new.text) rest (take (length rest - count) (drop count rest)) c.args.schedule.now
-          c.in-Some.thread.now count c.is_empty.result (take-rest count rest) first.0 (sym (first.1 0)) c.run_length-count.ensures.length
+          c.in-Some.thread.now count c.is_empty.result (take_rest rest count) first.0 (sym (first.1 0)) c.run_length-count.ensures.length
           c.in_ok-write_group.ensures c.in_ok-end_group.ensures c.is_empty.ensures c.groups.invariant.done;
       within = grind (arith, common_steps, c.groups.invariant.within);
     }

@@ -1,4 +1,4 @@
-use Rattle.std.proofs.Common.{◌≡◌, ◌+◌, ◌-◌, Some, length, vec_len, refl, arith}
+use Rattle.std.proofs.Common.{◌-◌, Some, vec_len, refl, arith}
 use Rattle.aj_state.specs.Frames.{with_given}
 use Rattle.aj_state.proofs.FrameLemmas.{given_last, on_last_ok, last_spare}
 use Rattle.aj_state.proofs.threads.push_last.Goals as goal

@@ -1,4 +1,4 @@
-use Rattle.std.proofs.Common.{◌≡◌, ◌+◌, ◌-◌, length, vec_len, refl, arith}
+use Rattle.std.proofs.Common.{◌-◌, vec_len, refl, arith}
 use Rattle.std.specs.Prelude.{None}
 use Rattle.aj_state.specs.Frames.{settled}
 use Rattle.aj_state.proofs.FrameLemmas.{on_last}

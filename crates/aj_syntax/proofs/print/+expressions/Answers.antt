@@ -1,5 +1,5 @@
-use Rattle.std.proofs.Common.{◌≡◌, List, [], ◌∷◌, ◌++◌, map, drop, refl, ap, sym, ◌∙◌, arith}
-use Rattle.aj_syntax.specs.Layout.{writes, Lexeme, Fixed}
+use Rattle.std.proofs.Common.{◌∷◌, map, refl, ap, sym, ◌∙◌, arith}
+use Rattle.aj_syntax.specs.Layout.{writes, Fixed}
 use Rattle.aj_syntax.specs.declared.terminal.Terminal.TheVariants as T
 use Rattle.aj_syntax.specs.Printing.{args_lexemes, more_args_lexemes, expr_lexemes}
 use Rattle.aj_syntax.specs.Views.{expr_of, exprs_from}

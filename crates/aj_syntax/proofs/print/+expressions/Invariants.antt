@@ -1,4 +1,4 @@
-use Rattle.std.proofs.Common.{◌≡◌, ℕ, map, drop}
+use Rattle.std.proofs.Common.{◌≡◌, map, drop}
 use Rattle.aj_syntax.specs.Layout.{writes}
 use Rattle.aj_syntax.specs.Printing.{args_lexemes, more_args_lexemes}
 use Rattle.aj_syntax.specs.Views.{expr_of, exprs_from}

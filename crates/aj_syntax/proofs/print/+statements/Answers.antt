@@ -1,12 +1,10 @@
-use Rattle.std.proofs.Common.{◌≡◌, Some, None, List, [], ◌∷◌, ◌++◌, map, drop, refl, ap, sym, ◌∙◌, arith}
-use Rattle.aj_syntax.specs.Layout.{writes, Lexeme, Fixed}
-use Rattle.aj_syntax.specs.Printing.{expr_lexemes, lock_lexemes, stmts_lexemes, stmt_lexemes}
-use Rattle.aj_syntax.specs.Trees.{SyncS, ParenE, IfS, IfElseS}
-use Rattle.aj_syntax.specs.declared.terminal.Terminal.TheVariants as T
-use Rattle.aj_syntax.specs.declared.tree.Stmt.TheVariants as S
-use Rattle.aj_syntax.specs.Views.{expr_of, lock_of, stmt_of, stmts_from}
+use Rattle.std.proofs.Common.{map, refl, ap, ◌∙◌, arith}
+use Rattle.aj_syntax.specs.Layout.{writes}
+use Rattle.aj_syntax.specs.Printing.{lock_lexemes, stmts_lexemes, stmt_lexemes}
+use Rattle.aj_syntax.specs.Trees.{SyncS}
+use Rattle.aj_syntax.specs.Views.{lock_of, stmt_of, stmts_from}
 use Rattle.aj_syntax.proofs.Bridge.{view_block, view_sync}
-use Rattle.aj_syntax.proofs.Writing.{item_step, item_end, item_none, writes_one, writes_both, writes_none, put_first, writes_first, put_last, writes_last, added}
+use Rattle.aj_syntax.proofs.Writing.{item_step, item_end, writes_one, writes_both, writes_none, put_first, writes_first, put_last, added}
 use Rattle.aj_syntax.proofs.print.+statements.Goals as goal
 
 pub write_stmts-loop-stmt-preserved : goal.write_stmts-loop-stmt-preserved

@@ -1,4 +1,4 @@
-use Rattle.std.proofs.Common.{◌≡◌, ℕ, map, drop}
+use Rattle.std.proofs.Common.{◌≡◌, map, drop}
 use Rattle.aj_syntax.specs.Layout.{writes}
 use Rattle.aj_syntax.specs.Printing.{stmts_lexemes}
 use Rattle.aj_syntax.specs.Views.{stmt_of, stmts_from}

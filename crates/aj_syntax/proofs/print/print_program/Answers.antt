@@ -1,5 +1,4 @@
-use Rattle.std.proofs.Common.{◌≡◌, List, map, ap, sym, subst, ◌∙◌, string_bytes}
-use Rattle.aj_lexer.specs.declared.tokens.Token.{Token}
+use Rattle.std.proofs.Common.{◌≡◌, map, ap, sym, subst, ◌∙◌, string_bytes}
 use Rattle.aj_syntax.specs.Layout.{writes}
 use Rattle.aj_syntax.specs.Printing.{all_lexemes, canonical, class_lexemes}
 use Rattle.aj_syntax.specs.Reprinted.{ReadsBack}

@@ -1,7 +1,5 @@
-use Rattle.std.proofs.Common.{refl, map, true, false, ap, ◌∷◌, ◌∙◌}
+use Rattle.std.proofs.Common.{refl, map, ap, ◌∙◌}
 use Rattle.aj_syntax.specs.Layout.{writes}
-use Rattle.std.specs.Option.{option_map}
-use Rattle.aj_syntax.specs.declared.terminal.Terminal.TheVariants as T
 use Rattle.aj_syntax.specs.Printing.{class_lexemes, runnable_lexemes, all_lexemes, member_lexemes}
 use Rattle.aj_syntax.specs.Views.{class_of, member_of}
 use Rattle.aj_syntax.proofs.Writing.{put_first, writes_first, put_last, added}

@@ -1,6 +1,4 @@
-use Rattle.std.proofs.Common.{refl, map, true, false, ap, ◌∷◌}
-use Rattle.std.specs.Option.{option_map}
-use Rattle.aj_syntax.specs.declared.terminal.Terminal.TheVariants as T
+use Rattle.std.proofs.Common.{refl, false}
 use Rattle.aj_syntax.specs.Printing.{member_lexemes, listed_lexemes, param_lexemes, all_lexemes, set_lexemes}
 use Rattle.aj_syntax.specs.Trees.{CtorM}
 use Rattle.aj_syntax.proofs.Writing.{put_first, writes_first, put_last, added}

@@ -1,4 +1,4 @@
-use Rattle.std.proofs.Common.{refl, map, true, false, ap, ◌∷◌}
+use Rattle.std.proofs.Common.{refl}
 use Rattle.std.specs.Option.{option_map}
 use Rattle.aj_syntax.specs.declared.terminal.Terminal.TheVariants as T
 use Rattle.aj_syntax.specs.Printing.{field_lexemes, flag_lexemes, guard_lexemes}

@@ -1,5 +1,5 @@
-use Rattle.std.proofs.Common.{◌≡◌, List, [], ◌∷◌, ◌++◌, map, drop, refl, ap, sym, ◌∙◌}
-use Rattle.aj_syntax.specs.Layout.{writes, Lexeme, Fixed}
+use Rattle.std.proofs.Common.{◌∷◌, map, refl, ap, sym, ◌∙◌}
+use Rattle.aj_syntax.specs.Layout.{writes, Fixed}
 use Rattle.aj_syntax.specs.declared.terminal.Terminal.TheVariants as T
 use Rattle.aj_syntax.specs.Printing.{further_lexemes, lock_lexemes}
 use Rattle.aj_syntax.specs.Views.{lock_of}

@@ -1,9 +1,8 @@
-use Rattle.std.proofs.Common.{◌≡◌, List, [], ◌∷◌, ◌++◌, map, drop, refl, ap, sym, ◌∙◌}
-use Rattle.aj_syntax.specs.Layout.{writes, Lexeme, Fixed}
-use Rattle.aj_syntax.specs.declared.terminal.Terminal.TheVariants as T
+use Rattle.std.proofs.Common.{map, refl}
+use Rattle.aj_syntax.specs.Layout.{writes}
 use Rattle.aj_syntax.specs.Printing.{all_lexemes, member_lexemes}
 use Rattle.aj_syntax.specs.Views.{member_of}
-use Rattle.aj_syntax.proofs.Writing.{item_step, item_end, writes_one}
+use Rattle.aj_syntax.proofs.Writing.{item_step, item_end}
 use Rattle.aj_syntax.proofs.print.write_members.Goals as goal
 
 pub loop-member-preserved : goal.loop-member-preserved

@@ -1,5 +1,4 @@
-use Rattle.std.proofs.Common.{refl, map, true, false, ap, ◌∷◌}
-use Rattle.std.specs.Option.{option_map}
+use Rattle.std.proofs.Common.{refl, map, true}
 use Rattle.aj_syntax.specs.declared.terminal.Terminal.TheVariants as T
 use Rattle.aj_syntax.specs.Printing.{method_lexemes, flag_lexemes, listed_lexemes, param_lexemes, requires_lexemes, stmts_lexemes}
 use Rattle.aj_syntax.specs.Views.{lock_of, stmt_of, stmts_from}

@@ -1,4 +1,4 @@
-use Rattle.std.proofs.Common.{◌≡◌, refl}
+use Rattle.std.proofs.Common.{refl}
 use Rattle.aj_syntax.specs.Printing.{listed_lexemes, param_lexemes}
 use Rattle.aj_syntax.proofs.Writing.{item_none}
 use Rattle.aj_syntax.proofs.print.write_params.Goals as goal

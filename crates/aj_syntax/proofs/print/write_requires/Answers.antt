@@ -1,4 +1,4 @@
-use Rattle.std.proofs.Common.{◌≡◌, refl, map}
+use Rattle.std.proofs.Common.{refl, map}
 use Rattle.aj_syntax.specs.Printing.{requires_lexemes}
 use Rattle.aj_syntax.specs.Views.{lock_of}
 use Rattle.aj_syntax.proofs.Writing.{item_none}

@@ -1,8 +1,6 @@
-use Rattle.std.proofs.Common.{refl, map, true, false, ap, ◌∷◌}
-use Rattle.std.specs.Option.{option_map}
-use Rattle.aj_syntax.specs.declared.terminal.Terminal.TheVariants as T
+use Rattle.std.proofs.Common.{refl}
 use Rattle.aj_syntax.specs.Printing.{set_lexemes}
-use Rattle.aj_syntax.proofs.Writing.{put_first, writes_first, put_last, added}
+use Rattle.aj_syntax.proofs.Writing.{put_first, put_last, added}
 use Rattle.aj_syntax.proofs.print.write_set.Goals as goal
 
 pub returns : goal.returns

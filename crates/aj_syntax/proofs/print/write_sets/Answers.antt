@@ -1,8 +1,7 @@
-use Rattle.std.proofs.Common.{◌≡◌, List, [], ◌∷◌, ◌++◌, map, drop, refl, ap, sym, ◌∙◌}
-use Rattle.aj_syntax.specs.Layout.{writes, Lexeme, Fixed}
-use Rattle.aj_syntax.specs.declared.terminal.Terminal.TheVariants as T
+use Rattle.std.proofs.Common.{refl}
+use Rattle.aj_syntax.specs.Layout.{writes}
 use Rattle.aj_syntax.specs.Printing.{all_lexemes, set_lexemes}
-use Rattle.aj_syntax.proofs.Writing.{item_step, item_end, writes_one}
+use Rattle.aj_syntax.proofs.Writing.{item_step, item_end}
 use Rattle.aj_syntax.proofs.print.write_sets.Goals as goal
 
 pub loop-set-preserved : goal.loop-set-preserved

@@ -1,6 +1,4 @@
-use Rattle.std.proofs.Common.{refl, map, true, false, ap, ◌∷◌}
-use Rattle.std.specs.Option.{option_map}
-use Rattle.aj_syntax.specs.declared.terminal.Terminal.TheVariants as T
+use Rattle.std.proofs.Common.{refl}
 use Rattle.aj_syntax.specs.Printing.{stmt_lexemes, expr_lexemes}
 use Rattle.aj_syntax.specs.Views.{expr_of}
 use Rattle.aj_syntax.specs.Trees.{StartS}

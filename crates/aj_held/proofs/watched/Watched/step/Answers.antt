@@ -1,4 +1,4 @@
-use Rattle.std.proofs.Common.{refl, sym, ap, subst, ◌∙◌}
+use Rattle.std.proofs.Common.{refl, sym, subst}
 use Rattle.std.specs.Prelude.{Err, OnErr}
 use Rattle.aj_machine.specs.Standing.{program_run, StandsFor, IsSame}
 use Rattle.aj_steps.specs.Step.{outcome}

@@ -1,4 +1,4 @@
-use Rattle.std.proofs.Common.{sym, subst}
+use Rattle.std.proofs.Common.{subst}
 use Rattle.aj_held.specs.Watching.{IsGuarded}
 use Rattle.aj_held.proofs.WatchedSteps.{guarded}
 use Rattle.aj_held.proofs.watched.Watched.steps.Goals as goal
