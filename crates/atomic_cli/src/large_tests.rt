@@ -1,6 +1,7 @@
-//! A schedule of 200,000 entries, as another tool would write it.
+//! A schedule of 200,000 entries, as another tool would write it, and books that are too long to be judged in memory.
 
-use crate::schedule_tests::answer_failing;
+use crate::schedule_tests::{answer_failing, expect};
+use crate::tests::LOCKED;
 use std::alloc::Global;
 use std::test::Fail;
 
@@ -42,5 +43,58 @@ fn serialise_reads_its_own_large_output(rt: HostRuntime) -> Result<(), Fail> {
     )?;
     assert_eq!(rt; second.0, 0);
     assert_eq!(rt; second.1.as_slice(), first.1.as_slice());
+    Ok(())
+}
+
+/// A book for `LOCKED` with this derivation. Its table has 235,300 trees that no node names, so that it has more than 4,000,000
+/// bytes, and is judged in place.
+fn long_book(alloc: Global, nodes: &str) -> Result<String, Fail> {
+    let mut text = String::from_str(
+        alloc,
+        "book 235303\n(0 mover atomic)\n(0 mover error)\nconst\n",
+    )?;
+    for _tree in 0..235300u32 {
+        text.push_str("(0 mover atomic)\n")?;
+    }
+    text.push_str("method 0 0\n")?;
+    text.push_str(nodes)?;
+    text.push_str("\nend\n")?;
+    Ok(text)
+}
+
+/// Derivations for `LOCKED`, each with the status and the text of `verify`.
+const DERIVATIONS: [(&str, u8, &str); 4] = [
+    ("(block 0 (sync 0 (block 1 (put 1 (this 2) (lit 2)))))", 0, "verified\n"),
+    (
+        "(block 0 (sync 0 (block 1 (set 1 (lit 2)))))",
+        11,
+        "book refused: method 0 node 3: shape\n",
+    ),
+    (
+        "(block 0 (sync 2 (block 1 (put 1 (this 2) (lit 2)))))",
+        11,
+        "book refused: method 0 node 1: step\n",
+    ),
+    (
+        "(block 0 (sync 0 (block 1 (put 1 (this 235303) (lit 2)))))",
+        11,
+        "book refused at byte 4000201: form\n",
+    ),
+];
+
+#[test]
+fn long_books_are_judged_in_place(rt: HostRuntime) -> Result<(), Fail> {
+    for (nodes, status, text) in DERIVATIONS {
+        let given = long_book(rt.alloc(), nodes)?;
+        expect(
+            &rt,
+            rt.alloc(),
+            "verify",
+            LOCKED,
+            given.as_str(),
+            status,
+            text,
+        )?;
+    }
     Ok(())
 }
