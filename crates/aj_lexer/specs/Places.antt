@@ -1,5 +1,5 @@
 -- Lines and columns of a text, which count from 1.
-use Rattle.std.specs.Prelude.{ℕ, ◌+◌, ◌==◌, Bool, not, List, take, count_by}
+use Rattle.std.specs.Prelude.{ℕ, ◌+◌, ◌++◌, ◌==◌, Bool, not, List, take, count_by, codes, decimal}
 use Rattle.std.specs.List.{suffix_len}
 
 -- LF, which ends a line
@@ -13,3 +13,7 @@ line_of text at = 1 + count_by is_line_feed (take at text)
 -- 1 and the bytes since the last line feed before the offset, or since the start
 abbrev pub column_of : List ℕ → ℕ → ℕ
 column_of text at = 1 + suffix_len (λ c. not (is_line_feed c)) (take at text)
+
+-- how a place is written: its line and its column in decimal, with a colon between them
+abbrev pub place_text : (line column : ℕ) → List ℕ
+place_text line column = decimal line ++ (codes ":" ++ decimal column)

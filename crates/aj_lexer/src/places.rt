@@ -1,8 +1,8 @@
 //! Lines and columns.
 
-ghost use Rattle.std.specs.Prelude.{◌≡◌, ◌+◌, ◌≤◌, ◌==◌, not, length, count_by};
+ghost use Rattle.std.specs.Prelude.{◌≡◌, ◌+◌, ◌≤◌, ◌==◌, Some, not, length, count_by};
 ghost use Rattle.std.specs.List.{suffix_len};
-ghost use Rattle.aj_lexer.specs.Places.{is_line_feed, line_of, column_of};
+ghost use Rattle.aj_lexer.specs.Places.{is_line_feed, line_of, column_of, place_text};
 ghost use Rattle.aj_lexer.specs.Limits.{longest_source};
 
 use std::fmt;
@@ -15,6 +15,8 @@ pub struct Place {
 }
 
 impl fmt::Display for Place {
+    ghost output = { λ p. Some (place_text p.line p.column) };
+
     fn fmt<W: fmt::Write>(&self, f: &mut fmt::Formatter<W>) -> fmt::Result {
         write!(f, "{}:{}", self.line, self.column)
     }
