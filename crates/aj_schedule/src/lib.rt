@@ -14,6 +14,3 @@ pub use comments::add_comments;
 pub use laws::{comment_laws, form_laws};
 pub use reader::{SchedFault, read_schedule};
 pub use writer::write_schedule;
-
-#[cfg(test)]
-mod tests;

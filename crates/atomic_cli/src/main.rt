@@ -23,6 +23,8 @@ mod run;
 mod run_schedule;
 #[cfg(test)]
 mod schedule_tests;
+#[cfg(test)]
+mod schedule_text_tests;
 mod schedules;
 mod serialise;
 #[cfg(test)]

@@ -1,5 +1,6 @@
 //! Texts with their schedules or faults, and schedules with their texts.
-use crate::*;
+
+use aj_schedule::{SchedFault, read_schedule, write_schedule};
 use std::test::Fail;
 
 #[test]
