@@ -1,6 +1,7 @@
 -- Lists of parts: what holds of each, and which part has a number.
-use Rattle.std.proofs.Common.{◌≡◌, ℕ, zero, suc, List, [], ◌∷◌, ◌++◌, map, Option, Some, None, refl, ap, ◌∙◌, subst, slice_get, option_map, option_and_then}
+use Rattle.std.proofs.Common.{◌≡◌, ℕ, zero, suc, List, [], ◌∷◌, ◌++◌, map, Some, None, refl, ap, ◌∙◌, subst, slice_get, option_map}
 use Rattle.std.proofs.lemmas.Option.{slice_get-map, same_Some}
+pub use Rattle.aj_lemmas.proofs.Options.{then_parts as and_then_of}
 
 abbrev pub Each : {A : Type 0} → (A → Type 0) → List A → Type 0
 Each P [] = Unit {0}
@@ -25,7 +26,3 @@ pub before_mapped : {A B : Type 0} (f : A → B) (xs : List A) (i : ℕ) (y : B)
 before_mapped f [] i y e = absurd (nothing_at i y e)
 before_mapped f (x ∷ xs) zero y e = (x, refl, same_Some (f x) y e)
 before_mapped f (x ∷ xs) (suc i) y e = before_mapped f xs i y e
-
-pub and_then_of : {A B : Type 0} (f : A → Option B) (o : Option A) (b : B) → option_and_then f o ≡ Some b → (a : A) × (o ≡ Some a) × (f a ≡ Some b)
-and_then_of f None b e = absurd (let d : None ≡ Some b = e in cc)
-and_then_of f (Some a) b e = (a, refl, e)

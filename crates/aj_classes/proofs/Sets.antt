@@ -1,5 +1,5 @@
 -- A set of lent texts, few in a list and more in a table, against the list of their bytes.
-use Rattle.std.proofs.Common.{◌≡◌, ℕ, suc, ◌+◌, ◌-◌, ◌≤◌, ◌==◌, ◌||◌, nat_lt, Bool, not, true, false, cond, if◌then◌else◌, List, [], ◌∷◌, ◌++◌, map, length, bytes_eq, position, Some, None, refl, ap, sym, ◌∙◌, arith, append_assoc, length-append}
+use Rattle.std.proofs.Common.{◌≡◌, ℕ, ◌+◌, ◌-◌, ◌≤◌, ◌==◌, ◌||◌, nat_lt, Bool, not, true, false, cond, if◌then◌else◌, List, [], ◌∷◌, ◌++◌, map, length, bytes_eq, position, Some, None, refl, ap, sym, ◌∙◌, arith, append_assoc, length-append}
 use Rattle.std.proofs.lemmas.Bool.Decides.{nat_tests}
 use Rattle.std.proofs.lemmas.List.{map-append, length-map}
 use Rattle.std.proofs.lemmas.List.Folds.{prefix_len-append, list_any-append}
@@ -8,6 +8,7 @@ use Rattle.std.proofs.lemmas.Option.{slice_get-map}
 use Rattle.std.specs.Borrow.{Bor}
 use Rattle.std.specs.List.{list_any, prefix_len, position_or_len}
 use Rattle.std.specs.Prelude.{Option, option_map, slice_get}
+use Rattle.aj_lemmas.proofs.Lists.{get_right}
 use Rattle.indexmap.specs.IndexSet.{insert_key}
 use Rattle.aj_classes.specs.Names.{has_text, with_text}
 use Rattle.aj_classes.specs.Shows.{shows}
@@ -72,10 +73,6 @@ place_in_both test xs ys =
     ∙ ap (λ k. below (cond (n == length xs) (length xs + m) n) k) (length-append xs ys)
     ∙ below_both n m (length xs) (length ys) (n == length xs) (nat_lt m (length ys)) (prefix_len-le-length (λ x. not (test x)) xs) refl refl
 
-get_later : {A : Type 0} (xs ys : List A) (k : ℕ) → slice_get (xs ++ ys) (length xs + k) ≡ slice_get ys k
-get_later {A = A} [] ys k = let e : length {A = A} [] + k ≡ k = omega arith in ap (slice_get ys) e
-get_later (x ∷ xs) ys k = let e : suc (length xs) + k ≡ suc (length xs + k) = omega arith in ap (slice_get (x ∷ (xs ++ ys))) e ∙ get_later xs ys k
-
 insert_after : (few more : List (Bor (List ℕ))) (k : Bor (List ℕ)) (there : Bool) → list_any (same k) few ≡ false → list_any (same k) more ≡ there
     → insert_key same (few ++ more) k ≡ few ++ insert_key same more k
 insert_after few more k true a b = rw (list_any-append (same k) few more, a, b) refl
@@ -127,5 +124,5 @@ pub later_name : (few more : List (Bor (List ℕ))) (texts : List (List ℕ)) (i
     → slice_get more (i - length few) ≡ Some name → Some name.now ≡ slice_get texts i
 later_name few more texts i name e w is =
     let j : length few + (i - length few) ≡ i = omega arith in
-    let there : slice_get (few ++ more) i ≡ Some name = sym (ap (slice_get (few ++ more)) j) ∙ get_later few more (i - length few) ∙ is in
+    let there : slice_get (few ++ more) i ≡ Some name = sym (ap (slice_get (few ++ more)) j) ∙ get_right few more (i - length few) ∙ is in
     sym (ap (λ t. slice_get t i) (sym e) ∙ slice_get-map shows (few ++ more) i ∙ ap (option_map shows) there)

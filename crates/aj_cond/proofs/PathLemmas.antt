@@ -4,7 +4,7 @@ use Rattle.std.specs.declared.cmp.Ordering.{Ordering}
 use Rattle.std.specs.declared.cmp.Ordering.TheVariants.{Less, Equal, Greater}
 use Rattle.std.proofs.lemmas.Bool.{false_from_ne_true}
 use Rattle.aj_paths.specs.Paths.{PathData, path_order, path_eq}
-use Rattle.aj_paths.proofs.PathOrder.{is_equal, eq_is, eq_itself}
+use Rattle.aj_paths.proofs.PathOrder.{is_equal, eq_is, eq_itself, less_not_eq}
 use Rattle.aj_algebra.specs.HeldPaths.{Held, with_path}
 
 is_less : Ordering → Bool
@@ -17,9 +17,6 @@ less_not_equal o less equal = let e : Less ≡ Equal = sym less ∙ equal in cc
 
 pub less_differs : (p q : PathData) → path_order p q ≡ Less → p ≡ q → ⊥
 less_differs p q less e = less_not_equal (path_order p q) less (is_equal p q e)
-
-pub less_not_eq : (p q : PathData) → path_order p q ≡ Less → path_eq p q ≡ false
-less_not_eq p q less = false_from_ne_true (path_eq p q) (λ e. less_differs p q less (eq_is p q e))
 
 pub less_not_eq_turned : (p q : PathData) → path_order p q ≡ Less → path_eq q p ≡ false
 less_not_eq_turned p q less = false_from_ne_true (path_eq q p) (λ e. less_differs p q less (sym (eq_is q p e)))

@@ -1,6 +1,7 @@
 -- The example programs are typed: each fact by computation.
 use Rattle.std.proofs.Common.{◌≡◌, ◌<◌, ◌≤◌, length, Bool, ℕ, zero, suc, ◌+◌, List, [], ◌∷◌, Some, None, true, false, refl, sym, ap, subst, arith}
-use Rattle.std.specs.Prelude.{slice_get, Option, unwrap_or, is_some, T}
+use Rattle.std.specs.Prelude.{slice_get, Option, unwrap_or, T}
+use Rattle.std.proofs.lemmas.Option.{none-some}
 use Rattle.aj_paths.specs.Paths.{path_order}
 use Rattle.std.specs.List.Sorted.{IsStrictlySortedBy}
 use Rattle.aj_core.specs.declared.types.CoreType.TheVariants as type
@@ -18,11 +19,8 @@ abbrev pub EachFrom : {A : Type 0} → (ℕ → A → Type 0) → ℕ → List A
 EachFrom P n [] = Unit {0}
 EachFrom P n (x ∷ xs) = P n x × EachFrom P (suc n) xs
 
-no_element : {A : Type 0} {x : A} → None ≡ Some x → ⊥
-no_element e = subst (λ o. T (is_some o)) (sym e) tt
-
 each_at : {A : Type 0} (P : ℕ → A → Type 0) (n : ℕ) (xs : List A) → EachFrom P n xs → (k : ℕ) (x : A) → slice_get xs k ≡ Some x → P (n + k) x
-each_at P n [] all k x is = absurd (no_element is)
+each_at P n [] all k x is = absurd (none-some x is)
 each_at P n (y ∷ ys) all zero x is = subst (λ m. P m x) (omega arith) (subst (P n) (ap (λ o. unwrap_or o y) is) all.0)
 each_at P n (y ∷ ys) all (suc k) x is = subst (λ m. P m x) (omega arith) (each_at P (suc n) ys all.1 k x is)
 

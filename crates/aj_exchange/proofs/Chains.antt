@@ -12,22 +12,13 @@ use Rattle.aj_state.specs.declared.value.Value.{Value}
 use Rattle.aj_state.specs.declared.value.Value.TheVariants as value
 use Rattle.aj_state.specs.Memory.{Object, Heap, address_cmp, is_field, lists, field_value, value_in, with_value, with_object, with_field}
 use Rattle.aj_state.proofs.Addresses.{tied, alike}
-use Rattle.aj_state.proofs.MemoryLemmas.{get-insert_same, value_in-with_field_at, value_in-with_field_other}
+use Rattle.aj_state.proofs.MemoryLemmas.{get-insert_same, listed_is, value_in-with_field_at, value_in-with_field_other}
 use Rattle.aj_steps.specs.Step.{Shared, next_at, followed, holds, holds_object, some_address, mutable_kind, access_kind, guarded_kind}
 use Rattle.aj_exchange.specs.Guards.{AreFinal, HasFinalGuards}
 
 no_field : (P : Program) (x : ℕ) (o : Option Object) → field_value P x o None ≡ None
 no_field P x None = refl
 no_field P x (Some o) = refl
-
--- the field that a class lists at an index is one
-listed_is : (x : ℕ) (o : Option ℕ) → is_field x o ≡ true → o ≡ Some x
-listed_is x None e = absurd cc
-listed_is x (Some y) e = ap Some (eqb-true y x e)
-
-pub lists_is : (c : Option Class) (i x : ℕ) → lists c i x ≡ true → (class : Class) × (c ≡ Some class) × (slice_get class.fields i ≡ Some x)
-lists_is None i x e = absurd cc
-lists_is (Some class) i x e = (class, refl, listed_is x (slice_get class.fields i) e)
 
 pub has_value : (b : Bool) (v : Option Value) (old : Value) → (if b then v else None) ≡ Some old → b ≡ true
 has_value true v old e = refl

@@ -13,7 +13,7 @@ use Rattle.aj_state.specs.declared.value.StepKind.{StepKind}
 use Rattle.aj_state.specs.declared.value.StepKind.TheVariants.{Both, Right, Left, Other}
 use Rattle.aj_state.specs.Memory.{Object, Hold, Heap, Locks, lists, field_value, value_in, with_field, with_lock, IsNumbered}
 use Rattle.aj_state.proofs.Addresses.{alike}
-use Rattle.aj_state.proofs.MemoryLemmas.{value_in-with_field_same}
+use Rattle.aj_state.proofs.MemoryLemmas.{lists_is, value_in-with_field_same}
 use Rattle.aj_steps.specs.Step.{Change, FieldIs, LockIs, index_of, unless_final, holds, holds_object, some_address, next_at, followed, guarded_kind, mutable_kind, access_kind, taken_again, given_back, release_kind}
 use Rattle.aj_steps.specs.Asks.{Ask, Alone, Reads, Writes, Counts, Takes, Gives, Runs}
 use Rattle.aj_exchange.specs.Changes.{IsApart, Did, quiet, was_read, was_written, was_made, was_taken, taken_more, was_given, was_started, was_printed}
@@ -21,7 +21,7 @@ use Rattle.aj_exchange.specs.Guards.{HasFinalGuards}
 use Rattle.aj_exchange.specs.Orderly.{see_in}
 use Rattle.aj_exchange.specs.Parts.{on_heap, on_locks}
 use Rattle.aj_exchange.specs.Swapped.{MayPass}
-use Rattle.aj_exchange.proofs.Chains.{has_value, lists_is}
+use Rattle.aj_exchange.proofs.Chains.{has_value}
 use Rattle.aj_exchange.proofs.Commute.{get_locks}
 use Rattle.aj_exchange.proofs.Stable.{written_kind}
 

@@ -1,5 +1,5 @@
 -- What a watched machine keeps.
-use Rattle.std.proofs.Common.{◌≡◌, ℕ, ◌+◌, List, [], ◌∷◌, ◌++◌, length, Some, Ok, Err, refl, sym, ap, subst, ◌∙◌}
+use Rattle.std.proofs.Common.{◌≡◌, ℕ, ◌+◌, List, [], ◌∷◌, ◌++◌, length, Some, Ok, Err, sym, ap, subst, ◌∙◌}
 use Rattle.std.proofs.lemmas.List.{length-append}
 use Rattle.std.specs.Prelude.{◌≢◌, option_and_then}
 use Rattle.aj_core.specs.Core.{Program}
@@ -9,7 +9,7 @@ use Rattle.aj_rules.specs.Rules.{IsAccepted}
 use Rattle.aj_state.specs.declared.value.StepKind.{StepKind}
 use Rattle.aj_state.specs.declared.value.StepKind.TheVariants.{Bare}
 use Rattle.aj_state.specs.States.{State, initial}
-use Rattle.aj_steps.specs.Step.{Outcome, Moves, Absent, IsDone, HadFaulted, Waits, outcome, moved, step, state_after, kind_of}
+use Rattle.aj_steps.specs.Step.{Outcome, Moves, Absent, IsDone, HadFaulted, Waits, outcome, step, kind_of}
 use Rattle.aj_steps.specs.Run.{run, run_from}
 use Rattle.aj_steps.proofs.RunLemmas.{run_from-append}
 use Rattle.aj_machine.specs.declared.machine.StepEnd.{StepEnd}
@@ -17,6 +17,7 @@ use Rattle.aj_machine.specs.declared.machine.StepEnd.TheVariants as ends
 use Rattle.aj_machine.specs.Likeness.{StateStands}
 use Rattle.aj_machine.specs.MachineValue.{MachineValue}
 use Rattle.aj_machine.specs.Standing.{program_run, StandsFor, IsTurn, IsSame}
+use Rattle.aj_machine.proofs.Schedules.{turned}
 use Rattle.aj_held.specs.Watching.{IsWatched, IsGuarded, IsWatchedTurn}
 use Rattle.aj_held.proofs.Theorem.{held, words}
 
@@ -53,14 +54,6 @@ still m n s r same e w =
         counted = same.made ∙ w.made.counted ∙ sym (ap length e);
       };
     }
-
--- a step that was made
-turned : (t : ℕ) (m : MachineValue) (q : State) (o : Outcome) → IsTurn t (Ok tt) m q o → (r : State) × (state_after q t o ≡ Some r) × StandsFor m r
-turned t m q (Moves move) is = (moved t move q, refl, is)
-turned t m q Absent is = absurd cc
-turned t m q IsDone is = absurd cc
-turned t m q (HadFaulted kind) is = absurd cc
-turned t m q (Waits a holder) is = absurd cc
 
 one_more : (P : Program) (s : List ℕ) (t : ℕ) (q r : State) → run P s ≡ Some q → step P q t ≡ Some r → run P (s ++ t ∷ []) ≡ Some r
 one_more P s t q r ran is =

@@ -1,7 +1,8 @@
 -- The statements of a block, from a place on.
-use Rattle.std.proofs.Common.{◌≡◌, ℕ, zero, suc, ◌+◌, ◌-◌, ◌<◌, ◌≤◌, List, [], ◌∷◌, length, drop, get_or, sym, ap, subst, ◌∙◌, arith, drop-cons}
+use Rattle.std.proofs.Common.{◌≡◌, ℕ, zero, suc, ◌+◌, ◌-◌, ◌<◌, ◌≤◌, List, [], ◌∷◌, length, drop, get_or, sym, ap, subst, ◌∙◌, arith}
 use Rattle.std.specs.Prelude.{Contains}
 use Rattle.std.proofs.lemmas.List.Elements.{Contains-append_left, Contains-append_right}
+use Rattle.aj_lemmas.proofs.Lists.{next_drop}
 use Rattle.aj_algebra.specs.declared.basic.Basic.{Basic}
 use Rattle.aj_algebra.specs.Basics.{seq_of}
 use Rattle.aj_algebra.specs.HeldPaths.{Held}
@@ -14,11 +15,6 @@ use Rattle.aj_rules.specs.Effect.{Assignment, effect, block_effect}
 use Rattle.aj_infer.specs.Names.{near_of, left_by}
 use Rattle.aj_infer.proofs.Locals.{rest_same}
 use Rattle.aj_infer.proofs.Weights.{stmt_weight, stmts_weight}
-
-pub next_drop : (ss : List CoreStmt) (k : ℕ) (s : CoreStmt) → k < length ss → s ≡ get_or ss k s → drop k ss ≡ s ∷ drop (k + 1) ss
-next_drop ss k s below is =
-    let e : suc k ≡ k + 1 = omega arith in
-    subst (λ y. drop k ss ≡ y ∷ drop (k + 1) ss) (sym is) (subst (λ j. drop k ss ≡ get_or ss k s ∷ drop j ss) e (drop-cons ss k s below))
 
 -- what the statements from a place on mention is mentioned by the block
 pub rest_in : (ss : List CoreStmt) (k : ℕ) (x : Mention) → Contains (block_mentions (stmts_from (drop k ss))) x → Contains (block_mentions (stmts_from ss)) x

@@ -1,5 +1,6 @@
 -- What one question to a cell tells: its demand is met, or its table rises.
-use Rattle.std.proofs.Common.{IsTrue, ◌≡◌, ℕ, zero, suc, ◌-◌, ◌<◌, ◌≤◌, Bool, true, false, ◌&&◌, List, [], ◌∷◌, length, slice_get, slice_set, Some, refl, sym, ap, subst, ◌∙◌, arith}
+use Rattle.std.proofs.Common.{IsTrue, ◌≡◌, ℕ, ◌-◌, ◌<◌, ◌≤◌, Bool, true, false, ◌&&◌, List, length, slice_get, slice_set, Some, sym, ap, subst, ◌∙◌, arith}
+use Rattle.aj_lemmas.proofs.Lists.{get_below}
 use Rattle.aj_paths.specs.Paths.{PathData}
 use Rattle.aj_algebra.specs.declared.basic.Basic.{Basic}
 use Rattle.aj_core.specs.Core.{Program, Method}
@@ -9,12 +10,6 @@ use Rattle.aj_infer.specs.Tables.{table_of, assigned}
 use Rattle.aj_infer.specs.Cells.{numbers_of, demands_of, demands_at, are_below, joined, is_met_by, is_met, rooms_of, AreTables, AreCells}
 use Rattle.aj_infer.proofs.OtherLemmas.{joined_covers, others_met}
 use Rattle.aj_infer.proofs.CellLemmas.{tables_same, length_numbers, length_above, each_falls, risen_tables, risen_above, risen_room, risen_under, demanded_length}
-
--- an item at a place within
-pub there : {A : Type 0} (xs : List A) (k : ℕ) → k < length xs → (x : A) × (slice_get xs k ≡ Some x)
-there [] k below = absurd (omega arith)
-there (x ∷ xs) zero below = (x, refl)
-there (x ∷ xs) (suc k) below = there xs k (omega arith)
 
 -- the same of tables and of their numbers
 pub numbers_met : (P : Program) (rel : ℕ → List PathData) (tables : List (List Basic)) (m : ℕ) → is_met_by P rel tables m ≡ is_met P rel (numbers_of tables) m
@@ -65,8 +60,8 @@ module _ (P : Program) (rel : ℕ → List PathData) (tables : List (List Basic)
   pub rises_now : (risen : List Basic) (room : ℕ) (rows : List (List ℕ)) → AreCells P rel tables room rows → m < length (numbers_of tables) → are_below ds own ≡ false → risen ≡ joined ds own → Rises risen room rows
   rises_now risen room rows cells within unmet is =
       let inside : m < length tables = subst (λ n. m < n) (length_numbers tables) within in
-      let table = there tables m inside in
-      let method = there P.methods m (subst (λ n. m < n) cells.each.count inside) in
+      let table = get_below tables m inside in
+      let method = get_below P.methods m (subst (λ n. m < n) cells.each.count inside) in
       let same : risen ≡ joined (demands_of P rel (assigned rel tables) m (Some method.0)) table.0
       = is ∙ (λ i. joined ((ds_are ∙ ap (demands_of P rel (assigned rel tables) m) method.1) i) ((own_is ∙ ap table_of table.1) i)) in
       subst (λ r. Rises r room rows) (sym same) (rises_at room rows cells within method.0 method.1 table.0 table.1 unmet)

@@ -6,7 +6,7 @@ use Rattle.std.proofs.lemmas.List.Folds.{list_any-append}
 use Rattle.std.proofs.Math.Seq.{take-append_seam, drop-append_seam}
 use Rattle.std.proofs.lemmas.Bool.{and_from, or_cases, or_left, or_right}
 use Rattle.aj_paths.specs.Paths.{PathData, path_eq}
-use Rattle.aj_paths.proofs.PathOrder.{eq_is, eq_itself}
+use Rattle.aj_paths.proofs.PathOrder.{eq_is}
 use Rattle.aj_algebra.specs.declared.basic.Basic.{Basic}
 use Rattle.aj_algebra.specs.declared.basic.Basic.TheVariants.{Const}
 use Rattle.aj_algebra.specs.Basics.{below_of, join_of}
@@ -14,6 +14,7 @@ use Rattle.aj_algebra.specs.HeldPaths.{Held, has_path}
 use Rattle.aj_rules.specs.Rules.{IsPart, AtMost}
 use Rattle.aj_rules.proofs.BasicLemmas.{below_itself, below_chain, join_mono}
 use Rattle.aj_rules.proofs.SetLemmas.{first, second}
+use Rattle.aj_rules.proofs.UniqueSets.{first_has}
 use Rattle.aj_infer.specs.Tables.{front, half, chosen}
 use Rattle.aj_infer.specs.Cells.{at_parts, count_of_parts, are_below, joined, table_falls}
 
@@ -28,9 +29,6 @@ in_first xs ys q h = list_any-append (λ p. path_eq p q) xs ys ∙ or_left (has_
 
 pub in_second : (xs ys : List PathData) (q : PathData) → has_path ys q ≡ true → has_path (xs ++ ys) q ≡ true
 in_second xs ys q h = list_any-append (λ p. path_eq p q) xs ys ∙ or_right (has_path xs q) (has_path ys q) h
-
-pub here : (p : PathData) (ps : List PathData) → has_path (p ∷ ps) p ≡ true
-here p ps = or_left (path_eq p p) (has_path ps p) (eq_itself p)
 
 pub later : (p : PathData) (ps : List PathData) (q : PathData) → has_path ps q ≡ true → has_path (p ∷ ps) q ≡ true
 later p ps q h = or_right (path_eq p q) (has_path ps q) h
@@ -52,7 +50,7 @@ in_filter H [] q e = absurd (let k : false ≡ true = e in cc)
 in_filter H (x ∷ xs) q e = in_filter_at H x xs _ refl (in_filter H xs) q e
 
 of_list_at : (H : Held) (x : PathData) (xs : List PathData) (b : Bool) → IsPart (has_path (filter H xs)) (has_path xs) → IsPart (has_path (if b then x ∷ filter H xs else filter H xs)) (has_path (x ∷ xs))
-of_list_at H x xs true rest = in_front x (filter H xs) (has_path (x ∷ xs)) (here x xs) (λ q e. later x xs q (rest q e))
+of_list_at H x xs true rest = in_front x (filter H xs) (has_path (x ∷ xs)) (first_has x xs) (λ q e. later x xs q (rest q e))
 of_list_at H x xs false rest = λ q e. later x xs q (rest q e)
 
 pub of_list : (H : Held) (xs : List PathData) → IsPart (has_path (filter H xs)) (has_path xs)
@@ -151,7 +149,7 @@ parts_below f g h k (p ∷ ps) at =
     (parts_below f g (h ++ p ∷ []) (k ++ p ∷ []) ps (λ qs part.
     subst (λ xs. AtMost (f xs) (g ((k ++ p ∷ []) ++ qs))) (sym (append_assoc h (p ∷ []) qs))
     (subst (λ ys. AtMost (f (h ++ (p ∷ qs))) (g ys)) (sym (append_assoc k (p ∷ []) qs))
-    (at (p ∷ qs) (in_front p qs (has_path (p ∷ ps)) (here p ps) (λ q e. later p ps q (part q e)))))))
+    (at (p ∷ qs) (in_front p qs (has_path (p ∷ ps)) (first_has p ps) (λ q e. later p ps q (part q e)))))))
     (length_parts f h ps ∙ sym (length_parts g k ps))
 
 below_take : (n : ℕ) (xs ys : List Basic) → are_below xs ys ≡ true → are_below (take n xs) (take n ys) ≡ true
@@ -232,7 +230,7 @@ chosen_joined (b ∷ bits) xs ys e = ap (chosen bits) (half_joined b xs ys e) �
 bits_same_in : (H : Held) (all ps : List PathData) → IsPart (has_path ps) (has_path all) → map H ps ≡ map (λ q. has_path all q && H q) ps
 bits_same_in H all [] part = refl
 bits_same_in H all (p ∷ ps) part =
-    let now : H p ≡ (has_path all p && H p) = ap (λ b. b && H p) (sym (part p (here p ps))) in
+    let now : H p ≡ (has_path all p && H p) = ap (λ b. b && H p) (sym (part p (first_has p ps))) in
     let rest = bits_same_in H all ps (λ q e. part q (later p ps q e)) in
     λ i. now i ∷ rest i
 

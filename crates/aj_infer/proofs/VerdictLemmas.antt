@@ -3,6 +3,7 @@ use Rattle.std.proofs.Common.{◌≡◌, ℕ, ◌+◌, ◌<◌, ◌≤◌, Bool,
 use Rattle.std.specs.Prelude.{nat_lt}
 use Rattle.std.proofs.lemmas.Bool.Decides.{nat_tests}
 use Rattle.std.proofs.lemmas.Option.{slice_get-get_or, slice_get_within}
+use Rattle.std.proofs.lemmas.Bool.{both_ways}
 use Rattle.aj_algebra.specs.declared.basic.Basic.{Basic}
 use Rattle.aj_algebra.specs.Basics.{below_of}
 use Rattle.aj_algebra.specs.HeldPaths.{Held, has_path}
@@ -72,12 +73,9 @@ module _ (P : Program) (A : Assignment) (m : ℕ) (method : Method) (declared fo
       → (k : ℕ) (earlier : Method) → k < m + 1 → slice_get P.methods k ≡ Some earlier → HoldsBound A k earlier
   bounds_more low hold k earlier below is = bound_at low hold k earlier (nat_lt k m) refl below is
 
-not_both : (b : Bool) → b ≡ false → b ≡ true → ⊥
-not_both b e f = let k : false ≡ true = sym e ∙ f in absurd cc
-
 module _ (P : Program) (A : Assignment) (typed : IsTyped P) (m : ℕ) (declared found : Basic) (broken : IsFirstBroken P A m declared found) where
   breaks_bound : HoldsBound A m broken.method → ⊥
-  breaks_bound holds_bound = not_both (below_of found declared) broken.breaks ((λ i. below_of (broken.found_is i) (broken.declared_is i)) ∙ holds_bound)
+  breaks_bound holds_bound = both_ways (below_of found declared) broken.breaks ((λ i. below_of (broken.found_is i) (broken.declared_is i)) ∙ holds_bound)
 
   -- a first broken method refutes
   pub not_accepted : (sets : List MethodPaths) → AreRelevant P sets → AreFew sets → IsLeast P (rel_of sets) A → IsAccepted P → ⊥

@@ -14,7 +14,7 @@ use Rattle.aj_state.specs.Stored.{MayTake, taken_by, given_back}
 use Rattle.aj_state.specs.States.{fields_of, initial, main_address, new_object}
 use Rattle.aj_state.proofs.Addresses.{address_total}
 use Rattle.aj_state.proofs.MemoryLemmas.{get-insert_other}
-use Rattle.aj_state.proofs.Numbering.{numbered_new, numbered_written}
+use Rattle.aj_state.proofs.Numbering.{not_less, numbered_new, numbered_written}
 use Rattle.aj_steps.proofs.RunLemmas.{initial_numbered}
 use Rattle.aj_machine.specs.declared.deed.Deed.{Deed}
 use Rattle.aj_machine.specs.declared.deed.Deed.TheVariants as deed
@@ -30,9 +30,6 @@ at t n = record { thread = t; count = n }
 -- so many objects were made at most where there is none of this number
 few : (n m : ℕ) → false ≡ nat_lt n m → m ≤ n
 few n m e = grind (arith, nat_tests)
-
-none_there : (n : ℕ) → nat_lt n n ≡ false
-none_there n = grind (arith, nat_tests)
 
 past_there : (n : ℕ) → nat_lt (n + 1) n ≡ false
 past_there n = grind (arith, nat_tests)
@@ -58,7 +55,7 @@ made_same : (heap : Heap) (a : Address) (u index : ℕ) (v : Value) → IsNumber
 made_same heap a u index v numbered = made_below (with_field a index v heap) u (made_by u heap) (numbered_written heap a index v numbered) (gone (M.get heap a) refl)
   where
     missing : is_some (M.get heap (at u (made_by u heap))) ≡ false
-    missing = numbered u (made_by u heap) ∙ none_there (made_by u heap)
+    missing = numbered u (made_by u heap) ∙ not_less (made_by u heap)
 
     gone : (o : Option Object) → M.get heap a ≡ o → is_some (M.get (with_object a o (with_value index v) heap) (at u (made_by u heap))) ≡ false
     gone None found = missing

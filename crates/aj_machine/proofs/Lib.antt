@@ -11,7 +11,7 @@ mod Taking
 mod Cells
 mod Turned
 mod Insides
-mod Schedules
+pub mod Schedules
 mod RoomLemmas
 mod Following
 mod Reaching

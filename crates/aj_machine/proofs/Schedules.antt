@@ -1,6 +1,6 @@
 -- The machine along a schedule.
-use Rattle.std.proofs.Common.{◌≡◌, ℕ, ◌+◌, List, [], ◌∷◌, ◌++◌, take, refl, sym, ap, subst, ◌∙◌, add-one, arith}
-use Rattle.std.specs.Prelude.{Some, Ok, Err, option_and_then, slice_get}
+use Rattle.std.proofs.Common.{◌≡◌, ◌≢◌, ℕ, ◌+◌, List, [], ◌∷◌, ◌++◌, take, refl, sym, ap, subst, ◌∙◌, add-one, arith}
+use Rattle.std.specs.Prelude.{Some, None, Ok, Err, option_and_then, slice_get}
 use Rattle.std.proofs.Math.Seq.{take-suc}
 use Rattle.std.proofs.lemmas.Option.{slice_get_within, get_or_from_slice_get}
 use Rattle.aj_core.specs.Core.{Program}
@@ -10,13 +10,14 @@ use Rattle.aj_steps.specs.Step.{Outcome, Moves, Absent, IsDone, HadFaulted, Wait
 use Rattle.aj_steps.specs.Run.{run_from}
 use Rattle.aj_steps.proofs.RunLemmas.{run_from-append}
 use Rattle.aj_machine.specs.declared.machine.StepEnd.{StepEnd}
+use Rattle.aj_machine.specs.declared.machine.StepEnd.TheVariants as ends
 use Rattle.aj_machine.specs.Likeness.{StateStands}
 use Rattle.aj_machine.specs.MachineValue.{MachineValue}
 use Rattle.aj_machine.specs.Reasons.{IsReason}
 use Rattle.aj_machine.specs.Standing.{program_run, StandsFor, IsTurn, IsSame, HasRun, HasStopped}
 
 -- after a step the machine stands for the next state
-turned : (t : ℕ) (m : MachineValue) (q : State) (o : Outcome) → IsTurn t (Ok tt) m q o → (r : State) × (state_after q t o ≡ Some r) × StandsFor m r
+pub turned : (t : ℕ) (m : MachineValue) (q : State) (o : Outcome) → IsTurn t (Ok tt) m q o → (r : State) × (state_after q t o ≡ Some r) × StandsFor m r
 turned t m q (Moves move) is = (moved t move q, refl, is)
 turned t m q Absent is = absurd cc
 turned t m q IsDone is = absurd cc
@@ -30,6 +31,14 @@ refused t why m q Absent is = cc
 refused t why m q IsDone is = cc
 refused t why m q (HadFaulted kind) is = cc
 refused t why m q (Waits a holder) is = cc
+
+-- an outcome with another reason than want of memory is no step
+pub no_step : (q : State) (t : ℕ) (why : StepEnd) (o : Outcome) → IsReason why o → why ≢ ends.NoMemory → state_after q t o ≡ None
+no_step q t why (Moves move) is other = absurd (other is)
+no_step q t why Absent is other = refl
+no_step q t why IsDone is other = refl
+no_step q t why (HadFaulted kind) is other = refl
+no_step q t why (Waits a holder) is other = refl
 
 -- the same machine stands for the same states
 still_stands : (m n : MachineValue) (q : State) → IsSame m n → StandsFor n q → StandsFor m q

@@ -147,9 +147,6 @@ sync_parts p q t a b o is e =
     subst (λ v. sync_tree p v ≡ by_order o (node p v (each_leaf lift_of v)) (node p a (each_leaf lift_of a)) (node q (sync_tree p a) (sync_tree p b))) (sym is)
     (ap (λ r. by_order r (node p (TestC q a b) (each_leaf lift_of (TestC q a b))) (node p a (each_leaf lift_of a)) (node q (sync_tree p a) (sync_tree p b))) (sym e))
 
-pub sync_leaf : (p : PathData) (t : Cond) (b : Basic) → t ≡ LeafC b → sync_tree p t ≡ node p t (each_leaf lift_of t)
-sync_leaf p t b is = subst (λ v. sync_tree p v ≡ node p v (each_leaf lift_of v)) (sym is) refl
-
 pub sync_less : (p q : PathData) (t a b : Cond) → t ≡ TestC q a b → Less ≡ path_order p q → sync_tree p t ≡ node p t (each_leaf lift_of t)
 sync_less p q t a b is e = sync_parts p q t a b Less is e
 

@@ -1,20 +1,12 @@
 -- The trees of numbers, and a list of nodes with one item more.
 use Rattle.std.proofs.Common.{◌≡◌, ℕ, zero, suc, ◌<◌, ◌≤◌, ◌⊎◌, inl, inr, List, [], ◌∷◌, ◌++◌, length, length-append, get_or, Option, Some, None, slice_get, refl, sym, ◌∙◌, ap, subst, arith}
 use Rattle.std.proofs.lemmas.Option.{slice_get_within, slice_get-get_or}
+use Rattle.aj_lemmas.proofs.Lists.{get_left, get_last}
 use Rattle.aj_algebra.specs.declared.basic.Basic.TheVariants.{Const}
 use Rattle.aj_cond.specs.Conditions.{Cond, LeafC, TestC, IsCanonical}
 use Rattle.aj_nodes.specs.declared.rows.Item.{Item}
 use Rattle.aj_nodes.specs.declared.rows.Item.TheVariants.{Leaf, Test}
 use Rattle.aj_nodes.specs.Nodes.{by_parts, tree_to, tree_at, item_tree, AreBefore, IsTable, Grows}
-
-front_get : {A : Type 0} (xs ys : List A) (n : ℕ) → n < length xs → slice_get (xs ++ ys) n ≡ slice_get xs n
-front_get [] ys n below = absurd (omega (arith, below))
-front_get (x ∷ xs) ys zero below = refl
-front_get (x ∷ xs) ys (suc n) below = front_get xs ys n (omega (arith, below))
-
-last_get : {A : Type 0} (xs : List A) (x : A) → slice_get (xs ++ (x ∷ [])) (length xs) ≡ Some x
-last_get [] x = refl
-last_get (y ∷ xs) x = last_get xs x
 
 front_or_last : (n end : ℕ) → n < suc end → (n < end) ⊎ (n ≡ end)
 front_or_last zero zero below = inr refl
@@ -56,7 +48,7 @@ got is n i table e =
 front_tree : (old more : List Item) → IsTable old → (d n : ℕ) → n < length old → tree_to (old ++ more) d n ≡ tree_to old d n
 front_tree old more table zero n below = refl
 front_tree old more table (suc d) n below =
-    ap (by_parts (tree_to (old ++ more) d)) (front_get old more n below)
+    ap (by_parts (tree_to (old ++ more) d)) (get_left old more n below)
     ∙ by_parts_same n (tree_to (old ++ more) d) (tree_to old d) (slice_get old n) (table.before n) (λ a less. front_tree old more table d a (omega (arith, below, less)))
 
 pub grows_itself : (is : List Item) → IsTable is → Grows is is
@@ -90,7 +82,7 @@ module _ (old : List Item) (i : Item) (table : IsTable old) (parts : AreBefore (
 
   last : tree_at new (length old) ≡ item_tree old i
   last =
-      ap (by_parts (tree_to new (length old))) (last_get old i)
+      ap (by_parts (tree_to new (length old))) (get_last old i)
       ∙ by_parts_same (length old) (tree_to new (length old)) (tree_at old) (Some i) (λ j e. subst (AreBefore (length old)) (same_some i j e) parts)
       (λ a less. front_tree old (i ∷ []) table (length old) a less ∙ deep old table (length old) (suc a) a less (omega arith))
 
@@ -101,8 +93,8 @@ module _ (old : List Item) (i : Item) (table : IsTable old) (parts : AreBefore (
   new_before n j e = by (places n (slice_get_within new n j e))
     where
       by : (n < length old) ⊎ (n ≡ length old) → AreBefore n j
-      by (inl below) = table.before n j (sym (front_get old (i ∷ []) n below) ∙ e)
-      by (inr at) = subst (λ k. AreBefore k j) (sym at) (subst (AreBefore (length old)) (same_some i j (sym (last_get old i) ∙ ap (slice_get new) (sym at) ∙ e)) parts)
+      by (inl below) = table.before n j (sym (get_left old (i ∷ []) n below) ∙ e)
+      by (inr at) = subst (λ k. AreBefore k j) (sym at) (subst (AreBefore (length old)) (same_some i j (sym (get_last old i) ∙ ap (slice_get new) (sym at) ∙ e)) parts)
 
   new_canonical : (n : ℕ) → n < length new → IsCanonical (tree_at new n)
   new_canonical n below = by (places n below)

@@ -1,11 +1,12 @@
 -- The order of paths is total, and the test of equality is exact.
-use Rattle.std.proofs.Common.{◌≡◌, ◌≢◌, ◌++◌, ◌∷◌, ℕ, List, [], true, refl, ◌∙◌, ap, subst}
+use Rattle.std.proofs.Common.{◌≡◌, ◌≢◌, ◌++◌, ◌∷◌, ℕ, List, [], true, false, refl, sym, ◌∙◌, ap, subst}
 use Rattle.std.specs.declared.cmp.Ordering.TheVariants.{Less, Equal, Greater}
 use Rattle.std.specs.Ordering.{nat_cmp, ordering_then, ordering_reverse}
 use Rattle.std.specs.Cmp.Lexicographic.{slice_cmp}
 use Rattle.std.proofs.lemmas.Cmp.{nat_list_cmp_total, nat_cmp_total, tied_itself}
 use Rattle.std.proofs.lemmas.Map.Lookups.{exact_bytes}
 use Rattle.std.proofs.lemmas.Slice.Eq.{bytes_eq-Decides}
+use Rattle.std.proofs.lemmas.Bool.{false_from_ne_true}
 use Rattle.aj_paths.specs.Paths.{PathData, path_order, path_eq}
 
 -- a path as one list
@@ -59,3 +60,6 @@ eq_itself p = (bytes_eq-Decides (key p) (key p)).1 refl
 
 pub is_eq : (p q : PathData) → p ≡ q → path_eq p q ≡ true
 is_eq p q e = subst (λ x. path_eq p x ≡ true) e (eq_itself p)
+
+pub less_not_eq : (p q : PathData) → path_order p q ≡ Less → path_eq p q ≡ false
+less_not_eq p q less = false_from_ne_true (path_eq p q) (λ e. let k : Less ≡ Equal = sym less ∙ is_equal p q (eq_is p q e) in absurd cc)

@@ -1,6 +1,7 @@
 -- Clauses of lists of mentions.
-use Rattle.std.proofs.Common.{◌≡◌, ℕ, suc, ◌+◌, ◌<◌, List, [], ◌∷◌, ◌++◌, length, drop, get_or, refl, sym, ap, subst, ◌∙◌, append_assoc, arith, drop-cons}
+use Rattle.std.proofs.Common.{◌≡◌, ℕ, ◌+◌, ◌<◌, List, [], ◌∷◌, ◌++◌, length, drop, get_or, refl, sym, ap, ◌∙◌, append_assoc}
 use Rattle.std.specs.Prelude.{Result, Ok, Err, OnOk}
+use Rattle.aj_lemmas.proofs.Lists.{next_drop}
 use Rattle.aj_core.specs.declared.tree.CoreExpr.{CoreExpr}
 use Rattle.aj_core.specs.declared.tree.CoreStmt.{CoreStmt}
 use Rattle.aj_core.specs.Core.{Program}
@@ -16,11 +17,6 @@ clauses_append P m (x ∷ xs) ys = ap (λ r. clauses_at P m x ++ r) (clauses_app
 -- a step of a loop that adds what an item gives
 more : (now new whole here rest all : List Clause) → new ≡ now ++ here → all ≡ here ++ rest → now ++ all ≡ whole → new ++ rest ≡ whole
 more now new whole here rest all new_is all_is so_far = ap (λ x. x ++ rest) new_is ∙ append_assoc now here rest ∙ ap (λ x. now ++ x) (sym all_is) ∙ so_far
-
-pub next_drop : {A : Type 0} (xs : List A) (i : ℕ) (x : A) → i < length xs → x ≡ get_or xs i x → drop i xs ≡ x ∷ drop (i + 1) xs
-next_drop xs i x below is =
-    let e : suc i ≡ i + 1 = omega arith in
-    subst (λ y. drop i xs ≡ y ∷ drop (i + 1) xs) (sym is) (subst (λ j. drop i xs ≡ get_or xs i x ∷ drop j xs) e (drop-cons xs i x below))
 
 pub more_exprs : (P : Program) (m : ℕ) (es : List CoreExpr) (i : ℕ) (e : CoreExpr) (now new whole : List Clause) → i < length es → e ≡ get_or es i e → new ≡ now ++ clauses_of P m (expr_mentions (expr_of e)) → now ++ clauses_of P m (exprs_mentions (exprs_from (drop i es))) ≡ whole → new ++ clauses_of P m (exprs_mentions (exprs_from (drop (i + 1) es))) ≡ whole
 more_exprs P m es i e now new whole below is new_is so_far =

@@ -10,6 +10,7 @@ use Rattle.std.proofs.lemmas.Option.{slice_get_within, slice_get_past, same_Some
 use Rattle.std.proofs.lemmas.Map.Keys.{sorted_head, sorted_tail}
 use Rattle.std.proofs.lemmas.List.{map-append}
 use Rattle.std.proofs.lemmas.Bool.{or_cases, or_left, or_right, or_parts, le-leb, lt-ltb, leb-true, ltb-true}
+use Rattle.aj_lemmas.proofs.Lists.{get_below, next_drop}
 use Rattle.aj_paths.specs.Paths.{PathData, path_order, path_eq}
 use Rattle.aj_paths.proofs.PathOrder.{equal_is, eq_is, eq_itself, greater_turned, less_chain, order_itself}
 use Rattle.aj_algebra.specs.HeldPaths.{has_path}
@@ -22,7 +23,6 @@ use Rattle.aj_core.specs.declared.program.CoreMethod.{CoreMethod}
 use Rattle.aj_core.specs.Views.{method_of}
 use Rattle.aj_rules.specs.declared.sets.PathsOfMethod.{PathsOfMethod}
 use Rattle.aj_rules.specs.declared.clauses.Clause.{Clause}
-use Rattle.aj_rules.proofs.ClauseLemmas.{next_drop}
 use Rattle.aj_rules.specs.declared.relevance.RuleEnd.{RuleEnd}
 use Rattle.aj_rules.specs.declared.relevance.RuleEnd.TheVariants as end
 use Rattle.aj_rules.proofs.Reaching.{near_from_reached, reached_from_near}
@@ -171,11 +171,6 @@ crowded_from P m o paths at are over = elim (or_cases (nat_lt most_locks (length
   | inl many ↦ inl (record { paths = paths.rel; ascends = are.rel_ascends; each = λ p h. (are.rel p).0 h; many = ltb-true _ _ many })
   | inr many ↦ inr (record { paths = paths.loc; ascends = are.loc_ascends; each = λ p h. (are.loc p).0 h; many = ltb-true _ _ many })
 ]
-
-get_below : {A : Type 0} (xs : List A) (k : ℕ) → k < length xs → (x : A) × (slice_get xs k ≡ Some x)
-get_below [] k below = absurd (omega arith)
-get_below (x ∷ xs) zero below = (x, refl)
-get_below (x ∷ xs) (suc k) below = get_below xs k (omega arith)
 
 pub first_from : (P : Program) (sets : List MethodPaths) (m count : ℕ) → AreRelevant P sets → count ≡ length P.methods → m < count → is_crowded sets m ≡ true → ((k : ℕ) → k < m → is_crowded sets k ≡ false) → IsFirstCrowded P m
 first_from P sets m count relevant all below over before =

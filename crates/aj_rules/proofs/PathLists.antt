@@ -13,12 +13,9 @@ use Rattle.std.proofs.lemmas.Map.Keys.{Less-from_sorted}
 use Rattle.std.proofs.lemmas.Bool.{false_from_ne_true, or_right}
 use lib.ListN.{take-append-drop}
 use Rattle.aj_paths.specs.Paths.{PathData, path_order, path_eq}
-use Rattle.aj_paths.proofs.PathOrder.{equal_is, is_equal, less_turned, greater_turned, less_chain, eq_is, is_eq}
+use Rattle.aj_paths.proofs.PathOrder.{equal_is, is_equal, less_turned, greater_turned, less_chain, eq_is, is_eq, less_not_eq}
 use Rattle.aj_algebra.specs.HeldPaths.{has_path}
 use Rattle.aj_rules.specs.Search.{row_at, rows_of}
-
-less_is_not : (y p : PathData) → path_order y p ≡ Less → path_eq y p ≡ false
-less_is_not y p less = false_from_ne_true (path_eq y p) (λ e. let k : Less ≡ Equal = sym less ∙ is_equal y p (eq_is y p e) in absurd cc)
 
 greater_is_not : (y p : PathData) → path_order y p ≡ Greater → path_eq y p ≡ false
 greater_is_not y p greater = false_from_ne_true (path_eq y p) (λ e. let k : Greater ≡ Equal = sym greater ∙ is_equal y p (eq_is y p e) in absurd cc)
@@ -85,7 +82,7 @@ has_at p (x ∷ xs) (suc i) d below is = or_right (path_eq x p) (has_path xs p) 
 
 pub partition_has_no : (p : PathData) (xs : List PathData) (i : ℕ) → AllWithin (λ y. path_order y p ≡ Less) xs 0 i → AllWithin (λ y. path_order y p ≡ Greater) xs i (length xs) → has_path xs p ≡ false
 partition_has_no p xs i before after = has_no p xs (λ k d below. elim (nat_lt k i) as (λ b. nat_lt k i ≡ b → path_eq (get_or xs k d) p ≡ false) [
-  | true ↦ λ e. less_is_not (get_or xs k d) p (before k d (omega arith) (grind (arith, nat_tests)))
+  | true ↦ λ e. less_not_eq (get_or xs k d) p (before k d (omega arith) (grind (arith, nat_tests)))
   | false ↦ λ e. greater_is_not (get_or xs k d) p (after k d (grind (arith, nat_tests)) below)
 ] refl)
 

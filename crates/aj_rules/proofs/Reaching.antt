@@ -1,9 +1,10 @@
 -- What is reached by a program's clauses are the near paths.
-use Rattle.std.proofs.Common.{◌≡◌, ℕ, zero, suc, ◌+◌, ◌≤◌, Bool, true, false, List, [], ◌∷◌, ◌++◌, length, map, Some, None, refl, sym, ap, subst, ◌∙◌, arith, ◌⊎◌, inl, inr}
+use Rattle.std.proofs.Common.{◌≡◌, ℕ, zero, suc, ◌+◌, ◌≤◌, Bool, true, false, List, [], ◌∷◌, ◌++◌, length, map, Some, None, refl, sym, ap, subst, ◌∙◌, arith, inl, inr}
 use Rattle.std.specs.Prelude.{Option, Contains, slice_get, nat_le, if◌then◌else◌}
 use Rattle.std.proofs.lemmas.List.Elements.{Contains-append_left, Contains-append_right, Contains-append_cases}
 use Rattle.std.proofs.lemmas.Bool.Decides.{nat_tests}
 use Rattle.std.proofs.lemmas.Bool.{le-leb}
+use Rattle.aj_lemmas.proofs.Lists.{contains_cases, contains_later}
 use Rattle.aj_paths.specs.Paths.{PathData, extended, extended_some}
 use Rattle.aj_paths.specs.Renamings.{argument_at, passed}
 use Rattle.aj_core.specs.Core.{Program, Method, Expr, Exprs}
@@ -21,13 +22,6 @@ contains_none x (k, below, is) = absurd (omega arith)
 
 pub contains_here : {A : Type 0} (x : A) (xs : List A) → Contains (x ∷ xs) x
 contains_here x xs = (0, omega arith, refl)
-
-pub contains_later : {A : Type 0} (x y : A) (xs : List A) → Contains xs y → Contains (x ∷ xs) y
-contains_later x y xs (k, below, is) = (suc k, omega arith, is)
-
-pub contains_cases : {A : Type 0} (x y : A) (xs : List A) → Contains (x ∷ xs) y → (x ≡ y) ⊎ Contains xs y
-contains_cases x y xs (zero, below, is) = inl is
-contains_cases x y xs (suc k, below, is) = inr (k, omega arith, is)
 
 pub contains_one : {A : Type 0} (x y : A) → Contains (x ∷ []) y → x ≡ y
 contains_one x y has = elim (contains_cases x y [] has) as (λ _. x ≡ y) [ inl e ↦ e | inr none ↦ contains_none y none ]

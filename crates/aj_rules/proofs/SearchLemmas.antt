@@ -14,12 +14,13 @@ use Rattle.aj_rules.specs.declared.clauses.Clause.{Clause}
 use Rattle.aj_rules.specs.declared.clauses.Clause.TheVariants as clause
 use Rattle.aj_rules.specs.Clauses.{Reached, given, led}
 use Rattle.aj_rules.specs.Search.{row_at, rows_of, with_link, LeadsTo, led_path, IsLed, AreLinks, Agree, Grows, HasFacts, HasDone, IsLeastFamily}
-use Rattle.aj_rules.proofs.Reaching.{contains_none, contains_one, contains_here, contains_later}
+use Rattle.aj_rules.proofs.Reaching.{contains_none, contains_one, contains_here}
 use Rattle.aj_rules.proofs.PathLists.{row_is, row_set_same, row_set_other}
 use Rattle.aj_rules.proofs.ClauseLemmas.{on_ok}
 use Rattle.std.proofs.lemmas.List.{take_more}
 use Rattle.std.specs.declared.alloc.Global.{Global}
 use Rattle.std.proofs.lemmas.Bool.{or_cases, or_left, or_right, not-false}
+use Rattle.aj_lemmas.proofs.Lists.{contains_later}
 
 -- One place.
 

@@ -19,7 +19,7 @@ not_before x y ys b less has = elim (or_cases (path_eq y x) (has_path ys x) has)
   | inr later ↦ not_itself x (less_chain x y x less (after_head y ys x (sorted_head path_order y ys b) later))
 ]
 
-first_has : (x : PathData) (xs : List PathData) → has_path (x ∷ xs) x ≡ true
+pub first_has : (x : PathData) (xs : List PathData) → has_path (x ∷ xs) x ≡ true
 first_has x xs = or_left (path_eq x x) (has_path xs x) (eq_itself x)
 
 -- a later path of one list is a later one of the other, where their first ones are equal

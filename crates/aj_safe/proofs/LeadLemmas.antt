@@ -1,6 +1,7 @@
 -- Where paths lead, in a memory that has grown and through longer paths; operands and their paths.
 use Rattle.std.proofs.Common.{◌≡◌, ℕ, zero, suc, Bool, true, false, List, [], ◌∷◌, ◌++◌, Some, None, refl, ap, subst, ◌∙◌}
 use Rattle.std.specs.Prelude.{Option, option_and_then, slice_get, if◌then◌else◌}
+use Rattle.aj_lemmas.proofs.Options.{then_parts}
 use Rattle.aj_paths.specs.Paths.{PathData}
 use Rattle.aj_algebra.specs.HeldPaths.{Held}
 use Rattle.aj_core.specs.Core.{Program}
@@ -11,10 +12,6 @@ use Rattle.aj_state.specs.declared.value.Value.TheVariants as value
 use Rattle.aj_state.specs.Values.{top, under, taken, dropped}
 use Rattle.aj_safe.specs.Leads.{Env, Memory, next_value, lead_from, lead, Grows, Sound, Paths, LeadsTo, MayLeadTo, top_path, under_path, taken_paths, dropped_paths}
 use Rattle.aj_safe.specs.Safe.{LeadEach}
-
-pub then_parts : {A B : Type 0} (f : A → Option B) (o : Option A) (b : B) → option_and_then f o ≡ Some b → (a : A) × (o ≡ Some a) × (f a ≡ Some b)
-then_parts f None b e = absurd cc
-then_parts f (Some a) b e = (a, refl, e)
 
 pub then_of : {A B : Type 0} (f : A → Option B) (o : Option A) (a : A) (r : Option B) → o ≡ Some a → f a ≡ r → option_and_then f o ≡ r
 then_of f o a r is e = ap (option_and_then f) is ∙ e

@@ -3,6 +3,7 @@ use Rattle.std.proofs.Common.{◌≡◌, ℕ, Bool, true, false, ◌==◌, List,
 use Rattle.std.specs.Prelude.{Option, length, nat_le, if◌then◌else◌}
 use Rattle.std.proofs.lemmas.Bool.Decides.{nat_tests}
 use Rattle.std.proofs.lemmas.Bool.{eqb-true, or_parts}
+use Rattle.aj_lemmas.proofs.Options.{then_parts}
 use Rattle.aj_paths.specs.Paths.{PathData, extended, most_fields}
 use Rattle.aj_algebra.specs.HeldPaths.{Held, holds_at}
 use Rattle.aj_core.specs.Core.{Program, Expr, Stmt, Stmts, EmptyS, BlockS, LocalS, SetVarS, SetFieldS, DoS, IfS, WhileS, SyncS, ReturnS, PrintS, StartS, and_stmt}
@@ -12,7 +13,7 @@ use Rattle.aj_state.specs.declared.value.Address.{Address}
 use Rattle.aj_state.specs.declared.value.Value.TheVariants as value
 use Rattle.aj_safe.specs.Leads.{Env, Memory, lead_from, lead, Sound, MayLeadTo}
 use Rattle.aj_safe.specs.Fits.{Agrees, Apart, Fresh, FreshEach, stores, stores_each}
-use Rattle.aj_safe.proofs.LeadLemmas.{then_parts, from_append}
+use Rattle.aj_safe.proofs.LeadLemmas.{from_append}
 
 if_chosen : {A : Type 0} (t : Bool) (x y : A) → (if t then Some x else None) ≡ Some y → x ≡ y
 if_chosen true x y e = cc

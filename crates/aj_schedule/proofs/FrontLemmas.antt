@@ -6,6 +6,7 @@ use Rattle.std.specs.List.{prefix_len, list_all}
 use Rattle.std.specs.Option.{option_map}
 use Rattle.std.specs.Str.Parse.{digits_value}
 use Rattle.std.proofs.lemmas.List.{take_rest}
+use Rattle.std.proofs.lemmas.Option.{cond_some}
 use Rattle.aj_schedule.specs.Text.{blank, comment, single, group, is_blank, ends_entry, ends_comment, BeginsWith, BeginsWithCount}
 use Rattle.aj_schedule.specs.Faults.{writes_number, first_digits, after_digits, begins_count, count_fault, form_fault}
 use Rattle.aj_schedule.proofs.NumberLemmas.{take-digits, number_is}
@@ -13,18 +14,14 @@ use Rattle.aj_schedule.proofs.NumberLemmas.{take-digits, number_is}
 pub drop-drop : (n m : ℕ) (xs : List ℕ) → drop n (drop m xs) ≡ drop (m + n) xs
 drop-drop n m xs = grind (arith, common_steps)
 
-written_if : (b : Bool) (n m : ℕ) → Some n ≡ (if b then Some m else None) → (b ≡ true) × (n ≡ m)
-written_if true n m e = (refl, cc)
-written_if false n m e = absurd (cc)
-
 -- a number that was found
 pub found_number : (text : List ℕ) (low end n size : ℕ) → size ≡ length (first_digits text) →
     Some n ≡ (if writes_number low end (first_digits text) then Some (digits_value 10 (first_digits text)) else None) →
     (writes_number low end (first_digits text) ≡ true) × (take size text ≡ decimal n) × (low ≤ n) × (n < end)
 found_number text low end n size at found =
-    let w = written_if (writes_number low end (first_digits text)) n (digits_value 10 (first_digits text)) found in
+    let w = cond_some (writes_number low end (first_digits text)) (digits_value 10 (first_digits text)) n (sym found) in
     let number = number_is low end (first_digits text) w.0 in
-    (w.0, take-digits text size at ∙ sym number.0 ∙ ap decimal (sym w.1), omega (arith, number.1, w.1), omega (arith, number.2, w.1))
+    (w.0, take-digits text size at ∙ sym number.0 ∙ ap decimal w.1, omega (arith, number.1, w.1), omega (arith, number.2, w.1))
 
 pub count_front : (text : List ℕ) (count size : ℕ) → size ≡ length (first_digits text) → size ≤ length text →
     Some count ≡ (if writes_number 1 (2 ^ 64) (first_digits text) then Some (digits_value 10 (first_digits text)) else None) →

@@ -1,24 +1,22 @@
 -- Digits at the front of a text, and the number that they write.
 use Rattle.std.proofs.Common.{◌≡◌, ℕ, ◌^◌, ◌<◌, ◌≤◌, ◌&&◌, Bool, true, false, nat_lt, nat_le, List, [], ◌∷◌, length, take, get_or, Some, None, if◌then◌else◌, decimal, cond, ◌==◌, ◌+◌, ◌-◌, ◌*◌, suc, zero, refl, sym, ◌∙◌, ap, subst, arith}
 use Rattle.std.proofs.lemmas.Fmt.{first_decimal, decimal_digit, decimal-digits_value, decimal_nonempty}
-use Rattle.std.proofs.lemmas.Str.Parse.{numerals_by_value, tells_all_ascii_digits, IsNumeralModel, digits_value-take-le}
+use Rattle.std.proofs.lemmas.Str.Parse.{digits_value-take-le}
 use Rattle.std.proofs.lemmas.Int.Digits.{digits_value_more}
 use Rattle.std.proofs.lemmas.List.{take-take}
 use Rattle.std.proofs.lemmas.List.Sums.{take_while-cons, prefix_len_passes, prefix_len_stops}
 use Rattle.std.proofs.lemmas.List.Folds.{length-prefix_len}
 use Rattle.std.proofs.lemmas.Slice.Eq.{bytes_eq-Decides}
-use Rattle.std.proofs.lemmas.Bool.{ltb-false, le-ltb, eqb-true, false_from_ne_true, and_from}
+use Rattle.std.proofs.lemmas.Bool.{ltb-false, le-ltb, eqb-true, false_from_ne_true, and_from, and_parts}
 use Rattle.std.proofs.lemmas.Bool.Decides.{nat_tests}
 use Rattle.std.proofs.lemmas.Option.{cond_some}
 use Rattle.std.specs.List.{prefix_len}
-use Rattle.std.specs.Char.{is_ascii_digit, digit_value}
+use Rattle.std.specs.Char.{is_ascii_digit}
 use Rattle.std.specs.Str.{all_ascii_digits, bytes_eq}
 use Rattle.std.specs.Str.Parse.{digits_value}
+use Rattle.std.specs.Cmp.{both_ways}
+use Rattle.aj_lemmas.proofs.Digits.{numerals, worth}
 use Rattle.aj_schedule.specs.Faults.{writes_number, first_digits}
-
--- std's words for digits and their value
-pub numerals : IsNumeralModel (λ ds. all_ascii_digits ds ≡ true) (digits_value 10)
-numerals = numerals_by_value (λ ds. all_ascii_digits ds ≡ true) tells_all_ascii_digits
 
 digits_first : (b : Bool) (byte : ℕ) (text : List ℕ) → is_ascii_digit byte ≡ b → all_ascii_digits (first_digits text) ≡ true → all_ascii_digits (cond b (byte ∷ first_digits text) []) ≡ true
 digits_first true byte text is rest = rw (is, rest) refl
@@ -32,16 +30,6 @@ digits_are (byte ∷ text) = rw (take_while-cons is_ascii_digit byte text) (digi
 -- the slice of their length is the digits themselves
 pub take-digits : (text : List ℕ) (n : ℕ) → n ≡ length (first_digits text) → take n text ≡ first_digits text
 take-digits text n e = ap (λ k. take k text) (e ∙ length-prefix_len is_ascii_digit text)
-
-pub and_both : (a b : Bool) → (a && b) ≡ true → (a ≡ true) × (b ≡ true)
-and_both true b e = (refl, e)
-and_both false b e = absurd (cc)
-
-same_test : (a b : Bool) → (a ≡ true → b ≡ true) → (b ≡ true → a ≡ true) → a ≡ b
-same_test true true to from = refl
-same_test true false to from = sym (to refl)
-same_test false true to from = from refl
-same_test false false to from = refl
 
 less : (a b : ℕ) → nat_lt a b ≡ true → a < b
 less a b e = grind (arith, nat_tests)
@@ -59,8 +47,8 @@ is_at_most a b e = grind (arith, nat_tests)
 pub number_is : (low end : ℕ) (digits : List ℕ) → writes_number low end digits ≡ true →
     (decimal (digits_value 10 digits) ≡ digits) × (low ≤ digits_value 10 digits) × (digits_value 10 digits < end)
 number_is low end digits e =
-    let parts = and_both (bytes_eq (decimal (digits_value 10 digits)) digits) (nat_le low (digits_value 10 digits) && nat_lt (digits_value 10 digits) end) e in
-    let range = and_both (nat_le low (digits_value 10 digits)) (nat_lt (digits_value 10 digits) end) parts.1 in
+    let parts = and_parts (bytes_eq (decimal (digits_value 10 digits)) digits) (nat_le low (digits_value 10 digits) && nat_lt (digits_value 10 digits) end) e in
+    let range = and_parts (nat_le low (digits_value 10 digits)) (nat_lt (digits_value 10 digits) end) parts.1 in
     ((bytes_eq-Decides (decimal (digits_value 10 digits)) digits).0 parts.0, at_most low (digits_value 10 digits) range.0, less (digits_value 10 digits) end range.1)
 
 pub is_number : (low end n : ℕ) (digits : List ℕ) → n ≡ digits_value 10 digits → decimal n ≡ digits → low ≤ n → n < end → writes_number low end digits ≡ true
@@ -79,7 +67,7 @@ no_leading_zero (suc n) digits same small long first =
 -- a leading zero
 pub leading_zero : (digits : List ℕ) → (nat_lt 1 (length digits) && (get_or digits 0 0 == 48)) ≡ true → writes_number 0 (2 ^ 64) digits ≡ false
 leading_zero digits e =
-    let parts = and_both (nat_lt 1 (length digits)) (get_or digits 0 0 == 48) e in
+    let parts = and_parts (nat_lt 1 (length digits)) (get_or digits 0 0 == 48) e in
     false_from_ne_true (writes_number 0 (2 ^ 64) digits) (λ w. let n = number_is 0 (2 ^ 64) digits w in
     no_leading_zero (digits_value 10 digits) digits n.0 n.2 (less 1 (length digits) parts.0) (eqb-true (get_or digits 0 0) 48 parts.1))
 
@@ -89,8 +77,8 @@ one_digit digits e first some = grind (arith, nat_tests)
 -- no leading zero
 pub plain_number : (digits : List ℕ) → all_ascii_digits digits ≡ true → (nat_lt 1 (length digits) && (get_or digits 0 0 == 48)) ≡ false →
     (nat_lt 0 (length digits) && nat_lt (digits_value 10 digits) (2 ^ 64)) ≡ writes_number 0 (2 ^ 64) digits
-plain_number digits are first = same_test (nat_lt 0 (length digits) && nat_lt (digits_value 10 digits) (2 ^ 64)) (writes_number 0 (2 ^ 64) digits)
-    (λ e. let parts = and_both (nat_lt 0 (length digits)) (nat_lt (digits_value 10 digits) (2 ^ 64)) e in
+plain_number digits are first = both_ways (nat_lt 0 (length digits) && nat_lt (digits_value 10 digits) (2 ^ 64)) (writes_number 0 (2 ^ 64) digits)
+    (λ e. let parts = and_parts (nat_lt 0 (length digits)) (nat_lt (digits_value 10 digits) (2 ^ 64)) e in
     let some = less 0 (length digits) parts.0 in
     let small = less (digits_value 10 digits) (2 ^ 64) parts.1 in
     is_number 0 (2 ^ 64) (digits_value 10 digits) digits refl (decimal-digits_value numerals digits are some (λ zero. one_digit digits first zero some) small) (omega arith) small)
@@ -129,9 +117,6 @@ all_digits text i so_far is = by (nat_lt i (prefix_len is_ascii_digit text)) ref
     by : (b : Bool) → nat_lt i (prefix_len is_ascii_digit text) ≡ b → i ≡ prefix_len is_ascii_digit text
     by true e = let clash : true ≡ false = sym (prefix_len_passes is_ascii_digit text i 0 (less i (prefix_len is_ascii_digit text) e)) ∙ is in absurd cc
     by false e = let over = ltb-false i (prefix_len is_ascii_digit text) e in omega (arith, so_far, over)
-
-worth : (d : ℕ) → is_ascii_digit d ≡ true → digit_value d ≡ d - 48
-worth d e = grind (arith, nat_tests)
 
 -- the number of one digit more
 pub next_number : (text : List ℕ) (i n : ℕ) → i < length text → is_ascii_digit (get_or text i 0) ≡ true → n ≡ digits_value 10 (take i text)

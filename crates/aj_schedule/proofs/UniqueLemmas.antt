@@ -11,13 +11,14 @@ use Rattle.std.specs.List.{take_while, list_all}
 use Rattle.std.specs.Option.{option_map}
 use Rattle.std.specs.Str.{all_ascii_digits}
 use Rattle.std.specs.Str.Parse.{digits_value}
-use Rattle.std.proofs.lemmas.Bool.{or_parts}
+use Rattle.std.proofs.lemmas.Bool.{or_parts, and_parts}
+use Rattle.aj_lemmas.proofs.Digits.{numerals}
 use Rattle.aj_schedule.specs.Text.{Piece, blank, comment, single, group, spelled, is_blank, ends_entry, ends_comment, IsPiece, count_of, joined, ArePieces, total, steps, Begins, IsSchedule}
 use Rattle.aj_schedule.specs.Faults.{writes_number, first_digits, after_digits, begins_count, count_fault, form_fault, HasFormFault, HasLengthFault, IsAnswer}
 use Rattle.aj_schedule.specs.declared.reader.SchedFault.{SchedFault}
 use Rattle.aj_schedule.specs.declared.reader.SchedFault.TheVariants as faults
 use Rattle.aj_schedule.proofs.ReadLemmas.{length-steps}
-use Rattle.aj_schedule.proofs.NumberLemmas.{numerals, is_number, and_both}
+use Rattle.aj_schedule.proofs.NumberLemmas.{is_number}
 
 abbrev pub begins_with : (ℕ → Bool) → List ℕ → Bool
 begins_with p [] = false
@@ -35,13 +36,13 @@ while_stop p (y ∷ ys) stop = take_while-cons p y ys ∙ ap (λ b. cond b (y �
 pub first_of : (p : ℕ → Bool) (xs ys : List ℕ) → list_all p xs ≡ true → begins_with p ys ≡ false → take_while p (xs ++ ys) ≡ xs
 first_of p [] ys all stop = while_stop p ys stop
 first_of p (x ∷ xs) ys all stop =
-    let parts = and_both (p x) (list_all p xs) all in
+    let parts = and_parts (p x) (list_all p xs) all in
     take_while-cons p x (xs ++ ys) ∙ while_step p x (take_while p (xs ++ ys)) (p x) refl parts.0 ∙ ap (λ t. x ∷ t) (first_of p xs ys parts.1 stop)
 
 pub digits_all : (ds : List ℕ) → all_ascii_digits ds ≡ true → list_all is_ascii_digit ds ≡ true
 digits_all [] all = refl
 digits_all (d ∷ ds) all =
-    let parts = and_both (is_ascii_digit d) (all_ascii_digits ds) all in
+    let parts = and_parts (is_ascii_digit d) (all_ascii_digits ds) all in
     rw (parts.0, digits_all ds parts.1) refl
 
 ends_no_digit : (more : List ℕ) → ends_entry more ≡ true → begins_with is_ascii_digit more ≡ false
@@ -58,7 +59,7 @@ digit_goes byte e = grind (arith, nat_tests)
 -- digits end no entry
 pub front_digit : (ds more : List ℕ) → all_ascii_digits ds ≡ true → 0 < length ds → ends_entry (ds ++ more) ≡ false
 front_digit [] more all some = absurd (omega arith)
-front_digit (d ∷ ds) more all some = digit_goes d (and_both (is_ascii_digit d) (all_ascii_digits ds) all).0
+front_digit (d ∷ ds) more all some = digit_goes d (and_parts (is_ascii_digit d) (all_ascii_digits ds) all).0
 
 pub drop-front : (xs ys : List ℕ) → drop (length xs) (xs ++ ys) ≡ ys
 drop-front xs ys = grind (arith, common_steps)

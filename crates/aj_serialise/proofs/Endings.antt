@@ -11,13 +11,7 @@ use Rattle.aj_machine.specs.declared.machine.StepEnd.TheVariants as ends
 use Rattle.aj_machine.specs.declared.machine.Stopped.{Stopped}
 use Rattle.aj_machine.specs.Reasons.{IsReason}
 use Rattle.aj_machine.specs.Standing.{IsStopped}
-
-no_step : (q : State) (t : ℕ) (why : StepEnd) (o : Outcome) → IsReason why o → why ≢ ends.NoMemory → state_after q t o ≡ None
-no_step q t why (Moves m) is other = absurd (other is)
-no_step q t why Absent is other = refl
-no_step q t why IsDone is other = refl
-no_step q t why (HadFaulted kind) is other = refl
-no_step q t why (Waits a holder) is other = refl
+use Rattle.aj_machine.proofs.Schedules.{no_step}
 
 same_reason : (one other : StepEnd) (o : Outcome) → IsReason one o → IsReason other o → one ≡ other
 same_reason one other (Moves m) is k = is ∙ sym k

@@ -1,11 +1,11 @@
 -- The refusals of a program of the grammar that is no well-formed source.
-use Rattle.std.proofs.Common.{◌≡◌, ℕ, ◌<◌, true, List, [], ◌∷◌, Some, subst, ap, arith, length, slice_get, inl, inr, ◌⊎◌, ◌||◌}
+use Rattle.std.proofs.Common.{◌≡◌, ℕ, ◌<◌, true, List, [], ◌∷◌, Some, subst, arith, length, slice_get, inl, inr, ◌⊎◌}
 use Rattle.aj_syntax.specs.Trees.{ProgramTree}
 use Rattle.aj_paths.specs.Paths.{PathData}
 use Rattle.aj_algebra.specs.HeldPaths.{has_path}
-use Rattle.aj_paths.proofs.PathOrder.{eq_itself}
 use Rattle.aj_core.specs.Core.{Program, Method}
 use Rattle.aj_rules.specs.Limits.{IsCrowded, IsFirstCrowded}
+use Rattle.aj_rules.proofs.UniqueSets.{first_has}
 use Rattle.aj_classes.specs.declared.fault.ClassFault.{ClassFault}
 use Rattle.aj_classes.specs.declared.fault.ClassFault.TheVariants as class
 use Rattle.aj_classes.specs.Faults as classes
@@ -22,13 +22,10 @@ use Rattle.aj_sources.specs.Checking.{HasCore, NoSource, class_fault, type_fault
 use Rattle.aj_sources.specs.Offsets.{name_offset}
 use Rattle.aj_sources.proofs.Told.{right_refusal}
 
-has_first : (p : PathData) (ps : List PathData) → has_path (p ∷ ps) p ≡ true
-has_first p ps = ap (λ b. b || has_path ps p) (eq_itself p)
-
 -- a method with many paths is there
 has_method : (P : Program) (m : ℕ) (paths : List PathData) → 8 < length paths → ((p : PathData) → has_path paths p ≡ true → (method : Method) × (slice_get P.methods m ≡ Some method)) → (method : Method) × (slice_get P.methods m ≡ Some method)
 has_method P m [] many each = absurd (omega (arith, many))
-has_method P m (p ∷ ps) many each = each p (has_first p ps)
+has_method P m (p ∷ ps) many each = each p (first_has p ps)
 
 crowded_method : (P : Program) (m : ℕ) → IsCrowded P m → (method : Method) × (slice_get P.methods m ≡ Some method)
 crowded_method P m (inl many) = has_method P m many.paths many.many (λ p h. let is = (many.each p h).1 in (is.0, is.1))

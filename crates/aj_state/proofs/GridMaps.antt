@@ -5,8 +5,6 @@ use Rattle.std.specs.Prelude.{Result, Ok, Err, OnOk, OnErr, Option, Some, None, 
 use Rattle.std.proofs.Math.ListN.{set}
 use Rattle.std.proofs.lemmas.Bool.Decides.{nat_tests}
 use Rattle.std.specs.Ordering.{is_lt, is_eq, eq_by_cmp}
-use Rattle.std.specs.declared.cmp.Ordering.{Ordering}
-use Rattle.std.specs.declared.cmp.Ordering.TheVariants.{Less, Equal, Greater}
 use Rattle.std.specs.FinMap as M
 use Rattle.std.specs.FinMap.{FinMap, find, is_sorted, get-from_sorted, entries-from_sorted, get-insert, get-remove, same_map, len-insert, len-remove, len-entries, empty_of_len}
 use Rattle.std.specs.FinMap.Entries.{below_all}
@@ -15,6 +13,7 @@ use Rattle.aj_state.specs.declared.value.Address.{Address}
 use Rattle.aj_state.specs.Memory.{address_cmp}
 use Rattle.aj_state.specs.Slots.{slot_at, in_row, grid_at, slots_entries, rows_entries, grid_map, Written, IsPlaced}
 use Rattle.aj_state.proofs.Addresses.{address_total, address_exact, apart, alike}
+use Rattle.aj_state.proofs.Numbering.{less_is, first_fact, second_fact}
 
 number_test : (a b : ℕ) → a ≢ b → (a == b) ≡ false
 number_test a b other = grind (arith, nat_tests)
@@ -44,23 +43,6 @@ true_test : (b : Bool) → b ≡ true → T b
 true_test true e = tt
 true_test false e = absurd cc
 
-test_true : (b : Bool) → T b → b ≡ true
-test_true true h = refl
-test_true false h = absurd h
-
-first_of : (a b : Bool) → T (a && b) → T a
-first_of true b h = tt
-first_of false b h = h
-
-second_of : (a b : Bool) → T (a && b) → T b
-second_of true b h = h
-second_of false b h = absurd h
-
-lt_is_no_eq : (o : Ordering) → is_lt o ≡ true → is_eq o ≡ false
-lt_is_no_eq Less e = refl
-lt_is_no_eq Equal e = absurd cc
-lt_is_no_eq Greater e = refl
-
 two_tests : {A : Type 0} (p q : Bool) (x y z : A) → (p ≡ true → z ≡ y) → cond p (cond q x y) z ≡ cond (p && q) x z
 two_tests true true x y z h = refl
 two_tests true false x y z h = sym (h refl)
@@ -73,7 +55,7 @@ one_test false x z h = refl
 module _ {X : Type 0} where
   below_append : (x : Address) (xs ys : List (Address × X)) → T (below_all address_cmp x xs) → T (below_all address_cmp x ys) → T (below_all address_cmp x (xs ++ ys))
   below_append x [] ys h k = k
-  below_append x (e ∷ xs) ys h k = both _ _ (first_of _ _ h) (below_append x xs ys (second_of (is_lt (address_cmp x e.0)) _ h) k)
+  below_append x (e ∷ xs) ys h k = both _ _ (true_test _ (first_fact _ _ h)) (below_append x xs ys (second_fact (is_lt (address_cmp x e.0)) _ h) k)
 
   below_slots : (t c d : ℕ) (slots : List (Option X)) → c < d → T (below_all address_cmp (record { thread = t; count = c }) (slots_entries t d slots))
   below_slots t c d [] below = tt
@@ -105,8 +87,8 @@ module _ {X : Type 0} where
   find_below : (q : Address) (es : List (Address × X)) → T (below_all address_cmp q es) → find address_cmp q es ≡ None
   find_below q [] h = refl
   find_below q (e ∷ es) h =
-      ap (λ b. cond b (Some e.1) (find address_cmp q es)) (lt_is_no_eq (address_cmp q e.0) (test_true _ (first_of (is_lt (address_cmp q e.0)) _ h)))
-      ∙ find_below q es (second_of (is_lt (address_cmp q e.0)) _ h)
+      ap (λ b. cond b (Some e.1) (find address_cmp q es)) (ap is_eq (less_is (address_cmp q e.0) (first_fact _ _ h)))
+      ∙ find_below q es (second_fact (is_lt (address_cmp q e.0)) _ h)
 
   -- an entry of another key is passed over
   passed : (q a : Address) (v : X) (es : List (Address × X)) → q ≢ a → find address_cmp q ((a, v) ∷ es) ≡ find address_cmp q es

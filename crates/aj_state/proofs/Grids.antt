@@ -1,10 +1,11 @@
 -- Slots, rows of them, and what stands in them.
-use Rattle.std.proofs.Common.{◌≡◌, ℕ, zero, suc, ◌+◌, ◌-◌, ◌<◌, ◌≤◌, false, List, [], ◌∷◌, ◌++◌, length, drop, get_or, drop-cons, refl, sym, ap, subst, ◌∙◌, arith, ◌==◌}
+use Rattle.std.proofs.Common.{◌≡◌, ℕ, zero, suc, ◌+◌, ◌-◌, ◌<◌, ◌≤◌, false, List, [], ◌∷◌, ◌++◌, length, drop, get_or, refl, sym, ap, subst, ◌∙◌, arith, ◌==◌}
 use Rattle.std.specs.Prelude.{Option, Some, None, IsSome, slice_get, if◌then◌else◌}
 use Rattle.std.specs.Option.{option_map}
 use Rattle.std.proofs.lemmas.Option.{slice_get_read}
 use Rattle.std.proofs.Math.ListN.{set}
 use Rattle.std.proofs.lemmas.Bool.Decides.{nat_tests}
+use Rattle.aj_lemmas.proofs.Lists.{get_left, next_drop}
 use Rattle.aj_state.specs.declared.value.Address.{Address}
 use Rattle.aj_state.specs.Slots.{in_slot, slot_at, filled_in, slots_entries, rows_entries, Written}
 
@@ -132,20 +133,10 @@ length_entries [] t c = refl
 length_entries (None ∷ slots) t c = length_entries slots t (c + 1)
 length_entries (Some v ∷ slots) t c = let p = length_entries slots t (c + 1) in omega arith
 
-pub get_left : {A : Type 0} (xs ys : List A) (k : ℕ) → k < length xs → slice_get (xs ++ ys) k ≡ slice_get xs k
-get_left [] ys k below = absurd (omega arith)
-get_left (x ∷ xs) ys zero below = refl
-get_left (x ∷ xs) ys (suc k) below = get_left xs ys k (omega arith)
-
 pub get_right : {A : Type 0} (xs ys : List A) (k n m : ℕ) → n ≡ length xs → n ≤ k → m ≡ k - n → slice_get (xs ++ ys) k ≡ slice_get ys m
 get_right [] ys k n m is above less = let same : k ≡ m = omega arith in ap (slice_get ys) same
 get_right (x ∷ xs) ys zero n m is above less = absurd (omega arith)
 get_right (x ∷ xs) ys (suc k) n m is above less = get_right xs ys k (n - 1) m (omega arith) (omega arith) (omega arith)
-
-next_row : {T : Type 0} (rows : List (List (Option T))) (k : ℕ) (row : List (Option T)) → k < length rows → row ≡ get_or rows k row → drop k rows ≡ row ∷ drop (k + 1) rows
-next_row rows k row below is =
-    let e : suc k ≡ k + 1 = omega arith in
-    subst (λ y. drop k rows ≡ y ∷ drop (k + 1) rows) (sym is) (subst (λ j. drop k rows ≡ get_or rows k row ∷ drop j rows) e (drop-cons rows k row below))
 
 -- an entry among those of this row, or of the later ones
 pub row_here : {T : Type 0} (rows : List (List (Option T))) (k left n : ℕ) (row : List (Option T)) (whole : Option (Address × T)) → k < length rows → row ≡ get_or rows k row → n ≡ filled_in row
@@ -153,14 +144,14 @@ pub row_here : {T : Type 0} (rows : List (List (Option T))) (k left n : ℕ) (ro
 row_here rows k left n row whole below is n_is less whole_is =
     let long = length_entries row k 0 in
     sym (get_left (slots_entries k 0 row) (rows_entries (k + 1) (drop (k + 1) rows)) left (omega arith))
-    ∙ sym (ap (λ l. slice_get (rows_entries k l) left) (next_row rows k row below is)) ∙ whole_is
+    ∙ sym (ap (λ l. slice_get (rows_entries k l) left) (next_drop rows k row below is)) ∙ whole_is
 
 pub row_later : {T : Type 0} (rows : List (List (Option T))) (k left n m : ℕ) (row : List (Option T)) (whole : Option (Address × T)) → k < length rows → row ≡ get_or rows k row → n ≡ filled_in row
     → n ≤ left → m ≡ n → slice_get (rows_entries k (drop k rows)) left ≡ whole → slice_get (rows_entries (k + 1) (drop (k + 1) rows)) (left - m) ≡ whole
 row_later rows k left n m row whole below is n_is more m_is whole_is =
     let long = length_entries row k 0 in
     sym (get_right (slots_entries k 0 row) (rows_entries (k + 1) (drop (k + 1) rows)) left n (left - m) (omega arith) more (omega arith))
-    ∙ sym (ap (λ l. slice_get (rows_entries k l) left) (next_row rows k row below is)) ∙ whole_is
+    ∙ sym (ap (λ l. slice_get (rows_entries k l) left) (next_drop rows k row below is)) ∙ whole_is
 
 -- a value that was changed in its slot
 pub kept_filled : {T : Type 0} (slots : List (Option T)) (at : ℕ) (old new : Option T) (f : T → T) → at < length slots → old ≡ get_or slots at old → new ≡ option_map f old → IsSome (slot_at slots at)

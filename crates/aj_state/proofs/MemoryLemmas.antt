@@ -4,11 +4,13 @@ use Rattle.std.specs.Prelude.{Option, length, slice_get, slice_set, cond, if◌t
 use Rattle.std.specs.FinMap as M
 use Rattle.std.specs.FinMap.{get-insert}
 use Rattle.std.specs.Ordering.{eq_by_cmp}
-use Rattle.aj_core.specs.Core.{Program, Field}
+use Rattle.std.proofs.lemmas.Option.{none-some}
+use Rattle.std.proofs.lemmas.Bool.{eqb-true}
+use Rattle.aj_core.specs.Core.{Program, Class, Field}
 use Rattle.aj_state.specs.declared.value.Address.{Address}
 use Rattle.aj_state.specs.declared.value.Value.{Value}
 use Rattle.aj_state.specs.Values.{taken, top, under}
-use Rattle.aj_state.specs.Memory.{Heap, Object, address_cmp, lists, field_value, value_in, with_value, with_object, with_field}
+use Rattle.aj_state.specs.Memory.{Heap, Object, address_cmp, is_field, lists, field_value, value_in, with_value, with_object, with_field}
 use Rattle.aj_state.proofs.Addresses.{address_total, apart, alike, tied, differ}
 
 pub length-taken : (n : ℕ) (found ops : List Value) → length (taken n found ops) ≡ n + length found
@@ -33,8 +35,14 @@ module _ (P : Program) (heap : Heap) where
   pub value_in-with_field_other : (a b : Address) (index : ℕ) (v : Value) (f : ℕ) → b ≢ a → value_in P (with_field a index v heap) b f ≡ value_in P heap b f
   value_in-with_field_other a b index v f other = object_other a b _ (with_value index v) f other
 
-no_value : {A : Type 0} {x : A} → None ≡ Some x → ⊥
-no_value e = absurd cc
+-- the field that a class lists at an index is one
+pub listed_is : (x : ℕ) (o : Option ℕ) → is_field x o ≡ true → o ≡ Some x
+listed_is x None e = absurd cc
+listed_is x (Some y) e = ap Some (eqb-true y x e)
+
+pub lists_is : (c : Option Class) (i x : ℕ) → lists c i x ≡ true → (class : Class) × (c ≡ Some class) × (slice_get class.fields i ≡ Some x)
+lists_is None i x e = absurd cc
+lists_is (Some class) i x e = (class, refl, listed_is x (slice_get class.fields i) e)
 
 pub set_other : {A : Type 0} (xs : List A) (i j : ℕ) (x : A) → j ≢ i → slice_get (slice_set xs i x) j ≡ slice_get xs j
 set_other [] i j x other = refl
@@ -44,7 +52,7 @@ set_other (y ∷ ys) (suc i) zero x other = refl
 set_other (y ∷ ys) (suc i) (suc j) x other = set_other ys i j x (λ e. other (ap suc e))
 
 pub set_same : {A : Type 0} (xs : List A) (i : ℕ) (x y : A) → slice_get xs i ≡ Some y → slice_get (slice_set xs i x) i ≡ Some x
-set_same [] i x y e = absurd (no_value e)
+set_same [] i x y e = absurd (none-some y e)
 set_same (z ∷ zs) zero x y e = refl
 set_same (z ∷ zs) (suc i) x y e = set_same zs i x y e
 
@@ -54,7 +62,7 @@ value_other P f o field index v other = ap (λ x. if lists (slice_get P.classes 
 
 if_written : (t : Bool) (values : List Value) (i : ℕ) (old v : Value) → (if t then slice_get values i else None) ≡ Some old → (if t then slice_get (slice_set values i v) i else None) ≡ Some v
 if_written true values i old v e = set_same values i v old e
-if_written false values i old v e = absurd (no_value e)
+if_written false values i old v e = absurd (none-some old e)
 
 value_written : (P : Program) (f : ℕ) (o : Object) (field : Field) (old v : Value) → field_value P f (Some o) (Some field) ≡ Some old → field_value P f (Some (with_value field.index v o)) (Some field) ≡ Some v
 value_written P f o field old v e = if_written (lists (slice_get P.classes o.class) field.index f) o.values field.index old v e
@@ -76,7 +84,7 @@ module _ (P : Program) (heap : Heap) (f : ℕ) (field : Field) (is : slice_get P
       ] refl
 
   written_object : (a : Address) (old v : Value) → (found : Option Object) → M.get heap a ≡ found → value_in P heap a f ≡ Some old → value_in P (with_object a found (with_value field.index v) heap) a f ≡ Some v
-  written_object a old v None e has = absurd (no_value (sym (ap (λ x. field_value P f x (slice_get P.fields f)) e) ∙ has))
+  written_object a old v None e has = absurd (none-some old (sym (ap (λ x. field_value P f x (slice_get P.fields f)) e) ∙ has))
   written_object a old v (Some o) e has =
       ap (λ x. field_value P f x (slice_get P.fields f)) (get-insert_same heap a (with_value field.index v o))
       ∙ ap (field_value P f (Some (with_value field.index v o))) is

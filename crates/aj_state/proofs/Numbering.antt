@@ -38,15 +38,15 @@ module _ (p : Address → Bool) where
       let parts = not_found (eq_by_cmp address_cmp k e.0) e.1 (find address_cmp k es) none in
       by_order_new k o e es (address_cmp k e.0) parts.0 (count-put_new k o es parts.1)
 
-first_fact : (a b : Bool) → T (a && b) → a ≡ true
+pub first_fact : (a b : Bool) → T (a && b) → a ≡ true
 first_fact true b h = refl
 first_fact false b h = absurd h
 
-second_fact : (a b : Bool) → T (a && b) → T b
+pub second_fact : (a b : Bool) → T (a && b) → T b
 second_fact true b h = h
 second_fact false b h = absurd h
 
-less_is : (r : Ordering) → is_lt r ≡ true → r ≡ Less
+pub less_is : (r : Ordering) → is_lt r ≡ true → r ≡ Less
 less_is Less e = refl
 less_is Equal e = absurd cc
 less_is Greater e = absurd cc
@@ -83,7 +83,7 @@ none_is : (o : Option Object) → is_some o ≡ false → o ≡ None
 none_is None e = refl
 none_is (Some x) e = absurd cc
 
-not_less : (n : ℕ) → nat_lt n n ≡ false
+pub not_less : (n : ℕ) → nat_lt n n ≡ false
 not_less n = grind (arith, nat_tests)
 
 pub next_free : (heap : Heap) (t : ℕ) → IsNumbered heap → M.get heap (next_address t heap) ≡ None

@@ -3,7 +3,6 @@ use Rattle.std.proofs.Common.{◌≡◌, ◌++◌, ◌+◌, ◌-◌, ◌<◌, �
 use Rattle.std.specs.Prelude.{Some, None, T, map, count_by}
 use Rattle.std.specs.List.{filter, flat_map}
 use Rattle.std.specs.Ordering.{is_lt, is_eq}
-use Rattle.std.specs.declared.cmp.Ordering.{Ordering}
 use Rattle.std.specs.declared.cmp.Ordering.TheVariants.{Less, Equal, Greater}
 use Rattle.std.specs.FinMap.{find, is_sorted}
 use Rattle.std.specs.FinMap.Entries.{below_all}
@@ -14,6 +13,7 @@ use Rattle.std.proofs.lemmas.Bool.Decides.{nat_tests}
 use Rattle.aj_state.specs.declared.value.Address.{Address}
 use Rattle.aj_state.specs.Memory.{address_cmp}
 use Rattle.aj_state.proofs.Addresses.{address_total, address_exact, address_itself}
+use Rattle.aj_state.proofs.Numbering.{less_is, first_fact, second_fact}
 use Rattle.aj_state_report.specs.Entries.{of_thread, entry_at}
 
 -- Tests on numbers of addresses.
@@ -34,24 +34,6 @@ own_count t n = grind (arith, nat_tests)
 next_count : (t n : ℕ) → ((t == t) && nat_le (n + 1) n) ≡ false
 next_count t n = grind (arith, nat_tests)
 
-less_or_not : (o : Ordering) → is_lt o ≡ true → is_eq o ≡ false
-less_or_not Less e = refl
-less_or_not Equal e = absurd cc
-less_or_not Greater e = absurd cc
-
-less_is : (o : Ordering) → is_lt o ≡ true → o ≡ Less
-less_is Less e = refl
-less_is Equal e = absurd cc
-less_is Greater e = absurd cc
-
-first_of : (a b : Bool) → T (a && b) → a ≡ true
-first_of true b h = refl
-first_of false b h = absurd h
-
-second_of : (a b : Bool) → T (a && b) → T b
-second_of true b h = h
-second_of false b h = absurd h
-
 both_of : (a b : Bool) → a ≡ true → T b → T (a && b)
 both_of true b e h = h
 both_of false b e h = absurd cc
@@ -67,27 +49,27 @@ module _ {X : Type 0} where
   below_more : (a k : Address) (es : List (Address × X)) → address_cmp a k ≡ Less → T (below_all address_cmp k es) → T (below_all address_cmp a es)
   below_more a k [] less h = tt
   below_more a k (e ∷ es) less h =
-      both_of (is_lt (address_cmp a e.0)) (below_all address_cmp a es) (ap is_lt (address_total.trans a k e.0 less (less_is (address_cmp k e.0) (first_of (is_lt (address_cmp k e.0)) (below_all address_cmp k es) h))))
-      (below_more a k es less (second_of (is_lt (address_cmp k e.0)) (below_all address_cmp k es) h))
+      both_of (is_lt (address_cmp a e.0)) (below_all address_cmp a es) (ap is_lt (address_total.trans a k e.0 less (less_is (address_cmp k e.0) (first_fact (is_lt (address_cmp k e.0)) (below_all address_cmp k es) h))))
+      (below_more a k es less (second_fact (is_lt (address_cmp k e.0)) (below_all address_cmp k es) h))
 
   -- entries behind an address
   none_found : (a : Address) (es : List (Address × X)) → T (below_all address_cmp a es) → find address_cmp a es ≡ None
   none_found a [] h = refl
   none_found a (e ∷ es) h =
-      ap (λ (b : Bool). cond b (Some e.1) (find address_cmp a es)) (less_or_not (address_cmp a e.0) (first_of (is_lt (address_cmp a e.0)) (below_all address_cmp a es) h))
-      ∙ none_found a es (second_of (is_lt (address_cmp a e.0)) (below_all address_cmp a es) h)
+      ap (λ (b : Bool). cond b (Some e.1) (find address_cmp a es)) (ap is_eq (less_is (address_cmp a e.0) (first_fact (is_lt (address_cmp a e.0)) (below_all address_cmp a es) h)))
+      ∙ none_found a es (second_fact (is_lt (address_cmp a e.0)) (below_all address_cmp a es) h)
 
   row_behind : (a : Address) (es : List (Address × X)) → T (below_all address_cmp a es) → row_from a.thread a.count es ≡ row_from a.thread (a.count + 1) es
   row_behind a [] h = refl
-  row_behind a (e ∷ es) h = λ i. cond (less_count a e.0 (first_of (is_lt (address_cmp a e.0)) (below_all address_cmp a es) h) i)
-      (e ∷ row_behind a es (second_of (is_lt (address_cmp a e.0)) (below_all address_cmp a es) h) i)
-      (row_behind a es (second_of (is_lt (address_cmp a e.0)) (below_all address_cmp a es) h) i)
+  row_behind a (e ∷ es) h = λ i. cond (less_count a e.0 (first_fact (is_lt (address_cmp a e.0)) (below_all address_cmp a es) h) i)
+      (e ∷ row_behind a es (second_fact (is_lt (address_cmp a e.0)) (below_all address_cmp a es) h) i)
+      (row_behind a es (second_fact (is_lt (address_cmp a e.0)) (below_all address_cmp a es) h) i)
 
   none_of : (t : ℕ) (k : Address) (es : List (Address × X)) → t < k.thread → T (below_all address_cmp k es) → of_thread t es ≡ []
   none_of t k [] less h = refl
   none_of t k (e ∷ es) less h =
-      ap (λ (b : Bool). cond b (e ∷ of_thread t es) (of_thread t es)) (other t e.0.thread (let low = less_thread k e.0 (first_of (is_lt (address_cmp k e.0)) (below_all address_cmp k es) h) in omega (arith, less, low)))
-      ∙ none_of t k es less (second_of (is_lt (address_cmp k e.0)) (below_all address_cmp k es) h)
+      ap (λ (b : Bool). cond b (e ∷ of_thread t es) (of_thread t es)) (other t e.0.thread (let low = less_thread k e.0 (first_fact (is_lt (address_cmp k e.0)) (below_all address_cmp k es) h) in omega (arith, less, low)))
+      ∙ none_of t k es less (second_fact (is_lt (address_cmp k e.0)) (below_all address_cmp k es) h)
     where
       other : (t u : ℕ) → t < u → (u == t) ≡ false
       other t u less = grind (arith, nat_tests)
@@ -110,13 +92,13 @@ module _ {X : Type 0} where
         | Greater ↦ λ greater.
             let before : is_lt (address_cmp e.0 a) ≡ true = flipped a e.0 greater in
             ap (λ (b : Bool). cond b (e ∷ row_from a.thread a.count es) (row_from a.thread a.count es)) (more_count a e.0 a.count (omega arith) before)
-            ∙ row_step a es (second_of (below_all address_cmp e.0 es) (is_sorted address_cmp es) sorted)
+            ∙ row_step a es (second_fact (below_all address_cmp e.0 es) (is_sorted address_cmp es) sorted)
             ∙ ap (λ o. entry_at a o ++ row_from a.thread (a.count + 1) es) (sym (ap (λ o. cond (is_eq o) (Some e.1) (find address_cmp a es)) greater))
             ∙ ap (λ l. entry_at a (find address_cmp a (e ∷ es)) ++ l) (sym (ap (λ (b : Bool). cond b (e ∷ row_from a.thread (a.count + 1) es) (row_from a.thread (a.count + 1) es)) (more_count a e.0 (a.count + 1) (omega arith) before)))
       ] refl
     where
       behind : T (below_all address_cmp e.0 es)
-      behind = subst T (sym (first_of (below_all address_cmp e.0 es) (is_sorted address_cmp es) sorted)) tt
+      behind = subst T (sym (first_fact (below_all address_cmp e.0 es) (is_sorted address_cmp es) sorted)) tt
 
       flipped : (x y : Address) → address_cmp x y ≡ Greater → is_lt (address_cmp y x) ≡ true
       flipped x y greater = grind (arith, nat_tests)
@@ -126,10 +108,10 @@ module _ {X : Type 0} where
   rows_step t [] sorted = refl
   rows_step t (e ∷ es) sorted =
       by (nat_le t e.0.thread) (e.0.thread == t) (nat_le (t + 1) e.0.thread) refl refl refl
-      (rows_step t es (second_of (below_all address_cmp e.0 es) (is_sorted address_cmp es) sorted))
+      (rows_step t es (second_fact (below_all address_cmp e.0 es) (is_sorted address_cmp es) sorted))
     where
       behind : T (below_all address_cmp e.0 es)
-      behind = subst T (sym (first_of (below_all address_cmp e.0 es) (is_sorted address_cmp es) sorted)) tt
+      behind = subst T (sym (first_fact (below_all address_cmp e.0 es) (is_sorted address_cmp es) sorted)) tt
 
       not_less : (t u : ℕ) → nat_le t u ≡ false → (u == t) ≡ true → ⊥
       not_less t u e f = grind (arith, nat_tests)

@@ -7,16 +7,13 @@ use Rattle.aj_compile.specs.declared.stack.Code.{Code}
 use Rattle.aj_core.specs.Core.{Program}
 use Rattle.aj_machine.specs.Likeness.{FramesStand, no_frames, more_frames, ThreadStands, ready_stands, running_stands, done_stands, faulted_stands, ThreadsStand, no_threads, more_threads, StateStands}
 use Rattle.aj_machine.specs.MachineValue.{code_state}
+use Rattle.aj_machine.proofs.Simulation.{as_high}
 use Rattle.aj_state.specs.declared.value.ThreadState.TheVariants as status
 use Rattle.aj_state.specs.Frames.{CodeFrame, CellFrame, code_frame, code_thread, first_frame}
 use Rattle.aj_state.specs.States.{Frame, ThreadOf, Ready, Running, Done, Faulted, StateOf}
 use Rattle.aj_state_report.specs.States.{sight_of, print_line, object_line, lock_line, threads_text, text_of, state_text}
 
 -- frames that stand for frames are as many, and have the same methods
-same_length : (P : Program) (code : List Code) (fs : List CodeFrame) (gs : List Frame) → FramesStand P code fs gs → length fs ≡ length gs
-same_length P code _ _ no_frames = refl
-same_length P code _ _ (more_frames f work fs gs left stand) = let more = same_length P code fs gs stand in omega (arith, more)
-
 same_top : (P : Program) (code : List Code) (fs : List CodeFrame) (gs : List Frame) → FramesStand P code fs gs → option_map (λ f. f.method) (first_frame fs) ≡ option_map (λ f. f.method) (first_frame gs)
 same_top P code _ _ no_frames = refl
 same_top P code _ _ (more_frames f work fs gs left stand) = refl
@@ -25,9 +22,9 @@ same_sight : (P : Program) (code : List Code) (c : ThreadOf CodeFrame) (t : Thre
 same_sight P code _ _ (ready_stands a m) = refl
 same_sight P code _ _ done_stands = refl
 same_sight P code _ _ (running_stands fs gs stand) =
-    λ i. record { status = status.Running; method = same_top P code fs gs stand i; frames = same_length P code fs gs stand i }
+    λ i. record { status = status.Running; method = same_top P code fs gs stand i; frames = as_high P code fs gs stand i }
 same_sight P code _ _ (faulted_stands kind fs gs stand) =
-    λ i. record { status = status.Faulted kind; method = same_top P code fs gs stand i; frames = same_length P code fs gs stand i }
+    λ i. record { status = status.Faulted kind; method = same_top P code fs gs stand i; frames = as_high P code fs gs stand i }
 
 same_sights : (P : Program) (code : List Code) (cs : List (ThreadOf CodeFrame)) (ts : List (ThreadOf Frame)) → ThreadsStand P code cs ts → map (sight_of (λ f. f.method)) cs ≡ map (sight_of (λ f. f.method)) ts
 same_sights P code _ _ no_threads = refl

@@ -2,6 +2,7 @@
 use Rattle.std.proofs.Common.{◌≡◌, inl, inr, ℕ, zero, suc, ◌+◌, ◌<◌, ◌≤◌, Bool, true, false, List, [], ◌∷◌, ◌++◌, length, Some, None, refl, sym, ap, subst, ◌∙◌, arith}
 use Rattle.std.specs.Prelude.{Option, slice_get, Contains, nat_le, if◌then◌else◌}
 use Rattle.std.proofs.lemmas.Option.{same_Some}
+use Rattle.aj_lemmas.proofs.Lists.{contains_cases}
 use Rattle.aj_paths.specs.Paths.{PathData, extended_some, most_fields}
 use Rattle.aj_paths.specs.Renamings.{argument_at, passed}
 use Rattle.aj_algebra.specs.HeldPaths.{has_path}
@@ -18,7 +19,7 @@ use Rattle.aj_rules.specs.Near.{Near, required, locked, guarded, called, named, 
 use Rattle.aj_rules.proofs.NearOnly.{rel_is}
 use Rattle.aj_core.specs.Core as core
 use Rattle.aj_safe.specs.Fits.{stores}
-use Rattle.aj_tidy.proofs.Scopes.{Fixed, Scope, scope_more, scope_local, fixed_by, contains_cases, final_stays}
+use Rattle.aj_tidy.proofs.Scopes.{Fixed, Scope, scope_more, scope_local, fixed_by, final_stays}
 
 -- a root that is a parameter's slot or that of `this` is fixed
 abbrev pub Good : List Variable → ℕ → ℕ → Type 0

@@ -1,8 +1,9 @@
 -- Variables in scope: slots are numbered in order of declaration, so a final one isn't stored again.
-use Rattle.std.proofs.Common.{◌≡◌, ◌⊎◌, inl, inr, ℕ, zero, suc, ◌+◌, ◌<◌, Bool, true, false, ◌&&◌, ◌||◌, ◌==◌, List, [], ◌∷◌, Some, None, refl, sym, ap, ◌∙◌, arith}
+use Rattle.std.proofs.Common.{◌≡◌, inl, inr, ℕ, zero, suc, ◌+◌, ◌<◌, Bool, true, false, ◌&&◌, ◌||◌, ◌==◌, List, [], ◌∷◌, Some, None, refl, sym, ap, ◌∙◌, arith}
 use Rattle.std.specs.Prelude.{Option, slice_get, Contains}
 use Rattle.std.specs.List.{list_all}
 use Rattle.std.proofs.lemmas.Bool.Decides.{nat_tests}
+use Rattle.aj_lemmas.proofs.Lists.{contains_cases}
 use Rattle.aj_core.specs.declared.types.CoreType.{CoreType}
 use Rattle.aj_core.specs.declared.types.CoreType.TheVariants as type
 use Rattle.aj_core.specs.Core.{Program, Expr, Stmt, Stmts, EmptyS, BlockS, LocalS, SetVarS, SetFieldS, DoS, IfS, WhileS, SyncS, ReturnS, PrintS, StartS, no_stmts, and_stmt}
@@ -13,14 +14,6 @@ use Rattle.aj_safe.specs.Fits.{valued, stores, stores_each, Apart, TidyE, TidyS,
 use Rattle.aj_tidy.proofs.Typing.{valued_is, gives_is, typed_tidy, fits_gives}
 
 -- Variables by slot.
-
--- what holds of each variable of a list holds of each that it contains
-pub contains_cases : {A : Type 0} (y x : A) (ys : List A) → Contains (y ∷ ys) x → (y ≡ x) ⊎ Contains ys x
-contains_cases y x ys (zero, below, is) = inl is
-contains_cases y x ys (suc k, below, is) = inr (k, omega arith, is)
-
-pub contains_later : {A : Type 0} (y x : A) (ys : List A) → Contains ys x → Contains (y ∷ ys) x
-contains_later y x ys (k, below, is) = (suc k, omega arith, is)
 
 -- the variables in this slot are final
 abbrev pub Fixed : ℕ → List Variable → Type 0

@@ -1,6 +1,7 @@
 -- Accesses to fields: their kind is one that the phase admits, since a guard that the rules count as held is held.
 use Rattle.std.proofs.Common.{◌≡◌, ℕ, Bool, true, false, List, [], ◌∷◌, ◌++◌, Some, None, refl, sym, ap, subst, ◌∙◌}
 use Rattle.std.specs.Prelude.{Option, slice_get, if◌then◌else◌}
+use Rattle.aj_lemmas.proofs.Options.{then_parts}
 use Rattle.aj_paths.specs.Paths.{PathData, extended_some}
 use Rattle.aj_algebra.specs.declared.basic.Basic.{Basic}
 use Rattle.aj_algebra.specs.declared.basic.Basic.TheVariants.{Mover, Atomic, Error}
@@ -19,7 +20,7 @@ use Rattle.aj_steps.specs.Step.{Shared, guarded_kind, next_at, followed, holds, 
 use Rattle.aj_safe.specs.Phases.{Phase, Passes, allowed, stepped, freed, Falls}
 use Rattle.aj_safe.specs.Leads.{Env, memory_of, next_value, lead_from, lead, Sound, LeadsTo}
 use Rattle.aj_safe.proofs.PhaseLemmas.{const_stays, mover_stays, atomic_stays, no_error, both_allowed, atomic_allows, freed_rises}
-use Rattle.aj_safe.proofs.LeadLemmas.{then_parts, then_of, leads_from}
+use Rattle.aj_safe.proofs.LeadLemmas.{then_of, leads_from}
 use Rattle.aj_safe.proofs.SetLemmas.{extended_is, holds_some}
 
 -- what the rules ask of an access to a guarded field, by whether they count the guard as held

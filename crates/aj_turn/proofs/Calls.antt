@@ -3,6 +3,7 @@ use Rattle.std.proofs.Common.{◌≡◌, ℕ, zero, suc, ◌+◌, Bool, true, fa
 use Rattle.std.specs.Prelude.{Option, slice_get, unwrap_or, nat_lt, length, replicate, ◌-◌, if◌then◌else◌}
 use Rattle.std.specs.List.{list_all}
 use Rattle.std.proofs.lemmas.Bool.{and_parts}
+use Rattle.aj_lemmas.proofs.Lists.{at_left}
 use Rattle.aj_paths.specs.Paths.{PathData, path_eq, extended, extended_some}
 use Rattle.aj_paths.specs.Renamings.{argument_at, passed, under_call}
 use Rattle.aj_paths.proofs.PathOrder.{eq_is}
@@ -31,7 +32,6 @@ use Rattle.aj_safe.proofs.PhaseLemmas.{passes_falls, no_error, both_allowed}
 use Rattle.aj_safe.proofs.LeadLemmas.{grows_itself, each_top, each_under, each_dropped, aligned_taken, aligned_at, leads_from}
 use Rattle.aj_safe.proofs.SetLemmas.{extended_is, holds_some}
 use Rattle.aj_turn.specs.Turn.{Accepted, Fine}
-use Rattle.aj_turn.proofs.FrameLemmas.{found_before}
 use Rattle.aj_turn.proofs.Actions.{fault_fine, list_falls, address_is}
 
 held_here : (H : Held) (p q : PathData) (b later : Bool) → path_eq p q ≡ b → H p ≡ true → (later ≡ true → H q ≡ true) → (b || later) ≡ true → H q ≡ true
@@ -92,7 +92,7 @@ module _ (P : Program) (h : Memory) (slots : Env) (method : Method) (this : Valu
   root_value zero r is = (this, refl, receiver_leads receiver r is leads)
   root_value (suc k) r is =
       let at = aligned_at P h slots args values k r aligned (argument_is (slice_get args k) r is) in
-      (at.0, ap (λ o. unwrap_or o value.Null) (found_before values (replicate (method.slots - length (this ∷ values)) (value.Int (Rattle.std.specs.Prelude.pos 0))) k at.0 at.1), at.2)
+      (at.0, ap (λ o. unwrap_or o value.Null) (at_left values (replicate (method.slots - length (this ∷ values)) (value.Int (Rattle.std.specs.Prelude.pos 0))) k at.0 at.1), at.2)
 
   module _ (rel : List PathData) (H : Held) (held : Address → Bool) (sound : Sound P h slots H held) where
     -- what a path of the callee's set leads to, its name in the caller leads to

@@ -1,8 +1,9 @@
 -- Frames: in smaller phases and grown memories, counts of releases, slots and objects.
-use Rattle.std.proofs.Common.{◌≡◌, ◌≢◌, ℕ, zero, suc, ◌+◌, Bool, true, false, ◌||◌, ◌==◌, List, [], ◌∷◌, ◌++◌, Some, None, refl, sym, ap, ◌∙◌, arith}
+use Rattle.std.proofs.Common.{◌≡◌, ◌≢◌, ℕ, ◌+◌, Bool, true, false, ◌||◌, ◌==◌, List, [], ◌∷◌, Some, None, refl, sym, ap, ◌∙◌, arith}
 use Rattle.std.specs.Prelude.{Option, slice_get, slice_set, unwrap_or, nat_lt, if◌then◌else◌}
 use Rattle.std.proofs.lemmas.Bool.Decides.{nat_tests}
 use Rattle.std.proofs.lemmas.Bool.{eqb-true, and_parts}
+use Rattle.aj_lemmas.proofs.Options.{if_taken}
 use Rattle.aj_core.specs.Core as core
 use Rattle.aj_core.specs.Core.{Program}
 use Rattle.aj_core.specs.Locks.{leads_on}
@@ -10,8 +11,8 @@ use Rattle.aj_state.specs.declared.value.Address.{Address}
 use Rattle.aj_state.specs.declared.value.Value.{Value}
 use Rattle.aj_state.specs.declared.value.Value.TheVariants as value
 use Rattle.aj_state.specs.Values.{address_eq}
-use Rattle.aj_state.specs.Memory.{Object, is_field, lists, field_value, with_value}
-use Rattle.aj_state.proofs.MemoryLemmas.{set_other, set_same}
+use Rattle.aj_state.specs.Memory.{Object, lists, field_value, with_value}
+use Rattle.aj_state.proofs.MemoryLemmas.{lists_is, set_other, set_same}
 use Rattle.aj_state.specs.Work as W
 use Rattle.aj_state.specs.Work.{Item, Ex, St, Act}
 use Rattle.aj_state.specs.States.{Frame}
@@ -74,24 +75,7 @@ slot_at slots x y v old is false other = ap (λ o. unwrap_or o value.Null) (set_
 pub stored : (slots : List Value) (x : ℕ) (v old : Value) → slice_get slots x ≡ Some old → env_of (slice_set slots x v) ≡ with_slot (env_of slots) x v
 stored slots x v old is = λ i y. slot_at slots x y v old is (x == y) refl i
 
-pub found_before : {A : Type 0} (xs ys : List A) (k : ℕ) (x : A) → slice_get xs k ≡ Some x → slice_get (xs ++ ys) k ≡ Some x
-found_before [] ys k x e = absurd cc
-found_before (z ∷ zs) ys zero x e = e
-found_before (z ∷ zs) ys (suc k) x e = found_before zs ys k x e
-
 -- Objects.
-
-some_field : (f : ℕ) (o : Option ℕ) → is_field f o ≡ true → o ≡ Some f
-some_field f None e = absurd cc
-some_field f (Some g) e = ap Some (eqb-true g f e)
-
-if_taken : {A : Type 0} (b : Bool) (o : Option A) (x : A) → (if b then o else None) ≡ Some x → (b ≡ true) × (o ≡ Some x)
-if_taken true o x e = (refl, e)
-if_taken false o x e = absurd cc
-
-listed : (P : Program) (c : Option core.Class) (index f : ℕ) → lists c index f ≡ true → (class : core.Class) × (c ≡ Some class) × (slice_get class.fields index ≡ Some f)
-listed P None index f e = absurd cc
-listed P (Some class) index f e = (class, refl, some_field f (slice_get class.fields index) e)
 
 final_leads : (x : core.Field) → leads_on (Some x) ≡ true → x.is_final ≡ true
 final_leads x e = (and_parts x.is_final _ e).0
@@ -100,8 +84,8 @@ module _ (P : Program) where
   -- the fields of one object at one place are one
   pub one_field : (o : Object) (f g : ℕ) (x y : core.Field) (v w : Value) → field_value P f (Some o) (Some x) ≡ Some v → field_value P g (Some o) (Some y) ≡ Some w → x.index ≡ y.index → f ≡ g
   one_field o f g x y v w first second same =
-      let a = listed P (slice_get P.classes o.class) x.index f (if_taken (lists (slice_get P.classes o.class) x.index f) (slice_get o.values x.index) v first).0 in
-      let b = listed P (slice_get P.classes o.class) y.index g (if_taken (lists (slice_get P.classes o.class) y.index g) (slice_get o.values y.index) w second).0 in
+      let a = lists_is (slice_get P.classes o.class) x.index f (if_taken (lists (slice_get P.classes o.class) x.index f) (slice_get o.values x.index) v first).0 in
+      let b = lists_is (slice_get P.classes o.class) y.index g (if_taken (lists (slice_get P.classes o.class) y.index g) (slice_get o.values y.index) w second).0 in
       let class : a.0 ≡ b.0 = some_same (sym a.1 ∙ b.1) in
       some_same (sym a.2 ∙ ap (λ n. slice_get a.0.fields n) same ∙ ap (λ (c : core.Class). slice_get c.fields y.index) class ∙ b.2)
     where

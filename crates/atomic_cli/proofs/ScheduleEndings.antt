@@ -1,11 +1,9 @@
 -- Which ending comes for the answer to a row on a schedule.
-use Rattle.std.proofs.Common.{◌≡◌, ◌≢◌, ℕ, List, [], ◌∷◌, ◌++◌, Some, None, zero, suc, true, false, is_some, take, drop, slice_get, option_and_then, refl, sym, subst, ap, ◌∙◌}
+use Rattle.std.proofs.Common.{◌≡◌, ℕ, List, [], ◌∷◌, ◌++◌, Some, None, zero, suc, true, false, is_some, take, drop, slice_get, option_and_then, refl, sym, subst, ap, ◌∙◌}
 use Rattle.aj_core.specs.Core.{Program}
-use Rattle.aj_machine.specs.declared.machine.StepEnd.{StepEnd}
-use Rattle.aj_machine.specs.declared.machine.StepEnd.TheVariants as ends
 use Rattle.aj_machine.specs.declared.machine.Stopped.{Stopped}
-use Rattle.aj_machine.specs.Reasons.{IsReason}
 use Rattle.aj_machine.specs.Standing.{IsStopped}
+use Rattle.aj_machine.proofs.Schedules.{no_step}
 use Rattle.aj_rules.specs.Rules.{IsAccepted}
 use Rattle.aj_schedule.proofs.UniqueLemmas.{one_schedule, schedule_or_form, schedule_or_long}
 use Rattle.aj_sources.specs.declared.refusal.Ending.{Ending}
@@ -13,7 +11,7 @@ use Rattle.aj_sources.specs.declared.refusal.Ending.TheVariants as ending
 use Rattle.aj_sources.specs.Facts.{IsNotWellFormed, IsAcceptedSource, RefusedAs}
 use Rattle.aj_sources.proofs.Apart.{same_core, no_source_is_none, no_source_ends, no_accepted_is, accepted_or_none}
 use Rattle.aj_state.specs.States.{State, initial}
-use Rattle.aj_steps.specs.Step.{Outcome, Moves, Absent, IsDone, HadFaulted, Waits, outcome, step, state_after}
+use Rattle.aj_steps.specs.Step.{outcome, step}
 use Rattle.aj_steps.specs.Run.{run, run_from, Runs, open_thread}
 use Rattle.aj_steps.proofs.RunLemmas.{run_from-append}
 use Rattle.aj_syntax.specs.Trees.{ProgramTree}
@@ -27,14 +25,6 @@ split_at [] zero t e = absurd (let f : false ≡ true = ap is_some e in cc)
 split_at [] (suc place) t e = absurd (let f : false ≡ true = ap is_some e in cc)
 split_at (x ∷ s) zero t e = let same : x ≡ t = cc in ap (λ z. z ∷ s) same
 split_at (x ∷ s) (suc place) t e = ap (λ z. x ∷ z) (split_at s place t e)
-
--- an outcome with another reason than want of memory is no step
-no_step : (q : State) (t : ℕ) (why : StepEnd) (o : Outcome) → IsReason why o → why ≢ ends.NoMemory → state_after q t o ≡ None
-no_step q t why (Moves move) is not = absurd (not is)
-no_step q t why Absent is not = refl
-no_step q t why IsDone is not = refl
-no_step q t why (HadFaulted kind) is not = refl
-no_step q t why (Waits a holder) is not = refl
 
 -- a schedule that stops doesn't run
 stops_no_run : (P : Program) (s : List ℕ) (at : Stopped) → IsStopped P (initial P) s at → Runs P s → ⊥

@@ -1,0 +1,4 @@
+-- General lemmas, which crates above cite.
+pub mod Lists
+pub mod Options
+pub mod Digits

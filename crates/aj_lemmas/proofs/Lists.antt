@@ -1,0 +1,43 @@
+-- Lists, one after the other, and from a place on.
+use Rattle.std.proofs.Common.{◌≡◌, ℕ, zero, suc, ◌+◌, ◌<◌, List, [], ◌∷◌, ◌++◌, length, drop, get_or, Some, Contains, refl, sym, ap, ◌∙◌, ◌⊎◌, inl, inr, arith}
+use Rattle.std.specs.Prelude.{slice_get}
+use Rattle.std.proofs.lemmas.List.{drop_more}
+use Rattle.std.proofs.lemmas.Option.{slice_get_within}
+
+-- a place of the first list
+pub get_left : {A : Type 0} (xs ys : List A) (k : ℕ) → k < length xs → slice_get (xs ++ ys) k ≡ slice_get xs k
+get_left [] ys k below = absurd (omega arith)
+get_left (x ∷ xs) ys zero below = refl
+get_left (x ∷ xs) ys (suc k) below = get_left xs ys k (omega arith)
+
+-- what stands in the first list stands there in both
+pub at_left : {A : Type 0} (xs ys : List A) (k : ℕ) (x : A) → slice_get xs k ≡ Some x → slice_get (xs ++ ys) k ≡ Some x
+at_left xs ys k x is = get_left xs ys k (slice_get_within xs k x is) ∙ is
+
+-- a place of the second list
+pub get_right : {A : Type 0} (xs ys : List A) (k : ℕ) → slice_get (xs ++ ys) (length xs + k) ≡ slice_get ys k
+get_right {A = A} [] ys k = let e : length {A = A} [] + k ≡ k = omega arith in ap (slice_get ys) e
+get_right (x ∷ xs) ys k = let e : suc (length xs) + k ≡ suc (length xs + k) = omega arith in ap (slice_get (x ∷ (xs ++ ys))) e ∙ get_right xs ys k
+
+-- the last of a list
+pub get_last : {A : Type 0} (xs : List A) (x : A) → slice_get (xs ++ (x ∷ [])) (length xs) ≡ Some x
+get_last [] x = refl
+get_last (y ∷ xs) x = get_last xs x
+
+-- an item at a place within
+pub get_below : {A : Type 0} (xs : List A) (k : ℕ) → k < length xs → (x : A) × (slice_get xs k ≡ Some x)
+get_below [] k below = absurd (omega arith)
+get_below (x ∷ xs) zero below = (x, refl)
+get_below (x ∷ xs) (suc k) below = get_below xs k (omega arith)
+
+-- the item at a place, and those after it
+pub next_drop : {A : Type 0} (xs : List A) (k : ℕ) (x : A) → k < length xs → x ≡ get_or xs k x → drop k xs ≡ x ∷ drop (k + 1) xs
+next_drop xs k x below is = drop_more xs k x below ∙ ap (λ y. y ∷ drop (k + 1) xs) (sym is)
+
+-- what a list contains is its first item or one of the others
+pub contains_cases : {A : Type 0} (x y : A) (xs : List A) → Contains (x ∷ xs) y → (x ≡ y) ⊎ Contains xs y
+contains_cases x y xs (zero, below, is) = inl is
+contains_cases x y xs (suc k, below, is) = inr (k, omega arith, is)
+
+pub contains_later : {A : Type 0} (x y : A) (xs : List A) → Contains xs y → Contains (x ∷ xs) y
+contains_later x y xs (k, below, is) = (suc k, omega arith, is)

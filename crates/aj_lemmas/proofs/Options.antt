@@ -1,0 +1,13 @@
+-- Options that hang on others or on tests.
+use Rattle.std.proofs.Common.{◌≡◌, Bool, true, false, Option, Some, None, refl}
+use Rattle.std.specs.Prelude.{option_and_then, if◌then◌else◌}
+use Rattle.std.proofs.lemmas.Option.{option_and_then_some}
+
+-- what is found from an option, and is there
+pub then_parts : {A B : Type 0} (f : A → Option B) (o : Option A) (b : B) → option_and_then f o ≡ Some b → (a : A) × (o ≡ Some a) × (f a ≡ Some b)
+then_parts f o b e = option_and_then_some f o b e (λ a is to. (a, is, to))
+
+-- what is there under a test
+pub if_taken : {A : Type 0} (b : Bool) (o : Option A) (x : A) → (if b then o else None) ≡ Some x → (b ≡ true) × (o ≡ Some x)
+if_taken true o x e = (refl, e)
+if_taken false o x e = absurd cc

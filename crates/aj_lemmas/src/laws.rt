@@ -1,0 +1,27 @@
+// Laws of std's words.
+ghost use Rattle.std.specs.Prelude.{◌≡◌, ◌<◌, ◌≤◌, ◌+◌, ◌-◌, ◌⊎◌, ◌++◌, ℕ, Bool, true, List, [], ◌∷◌, length, drop, get_or, Contains, Option, Some, None, option_and_then, slice_get, if◌then◌else◌};
+ghost use Rattle.std.specs.Char.{is_ascii_digit, digit_value};
+
+/// A place of two lists, one after the other, is one of the first or one of the second; a list from a place on is the item
+/// there and those after it.
+pub fn list_laws<T>()
+    ensures left { (xs ys : List T) (k : ℕ) → k < length xs → slice_get (xs ++ ys) k ≡ slice_get xs k }
+    ensures right { (xs ys : List T) (k : ℕ) → slice_get (xs ++ ys) (length xs + k) ≡ slice_get ys k }
+    ensures last { (xs : List T) (x : T) → slice_get (xs ++ (x ∷ [])) (length xs) ≡ Some x }
+    ensures found { (xs ys : List T) (k : ℕ) (x : T) → slice_get xs k ≡ Some x → slice_get (xs ++ ys) k ≡ Some x }
+    ensures below { (xs : List T) (k : ℕ) → k < length xs → (x : T) × (slice_get xs k ≡ Some x) }
+    ensures next { (xs : List T) (k : ℕ) (x : T) → k < length xs → x ≡ get_or xs k x → drop k xs ≡ x ∷ drop (k + 1) xs }
+    ensures cases { (x y : T) (xs : List T) → Contains (x ∷ xs) y → (x ≡ y) ⊎ Contains xs y }
+    ensures later { (x y : T) (xs : List T) → Contains xs y → Contains (x ∷ xs) y }
+{}
+
+/// What is there of two options, one found from the other or under a test, comes from both.
+pub fn option_laws<T, U>()
+    ensures both { (f : T → Option U) (o : Option T) (y : U) → option_and_then f o ≡ Some y → (x : T) × (o ≡ Some x) × (f x ≡ Some y) }
+    ensures taken { (b : Bool) (o : Option T) (x : T) → (if b then o else None) ≡ Some x → (b ≡ true) × (o ≡ Some x) }
+{}
+
+/// A digit is worth how far it stands from `0`.
+pub fn digit_laws()
+    ensures worth { (d : ℕ) → is_ascii_digit d ≡ true → digit_value d ≡ d - 48 }
+{}
