@@ -1,5 +1,5 @@
 -- The tokens of a tree at other offsets are related by the grammar to a tree that differs in offsets alone.
-use Rattle.std.proofs.Common.{◌≡◌, ℕ, suc, ◌+◌, Bool, true, false, List, [], ◌∷◌, ◌++◌, map, Option, Some, None, inl, refl, ap, ap₂, sym, ◌∙◌, subst}
+use Rattle.std.proofs.Common.{◌≡◌, ℕ, suc, Bool, true, false, List, [], ◌∷◌, ◌++◌, map, Option, Some, None, inl, refl, ap, ap₂, sym, ◌∙◌, subst}
 use Rattle.std.specs.Option.{option_map}
 use Rattle.aj_lexer.specs.declared.tokens.Token.{Token}
 use Rattle.aj_syntax.specs.declared.terminal.Terminal.TheVariants as T

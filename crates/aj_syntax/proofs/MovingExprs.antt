@@ -1,5 +1,5 @@
 -- The tokens of an expression, a type or a lock at other offsets are related by the grammar to one that differs in offsets alone.
-use Rattle.std.proofs.Common.{◌≡◌, ℕ, suc, ◌+◌, ◌<◌, ◌≤◌, Bool, true, false, List, [], ◌∷◌, ◌++◌, map, Option, Some, None, refl, ap, ap₂, sym, ◌∙◌, subst, arith, decimal}
+use Rattle.std.proofs.Common.{◌≡◌, ℕ, suc, ◌<◌, ◌≤◌, Bool, true, false, List, [], ◌∷◌, ◌++◌, map, Option, Some, None, refl, ap, ap₂, sym, ◌∙◌, subst, arith, decimal}
 use Rattle.std.specs.Option.{option_map}
 use Rattle.aj_lexer.specs.declared.tokens.Token.{Token}
 use Rattle.aj_lexer.specs.Limits.{greatest_literal}

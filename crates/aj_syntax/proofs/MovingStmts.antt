@@ -1,5 +1,5 @@
 -- The tokens of a statement at other offsets are related by the grammar to one that differs in offsets alone.
-use Rattle.std.proofs.Common.{◌≡◌, suc, ◌+◌, false, List, [], ◌∷◌, ◌++◌, Some, None, refl, ap, ap₂, ◌∙◌, subst}
+use Rattle.std.proofs.Common.{◌≡◌, suc, false, List, [], ◌∷◌, ◌++◌, Some, None, refl, ap, ap₂, ◌∙◌, subst}
 use Rattle.aj_lexer.specs.declared.tokens.Token.{Token}
 use Rattle.aj_syntax.specs.declared.terminal.Terminal.TheVariants as T
 use Rattle.aj_syntax.specs.Grammar.{is_local, open_if, offset, SpellsStmt, SpellsStmts}

@@ -9,7 +9,7 @@ ghost use Rattle.aj_syntax.specs.Grammar.{Grammar, sign_of};
 ghost use Rattle.aj_syntax.specs.Reprinted.{ReadsBack};
 ghost use Rattle.aj_syntax.specs.Layout.{Fixed, put, writes};
 ghost use Rattle.aj_syntax.specs.Printing.{all_lexemes, args_lexemes, canonical, class_lexemes, dotted_lexemes, expr_lexemes, field_lexemes, flag_lexemes, further_lexemes, guard_lexemes, listed_lexemes, lock_lexemes, member_lexemes, method_lexemes, more_args_lexemes, name_lexeme, param_lexemes, requires_lexemes, result_lexeme, root_lexeme, runnable_lexemes, set_lexemes, stmt_lexemes, stmts_lexemes, type_lexeme};
-ghost use Rattle.aj_syntax.specs.Trees.{BlockS, CtorM, ParenE, PrintS, ReturnS, SetVarS, StartS};
+ghost use Rattle.aj_syntax.specs.Trees.{BlockS, CtorM, LocalS, NewE, ParenE, PrintS, ReturnS, SetFieldS, SetVarS, StartS};
 ghost use Rattle.aj_syntax.specs.Tokens.{guard_word as word_of};
 ghost use Rattle.aj_syntax.specs.declared.terminal.Terminal.TheVariants as terminals;
 ghost use Rattle.aj_syntax.specs.Views.{class_of, expr_of, exprs_from, lock_of, member_of, program_of, stmt_of, stmts_from};
@@ -331,28 +331,16 @@ fn write_stmt(to: &mut Printer, stmt: &Stmt) -> Result<(), NoMemory>
 {
     match stmt {
         Stmt::Empty(_) => to.terminal(Terminal::Semicolon),
-        Stmt::Block(stmts, _) => {
-            to.terminal(Terminal::OpenBrace)?;
-            write_stmts(to, stmts)?;
-            to.terminal(Terminal::CloseBrace)
-        }
+        Stmt::Block(stmts, _) => write_block(to, stmts),
         Stmt::Local {
             is_final,
             ty,
             name,
             value,
             at: _,
-        } => {
-            write_flag(to, Terminal::Final, *is_final)?;
-            write_type(to, ty)?;
-            write_assignment(to, name, value)
-        }
+        } => write_local(to, *is_final, ty, name, value),
         Stmt::SetVar(name, value, _) => write_assignment(to, name, value),
-        Stmt::SetField(receiver, name, value, _) => {
-            write_expr(to, receiver)?;
-            to.terminal(Terminal::Dot)?;
-            write_assignment(to, name, value)
-        }
+        Stmt::SetField(receiver, name, value, _) => write_set_field(to, receiver, name, value),
         Stmt::Do(call, _) => {
             write_expr(to, call)?;
             to.terminal(Terminal::Semicolon)
@@ -371,18 +359,60 @@ fn write_stmt(to: &mut Printer, stmt: &Stmt) -> Result<(), NoMemory>
             write_stmt(to, stmt)
         }
         Stmt::Sync(lock, stmts, _) => {
-            to.terminal(Terminal::Synchronized)?;
-            to.terminal(Terminal::OpenParen)?;
-            write_lock(to, lock)?;
-            to.terminal(Terminal::CloseParen)?;
-            to.terminal(Terminal::OpenBrace)?;
-            write_stmts(to, stmts)?;
-            to.terminal(Terminal::CloseBrace)
+            write_lock_to_take(to, lock)?;
+            write_block(to, stmts)
         }
         Stmt::Return(value, _) => write_return(to, value),
         Stmt::Print(value, _) => write_print(to, value),
         Stmt::Start(value, _) => write_start(to, value),
     }
+}
+
+/// Writes statements in braces.
+#[cycle(statements)]
+fn write_block(to: &mut Printer, stmts: &[Stmt]) -> Result<(), NoMemory>
+    ensures { OnOk result (to.new ≡ writes to.old (stmt_lexemes (BlockS (stmts_from (map stmt_of stmts.now)) 0))) }
+{
+    to.terminal(Terminal::OpenBrace)?;
+    write_stmts(to, stmts)?;
+    to.terminal(Terminal::CloseBrace)
+}
+
+/// Writes what stands before the block of a `synchronized`.
+fn write_lock_to_take(to: &mut Printer, lock: &Lock) -> Result<(), NoMemory>
+    ensures { OnOk result (to.new ≡ writes to.old (Fixed terminals.Synchronized ∷ Fixed terminals.OpenParen ∷ lock_lexemes (lock_of lock.now) ++ (Fixed terminals.CloseParen ∷ []))) }
+{
+    to.terminal(Terminal::Synchronized)?;
+    to.terminal(Terminal::OpenParen)?;
+    write_lock(to, lock)?;
+    to.terminal(Terminal::CloseParen)
+}
+
+fn write_local(
+    to: &mut Printer,
+    is_final: bool,
+    ty: &TypeName,
+    name: &Name,
+    value: &Expr,
+) -> Result<(), NoMemory>
+    ensures { OnOk result (to.new ≡ writes to.old (stmt_lexemes (LocalS is_final ty.now name.now (expr_of value.now) 0))) }
+{
+    write_flag(to, Terminal::Final, is_final)?;
+    write_type(to, ty)?;
+    write_assignment(to, name, value)
+}
+
+fn write_set_field(
+    to: &mut Printer,
+    receiver: &Expr,
+    name: &Name,
+    value: &Expr,
+) -> Result<(), NoMemory>
+    ensures { OnOk result (to.new ≡ writes to.old (stmt_lexemes (SetFieldS (expr_of receiver.now) name.now (expr_of value.now) 0))) }
+{
+    write_expr(to, receiver)?;
+    to.terminal(Terminal::Dot)?;
+    write_assignment(to, name, value)
 }
 
 /// Writes `NAME = VALUE;`.
@@ -485,18 +515,30 @@ fn write_expr(to: &mut Printer, expr: &Expr) -> Result<(), NoMemory>
         Expr::Call(receiver, name, args) => {
             write_expr(to, receiver)?;
             write_dotted(to, name)?;
-            to.terminal(Terminal::OpenParen)?;
-            write_args(to, args)?;
-            to.terminal(Terminal::CloseParen)
+            write_arguments(to, args)
         }
-        Expr::New(class, args, _) => {
-            to.terminal(Terminal::New)?;
-            write_name(to, class)?;
-            to.terminal(Terminal::OpenParen)?;
-            write_args(to, args)?;
-            to.terminal(Terminal::CloseParen)
-        }
+        Expr::New(class, args, _) => write_new(to, class, args),
     }
+}
+
+/// Writes `new NAME(ARGUMENTS)`.
+#[cycle(expressions)]
+fn write_new(to: &mut Printer, class: &Name, args: &[Expr]) -> Result<(), NoMemory>
+    ensures { OnOk result (to.new ≡ writes to.old (expr_lexemes (NewE class.now (exprs_from (map expr_of args.now)) 0))) }
+{
+    to.terminal(Terminal::New)?;
+    write_name(to, class)?;
+    write_arguments(to, args)
+}
+
+/// Writes arguments in parentheses.
+#[cycle(expressions)]
+fn write_arguments(to: &mut Printer, args: &[Expr]) -> Result<(), NoMemory>
+    ensures { OnOk result (to.new ≡ writes to.old (Fixed terminals.OpenParen ∷ args_lexemes (exprs_from (map expr_of args.now)) ++ (Fixed terminals.CloseParen ∷ []))) }
+{
+    to.terminal(Terminal::OpenParen)?;
+    write_args(to, args)?;
+    to.terminal(Terminal::CloseParen)
 }
 
 /// Writes arguments with commas between them.

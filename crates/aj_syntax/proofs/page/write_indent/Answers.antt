@@ -1,4 +1,4 @@
-use Rattle.std.proofs.Common.{◌+◌, ◌-◌, ◌++◌, string_bytes, arith}
+use Rattle.std.proofs.Common.{◌++◌, string_bytes, arith}
 use Rattle.aj_syntax.specs.Layout.{indent}
 use Rattle.aj_syntax.proofs.Writing.{indent_step}
 use Rattle.aj_syntax.proofs.page.write_indent.Goals as goal

@@ -1,7 +1,8 @@
-use Rattle.std.proofs.Common.{◌∷◌, map, refl, ap, sym, ◌∙◌, arith}
+use Rattle.std.proofs.Common.{◌≡◌, ◌∷◌, map, refl, ap, sym, subst, ◌∙◌, arith, OnOk}
 use Rattle.aj_syntax.specs.Layout.{writes, Fixed}
 use Rattle.aj_syntax.specs.declared.terminal.Terminal.TheVariants as T
 use Rattle.aj_syntax.specs.Printing.{args_lexemes, more_args_lexemes, expr_lexemes}
+use Rattle.aj_syntax.specs.Trees.{NewE}
 use Rattle.aj_syntax.specs.Views.{expr_of, exprs_from}
 use Rattle.aj_syntax.proofs.Bridge.{view_call, view_new}
 use Rattle.aj_syntax.proofs.Writing.{item_step, item_end, item_none, writes_one, writes_both, writes_none}
@@ -23,12 +24,14 @@ write_args-returns t c =
 pub write_args-returns-in_default : goal.write_args-returns-in_default
 write_args-returns-in_default t c = item_none (λ z. args_lexemes (exprs_from (map expr_of z))) refl c.args.args.now c.args.to.now (c.in_default.ensures.cases)
 
-pub write_expr-returns-in_ok-write_args-in-Call : goal.write_expr-returns-in_ok-write_args-in-Call
-write_expr-returns-in_ok-write_args-in-Call t c =
+pub write_expr-returns-in_ok-write_dotted-in-Call : goal.write_expr-returns-in_ok-write_dotted-in-Call
+write_expr-returns-in_ok-write_dotted-in-Call t c =
     let e = ap (λ x. expr_lexemes (expr_of x)) c.in-Call.is ∙ ap expr_lexemes (view_call c.in-Call.receiver c.in-Call.name c.in-Call.args) in
     grind (arith, writes_one, writes_both, writes_none)
 
-pub write_expr-returns-in_ok-write_args-in-New : goal.write_expr-returns-in_ok-write_args-in-New
-write_expr-returns-in_ok-write_args-in-New t c =
+pub write_expr-returns-in-New : goal.write_expr-returns-in-New
+write_expr-returns-in-New t c =
     let e = ap (λ x. expr_lexemes (expr_of x)) c.in-New.is ∙ ap expr_lexemes (view_new c.in-New.class c.in-New.args c.in-New.field-2) in
-    grind (arith, writes_one, writes_both, writes_none)
+    subst (λ z. OnOk c.write_new.result (c.write_new.new.to ≡ writes c.args.to.now z))
+    (ap (λ z. expr_lexemes (NewE c.in-New.class (exprs_from (map expr_of z)) 0)) c.deref-in-New.ensures.value ∙ sym e)
+    c.write_new.ensures
