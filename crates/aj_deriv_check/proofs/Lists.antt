@@ -1,35 +1,17 @@
 -- Places in lists, and which is the least bad one.
 use Rattle.std.proofs.Common.{◌≡◌, ℕ, zero, suc, ◌+◌, ◌<◌, ◌⊎◌, inl, inr, List, [], ◌∷◌, ◌++◌, length, Some, None, ◌∙◌, ap, subst, arith, slice_get}
 use Rattle.std.proofs.lemmas.Option.{same_Some, slice_get_within}
+use Rattle.aj_lemmas.proofs.Lists.{at_left, at_either, get_right}
 use Rattle.aj_deriv_check.specs.Parts.{Place, Each, IsLeastBad}
 
-pub get_left : {A : Type 0} (xs ys : List A) (k : ℕ) (x : A) → slice_get xs k ≡ Some x → slice_get (xs ++ ys) k ≡ Some x
-get_left [] ys k x e = absurd (let h : None ≡ Some x = e in cc)
-get_left (y ∷ xs) ys zero x e = e
-get_left (y ∷ xs) ys (suc k) x e = get_left xs ys k x e
-
-pub get_right : {A : Type 0} (xs ys : List A) (k : ℕ) → slice_get (xs ++ ys) (length xs + k) ≡ slice_get ys k
-get_right [] ys k = let e : 0 + k ≡ k = omega arith in ap (slice_get ys) e
-get_right (x ∷ xs) ys k = let e : suc (length xs) + k ≡ suc (length xs + k) = omega arith in ap (slice_get (x ∷ (xs ++ ys))) e ∙ get_right xs ys k
-
-pub get_split : {A : Type 0} (xs ys : List A) (k : ℕ) (x : A) → slice_get (xs ++ ys) k ≡ Some x → (slice_get xs k ≡ Some x) ⊎ ((j : ℕ) × (k ≡ length xs + j) × (slice_get ys j ≡ Some x))
-get_split [] ys k x e = inr (k, omega arith, e)
-get_split (y ∷ xs) ys zero x e = inl e
-get_split (y ∷ xs) ys (suc k) x e = next (get_split xs ys k x e)
-  where
-    next : (slice_get xs k ≡ Some x) ⊎ ((j : ℕ) × (k ≡ length xs + j) × (slice_get ys j ≡ Some x)) →
-        (slice_get xs k ≡ Some x) ⊎ ((j : ℕ) × (suc k ≡ suc (length xs) + j) × (slice_get ys j ≡ Some x))
-    next (inl e) = inl e
-    next (inr j) = inr (j.0, omega (arith, j.1), j.2)
-
 pub each_left : (G : Place → Type 0) (xs ys : List Place) → Each G (xs ++ ys) → Each G xs
-each_left G xs ys all = λ k x e. all k x (get_left xs ys k x e)
+each_left G xs ys all = λ k x e. all k x (at_left xs ys k x e)
 
 pub each_right : (G : Place → Type 0) (xs ys : List Place) → Each G (xs ++ ys) → Each G ys
 each_right G xs ys all = λ k x e. all (length xs + k) x (get_right xs ys k ∙ e)
 
 pub each_both : (G : Place → Type 0) (xs ys : List Place) → Each G xs → Each G ys → Each G (xs ++ ys)
-each_both G xs ys first second = λ k x e. chosen (get_split xs ys k x e)
+each_both G xs ys first second = λ k x e. chosen (at_either xs ys k x e)
   where
     chosen : {k : ℕ} {x : Place} → (slice_get xs k ≡ Some x) ⊎ ((j : ℕ) × (k ≡ length xs + j) × (slice_get ys j ≡ Some x)) → G x
     chosen {k = k} {x = x} (inl e) = first k x e
@@ -45,9 +27,9 @@ each_one G x good (suc k) y e = absurd (let h : None ≡ Some y = e in cc)
 pub bad_left : (G : Place → Type 0) (xs ys : List Place) (k : ℕ) → IsLeastBad G xs k → IsLeastBad G (xs ++ ys) k
 bad_left G xs ys k b = record {
   place = b.place;
-  is = get_left xs ys k b.place b.is;
+  is = at_left xs ys k b.place b.is;
   bad = b.bad;
-  first = λ j y below e. before j y below (get_split xs ys j y e);
+  first = λ j y below e. before j y below (at_either xs ys j y e);
 }
   where
     before : (j : ℕ) (y : Place) → j < k → (slice_get xs j ≡ Some y) ⊎ ((i : ℕ) × (j ≡ length xs + i) × (slice_get ys i ≡ Some y)) → G y
@@ -59,7 +41,7 @@ bad_right G xs ys k good b = record {
   place = b.place;
   is = get_right xs ys k ∙ b.is;
   bad = b.bad;
-  first = λ j y below e. before j y below (get_split xs ys j y e);
+  first = λ j y below e. before j y below (at_either xs ys j y e);
 }
   where
     before : (j : ℕ) (y : Place) → j < length xs + k → (slice_get xs j ≡ Some y) ⊎ ((i : ℕ) × (j ≡ length xs + i) × (slice_get ys i ≡ Some y)) → G y

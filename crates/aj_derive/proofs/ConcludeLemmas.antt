@@ -18,7 +18,8 @@ use Rattle.aj_deriv_check.proofs.Lists.{each_both, each_none, each_one}
 use Rattle.aj_deriv_check.proofs.Above.{part_effect, effects_of, rule_is}
 use Rattle.aj_derive.specs.Concluded.{Concludes, ConcludeAll, BeginsWith}
 use Rattle.aj_derive.specs.Moved.{IsSame, AreSame}
-use Rattle.aj_derive.proofs.Rows.{get_begins, get_last}
+use Rattle.aj_lemmas.proofs.Lists.{get_last}
+use Rattle.aj_derive.proofs.Rows.{get_begins}
 
 -- as many nodes, and as many values
 same_count : (from to : List Cond) (ds es : Nodes) → AreSame from to ds es → count_nodes es ≡ count_nodes ds

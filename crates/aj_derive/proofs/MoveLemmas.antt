@@ -12,7 +12,8 @@ use Rattle.aj_derive.specs.Concluded.{BeginsWith}
 use Rattle.aj_derive.specs.Derived.{node_numbers, nodes_numbers, AreInOrder}
 use Rattle.aj_derive.specs.Pools.{IsNumberIn}
 use Rattle.aj_derive.specs.Moved.{IsSame, AreSame, IsMoved, AreMoved}
-use Rattle.aj_derive.proofs.Rows.{begins_itself, begins_chain, begins_one, begins_as, get_begins, get_last, order_both}
+use Rattle.aj_lemmas.proofs.Lists.{get_last}
+use Rattle.aj_derive.proofs.Rows.{begins_itself, begins_chain, begins_one, begins_as, get_begins, order_both}
 
 mutual
   same_later : (from to new : List Cond) → BeginsWith to new → (d e : Node) → IsSame from to d e → IsSame from new d e

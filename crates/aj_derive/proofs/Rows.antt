@@ -1,7 +1,7 @@
 -- Lists that begin with others, and places in them.
 use Rattle.std.proofs.Common.{append-nil, ◌≡◌, ℕ, zero, suc, ◌⊎◌, inl, inr, List, [], ◌∷◌, ◌++◌, length, Some, None, refl, sym, ◌∙◌, ap, subst, slice_get, append_assoc}
 use Rattle.aj_cond.specs.Conditions.{Cond}
-use Rattle.aj_deriv_check.proofs.Lists.{get_left}
+use Rattle.aj_lemmas.proofs.Lists.{at_left, get_last}
 use Rattle.aj_derive.specs.Concluded.{BeginsWith}
 use Rattle.aj_derive.specs.Derived.{AreInOrder}
 
@@ -19,12 +19,7 @@ begins_as xs ys e = record { behind = []; is = e ∙ sym (append-nil xs) }
 
 -- what stands in the front stands in the whole
 pub get_begins : (xs ys : List Cond) (n : ℕ) (t : Cond) → BeginsWith xs ys → slice_get xs n ≡ Some t → slice_get ys n ≡ Some t
-get_begins xs ys n t b e = ap (λ k. slice_get k n) b.is ∙ get_left xs b.behind n t e
-
--- the last of a list
-pub get_last : {A : Type 0} (xs : List A) (x : A) → slice_get (xs ++ (x ∷ [])) (length xs) ≡ Some x
-get_last [] x = refl
-get_last (y ∷ xs) x = get_last xs x
+get_begins xs ys n t b e = ap (λ k. slice_get k n) b.is ∙ at_left xs b.behind n t e
 
 -- one of a longer list is of the front, or the last
 pub get_pushed : {A : Type 0} (xs : List A) (x : A) (k : ℕ) (y : A) → slice_get (xs ++ (x ∷ [])) k ≡ Some y → (slice_get xs k ≡ Some y) ⊎ ((k ≡ length xs) × (x ≡ y))

@@ -19,6 +19,13 @@ pub get_right : {A : Type 0} (xs ys : List A) (k : ℕ) → slice_get (xs ++ ys)
 get_right {A = A} [] ys k = let e : length {A = A} [] + k ≡ k = omega arith in ap (slice_get ys) e
 get_right (x ∷ xs) ys k = let e : suc (length xs) + k ≡ suc (length xs + k) = omega arith in ap (slice_get (x ∷ (xs ++ ys))) e ∙ get_right xs ys k
 
+-- a place of both is one of the first list or one of the second
+pub at_either : {A : Type 0} (xs ys : List A) (k : ℕ) (x : A) → slice_get (xs ++ ys) k ≡ Some x
+    → (slice_get xs k ≡ Some x) ⊎ ((j : ℕ) × (k ≡ length xs + j) × (slice_get ys j ≡ Some x))
+at_either [] ys k x e = inr (k, omega arith, e)
+at_either (z ∷ xs) ys zero x e = inl e
+at_either (z ∷ xs) ys (suc k) x e = elim (at_either xs ys k x e) [ inl h ↦ inl h | inr h ↦ inr (h.0, omega (arith, h.1), h.2) ]
+
 -- the last of a list
 pub get_last : {A : Type 0} (xs : List A) (x : A) → slice_get (xs ++ (x ∷ [])) (length xs) ≡ Some x
 get_last [] x = refl

@@ -7,6 +7,11 @@ use Rattle.std.proofs.lemmas.Option.{option_and_then_some}
 pub then_parts : {A B : Type 0} (f : A → Option B) (o : Option A) (b : B) → option_and_then f o ≡ Some b → (a : A) × (o ≡ Some a) × (f a ≡ Some b)
 then_parts f o b e = option_and_then_some f o b e (λ a is to. (a, is, to))
 
+-- a choice whose first part is another one wherever it is taken
+pub choice_same : {B : Type 0} (b : Bool) (x y z : B) → (b ≡ true → x ≡ y) → (if b then x else z) ≡ (if b then y else z)
+choice_same true x y z h = h refl
+choice_same false x y z h = refl
+
 -- what is there under a test
 pub if_taken : {A : Type 0} (b : Bool) (o : Option A) (x : A) → (if b then o else None) ≡ Some x → (b ≡ true) × (o ≡ Some x)
 if_taken true o x e = (refl, e)

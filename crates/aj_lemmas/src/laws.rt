@@ -9,6 +9,7 @@ pub fn list_laws<T>()
     ensures right { (xs ys : List T) (k : ℕ) → slice_get (xs ++ ys) (length xs + k) ≡ slice_get ys k }
     ensures last { (xs : List T) (x : T) → slice_get (xs ++ (x ∷ [])) (length xs) ≡ Some x }
     ensures found { (xs ys : List T) (k : ℕ) (x : T) → slice_get xs k ≡ Some x → slice_get (xs ++ ys) k ≡ Some x }
+    ensures either { (xs ys : List T) (k : ℕ) (x : T) → slice_get (xs ++ ys) k ≡ Some x → (slice_get xs k ≡ Some x) ⊎ ((j : ℕ) × (k ≡ length xs + j) × (slice_get ys j ≡ Some x)) }
     ensures below { (xs : List T) (k : ℕ) → k < length xs → (x : T) × (slice_get xs k ≡ Some x) }
     ensures next { (xs : List T) (k : ℕ) (x : T) → k < length xs → x ≡ get_or xs k x → drop k xs ≡ x ∷ drop (k + 1) xs }
     ensures cases { (x y : T) (xs : List T) → Contains (x ∷ xs) y → (x ≡ y) ⊎ Contains xs y }
@@ -18,6 +19,7 @@ pub fn list_laws<T>()
 /// What is there of two options, one found from the other or under a test, comes from both.
 pub fn option_laws<T, U>()
     ensures both { (f : T → Option U) (o : Option T) (y : U) → option_and_then f o ≡ Some y → (x : T) × (o ≡ Some x) × (f x ≡ Some y) }
+    ensures same { (b : Bool) (x y z : T) → (b ≡ true → x ≡ y) → (if b then x else z) ≡ (if b then y else z) }
     ensures taken { (b : Bool) (o : Option T) (x : T) → (if b then o else None) ≡ Some x → (b ≡ true) × (o ≡ Some x) }
 {}
 

@@ -1,6 +1,7 @@
 -- Loops are right, and have fuel enough.
 use Rattle.std.proofs.Common.{◌≡◌, ℕ, zero, suc, ◌<◌, ◌≤◌, Bool, true, false, List, [], ◌∷◌, ◌++◌, length, Ok, Err, if◌then◌else◌, refl, ◌∙◌, ap, subst, arith, length-append}
 use Rattle.std.proofs.lemmas.Bool.{cond-false, cond-true}
+use Rattle.aj_lemmas.proofs.Options.{choice_same}
 use Rattle.aj_lexer.specs.declared.tokens.Token.{Token}
 use Rattle.aj_parser.proofs.Right.{RightAt, Right, Some_of, right_seq_at, right_along, right_weaker}
 use Rattle.aj_parser.proofs.Parts.{right_done, starts_meets}
@@ -19,10 +20,6 @@ next_same : {A : Type 0} (f g : A → List Token → Res A) (n : ℕ) → ((b : 
     → (s : Res A) → Leaves n s → (s >>= f) ≡ (s >>= g)
 next_same f g n same (Ok y) h = same y.0 y.1 h
 next_same f g n same (Err e) h = refl
-
-choice_same : {B : Type 0} (b : Bool) (x y z : B) → (b ≡ true → x ≡ y) → (if b then x else z) ≡ (if b then y else z)
-choice_same true x y z h = h refl
-choice_same false x y z h = refl
 
 fuel : {A : Type 0} (go : Token → Bool) (step : A → List Token → Res A) → Takes go step
     → (n m : ℕ) (a : A) (ts : List Token) → length ts ≤ n → length ts ≤ m → iterate go step n a ts ≡ iterate go step m a ts
