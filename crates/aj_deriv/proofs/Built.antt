@@ -1,25 +1,24 @@
 -- Parts of a book that are built one after another, each from the front of what is still to come.
-use Rattle.std.proofs.Common.{◌≡◌, ℕ, ◌<◌, ◌≤◌, ◌^◌, true, false, List, [], ◌∷◌, ◌++◌, map, length, codes, Ok, Err, refl, sym, ◌∙◌, ap, arith, append-nil}
+use Rattle.std.proofs.Common.{◌≡◌, ℕ, ◌<◌, ◌≤◌, ◌^◌, true, false, List, [], ◌∷◌, ◌++◌, map, length, Ok, Err, refl, sym, ◌∙◌, ap, arith, append-nil}
 use Rattle.std.proofs.lemmas.List.{map-append}
 use Rattle.aj_cond.specs.Conditions.{cond_of}
 use Rattle.aj_cond.specs.declared.tree.Tree.{Tree}
-use Rattle.aj_deriv.specs.declared.cursor.BookCursor.{BookCursor}
 use Rattle.aj_deriv.specs.declared.derivation.Derivation.{Derivation}
 use Rattle.aj_deriv.specs.declared.word.Word.{Word}
 use Rattle.aj_deriv.specs.Derivations.{Node, node, and_node, nodes_from}
-use Rattle.aj_deriv.specs.Books.{Line, Book}
-use Rattle.aj_deriv.specs.Texts.{newline, book_text, IsTextOf}
+use Rattle.aj_deriv.specs.Books.{Line}
+use Rattle.aj_deriv.specs.Texts.{book_text, IsTextOf}
 use Rattle.aj_deriv.specs.Combine.{Res, begins, exactly, several}
 use Rattle.aj_deriv.specs.Memory.{book_of, line_of, node_of, nodes_at}
 use Rattle.aj_deriv.specs.Passing.{pass_table}
 use Rattle.aj_deriv.specs.Reading.{count_at, line_at, lines_at, node_at, premise_with, table_line}
-use Rattle.aj_deriv.specs.Views.{after_those, plain_line, IsCursorAt, IsReadAs}
-use Rattle.aj_deriv.proofs.BookLaws.{book_by, complete_several, found_text, ok_value, pass_table-is, Found}
+use Rattle.aj_deriv.specs.Views.{after_those, plain_line, IsReadAs}
+use Rattle.aj_deriv.proofs.BookLaws.{book_by, found_text, pass_table-is, Found}
 use Rattle.aj_deriv.proofs.CursorLaws.{lines_end}
 use Rattle.aj_deriv.proofs.PassBooks.{line_shorter}
 use Rattle.aj_deriv.proofs.PassLemmas.{premise_takes}
 use Rattle.aj_deriv.proofs.Several.{Takes, several_done, several_more, unseen}
-use Rattle.aj_deriv.proofs.TableLaws.{exactly_plain, lines_wider, moved, read_same}
+use Rattle.aj_deriv.proofs.TableLaws.{exactly_plain, moved, read_same}
 
 -- one item more
 item_pushed : {T A : Type 0} (f : T → A) (byte : ℕ) (item : List ℕ → Res A) → Takes item → (old new : List T) (t : T) (rest behind : List ℕ) →
@@ -82,19 +81,6 @@ pub lines_built : (count : ℕ) (so_far : List (ℕ × ℕ × Derivation)) (text
     several 109 (line_at count) text ≡ after_those (map line_of so_far) (several 109 (line_at count) rest) → begins 109 rest ≡ false →
     several 109 (line_at count) text ≡ Ok (map line_of so_far, rest)
 lines_built count so_far text rest e stop = items_done 109 (line_at count) (map line_of so_far) rest (several 109 (line_at count) text) e stop
-
-pub lines_same : (cursor : BookCursor) (book : Book) (lines : List Line) (rest : List ℕ) → IsCursorAt cursor book →
-    several 109 (line_at (2 ^ 32)) cursor.lines.now ≡ Ok (lines, rest) → lines ≡ book.lines
-lines_same cursor book lines rest at is =
-    let behind = codes "end" ++ (newline ∷ []) in
-    ok_value lines book.lines rest behind
-    (sym is
-    ∙ ap (several 109 (line_at (2 ^ 32))) at.lines
-    ∙ complete_several (2 ^ 32) (omega arith) book.lines behind (lines_wider (length book.table) at.book_is.few book.lines at.book_is.lines) refl)
-
--- a table and method lines are the book
-pub book_is : (book : Book) (table : List Tree) (lines : List (ℕ × ℕ × Derivation)) → map cond_of table ≡ book.table → map line_of lines ≡ book.lines → book_of (table, lines) ≡ book
-book_is book table lines same_table same_lines = λ i. record { table = same_table i; lines = same_lines i }
 
 -- a table and method lines, each read from its part of a text, are the book of the text
 pub book_built : (bytes : List ℕ) (n : ℕ) (table lines rest : List ℕ) (trees : List Tree) (ls : List (ℕ × ℕ × Derivation)) → count_at bytes ≡ Ok (n, table) → pass_table n table ≡ Ok (tt, lines) →

@@ -134,7 +134,3 @@ pub number_none : (end : ℕ) (ds ts : List ℕ) → ds ≡ number_digits ts →
     None ≡ (if nat_lt 0 (length ds) && nat_lt (digits_value 10 ds) (2 ^ 64) then Some (digits_value 10 ds) else None) →
     end ≤ 2 ^ 32 → number_at end ts ≡ Err (Form, ts)
 number_none end ds ts is none small = number_with-is end ts ∙ ap (λ z. number_with end z ts) (sym is) ∙ none_with end ds ts none small
-
--- the rest of a list, as a slice to its end
-pub take-rest : (n : ℕ) (xs : List ℕ) → take (length xs - n) (drop n xs) ≡ drop n xs
-take-rest n xs = grind (arith, common_steps)

@@ -11,7 +11,7 @@ use Rattle.aj_deriv.specs.Reading.{word_at_front, number_at, premise_with, node_
 use Rattle.aj_deriv.specs.Passing.{pass_premise, pass_at_most, pass_several, pass_node}
 use Rattle.aj_deriv.proofs.Sound.{SoundAt}
 use Rattle.aj_deriv.proofs.SoundTrees.{ReadsTree, ReadsNode, sound_node}
-use Rattle.aj_deriv.proofs.Several.{unseen, Takes}
+use Rattle.aj_deriv.proofs.Several.{choice_same, next_same, unseen, Takes}
 
 -- a part that is passed over in place of a part that is read, and then what follows
 pub pass_seq : {A B C D : Type 0} (f : A → B) (g : C → D) (p : Res A) (q : Res B) (h : A → List ℕ → Res C) (k : B → List ℕ → Res D) → q ≡ seen f p →
@@ -116,14 +116,6 @@ pub pass_takes : (count : ℕ) → count ≤ 2 ^ 64 → (room : ℕ) (ts : List 
 pass_takes count small room ts u r e =
     let read = unseen (λ d. tt {0}) (premise_with (node_at count room) ts) u r (sym (pass_premise-is (node_at count room) (pass_node count room) (λ z. pass_node-is count room z) ts) ∙ e) in
     premise_takes count small room ts read.0 r read.1
-
-next_same : {A B : Type 0} (f g : A → List ℕ → Res B) (p : Res A) → ((x : A) (r : List ℕ) → p ≡ Ok (x, r) → f x r ≡ g x r) → (p >>= f) ≡ (p >>= g)
-next_same f g (Ok y) same = same y.0 y.1 refl
-next_same f g (Err e) same = refl
-
-choice_same : {B : Type 0} (b : Bool) (x y z : B) → (b ≡ true → x ≡ y) → (if b then x else z) ≡ (if b then y else z)
-choice_same true x y z h = h refl
-choice_same false x y z h = refl
 
 pass_fuel : (byte : ℕ) (item : List ℕ → Res (Unit {0})) → Takes item → (n m : ℕ) (ts : List ℕ) → length ts ≤ n → length ts ≤ m →
     pass_at_most n byte item ts ≡ pass_at_most m byte item ts

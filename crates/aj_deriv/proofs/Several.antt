@@ -24,11 +24,12 @@ unseen_fault f (Err b) d e = ap (λ z. Err z) (err_same b d e)
 abbrev pub Takes : {A : Type 0} → (List ℕ → Res A) → Type 0
 Takes {A} item = (ts : List ℕ) (x : A) (r : List ℕ) → item ts ≡ Ok (x, r) → length r < length ts
 
-next_same : {A B : Type 0} (f g : A → List ℕ → Res B) (p : Res A) → ((x : A) (r : List ℕ) → p ≡ Ok (x, r) → f x r ≡ g x r) → (p >>= f) ≡ (p >>= g)
+-- what follows a part, where it is the same after each value that the part gives
+pub next_same : {A B : Type 0} (f g : A → List ℕ → Res B) (p : Res A) → ((x : A) (r : List ℕ) → p ≡ Ok (x, r) → f x r ≡ g x r) → (p >>= f) ≡ (p >>= g)
 next_same f g (Ok y) same = same y.0 y.1 refl
 next_same f g (Err e) same = refl
 
-choice_same : {B : Type 0} (b : Bool) (x y z : B) → (b ≡ true → x ≡ y) → (if b then x else z) ≡ (if b then y else z)
+pub choice_same : {B : Type 0} (b : Bool) (x y z : B) → (b ≡ true → x ≡ y) → (if b then x else z) ≡ (if b then y else z)
 choice_same true x y z h = h refl
 choice_same false x y z h = refl
 

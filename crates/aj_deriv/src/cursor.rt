@@ -175,13 +175,6 @@ impl<'a> BookCursor<'a> {
         self.table
     }
 
-    /// The text that begins with the method lines that are still to come.
-    pub(crate) fn lines_text(&self) -> &'a [u8]
-        ensures { result.now ≡ self.now.lines.now }
-    {
-        self.lines
-    }
-
     /// The next method line. `None` comes after the last.
     pub fn next_method(&mut self) -> Option<MethodView<'a>>
         ensures { (book : Book) → IsCursorAt self.old book → IsNextLine book book.lines result self.new }

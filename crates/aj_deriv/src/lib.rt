@@ -23,7 +23,7 @@ pub use cursor::{BookCursor, MethodView, NodeView, Premises};
 pub use derivation::{Derivation, InMemory, Lent};
 pub use lines::{FirstLine, Lines, LinesInMemory};
 pub use nodes::{First, Nodes};
-pub use reader::{read_at_once, read_book};
+pub use reader::read_book;
 pub use stop::BookFault;
 pub use table::read_table;
 pub use word::Word;

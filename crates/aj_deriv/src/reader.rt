@@ -5,7 +5,6 @@ ghost use Rattle.aj_deriv.specs.Combine.{several};
 ghost use Rattle.aj_deriv.specs.Faults.{first_fault};
 ghost use Rattle.aj_deriv.specs.Memory.{book_of, line_of, node_of};
 ghost use Rattle.aj_deriv.specs.Reading.{line_at, lines_at, node_at, premise_with};
-ghost use Rattle.aj_deriv.specs.Views.{IsCursorAt};
 ghost use Rattle.aj_deriv.specs.Texts.{IsTextOf};
 ghost use Rattle.aj_deriv.specs.declared.stop.BookFault.{BookFault};
 
@@ -21,7 +20,7 @@ use crate::stop::{BookFault, Unbuilt};
 use crate::table::trees;
 use aj_cond::Tree;
 use aj_paths::MethodId;
-use std::alloc::{AllocError as NoMemory, Global};
+use std::alloc::Global;
 
 /// The node that a text begins with, with at most `room` nodes within each other, whose numbers are below `end`.
 #[tactic(auto, unfolding(crate::specs::Reading::node_at), using(crate::proofs::Built::node_built))]
@@ -139,7 +138,7 @@ fn last_lines<'a>(
     Ok((lines, rest))
 }
 
-/// The table and the method lines of the book whose text these bytes are. Each byte of the method lines is read once.
+/// The table and the method lines of the book whose text these bytes are.
 fn parts(
     alloc: Global,
     bytes: &[u8],
@@ -153,37 +152,12 @@ fn parts(
     Ok((trees, lines))
 }
 
-/// The book whose text these bytes are, with each byte of its method lines read once. Want of memory also where they are no book's:
-/// `BookCursor::open` tells the fault.
-pub fn read_at_once(alloc: Global, bytes: &[u8]) -> Result<DerivBook, NoMemory>
+/// The book whose text these bytes are. Each byte of the method lines is read once.
+fn built(alloc: Global, bytes: &[u8]) -> Result<DerivBook, Unbuilt>
     ensures { IfOk result (λ book. IsTextOf bytes.now (book_of book)) }
 {
-    match parts(alloc, bytes) {
-        Ok((table, methods)) => Ok(DerivBook::new(table, methods)),
-        Err(_) => Err(NoMemory),
-    }
-}
-
-impl<'a> BookCursor<'a> {
-    /// The method lines that are still to come. Each byte of them is read once.
-    fn methods(&self, alloc: Global) -> Result<Vec<(MethodId, u32, Derivation)>, NoMemory>
-        ensures { (book : Book) → IsCursorAt self.now book → IfOk result (λ lines. map line_of lines.items ≡ book.lines) }
-    {
-        match method_lines(alloc, self.lines_text(), NUMBERS_END) {
-            Ok((lines, _)) => Ok(lines),
-            Err(_) => Err(NoMemory),
-        }
-    }
-
-    /// The book at which the cursor stands, in memory.
-    pub fn book(&self, alloc: Global) -> Result<DerivBook, NoMemory>
-        requires { (book : Book) × IsCursorAt self.now book }
-        ensures { (book : Book) → IsCursorAt self.now book → IfOk result (λ read. book_of read ≡ book) }
-    {
-        let table = self.table(alloc)?;
-        let methods = self.methods(alloc)?;
-        Ok(DerivBook::new(table, methods))
-    }
+    let (table, methods) = parts(alloc, bytes)?;
+    Ok(DerivBook::new(table, methods))
 }
 
 /// The book whose text these bytes are, of which there are at most 16,777,216.
@@ -198,7 +172,7 @@ pub fn read_book(alloc: Global, bytes: &[u8]) -> Result<DerivBook, BookFault>
     ensures only_book { (book : Book) → IsTextOf bytes.now book → MatchResult result (λ read. book_of read ≡ book) (λ fault. fault ≡ BookFault.NoMemory) }
     ensures only_fault { (fault : BookFault) → first_fault bytes.now ≡ Some fault → MatchResult result (λ _. ⊥) (λ found. found ≡ fault) }
 {
-    if let Ok(book) = read_at_once(alloc, bytes) {
+    if let Ok(book) = built(alloc, bytes) {
         return Ok(book);
     }
     match BookCursor::open(bytes) {

@@ -41,7 +41,7 @@ pub(crate) struct Stop<'a> {
     pub(crate) rest: &'a [u8],
 }
 
-/// Why a part of a book was not built: want of memory. Its text was read before, so no fault is found in it.
+/// A part of a book was not built: there was no memory for it, or its text is no book's. Reading with no memory tells which.
 #[derive(Clone, Copy)]
 pub(crate) struct Unbuilt;
 

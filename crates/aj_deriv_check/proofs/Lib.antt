@@ -4,13 +4,14 @@ pub mod Lists
 pub mod Above
 mod Admissible
 pub mod NameLemmas
-mod RuleLemmas
+pub mod RuleLemmas
 mod WalkLemmas
 mod AskedLemmas
 mod LineLemmas
 mod VerdictLemmas
 mod PairLemmas
 mod BranchLemmas
+mod ChainLemmas
 mod UnmovedLemmas
 mod PassLemmas
 mod CanonicalLemmas

@@ -329,7 +329,7 @@ kept_set P (PrintS v) H e = refl
 kept_set P (StartS v) H e = refl
 
 -- a block whose statements all do has the value of their sequence
-block_kept : (P : Program) (V : ℕ → Value) (body : List CoreStmt) (numbers : List ℕ) (H : Held) → length body ≡ length numbers → list_all (λ s. keeps_paths (stmt_of s)) body ≡ true →
+pub block_kept : (P : Program) (V : ℕ → Value) (body : List CoreStmt) (numbers : List ℕ) (H : Held) → length body ≡ length numbers → list_all (λ s. keeps_paths (stmt_of s)) body ≡ true →
     block_value P (stmts_from body) (map V numbers) H ≡ in_sequence (map V numbers) H
 block_kept P V [] [] H same kept = refl
 block_kept P V [] (n ∷ numbers) H same kept = absurd (omega (arith, same))

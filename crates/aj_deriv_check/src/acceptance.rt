@@ -22,7 +22,7 @@ use crate::passes::{lines, shapes};
 use crate::wrong::{TextWrong, Wrong};
 use aj_cond::Tree;
 use aj_core::CoreProgram;
-use aj_deriv::{BookCursor, DerivBook, Lines, LinesInMemory, read_at_once};
+use aj_deriv::{BookCursor, BookFault, DerivBook, Lines, LinesInMemory, read_book};
 use aj_rules::RelevantSets;
 use std::alloc::Global;
 use std::mem::forget;
@@ -142,7 +142,8 @@ fn judged_in_place(
     }
 }
 
-/// The judgement of a text for a program. A short text is read into memory: there a node's premises are passed over at once.
+/// The judgement of a text for a program. A short text is read into memory, where there is enough: there a node's premises are passed
+/// over at once.
 fn judged(
     alloc: Global,
     program: &CoreProgram,
@@ -155,9 +156,10 @@ fn judged(
     if bytes.len() > MOST_IN_MEMORY {
         return judged_in_place(alloc, program, sets, bytes);
     }
-    match read_at_once(alloc, bytes) {
+    match read_book(alloc, bytes) {
         Ok(book) => judged_and_kept(alloc, program, sets, book),
-        Err(_) => judged_in_place(alloc, program, sets, bytes),
+        Err(BookFault::NoMemory) => judged_in_place(alloc, program, sets, bytes),
+        Err(fault) => Err(TextWrong::Book(fault)),
     }
 }
 

@@ -12,6 +12,7 @@ ghost use Rattle.aj_deriv_check.specs.Rules.{block_value, rule_of, stmt_rule as 
 ghost use Rattle.aj_deriv_check.specs.Walks.{part_of};
 
 use crate::branching::plain_step;
+use crate::chain::is_step_at_end;
 use crate::judge::Judge;
 use crate::lookups::tree_at;
 use crate::parts::{BodyPart, inner_parts, part_word, same_length};
@@ -203,6 +204,9 @@ fn is_step(
     ensures { IfOk result (λ b. (b ≡ true) ↔ ((H : Held) →
         AtMost (rule_of (judge_program judge.now) (judge_rel judge.now) (judge_assignment judge.now) (part_of part.entry) (map (judge_value judge.now) numbers.now) H) (value_of (cond_of d.now) H))) }
 {
+    if is_step_at_end(alloc, judge, part, numbers, d) {
+        return Ok(true);
+    }
     let left = Cell::new(LITTLE);
     match is_step_at_once(alloc, work, Work::little(&left), judge, part, numbers, d) {
         Ok(is) => Ok(is),

@@ -5,6 +5,7 @@
 mod acceptance;
 mod asked;
 mod branching;
+mod chain;
 mod checked;
 mod judge;
 mod line;
@@ -25,5 +26,8 @@ pub use acceptance::{Refused, RefusedText, accept, accept_text};
 pub use asked::rule;
 pub use checked::Checked;
 pub use judge::Judge;
+pub use lookups::required;
+pub use names::holds;
 pub use parts::{BodyPart, Parts, inner_parts, part_word};
+pub use rules::paths;
 pub use wrong::{TextWrong, Wrong};

@@ -65,7 +65,7 @@ pub(crate) fn assigned(
 }
 
 /// The required paths of a method; none where it isn't there.
-pub(crate) fn required(program: &CoreProgram, m: MethodId) -> &[Path]
+pub fn required(program: &CoreProgram, m: MethodId) -> &[Path]
     ensures { result.now ≡ required_paths (slice_get (program_of program.now).methods m) }
 {
     match program.methods().get(m.0 as usize) {

@@ -79,14 +79,14 @@ pub(crate) fn before(
 }
 
 /// Whether the list has the path.
-pub(crate) fn holds(paths: &[Path], path: &Path) -> bool
+pub fn holds(paths: &[Path], path: &Path) -> bool
     ensures { result ≡ has_path paths.now path.now }
 {
     paths.iter().any(|other| other.same(path))
 }
 
 /// What a callee's path is called here, where it is relevant.
-fn call_name(
+pub(crate) fn call_name(
     rel: &[Path],
     receiver: Option<&Path>,
     args: &[Option<Path>],

@@ -84,7 +84,7 @@ pub(crate) fn access(
 }
 
 /// The path of each argument, or none.
-fn paths(
+pub fn paths(
     alloc: Global,
     program: &CoreProgram,
     args: &[CoreExpr],

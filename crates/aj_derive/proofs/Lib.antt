@@ -1,7 +1,6 @@
 -- The lemmas that several proofs share.
 mod Rows
 mod Tables
-mod Blocks
 mod RuleLemmas
 mod PoolLemmas
 mod ConcludeLemmas

@@ -2,7 +2,7 @@
 ghost use Rattle.std.specs.Prelude.{◌≡◌, length, IfOk, if◌then◌else◌};
 ghost use Rattle.std.specs.List.{list_all};
 ghost use Rattle.aj_algebra.specs.declared.basic.Basic.TheVariants.{Error};
-ghost use Rattle.aj_algebra.specs.HeldPaths.{Held, has_path};
+ghost use Rattle.aj_algebra.specs.HeldPaths.{Held};
 ghost use Rattle.aj_cond.specs.Conditions.{cond_of, value_of};
 ghost use Rattle.aj_nodes.specs.Shown.{IsThere, node_value};
 ghost use Rattle.aj_deriv_check.specs.Judges.{named_set};
@@ -10,6 +10,7 @@ ghost use Rattle.aj_derive.specs.Named.{Keeping, name_under};
 
 use aj_algebra::{Algebra, Basic};
 use aj_cond::Tree;
+use aj_deriv_check::holds;
 use aj_nodes::{Node, NodeTable};
 use aj_paths::{Path, extend, under_call};
 use std::alloc::{AllocError as NoMemory, Global};
@@ -21,13 +22,6 @@ pub(crate) enum Names<'a> {
     Same,
     Before(u16, Option<&'a Path>),
     At(&'a [Path], Option<&'a Path>, &'a [Option<Path>]),
-}
-
-// Whether the list has the path.
-fn holds(paths: &[Path], path: &Path) -> bool
-    ensures { result ≡ has_path paths.now path.now }
-{
-    paths.iter().any(|other| other.same(path))
 }
 
 // What a path is called; None where it has no name.

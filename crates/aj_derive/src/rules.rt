@@ -1,11 +1,11 @@
 //! The rules on nodes: the node of a part from those of its premises.
-ghost use Rattle.std.specs.Prelude.{◌≡◌, ◌∷◌, [], length, map, slice_get, IfNone, IfOk, IfSome, if◌then◌else◌};
+ghost use Rattle.std.specs.Prelude.{◌≡◌, ◌∷◌, [], length, map, IfNone, IfOk, IfSome, if◌then◌else◌};
 ghost use Rattle.std.specs.Option.{option_copied};
 ghost use Rattle.aj_algebra.specs.Basics.{seq_of, star_of};
 ghost use Rattle.aj_algebra.specs.HeldPaths.{Held};
 ghost use Rattle.aj_core.specs.Locks.{path_of};
 ghost use Rattle.aj_core.specs.Views.{expr_of, exprs_from, program_of, stmt_of, stmts_from};
-ghost use Rattle.aj_rules.specs.Effect.{access_of, after_stmt, call_of, required_paths};
+ghost use Rattle.aj_rules.specs.Effect.{access_of, after_stmt, call_of};
 ghost use Rattle.aj_rules.specs.Mentions.{paths_of};
 ghost use Rattle.aj_rules.specs.Near.{rel_of};
 ghost use Rattle.aj_nodes.specs.Shown.{IsThere, AreThere, node_value};
@@ -20,7 +20,7 @@ use crate::basis::Basis;
 use crate::names::{Names, named, with_required};
 use aj_algebra::{Algebra, Basic};
 use aj_core::{CoreExpr, CoreProgram, CoreStmt, path_of};
-use aj_deriv_check::BodyPart;
+use aj_deriv_check::{BodyPart, paths, required};
 use aj_nodes::{Node, NodeTable};
 use aj_paths::{FieldId, MethodId, Path};
 use aj_rules::{Guard, guard_at};
@@ -134,31 +134,6 @@ fn then_basic(
 {
     let next = table.basic(next);
     table.seq(alloc, &first, &next)
-}
-
-// The path of each argument, or none.
-fn paths(
-    alloc: Global,
-    program: &CoreProgram,
-    args: &[CoreExpr],
-) -> Result<Vec<Option<Path>>, NoMemory>
-    ensures { IfOk result (λ paths. paths.items ≡ paths_of (program_of program.now) (exprs_from args.now)) }
-{
-    let mut paths = Vec::new(alloc);
-    for arg in args {
-        paths.push(path_of(program, arg))?;
-    }
-    Ok(paths)
-}
-
-// The required paths of a method; none where it isn't there.
-fn required(program: &CoreProgram, m: MethodId) -> &[Path]
-    ensures { result.now ≡ required_paths (slice_get (program_of program.now).methods m) }
-{
-    match program.methods().get(m.0 as usize) {
-        Some(method) => method.requires_.as_slice(),
-        None => &[],
-    }
 }
 
 // What is assigned to a method, under these names; const where it isn't there.
