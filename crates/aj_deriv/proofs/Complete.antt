@@ -20,7 +20,8 @@ use Rattle.aj_deriv.specs.Books.{Line, IsLine, IsPath, HasPaths, tests_high, IsT
 use Rattle.aj_deriv.specs.Texts.{newline, node_text, nodes_text, line_text}
 use Rattle.aj_deriv.specs.Combine.{Res, begins, at_most, several}
 use Rattle.aj_deriv.specs.Reading.{number_at, number_digits, is_empty, fields_at, path_at, leaf_at, tree_at, canonical_at, word_at_front, premise_with, node_at, line_at}
-use Rattle.aj_deriv.proofs.Digits.{numerals, number_with, number_with-is}
+use Rattle.aj_lemmas.proofs.Digits.{numerals}
+use Rattle.aj_deriv.proofs.Digits.{number_with, number_with-is}
 use Rattle.aj_deriv.proofs.SoundTrees.{test_text}
 
 -- no digit stands first

@@ -2,22 +2,18 @@
 use Rattle.std.proofs.Common.{◌≡◌, ℕ, zero, suc, ◌+◌, ◌-◌, ◌*◌, ◌^◌, ◌<◌, ◌≤◌, ◌&&◌, ◌||◌, Bool, true, false, not, nat_lt, List, [], ◌∷◌, length, take, drop, Some, None, if◌then◌else◌, cond, ◌==◌, get_or, Ok, Err, refl, sym, ◌∙◌, ap, arith}
 use Rattle.std.proofs.lemmas.Bool.{and_parts, and_from, and_right, false_from_ne_true, ltb-true, lt-ltb}
 use Rattle.std.proofs.lemmas.Int.Digits.{digits_value_more}
-use Rattle.std.proofs.lemmas.Str.Parse.{numerals_by_value, tells_all_ascii_digits, IsNumeralModel, digits_value-take-le}
+use Rattle.std.proofs.lemmas.Str.Parse.{digits_value-take-le}
 use Rattle.std.proofs.lemmas.List.Sums.{take_while-cons}
 use Rattle.std.proofs.lemmas.List.Folds.{length-prefix_len}
 use Rattle.std.proofs.lemmas.Bool.Decides.{nat_tests}
-use Rattle.std.proofs.lemmas.Grind.{common_steps}
-use Rattle.std.specs.Char.{is_ascii_digit, digit_value}
+use Rattle.std.specs.Char.{is_ascii_digit}
 use Rattle.std.specs.List.{take_while}
 use Rattle.std.specs.Str.{all_ascii_digits}
 use Rattle.std.specs.Str.Parse.{digits_value}
+use Rattle.aj_lemmas.proofs.Digits.{worth}
 use Rattle.aj_deriv.specs.declared.stop.Kind.TheVariants.{Form}
 use Rattle.aj_deriv.specs.Combine.{Res}
 use Rattle.aj_deriv.specs.Reading.{number_digits, number_at, is_empty}
-
--- std's words for digits and their value
-pub numerals : IsNumeralModel (λ ds. all_ascii_digits ds ≡ true) (digits_value 10)
-numerals = numerals_by_value (λ ds. all_ascii_digits ds ≡ true) tells_all_ascii_digits
 
 digits_first : (b : Bool) (byte : ℕ) (text : List ℕ) → is_ascii_digit byte ≡ b → all_ascii_digits (take_while is_ascii_digit text) ≡ true →
     all_ascii_digits (cond b (byte ∷ take_while is_ascii_digit text) []) ≡ true
@@ -49,9 +45,6 @@ digit_at (d ∷ digits) (suc i) are less = digit_at digits i (and_parts (is_asci
 
 pub from_48 : (d : ℕ) → is_ascii_digit d ≡ true → 48 ≤ d
 from_48 d e = grind (arith, nat_tests)
-
-worth : (d : ℕ) → is_ascii_digit d ≡ true → digit_value d ≡ d - 48
-worth d e = grind (arith, nat_tests)
 
 -- the number of one digit more
 pub next_number : (digits : List ℕ) (i n : ℕ) → all_ascii_digits digits ≡ true → i < length digits → n ≡ digits_value 10 (take i digits)

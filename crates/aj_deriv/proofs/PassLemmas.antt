@@ -1,6 +1,7 @@
 -- Passing over trees and nodes gives what reading them gives, seen by less.
 use Rattle.std.proofs.Common.{◌≡◌, ℕ, zero, suc, ◌-◌, ◌<◌, ◌≤◌, ◌^◌, ◌==◌, Bool, true, false, List, [], ◌∷◌, ◌++◌, length, length-append, take, codes, Ok, Err, if◌then◌else◌, refl, sym, ◌∙◌, ap, subst, arith}
 use Rattle.std.proofs.Math.Seq.{take-append_seam}
+use Rattle.aj_lemmas.proofs.Options.{choice_same}
 use Rattle.aj_cond.specs.Conditions.{Cond}
 use Rattle.aj_cond.specs.Texts.{text_of}
 use Rattle.aj_deriv.specs.declared.stop.Kind.TheVariants.{Form, TooDeep}
@@ -11,7 +12,7 @@ use Rattle.aj_deriv.specs.Reading.{word_at_front, number_at, premise_with, node_
 use Rattle.aj_deriv.specs.Passing.{pass_premise, pass_at_most, pass_several, pass_node}
 use Rattle.aj_deriv.proofs.Sound.{SoundAt}
 use Rattle.aj_deriv.proofs.SoundTrees.{ReadsTree, ReadsNode, sound_node}
-use Rattle.aj_deriv.proofs.Several.{choice_same, next_same, unseen, Takes}
+use Rattle.aj_deriv.proofs.Several.{next_same, unseen, Takes}
 
 -- a part that is passed over in place of a part that is read, and then what follows
 pub pass_seq : {A B C D : Type 0} (f : A → B) (g : C → D) (p : Res A) (q : Res B) (h : A → List ℕ → Res C) (k : B → List ℕ → Res D) → q ≡ seen f p →

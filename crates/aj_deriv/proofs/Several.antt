@@ -1,5 +1,6 @@
 -- Items while a byte stands first: one more, or the end.
-use Rattle.std.proofs.Common.{◌≡◌, ℕ, zero, suc, ◌<◌, ◌≤◌, Bool, true, false, List, [], ◌∷◌, length, if◌then◌else◌, Ok, Err, refl, ◌∙◌, ap, arith}
+use Rattle.std.proofs.Common.{◌≡◌, ℕ, zero, suc, ◌<◌, ◌≤◌, true, false, List, [], ◌∷◌, length, Ok, Err, refl, ◌∙◌, ap, arith}
+use Rattle.aj_lemmas.proofs.Options.{choice_same}
 use Rattle.aj_deriv.specs.declared.stop.Kind.{Kind}
 use Rattle.aj_deriv.specs.Combine.{Res, ◌>>=◌, seen, begins, at_most, several}
 
@@ -28,10 +29,6 @@ Takes {A} item = (ts : List ℕ) (x : A) (r : List ℕ) → item ts ≡ Ok (x, r
 pub next_same : {A B : Type 0} (f g : A → List ℕ → Res B) (p : Res A) → ((x : A) (r : List ℕ) → p ≡ Ok (x, r) → f x r ≡ g x r) → (p >>= f) ≡ (p >>= g)
 next_same f g (Ok y) same = same y.0 y.1 refl
 next_same f g (Err e) same = refl
-
-pub choice_same : {B : Type 0} (b : Bool) (x y z : B) → (b ≡ true → x ≡ y) → (if b then x else z) ≡ (if b then y else z)
-choice_same true x y z h = h refl
-choice_same false x y z h = refl
 
 fuel : {A : Type 0} (byte : ℕ) (item : List ℕ → Res A) → Takes item → (n m : ℕ) (ts : List ℕ) → length ts ≤ n → length ts ≤ m →
     at_most n byte item ts ≡ at_most m byte item ts

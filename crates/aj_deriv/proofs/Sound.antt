@@ -10,7 +10,8 @@ use Rattle.std.specs.Str.Parse.{digits_value}
 use Rattle.aj_deriv.specs.declared.stop.Kind.TheVariants.{Form}
 use Rattle.aj_deriv.specs.Combine.{Res, ◌>>=◌, begins, expect, further, one_of, at_most, several, exactly}
 use Rattle.aj_deriv.specs.Reading.{number_at, number_digits, is_empty}
-use Rattle.aj_deriv.proofs.Digits.{numerals, digits_are, take-run}
+use Rattle.aj_lemmas.proofs.Digits.{numerals}
+use Rattle.aj_deriv.proofs.Digits.{digits_are, take-run}
 
 -- what was read has a front of the text that L relates to it; a fault stands in the text
 abbrev pub SoundAt : {A : Type 0} → (List ℕ → A → Type 0) → List ℕ → Res A → Type 0
