@@ -1,5 +1,5 @@
 -- Places in lists, and which is the least bad one.
-use Rattle.std.proofs.Common.{◌≡◌, ℕ, zero, suc, ◌+◌, ◌<◌, ◌⊎◌, inl, inr, List, [], ◌∷◌, ◌++◌, length, Some, None, ◌∙◌, ap, subst, arith, slice_get}
+use Rattle.std.proofs.Common.{◌≡◌, ℕ, zero, suc, ◌+◌, ◌<◌, ◌⊎◌, inl, inr, List, [], ◌∷◌, ◌++◌, length, Some, None, ◌∙◌, subst, arith, slice_get}
 use Rattle.std.proofs.lemmas.Option.{same_Some, slice_get_within}
 use Rattle.aj_lemmas.proofs.Lists.{at_left, at_either, get_right}
 use Rattle.aj_deriv_check.specs.Parts.{Place, Each, IsLeastBad}

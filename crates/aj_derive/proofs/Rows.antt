@@ -1,7 +1,7 @@
 -- Lists that begin with others, and places in them.
 use Rattle.std.proofs.Common.{append-nil, ◌≡◌, ℕ, zero, suc, ◌⊎◌, inl, inr, List, [], ◌∷◌, ◌++◌, length, Some, None, refl, sym, ◌∙◌, ap, subst, slice_get, append_assoc}
 use Rattle.aj_cond.specs.Conditions.{Cond}
-use Rattle.aj_lemmas.proofs.Lists.{at_left, get_last}
+use Rattle.aj_lemmas.proofs.Lists.{at_left}
 use Rattle.aj_derive.specs.Concluded.{BeginsWith}
 use Rattle.aj_derive.specs.Derived.{AreInOrder}
 
