@@ -24,13 +24,13 @@ use Rattle.aj_elaborate.specs.Locks.{lock_rule}
 use Rattle.aj_elaborate.specs.Rules.{field_named, numbered_field, method_named, numbered_method, parameter_types, final_types, fields_in}
 use Rattle.aj_elaborate.specs.Programs.{all_there, field_node, ascending, guard_path, method_scope, run_of}
 use Rattle.aj_elaborate.proofs.Complete.{front_empty, back_empty}
-use Rattle.aj_elaborate.proofs.Inversions.{map_of}
+use Rattle.aj_elaborate.proofs.Inversions.{map_of, none_of}
 use Rattle.aj_elaborate.proofs.TypedExprs.{IsFieldOf, IsMethodOf, IsMade, Agrees}
 use Rattle.aj_elaborate.proofs.Parts.{Each, each_at, each_along, each_mapped, at_left, at_right, there_at, mapped_at, result_at, told_alike, none_mapped, each_faultless}
 use Rattle.aj_elaborate.proofs.Places.{FieldAt, MethodAt, own_fields, own_methods, fields_at, methods_at, field_entry, method_entry, core_field, core_method, field_entries, method_entries, own_method_names, own_fields_long, own_methods_long, own_class, own_method_class, class_entry, IsPlaced, placed, class_of_entry, places, count_up, fields_from_is, places_both, places_none, places_all, other_below, other_above}
 use Rattle.std.proofs.lemmas.Option.{slice_get_cases, same_Some}
 use Rattle.std.proofs.lemmas.Bool.{and_parts}
-use Rattle.aj_elaborate.proofs.Built.{class_node, IsBuilt, IsField, field_is, IsMethod, method_is, class_at, classes_long, params_alike, Reads, types_read, reads, place_of_name, entry_at, empty_is, none_is}
+use Rattle.aj_elaborate.proofs.Built.{class_node, IsBuilt, IsField, field_is, IsMethod, method_is, class_at, classes_long, params_alike, Reads, types_read, reads, place_of_name, entry_at, empty_is}
 
 -- a program's classes without faults
 pub record IsSound (known : List ℕ → Bool) (C : ClassTree) : Type 0 where
@@ -216,7 +216,7 @@ module _ (tree : ProgramTree) (P : Program) (b : IsBuilt tree P) where
         let bare_rest = and_parts (is_empty d.method.params) (is_empty d.method.locks) bare.1 in
         let no_params = empty_is d.method.params bare_rest.0 in
         let no_locks = empty_is d.method.locks bare_rest.1 in
-        let no_result = none_is d.method.returns bare.0 in
+        let no_result = none_of d.method.returns bare.0 in
         let paths_none : [] ≡ is.paths =
         same_Some [] is.paths (ap (λ z. all_there (map (λ l. gain (lock_rule the_table d.class (method_scope the_table d.method) l)) z)) (sym no_locks) ∙ is.locks) in (
           m,

@@ -1,19 +1,20 @@
 -- Methods: their faults and their core nodes from those of their parts.
-use Rattle.std.proofs.Common.{◌≡◌, ℕ, ◌+◌, ◌++◌, ◌&&◌, true, List, Option, Some, None, option_map, is_some, map, flat_map, length, Result, Ok, Err, OnOk, refl, ap, sym, ◌∙◌}
+use Rattle.std.proofs.Common.{◌≡◌, ℕ, ◌+◌, ◌++◌, ◌&&◌, true, List, [], ◌∷◌, Option, Some, None, option_map, is_some, map, flat_map, length, Result, Ok, Err, OnOk, refl, ap, sym, ◌∙◌}
 use Rattle.aj_paths.specs.Paths.{PathData}
 use Rattle.aj_core.specs.declared.types.CoreType.{CoreType}
 use Rattle.aj_core.specs.Core.{Stmt, Stmts, Method, BlockS}
 use Rattle.aj_syntax.specs.Trees.{MethodTree}
-use Rattle.aj_classes.specs.Table.{TableData}
+use Rattle.aj_syntax.specs.declared.tree.Param.{Param}
+use Rattle.aj_classes.specs.Table.{TableData, type_of}
 use Rattle.aj_elaborate.specs.declared.fault.TypeFault.{TypeFault}
 use Rattle.aj_elaborate.specs.Completion.{completes_each, locals_in_each}
 use Rattle.aj_elaborate.specs.Gathered.{return_faults}
 use Rattle.aj_elaborate.specs.Locks.{lock_rule}
-use Rattle.aj_elaborate.specs.Making.{method_from}
+use Rattle.aj_elaborate.specs.Making.{method_from, types_in}
 use Rattle.aj_elaborate.specs.Noted.{noted}
 use Rattle.aj_elaborate.specs.Programs.{all_there, method_scope, method_result, method_faults, method_core, method_node, missing_return}
 use Rattle.aj_elaborate.specs.Rulings.{gain, loss, both}
-use Rattle.aj_elaborate.specs.Scopes.{Scope}
+use Rattle.aj_elaborate.specs.Scopes.{Scope, parameters_from}
 use Rattle.aj_elaborate.specs.Stmts.{block_core, block_faults}
 use Rattle.aj_elaborate.proofs.Noting.{noted_append}
 
@@ -21,6 +22,11 @@ use Rattle.aj_elaborate.proofs.Noting.{noted_append}
 pub on_ok : {A E : Type 0} {P : Type 0} (r : Result A E) → P → OnOk r P
 on_ok (Ok a) p = p
 on_ok (Err e) p = tt
+
+-- the types of the parameters in scope
+pub types_from : (t : TableData) (slot : ℕ) (ps : List Param) → map (λ b. (b.variable.is_final, b.variable.ty)) (parameters_from t slot ps) ≡ types_in t ps
+types_from t slot [] = refl
+types_from t slot (p ∷ ps) = ap (λ z. (p.is_final, type_of t.names p.ty) ∷ z) (types_from t (slot + 1) ps)
 
 module _ (t : TableData) (k : ℕ) (m : MethodTree) (scope : Scope) (returns : Option CoreType) (first : ℕ) where
   abbrev lock_faults : Scope → List TypeFault

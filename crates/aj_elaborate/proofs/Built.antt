@@ -1,5 +1,5 @@
 -- What a program's class table tells holds of its core program.
-use Rattle.std.proofs.Common.{◌≡◌, ℕ, ◌+◌, zero, suc, Bool, true, false, cond, ◌||◌, List, [], ◌∷◌, ◌++◌, map, length, get_or, filter, Option, Some, None, is_none, refl, ap, ap₂, sym, ◌∙◌, subst, slice_get, position, bytes_eq, arith, if◌then◌else◌}
+use Rattle.std.proofs.Common.{◌≡◌, ℕ, ◌+◌, zero, suc, Bool, true, false, cond, ◌||◌, List, [], ◌∷◌, ◌++◌, map, length, get_or, filter, Option, Some, None, refl, ap, ap₂, sym, ◌∙◌, subst, slice_get, position, bytes_eq, arith, if◌then◌else◌}
 use Rattle.std.specs.List.{list_any, filter_map, cons_option}
 use Rattle.std.proofs.lemmas.List.Quantifiers.{position-Some}
 use Rattle.std.proofs.lemmas.List.Folds.{list_any-append}
@@ -220,10 +220,6 @@ place_of_name ns once j a at =
 pub empty_is : {A : Type 0} (xs : List A) → is_empty xs ≡ true → xs ≡ []
 empty_is [] h = refl
 empty_is (x ∷ xs) h = absurd (let e : false ≡ true = h in cc)
-
-pub none_is : {A : Type 0} (o : Option A) → is_none o ≡ true → o ≡ None
-none_is None h = refl
-none_is (Some a) h = absurd (let e : false ≡ true = h in cc)
 
 pub entry_at : (text : List ℕ) (k : ℕ) (ms : List MemberTree) → list_any (is_entry text) ms ≡ true
     → (j : ℕ) × (d : MethodAt) × (slice_get (own_methods k ms) j ≡ Some d) × (d.method.name.text ≡ text) × (is_bare d.method ≡ true)

@@ -1,5 +1,5 @@
 -- What rules gave tells what their parts gave.
-use Rattle.std.proofs.Common.{◌≡◌, Bool, true, false, Option, Some, None, Result, Ok, Err, refl, ap, ◌&&◌, option_map, option_and_then}
+use Rattle.std.proofs.Common.{◌≡◌, Bool, true, false, Option, Some, None, is_none, Result, Ok, Err, refl, ap, ◌&&◌, option_map, option_and_then}
 use Rattle.std.specs.Prelude.{ok_or}
 use Rattle.std.proofs.lemmas.Option.{same_Some}
 use Rattle.aj_elaborate.specs.declared.fault.TypeFault.{TypeFault}
@@ -16,6 +16,10 @@ pub given_of : {A B : Type 0} (rule : A → Result B TypeFault) (o : Option A) (
     → (a : A) × (o ≡ Some a) × (rule a ≡ Ok b)
 given_of rule (Some a) b h = (a, refl, gain_of (rule a) b h)
 given_of rule None b h = absurd cc
+
+pub none_of : {A : Type 0} (o : Option A) → is_none o ≡ true → o ≡ None
+none_of None h = refl
+none_of (Some a) h = absurd (let e : false ≡ true = h in cc)
 
 pub both_of : {A B : Type 0} (o : Option A) (p : Option B) (x : A × B) → both o p ≡ Some x → (o ≡ Some x.0) × (p ≡ Some x.1)
 both_of (Some a) (Some b) x h = let e = same_Some (a, b) x h in (ap (λ z. Some z.0) e, ap (λ z. Some z.1) e)

@@ -24,3 +24,4 @@ pub mod Steps
 pub mod Adding
 pub mod Answering
 pub mod Bodies
+pub mod Measures

@@ -29,7 +29,7 @@ use Rattle.aj_elaborate.specs.Locks.{lock_rule}
 use Rattle.aj_elaborate.specs.Exprs.{elaborated}
 use Rattle.aj_elaborate.specs.Completion.{completes, completes_each, is_true_literal, locals_in, locals_in_each}
 use Rattle.aj_elaborate.specs.Stmts.{local_rule, target_rule, set_rule, field_target, put_rule, do_rule, condition_rule, return_rule, value_rule, print_rule, says_runnable, is_runnable, start_rule, declared, if_node, scope_after, stmt_core, block_core}
-use Rattle.aj_elaborate.proofs.Inversions.{same_ok, gain_of, given_of, both_of, demand_of, then_of, ok_or_of, map_of}
+use Rattle.aj_elaborate.proofs.Inversions.{same_ok, gain_of, given_of, none_of, both_of, demand_of, then_of, ok_or_of, map_of}
 use Rattle.aj_elaborate.proofs.TypedExprs.{Agrees, Seen, is_int_of, is_boolean_of, receiver_of, field_of, expr_holds}
 use Rattle.aj_elaborate.proofs.TypedLocks.{lock_holds}
 use Rattle.aj_elaborate.proofs.Shapes.{max_mono, size, IsShape, expr_shape}
@@ -64,10 +64,6 @@ max_if a b c d h k one = grind arith
 or_true : (b : Bool) → (b || true) ≡ true
 or_true true = refl
 or_true false = refl
-
-none_of : {A : Type 0} (o : Option A) → is_none o ≡ true → o ≡ None
-none_of None h = refl
-none_of (Some a) h = absurd (let e : false ≡ true = h in cc)
 
 pub first_in : {A : Type 0} (x : A) (xs : List A) → Contains (x ∷ xs) x
 first_in x xs = (0, omega arith, refl)

@@ -94,6 +94,11 @@ declared scope slot before is_final n (Some ty) =
     then scope ++ record { name = n.text; variable = record { slot = slot; is_final = is_final; ty = ty } } ∷ []
     else scope
 
+-- the type of the local that a statement declares
+abbrev pub declared_type : TableData → StmtTree → Option CoreType
+declared_type t (tree.LocalS fin ty n e at) = gain (type_rule t ty)
+declared_type t _ = None
+
 -- of a statement of a block that can't be reached
 abbrev pub unreachable : Bool → StmtTree → List TypeFault
 unreachable true s = []

@@ -3,6 +3,7 @@
 
 ghost use Rattle.std.specs.Prelude.{◌≡◌, map, option_map, IfOk, OnOk};
 ghost use Rattle.aj_classes.specs.Views.{table_data};
+ghost use Rattle.aj_syntax.specs.Trees.{BinaryE, CallE, GetE, NegE, NewE, NotE};
 ghost use Rattle.aj_syntax.specs.Views.{expr_of, exprs_from};
 ghost use Rattle.aj_elaborate.specs.Exprs.{elaborated, elaborated_each, expr_faults, each_faults};
 ghost use Rattle.aj_elaborate.specs.Noted.{noted};
@@ -19,7 +20,7 @@ use crate::types::{ExprType, TypedExpr};
 use aj_classes::ClassTable;
 use aj_core::{CoreExpr, CoreType};
 use aj_paths::ClassId;
-use aj_syntax::Expr;
+use aj_syntax::{Expr, Name, Op};
 use std::alloc::{AllocError as NoMemory, Global};
 
 /// An expression in a class, with these variables in scope. None where it has no type; its faults are noted.
@@ -46,33 +47,130 @@ pub(crate) fn expr(
         Expr::This(_) => Ok(Some(value(CoreType::Class(class), CoreExpr::This))),
         Expr::Var(name) => Ok(variable_rule(scope, name, first)),
         Expr::Paren(inner, _) => expr(alloc, table, class, scope, inner, first),
-        Expr::Not(part, at) => {
-            let part = expr(alloc, table, class, scope, part, first)?;
-            not_rule(alloc, *at, part, first)
-        }
-        Expr::Neg(part, at) => {
-            let part = expr(alloc, table, class, scope, part, first)?;
-            neg_rule(alloc, *at, part, first)
-        }
+        Expr::Not(part, at) => not_expr(alloc, table, class, scope, part, *at, first),
+        Expr::Neg(part, at) => neg_expr(alloc, table, class, scope, part, *at, first),
         Expr::Binary(op, left, right, at) => {
-            let left = expr(alloc, table, class, scope, left, first)?;
-            let right = expr(alloc, table, class, scope, right, first)?;
-            binary_rule(alloc, *op, *at, left, right, first)
+            binary_expr(alloc, table, class, scope, *op, left, right, *at, first)
         }
-        Expr::Get(receiver, name) => {
-            let receiver = expr(alloc, table, class, scope, receiver, first)?;
-            get_rule(alloc, table, name, receiver, first)
-        }
+        Expr::Get(receiver, name) => get_expr(alloc, table, class, scope, receiver, name, first),
         Expr::Call(receiver, name, args) => {
-            let receiver = expr(alloc, table, class, scope, receiver, first)?;
-            let args = arguments(alloc, table, class, scope, args, first)?;
-            call_rule(alloc, table, name, receiver, args, first)
+            call_expr(alloc, table, class, scope, receiver, name, args, first)
         }
-        Expr::New(name, args, _) => {
-            let args = arguments(alloc, table, class, scope, args, first)?;
-            new_rule(alloc, table, name, args, first)
-        }
+        Expr::New(name, args, _) => new_expr(alloc, table, class, scope, name, args, first),
     }
+}
+
+#[cycle(expressions)]
+#[inline(never)]
+fn not_expr(
+    alloc: Global,
+    table: &ClassTable,
+    class: ClassId,
+    scope: &[Bound],
+    part: &Expr,
+    at: u32,
+    first: &mut FirstFault,
+) -> Result<Option<TypedExpr>, NoMemory>
+    ensures typed { IfOk result (λ r. option_map typed_data r ≡ elaborated (table_data table.now) class scope.now (NotE (expr_of part.now) at)) }
+    ensures fault { OnOk result (first.new ≡ noted first.old (expr_faults (table_data table.now) class scope.now (NotE (expr_of part.now) at))) }
+{
+    let part = expr(alloc, table, class, scope, part, first)?;
+    not_rule(alloc, at, part, first)
+}
+
+#[cycle(expressions)]
+#[inline(never)]
+fn neg_expr(
+    alloc: Global,
+    table: &ClassTable,
+    class: ClassId,
+    scope: &[Bound],
+    part: &Expr,
+    at: u32,
+    first: &mut FirstFault,
+) -> Result<Option<TypedExpr>, NoMemory>
+    ensures typed { IfOk result (λ r. option_map typed_data r ≡ elaborated (table_data table.now) class scope.now (NegE (expr_of part.now) at)) }
+    ensures fault { OnOk result (first.new ≡ noted first.old (expr_faults (table_data table.now) class scope.now (NegE (expr_of part.now) at))) }
+{
+    let part = expr(alloc, table, class, scope, part, first)?;
+    neg_rule(alloc, at, part, first)
+}
+
+#[cycle(expressions)]
+#[inline(never)]
+fn binary_expr(
+    alloc: Global,
+    table: &ClassTable,
+    class: ClassId,
+    scope: &[Bound],
+    op: Op,
+    left: &Expr,
+    right: &Expr,
+    at: u32,
+    first: &mut FirstFault,
+) -> Result<Option<TypedExpr>, NoMemory>
+    ensures typed { IfOk result (λ r. option_map typed_data r ≡ elaborated (table_data table.now) class scope.now (BinaryE op (expr_of left.now) (expr_of right.now) at)) }
+    ensures fault { OnOk result (first.new ≡ noted first.old (expr_faults (table_data table.now) class scope.now (BinaryE op (expr_of left.now) (expr_of right.now) at))) }
+{
+    let left = expr(alloc, table, class, scope, left, first)?;
+    let right = expr(alloc, table, class, scope, right, first)?;
+    binary_rule(alloc, op, at, left, right, first)
+}
+
+#[cycle(expressions)]
+#[inline(never)]
+fn get_expr(
+    alloc: Global,
+    table: &ClassTable,
+    class: ClassId,
+    scope: &[Bound],
+    receiver: &Expr,
+    name: &Name,
+    first: &mut FirstFault,
+) -> Result<Option<TypedExpr>, NoMemory>
+    ensures typed { IfOk result (λ r. option_map typed_data r ≡ elaborated (table_data table.now) class scope.now (GetE (expr_of receiver.now) name.now)) }
+    ensures fault { OnOk result (first.new ≡ noted first.old (expr_faults (table_data table.now) class scope.now (GetE (expr_of receiver.now) name.now))) }
+{
+    let receiver = expr(alloc, table, class, scope, receiver, first)?;
+    get_rule(alloc, table, name, receiver, first)
+}
+
+#[cycle(expressions)]
+#[inline(never)]
+fn call_expr(
+    alloc: Global,
+    table: &ClassTable,
+    class: ClassId,
+    scope: &[Bound],
+    receiver: &Expr,
+    name: &Name,
+    args: &[Expr],
+    first: &mut FirstFault,
+) -> Result<Option<TypedExpr>, NoMemory>
+    ensures typed { IfOk result (λ r. option_map typed_data r ≡ elaborated (table_data table.now) class scope.now (CallE (expr_of receiver.now) name.now (exprs_from (map expr_of args.now)))) }
+    ensures fault { OnOk result (first.new ≡ noted first.old (expr_faults (table_data table.now) class scope.now (CallE (expr_of receiver.now) name.now (exprs_from (map expr_of args.now))))) }
+{
+    let receiver = expr(alloc, table, class, scope, receiver, first)?;
+    let args = arguments(alloc, table, class, scope, args, first)?;
+    call_rule(alloc, table, name, receiver, args, first)
+}
+
+#[cycle(expressions)]
+#[inline(never)]
+fn new_expr(
+    alloc: Global,
+    table: &ClassTable,
+    class: ClassId,
+    scope: &[Bound],
+    name: &Name,
+    args: &[Expr],
+    first: &mut FirstFault,
+) -> Result<Option<TypedExpr>, NoMemory>
+    ensures typed { IfOk result (λ r. option_map typed_data r ≡ elaborated (table_data table.now) class scope.now (NewE name.now (exprs_from (map expr_of args.now)) 0)) }
+    ensures fault { OnOk result (first.new ≡ noted first.old (expr_faults (table_data table.now) class scope.now (NewE name.now (exprs_from (map expr_of args.now)) 0))) }
+{
+    let args = arguments(alloc, table, class, scope, args, first)?;
+    new_rule(alloc, table, name, args, first)
 }
 
 #[cycle(expressions)]

@@ -11,7 +11,7 @@ ghost use Rattle.aj_elaborate.specs.Inside.{block_faults_in, block_in};
 ghost use Rattle.aj_elaborate.specs.Completion.{locals_in_each, completes_each};
 ghost use Rattle.aj_elaborate.specs.Gathered.{method_in, faults_in_method, return_faults};
 ghost use Rattle.aj_elaborate.specs.Locks.{lock_rule};
-ghost use Rattle.aj_elaborate.specs.Making.{method_with};
+ghost use Rattle.aj_elaborate.specs.Making.{method_with, types_in};
 ghost use Rattle.aj_elaborate.specs.Noted.{noted};
 ghost use Rattle.aj_elaborate.specs.Programs.{all_there, ascending};
 ghost use Rattle.aj_elaborate.specs.Rulings.{gain, loss, both};
@@ -86,16 +86,13 @@ fn parameters<'a>(
     Ok(scope)
 }
 
-fn param_types(
-    alloc: Global,
-    table: &ClassTable,
-    params: &[Param],
-) -> Result<Vec<(bool, CoreType)>, NoMemory>
-    ensures { IfOk result (λ types. types.items ≡ map (λ p. (p.is_final, type_of (table_data table.now).names p.ty)) params.now) }
+// Of each variable whether it is final, and its type.
+fn variable_types(alloc: Global, scope: &[Bound]) -> Result<Vec<(bool, CoreType)>, NoMemory>
+    ensures { IfOk result (λ types. types.items ≡ map (λ b. (b.variable.is_final, b.variable.ty)) scope.now) }
 {
     let mut types = Vec::new(alloc);
-    for param in params {
-        types.push((param.is_final, core_type(table, &param.ty)))?;
+    for bound in scope {
+        types.push((bound.is_final, bound.ty))?;
     }
     Ok(types)
 }
@@ -163,21 +160,23 @@ fn note_missing_return(returns: bool, completes: bool, at: u32, first: &mut Firs
     }
 }
 
-/// The locks that a method requires, where each is one, and what its body gives.
+/// The types of a method's parameters, the locks that it requires, where each is one, and what its body gives.
 #[derive(Drop)]
-struct LocksAndBody {
+struct MethodParts {
+    types: Vec<(bool, CoreType)>,
     locks: Option<Vec<Path>>,
     body: StmtPart,
 }
 
-// The locks and the body of a method with these parameters.
-fn locks_and_body<'a>(
+// The parts of a method with these parameters.
+fn method_parts<'a>(
     body: &Body,
     params: &[Param<'a>],
     locks: &[Lock],
     stmts: &[Stmt<'a>],
     first: &mut FirstFault,
-) -> Result<LocksAndBody, NoMemory>
+) -> Result<MethodParts, NoMemory>
+    ensures types { IfOk result (λ made. made.types.items ≡ types_in (table_data body.now.table.now) params.now) }
     ensures locks { IfOk result (λ made. option_map (λ v. v.items) made.locks ≡ all_there (map (λ l. gain (lock_rule (table_data body.now.table.now) body.now.class (parameters_from (table_data body.now.table.now) 1 params.now) l)) (map lock_of locks.now))) }
     ensures node { IfOk result (λ made. option_map stmt_of made.body.node ≡ option_map BlockS (block_in body.now (parameters_from (table_data body.now.table.now) 1 params.now) 0 (stmts_from (map tree_of stmts.now)))) }
     ensures locals { IfOk result (λ made. made.body.locals ≡ locals_in_each (stmts_from (map tree_of stmts.now))) }
@@ -193,8 +192,9 @@ fn locks_and_body<'a>(
         locks,
         first,
     )?;
+    let types = variable_types(body.alloc, scope.as_slice())?;
     let body = block(body, &mut scope, 0, stmts, first)?;
-    Ok(LocksAndBody { locks, body })
+    Ok(MethodParts { types, locks, body })
 }
 
 // The core method of these parts. None where one is missing.
@@ -202,12 +202,15 @@ fn core_method(
     body: &Body,
     atomic: bool,
     place_at: u32,
-    types: Vec<(bool, CoreType)>,
-    made: LocksAndBody,
+    made: MethodParts,
 ) -> Result<Option<CoreMethod>, NoMemory>
-    ensures { IfOk result (λ m. option_map method_of m ≡ option_map (method_with body.now.class body.now.returns body.now.first_local atomic place_at types.items made.body.locals) (both (option_map (λ v. v.items) made.locks) (option_map stmt_of made.body.node))) }
+    ensures { IfOk result (λ m. option_map method_of m ≡ option_map (method_with body.now.class body.now.returns body.now.first_local atomic place_at made.types.items made.body.locals) (both (option_map (λ v. v.items) made.locks) (option_map stmt_of made.body.node))) }
 {
-    let LocksAndBody { locks, body: part } = made;
+    let MethodParts {
+        types,
+        locks,
+        body: part,
+    } = made;
     let locals = part.locals;
     let Some(locks) = locks else {
         return Ok(None);
@@ -258,8 +261,7 @@ pub(crate) fn method(
         returns: result_of(table, returns),
         first_local: first_local(params)?,
     };
-    let made = locks_and_body(&body, params, requires_.as_slice(), stmts.as_slice(), first)?;
+    let made = method_parts(&body, params, requires_.as_slice(), stmts.as_slice(), first)?;
     note_missing_return(returns.is_some(), made.body.completes, *at, first);
-    let types = param_types(alloc, table, params)?;
-    core_method(&body, *atomic, name.at, types, made)
+    core_method(&body, *atomic, name.at, made)
 }

@@ -1,6 +1,6 @@
 //! The core nodes of statements that hold statements.
 
-ghost use Rattle.std.specs.Prelude.{◌≡◌, ◌+◌, ◌||◌, true, option_map, IfOk};
+ghost use Rattle.std.specs.Prelude.{◌≡◌, ◌+◌, ◌||◌, None, true, option_map, IfOk};
 ghost use Rattle.aj_core.specs.Core.{BlockS, EmptyS, IfS, WhileS, SyncS};
 ghost use Rattle.aj_core.specs.Views.{expr_of, stmt_of, stmts_from};
 ghost use Rattle.aj_elaborate.specs.Gathered.{gathered};
@@ -8,16 +8,18 @@ ghost use Rattle.aj_elaborate.specs.Rulings.{both};
 ghost use Rattle.aj_elaborate.specs.Stmts.{if_node};
 
 use crate::gather::Gathered;
-use aj_core::{CoreExpr, CoreStmt};
+use aj_core::{CoreExpr, CoreStmt, CoreType};
 use aj_paths::Path;
 use std::alloc::{AllocError as NoMemory, Global};
 
-/// What a statement gives: its core node, where it has one; how many locals it declares; whether it can complete.
+/// What a statement gives: its core node, where it has one; how many locals it declares; whether it can complete; of a
+/// declaration, the type that is written, where it is one.
 #[derive(Drop)]
 pub(crate) struct StmtPart {
     pub(crate) node: Option<CoreStmt>,
     pub(crate) locals: usize,
     pub(crate) completes: bool,
+    pub(crate) declared: Option<CoreType>,
 }
 
 /// The sum of two counts. There is no memory for a program that has more of something than a `usize` can count.
@@ -79,6 +81,7 @@ pub(crate) fn if_part(
     ensures node { IfOk result (λ p. option_map stmt_of p.node ≡ option_map if_node (both (option_map expr_of condition) (both (option_map stmt_of then.node) (option_map stmt_of other.node)))) }
     ensures locals { IfOk result (λ p. p.locals ≡ then.locals + other.locals) }
     ensures completes { IfOk result (λ p. p.completes ≡ (then.completes || other.completes)) }
+    ensures declared { IfOk result (λ p. p.declared ≡ None) }
 {
     let locals = total(then.locals, other.locals)?;
     let completes = then.completes || other.completes;
@@ -87,6 +90,7 @@ pub(crate) fn if_part(
         node,
         locals,
         completes,
+        declared: None,
     })
 }
 
@@ -99,6 +103,7 @@ pub(crate) fn if_alone(
     ensures node { IfOk result (λ p. option_map stmt_of p.node ≡ option_map (λ q. IfS q.0 q.1 EmptyS) (both (option_map expr_of condition) (option_map stmt_of then.node))) }
     ensures locals { IfOk result (λ p. p.locals ≡ then.locals) }
     ensures completes { IfOk result (λ p. p.completes ≡ true) }
+    ensures declared { IfOk result (λ p. p.declared ≡ None) }
 {
     let locals = then.locals;
     let node = if_node(alloc, condition, then.node, Some(CoreStmt::Empty))?;
@@ -106,6 +111,7 @@ pub(crate) fn if_alone(
         node,
         locals,
         completes: true,
+        declared: None,
     })
 }
 
@@ -137,6 +143,7 @@ pub(crate) fn while_part(
     ensures node { IfOk result (λ p. option_map stmt_of p.node ≡ option_map (λ q. WhileS q.0 q.1) (both (option_map expr_of condition) (option_map stmt_of inner.node))) }
     ensures locals { IfOk result (λ p. p.locals ≡ inner.locals) }
     ensures completes { IfOk result (λ p. p.completes ≡ completes) }
+    ensures declared { IfOk result (λ p. p.declared ≡ None) }
 {
     let locals = inner.locals;
     let node = while_node(alloc, condition, inner.node)?;
@@ -144,6 +151,7 @@ pub(crate) fn while_part(
         node,
         locals,
         completes,
+        declared: None,
     })
 }
 
@@ -173,6 +181,7 @@ pub(crate) fn sync_part(
     ensures node { IfOk result (λ p. option_map stmt_of p.node ≡ option_map (λ q. SyncS q.0 q.1) (both path (option_map stmt_of inner.node))) }
     ensures locals { IfOk result (λ p. p.locals ≡ inner.locals) }
     ensures completes { IfOk result (λ p. p.completes ≡ inner.completes) }
+    ensures declared { IfOk result (λ p. p.declared ≡ None) }
 {
     let locals = inner.locals;
     let completes = inner.completes;
@@ -181,5 +190,6 @@ pub(crate) fn sync_part(
         node,
         locals,
         completes,
+        declared: None,
     })
 }

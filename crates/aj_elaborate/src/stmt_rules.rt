@@ -63,16 +63,18 @@ fn fit_rule(at: u32, ty: CoreType, value: TypedExpr, first: &mut FirstFault) -> 
 /// The type and the value of a declaration.
 pub(crate) fn local_value(
     at: u32,
-    ty: Option<CoreType>,
+    ty: &Option<CoreType>,
     value: Option<TypedExpr>,
     first: &mut FirstFault,
 ) -> Option<(CoreType, CoreExpr)>
-    ensures node { (slot : ℕ) (is_final : Bool) → option_map (λ p. LocalS slot is_final p.0 (expr_of p.1)) result ≡ given (local_rule slot is_final at) (both ty (option_map typed_data value)) }
-    ensures fault { (slot : ℕ) (is_final : Bool) → first.new ≡ noted first.old (broken (local_rule slot is_final at) (both ty (option_map typed_data value))) }
+    ensures node { (slot : ℕ) (is_final : Bool) → option_map (λ p. LocalS slot is_final p.0 (expr_of p.1)) result ≡ given (local_rule slot is_final at) (both ty.now (option_map typed_data value)) }
+    ensures fault { (slot : ℕ) (is_final : Bool) → first.new ≡ noted first.old (broken (local_rule slot is_final at) (both ty.now (option_map typed_data value))) }
 {
-    let ty = ty?;
-    let value = fit_rule(at, ty, value?, first)?;
-    Some((ty, value))
+    let Some(ty) = ty else {
+        return None;
+    };
+    let value = fit_rule(at, *ty, value?, first)?;
+    Some((*ty, value))
 }
 
 /// The node of a declaration, where so many locals stand before it. There is none past the limit.

@@ -1,18 +1,18 @@
 //! Statements and blocks: the core node of each, where each part has one.
 #![tactic(auto, using(crate::proofs::Noting::noted_append))]
 
-ghost use Rattle.std.specs.Prelude.{◌≡◌, ◌++◌, List, true, false, map, option_map, IfOk, OnOk};
+ghost use Rattle.std.specs.Prelude.{◌≡◌, ◌+◌, ◌++◌, ◌||◌, List, None, true, false, not, map, option_map, IfOk, OnOk};
 ghost use Rattle.aj_classes.specs.Views.{table_data};
 ghost use Rattle.aj_core.specs.Core.{BlockS};
 ghost use Rattle.aj_core.specs.Views as core;
 ghost use Rattle.aj_syntax.specs.Trees as tree;
-ghost use Rattle.aj_syntax.specs.Views.{expr_of, stmt_of, stmts_from};
-ghost use Rattle.aj_elaborate.specs.Completion.{completes, completes_each, locals_in, locals_in_each};
+ghost use Rattle.aj_syntax.specs.Views.{expr_of, lock_of, stmt_of, stmts_from};
+ghost use Rattle.aj_elaborate.specs.Completion.{completes, completes_each, is_true_literal as literal_true, locals_in, locals_in_each};
 ghost use Rattle.aj_elaborate.specs.Inside.{block_faults_in, block_in, core_in, faults_in, scope_in};
 ghost use Rattle.aj_elaborate.specs.Noted.{noted};
 ghost use Rattle.aj_elaborate.specs.Rulings.{gain};
 ghost use Rattle.aj_elaborate.specs.Rules.{type_rule};
-ghost use Rattle.aj_elaborate.specs.Stmts.{unreachable};
+ghost use Rattle.aj_elaborate.specs.Stmts.{declared_type, unreachable};
 ghost use Rattle.aj_elaborate.specs.declared.scope.Bound.{Bound};
 
 use crate::body::{Body, condition, typed};
@@ -27,9 +27,8 @@ use crate::stmt_rules::{
     MOST_LOCALS, do_rule, field_target, local_node, local_value, note_declaration, print_rule,
     put_rule, return_rule, set_rule, start_rule, target_rule, type_rule, value_rule,
 };
-use aj_classes::ClassTable;
 use aj_core::{CoreStmt, CoreType};
-use aj_syntax::{Expr, Name, Stmt, TypeName};
+use aj_syntax::{Expr, Lock, Name, Stmt, TypeName};
 use std::alloc::{AllocError as NoMemory, Global};
 
 // A statement that declares nothing and can complete.
@@ -37,11 +36,13 @@ fn simple(node: Option<CoreStmt>) -> StmtPart
     ensures node { result.node ≡ node }
     ensures locals { result.locals ≡ 0 }
     ensures completes { result.completes ≡ true }
+    ensures declared { result.declared ≡ None }
 {
     StmtPart {
         node,
         locals: 0,
         completes: true,
+        declared: None,
     }
 }
 
@@ -58,17 +59,19 @@ fn local(
     ensures node { IfOk result (λ p. option_map core.stmt_of p.node ≡ core_in body.now scope.now before (tree.LocalS is_final ty.now name.now (expr_of value.now) 0)) }
     ensures locals { IfOk result (λ p. p.locals ≡ 1) }
     ensures completes { IfOk result (λ p. p.completes ≡ true) }
+    ensures declared { IfOk result (λ p. p.declared ≡ gain (type_rule (table_data body.now.table.now) ty.now)) }
     ensures fault { OnOk result (first.new ≡ noted first.old (faults_in body.now scope.now before (tree.LocalS is_final ty.now name.now (expr_of value.now) 0))) }
 {
     let ty = type_rule(body.table, ty, first);
     let value = typed(body, scope, value, first)?;
-    let value = local_value(name.at, ty, value, first);
+    let value = local_value(name.at, &ty, value, first);
     note_declaration(scope, before, name, first);
     let node = local_node(body.alloc, body.first_local, before, is_final, value)?;
     Ok(StmtPart {
         node,
         locals: 1,
         completes: true,
+        declared: ty,
     })
 }
 
@@ -83,6 +86,7 @@ fn set_var(
     ensures node { IfOk result (λ p. option_map core.stmt_of p.node ≡ core_in body.now scope.now 0 (tree.SetVarS name.now (expr_of value.now) at)) }
     ensures locals { IfOk result (λ p. p.locals ≡ 0) }
     ensures completes { IfOk result (λ p. p.completes ≡ true) }
+    ensures declared { IfOk result (λ p. p.declared ≡ None) }
     ensures fault { OnOk result (first.new ≡ noted first.old (faults_in body.now scope.now 0 (tree.SetVarS name.now (expr_of value.now) at))) }
 {
     let target = target_rule(scope, name, first);
@@ -103,6 +107,7 @@ fn set_field(
     ensures node { IfOk result (λ p. option_map core.stmt_of p.node ≡ core_in body.now scope.now 0 (tree.SetFieldS (expr_of receiver.now) name.now (expr_of value.now) at)) }
     ensures locals { IfOk result (λ p. p.locals ≡ 0) }
     ensures completes { IfOk result (λ p. p.completes ≡ true) }
+    ensures declared { IfOk result (λ p. p.declared ≡ None) }
     ensures fault { OnOk result (first.new ≡ noted first.old (faults_in body.now scope.now 0 (tree.SetFieldS (expr_of receiver.now) name.now (expr_of value.now) at))) }
 {
     let receiver = typed(body, scope, receiver, first)?;
@@ -122,6 +127,7 @@ fn call(
     ensures node { IfOk result (λ p. option_map core.stmt_of p.node ≡ core_in body.now scope.now 0 (tree.DoS (expr_of part.now) at)) }
     ensures locals { IfOk result (λ p. p.locals ≡ 0) }
     ensures completes { IfOk result (λ p. p.completes ≡ true) }
+    ensures declared { IfOk result (λ p. p.declared ≡ None) }
     ensures fault { OnOk result (first.new ≡ noted first.old (faults_in body.now scope.now 0 (tree.DoS (expr_of part.now) at))) }
 {
     let part = typed(body, scope, part, first)?;
@@ -139,6 +145,7 @@ fn print(
     ensures node { IfOk result (λ p. option_map core.stmt_of p.node ≡ core_in body.now scope.now 0 (tree.PrintS (expr_of part.now) at)) }
     ensures locals { IfOk result (λ p. p.locals ≡ 0) }
     ensures completes { IfOk result (λ p. p.completes ≡ true) }
+    ensures declared { IfOk result (λ p. p.declared ≡ None) }
     ensures fault { OnOk result (first.new ≡ noted first.old (faults_in body.now scope.now 0 (tree.PrintS (expr_of part.now) at))) }
 {
     let part = typed(body, scope, part, first)?;
@@ -156,6 +163,7 @@ fn start(
     ensures node { IfOk result (λ p. option_map core.stmt_of p.node ≡ core_in body.now scope.now 0 (tree.StartS (expr_of part.now) at)) }
     ensures locals { IfOk result (λ p. p.locals ≡ 0) }
     ensures completes { IfOk result (λ p. p.completes ≡ true) }
+    ensures declared { IfOk result (λ p. p.declared ≡ None) }
     ensures fault { OnOk result (first.new ≡ noted first.old (faults_in body.now scope.now 0 (tree.StartS (expr_of part.now) at))) }
 {
     let part = typed(body, scope, part, first)?;
@@ -190,6 +198,7 @@ fn return_part(
     ensures node { IfOk result (λ p. option_map core.stmt_of p.node ≡ core_in body.now scope.now 0 (tree.ReturnS (option_map (λ b. expr_of b.value) value.now) at)) }
     ensures locals { IfOk result (λ p. p.locals ≡ 0) }
     ensures completes { IfOk result (λ p. p.completes ≡ false) }
+    ensures declared { IfOk result (λ p. p.declared ≡ None) }
     ensures fault { OnOk result (first.new ≡ noted first.old (faults_in body.now scope.now 0 (tree.ReturnS (option_map (λ b. expr_of b.value) value.now) at))) }
 {
     let node = return_node(body, scope, value, at, first)?;
@@ -197,6 +206,7 @@ fn return_part(
         node,
         locals: 0,
         completes: false,
+        declared: None,
     })
 }
 
@@ -209,40 +219,22 @@ fn note_unreachable(live: bool, s: &Stmt, first: &mut FirstFault)
     }
 }
 
-// The type that is written, where there is one.
-fn type_named(table: &ClassTable, ty: &TypeName) -> Option<CoreType>
-    ensures { result ≡ gain (type_rule (table_data table.now) ty.now) }
-{
-    match ty {
-        TypeName::Int => Some(CoreType::Int),
-        TypeName::Boolean => Some(CoreType::Boolean),
-        TypeName::Class(name) => {
-            let class = table.class_named(name.text)?;
-            Some(CoreType::Class(class))
-        }
-    }
-}
-
 // Puts what a statement declares into scope, where so many locals stand before it.
 fn declare<'a>(
     body: &Body,
     before: usize,
     s: &Stmt<'a>,
+    declared: Option<CoreType>,
     scope: &mut Vec<Bound<'a>>,
 ) -> Result<(), NoMemory>
+    requires { declared ≡ declared_type (table_data body.now.table.now) (stmt_of s.now) }
     ensures scope { OnOk result (scope.new.items ≡ scope_in body.now scope.old.items before (stmt_of s.now)) }
     ensures kept { OnOk result ((more : List Bound) × (scope.new.items ≡ scope.old.items ++ more)) }
 {
-    let Stmt::Local {
-        is_final,
-        ty,
-        name,
-        ..
-    } = s
-    else {
+    let Stmt::Local { is_final, name, .. } = s else {
         return Ok(());
     };
-    let Some(ty) = type_named(body.table, ty) else {
+    let Some(ty) = declared else {
         return Ok(());
     };
     if before >= MOST_LOCALS {
@@ -271,6 +263,7 @@ fn stmt<'a>(
     ensures scope { OnOk result (scope.new.items ≡ scope.old.items) }
     ensures locals { IfOk result (λ p. p.locals ≡ locals_in (stmt_of s.now)) }
     ensures completes { IfOk result (λ p. p.completes ≡ completes (stmt_of s.now)) }
+    ensures declared { IfOk result (λ p. p.declared ≡ declared_type (table_data body.now.table.now) (stmt_of s.now)) }
     ensures fault { OnOk result (first.new ≡ noted first.old (faults_in body.now scope.old.items before (stmt_of s.now))) }
 {
     match s {
@@ -299,31 +292,111 @@ fn stmt<'a>(
             set_field(body, scope.as_slice(), receiver, name, value, *at, first)
         }
         Stmt::Do(part, at) => call(body, scope.as_slice(), part, *at, first),
-        Stmt::If(part, then, other, at) => {
-            let part = condition(body, scope.as_slice(), part, *at, first)?;
-            let then = stmt(body, scope, before, then, first)?;
-            let Some(other) = other else {
-                return if_alone(body.alloc, part, then);
-            };
-            let before_other = total(before, then.locals)?;
-            let other = stmt(body, scope, before_other, other, first)?;
-            if_part(body.alloc, part, then, other)
+        Stmt::If(part, then, None, at) => if_then(body, scope, before, part, then, *at, first),
+        Stmt::If(part, then, Some(other), at) => {
+            if_else(body, scope, before, part, then, other, *at, first)
         }
-        Stmt::While(part, inner, at) => {
-            let ends = !is_true_literal(part);
-            let part = condition(body, scope.as_slice(), part, *at, first)?;
-            let inner = stmt(body, scope, before, inner, first)?;
-            while_part(body.alloc, part, ends, inner)
-        }
-        Stmt::Sync(lock, stmts, _) => {
-            let path = lock_path(body.table, body.class, scope.as_slice(), lock, first);
-            let inner = block(body, scope, before, stmts, first)?;
-            sync_part(body.alloc, path, inner)
-        }
+        Stmt::While(part, inner, at) => while_loop(body, scope, before, part, inner, *at, first),
+        Stmt::Sync(lock, stmts, _) => sync(body, scope, before, lock, stmts, first),
         Stmt::Return(value, at) => return_part(body, scope.as_slice(), value, *at, first),
         Stmt::Print(part, at) => print(body, scope.as_slice(), part, *at, first),
         Stmt::Start(part, at) => start(body, scope.as_slice(), part, *at, first),
     }
+}
+
+#[cycle(statements)]
+#[inline(never)]
+fn if_then<'a>(
+    body: &Body,
+    scope: &mut Vec<Bound<'a>>,
+    before: usize,
+    part: &Expr,
+    then: &Stmt<'a>,
+    at: u32,
+    first: &mut FirstFault,
+) -> Result<StmtPart, NoMemory>
+    ensures node { IfOk result (λ p. option_map core.stmt_of p.node ≡ core_in body.now scope.old.items before (tree.IfS (expr_of part.now) (stmt_of then.now) at)) }
+    ensures scope { OnOk result (scope.new.items ≡ scope.old.items) }
+    ensures locals { IfOk result (λ p. p.locals ≡ locals_in (stmt_of then.now)) }
+    ensures completes { IfOk result (λ p. p.completes ≡ true) }
+    ensures declared { IfOk result (λ p. p.declared ≡ None) }
+    ensures fault { OnOk result (first.new ≡ noted first.old (faults_in body.now scope.old.items before (tree.IfS (expr_of part.now) (stmt_of then.now) at))) }
+{
+    let part = condition(body, scope.as_slice(), part, at, first)?;
+    let then = stmt(body, scope, before, then, first)?;
+    if_alone(body.alloc, part, then)
+}
+
+#[cycle(statements)]
+#[inline(never)]
+fn if_else<'a>(
+    body: &Body,
+    scope: &mut Vec<Bound<'a>>,
+    before: usize,
+    part: &Expr,
+    then: &Stmt<'a>,
+    other: &Stmt<'a>,
+    at: u32,
+    first: &mut FirstFault,
+) -> Result<StmtPart, NoMemory>
+    ensures node { IfOk result (λ p. option_map core.stmt_of p.node ≡ core_in body.now scope.old.items before (tree.IfElseS (expr_of part.now) (stmt_of then.now) (stmt_of other.now) at)) }
+    ensures scope { OnOk result (scope.new.items ≡ scope.old.items) }
+    ensures locals { IfOk result (λ p. p.locals ≡ locals_in (stmt_of then.now) + locals_in (stmt_of other.now)) }
+    ensures completes { IfOk result (λ p. p.completes ≡ (completes (stmt_of then.now) || completes (stmt_of other.now))) }
+    ensures declared { IfOk result (λ p. p.declared ≡ None) }
+    ensures fault { OnOk result (first.new ≡ noted first.old (faults_in body.now scope.old.items before (tree.IfElseS (expr_of part.now) (stmt_of then.now) (stmt_of other.now) at))) }
+{
+    let part = condition(body, scope.as_slice(), part, at, first)?;
+    let then = stmt(body, scope, before, then, first)?;
+    let before_other = total(before, then.locals)?;
+    let other = stmt(body, scope, before_other, other, first)?;
+    if_part(body.alloc, part, then, other)
+}
+
+#[cycle(statements)]
+#[inline(never)]
+fn while_loop<'a>(
+    body: &Body,
+    scope: &mut Vec<Bound<'a>>,
+    before: usize,
+    part: &Expr,
+    inner: &Stmt<'a>,
+    at: u32,
+    first: &mut FirstFault,
+) -> Result<StmtPart, NoMemory>
+    ensures node { IfOk result (λ p. option_map core.stmt_of p.node ≡ core_in body.now scope.old.items before (tree.WhileS (expr_of part.now) (stmt_of inner.now) at)) }
+    ensures scope { OnOk result (scope.new.items ≡ scope.old.items) }
+    ensures locals { IfOk result (λ p. p.locals ≡ locals_in (stmt_of inner.now)) }
+    ensures completes { IfOk result (λ p. p.completes ≡ not (literal_true (expr_of part.now))) }
+    ensures declared { IfOk result (λ p. p.declared ≡ None) }
+    ensures fault { OnOk result (first.new ≡ noted first.old (faults_in body.now scope.old.items before (tree.WhileS (expr_of part.now) (stmt_of inner.now) at))) }
+{
+    let ends = !is_true_literal(part);
+    let part = condition(body, scope.as_slice(), part, at, first)?;
+    let inner = stmt(body, scope, before, inner, first)?;
+    while_part(body.alloc, part, ends, inner)
+}
+
+#[cycle(statements)]
+#[inline(never)]
+fn sync<'a>(
+    body: &Body,
+    scope: &mut Vec<Bound<'a>>,
+    before: usize,
+    lock: &Lock,
+    stmts: &[Stmt<'a>],
+    first: &mut FirstFault,
+) -> Result<StmtPart, NoMemory>
+    ensures node { IfOk result (λ p. option_map core.stmt_of p.node ≡ core_in body.now scope.old.items before (tree.SyncS (lock_of lock.now) (stmts_from (map stmt_of stmts.now)) 0)) }
+    ensures scope { OnOk result (scope.new.items ≡ scope.old.items) }
+    ensures locals { IfOk result (λ p. p.locals ≡ locals_in_each (stmts_from (map stmt_of stmts.now))) }
+    ensures completes { IfOk result (λ p. p.completes ≡ completes_each (stmts_from (map stmt_of stmts.now))) }
+    ensures declared { IfOk result (λ p. p.declared ≡ None) }
+    ensures fault { OnOk result (first.new ≡ noted first.old (faults_in body.now scope.old.items before (tree.SyncS (lock_of lock.now) (stmts_from (map stmt_of stmts.now)) 0))) }
+{
+    let path = lock_path(body.table, body.class, scope.as_slice(), lock, first);
+    let inner = block(body, scope, before, stmts, first)?;
+    sync_part(body.alloc, path, inner)
 }
 
 /// The statements of a block, the first of which can be reached.
@@ -339,6 +412,7 @@ pub(crate) fn block<'a>(
     ensures scope { OnOk result (scope.new.items ≡ scope.old.items) }
     ensures locals { IfOk result (λ p. p.locals ≡ locals_in_each (stmts_from (map stmt_of stmts.now))) }
     ensures completes { IfOk result (λ p. p.completes ≡ completes_each (stmts_from (map stmt_of stmts.now))) }
+    ensures declared { IfOk result (λ p. p.declared ≡ None) }
     ensures fault { OnOk result (first.new ≡ noted first.old (block_faults_in body.now scope.old.items before true (stmts_from (map stmt_of stmts.now)))) }
 {
     let variables = scope.len();
@@ -349,7 +423,7 @@ pub(crate) fn block<'a>(
         note_unreachable(live, s, first);
         let before_s = total(before, locals)?;
         let part = stmt(body, scope, before_s, s, first)?;
-        declare(body, before_s, s, scope)?;
+        declare(body, before_s, s, part.declared, scope)?;
         nodes.add(part.node)?;
         locals = total(locals, part.locals)?;
         live &= part.completes;
@@ -359,5 +433,6 @@ pub(crate) fn block<'a>(
         node: block_of(nodes),
         locals,
         completes: live,
+        declared: None,
     })
 }

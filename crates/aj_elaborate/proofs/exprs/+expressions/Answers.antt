@@ -1,6 +1,7 @@
-use Rattle.std.proofs.Common.{◌≡◌, map, ap, sym, ◌∙◌, subst, IfOk, OnOk, option_map}
+use Rattle.std.proofs.Common.{◌≡◌, map, refl, ap, sym, ◌∙◌, subst, IfOk, OnOk, option_map, arith}
 use Rattle.std.proofs.Math.ListN.{drop_of_length-le}
 use Rattle.aj_classes.specs.Views.{table_data}
+use Rattle.aj_syntax.specs.Trees.{CallE, NewE}
 use Rattle.aj_syntax.specs.Views.{expr_of, exprs_from}
 use Rattle.aj_syntax.proofs.Bridge.{view_call, view_new}
 use Rattle.aj_elaborate.specs.Exprs.{elaborated, elaborated_each, expr_faults, each_faults}
@@ -10,7 +11,26 @@ use Rattle.aj_elaborate.specs.Rules.{with_argument}
 use Rattle.aj_elaborate.specs.Views.{typed_data, typed_list}
 use Rattle.aj_elaborate.proofs.Gathering.{so_far}
 use Rattle.aj_elaborate.proofs.Called.{argument_step, argument_fault, all_typed, call_typed, call_noted, new_typed, new_noted}
+use Rattle.aj_elaborate.proofs.Measures.{expr_measure, exprs_measure, expr_lighter}
 use Rattle.aj_elaborate.proofs.exprs.+expressions.Goals as goal
+
+pub expr-call_expr-requires : goal.expr-call_expr-requires
+expr-call_expr-requires t c =
+    let e = ap (λ x. expr_measure (expr_of x)) c.in-Call.is ∙ ap expr_measure (view_call c.in-Call.receiver c.in-Call.name c.in-Call.args) in
+    let r = ap (λ x. expr_measure (expr_of x)) c.deref-in-Call.ensures in
+    let a = ap (λ xs. exprs_measure (exprs_from (map expr_of xs))) c.deref-in-Call-2.ensures.value in
+    (omega arith, tt)
+
+pub expr-new_expr-requires : goal.expr-new_expr-requires
+expr-new_expr-requires t c =
+    let e = ap (λ x. expr_measure (expr_of x)) c.in-New.is ∙ ap expr_measure (view_new c.in-New.name c.in-New.args c.in-New.field-2) in
+    let a = ap (λ xs. exprs_measure (exprs_from (map expr_of xs))) c.deref-in-New.ensures.value in
+    (omega arith, tt)
+
+pub arguments-expr-requires : goal.arguments-expr-requires
+arguments-expr-requires t c =
+    let lighter = expr_lighter c.args.args.now c.loop-arg.arg-index c.arg-item.result c.loop-arg-test.true c.arg-item.is in
+    (omega arith, tt)
 
 pub arguments-loop-arg-preserved : goal.arguments-loop-arg-preserved
 arguments-loop-arg-preserved t c = (
@@ -27,44 +47,46 @@ arguments-returns-clause-typed t c =
     all_typed c.all.result (gathered c.loop-arg.parts) (elaborated_each (table_data c.args.table.now) c.args.class c.args.scope.now (exprs_from (map expr_of c.args.args.now))) c.all.ensures
     (ap (λ z. so_far typed_data with_argument (gathered c.loop-arg.parts) (elaborated_each (table_data c.args.table.now) c.args.class c.args.scope.now (exprs_from (map expr_of z)))) (sym (drop_of_length-le c.args.args.now c.loop-arg-test.false)) ∙ c.loop-arg.invariant.0)
 
-pub expr-returns-in_ok-args-in-Call-clause-typed : goal.expr-returns-in_ok-args-in-Call-clause-typed
-expr-returns-in_ok-args-in-Call-clause-typed t c =
-    subst (λ z. IfOk c.call_rule.result (λ r. option_map typed_data r ≡ z))
-    (call_typed (table_data c.args.table.now) c.args.class c.args.scope.now (expr_of c.args.e.now) (expr_of c.in-Call.receiver.value) c.in-Call.name (exprs_from (map expr_of c.in-Call.args.items))
-    (option_map typed_data c.in_ok-receiver-in-Call.receiver) (option_map (λ a. typed_list a.items) c.in_ok-args-in-Call.args)
-    (ap expr_of c.in-Call.is ∙ view_call c.in-Call.receiver c.in-Call.name c.in-Call.args)
-    (c.in_ok-receiver-in-Call.ensures.typed ∙ ap (λ z. elaborated (table_data c.args.table.now) c.args.class c.args.scope.now (expr_of z)) c.deref-in-Call.ensures)
-    (c.in_ok-args-in-Call.ensures.typed ∙ ap (λ z. elaborated_each (table_data c.args.table.now) c.args.class c.args.scope.now (exprs_from (map expr_of z))) c.deref-in-Call-2.ensures.value))
-    c.call_rule.ensures.typed
-
-pub expr-returns-in_ok-args-in-Call-clause-fault : goal.expr-returns-in_ok-args-in-Call-clause-fault
-expr-returns-in_ok-args-in-Call-clause-fault t c =
+pub call_expr-returns-clause-fault : goal.call_expr-returns-clause-fault
+call_expr-returns-clause-fault t c =
+    let T = table_data c.args.table.now in
+    let C = c.args.class in
+    let S = c.args.scope.now in
+    let e = expr_of c.args.receiver.now in
+    let es = exprs_from (map expr_of c.args.args.now) in
     subst (λ z. OnOk c.call_rule.result (c.call_rule.new.first ≡ z))
-    (call_noted (table_data c.args.table.now) c.args.class c.args.scope.now (expr_of c.args.e.now) (expr_of c.in-Call.receiver.value) c.in-Call.name (exprs_from (map expr_of c.in-Call.args.items))
-    (option_map typed_data c.in_ok-receiver-in-Call.receiver) (option_map (λ a. typed_list a.items) c.in_ok-args-in-Call.args)
-    c.args.first.now c.expr-in-Call.new.first c.arguments.new.first
-    (ap expr_of c.in-Call.is ∙ view_call c.in-Call.receiver c.in-Call.name c.in-Call.args)
-    (c.in_ok-receiver-in-Call.ensures.typed ∙ ap (λ z. elaborated (table_data c.args.table.now) c.args.class c.args.scope.now (expr_of z)) c.deref-in-Call.ensures)
-    (c.in_ok-args-in-Call.ensures.typed ∙ ap (λ z. elaborated_each (table_data c.args.table.now) c.args.class c.args.scope.now (exprs_from (map expr_of z))) c.deref-in-Call-2.ensures.value)
-    (c.in_ok-receiver-in-Call.ensures.fault ∙ ap (λ z. noted c.args.first.now (expr_faults (table_data c.args.table.now) c.args.class c.args.scope.now (expr_of z))) c.deref-in-Call.ensures)
-    (c.in_ok-args-in-Call.ensures.fault ∙ ap (λ z. noted c.expr-in-Call.new.first (each_faults (table_data c.args.table.now) c.args.class c.args.scope.now (exprs_from (map expr_of z)))) c.deref-in-Call-2.ensures.value))
+    (call_noted T C S (CallE e c.args.name.now es) e c.args.name.now es
+    (option_map typed_data c.in_ok-receiver.receiver) (option_map (λ a. typed_list a.items) c.in_ok-args.args)
+    c.args.first.now c.expr.new.first c.arguments.new.first
+    refl c.in_ok-receiver.ensures.typed c.in_ok-args.ensures.typed c.in_ok-receiver.ensures.fault c.in_ok-args.ensures.fault)
     c.call_rule.ensures.fault
 
-pub expr-returns-in_ok-args-in-New-clause-typed : goal.expr-returns-in_ok-args-in-New-clause-typed
-expr-returns-in_ok-args-in-New-clause-typed t c =
-    subst (λ z. IfOk c.new_rule.result (λ r. option_map typed_data r ≡ z))
-    (new_typed (table_data c.args.table.now) c.args.class c.args.scope.now (expr_of c.args.e.now) c.in-New.name (exprs_from (map expr_of c.in-New.args.items)) c.in-New.field-2
-    (option_map (λ a. typed_list a.items) c.in_ok-args-in-New.args)
-    (ap expr_of c.in-New.is ∙ view_new c.in-New.name c.in-New.args c.in-New.field-2)
-    (c.in_ok-args-in-New.ensures.typed ∙ ap (λ z. elaborated_each (table_data c.args.table.now) c.args.class c.args.scope.now (exprs_from (map expr_of z))) c.deref-in-New.ensures.value))
-    c.new_rule.ensures.typed
+pub expr-returns-in-Call-clause-typed : goal.expr-returns-in-Call-clause-typed
+expr-returns-in-Call-clause-typed t c =
+    subst (λ z. IfOk c.call_expr.result (λ r. option_map typed_data r ≡ elaborated (table_data c.args.table.now) c.args.class c.args.scope.now z))
+    (ap (λ z. CallE (expr_of z) c.in-Call.name (exprs_from (map expr_of c.deref-in-Call-2.result.now))) c.deref-in-Call.ensures
+    ∙ ap (λ z. CallE (expr_of c.in-Call.receiver.value) c.in-Call.name (exprs_from (map expr_of z))) c.deref-in-Call-2.ensures.value
+    ∙ sym (ap expr_of c.in-Call.is ∙ view_call c.in-Call.receiver c.in-Call.name c.in-Call.args))
+    c.call_expr.ensures.typed
 
-pub expr-returns-in_ok-args-in-New-clause-fault : goal.expr-returns-in_ok-args-in-New-clause-fault
-expr-returns-in_ok-args-in-New-clause-fault t c =
-    subst (λ z. OnOk c.new_rule.result (c.new_rule.new.first ≡ z))
-    (new_noted (table_data c.args.table.now) c.args.class c.args.scope.now (expr_of c.args.e.now) c.in-New.name (exprs_from (map expr_of c.in-New.args.items)) c.in-New.field-2
-    (option_map (λ a. typed_list a.items) c.in_ok-args-in-New.args) c.args.first.now c.arguments-in-New.new.first
-    (ap expr_of c.in-New.is ∙ view_new c.in-New.name c.in-New.args c.in-New.field-2)
-    (c.in_ok-args-in-New.ensures.typed ∙ ap (λ z. elaborated_each (table_data c.args.table.now) c.args.class c.args.scope.now (exprs_from (map expr_of z))) c.deref-in-New.ensures.value)
-    (c.in_ok-args-in-New.ensures.fault ∙ ap (λ z. noted c.args.first.now (each_faults (table_data c.args.table.now) c.args.class c.args.scope.now (exprs_from (map expr_of z)))) c.deref-in-New.ensures.value))
-    c.new_rule.ensures.fault
+pub expr-returns-in-Call-clause-fault : goal.expr-returns-in-Call-clause-fault
+expr-returns-in-Call-clause-fault t c =
+    subst (λ z. OnOk c.call_expr.result (c.call_expr.new.first ≡ noted c.args.first.now (expr_faults (table_data c.args.table.now) c.args.class c.args.scope.now z)))
+    (ap (λ z. CallE (expr_of z) c.in-Call.name (exprs_from (map expr_of c.deref-in-Call-2.result.now))) c.deref-in-Call.ensures
+    ∙ ap (λ z. CallE (expr_of c.in-Call.receiver.value) c.in-Call.name (exprs_from (map expr_of z))) c.deref-in-Call-2.ensures.value
+    ∙ sym (ap expr_of c.in-Call.is ∙ view_call c.in-Call.receiver c.in-Call.name c.in-Call.args))
+    c.call_expr.ensures.fault
+
+pub expr-returns-in-New-clause-typed : goal.expr-returns-in-New-clause-typed
+expr-returns-in-New-clause-typed t c =
+    subst (λ z. IfOk c.new_expr.result (λ r. option_map typed_data r ≡ z))
+    (ap (λ z. elaborated (table_data c.args.table.now) c.args.class c.args.scope.now (NewE c.in-New.name (exprs_from (map expr_of z)) 0)) c.deref-in-New.ensures.value
+    ∙ sym (ap (elaborated (table_data c.args.table.now) c.args.class c.args.scope.now) (ap expr_of c.in-New.is ∙ view_new c.in-New.name c.in-New.args c.in-New.field-2)))
+    c.new_expr.ensures.typed
+
+pub expr-returns-in-New-clause-fault : goal.expr-returns-in-New-clause-fault
+expr-returns-in-New-clause-fault t c =
+    subst (λ z. OnOk c.new_expr.result (c.new_expr.new.first ≡ noted c.args.first.now z))
+    (ap (λ z. expr_faults (table_data c.args.table.now) c.args.class c.args.scope.now (NewE c.in-New.name (exprs_from (map expr_of z)) 0)) c.deref-in-New.ensures.value
+    ∙ sym (ap (expr_faults (table_data c.args.table.now) c.args.class c.args.scope.now) (ap expr_of c.in-New.is ∙ view_new c.in-New.name c.in-New.args c.in-New.field-2)))
+    c.new_expr.ensures.fault

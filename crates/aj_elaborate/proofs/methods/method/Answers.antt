@@ -34,9 +34,9 @@ returns-clause-node c =
     let first = c.in_ok-first_local.field-0 in
     let made = c.in_ok-made.made in
     subst (λ z. IfOk c.core_method.result (λ r. option_map core.method_of r ≡ z))
-    (ap (λ z. option_map (method_with k returns first c.in-Method.atomic z.at c.in_ok-types.types.items made.body.locals) (both (option_map (λ v. v.items) made.locks) (option_map core.stmt_of made.body.node))) c.name.view_is
+    (ap (λ z. option_map (method_with k returns first c.in-Method.atomic z.at made.types.items made.body.locals) (both (option_map (λ v. v.items) made.locks) (option_map core.stmt_of made.body.node))) c.name.view_is
     ∙ ap (λ z. option_map (method_with k returns first c.in-Method.atomic c.in-Method.name.at z made.body.locals) (both (option_map (λ v. v.items) made.locks) (option_map core.stmt_of made.body.node)))
-    (c.in_ok-types.ensures ∙ ap (types_in T) c.as_slice-params.ensures.value)
+    (c.in_ok-made.ensures.types ∙ ap (types_in T) c.as_slice-params.ensures.value)
     ∙ node_made T k m scope returns first (option_map (λ v. v.items) made.locks) (option_map core.stmt_of made.body.node) made.body.locals
     (ap (parameters_from T 1) c.as_slice-params.ensures.value)
     c.result_of.ensures
@@ -65,13 +65,13 @@ returns-clause-fault c =
     let first = c.in_ok-first_local.field-0 in
     let locks = noted c.args.first.now (flat_map (λ l. loss (lock_rule T k scope l)) (map lock_of c.as_slice.result.now)) in
     on_ok c.core_method.result
-    (faults_told T k m scope returns first c.args.first.now locks c.locks_and_body.new.first c.note_missing_return.new.first
+    (faults_told T k m scope returns first c.args.first.now locks c.method_parts.new.first c.note_missing_return.new.first
     (ap (parameters_from T 1) c.as_slice-params.ensures.value)
     c.result_of.ensures
     (c.in_ok-first_local.ensures ∙ ap (λ z. 1 + length z) c.as_slice-params.ensures.value)
     (ap (λ z. noted c.args.first.now (flat_map (λ l. loss (lock_rule T k scope l)) (map lock_of z))) c.as_slice.ensures.value)
     (c.in_ok-made.ensures.fault ∙ ap (λ z. noted locks (block_faults T k returns first scope 0 true (stmts_from (map stmt_of z)))) c.as_slice-2.ensures.value)
     (c.note_missing_return.ensures
-    ∙ ap (λ z. noted c.locks_and_body.new.first (return_faults (z && c.in_ok-made.made.body.completes) c.in-Method.at)) c.is_some.ensures
-    ∙ ap (λ z. noted c.locks_and_body.new.first (return_faults (is_some c.in-Method.returns && z) c.in-Method.at)) (c.in_ok-made.ensures.completes ∙ ap (λ z. completes_each (stmts_from (map stmt_of z))) c.as_slice-2.ensures.value))
+    ∙ ap (λ z. noted c.method_parts.new.first (return_faults (z && c.in_ok-made.made.body.completes) c.in-Method.at)) c.is_some.ensures
+    ∙ ap (λ z. noted c.method_parts.new.first (return_faults (is_some c.in-Method.returns && z) c.in-Method.at)) (c.in_ok-made.ensures.completes ∙ ap (λ z. completes_each (stmts_from (map stmt_of z))) c.as_slice-2.ensures.value))
     ∙ ap (λ z. noted c.args.first.now (faults_in_method T k z)) (sym (ap member_of c.in-Method.is)))

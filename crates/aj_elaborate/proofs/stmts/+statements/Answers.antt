@@ -1,8 +1,9 @@
-use Rattle.std.proofs.Common.{◌≡◌, ◌+◌, ◌++◌, ◌&&◌, true, map, ap, sym, ◌∙◌, subst, IfOk, OnOk, option_map}
+use Rattle.std.proofs.Common.{◌≡◌, ◌+◌, [], ◌++◌, append-nil, ◌&&◌, true, map, refl, ap, sym, ◌∙◌, subst, IfOk, OnOk, option_map, arith}
 use Rattle.std.proofs.Math.ListN.{drop_of_length-le}
 use Rattle.aj_classes.specs.Views.{table_data}
 use Rattle.aj_core.specs.Core.{BlockS}
 use Rattle.aj_core.specs.Views as core
+use Rattle.aj_syntax.specs.Trees as tree
 use Rattle.aj_syntax.specs.Views.{stmt_of, stmts_from, lock_of}
 use Rattle.aj_syntax.proofs.Bridge.{view_block, view_sync}
 use Rattle.aj_elaborate.specs.Completion.{completes, completes_each, locals_in, locals_in_each}
@@ -10,11 +11,45 @@ use Rattle.aj_elaborate.specs.Gathered.{gathered}
 use Rattle.aj_elaborate.specs.Locks.{lock_rule}
 use Rattle.aj_elaborate.specs.Noted.{noted}
 use Rattle.aj_elaborate.specs.Rulings.{gain, loss}
-use Rattle.aj_elaborate.specs.Stmts.{scope_after, stmt_core, block_core, stmt_faults, block_faults}
+use Rattle.aj_elaborate.specs.Stmts.{declared_type, scope_after, stmt_core, block_core, stmt_faults, block_faults}
 use Rattle.aj_elaborate.proofs.Blocks.{link, blocks_end, statement_step, statement_fault, locals_step, completes_step, sync_made, sync_fault, grown, behind}
 use Rattle.aj_elaborate.proofs.Bodies.{on_ok}
 use Rattle.aj_elaborate.proofs.Gathering.{so_far}
+use Rattle.aj_elaborate.proofs.Measures.{stmt_measure, stmts_measure, stmt_lighter}
 use Rattle.aj_elaborate.proofs.stmts.+statements.Goals as goal
+
+pub stmt-block-requires : goal.stmt-block-requires
+stmt-block-requires t c =
+    let e = ap (λ x. stmt_measure (stmt_of x)) c.in-Block.is ∙ ap stmt_measure (view_block c.in-Block.stmts c.in-Block.field-1) in
+    let b = ap (λ xs. stmts_measure (stmts_from (map stmt_of xs))) c.deref.ensures.value in
+    (omega arith, tt)
+
+pub stmt-sync-requires : goal.stmt-sync-requires
+stmt-sync-requires t c =
+    let e = ap (λ x. stmt_measure (stmt_of x)) c.in-Sync.is ∙ ap stmt_measure (view_sync c.in-Sync.lock c.in-Sync.stmts c.in-Sync.field-2) in
+    let b = ap (λ xs. stmts_measure (stmts_from (map stmt_of xs))) c.deref-in-Sync.ensures.value in
+    (omega arith, tt)
+
+pub block-stmt-requires : goal.block-stmt-requires
+block-stmt-requires t c =
+    let lighter = stmt_lighter c.args.stmts.now c.loop-s.s-index c.s-item.result c.loop-s-test.true c.s-item.is in
+    (omega arith, tt)
+
+pub block-loop-s-init : goal.block-loop-s-init
+block-loop-s-init t c =
+    let T = table_data c.args.body.now.table.now in
+    let C = c.args.body.now.class in
+    let R = c.args.body.now.returns in
+    let F = c.args.body.now.first_local in
+    let S = c.args.scope.now.items in
+    let ss = stmts_from (map stmt_of c.args.stmts.now) in
+    let none_yet : c.args.before + 0 ≡ c.args.before = omega arith in (
+      ap (λ p. so_far core.stmt_of link p (block_core T C R F S (c.args.before + 0) ss)) c.new-nodes.ensures ∙ ap (λ n. block_core T C R F S n ss) none_yet,
+      ([], sym (append-nil S)),
+      omega arith,
+      refl,
+      ap (λ n. noted c.args.first.now (block_faults T C R F S n true ss)) none_yet,
+    )
 
 pub block-loop-s-preserved : goal.block-loop-s-preserved
 block-loop-s-preserved t c =
@@ -96,47 +131,83 @@ stmt-returns-in-Block-clause-fault t c =
     ∙ ap (stmt_faults T C R F S c.args.before) (sym (ap stmt_of c.in-Block.is ∙ view_block c.in-Block.stmts c.in-Block.field-1)))
     c.block.ensures.fault
 
-pub stmt-returns-in_ok-inner-in-Sync-clause-node : goal.stmt-returns-in_ok-inner-in-Sync-clause-node
-stmt-returns-in_ok-inner-in-Sync-clause-node t c =
+pub stmt-returns-in-Block-clause-declared : goal.stmt-returns-in-Block-clause-declared
+stmt-returns-in-Block-clause-declared t c =
+    subst (λ z. IfOk c.block.result (λ p. p.declared ≡ z))
+    (ap (declared_type (table_data c.args.body.now.table.now)) (sym (ap stmt_of c.in-Block.is ∙ view_block c.in-Block.stmts c.in-Block.field-1)))
+    c.block.ensures.declared
+
+pub stmt-returns-in-Sync-clause-node : goal.stmt-returns-in-Sync-clause-node
+stmt-returns-in-Sync-clause-node t c =
     let T = table_data c.args.body.now.table.now in
     let C = c.args.body.now.class in
     let R = c.args.body.now.returns in
     let F = c.args.body.now.first_local in
     let S = c.args.scope.now.items in
-    let L = lock_of c.in-Sync.lock in
+    subst (λ z. IfOk c.sync.result (λ p. option_map core.stmt_of p.node ≡ z))
+    (ap (λ z. stmt_core T C R F S c.args.before (tree.SyncS (lock_of c.in-Sync.lock) (stmts_from (map stmt_of z)) 0)) c.deref-in-Sync.ensures.value
+    ∙ ap (stmt_core T C R F S c.args.before) (sym (ap stmt_of c.in-Sync.is ∙ view_sync c.in-Sync.lock c.in-Sync.stmts c.in-Sync.field-2)))
+    c.sync.ensures.node
+
+pub stmt-returns-in-Sync-clause-locals : goal.stmt-returns-in-Sync-clause-locals
+stmt-returns-in-Sync-clause-locals t c =
+    subst (λ z. IfOk c.sync.result (λ p. p.locals ≡ z))
+    (ap (λ z. locals_in_each (stmts_from (map stmt_of z))) c.deref-in-Sync.ensures.value
+    ∙ ap locals_in (sym (ap stmt_of c.in-Sync.is ∙ view_sync c.in-Sync.lock c.in-Sync.stmts c.in-Sync.field-2)))
+    c.sync.ensures.locals
+
+pub stmt-returns-in-Sync-clause-completes : goal.stmt-returns-in-Sync-clause-completes
+stmt-returns-in-Sync-clause-completes t c =
+    subst (λ z. IfOk c.sync.result (λ p. p.completes ≡ z))
+    (ap (λ z. completes_each (stmts_from (map stmt_of z))) c.deref-in-Sync.ensures.value
+    ∙ ap completes (sym (ap stmt_of c.in-Sync.is ∙ view_sync c.in-Sync.lock c.in-Sync.stmts c.in-Sync.field-2)))
+    c.sync.ensures.completes
+
+pub stmt-returns-in-Sync-clause-declared : goal.stmt-returns-in-Sync-clause-declared
+stmt-returns-in-Sync-clause-declared t c =
+    subst (λ z. IfOk c.sync.result (λ p. p.declared ≡ z))
+    (ap (declared_type (table_data c.args.body.now.table.now)) (sym (ap stmt_of c.in-Sync.is ∙ view_sync c.in-Sync.lock c.in-Sync.stmts c.in-Sync.field-2)))
+    c.sync.ensures.declared
+
+pub stmt-returns-in-Sync-clause-fault : goal.stmt-returns-in-Sync-clause-fault
+stmt-returns-in-Sync-clause-fault t c =
+    let T = table_data c.args.body.now.table.now in
+    let C = c.args.body.now.class in
+    let R = c.args.body.now.returns in
+    let F = c.args.body.now.first_local in
+    let S = c.args.scope.now.items in
+    subst (λ z. OnOk c.sync.result (c.sync.new.first ≡ noted c.args.first.now z))
+    (ap (λ z. stmt_faults T C R F S c.args.before (tree.SyncS (lock_of c.in-Sync.lock) (stmts_from (map stmt_of z)) 0)) c.deref-in-Sync.ensures.value
+    ∙ ap (stmt_faults T C R F S c.args.before) (sym (ap stmt_of c.in-Sync.is ∙ view_sync c.in-Sync.lock c.in-Sync.stmts c.in-Sync.field-2)))
+    c.sync.ensures.fault
+
+pub sync-returns-clause-node : goal.sync-returns-clause-node
+sync-returns-clause-node t c =
+    let T = table_data c.args.body.now.table.now in
+    let C = c.args.body.now.class in
+    let R = c.args.body.now.returns in
+    let F = c.args.body.now.first_local in
+    let S = c.args.scope.now.items in
+    let L = lock_of c.args.lock.now in
+    let ss = stmts_from (map stmt_of c.args.stmts.now) in
     subst (λ z. IfOk c.sync_part.result (λ p. option_map core.stmt_of p.node ≡ z))
-    (sync_made T C R F (stmt_of c.args.s.now) L (stmts_from (map stmt_of c.in-Sync.stmts.items)) c.in-Sync.field-2 c.args.before S c.lock_path-path.result (option_map core.stmt_of c.in_ok-inner-in-Sync.inner.node)
-    (ap stmt_of c.in-Sync.is ∙ view_sync c.in-Sync.lock c.in-Sync.stmts c.in-Sync.field-2)
-    (c.lock_path-path.ensures.path ∙ ap (λ z. gain (lock_rule T C z L)) c.as_slice-in-Sync.ensures.value)
-    (c.in_ok-inner-in-Sync.ensures.node ∙ ap (λ z. option_map BlockS (block_core T C R F S c.args.before (stmts_from (map stmt_of z)))) c.deref-in-Sync.ensures.value))
+    (sync_made T C R F (tree.SyncS L ss 0) L ss 0 c.args.before S c.lock_path-path.result (option_map core.stmt_of c.in_ok-inner.inner.node)
+    refl
+    (c.lock_path-path.ensures.path ∙ ap (λ z. gain (lock_rule T C z L)) c.as_slice.ensures.value)
+    c.in_ok-inner.ensures.node)
     c.sync_part.ensures.node
 
-pub stmt-returns-in_ok-inner-in-Sync-clause-locals : goal.stmt-returns-in_ok-inner-in-Sync-clause-locals
-stmt-returns-in_ok-inner-in-Sync-clause-locals t c =
-    subst (λ z. IfOk c.sync_part.result (λ p. p.locals ≡ z))
-    (c.in_ok-inner-in-Sync.ensures.locals
-    ∙ ap (λ z. locals_in_each (stmts_from (map stmt_of z))) c.deref-in-Sync.ensures.value
-    ∙ ap locals_in (sym (ap stmt_of c.in-Sync.is ∙ view_sync c.in-Sync.lock c.in-Sync.stmts c.in-Sync.field-2)))
-    c.sync_part.ensures.locals
-
-pub stmt-returns-in_ok-inner-in-Sync-clause-completes : goal.stmt-returns-in_ok-inner-in-Sync-clause-completes
-stmt-returns-in_ok-inner-in-Sync-clause-completes t c =
-    subst (λ z. IfOk c.sync_part.result (λ p. p.completes ≡ z))
-    (c.in_ok-inner-in-Sync.ensures.completes
-    ∙ ap (λ z. completes_each (stmts_from (map stmt_of z))) c.deref-in-Sync.ensures.value
-    ∙ ap completes (sym (ap stmt_of c.in-Sync.is ∙ view_sync c.in-Sync.lock c.in-Sync.stmts c.in-Sync.field-2)))
-    c.sync_part.ensures.completes
-
-pub stmt-returns-in_ok-inner-in-Sync-clause-fault : goal.stmt-returns-in_ok-inner-in-Sync-clause-fault
-stmt-returns-in_ok-inner-in-Sync-clause-fault t c =
+pub sync-returns-clause-fault : goal.sync-returns-clause-fault
+sync-returns-clause-fault t c =
     let T = table_data c.args.body.now.table.now in
     let C = c.args.body.now.class in
     let R = c.args.body.now.returns in
     let F = c.args.body.now.first_local in
     let S = c.args.scope.now.items in
-    let L = lock_of c.in-Sync.lock in
+    let L = lock_of c.args.lock.now in
+    let ss = stmts_from (map stmt_of c.args.stmts.now) in
     on_ok c.sync_part.result
-    (sync_fault T C R F (stmt_of c.args.s.now) L (stmts_from (map stmt_of c.in-Sync.stmts.items)) c.in-Sync.field-2 c.args.before S c.args.first.now c.lock_path-path.new.first c.block-in-Sync.new.first
-    (ap stmt_of c.in-Sync.is ∙ view_sync c.in-Sync.lock c.in-Sync.stmts c.in-Sync.field-2)
-    (c.lock_path-path.ensures.fault ∙ ap (λ z. noted c.args.first.now (loss (lock_rule T C z L))) c.as_slice-in-Sync.ensures.value)
-    (c.in_ok-inner-in-Sync.ensures.fault ∙ ap (λ z. noted c.lock_path-path.new.first (block_faults T C R F S c.args.before true (stmts_from (map stmt_of z)))) c.deref-in-Sync.ensures.value))
+    (sync_fault T C R F (tree.SyncS L ss 0) L ss 0 c.args.before S c.args.first.now c.lock_path-path.new.first c.block.new.first
+    refl
+    (c.lock_path-path.ensures.fault ∙ ap (λ z. noted c.args.first.now (loss (lock_rule T C z L))) c.as_slice.ensures.value)
+    c.in_ok-inner.ensures.fault)

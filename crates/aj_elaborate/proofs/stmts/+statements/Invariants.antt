@@ -9,7 +9,26 @@ use Rattle.aj_elaborate.specs.Noted.{noted}
 use Rattle.aj_elaborate.specs.Stmts.{block_core, block_faults}
 use Rattle.aj_elaborate.proofs.Blocks.{link}
 use Rattle.aj_elaborate.proofs.Gathering.{so_far}
+use Rattle.aj_elaborate.proofs.Measures.{stmt_measure, stmts_measure}
 use Rattle.aj_elaborate.proofs.stmts.+statements.Given as goal
+
+abbrev pub decreases-stmt : goal.decreases-stmt
+decreases-stmt l = stmt_measure (stmt_of l.s.now)
+
+abbrev pub decreases-if_then : goal.decreases-if_then
+decreases-if_then l = 1 + stmt_measure (stmt_of l.then.now)
+
+abbrev pub decreases-if_else : goal.decreases-if_else
+decreases-if_else l = 1 + (stmt_measure (stmt_of l.then.now) + stmt_measure (stmt_of l.other.now))
+
+abbrev pub decreases-while_loop : goal.decreases-while_loop
+decreases-while_loop l = 1 + stmt_measure (stmt_of l.inner.now)
+
+abbrev pub decreases-sync : goal.decreases-sync
+decreases-sync l = 1 + stmts_measure (stmts_from (map stmt_of l.stmts.now))
+
+abbrev pub decreases-block : goal.decreases-block
+decreases-block l = stmts_measure (stmts_from (map stmt_of l.stmts.now))
 
 abbrev pub invariant-block-loop-s : goal.invariant-block-loop-s
 invariant-block-loop-s l =

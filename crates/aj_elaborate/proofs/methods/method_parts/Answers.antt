@@ -8,7 +8,14 @@ use Rattle.aj_elaborate.specs.Programs.{all_there}
 use Rattle.aj_elaborate.specs.Rulings.{gain, loss}
 use Rattle.aj_elaborate.specs.Scopes.{parameters_from}
 use Rattle.aj_elaborate.specs.Stmts.{block_core, block_faults}
-use Rattle.aj_elaborate.proofs.methods.locks_and_body.Goals as goal
+use Rattle.aj_elaborate.proofs.Bodies.{types_from}
+use Rattle.aj_elaborate.proofs.methods.method_parts.Goals as goal
+
+pub returns-clause-types : goal.returns-clause-types
+returns-clause-types c =
+    c.in_ok-types.ensures
+    ∙ ap (map (λ b. (b.variable.is_final, b.variable.ty))) (c.as_slice-2.ensures.value ∙ c.in_ok-scope.ensures)
+    ∙ types_from (table_data c.args.body.now.table.now) 1 c.args.params.now
 
 pub returns-clause-locks : goal.returns-clause-locks
 returns-clause-locks c =
