@@ -1,5 +1,6 @@
 -- The members of a class and the classes of a program, one after the other.
-use Rattle.std.proofs.Common.{false, ◌≡◌, ℕ, ◌+◌, ◌<◌, List, ◌∷◌, Option, option_map, map, flat_map, length, drop, get_or, refl, ap, sym, ◌∙◌}
+use Rattle.std.proofs.Common.{◌≡◌, ℕ, ◌+◌, ◌<◌, List, ◌∷◌, Option, option_map, map, flat_map, length, drop, get_or, refl, ap, sym, ◌∙◌}
+use Rattle.aj_lemmas.proofs.Lists.{next_drop}
 use Rattle.aj_core.specs.Core.{Field, Method}
 use Rattle.aj_syntax.specs.declared.tree.Class.{Class}
 use Rattle.aj_syntax.specs.declared.tree.Member.{Member}
@@ -10,7 +11,6 @@ use Rattle.aj_elaborate.specs.declared.fault.TypeFault.{TypeFault}
 use Rattle.aj_elaborate.specs.Gathered.{appended, with_field, with_method, index_after}
 use Rattle.aj_elaborate.specs.Noted.{noted}
 use Rattle.aj_elaborate.specs.Programs.{all_there, guard_path, field_node, method_core, fields_core, methods_core, member_faults, faults_from, all_fields, all_methods}
-use Rattle.aj_elaborate.proofs.Called.{item_at}
 use Rattle.aj_elaborate.proofs.Gathering.{appended_more, appended_assoc, all_there_append}
 use Rattle.aj_elaborate.proofs.Noting.{noted_append}
 
@@ -39,7 +39,7 @@ module _ (t : TableData) where
       ap (λ n. appended n (all_there (fields_core t k after others))) is
       ∙ ap (λ z. appended (with_field t k index (member_of m) fields) (all_there (fields_core t k z others))) counted
       ∙ one_field k index (member_of m) others fields
-      ∙ ap (λ z. appended fields (all_there (fields_core t k index (map member_of z)))) (sym (item_at ms place m within at))
+      ∙ ap (λ z. appended fields (all_there (fields_core t k index (map member_of z)))) (sym (next_drop ms place m within at))
       ∙ so
 
   pub method_step : (k : ℕ) (ms : List Member) (place : ℕ) (m : Member) (methods next whole : Option (List Method))
@@ -51,7 +51,7 @@ module _ (t : TableData) where
       let others = map member_of (drop (place + 1) ms) in
       ap (λ n. appended n (all_there (methods_core t k others))) is
       ∙ one_method k (member_of m) others methods
-      ∙ ap (λ z. appended methods (all_there (methods_core t k (map member_of z)))) (sym (item_at ms place m within at))
+      ∙ ap (λ z. appended methods (all_there (methods_core t k (map member_of z)))) (sym (next_drop ms place m within at))
       ∙ so
 
   pub member_fault : (k : ℕ) (ms : List Member) (place : ℕ) (m : Member) (found next whole : Option TypeFault)
@@ -63,7 +63,7 @@ module _ (t : TableData) where
       let others = flat_map (member_faults t k) (map member_of (drop (place + 1) ms)) in
       ap (λ n. noted n others) is
       ∙ sym (noted_append found (member_faults t k (member_of m)) others)
-      ∙ ap (λ z. noted found (flat_map (member_faults t k) (map member_of z))) (sym (item_at ms place m within at))
+      ∙ ap (λ z. noted found (flat_map (member_faults t k) (map member_of z))) (sym (next_drop ms place m within at))
       ∙ so
 
   pub class_fields_step : (cs : List Class) (place k after : ℕ) (c : Class) (fields next whole : Option (List Field))
@@ -79,7 +79,7 @@ module _ (t : TableData) where
       ∙ ap (λ z. appended (appended fields (all_there own)) (all_there (all_fields t z others))) counted
       ∙ appended_assoc fields (all_there own) (all_there (all_fields t (k + 1) others))
       ∙ ap (appended fields) (sym (all_there_append own (all_fields t (k + 1) others)))
-      ∙ ap (λ z. appended fields (all_there (all_fields t k (map class_of z)))) (sym (item_at cs place c within at))
+      ∙ ap (λ z. appended fields (all_there (all_fields t k (map class_of z)))) (sym (next_drop cs place c within at))
       ∙ so
 
   pub class_methods_step : (cs : List Class) (place k after : ℕ) (c : Class) (methods next whole : Option (List Method))
@@ -95,7 +95,7 @@ module _ (t : TableData) where
       ∙ ap (λ z. appended (appended methods (all_there own)) (all_there (all_methods t z others))) counted
       ∙ appended_assoc methods (all_there own) (all_there (all_methods t (k + 1) others))
       ∙ ap (appended methods) (sym (all_there_append own (all_methods t (k + 1) others)))
-      ∙ ap (λ z. appended methods (all_there (all_methods t k (map class_of z)))) (sym (item_at cs place c within at))
+      ∙ ap (λ z. appended methods (all_there (all_methods t k (map class_of z)))) (sym (next_drop cs place c within at))
       ∙ so
 
   pub class_fault : (cs : List Class) (place k after : ℕ) (c : Class) (found next whole : Option TypeFault)
@@ -110,5 +110,5 @@ module _ (t : TableData) where
       ap (λ n. noted n (faults_from t after others)) is
       ∙ ap (λ z. noted (noted found own) (faults_from t z others)) counted
       ∙ sym (noted_append found own (faults_from t (k + 1) others))
-      ∙ ap (λ z. noted found (faults_from t k (map class_of z))) (sym (item_at cs place c within at))
+      ∙ ap (λ z. noted found (faults_from t k (map class_of z))) (sym (next_drop cs place c within at))
       ∙ so

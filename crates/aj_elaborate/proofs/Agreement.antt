@@ -26,7 +26,7 @@ use Rattle.aj_elaborate.specs.Programs.{all_there, field_node, ascending, guard_
 use Rattle.aj_elaborate.proofs.Complete.{front_empty, back_empty}
 use Rattle.aj_elaborate.proofs.Inversions.{map_of, none_of}
 use Rattle.aj_elaborate.proofs.TypedExprs.{IsFieldOf, IsMethodOf, IsMade, Agrees}
-use Rattle.aj_elaborate.proofs.Parts.{Each, each_at, each_along, each_mapped, at_left, at_right, there_at, mapped_at, result_at, told_alike, none_mapped, each_faultless}
+use Rattle.aj_elaborate.proofs.Parts.{Each, each_at, each_along, each_mapped, at_left, at_right, get_below, mapped_at, result_at, told_alike, none_mapped, each_faultless}
 use Rattle.aj_elaborate.proofs.Places.{FieldAt, MethodAt, own_fields, own_methods, fields_at, methods_at, field_entry, method_entry, core_field, core_method, field_entries, method_entries, own_method_names, own_fields_long, own_methods_long, own_class, own_method_class, class_entry, IsPlaced, placed, class_of_entry, places, count_up, fields_from_is, places_both, places_none, places_all, other_below, other_above}
 use Rattle.std.proofs.lemmas.Option.{slice_get_cases, same_Some}
 use Rattle.std.proofs.lemmas.Bool.{and_parts}
@@ -260,7 +260,7 @@ module _ (tree : ProgramTree) (P : Program) (b : IsBuilt tree P) where
       let within : i.0 < length e.0.field_names = (position-Some (bytes_eq name) e.0.field_names i.0 [] i.1).0 in
       let long_is : length e.0.field_names ≡ length (own c C.0 C.1) =
       ap (λ z. length z.field_names) (sym entry_is) ∙ length-map (field_names C.0.members) (λ n. n.text) ∙ sym (own_fields_long c 0 C.0.members) in
-      let x = there_at (own c C.0 C.1) i.0 (omega (arith, within, long_is)) in
+      let x = get_below (own c C.0 C.1) i.0 (omega (arith, within, long_is)) in
       let number : n.0 ≡ length p.fields_before + i.0 = omega (arith, i.2, ap (λ z. z.first_field) entry_is, p.first_field_is) in
       let is = own_there c C.0 C.1 i.0 n.0 x.0 number x.1 in
       let entry_at_n : slice_get the_table.fields n.0 ≡ Some (field_entry the_table.names x.0) =
@@ -289,7 +289,7 @@ module _ (tree : ProgramTree) (P : Program) (b : IsBuilt tree P) where
       let within : i.0 < length e.0.method_names = (position-Some (bytes_eq name) e.0.method_names i.0 [] i.1).0 in
       let long_is : length e.0.method_names ≡ length mine =
       ap (λ z. length z.method_names) (sym entry_is) ∙ length-map (method_names C.0.members) (λ n. n.text) ∙ sym (own_methods_long c C.0.members) in
-      let x = there_at mine i.0 (omega (arith, within, long_is)) in
+      let x = get_below mine i.0 (omega (arith, within, long_is)) in
       let number : n.0 ≡ length p.methods_before + i.0 = omega (arith, i.2, ap (λ z. z.first_method) entry_is, p.first_method_is) in
       let is = own_method_there c C.0 C.1 i.0 n.0 x.0 number x.1 in
       let entry_at_n : slice_get the_table.methods n.0 ≡ Some (method_entry the_table.names x.0) =
@@ -309,7 +309,7 @@ module _ (tree : ProgramTree) (P : Program) (b : IsBuilt tree P) where
   classes_agree c name h =
       let within : c < length the_table.names = (position-Some (bytes_eq name) the_table.names c [] h).0 in
       let many : length the_table.names ≡ length tree = length-map (class_names tree) (λ n. n.text) ∙ length-map tree (λ c. c.name) in
-      let C = there_at tree c (omega (arith, within, many)) in
+      let C = get_below tree c (omega (arith, within, many)) in
       record { class = class_node the_table P.fields c C.0; is = class_there c C.0 C.1; finals = finals_are c C.0 C.1 }
 
   module _ (s : AreSound tree) where

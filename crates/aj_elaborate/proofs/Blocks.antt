@@ -2,6 +2,7 @@
 use Rattle.std.proofs.Common.{◌≡◌, ℕ, ◌+◌, ◌<◌, Bool, ◌&&◌, true, List, [], ◌∷◌, ◌++◌, Option, Some, None, option_map, map, length, drop, get_or, refl, ap, sym, ◌∙◌, arith}
 use Rattle.std.proofs.lemmas.List.{append_assoc}
 use Rattle.std.proofs.Math.Bool.{and_assoc}
+use Rattle.aj_lemmas.proofs.Lists.{next_drop}
 use Rattle.aj_paths.specs.Paths.{PathData}
 use Rattle.aj_core.specs.declared.types.CoreType.{CoreType}
 use Rattle.aj_core.specs.declared.tree.CoreStmt.{CoreStmt}
@@ -21,7 +22,6 @@ use Rattle.aj_elaborate.specs.Locks.{lock_rule}
 use Rattle.aj_elaborate.specs.Rulings.{gain, loss, both}
 use Rattle.aj_elaborate.specs.Scopes.{Scope}
 use Rattle.aj_elaborate.specs.Stmts.{if_node, scope_after, stmt_core, block_core, stmt_faults, block_faults, unreachable}
-use Rattle.aj_elaborate.proofs.Called.{item_at}
 use Rattle.aj_elaborate.proofs.Gathering.{so_far, so_far_more, before_rest, linked}
 use Rattle.aj_elaborate.proofs.Noting.{noted_append}
 
@@ -82,7 +82,7 @@ module _ (t : TableData) (class : ℕ) (returns : Option CoreType) (first : ℕ)
       → next ≡ one_more nodes part
       → so_far core.stmt_of link next (core_from after behind (drop (i + 1) ss)) ≡ whole
   statement_step ss i s nodes next part scope after before behind whole within at so is declared counted one =
-      let e = item_at ss i s within at in
+      let e = next_drop ss i s within at in
       let others = drop (i + 1) ss in
       ap (λ n. so_far core.stmt_of link n (core_from after behind others)) one
       ∙ so_far_more core.stmt_of link nodes part (core_from after behind others)
@@ -102,7 +102,7 @@ module _ (t : TableData) (class : ℕ) (returns : Option CoreType) (first : ℕ)
       → later ≡ (live && completes (stmt_of s))
       → noted third (faults_from after behind later (drop (i + 1) ss)) ≡ whole
   statement_fault ss i s found second third whole scope after before behind live later within at so one two declared counted reached =
-      let e = item_at ss i s within at in
+      let e = next_drop ss i s within at in
       let others = drop (i + 1) ss in
       let own = stmt_faults t class returns first scope before (stmt_of s) in
       let next = scope_after t class returns first scope before (stmt_of s) in
@@ -123,7 +123,7 @@ pub locals_step : (ss : List Stmt) (i : ℕ) (s : Stmt) (locals more whole : ℕ
     → more ≡ locals + locals_in (stmt_of s)
     → more + locals_in_each (stmts_from (map stmt_of (drop (i + 1) ss))) ≡ whole
 locals_step ss i s locals more whole within at so is =
-    let e = item_at ss i s within at in
+    let e = next_drop ss i s within at in
     let rest = locals_in_each (stmts_from (map stmt_of (drop (i + 1) ss))) in
     let sum : more + rest ≡ locals + (locals_in (stmt_of s) + rest) = omega (arith, is) in
     sum ∙ ap (λ z. locals + locals_in_each (stmts_from (map stmt_of z))) (sym e) ∙ so
@@ -134,7 +134,7 @@ pub completes_step : (ss : List Stmt) (i : ℕ) (s : Stmt) (live later whole : B
     → later ≡ (live && completes (stmt_of s))
     → (later && completes_each (stmts_from (map stmt_of (drop (i + 1) ss)))) ≡ whole
 completes_step ss i s live later whole within at so is =
-    let e = item_at ss i s within at in
+    let e = next_drop ss i s within at in
     let rest = completes_each (stmts_from (map stmt_of (drop (i + 1) ss))) in
     ap (λ z. z && rest) is
     ∙ and_assoc live (completes (stmt_of s)) rest

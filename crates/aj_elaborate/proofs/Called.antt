@@ -1,8 +1,8 @@
 -- Expressions with arguments: what the arguments give one by one, and what a call or a `new` makes of them.
-use Rattle.std.proofs.Common.{◌≡◌, ℕ, ◌+◌, ◌<◌, suc, List, [], ◌∷◌, ◌++◌, Option, Some, None, option_map, map, length, drop, get_or, refl, ap, sym, ◌∙◌, arith}
-use Rattle.std.proofs.Math.Seq.{drop-cons}
+use Rattle.std.proofs.Common.{◌≡◌, ℕ, ◌+◌, ◌<◌, List, [], ◌∷◌, ◌++◌, Option, Some, None, option_map, map, length, drop, get_or, refl, ap, sym, ◌∙◌}
 use Rattle.std.specs.declared.alloc.Global.{Global}
 use Rattle.std.specs.declared.vec.Vec.{Vec}
+use Rattle.aj_lemmas.proofs.Lists.{next_drop}
 use Rattle.aj_core.specs.Core.{no_exprs}
 use Rattle.aj_syntax.specs.declared.tree.Expr.{Expr}
 use Rattle.aj_syntax.specs.declared.tree.Name.{Name}
@@ -20,12 +20,6 @@ use Rattle.aj_elaborate.specs.Scopes.{Scope}
 use Rattle.aj_elaborate.specs.Views.{typed_data, typed_list}
 use Rattle.aj_elaborate.proofs.Gathering.{so_far, so_far_more, before_rest, linked}
 use Rattle.aj_elaborate.proofs.Noting.{noted_append}
-
--- the item at a place, and those after it
-pub item_at : {A : Type 0} (xs : List A) (i : ℕ) (x : A) → i < length xs → x ≡ get_or xs i x → drop i xs ≡ x ∷ drop (i + 1) xs
-item_at xs i x within at =
-    let next : suc i ≡ i + 1 = omega arith in
-    drop-cons xs i x within ∙ ap (λ v. v ∷ drop (suc i) xs) (sym at) ∙ ap (λ n. x ∷ drop n xs) next
 
 -- no arguments
 abbrev pub no_rest : Option TypedList
@@ -56,7 +50,7 @@ module _ (t : TableData) (class : ℕ) (scope : Scope) where
       → option_map typed_data part ≡ elaborated t class scope (expr_of arg) → next ≡ one_more parts part
       → so_far typed_data with_argument next (elaborated_each t class scope (exprs_from (map expr_of (drop (i + 1) args)))) ≡ whole
   argument_step args i arg parts next part whole within at so is one =
-      let e = item_at args i arg within at in
+      let e = next_drop args i arg within at in
       let rest = types_from (drop (i + 1) args) in
       ap (λ n. so_far typed_data with_argument n rest) one
       ∙ so_far_more typed_data with_argument parts part rest
@@ -70,7 +64,7 @@ module _ (t : TableData) (class : ℕ) (scope : Scope) where
       → next ≡ noted first (expr_faults t class scope (expr_of arg))
       → noted next (each_faults t class scope (exprs_from (map expr_of (drop (i + 1) args)))) ≡ whole
   argument_fault args i arg first next whole within at so is =
-      let e = item_at args i arg within at in
+      let e = next_drop args i arg within at in
       ap (λ n. noted n (each_faults t class scope (exprs_from (map expr_of (drop (i + 1) args))))) is
       ∙ sym (noted_append first (expr_faults t class scope (expr_of arg)) (each_faults t class scope (exprs_from (map expr_of (drop (i + 1) args)))))
       ∙ ap (λ z. noted first (each_faults t class scope (exprs_from (map expr_of z)))) (sym e)

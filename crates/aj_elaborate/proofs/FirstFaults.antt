@@ -1,5 +1,5 @@
 -- The first of a program's type faults, by the laws of first faults.
-use Rattle.std.proofs.Common.{◌≡◌, List, [], Option, Some, None, refl, ◌==◌, if◌then◌else◌}
+use Rattle.std.proofs.Common.{◌≡◌, [], Some, None, refl, ◌==◌, if◌then◌else◌}
 use Rattle.aj_faults.specs.declared.first.Place.{Place}
 use Rattle.aj_faults.proofs.FirstFaults as first
 use Rattle.aj_syntax.specs.Trees.{ProgramTree}

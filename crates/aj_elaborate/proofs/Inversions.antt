@@ -1,5 +1,5 @@
 -- What rules gave tells what their parts gave.
-use Rattle.std.proofs.Common.{◌≡◌, Bool, true, false, Option, Some, None, is_none, Result, Ok, Err, refl, ap, ◌&&◌, option_map, option_and_then}
+use Rattle.std.proofs.Common.{◌≡◌, Bool, true, false, Option, Some, None, is_none, Result, Ok, Err, refl, ap, option_map}
 use Rattle.std.specs.Prelude.{ok_or}
 use Rattle.std.proofs.lemmas.Option.{same_Some}
 use Rattle.aj_elaborate.specs.declared.fault.TypeFault.{TypeFault}

@@ -1,18 +1,17 @@
 -- Fields that stand in the order of their classes.
-use Rattle.std.proofs.Common.{◌≡◌, ℕ, ◌+◌, ◌<◌, ◌≤◌, ◌==◌, Bool, true, false, List, [], ◌∷◌, ◌++◌, Option, Some, None, option_map, map, filter, slice_get, length, drop, get_or, refl, ap, sym, ◌∙◌, arith, if◌then◌else◌, subst}
+use Rattle.std.proofs.Common.{◌≡◌, ℕ, ◌+◌, ◌<◌, ◌≤◌, ◌==◌, Bool, false, List, [], ◌∷◌, ◌++◌, Option, Some, None, option_map, map, filter, slice_get, length, drop, get_or, refl, ap, sym, ◌∙◌, arith, if◌then◌else◌, subst}
 use Rattle.std.proofs.lemmas.List.{append_assoc, append-nil}
 use Rattle.std.proofs.lemmas.Bool.Decides.{nat_tests}
-use Rattle.std.proofs.lemmas.Bool.{eqb-true}
+use Rattle.aj_lemmas.proofs.Lists.{next_drop}
 use Rattle.aj_core.specs.Core.{Class, Field}
 use Rattle.aj_core.specs.Typed.{fields_from, is_final_at}
 use Rattle.aj_syntax.specs.declared.tree.Class as source
 use Rattle.aj_syntax.specs.Views.{class_of}
 use Rattle.aj_paths.specs.Paths.{PathData}
 use Rattle.aj_syntax.specs.Trees.{MemberTree, FieldM, CtorM, MethodM, ProgramTree}
-use Rattle.aj_classes.specs.Table.{TableData, type_of}
+use Rattle.aj_classes.specs.Table.{TableData}
 use Rattle.aj_elaborate.specs.Order.{Ascends}
 use Rattle.aj_elaborate.specs.Programs.{all_there, field_node, guard_path, fields_core, all_fields, all_classes, run_of}
-use Rattle.aj_elaborate.proofs.Called.{item_at}
 use Rattle.aj_elaborate.specs.Rulings.{both}
 
 differs : (a b : ℕ) → a < b → (b == a) ≡ false
@@ -114,7 +113,7 @@ class_step t F cs place k after next c classes more whole made rest within at so
     ∙ ap (λ z. (classes ++ made ∷ []) ++ all_classes t F z others) counted
     ∙ append_assoc classes (made ∷ []) (all_classes t F (k + 1) others)
     ∙ ap (λ z. classes ++ z ∷ all_classes t F (k + 1) others) same
-    ∙ ap (λ z. classes ++ all_classes t F k (map class_of z)) (sym (item_at cs place c within at))
+    ∙ ap (λ z. classes ++ all_classes t F k (map class_of z)) (sym (next_drop cs place c within at))
     ∙ so
 
 pub above : (k next q : ℕ) → next ≡ k + 1 → next ≤ q → k < q

@@ -1,9 +1,10 @@
 -- Lists of parts: what holds of each, which one stands where, and lists of parts none of which is missing.
-use Rattle.std.proofs.Common.{◌≡◌, ℕ, ◌+◌, ◌<◌, zero, suc, Bool, true, false, not, cond, ◌||◌, List, [], ◌∷◌, ◌++◌, map, flat_map, length, Option, Some, None, refl, ap, ap₂, sym, ◌∙◌, subst, ◌⊎◌, inl, inr, All, position, slice_get, nat_lt, arith, option_map}
+use Rattle.std.proofs.Common.{◌≡◌, ℕ, ◌+◌, ◌<◌, zero, suc, Bool, true, false, not, cond, ◌||◌, List, [], ◌∷◌, ◌++◌, map, flat_map, length, Option, Some, None, refl, ap, ap₂, sym, ◌∙◌, All, position, slice_get, nat_lt, arith, option_map}
 use Rattle.std.specs.List.{list_any, position_or_len}
 use Rattle.std.proofs.lemmas.Option.{slice_get-map, same_Some}
 use Rattle.std.proofs.lemmas.List.Elements.{All-cons, All-nil}
 use Rattle.std.proofs.lemmas.Bool.Decides.{nat_tests}
+pub use Rattle.aj_lemmas.proofs.Lists.{at_left, at_either, get_below}
 pub use Rattle.aj_classes.proofs.Parts.{Each, each_both, each_at, nothing_at, mapped_at, before_mapped}
 use Rattle.aj_elaborate.specs.Rulings.{both}
 use Rattle.aj_elaborate.specs.Programs.{all_there}
@@ -26,26 +27,10 @@ all_of P (x ∷ xs) h = All-cons P x xs h.0 (all_of P xs h.1)
 
 -- ---- which part stands where
 
-pub at_left : {A : Type 0} (xs ys : List A) (i : ℕ) (x : A) → slice_get xs i ≡ Some x → slice_get (xs ++ ys) i ≡ Some x
-at_left [] ys i x e = absurd (nothing_at i x e)
-at_left (z ∷ xs) ys zero x e = e
-at_left (z ∷ xs) ys (suc i) x e = at_left xs ys i x e
-
 pub at_right : {A : Type 0} (xs ys : List A) (i n : ℕ) → n ≡ length xs + i → slice_get (xs ++ ys) n ≡ slice_get ys i
 at_right [] ys i n e = let same : n ≡ i = omega (arith, e) in ap (slice_get ys) same
 at_right (x ∷ xs) ys i zero e = absurd (omega (arith, e))
 at_right (x ∷ xs) ys i (suc n) e = at_right xs ys i n (omega (arith, e))
-
-pub at_either : {A : Type 0} (xs ys : List A) (i : ℕ) (x : A) → slice_get (xs ++ ys) i ≡ Some x
-    → (slice_get xs i ≡ Some x) ⊎ ((j : ℕ) × (i ≡ length xs + j) × (slice_get ys j ≡ Some x))
-at_either [] ys i x e = inr (i, omega arith, e)
-at_either (z ∷ xs) ys zero x e = inl e
-at_either (z ∷ xs) ys (suc i) x e = elim (at_either xs ys i x e) [ inl h ↦ inl h | inr h ↦ inr (h.0, omega (arith, h.1), h.2) ]
-
-pub there_at : {A : Type 0} (xs : List A) (i : ℕ) → i < length xs → (x : A) × (slice_get xs i ≡ Some x)
-there_at [] i h = absurd (omega (arith, h))
-there_at (x ∷ xs) zero h = (x, refl)
-there_at (x ∷ xs) (suc i) h = there_at xs i (omega (arith, h))
 
 -- an element that passes a test, where there is one
 pub any_at : {A : Type 0} (p : A → Bool) (xs : List A) → list_any p xs ≡ true → (i : ℕ) × (x : A) × (slice_get xs i ≡ Some x) × (p x ≡ true)

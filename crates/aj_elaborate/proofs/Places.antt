@@ -7,12 +7,10 @@ use Rattle.std.proofs.lemmas.Bool.Decides.{nat_tests}
 use Rattle.std.proofs.lemmas.Option.{same_Some}
 use Rattle.aj_core.specs.Core.{Field, Method}
 use Rattle.aj_core.specs.Typed.{fields_from}
-use Rattle.aj_syntax.specs.declared.tree.Name.{Name}
-use Rattle.aj_syntax.specs.declared.tree.TypeName.{TypeName}
-use Rattle.aj_syntax.specs.Trees.{LockTree, MethodTree, FieldTree, MemberTree, FieldM, CtorM, MethodM, ClassTree, ProgramTree}
+use Rattle.aj_syntax.specs.Trees.{MethodTree, FieldTree, MemberTree, FieldM, CtorM, MethodM, ClassTree, ProgramTree}
 use Rattle.aj_classes.specs.Names.{texts_of}
 use Rattle.aj_classes.specs.Members.{field_names, method_names}
-use Rattle.aj_classes.specs.Table.{TableData, ClassData, MethodData, type_of, param_of, fields_of, methods_of, classes_from, table_of}
+use Rattle.aj_classes.specs.Table.{TableData, ClassData, MethodData, type_of, param_of, fields_of, methods_of, classes_from}
 use Rattle.aj_classes.specs.Seen.{FieldData}
 use Rattle.aj_classes.specs.Table as table
 use Rattle.aj_elaborate.specs.Programs.{guard_path, field_node, method_core, fields_core, methods_core, all_fields, all_methods}

@@ -4,7 +4,7 @@ use Rattle.std.proofs.lemmas.Option.{same_Some}
 use Rattle.aj_syntax.specs.declared.tree.Name.{Name}
 use Rattle.aj_syntax.specs.declared.tree.Op.{Op}
 use Rattle.aj_syntax.specs.declared.tree.Op.TheVariants as O
-use Rattle.aj_syntax.specs.Trees.{ExprTree, ExprTrees, no_exprs, more_exprs, StmtTree, StmtTrees, no_stmts, more_stmts}
+use Rattle.aj_syntax.specs.Trees.{ExprTree, ExprTrees, no_exprs, more_exprs}
 use Rattle.aj_syntax.specs.Trees as tree
 use Rattle.aj_syntax.specs.Heights as tree_height
 use Rattle.aj_core.specs.declared.types.CoreOp.{CoreOp}

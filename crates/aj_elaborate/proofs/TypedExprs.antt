@@ -13,7 +13,7 @@ use Rattle.aj_core.specs.declared.types.CoreOp.TheVariants as core_op
 use Rattle.aj_core.specs.declared.types.CoreType.{CoreType}
 use Rattle.aj_core.specs.declared.types.CoreType.TheVariants as type
 use Rattle.aj_core.specs.Core as core
-use Rattle.aj_core.specs.Core.{Program, Class, Field, Method, Expr, Exprs}
+use Rattle.aj_core.specs.Core.{Program, Class, Field, Method, Exprs}
 use Rattle.aj_core.specs.Types as typing
 use Rattle.aj_core.specs.Types.{NodeType, ValueT, NullT, VoidT, int_type, boolean_type, class_type, result_type, fits, binary_type, Variable, field_types, HasType, FitEach}
 use Rattle.aj_core.specs.Typed.{IsRunnable}

@@ -10,15 +10,14 @@ use Rattle.aj_paths.specs.Paths.{PathData}
 use Rattle.aj_core.specs.declared.types.CoreType.{CoreType}
 use Rattle.aj_core.specs.Core.{Program, Class, Field, Method, Stmts}
 use Rattle.aj_core.specs.Types.{field_type}
-use Rattle.aj_core.specs.Typed.{fields_from, is_final_at, IsEntry, IsRunnable}
-use Rattle.aj_syntax.specs.declared.tree.Name.{Name}
+use Rattle.aj_core.specs.Typed.{fields_from, is_final_at, IsEntry}
 use Rattle.aj_syntax.specs.declared.tree.Param.{Param}
 use Rattle.aj_syntax.specs.declared.tree.TypeName.{TypeName}
 use Rattle.aj_syntax.specs.Limits.{most_height, most_tokens}
 use Rattle.aj_syntax.specs.Trees.{LockTree, MethodTree, FieldTree, MemberTree, FieldM, CtorM, MethodM, ClassTree, ProgramTree}
 use Rattle.aj_classes.specs.Names.{has_text}
 use Rattle.aj_classes.specs.Members.{is_empty, finals_of, class_names, field_names, is_entry, is_main}
-use Rattle.aj_classes.specs.Faults.{twice_faults, class_faults, missing_run, missing_main}
+use Rattle.aj_classes.specs.Faults.{twice_faults}
 use Rattle.aj_classes.specs.Faults as class_fault
 use Rattle.aj_classes.specs.Table.{TableData, type_of, class_number, method_number, table_of}
 use Rattle.aj_elaborate.specs.Rulings.{gain, both}
@@ -27,7 +26,7 @@ use Rattle.aj_elaborate.specs.Stmts.{block_core}
 use Rattle.aj_elaborate.specs.Programs.{all_there, ascending, guard_path, method_scope, method_result, method_node, run_of}
 use Rattle.aj_elaborate.proofs.Complete.{front_empty, back_empty}
 use Rattle.aj_elaborate.proofs.Inversions.{both_of, map_of}
-use Rattle.aj_elaborate.proofs.Parts.{Each, each_both, each_at, at_either, there_at, mapped_at, any_at, any_position, there_are, part_at, as_many, each_faultless}
+use Rattle.aj_elaborate.proofs.Parts.{Each, each_both, each_at, at_either, get_below, mapped_at, any_at, any_position, there_are, part_at, as_many, each_faultless}
 use Rattle.aj_elaborate.proofs.Places.{FieldAt, MethodAt, own_fields, own_methods, fields_at, methods_at, core_field, core_method, own_fields_long}
 use Rattle.aj_elaborate.proofs.Built.{class_node, IsBuilt, built, field_is, method_is, none_final, place_of_name}
 use Rattle.std.proofs.lemmas.List.Sums.{sum_by-cons}
@@ -39,7 +38,7 @@ use Rattle.aj_syntax.specs.Heights.{stmt_heights, highest_member, highest_body}
 use Rattle.aj_core.specs.Types.{Variable}
 use Rattle.aj_core.specs.Sizes.{stmt_nodes}
 use Rattle.aj_core.specs.Typed as typed
-use Rattle.aj_core.specs.Typed.{IsType, IsLock, parameters, declared_in_each, size_of, most_nodes, IsTypedClass, IsTypedField, IsTypedMethod, IsTypedStmt, AreTypedStmts, IsTyped}
+use Rattle.aj_core.specs.Typed.{IsType, IsLock, parameters, size_of, most_nodes, IsTypedClass, IsTypedField, IsTypedMethod, AreTypedStmts, IsTyped}
 use Rattle.aj_classes.specs.Members.{param_names}
 use Rattle.aj_classes.specs.declared.fault.ClassFault.TheVariants.{UnknownClass}
 use Rattle.aj_elaborate.specs.declared.fault.TypeFault.TheVariants.{MissingReturn}
@@ -346,7 +345,7 @@ module _ (tree : ProgramTree) (P : Program) (b : IsBuilt tree P) (s : AreSound t
         let d = r.0 in
         let is = field_is t P f d field at r.2 in
         let within = (each_at (λ d. (0 ≤ d.class) × (d.class < 0 + length tree)) (fields_at 0 tree) f d (classes_between 0 tree) r.1).1 in
-        let C = there_at tree d.class (omega (arith, within)) in
+        let C = get_below tree d.class (omega (arith, within)) in
         record {
           class = class_node t P.fields d.class C.0;
           of_class = ap (slice_get P.classes) is.class ∙ class_there tree P b d.class C.0 C.1;
@@ -374,7 +373,7 @@ module _ (tree : ProgramTree) (P : Program) (b : IsBuilt tree P) (s : AreSound t
   pub class_typed : (c : ℕ) (class : Class) → slice_get P.classes c ≡ Some class → IsTypedClass P c class
   class_typed c class at =
       let within = slice_get_within P.classes c class at in
-      let C = there_at tree c (omega (arith, within, classes_many tree P b)) in
+      let C = get_below tree c (omega (arith, within, classes_many tree P b)) in
       let p = place tree P b c C.0 C.1 in
       let sound_is = each_at (IsSound (known_in tree)) tree c C.0 s.classes C.1 in
       subst (IsTypedClass P c) (same_Some (class_node t P.fields c C.0) class (sym (class_there tree P b c C.0 C.1) ∙ at)) (record {

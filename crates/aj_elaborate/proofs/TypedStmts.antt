@@ -5,10 +5,11 @@ use Rattle.std.proofs.lemmas.Bool.Decides.{nat_tests}
 use Rattle.std.proofs.lemmas.Option.{slice_get_within, same_Some}
 use Rattle.std.proofs.lemmas.List.Elements.{Contains-append_right}
 use Rattle.std.proofs.lemmas.Bool.{not-true}
+use Rattle.aj_lemmas.proofs.Options.{if_taken}
 use Rattle.aj_syntax.specs.declared.tree.Name.{Name}
 use Rattle.aj_syntax.specs.declared.tree.TypeName.{TypeName}
 use Rattle.aj_syntax.specs.declared.tree.TypeName.TheVariants as Y
-use Rattle.aj_syntax.specs.Trees.{ExprTree, StmtTree, StmtTrees, LockTree, IfElseS, more_stmts}
+use Rattle.aj_syntax.specs.Trees.{ExprTree, StmtTree, StmtTrees, IfElseS, more_stmts}
 use Rattle.aj_syntax.specs.Trees as tree
 use Rattle.aj_syntax.specs.Heights as tree_height
 use Rattle.aj_core.specs.declared.types.CoreType.{CoreType}
@@ -16,10 +17,10 @@ use Rattle.aj_core.specs.declared.types.CoreType.TheVariants as type
 use Rattle.aj_core.specs.Core as core
 use Rattle.aj_core.specs.Core.{Program, Expr, Stmt, Stmts}
 use Rattle.aj_core.specs.Types.{ValueT, boolean_type, class_type, fits, Variable, HasType, HasFit}
-use Rattle.aj_core.specs.Sizes.{height_of, nodes_of}
+use Rattle.aj_core.specs.Sizes.{height_of}
 use Rattle.aj_core.specs.Sizes as sizes
 use Rattle.aj_core.specs.Typed as typing
-use Rattle.aj_core.specs.Typed.{IsType, IsLock, IsRunnable, is_call_or_new, gives_value, most_locals, IsTypedStmt, AreTypedStmts, declared_in, declared_in_each}
+use Rattle.aj_core.specs.Typed.{IsType, IsRunnable, is_call_or_new, gives_value, most_locals, IsTypedStmt, AreTypedStmts, declared_in, declared_in_each}
 use Rattle.aj_classes.specs.Table.{TableData, ClassData, class_number}
 use Rattle.aj_elaborate.specs.declared.fault.TypeFault.TheVariants.{UnknownName, NoRule, FinalAssigned}
 use Rattle.aj_elaborate.specs.Rulings.{gain, given, both, demand, then_rule}
@@ -70,10 +71,6 @@ first_in x xs = (0, omega arith, refl)
 
 pub later_in : {A : Type 0} (x : A) (xs : List A) (y : A) → Contains xs y → Contains (x ∷ xs) y
 later_in x xs y h = Contains-append_right (x ∷ []) xs y h
-
-if_of : {A : Type 0} (b : Bool) (o : Option A) (a : A) → (if b then o else None) ≡ Some a → (b ≡ true) × (o ≡ Some a)
-if_of true o a h = (refl, h)
-if_of false o a h = absurd (let e : None ≡ Some a = h in cc)
 
 below_limit : (n : ℕ) → nat_lt n most_locals ≡ true → n + 1 ≤ most_locals
 below_limit n h = grind (arith, nat_tests)
@@ -185,7 +182,7 @@ module _ (t : TableData) (P : Program) (agrees : Agrees t P) (class : ℕ) (retu
     local_fine : (before : ℕ) (fin : Bool) (ty : TypeName) (n : Name) (e : ExprTree) (at : ℕ) (s : Stmt)
         → stmt_core t class returns first scope before (tree.LocalS fin ty n e at) ≡ Some s → IsFine scope vars before (tree.LocalS fin ty n e at) s
     local_fine before fin ty n e at s h =
-        let few = if_of (nat_lt before most_locals) (given (local_rule (first + before) fin n.at) (both (gain (type_rule t ty)) (elaborated t class scope e))) s h in
+        let few = if_taken (nat_lt before most_locals) (given (local_rule (first + before) fin n.at) (both (gain (type_rule t ty)) (elaborated t class scope e))) s h in
         let g = given_of (local_rule (first + before) fin n.at) (both (gain (type_rule t ty)) (elaborated t class scope e)) s few.1 in
         let p = both_of (gain (type_rule t ty)) (elaborated t class scope e) g.0 g.1 in
         let v = then_of (fit_rule n.at g.0.0 g.0.1) (λ v. Ok (core.LocalS (first + before) fin g.0.0 v)) s g.2 in

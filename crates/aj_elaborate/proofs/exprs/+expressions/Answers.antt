@@ -10,7 +10,7 @@ use Rattle.aj_elaborate.specs.Noted.{noted}
 use Rattle.aj_elaborate.specs.Rules.{with_argument}
 use Rattle.aj_elaborate.specs.Views.{typed_data, typed_list}
 use Rattle.aj_elaborate.proofs.Gathering.{so_far}
-use Rattle.aj_elaborate.proofs.Called.{argument_step, argument_fault, all_typed, call_typed, call_noted, new_typed, new_noted}
+use Rattle.aj_elaborate.proofs.Called.{argument_step, argument_fault, all_typed, call_noted}
 use Rattle.aj_elaborate.proofs.Measures.{expr_measure, exprs_measure, expr_lighter}
 use Rattle.aj_elaborate.proofs.exprs.+expressions.Goals as goal
 
