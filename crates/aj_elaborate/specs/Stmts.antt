@@ -5,7 +5,7 @@ use Rattle.aj_core.specs.Core.{Expr, Stmt, Stmts, EmptyS, BlockS, LocalS, SetVar
 use Rattle.aj_core.specs.Types.{Variable}
 use Rattle.aj_core.specs.Typed.{is_call_or_new, gives_value, most_locals}
 use Rattle.aj_syntax.specs.declared.tree.Name.{Name}
-use Rattle.aj_syntax.specs.Trees.{ExprTree, StmtTree, StmtTrees, LockTree, IfElseS, more_stmts}
+use Rattle.aj_syntax.specs.Trees.{StmtTree, StmtTrees, IfElseS, more_stmts}
 use Rattle.aj_syntax.specs.Trees as tree
 use Rattle.aj_classes.specs.Table.{TableData, ClassData, FieldData}
 use Rattle.aj_elaborate.specs.declared.fault.TypeFault.{TypeFault}
