@@ -1,4 +1,4 @@
-// Values that tell a basic atomicity for every set of held locks at once.
+//! Values that tell a basic atomicity for every set of held locks at once.
 ghost use Rattle.std.specs.Prelude.{◌≡◌, ◌↔◌, true, IfOk, if◌then◌else◌};
 ghost use Rattle.aj_algebra.specs.Basics.{seq_of, join_of, star_of, below_of};
 ghost use Rattle.aj_algebra.specs.HeldPaths.{Held, has_path, renamed};

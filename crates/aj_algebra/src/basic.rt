@@ -1,4 +1,4 @@
-// The five basic atomicities and their operations.
+//! The five basic atomicities and their operations.
 ghost use Rattle.std.specs.Prelude.{◌≡◌, Some};
 ghost use Rattle.aj_algebra.specs.Basics.{rank_of, seq_of, join_of, star_of, lift_of, below_of, name_of};
 

@@ -1,4 +1,4 @@
-// The laws of basic atomicities.
+//! The laws of basic atomicities.
 ghost use Rattle.std.specs.Prelude.{◌≡◌, ◌⊎◌, true};
 ghost use Rattle.aj_algebra.specs.declared.basic.Basic.{Basic};
 ghost use Rattle.aj_algebra.specs.declared.basic.Basic.TheVariants.{Const};

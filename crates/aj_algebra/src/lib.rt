@@ -1,4 +1,4 @@
-// Basic atomicities with their laws, and the trait of values at every set of held locks.
+//! Basic atomicities with their laws, and the trait of values at every set of held locks.
 #![tactic(auto)]
 
 mod algebra;

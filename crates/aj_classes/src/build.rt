@@ -15,7 +15,7 @@ use aj_paths::ClassId;
 use aj_syntax::{Class, Member, Name, Param, TypeName};
 use std::alloc::{AllocError as NoMemory, Global};
 
-// A number for an id. There is no memory for a program with more parts than ids.
+/// A number for an id. There is no memory for a program with more parts than ids.
 pub(crate) fn number(count: usize) -> Result<u32, NoMemory>
     ensures { IfOk result (λ n. n ≡ count) }
 {
@@ -25,7 +25,7 @@ pub(crate) fn number(count: usize) -> Result<u32, NoMemory>
     }
 }
 
-// Whether so many numbers from a first one are ids.
+/// Whether so many numbers from a first one are ids.
 fn check_room(first: u32, count: usize) -> Result<(), NoMemory>
     ensures { OnOk result (first + count < 2 ^ 32) }
 {
@@ -196,7 +196,7 @@ fn method_set<'a>(alloc: Global, members: &[Member<'a>]) -> Result<NameSet<'a>, 
     Ok(names)
 }
 
-// A class, where so many fields and methods stand before.
+/// A class, where so many fields and methods stand before.
 fn class_entry<'a>(
     alloc: Global,
     class: &Class<'a>,

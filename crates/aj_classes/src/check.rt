@@ -18,7 +18,7 @@ use aj_faults::first_of;
 use aj_syntax::{Class, Member, Program};
 use std::alloc::{AllocError as NoMemory, Global};
 
-// Whether there is a void method of this name, without parameters and without `requires`.
+/// Whether there is a void method of this name, without parameters and without `requires`.
 fn has_entry(members: &[Member], text: &str) -> bool
     ensures { result ≡ list_any (is_entry text.now) (map member_of members.now) }
 {
@@ -102,7 +102,7 @@ fn note_missing_main(classes: &[Class], first: Option<ClassFault>) -> Option<Cla
     first_of(first, ClassFault::NoMain)
 }
 
-// The names of classes that stand again. The set has then the names of all classes.
+/// The names of classes that stand again. The set has then the names of all classes.
 fn note_class_names<'a>(
     classes: &[Class<'a>],
     names: &mut NameSet<'a>,

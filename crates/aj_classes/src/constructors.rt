@@ -85,7 +85,7 @@ fn match_sets(finals: &[FinalField], sets: &[(Name, Name)]) -> bool
     rest.is_empty()
 }
 
-// Whether a constructor assigns the final fields of its class, which has this name, in order.
+/// Whether a constructor assigns the final fields of its class, which has this name, in order.
 fn is_right_constructor(
     class: &Name,
     finals: &[FinalField],
@@ -101,7 +101,7 @@ fn is_right_constructor(
         && match_sets(finals, sets)
 }
 
-// The faults of constructors that aren't right, and of those after a first one.
+/// The faults of constructors that aren't right, and of those after a first one.
 pub(crate) fn note_constructors(
     class: &Name,
     finals: &[FinalField],

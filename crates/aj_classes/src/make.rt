@@ -19,7 +19,7 @@ use crate::names::NameSet;
 use aj_syntax::Program;
 use std::alloc::{AllocError as NoMemory, Global};
 
-// The table of a program without faults, whose classes have these names.
+/// The table of a program without faults, whose classes have these names.
 fn build<'a>(
     alloc: Global,
     program: &Program<'a>,

@@ -20,7 +20,7 @@ pub(crate) const MOST_FIELDS: usize = 32;
 /// How many parameters a method or a constructor may have.
 const MOST_PARAMS: usize = 16;
 
-// Adds a name to those that were seen. A name that was seen before is a fault.
+/// Adds a name to those that were seen. A name that was seen before is a fault.
 pub(crate) fn see<'a>(
     seen: &mut NameSet<'a>,
     name: &Name<'a>,
@@ -86,7 +86,7 @@ fn note_names(
     Ok(found)
 }
 
-// A type that is no class of the program.
+/// A type that is no class of the program.
 fn note_type(classes: &NameSet, ty: &TypeName, first: Option<ClassFault>) -> Option<ClassFault>
     ensures { result ≡ noted first (type_faults (has_text classes.now) ty.now) }
 {
@@ -130,7 +130,7 @@ pub(crate) fn note_excess(name: Option<&Name>, first: Option<ClassFault>) -> Opt
     }
 }
 
-// The name of the parameter with this number, counted from 0.
+/// The name of the parameter with this number, counted from 0.
 fn param_at<'p, 'a>(params: &'p [Param<'a>], number: usize) -> Option<&'p Name<'a>>
     ensures { option_map (λ n. n.now) result ≡ slice_get (param_names params.now) number }
 {
@@ -140,7 +140,7 @@ fn param_at<'p, 'a>(params: &'p [Param<'a>], number: usize) -> Option<&'p Name<'
     }
 }
 
-// Parameters: a name again, a type that is no class, one too many.
+/// Parameters: a name again, a type that is no class, one too many.
 #[tactic(auto, using(crate::proofs::Noting::noted_append))]
 fn note_params(
     alloc: Global,
@@ -193,7 +193,7 @@ pub(crate) fn note_members(
     Ok(found)
 }
 
-// The field with this number, counted from 0.
+/// The field with this number, counted from 0.
 pub(crate) fn field_at<'m, 'a>(members: &'m [Member<'a>], number: usize) -> Option<&'m Name<'a>>
     ensures { option_map (λ n. n.now) result ≡ slice_get (field_names (map member_of members.now)) number }
 {

@@ -1,4 +1,4 @@
-// The code of a program.
+//! The code of a program.
 ghost use Rattle.std.specs.Prelude.{◌≡◌, ◌++◌, IfOk, [], map, vec_len, ◌+◌};
 ghost use Rattle.aj_core.specs.Views.{program_of, method_of};
 ghost use Rattle.aj_compile.specs.IsCode.{IsCodeOf};

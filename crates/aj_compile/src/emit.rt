@@ -1,4 +1,4 @@
-// The lines of expressions and statements, put down from the last action to the first.
+//! The lines of expressions and statements, put down from the last action to the first.
 ghost use Rattle.std.specs.Prelude.{◌≡◌, ◌+◌, ◌<◌, ℕ, List, [], ◌∷◌, ◌++◌, IfOk, vec_len, length};
 ghost use Rattle.aj_core.specs.Core.{WhileS, SyncS};
 ghost use Rattle.aj_core.specs.Views.{expr_of, exprs_from, stmt_of, stmts_from};

@@ -1,4 +1,4 @@
-// The greatest number of operands that stand while a part is done.
+//! The greatest number of operands that stand while a part is done.
 ghost use Rattle.std.specs.Prelude.{◌≡◌, ◌+◌, IfOk};
 ghost use Rattle.aj_core.specs.Views.{expr_of, exprs_from, stmt_of, stmts_from};
 ghost use Rattle.aj_compile.specs.Rooms.{expr_room, exprs_room, stmt_room, stmts_room};

@@ -1,4 +1,4 @@
-// Instructions, lines of code, and the code of a program.
+//! Instructions, lines of code, and the code of a program.
 use aj_core::{CoreOp, UnaryOp};
 use aj_paths::{ClassId, FieldId, MethodId};
 use aj_state::Value;

@@ -1,4 +1,4 @@
-// Conditional atomicities as canonical trees.
+//! Conditional atomicities as canonical trees.
 #![tactic(auto)]
 
 mod operations;

@@ -1,4 +1,4 @@
-// The operations on canonical trees, each exactly the function of its name on plain trees.
+//! The operations on canonical trees, each exactly the function of its name on plain trees.
 ghost use Rattle.std.specs.Prelude.{◌≡◌, IfOk, map};
 ghost use Rattle.aj_paths.specs.Paths.{path_eq, path_order};
 ghost use Rattle.aj_algebra.specs.Basics.{lift_of, below_of};
@@ -45,7 +45,7 @@ fn call_two(f: Pair, x: Basic, y: Basic) -> Basic
     }
 }
 
-// A test, or the one tree where both branches are equal.
+/// A test, or the one tree where both branches are equal.
 fn node(alloc: Global, p: &Path, a: Tree, b: Tree) -> Result<Tree, NoMemory>
     ensures { IfOk result (λ t. cond_of t ≡ node p.now (cond_of a) (cond_of b)) }
 {
@@ -55,7 +55,7 @@ fn node(alloc: Global, p: &Path, a: Tree, b: Tree) -> Result<Tree, NoMemory>
     Ok(Tree::Test(p.copy(), Box::new(alloc, a)?, Box::new(alloc, b)?))
 }
 
-// Each leaf changed.
+/// Each leaf changed.
 pub(crate) fn each_tree(alloc: Global, f: Single, t: &Tree) -> Result<Tree, NoMemory>
     ensures { IfOk result (λ r. cond_of r ≡ each_leaf (single_of f) (cond_of t.now)) }
 {
@@ -65,7 +65,7 @@ pub(crate) fn each_tree(alloc: Global, f: Single, t: &Tree) -> Result<Tree, NoMe
     }
 }
 
-// The leaves of two trees joined by a call, the smaller path first.
+/// The leaves of two trees joined by a call, the smaller path first.
 pub(crate) fn both(alloc: Global, f: Pair, t: &Tree, u: &Tree) -> Result<Tree, NoMemory>
     ensures { IfOk result (λ r. cond_of r ≡ both_leaves (pair_of f) (cond_of t.now) (cond_of u.now)) }
 {
@@ -91,14 +91,14 @@ pub(crate) fn both(alloc: Global, f: Pair, t: &Tree, u: &Tree) -> Result<Tree, N
     }
 }
 
-// The tree where the path is held, and elsewhere its lift.
+/// The tree where the path is held, and elsewhere its lift.
 fn lifted(alloc: Global, p: &Path, t: &Tree) -> Result<Tree, NoMemory>
     ensures { IfOk result (λ r. cond_of r ≡ node p.now (cond_of t.now) (each_leaf lift_of (cond_of t.now))) }
 {
     node(alloc, p, t.copy(alloc)?, each_tree(alloc, Single::Lift, t)?)
 }
 
-// A synchronized part on the path.
+/// A synchronized part on the path.
 pub(crate) fn sync_in(alloc: Global, p: &Path, t: &Tree) -> Result<Tree, NoMemory>
     ensures { IfOk result (λ r. cond_of r ≡ sync_tree p.now (cond_of t.now)) }
 {
@@ -112,14 +112,14 @@ pub(crate) fn sync_in(alloc: Global, p: &Path, t: &Tree) -> Result<Tree, NoMemor
     }
 }
 
-// A test on copies of the two trees.
+/// A test on copies of the two trees.
 fn chosen(alloc: Global, p: &Path, t: &Tree, u: &Tree) -> Result<Tree, NoMemory>
     ensures { IfOk result (λ r. cond_of r ≡ node p.now (cond_of t.now) (cond_of u.now)) }
 {
     node(alloc, p, t.copy(alloc)?, u.copy(alloc)?)
 }
 
-// The first tree where the path is held, else the second.
+/// The first tree where the path is held, else the second.
 pub(crate) fn hold(alloc: Global, p: &Path, t: &Tree, u: &Tree) -> Result<Tree, NoMemory>
     ensures { IfOk result (λ r. cond_of r ≡ hold p.now (cond_of t.now) (cond_of u.now)) }
 {
@@ -155,14 +155,14 @@ pub(crate) fn hold(alloc: Global, p: &Path, t: &Tree, u: &Tree) -> Result<Tree, 
     }
 }
 
-// Whether a renaming names the path.
+/// Whether a renaming names the path.
 fn names(pairs: &[(Path, Option<Path>)], q: &Path) -> bool
     ensures { result ≡ is_named pairs.now q.now }
 {
     pairs.iter().any(|pair| pair.0.same(q))
 }
 
-// The first tree where a partner of the path is held, else the second.
+/// The first tree where a partner of the path is held, else the second.
 fn hold_partners_in(
     alloc: Global,
     pairs: &[(Path, Option<Path>)],
@@ -184,7 +184,7 @@ fn hold_partners_in(
     }
 }
 
-// Each test renamed, from the leaves on.
+/// Each test renamed, from the leaves on.
 pub(crate) fn rename_in(
     alloc: Global,
     pairs: &[(Path, Option<Path>)],
@@ -205,7 +205,7 @@ pub(crate) fn rename_in(
     }
 }
 
-// Whether the first is at most the second at every set.
+/// Whether the first is at most the second at every set.
 pub(crate) fn below_in(t: &Tree, u: &Tree) -> bool
     ensures { result ≡ below_tree (cond_of t.now) (cond_of u.now) }
 {
@@ -221,14 +221,14 @@ pub(crate) fn below_in(t: &Tree, u: &Tree) -> bool
     }
 }
 
-// Whether the list has the path.
+/// Whether the list has the path.
 fn holds(held: &[Path], p: &Path) -> bool
     ensures { result ≡ has_path held.now p.now }
 {
     held.iter().any(|q| q.same(p))
 }
 
-// The basic at the set of these paths.
+/// The basic at the set of these paths.
 pub(crate) fn at_in(t: &Tree, held: &[Path]) -> Basic
     ensures { result ≡ value_of (cond_of t.now) (has_path held.now) }
 {

@@ -1,4 +1,4 @@
-// The text of a conditional atomicity.
+//! The text of a conditional atomicity.
 ghost use Rattle.std.specs.Prelude.{◌≡◌, ◌++◌, IfOk, OnOk, string_bytes, codes, decimal};
 ghost use Rattle.aj_cond.specs.Conditions.{cond_of};
 ghost use Rattle.aj_cond.specs.Texts.{dotted, path_text, text_of};

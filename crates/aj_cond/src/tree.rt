@@ -1,4 +1,4 @@
-// Conditional atomicities: trees of tests on paths.
+//! Conditional atomicities: trees of tests on paths.
 ghost use Rattle.std.specs.Prelude.{◌≡◌, ◌↔◌, true, IfOk};
 ghost use Rattle.aj_paths.specs.Paths.{path_eq, path_order};
 ghost use Rattle.aj_algebra.specs.Basics.{rank_of};

@@ -1,4 +1,4 @@
-// Canonical trees as an algebra.
+//! Canonical trees as an algebra.
 ghost use Rattle.std.specs.Prelude.{◌≡◌};
 ghost use Rattle.aj_cond.specs.Conditions.{cond_of, value_of, IsCanonical};
 

@@ -1,4 +1,4 @@
-// Example programs are typed.
+//! Example programs are typed.
 ghost use Rattle.std.specs.Prelude.{◌≡◌, Some, None, pos, false, []};
 ghost use Rattle.aj_core.specs.declared.types.CoreType.TheVariants as type;
 ghost use Rattle.aj_core.specs.Core.{GetE, ThisE, IntE, VarE};

@@ -1,4 +1,4 @@
-// Laws of the definitions.
+//! Laws of the definitions.
 ghost use Rattle.std.specs.Prelude.{◌≡◌, ◌<◌, ℕ, List, Some, Vec, Box, Contains};
 ghost use Rattle.aj_paths.specs.Paths.{PathData};
 ghost use Rattle.std.specs.declared.alloc.Global.{Global};

@@ -1,4 +1,4 @@
-// The core program: what elaboration makes of a source, in numbers. Types, lent parts, and lock expressions.
+//! The core program: what elaboration makes of a source, in numbers. Types, lent parts, and lock expressions.
 #![tactic(auto)]
 
 pub mod examples;

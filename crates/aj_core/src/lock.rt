@@ -1,4 +1,4 @@
-// Lock expressions: which expressions have a path.
+//! Lock expressions: which expressions have a path.
 ghost use Rattle.std.specs.Prelude.{◌≡◌, slice_get};
 ghost use Rattle.aj_core.specs.Views.{program_of, expr_of};
 ghost use Rattle.aj_core.specs.Locks.{path_of, get_path, leads_on};

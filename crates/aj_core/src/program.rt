@@ -1,4 +1,4 @@
-// Programs, classes, fields and methods, with the calls that lend their parts.
+//! Programs, classes, fields and methods, with the calls that lend their parts.
 ghost use Rattle.std.specs.Prelude.{◌≡◌, map};
 ghost use Rattle.aj_core.specs.Views.{program_of, class_of, field_of, method_of};
 

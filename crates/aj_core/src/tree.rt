@@ -1,4 +1,4 @@
-// Expressions and statements of the core program.
+//! Expressions and statements of the core program.
 use crate::types::{CoreOp, CoreType};
 use aj_paths::{ClassId, FieldId, MethodId, Path};
 

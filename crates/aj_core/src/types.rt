@@ -1,4 +1,4 @@
-// Types of values, and operators.
+//! Types of values, and operators.
 use aj_paths::ClassId;
 
 /// The type of a field, parameter, local or result.

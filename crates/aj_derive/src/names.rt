@@ -24,7 +24,7 @@ pub(crate) enum Names<'a> {
     At(&'a [Path], Option<&'a Path>, &'a [Option<Path>]),
 }
 
-// What a path is called; None where it has no name.
+/// What a path is called; None where it has no name.
 fn name_of(names: &Names<'_>, path: &Path) -> Option<Path>
     ensures { result ≡ name_under names.now path.now }
 {

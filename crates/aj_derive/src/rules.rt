@@ -26,7 +26,7 @@ use aj_paths::{FieldId, MethodId, Path};
 use aj_rules::{Guard, guard_at};
 use std::alloc::{AllocError as NoMemory, Global};
 
-// The first premise and the others, which are all nodes of the table.
+/// The first premise and the others, which are all nodes of the table.
 fn first_of<'a>(table: &NodeTable, premises: &'a [Node]) -> Option<(Node, &'a [Node])>
     requires { AreThere (length table.now) premises.now }
     ensures none { IfNone result (premises.now ≡ []) }
@@ -39,7 +39,7 @@ fn first_of<'a>(table: &NodeTable, premises: &'a [Node]) -> Option<(Node, &'a [N
     Some((*first, others))
 }
 
-// Premises one after another. Their number is that of a call's arguments at most, so the recursion isn't deep.
+/// Premises one after another. Their number is that of a call's arguments at most, so the recursion isn't deep.
 #[tactic(auto, using(crate::proofs::Tables::keeps_chain))]
 fn sequence(alloc: Global, table: &mut NodeTable, premises: &[Node]) -> Result<Node, NoMemory>
     requires { AreThere (length table.old) premises.now }
@@ -54,7 +54,7 @@ fn sequence(alloc: Global, table: &mut NodeTable, premises: &[Node]) -> Result<N
     table.seq(alloc, &first, &rest)
 }
 
-// A basic where this path is held, else another.
+/// A basic where this path is held, else another.
 fn held_or_else(
     alloc: Global,
     table: &mut NodeTable,
@@ -71,7 +71,7 @@ fn held_or_else(
     table.held_or(alloc, path, &held, &free)
 }
 
-// Reading or writing a field of this receiver.
+/// Reading or writing a field of this receiver.
 fn access(
     alloc: Global,
     program: &CoreProgram,
@@ -99,7 +99,7 @@ fn access(
     }
 }
 
-// A node, then reading or writing a field of this receiver.
+/// A node, then reading or writing a field of this receiver.
 #[tactic(auto, using(crate::proofs::Tables::keeps_chain))]
 fn then_access(
     alloc: Global,
@@ -120,7 +120,7 @@ fn then_access(
     table.seq(alloc, &first, &access)
 }
 
-// A node, then a basic.
+/// A node, then a basic.
 fn then_basic(
     alloc: Global,
     table: &mut NodeTable,
@@ -136,7 +136,7 @@ fn then_basic(
     table.seq(alloc, &first, &next)
 }
 
-// What is assigned to a method, under these names; const where it isn't there.
+/// What is assigned to a method, under these names; const where it isn't there.
 fn assigned(
     alloc: Global,
     basis: &Basis<'_>,
@@ -154,7 +154,7 @@ fn assigned(
     }
 }
 
-// What a callee's tree gives at a call on this receiver with these arguments, by their paths.
+/// What a callee's tree gives at a call on this receiver with these arguments, by their paths.
 #[tactic(auto, using(crate::proofs::Tables::keeps_chain))]
 fn call_by_paths(
     alloc: Global,
@@ -174,7 +174,7 @@ fn call_by_paths(
     with_required(alloc, table, &names, required(basis.program, callee), value)
 }
 
-// The last part of a call.
+/// The last part of a call.
 fn call(
     alloc: Global,
     basis: &Basis<'_>,
@@ -200,7 +200,7 @@ fn call(
     )
 }
 
-// A node, then the last part of a call.
+/// A node, then the last part of a call.
 #[tactic(auto, using(crate::proofs::Tables::keeps_chain))]
 fn then_call(
     alloc: Global,
@@ -222,7 +222,7 @@ fn then_call(
     table.seq(alloc, &first, &call)
 }
 
-// The node of an expression.
+/// The node of an expression.
 #[tactic(auto, using(crate::proofs::Tables::keeps_chain))]
 fn expr_rule(
     alloc: Global,
@@ -271,7 +271,7 @@ fn expr_rule(
     }
 }
 
-// The condition, then either branch.
+/// The condition, then either branch.
 #[tactic(auto, using(crate::proofs::Tables::keeps_chain))]
 fn choice(alloc: Global, table: &mut NodeTable, premises: &[Node]) -> Result<Node, NoMemory>
     requires { AreThere (length table.old) premises.now }
@@ -292,7 +292,7 @@ fn choice(alloc: Global, table: &mut NodeTable, premises: &[Node]) -> Result<Nod
     table.seq(alloc, &condition, &either)
 }
 
-// A body and then a condition, any number of times.
+/// A body and then a condition, any number of times.
 #[tactic(auto, using(crate::proofs::Tables::keeps_chain))]
 fn turns(
     alloc: Global,
@@ -310,7 +310,7 @@ fn turns(
     table.star(alloc, &turn)
 }
 
-// The condition, then the body and the condition again, any number of times.
+/// The condition, then the body and the condition again, any number of times.
 #[tactic(auto, using(crate::proofs::Tables::keeps_chain))]
 fn repetition(alloc: Global, table: &mut NodeTable, premises: &[Node]) -> Result<Node, NoMemory>
     requires { AreThere (length table.old) premises.now }
@@ -328,7 +328,7 @@ fn repetition(alloc: Global, table: &mut NodeTable, premises: &[Node]) -> Result
     table.seq(alloc, &condition, &turns)
 }
 
-// A synchronized part.
+/// A synchronized part.
 fn locked(
     alloc: Global,
     table: &mut NodeTable,
@@ -346,7 +346,7 @@ fn locked(
     table.sync(alloc, path, &body)
 }
 
-// The value of the rest of a block before a statement.
+/// The value of the rest of a block before a statement.
 fn before(
     alloc: Global,
     program: &CoreProgram,
@@ -373,7 +373,7 @@ fn before(
     named(alloc, table, &Names::Before(*slot, path.as_ref()), &tree)
 }
 
-// A statement of a block and then the rest of the block, from the rest's node.
+/// A statement of a block and then the rest of the block, from the rest's node.
 #[tactic(auto, using(crate::proofs::Tables::keeps_chain))]
 fn statement_and_rest(
     alloc: Global,
@@ -394,7 +394,7 @@ fn statement_and_rest(
     table.seq(alloc, &first, &rest)
 }
 
-// The statements of a block, from the last to the first.
+/// The statements of a block, from the last to the first.
 fn block(
     alloc: Global,
     program: &CoreProgram,
@@ -416,7 +416,7 @@ fn block(
     Ok(rest)
 }
 
-// The node of a statement.
+/// The node of a statement.
 #[tactic(auto, using(crate::proofs::Tables::keeps_chain))]
 fn stmt_rule(
     alloc: Global,

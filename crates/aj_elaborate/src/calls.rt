@@ -43,7 +43,7 @@ pub(crate) fn method_rule<'t, 'a>(
     found
 }
 
-// Notes a method that the receiver's class lacks, and nothing else.
+/// Notes a method that the receiver's class lacks, and nothing else.
 fn note_unknown_method(table: &ClassTable, name: &Name, receiver: ExprType, first: &mut FirstFault)
     ensures { first.new ≡ noted first.old (unknown_only (method_rule (table_data table.now) name.now (type_data receiver))) }
 {
@@ -71,7 +71,7 @@ fn fit_params(args: &[TypedExpr], params: &[ParamEntry]) -> bool
     rest.is_empty()
 }
 
-// Whether arguments fit the final ones of these fields.
+/// Whether arguments fit the final ones of these fields.
 fn fit_finals(args: &[TypedExpr], fields: &[FieldEntry]) -> bool
     ensures { result ≡ fit_each (types_of args.now) (map (λ f. f.ty) (filter (λ f. f.is_final) fields.now)) }
 {
@@ -91,7 +91,7 @@ fn fit_finals(args: &[TypedExpr], fields: &[FieldEntry]) -> bool
     rest.is_empty()
 }
 
-// So many fields from a place on; fewer where they end before.
+/// So many fields from a place on; fewer where they end before.
 fn window<'t, 'a>(all: &'t [FieldEntry<'a>], start: usize, count: usize) -> &'t [FieldEntry<'a>]
     ensures { result.now ≡ take count (drop start all.now) }
 {
@@ -113,7 +113,7 @@ fn entry_fields<'t, 'a>(table: &'t ClassTable<'a>, entry: &ClassEntry) -> &'t [F
     window(table.fields(), start, entry.field_count())
 }
 
-// The fields of a class.
+/// The fields of a class.
 fn fields_of<'t, 'a>(table: &'t ClassTable<'a>, class: ClassId) -> &'t [FieldEntry<'a>]
     ensures { result.now ≡ class_fields (table_data table.now) class }
 {
@@ -141,7 +141,7 @@ fn new_node(class: ClassId, args: Vec<CoreExpr>) -> CoreExpr
     CoreExpr::New(class, args)
 }
 
-// What a call of a method with this result gives.
+/// What a call of a method with this result gives.
 fn result_type(returns: Option<CoreType>) -> ExprType
     ensures { type_data result ≡ result_type returns }
 {
@@ -151,7 +151,7 @@ fn result_type(returns: Option<CoreType>) -> ExprType
     }
 }
 
-// A call whose receiver and arguments have types.
+/// A call whose receiver and arguments have types.
 fn typed_call(
     alloc: Global,
     table: &ClassTable,

@@ -15,7 +15,7 @@ use aj_paths::{ClassId, FieldId, MethodId};
 use aj_syntax::Class;
 use std::alloc::{AllocError as NoMemory, Global};
 
-// The ids of a class's fields, and the fields of later classes with the id of the first of them.
+/// The ids of a class's fields, and the fields of later classes with the id of the first of them.
 #[derive(Drop)]
 struct OwnFields<'f> {
     ids: Vec<FieldId>,
@@ -23,7 +23,7 @@ struct OwnFields<'f> {
     rest: &'f [CoreField],
 }
 
-// The fields of a class, where the fields ascend by class from this one on, and the first has this id.
+/// The fields of a class, where the fields ascend by class from this one on, and the first has this id.
 fn own_fields<'f>(
     alloc: Global,
     class: ClassId,

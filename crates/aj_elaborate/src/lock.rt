@@ -57,7 +57,7 @@ fn through(reach: ReachTo, id: FieldId, field: &FieldEntry) -> ReachTo
     }
 }
 
-// The field that a name means in a lock whose first token stands at `at`.
+/// The field that a name means in a lock whose first token stands at `at`.
 fn lock_field<'t, 'a>(
     table: &'t ClassTable<'a>,
     at: u32,
@@ -79,7 +79,7 @@ fn lock_field<'t, 'a>(
     found
 }
 
-// One field further.
+/// One field further.
 fn further(
     table: &ClassTable,
     at: u32,

@@ -40,7 +40,7 @@ fn main_method(table: &ClassTable, class: ClassId) -> MethodId
     table.method_named(class, "main").unwrap_or(MethodId(0))
 }
 
-// The core program with these fields, which ascend by class, and these methods.
+/// The core program with these fields, which ascend by class, and these methods.
 fn core_program(
     alloc: Global,
     table: &ClassTable,
@@ -63,7 +63,7 @@ fn core_program(
     })
 }
 
-// The core program of these parts, none of which is missing.
+/// The core program of these parts, none of which is missing.
 fn assembled(
     alloc: Global,
     table: &ClassTable,

@@ -29,7 +29,7 @@ pub(crate) struct Parts {
     pub(crate) methods: Gathered<CoreMethod>,
 }
 
-// The path of a guard, if there is one. None where the guard is no lock.
+/// The path of a guard, if there is one. None where the guard is no lock.
 fn guard_path(
     table: &ClassTable,
     class: ClassId,
@@ -68,7 +68,7 @@ fn field(
     })
 }
 
-// The index of the next field. A class table admits 32 fields in a class at most; there is no memory for 65,536.
+/// The index of the next field. A class table admits 32 fields in a class at most; there is no memory for 65,536.
 fn next_index(index: u16) -> Result<u16, NoMemory>
     ensures { IfOk result (λ n. n ≡ index + 1) }
 {
@@ -78,7 +78,7 @@ fn next_index(index: u16) -> Result<u16, NoMemory>
     }
 }
 
-// One member of a class, in which so many fields stand before it; how many stand before the next.
+/// One member of a class, in which so many fields stand before it; how many stand before the next.
 fn add_member(
     alloc: Global,
     table: &ClassTable,
@@ -134,7 +134,7 @@ fn add_members(
     Ok(())
 }
 
-// The number after this one. There is no memory for a program with more parts than numbers.
+/// The number after this one. There is no memory for a program with more parts than numbers.
 pub(crate) fn next_number(number: u32) -> Result<u32, NoMemory>
     ensures { IfOk result (λ n. n ≡ number + 1) }
 {

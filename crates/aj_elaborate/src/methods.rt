@@ -54,7 +54,7 @@ fn result_of(table: &ClassTable, returns: &Option<TypeName>) -> Option<CoreType>
     }
 }
 
-// The slot after this one. There is no memory for a method with more parameters than slots.
+/// The slot after this one. There is no memory for a method with more parameters than slots.
 fn next_slot(slot: u16) -> Result<u16, NoMemory>
     ensures { IfOk result (λ n. n ≡ slot + 1) }
 {
@@ -86,7 +86,7 @@ fn parameters<'a>(
     Ok(scope)
 }
 
-// Of each variable whether it is final, and its type.
+/// Of each variable whether it is final, and its type.
 fn variable_types(alloc: Global, scope: &[Bound]) -> Result<Vec<(bool, CoreType)>, NoMemory>
     ensures { IfOk result (λ types. types.items ≡ map (λ b. (b.variable.is_final, b.variable.ty)) scope.now) }
 {
@@ -97,8 +97,8 @@ fn variable_types(alloc: Global, scope: &[Bound]) -> Result<Vec<(bool, CoreType)
     Ok(types)
 }
 
-// The slot of the first local of a method with these parameters. A class table admits 16 parameters at most; there is no
-// memory for 255 or more.
+/// The slot of the first local of a method with these parameters. A class table admits 16 parameters at most; there is no
+/// memory for 255 or more.
 fn first_local(params: &[Param]) -> Result<u8, NoMemory>
     ensures { IfOk result (λ slot. slot ≡ 1 + length params.now) }
 {
@@ -108,7 +108,7 @@ fn first_local(params: &[Param]) -> Result<u8, NoMemory>
     }
 }
 
-// How many slots a method has. There is no memory for 65,536 or more.
+/// How many slots a method has. There is no memory for 65,536 or more.
 fn slots(first_local: u8, locals: usize) -> Result<u16, NoMemory>
     ensures { IfOk result (λ count. count ≡ first_local + locals) }
 {
@@ -139,7 +139,7 @@ fn required(
     Ok(paths.all())
 }
 
-// These paths in ascending order, each once.
+/// These paths in ascending order, each once.
 fn ascending(alloc: Global, paths: Vec<Path>) -> Result<Vec<Path>, NoMemory>
     ensures { IfOk result (λ all. all.items ≡ ascending paths.items) }
 {
@@ -151,7 +151,7 @@ fn ascending(alloc: Global, paths: Vec<Path>) -> Result<Vec<Path>, NoMemory>
     set.into_iter().collect(alloc)
 }
 
-// Notes that the body of a method with a result can complete. Its closing brace stands at `at`.
+/// Notes that the body of a method with a result can complete. Its closing brace stands at `at`.
 fn note_missing_return(returns: bool, completes: bool, at: u32, first: &mut FirstFault)
     ensures { first.new ≡ noted first.old (return_faults (returns && completes) at) }
 {
@@ -168,7 +168,7 @@ struct MethodParts {
     body: StmtPart,
 }
 
-// The parts of a method with these parameters.
+/// The parts of a method with these parameters.
 fn method_parts<'a>(
     body: &Body,
     params: &[Param<'a>],
@@ -197,7 +197,7 @@ fn method_parts<'a>(
     Ok(MethodParts { types, locks, body })
 }
 
-// The core method of these parts. None where one is missing.
+/// The core method of these parts. None where one is missing.
 fn core_method(
     body: &Body,
     atomic: bool,

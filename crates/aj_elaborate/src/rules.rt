@@ -135,7 +135,7 @@ fn operator_rule(
     }))
 }
 
-// `&&` where it is asked for, else `||`.
+/// `&&` where it is asked for, else `||`.
 fn logical_rule(
     alloc: Global,
     is_and: bool,
@@ -161,7 +161,7 @@ fn logical_rule(
     Ok(Some(value(CoreType::Boolean, node)))
 }
 
-// The rule of a sign between two parts that have types.
+/// The rule of a sign between two parts that have types.
 fn sign_rule(
     alloc: Global,
     op: Op,

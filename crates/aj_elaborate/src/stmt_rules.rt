@@ -48,7 +48,7 @@ pub(crate) fn type_rule(
     }
 }
 
-// A value for a place of this type.
+/// A value for a place of this type.
 fn fit_rule(at: u32, ty: CoreType, value: TypedExpr, first: &mut FirstFault) -> Option<CoreExpr>
     ensures node { option_map expr_of result ≡ gain (fit_rule at ty (typed_data value)) }
     ensures fault { first.new ≡ noted first.old (loss (fit_rule at ty (typed_data value))) }
@@ -330,7 +330,7 @@ pub(crate) fn print_rule(
     Ok(Some(CoreStmt::Print(node)))
 }
 
-// Whether there is a class, and it says `implements Runnable`.
+/// Whether there is a class, and it says `implements Runnable`.
 fn is_runnable(table: &ClassTable, class: Option<ClassId>) -> bool
     ensures { result ≡ is_runnable (table_data table.now) class }
 {

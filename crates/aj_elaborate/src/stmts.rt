@@ -31,7 +31,7 @@ use aj_core::{CoreStmt, CoreType};
 use aj_syntax::{Expr, Lock, Name, Stmt, TypeName};
 use std::alloc::{AllocError as NoMemory, Global};
 
-// A statement that declares nothing and can complete.
+/// A statement that declares nothing and can complete.
 fn simple(node: Option<CoreStmt>) -> StmtPart
     ensures node { result.node ≡ node }
     ensures locals { result.locals ≡ 0 }
@@ -210,7 +210,7 @@ fn return_part(
     })
 }
 
-// Notes a statement that can't be reached.
+/// Notes a statement that can't be reached.
 fn note_unreachable(live: bool, s: &Stmt, first: &mut FirstFault)
     ensures { first.new ≡ noted first.old (unreachable live (stmt_of s.now)) }
 {
@@ -219,7 +219,7 @@ fn note_unreachable(live: bool, s: &Stmt, first: &mut FirstFault)
     }
 }
 
-// Puts what a statement declares into scope, where so many locals stand before it.
+/// Puts what a statement declares into scope, where so many locals stand before it.
 fn declare<'a>(
     body: &Body,
     before: usize,

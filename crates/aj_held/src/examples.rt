@@ -1,4 +1,4 @@
-// The theorem over an example program.
+//! The theorem over an example program.
 ghost use Rattle.std.specs.Prelude.{◌≡◌, ◌≢◌, ℕ, List, Some};
 ghost use Rattle.aj_core.specs.Examples.{counter};
 ghost use Rattle.aj_state.specs.declared.value.StepKind.TheVariants.{Bare};

@@ -1,4 +1,4 @@
-// Guards held and reducible words.
+//! Guards held and reducible words.
 ghost use Rattle.std.specs.Prelude.{◌≡◌, ◌≢◌, ℕ, Bool, List, Some, slice_get, false};
 ghost use Rattle.aj_core.specs.Core.{Program};
 ghost use Rattle.aj_core.specs.Typed.{IsTyped};

@@ -1,4 +1,4 @@
-// A machine that runs a checked program, and the list of its steps.
+//! A machine that runs a checked program, and the list of its steps.
 ghost use Rattle.std.specs.Prelude.{◌≡◌, ◌≢◌, ◌++◌, ◌∷◌, [], ◌<◌, ℕ, List, OnOk, OnErr, IfOk, IfErr};
 ghost use Rattle.aj_core.specs.Views.{program_of};
 ghost use Rattle.aj_state.specs.declared.value.StepKind.TheVariants.{Bare};

@@ -1,4 +1,4 @@
-// Laws of std's words.
+//! Laws of std's words.
 ghost use Rattle.std.specs.Prelude.{◌≡◌, ◌<◌, ◌≤◌, ◌+◌, ◌-◌, ◌⊎◌, ◌++◌, ℕ, Bool, true, List, [], ◌∷◌, length, drop, get_or, Contains, Option, Some, None, option_and_then, slice_get, if◌then◌else◌};
 ghost use Rattle.std.specs.Char.{is_ascii_digit, digit_value};
 

@@ -1,4 +1,4 @@
-// What is done, on one thread and what all threads share.
+//! What is done, on one thread and what all threads share.
 ghost use Rattle.std.specs.Prelude.{◌≡◌, ◌<◌, ◌≤◌, ◌+◌, ℕ, List, IsOk, ◌++◌, ◌∷◌, [], ◌-◌, length, reverse, map, Option, Some, None, true, IsSome, OnOk, OnErr, IfOk, slice_get, slice_set};
 ghost use Rattle.std.specs.FinMap as map;
 ghost use Rattle.aj_state.specs.Values.{under};

@@ -1,4 +1,4 @@
-// What a thread does next, decided before anything is changed.
+//! What a thread does next, decided before anything is changed.
 ghost use Rattle.std.specs.Prelude.{◌≡◌, reverse, length, nat_lt, Some, slice_get};
 ghost use Rattle.aj_core.specs.Core.{Method};
 ghost use Rattle.std.specs.Option.{option_map};

@@ -1,4 +1,4 @@
-// What a thread does next.
+//! What a thread does next.
 use crate::machine::StepEnd;
 use aj_paths::{ClassId, FieldId, MethodId};
 use aj_state::{Address, Fault, Value};

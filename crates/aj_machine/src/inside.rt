@@ -1,4 +1,4 @@
-// Who stands inside an atomic call.
+//! Who stands inside an atomic call.
 ghost use Rattle.std.specs.Prelude.{◌≡◌, position, reverse, slice_get};
 ghost use Rattle.std.specs.Option.{option_map};
 ghost use Rattle.aj_core.specs.Views.{program_of};

@@ -1,4 +1,4 @@
-// The kind of what a thread does next.
+//! The kind of what a thread does next.
 ghost use Rattle.std.specs.Prelude.{◌≡◌, Some, slice_get};
 ghost use Rattle.std.specs.Option.{option_copied};
 ghost use Rattle.aj_core.specs.Views.{field_of};

@@ -1,4 +1,4 @@
-// Laws of the machine over code.
+//! Laws of the machine over code.
 ghost use Rattle.std.specs.Prelude.{◌≡◌, ℕ, List};
 ghost use Rattle.aj_core.specs.Core.{Program};
 ghost use Rattle.aj_state.specs.States.{State, StateOf, initial};

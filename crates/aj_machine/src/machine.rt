@@ -1,4 +1,4 @@
-// The machine.
+//! The machine.
 ghost use Rattle.std.specs.Prelude.{◌≡◌, ◌≢◌, false, Err, ◌<◌, ◌≤◌, ◌++◌, ◌∷◌, [], ◌+◌, length, Some, None, OnOk, OnErr, IfOk, IfErr, MatchResult, slice_get};
 ghost use Rattle.std.specs.Option.{option_map};
 ghost use Rattle.aj_core.specs.Views.{program_of};

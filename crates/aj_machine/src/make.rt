@@ -1,4 +1,4 @@
-// The slots of a new frame, and the values of a new object.
+//! The slots of a new frame, and the values of a new object.
 ghost use Rattle.std.specs.Prelude.{◌≡◌, ◌++◌, ◌-◌, ◌∷◌, [], reverse, replicate, pos, vec_len, IfOk, OnOk, slice_get};
 ghost use Rattle.aj_state.specs.declared.value.Value.TheVariants as value;
 ghost use Rattle.aj_core.specs.Views.{program_of, method_of, field_of};

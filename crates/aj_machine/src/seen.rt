@@ -1,4 +1,4 @@
-// What a thread may see.
+//! What a thread may see.
 use aj_compile::CodeTable;
 use aj_core::CoreProgram;
 use aj_state::{Heap, Locks};

@@ -1,4 +1,4 @@
-// A turn of a thread.
+//! A turn of a thread.
 ghost use Rattle.std.specs.Prelude.{◌≡◌, ◌<◌, ◌+◌, ◌≢◌, ℕ, List, IsOk, Err, length, ◌++◌, ◌∷◌, [], map, Some, None, true, IsSome, OnOk, OnErr, option_and_then, slice_get, slice_set};
 ghost use Rattle.aj_core.specs.Views.{program_of, method_of};
 ghost use Rattle.aj_core.specs.Core.{Method};

@@ -61,7 +61,7 @@ pub(crate) fn hint_of(call: &Call) -> usize
     }
 }
 
-// A copy of a path that may be missing.
+/// A copy of a path that may be missing.
 fn copy_of(path: &Option<Path>) -> Option<Path>
     ensures { result ≡ path.now }
 {

@@ -21,7 +21,7 @@ pub(crate) enum Split {
     Tests(Path, usize, usize, usize, usize),
 }
 
-// Whether the list has the path.
+/// Whether the list has the path.
 fn holds(held: &[Path], p: &Path) -> bool
     ensures { result ≡ has_path held.now p.now }
 {

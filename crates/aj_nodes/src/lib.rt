@@ -1,4 +1,4 @@
-// Conditional atomicities as numbers of shared nodes.
+//! Conditional atomicities as numbers of shared nodes.
 #![tactic(auto)]
 
 mod algebra;

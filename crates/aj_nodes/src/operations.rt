@@ -17,7 +17,7 @@ use indexmap::IndexMap;
 use std::alloc::{AllocError as NoMemory, Global};
 use std::cmp::Ordering;
 
-// Whether a renaming names the path.
+/// Whether a renaming names the path.
 fn names(pairs: &[(Path, Option<Path>)], q: &Path) -> bool
     ensures { result ≡ is_named pairs.now q.now }
 {
@@ -136,7 +136,7 @@ impl NodeTable {
         }
     }
 
-    // The node where the path is held, and elsewhere its lift.
+    /// The node where the path is held, and elsewhere its lift.
     fn lifted(&mut self, p: &Path, n: usize) -> Result<usize, NoMemory>
         requires there { n < length self.old }
         requires canonical { IsCanonical (node p.now (tree_at self.old n) (each_leaf lift_of (tree_at self.old n))) }
@@ -171,7 +171,7 @@ impl NodeTable {
         }
     }
 
-    // The first where a partner of the path is held, else the second.
+    /// The first where a partner of the path is held, else the second.
     fn hold_partners(
         &mut self,
         pairs: &[(Path, Option<Path>)],
@@ -197,7 +197,7 @@ impl NodeTable {
         }
     }
 
-    // A test on a path, as a renaming tells it.
+    /// A test on a path, as a renaming tells it.
     fn renamed_test(
         &mut self,
         pairs: &[(Path, Option<Path>)],
@@ -216,7 +216,7 @@ impl NodeTable {
         self.hold(q, held, free)
     }
 
-    // Each test renamed, from the leaves on. What was renamed before is `done`.
+    /// Each test renamed, from the leaves on. What was renamed before is `done`.
     fn renamed_at(
         &mut self,
         pairs: &[(Path, Option<Path>)],

@@ -144,7 +144,7 @@ impl Rows {
         )
     }
 
-    // The number of a test, where the hint tells it.
+    /// The number of a test, where the hint tells it.
     fn hinted(&self, hint: usize, p: &Path, held: usize, free: usize) -> Option<usize>
         requires { hint < 256 }
         ensures stands { IfSome result (λ n. Stands self.now n (TestC p.now (tree_at self.now held) (tree_at self.now free))) }
@@ -160,7 +160,7 @@ impl Rows {
         }
     }
 
-    // The number of a decision, which is found or added. The hint tells it from now on.
+    /// The number of a decision, which is found or added. The hint tells it from now on.
     fn add(&mut self, hint: usize, decision: Decision) -> Result<usize, NoMemory>
         requires hint { hint < 256 }
         requires held_there { decision.held < length self.old }
@@ -199,7 +199,7 @@ pub(crate) fn hint_at(first: usize, second: usize, third: usize) -> usize
         % HINTS
 }
 
-// A decision as an item.
+/// A decision as an item.
 fn copy_of(decision: &Decision) -> Item
     ensures { result ≡ test_of decision.now }
 {

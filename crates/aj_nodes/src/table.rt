@@ -200,7 +200,7 @@ impl NodeTable {
         }
     }
 
-    // Keeps what a call gave.
+    /// Keeps what a call gave.
     fn remember(&mut self, call: Call, n: usize) -> Result<(), NoMemory>
         requires { IsResult self.old call n }
         ensures { self.new ≡ self.old }

@@ -1,4 +1,4 @@
-// Laws of the written order.
+//! Laws of the written order.
 ghost use Rattle.std.specs.Prelude.{◌≡◌, ℕ, List};
 ghost use Rattle.aj_core.specs.Core.{Program};
 ghost use Rattle.aj_steps.specs.Units.{entries, written_order};

@@ -1,4 +1,4 @@
-// Ids of classes, fields and methods. A contract sees each as a number.
+//! Ids of classes, fields and methods. A contract sees each as a number.
 use std::marker::Model;
 
 /// The number of a class, counted from 0 in source order over the whole program.

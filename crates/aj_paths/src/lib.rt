@@ -1,4 +1,4 @@
-// Ids of the core program, and lock paths with their order, extension and renaming under a call.
+//! Ids of the core program, and lock paths with their order, extension and renaming under a call.
 #![tactic(auto)]
 
 mod ids;

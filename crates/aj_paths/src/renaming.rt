@@ -1,4 +1,4 @@
-// Names of a callee's paths at the place of a call.
+//! Names of a callee's paths at the place of a call.
 ghost use Rattle.std.specs.Prelude.{◌≡◌};
 ghost use Rattle.std.specs.Option.{option_copied};
 ghost use Rattle.aj_paths.specs.Renamings.{under_call};

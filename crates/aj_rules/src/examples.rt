@@ -1,4 +1,4 @@
-// Examples of effects, which the check computes.
+//! Examples of effects, which the check computes.
 ghost use Rattle.std.specs.Prelude.{◌≡◌, if◌then◌else◌};
 ghost use Rattle.aj_algebra.specs.declared.basic.Basic.TheVariants.{Mover, Atomic, Cmpd};
 ghost use Rattle.aj_algebra.specs.HeldPaths.{Held};

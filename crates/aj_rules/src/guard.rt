@@ -1,4 +1,4 @@
-// The guard of an access.
+//! The guard of an access.
 ghost use Rattle.std.specs.Prelude.{◌≡◌, Some, IfSome};
 ghost use Rattle.aj_paths.specs.Paths.{extended, extended_some};
 ghost use Rattle.aj_core.specs.Core.{Program};

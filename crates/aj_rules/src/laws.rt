@@ -1,4 +1,4 @@
-// Laws of effects.
+//! Laws of effects.
 ghost use Rattle.std.specs.Prelude.{◌≡◌, ℕ, List, Some, slice_get, Contains};
 ghost use Rattle.aj_paths.specs.Paths.{PathData};
 ghost use Rattle.aj_algebra.specs.HeldPaths.{Held, has_path};

@@ -1,5 +1,5 @@
-// The rules of atomicity: relevant paths, guards, renamings, effects and accepted programs.
-// After Flanagan and Qadeer (2003), taken at one set of held locks at a time; the tables are this checker's own.
+//! The rules of atomicity: relevant paths, guards, renamings, effects and accepted programs.
+//! After Flanagan and Qadeer (2003), taken at one set of held locks at a time; the tables are this checker's own.
 #![tactic(auto)]
 
 mod clauses;

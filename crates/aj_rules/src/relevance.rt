@@ -1,4 +1,4 @@
-// The relevant paths of every method of a program.
+//! The relevant paths of every method of a program.
 ghost use Rattle.std.specs.Prelude.{◌≡◌, ◌≤◌, ◌<◌, ◌^◌, ◌⊎◌, ℕ, false, true, length, filter, nat_le, nat_lt, IfOk, IfErr, IfSome, IfNone, IsErrOf, MatchResult};
 ghost use Rattle.aj_core.specs.Views.{program_of};
 ghost use Rattle.aj_rules.specs.Near.{AreRelevant, AreFew, IsWellFormed};

@@ -1,4 +1,4 @@
-// What a callee's relevant paths are called at a call.
+//! What a callee's relevant paths are called at a call.
 ghost use Rattle.std.specs.Prelude.{◌≡◌, map, IfOk};
 ghost use Rattle.aj_paths.specs.Renamings.{under_call};
 ghost use Rattle.aj_core.specs.Locks.{path_of};

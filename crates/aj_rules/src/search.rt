@@ -1,4 +1,4 @@
-// The search for the near paths of all methods: from the facts along the links, each place once.
+//! The search for the near paths of all methods: from the facts along the links, each place once.
 ghost use Rattle.std.specs.Prelude.{◌≡◌, ◌≤◌, ◌<◌, ◌^◌, ◌∷◌, ◌++◌, ◌==◌, ◌||◌, [], ℕ, Bool, length, not, map, IfOk, OnOk, if◌then◌else◌};
 ghost use Rattle.std.specs.List.Sorted.{IsStrictlySortedBy};
 ghost use Rattle.aj_paths.specs.Paths.{PathData, path_order, path_eq};

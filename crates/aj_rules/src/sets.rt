@@ -1,4 +1,4 @@
-// The relevant paths of all methods.
+//! The relevant paths of all methods.
 ghost use Rattle.std.specs.Prelude.{◌≡◌};
 ghost use Rattle.aj_rules.specs.Near.{AreFew, rel_of, loc_of};
 

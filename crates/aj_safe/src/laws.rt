@@ -1,4 +1,4 @@
-// Laws of phases and of lists that fit.
+//! Laws of phases and of lists that fit.
 ghost use Rattle.std.specs.Prelude.{◌≡◌, ◌⊎◌, ℕ, List, [], ◌∷◌, true, option_and_then};
 ghost use Rattle.aj_paths.specs.Paths.{PathData};
 ghost use Rattle.aj_algebra.specs.declared.basic.Basic.{Basic};

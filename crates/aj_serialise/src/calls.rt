@@ -1,4 +1,4 @@
-// In how many atomic calls each thread stands.
+//! In how many atomic calls each thread stands.
 ghost use Rattle.std.specs.Prelude.{◌≡◌, ◌-◌, ℕ, map, slice_get, IfOk, OnOk, Some};
 ghost use Rattle.std.specs.Option.{option_map};
 ghost use Rattle.aj_core.specs.Views.{program_of};

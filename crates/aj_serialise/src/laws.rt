@@ -1,4 +1,4 @@
-// What comes of a schedule.
+//! What comes of a schedule.
 ghost use Rattle.std.specs.Prelude.{◌≡◌, ◌⊎◌, ℕ, List, Some};
 ghost use Rattle.aj_core.specs.Core.{Program};
 ghost use Rattle.aj_state.specs.States.{State, initial};

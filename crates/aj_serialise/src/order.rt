@@ -1,4 +1,4 @@
-// The written order of a run's steps.
+//! The written order of a run's steps.
 ghost use Rattle.std.specs.Prelude.{◌≡◌, ◌≤◌, ◌++◌, length, replicate, IfOk, OnOk};
 ghost use Rattle.aj_steps.specs.Units.{units, in_order, schedule_of};
 ghost use Rattle.aj_serialise.specs.Entries.{entries_of};

@@ -1,4 +1,4 @@
-// Rewriting a schedule.
+//! Rewriting a schedule.
 ghost use Rattle.std.specs.Prelude.{◌≡◌, ◌⊎◌, ◌≤◌, ℕ, length, Some, None, IfOk, IfErr, MatchResult};
 ghost use Rattle.aj_core.specs.Views.{program_of};
 ghost use Rattle.aj_core.specs.Typed.{IsTyped};

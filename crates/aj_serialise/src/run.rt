@@ -1,4 +1,4 @@
-// Running a schedule, with a note of each step.
+//! Running a schedule, with a note of each step.
 ghost use Rattle.std.specs.Prelude.{◌≡◌, ◌+◌, ◌<◌, ◌≤◌, ℕ, nat_lt, length, slice_get, IfOk, IfErr, OnOk, OnErr};
 ghost use Rattle.aj_state.specs.States.{State, initial};
 ghost use Rattle.aj_steps.specs.Step.{outcome};

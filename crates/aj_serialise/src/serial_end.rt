@@ -1,4 +1,4 @@
-// Why a schedule isn't rewritten.
+//! Why a schedule isn't rewritten.
 ghost use Rattle.std.specs.Prelude.{◌≡◌};
 ghost use Rattle.aj_serialise.specs.Refusals.{refusal};
 

@@ -1,4 +1,4 @@
-// Steps that were made.
+//! Steps that were made.
 use aj_state::StepKind;
 
 /// A step of a run: its thread, its kind, and whether its thread stands inside an atomic call after it.

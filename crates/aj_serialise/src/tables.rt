@@ -1,4 +1,4 @@
-// Tables of values by number, which grow as they are written.
+//! Tables of values by number, which grow as they are written.
 ghost use Rattle.std.specs.Prelude.{◌≡◌, ℕ, OnOk};
 ghost use Rattle.aj_serialise.specs.Tables.{value_at, put_at};
 

@@ -1,4 +1,4 @@
-// The units of a run, found from its last step to its first.
+//! The units of a run, found from its last step to its first.
 ghost use Rattle.std.specs.Prelude.{◌≡◌, ◌≤◌, ℕ, [], length, OnOk, IfOk};
 ghost use Rattle.aj_steps.specs.Units.{is_commit};
 ghost use Rattle.aj_serialise.specs.Entries.{entry_of, entries_of};

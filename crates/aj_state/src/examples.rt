@@ -1,4 +1,4 @@
-// Examples of how work lists are opened.
+//! Examples of how work lists are opened.
 ghost use Rattle.std.specs.Prelude.{◌≡◌, [], ◌∷◌, Some, None};
 ghost use Rattle.aj_core.specs.Core.{Stmt, EmptyS, BlockS, SyncS, ReturnS, WhileS, Expr, ThisE, no_stmts, and_stmt};
 ghost use Rattle.aj_state.specs.declared.value.Address.{Address};

@@ -1,4 +1,4 @@
-// A frame of the machine that runs code.
+//! A frame of the machine that runs code.
 ghost use Rattle.std.specs.Prelude.{◌≡◌, ◌<◌, ◌≤◌, ◌+◌, ◌-◌, max, [], ◌∷◌, ◌++◌, take, vec_len, vec_capacity, OnSome, IfNone, reverse, length, Some, None, IsOk, IfOk, OnOk, OnErr, slice_set};
 ghost use Rattle.aj_state.specs.Values.{under, dropped};
 ghost use Rattle.aj_state.specs.Frames.{code_frame, given, settled, settled_operands, first_frame, rest_of};

@@ -1,4 +1,4 @@
-// Laws of addresses, operands and memory.
+//! Laws of addresses, operands and memory.
 ghost use Rattle.std.specs.Prelude.{◌≡◌, ◌≢◌, ◌↔◌, ◌⊎◌, ◌+◌, ℕ, List, Some, None, length, slice_get};
 ghost use Rattle.std.specs.Cmp.{IsTotalOrder};
 ghost use Rattle.std.specs.FinMap as map;

@@ -1,5 +1,5 @@
-// The machine's state: values, addresses, faults, the status of a thread and the kind of a step, with what
-// a frame has still to do.
+//! The machine's state: values, addresses, faults, the status of a thread and the kind of a step, with what
+//! a frame has still to do.
 #![tactic(auto)]
 
 pub mod examples;

@@ -1,4 +1,4 @@
-// Threads of the machine that runs code.
+//! Threads of the machine that runs code.
 ghost use Rattle.std.specs.Prelude.{◌≡◌, ◌<◌, ◌≤◌, ◌+◌, ◌-◌, ◌∷◌, [], max, reverse, length, map, Option, Some, None, true, IsTrue, IsSome, IsOk, IfOk, OnOk, OnErr, OnSome, IfNone, IfSome, slice_get, slice_set, MatchOption};
 ghost use Rattle.std.specs.Option.{option_map, option_copied};
 ghost use Rattle.aj_state.specs.Values.{under};

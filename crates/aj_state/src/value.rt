@@ -1,4 +1,4 @@
-// Values, addresses, faults, the status of a thread and the kinds of steps.
+//! Values, addresses, faults, the status of a thread and the kinds of steps.
 
 /// The address of an object: the thread that made it, and how many objects that thread had made before.
 /// The object of the class `Main` that stands at the start has the address 0:0.

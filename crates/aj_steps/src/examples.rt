@@ -1,4 +1,4 @@
-// Examples of runs, which the check computes.
+//! Examples of runs, which the check computes.
 ghost use Rattle.std.specs.Prelude.{◌≡◌, ◌==◌, [], ◌∷◌, ◌++◌, Some, map, filter, replicate};
 ghost use Rattle.aj_core.specs.Examples.{counter, nested, returns_locked, divides_by_zero, reads_unlocked};
 ghost use Rattle.aj_state.specs.declared.value.Fault.TheVariants.{Zero};

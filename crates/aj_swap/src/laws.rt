@@ -1,4 +1,4 @@
-// Laws of neighbouring steps.
+//! Laws of neighbouring steps.
 ghost use Rattle.std.specs.Prelude.{◌≡◌, ◌+◌, ℕ, List, IsSome, slice_get};
 ghost use Rattle.aj_core.specs.Core.{Program};
 ghost use Rattle.aj_state.specs.States.{State};

@@ -1,4 +1,4 @@
-// What two neighbouring steps do.
+//! What two neighbouring steps do.
 ghost use Rattle.std.specs.Prelude.{◌≡◌, ◌≤◌, ◌&&◌, ◌==◌, nat_lt, length, Some, OnOk, IfOk};
 ghost use Rattle.aj_core.specs.Views.{program_of};
 ghost use Rattle.aj_state.specs.States.{State};

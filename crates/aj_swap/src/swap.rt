@@ -1,4 +1,4 @@
-// Two neighbouring entries of a schedule are exchanged.
+//! Two neighbouring entries of a schedule are exchanged.
 ghost use Rattle.std.specs.Prelude.{◌≡◌, ◌≢◌, ◌↔◌, ◌+◌, ◌≤◌, ◌<◌, ℕ, length, true, Some, Err, IsSome, IfOk, slice_get};
 ghost use Rattle.aj_core.specs.Views.{program_of};
 ghost use Rattle.aj_core.specs.Typed.{IsTyped};

@@ -1,4 +1,4 @@
-// What safe states need of an accepted program.
+//! What safe states need of an accepted program.
 ghost use Rattle.std.specs.Prelude.{List};
 ghost use Rattle.aj_core.specs.Core.{Program};
 ghost use Rattle.aj_core.specs.Typed.{IsTyped};

@@ -1,4 +1,4 @@
-// Laws of a thread's turn.
+//! Laws of a thread's turn.
 ghost use Rattle.std.specs.Prelude.{◌≡◌, ◌||◌, ◌+◌, ℕ, Bool, List, Option, None, nat_lt};
 ghost use Rattle.aj_paths.specs.Paths.{PathData};
 ghost use Rattle.aj_core.specs.Core.{Program};
