@@ -1,5 +1,5 @@
-//! Laws of std's words.
-ghost use Rattle.std.specs.Prelude.{◌≡◌, ◌<◌, ◌≤◌, ◌+◌, ◌-◌, ◌⊎◌, ◌++◌, ℕ, Bool, true, List, [], ◌∷◌, length, drop, get_or, Contains, Option, Some, None, option_and_then, slice_get, if◌then◌else◌};
+//! General facts, which the lemma files of this crate prove.
+ghost use Rattle.std.specs.Prelude.{◌≡◌, ◌<◌, ◌+◌, ◌-◌, ◌⊎◌, ◌++◌, ℕ, Bool, true, List, [], ◌∷◌, length, drop, get_or, Contains, Option, Some, None, option_and_then, slice_get, if◌then◌else◌};
 ghost use Rattle.std.specs.Char.{is_ascii_digit, digit_value};
 
 /// A place of two lists, one after the other, is one of the first or one of the second; a list from a place on is the item
