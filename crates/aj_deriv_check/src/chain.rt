@@ -1,5 +1,6 @@
 //! Steps whose conclusion is an error wherever one of the paths that it tests isn't held: they are judged where all of these are held.
-//! There the values of premises, accesses and calls are basics, so that no tree is made.
+//! There the values of premises, accesses and calls are basics, so that no tree is made. The chain of a tree is its tests along the
+//! held branches.
 ghost use Rattle.std.specs.Prelude.{◌≡◌, true, map, IfSome};
 ghost use Rattle.std.specs.List.{list_all};
 ghost use Rattle.std.specs.Option.{option_copied};
@@ -325,7 +326,7 @@ fn part_at(
     }
 }
 
-/// Whether it is seen at once, where all paths that a conclusion tests are held, that it is at or above the value of a part's rule.
+/// Whether a conclusion is at or above the value of a part's rule, judged where each path that it tests is held. `false` says nothing.
 pub(crate) fn is_step_at_end(
     alloc: Global,
     judge: &Judge<'_>,
