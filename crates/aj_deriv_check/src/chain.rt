@@ -35,10 +35,7 @@ use std::alloc::Global;
 fn is_error(t: &Tree) -> bool
     ensures { result ≡ true → cond_of t.now ≡ LeafC Error }
 {
-    match t {
-        Tree::Leaf(Basic::Error) => true,
-        _ => false,
-    }
+    matches!(t, Tree::Leaf(Basic::Error))
 }
 
 /// The basic at the end of the held branches, where each other branch is an error.
@@ -273,10 +270,7 @@ fn basic_under(t: &Tree, chain: &Tree, lock: &Path) -> Option<Basic>
 fn is_lifted(basic: Basic) -> bool
     ensures { result ≡ true → lift_of basic ≡ basic }
 {
-    match basic {
-        Basic::Const | Basic::Mover => false,
-        Basic::Atomic | Basic::Cmpd | Basic::Error => true,
-    }
+    !matches!(basic, Basic::Const | Basic::Mover)
 }
 
 /// The same of a synchronized part, where the lock changes nothing.
