@@ -6,6 +6,7 @@ use Rattle.std.proofs.lemmas.List.{map-append}
 use Rattle.std.proofs.lemmas.List.Elements.{recursion_from_All}
 use Rattle.std.proofs.lemmas.Option.{slice_get-map, same_Some}
 use Rattle.std.proofs.lemmas.Bool.Decides.{nat_tests}
+use Rattle.aj_lemmas.proofs.Options.{then_parts}
 use Rattle.aj_lexer.specs.Tokens.{IsSlice}
 use Rattle.aj_syntax.specs.declared.tree.Name.{Name}
 use Rattle.aj_syntax.specs.declared.tree.Param.{Param}
@@ -17,7 +18,7 @@ use Rattle.aj_classes.specs.Members.{class_names, field_names, method_names, par
 use Rattle.aj_classes.specs.Names.{texts_of}
 use Rattle.aj_classes.specs.Seen.{FieldData}
 use Rattle.aj_classes.specs.Table.{TableData, MethodData, param_of, fields_of, methods_of, all_fields, all_methods, table_of, slot_of, slot_title}
-use Rattle.aj_classes.proofs.Parts.{Each, each_both, nothing_at, mapped_at, each_at, before_mapped, and_then_of}
+use Rattle.aj_classes.proofs.Parts.{Each, each_both, nothing_at, mapped_at, each_at, before_mapped}
 
 -- ---- what holds of each name of a program holds of those that it declares
 
@@ -160,7 +161,7 @@ module _ (source : List ℕ) (tree : ProgramTree) (a : All (IsSliced source) (na
       → (params : List Param) × (slice_get (declared_params tree) k ≡ Some params) × IsDeclared source (param_names params) (slot - 1) text
   slot_declared k slot text above e =
       let names = texts_of (class_names tree) in
-      let m = and_then_of (slot_of slot) (slice_get (table_of tree).methods k) text e in
+      let m = then_parts (slot_of slot) (slice_get (table_of tree).methods k) text e in
       let p = before_mapped (map (param_of names)) (declared_params tree) k m.0.params
       (ap (λ z. slice_get z k) (sym (params_are names 0 tree)) ∙ mapped_at (λ m. m.params) (all_methods names 0 tree) k m.0 m.1) in
       let behind : (slot == 0) ≡ false = grind (arith, nat_tests) in
@@ -174,4 +175,4 @@ module _ (source : List ℕ) (tree : ProgramTree) (a : All (IsSliced source) (na
       )
 
 pub this_declared : (t : TableData) (k : ℕ) (text : List ℕ) → slot_title t k 0 ≡ Some text → text ≡ codes "this"
-this_declared t k text e = let m = and_then_of (slot_of 0) (slice_get t.methods k) text e in sym (same_Some (codes "this") text m.2)
+this_declared t k text e = let m = then_parts (slot_of 0) (slice_get t.methods k) text e in sym (same_Some (codes "this") text m.2)

@@ -1,7 +1,6 @@
 -- Lists of parts: what holds of each, and which part has a number.
 use Rattle.std.proofs.Common.{◌≡◌, ℕ, zero, suc, List, [], ◌∷◌, ◌++◌, map, Some, None, refl, ap, ◌∙◌, subst, slice_get, option_map}
 use Rattle.std.proofs.lemmas.Option.{slice_get-map, same_Some}
-pub use Rattle.aj_lemmas.proofs.Options.{then_parts as and_then_of}
 
 abbrev pub Each : {A : Type 0} → (A → Type 0) → List A → Type 0
 Each P [] = Unit {0}

@@ -1,5 +1,5 @@
 -- What the two passes find.
-use Rattle.std.proofs.Common.{◌≡◌, ℕ, inl, inr, Bool, true, false, List, [], ◌∷◌, Some, None, Ok, Err, refl, sym, ◌∙◌, subst, arith}
+use Rattle.std.proofs.Common.{◌≡◌, ℕ, inl, inr, List, [], ◌∷◌, Some, None, Ok, Err, refl, sym, subst, arith}
 use Rattle.aj_core.specs.Core.{Method}
 use Rattle.aj_deriv.specs.Books.{Line}
 use Rattle.aj_deriv_check.specs.declared.wrong.Wrong.{Wrong}
@@ -11,9 +11,6 @@ use Rattle.aj_deriv_check.specs.declared.judge.Judge.{Judge}
 use Rattle.aj_deriv_check.specs.Judges.{judge_assignment, judge_program, judge_rel, judge_table}
 use Rattle.aj_deriv_check.specs.Faults.{IsLineVerdict}
 use Rattle.aj_deriv_check.specs.Passes.{IsShapeStep, IsLineStep}
-
-pub not_so : (b : Bool) → b ≡ false → b ≡ true → ⊥
-not_so b unset set = absurd (let e : false ≡ true = sym unset ∙ set in cc)
 
 pub bad_from : (G : Place → Type 0) (xs : List Place) (n : ℕ) → IsEnd G xs 0 (Bad n) → IsLeastBad G xs n
 bad_from G xs n end = let same : end.0 ≡ n = omega (arith, end.1) in subst (λ k. IsLeastBad G xs k) same end.2

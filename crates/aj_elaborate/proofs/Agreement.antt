@@ -12,7 +12,7 @@ use Rattle.aj_core.specs.Types.{field_type, field_types}
 use Rattle.aj_core.specs.Typed.{fields_from, is_final_at, IsEntry, IsRunnable}
 use Rattle.aj_syntax.specs.declared.tree.Name.{Name}
 use Rattle.aj_syntax.specs.Trees.{ClassTree, ProgramTree}
-use Rattle.aj_classes.proofs.Parts.{and_then_of}
+use Rattle.aj_lemmas.proofs.Options.{then_parts}
 use Rattle.aj_classes.specs.Names.{texts_of, has_text, repeats}
 use Rattle.aj_classes.specs.Members.{is_empty, finals_of, class_names, field_names, method_names, is_entry, is_main}
 use Rattle.aj_classes.specs.Faults.{twice_faults, class_faults, missing_run, missing_main}
@@ -250,9 +250,9 @@ module _ (tree : ProgramTree) (P : Program) (b : IsBuilt tree P) where
 
   fields_agree : (c : ℕ) (name : List ℕ) (f : ℕ × FieldData) → field_named the_table c name ≡ Some f → IsFieldOf P c f
   fields_agree c name f h =
-      let n = and_then_of (numbered_field the_table) (field_number the_table c name) f h in
+      let n = then_parts (numbered_field the_table) (field_number the_table c name) f h in
       let d = map_of (λ d. (n.0, d)) (slice_get the_table.fields n.0) f n.2 in
-      let e = and_then_of (field_in name) (slice_get the_table.classes c) n.0 n.1 in
+      let e = then_parts (field_in name) (slice_get the_table.classes c) n.0 n.1 in
       let i = map_of (λ i. e.0.first_field + i) (position (bytes_eq name) e.0.field_names) n.0 e.2 in
       let C = class_known c e.0 e.1 in
       let p = place c C.0 C.1 in
@@ -278,9 +278,9 @@ module _ (tree : ProgramTree) (P : Program) (b : IsBuilt tree P) where
 
   methods_agree : (c : ℕ) (name : List ℕ) (m : ℕ × MethodData) → method_named the_table c name ≡ Some m → IsMethodOf P c m
   methods_agree c name m h =
-      let n = and_then_of (numbered_method the_table) (method_number the_table c name) m h in
+      let n = then_parts (numbered_method the_table) (method_number the_table c name) m h in
       let d = map_of (λ d. (n.0, d)) (slice_get the_table.methods n.0) m n.2 in
-      let e = and_then_of (method_in name) (slice_get the_table.classes c) n.0 n.1 in
+      let e = then_parts (method_in name) (slice_get the_table.classes c) n.0 n.1 in
       let i = map_of (λ i. e.0.first_method + i) (position (bytes_eq name) e.0.method_names) n.0 e.2 in
       let C = class_known c e.0 e.1 in
       let p = place c C.0 C.1 in

@@ -1,12 +1,13 @@
 -- The tree is right and the steps aren't.
 use Rattle.std.proofs.Common.{inl, inr, refl, sym, subst, slice_get}
+use Rattle.std.proofs.lemmas.Bool.{both_ways}
 use Rattle.aj_core.specs.Views.{method_of}
 use Rattle.aj_deriv.specs.Derivations.{node}
 use Rattle.aj_deriv_check.specs.Good.{IsStep, IsTabled, IsUnder, cond_at}
 use Rattle.aj_deriv_check.specs.Judges.{judge_assignment, judge_program, judge_rel, judge_table, judge_value}
 use Rattle.aj_deriv_check.specs.Parts.{StmtP, places}
 use Rattle.aj_deriv_check.specs.Walks.{IsEnd}
-use Rattle.aj_deriv_check.proofs.VerdictLemmas.{not_so, bad_from}
+use Rattle.aj_deriv_check.proofs.VerdictLemmas.{bad_from}
 use Rattle.aj_deriv_check.proofs.line.line_verdict.Goals as goal
 
 pub returns-then-not-branch-2 : goal.returns-then-not-branch-2
@@ -17,7 +18,7 @@ returns-then-not-branch-2 g c = λ id.
       c.m.view_is,
       tabled,
       inl (
-        (λ under. not_so c.in_ok-is_under.field-0 c.if-not-branch-2.true
+        (λ under. both_ways c.in_ok-is_under.field-0 c.if-not-branch-2.true
             (c.in_ok-is_under.ensures.1 (subst (λ ps. IsUnder ps (judge_value j c.args.number) (judge_value j c.args.own)) (sym c.as_slice.ensures.value) under))),
         refl,
       ),
