@@ -64,7 +64,11 @@ fn long_book(alloc: Global, nodes: &str) -> Result<String, Fail> {
 
 /// Derivations for `LOCKED`, each with the status and the text of `verify`.
 const DERIVATIONS: [(&str, u8, &str); 4] = [
-    ("(block 0 (sync 0 (block 1 (put 1 (this 2) (lit 2)))))", 0, "verified\n"),
+    (
+        "(block 0 (sync 0 (block 1 (put 1 (this 2) (lit 2)))))",
+        0,
+        "verified\n",
+    ),
     (
         "(block 0 (sync 0 (block 1 (set 1 (lit 2)))))",
         11,
