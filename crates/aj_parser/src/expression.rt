@@ -247,9 +247,10 @@ fn parenthesised<'t, 'a>(
 {
     let (at, rest) = take(tokens, Terminal::OpenParen)?;
     let Parsed { tree, height, rest } = chain(alloc, rest, high - 1, LEVELS)?;
+    let inside = Box::new(alloc, tree)?;
     let (_, rest) = take(rest, Terminal::CloseParen)?;
     Ok(Parsed {
-        tree: Expr::Paren(Box::new(alloc, tree)?, at),
+        tree: Expr::Paren(inside, at),
         height: height + 1,
         rest,
     })
@@ -283,26 +284,21 @@ pub fn primary<'t, 'a>(
 #[tactic(auto, unfolding(crate::specs::Expressions::member_rest))]
 fn member_rest<'t, 'a>(
     alloc: Global,
-    receiver: Parsed<'t, 'a>,
+    receiver: Box<Expr<'a>>,
+    height: u32,
     member: Name<'a>,
     tokens: &'t [Lexeme<'a>],
     high: u32,
 ) -> Result<Parsed<'t, 'a>, Stop<'t, 'a>>
     requires high { high ≤ most_height }
     requires positive { 0 < high }
-    requires height { receiver.height ≡ height_of (expr_of receiver.tree) }
-    requires limit { receiver.height < high }
-    ensures tree { Gives (λ x. (expr_of x.tree, x.rest.now)) result (member_rest_at high (below high) (expr_of receiver.entry.tree) member.entry tokens.now) }
+    requires height { height ≡ height_of (expr_of receiver.value) }
+    requires limit { height < high }
+    ensures tree { Gives (λ x. (expr_of x.tree, x.rest.now)) result (member_rest_at high (below high) (expr_of receiver.entry.value) member.entry tokens.now) }
     ensures height { IfOk result (λ x. x.height ≡ height_of (expr_of x.tree)) }
     ensures limit { IfOk result (λ x. x.height ≤ high) }
-    ensures grows { IfOk result (λ x. receiver.entry.height < x.height) }
+    ensures grows { IfOk result (λ x. height < x.height) }
 {
-    let Parsed {
-        tree,
-        height,
-        rest: _,
-    } = receiver;
-    let boxed = Box::new(alloc, tree)?;
     if begins(tokens, Terminal::OpenParen) {
         let list = arguments_in_parentheses(alloc, tokens, high)?;
         let Arguments {
@@ -311,13 +307,13 @@ fn member_rest<'t, 'a>(
             rest,
         } = list;
         return Ok(Parsed {
-            tree: make_call(boxed, member, items),
+            tree: make_call(receiver, member, items),
             height: height.max(highest) + 1,
             rest,
         });
     }
     Ok(Parsed {
-        tree: Expr::Get(boxed, member),
+        tree: Expr::Get(receiver, member),
         height: height + 1,
         rest: tokens,
     })
@@ -339,11 +335,13 @@ fn member<'t, 'a>(
     ensures limit { IfOk result (λ x. x.height ≤ high) }
     ensures grows { IfOk result (λ x. receiver.entry.height < x.height) }
 {
-    if high <= receiver.height {
-        return Err(Stop::Fault(Fault::TooDeep, receiver.rest));
+    let Parsed { tree, height, rest } = receiver;
+    let whole = Box::new(alloc, tree)?;
+    if high <= height {
+        return Err(Stop::Fault(Fault::TooDeep, rest));
     }
-    let (member, rest) = field_name(receiver.rest)?;
-    member_rest(alloc, receiver, member, rest, high)
+    let (member, rest) = field_name(rest)?;
+    member_rest(alloc, whole, height, member, rest, high)
 }
 
 /// The fields and calls behind an expression.
@@ -460,19 +458,20 @@ fn operation<'t, 'a>(
     ensures limit { IfOk result (λ x. x.height ≤ high) }
     ensures grows { IfOk result (λ x. left.entry.height < x.height) }
 {
-    if high <= left.height {
-        return Err(Stop::Fault(Fault::TooDeep, left.rest));
-    }
     let Parsed { tree, height, rest } = left;
+    let operand = Box::new(alloc, tree)?;
+    if high <= height {
+        return Err(Stop::Fault(Fault::TooDeep, rest));
+    }
     let ((op, at), rest) = operator(rest, levels + 1)?;
     let right = chain(alloc, rest, high - 1, levels)?;
     let Parsed {
-        tree: operand,
+        tree,
         height: other,
         rest,
     } = right;
     Ok(Parsed {
-        tree: make_binary(op, Box::new(alloc, tree)?, Box::new(alloc, operand)?, at),
+        tree: make_binary(op, operand, Box::new(alloc, tree)?, at),
         height: height.max(other) + 1,
         rest,
     })

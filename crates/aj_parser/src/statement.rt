@@ -115,17 +115,17 @@ fn expression<'t, 'a>(
     alloc: Global,
     tokens: &'t [Lexeme<'a>],
     high: u32,
-) -> Result<(Expr<'a>, &'t [Lexeme<'a>]), Stop<'t, 'a>>
+) -> Result<(Box<Expr<'a>>, &'t [Lexeme<'a>]), Stop<'t, 'a>>
     requires high { high ≤ most_height }
     requires positive { 0 < high }
-    ensures { Gives (λ x. (expr_of x.0, x.1.now)) result (expression_at high tokens.now) }
+    ensures { Gives (λ x. (expr_of x.0.value, x.1.now)) result (expression_at high tokens.now) }
 {
     let Parsed {
         tree,
         height: _,
         rest,
     } = chain(alloc, tokens, high - 1, LEVELS)?;
-    Ok((tree, rest))
+    Ok((Box::new(alloc, tree)?, rest))
 }
 
 /// An expression in parentheses.
@@ -134,10 +134,10 @@ fn condition<'t, 'a>(
     alloc: Global,
     tokens: &'t [Lexeme<'a>],
     high: u32,
-) -> Result<(Expr<'a>, &'t [Lexeme<'a>]), Stop<'t, 'a>>
+) -> Result<(Box<Expr<'a>>, &'t [Lexeme<'a>]), Stop<'t, 'a>>
     requires high { high ≤ most_height }
     requires positive { 0 < high }
-    ensures { Gives (λ x. (expr_of x.0, x.1.now)) result (condition_at high tokens.now) }
+    ensures { Gives (λ x. (expr_of x.0.value, x.1.now)) result (condition_at high tokens.now) }
 {
     let (_, rest) = take(tokens, Terminal::OpenParen)?;
     let (value, rest) = expression(alloc, rest, high)?;
@@ -162,7 +162,7 @@ fn return_statement<'t, 'a>(
     }
     let (value, rest) = expression(alloc, rest, high)?;
     let (_, rest) = take(rest, Terminal::Semicolon)?;
-    Ok((Stmt::Return(Some(Box::new(alloc, value)?), at), rest))
+    Ok((Stmt::Return(Some(value), at), rest))
 }
 
 #[tactic(auto, unfolding(crate::specs::Statements::print_statement))]
@@ -182,7 +182,7 @@ fn print_statement<'t, 'a>(
     let (_, rest) = take(rest, Terminal::Println)?;
     let (value, rest) = condition(alloc, rest, high)?;
     let (_, rest) = take(rest, Terminal::Semicolon)?;
-    Ok((Stmt::Print(Box::new(alloc, value)?, at), rest))
+    Ok((Stmt::Print(value, at), rest))
 }
 
 /// The start of a thread, behind its `new`, which is at the offset `at`.
@@ -204,7 +204,7 @@ fn start_rest<'t, 'a>(
     let (_, rest) = take(rest, Terminal::OpenParen)?;
     let (_, rest) = take(rest, Terminal::CloseParen)?;
     let (_, rest) = take(rest, Terminal::Semicolon)?;
-    Ok((Stmt::Start(Box::new(alloc, value)?, at), rest))
+    Ok((Stmt::Start(value, at), rest))
 }
 
 /// The value of an assignment, behind its target, with the offset of the `=`.
@@ -221,7 +221,7 @@ fn assigned<'t, 'a>(
     let (at, rest) = take(tokens, Terminal::Assign)?;
     let (value, rest) = expression(alloc, rest, high)?;
     let (_, rest) = take(rest, Terminal::Semicolon)?;
-    Ok(((Box::new(alloc, value)?, at), rest))
+    Ok(((value, at), rest))
 }
 
 /// The name and the value of a declaration, whose first token is at the offset `at`.
@@ -294,6 +294,8 @@ fn call_end<'t, 'a>(
     ensures { Gives (λ x. (stmt_of x.0, x.1.now)) result (call_end_at high (expr_of front.entry.tree) front.entry.rest.now) }
 {
     let Parsed { tree, height, rest } = front;
+    let at = tree.first_at();
+    let call = Box::new(alloc, tree)?;
     if !begins(rest, Terminal::Semicolon) {
         return Err(Stop::Fault(Fault::Unexpected, rest));
     }
@@ -301,8 +303,7 @@ fn call_end<'t, 'a>(
         return Err(Stop::Fault(Fault::TooDeep, rest));
     }
     let (_, rest) = take(rest, Terminal::Semicolon)?;
-    let at = tree.first_at();
-    Ok((Stmt::Do(Box::new(alloc, tree)?, at), rest))
+    Ok((Stmt::Do(call, at), rest))
 }
 
 /// An assignment to what was read.
@@ -528,7 +529,6 @@ fn if_statement<'t, 'a>(
     let (at, rest) = take(tokens, Terminal::If)?;
     let (value, rest) = condition(alloc, rest, high)?;
     let (branch, rest) = statement(alloc, rest, high - 1, false)?;
-    let value = Box::new(alloc, value)?;
     let branch = Box::new(alloc, branch)?;
     else_part(alloc, value, branch, at, rest, high)
 }
@@ -547,10 +547,7 @@ fn while_statement<'t, 'a>(
     let (at, rest) = take(tokens, Terminal::While)?;
     let (value, rest) = condition(alloc, rest, high)?;
     let (repeated, rest) = statement(alloc, rest, high - 1, false)?;
-    Ok((
-        Stmt::While(Box::new(alloc, value)?, Box::new(alloc, repeated)?, at),
-        rest,
-    ))
+    Ok((Stmt::While(value, Box::new(alloc, repeated)?, at), rest))
 }
 
 #[cycle(statement)]
