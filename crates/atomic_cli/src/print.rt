@@ -7,6 +7,7 @@ ghost use Rattle.atomic_cli.specs.Print.{PrintAnswer};
 use aj_sources::{Ending, Refusal, text_of, tree_of};
 use aj_syntax::print_program;
 use std::alloc::Global;
+use std::mem::forget;
 
 /// Writes a source in canonical layout, or refuses it.
 #[tactic(auto, using(crate::proofs::Rows::program_refused))]
@@ -17,5 +18,6 @@ pub fn print(alloc: Global, bytes: &[u8]) -> Result<Vec<u8>, Refusal>
     let text = text_of(alloc, bytes)?;
     let tree = tree_of(alloc, text)?;
     let printed = print_program(alloc, &tree)?;
+    forget(tree);
     Ok(printed.into_bytes())
 }
