@@ -28,6 +28,26 @@ fn refuse_broken(alloc: Global, table: &ClassTable, broken: &Broken) -> Refusal
     }
 }
 
+/// The least closed assignment of an accepted source, found in this table of nodes; else the first method whose bound it breaks.
+fn accepted_in(
+    alloc: Global,
+    source: &Source,
+    nodes: &mut NodeTable,
+) -> Result<Inferred<Tree>, Refusal>
+    requires { (file : List ℕ) × IsSourceOf file source.now }
+    ensures { (file : List ℕ) → IsSourceOf file source.now →
+        MatchResult result (λ inferred. IsShownLeast (program_of source.now.program) (map cond_of inferred.methods.items)) (IsRight (NoAccepted file)) }
+{
+    let inferred = infer(alloc, &source.program, &source.sets, nodes)?;
+    match verdict(&source.program, &inferred, nodes) {
+        Ok(()) => {
+            let methods = nodes.trees_of(alloc, inferred.methods.as_slice())?;
+            Ok(Inferred { methods })
+        }
+        Err(broken) => Err(refuse_broken(alloc, &source.table, &broken)),
+    }
+}
+
 /// The least closed assignment of an accepted source, as canonical trees; else the first method whose bound it breaks.
 pub fn accepted(alloc: Global, source: &Source) -> Result<Inferred<Tree>, Refusal>
     requires { (file : List ℕ) × IsSourceOf file source.now }
@@ -35,12 +55,5 @@ pub fn accepted(alloc: Global, source: &Source) -> Result<Inferred<Tree>, Refusa
         MatchResult result (λ inferred. IsShownLeast (program_of source.now.program) (map cond_of inferred.methods.items)) (IsRight (NoAccepted file)) }
 {
     let mut nodes = NodeTable::new(alloc);
-    let inferred = infer(alloc, &source.program, &source.sets, &mut nodes)?;
-    match verdict(&source.program, &inferred, &nodes) {
-        Ok(()) => {
-            let methods = nodes.trees_of(alloc, inferred.methods.as_slice())?;
-            Ok(Inferred { methods })
-        }
-        Err(broken) => Err(refuse_broken(alloc, &source.table, &broken)),
-    }
+    accepted_in(alloc, source, &mut nodes)
 }

@@ -3,7 +3,7 @@ use Rattle.aj_cond.specs.Conditions.{cond_of}
 use Rattle.aj_core.specs.Views.{program_of}
 use Rattle.aj_sources.proofs.Verdicts.{by_nodes, shown_least, refuted_source}
 use Rattle.aj_nodes.specs.Shown.{trees_at}
-use Rattle.aj_sources.proofs.accepting.accepted.Goals as goal
+use Rattle.aj_sources.proofs.accepting.accepted_in.Goals as goal
 
 pub returns-in-Ok : goal.returns-in-Ok
 returns-in-Ok c = λ file is.
