@@ -234,10 +234,10 @@ impl<'a> Parts<'a> {
         let id = ClassId(number(self.classes.len())?);
         let first_field = number(self.fields.len())?;
         let first_method = number(self.methods.len())?;
-        let entry = class_entry(alloc, class, first_field, first_method)?;
         let members = class.members.as_slice();
         add_fields(names, id, members, &mut self.fields)?;
         add_methods(alloc, names, id, members, &mut self.methods)?;
+        let entry = class_entry(alloc, class, first_field, first_method)?;
         self.classes.push(entry)?;
         Ok(())
     }
