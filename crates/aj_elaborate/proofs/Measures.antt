@@ -7,15 +7,15 @@ use Rattle.aj_syntax.specs.Trees.{StmtTree, StmtTrees, BlockS, IfS, IfElseS, Whi
 use Rattle.aj_syntax.specs.Views.{expr_of, exprs_from, stmt_of, stmts_from}
 
 abbrev mutual
-  -- more by two than that of the parts
+  -- more by three than that of the parts
   pub expr_measure : ExprTree → ℕ
-  expr_measure (ParenE e at) = 2 + expr_measure e
-  expr_measure (NotE e at) = 2 + expr_measure e
-  expr_measure (NegE e at) = 2 + expr_measure e
-  expr_measure (BinaryE op a b at) = 2 + (expr_measure a + expr_measure b)
-  expr_measure (GetE e n) = 2 + expr_measure e
-  expr_measure (CallE e n args) = 2 + (expr_measure e + exprs_measure args)
-  expr_measure (NewE n args at) = 2 + exprs_measure args
+  expr_measure (ParenE e at) = 3 + expr_measure e
+  expr_measure (NotE e at) = 3 + expr_measure e
+  expr_measure (NegE e at) = 3 + expr_measure e
+  expr_measure (BinaryE op a b at) = 3 + (expr_measure a + expr_measure b)
+  expr_measure (GetE e n) = 3 + expr_measure e
+  expr_measure (CallE e n args) = 3 + (expr_measure e + exprs_measure args)
+  expr_measure (NewE n args at) = 3 + exprs_measure args
   expr_measure _ = 1
 
   -- more than that of each expression in it
@@ -24,13 +24,13 @@ abbrev mutual
   exprs_measure (more_exprs e es) = 1 + (expr_measure e + exprs_measure es)
 
 abbrev mutual
-  -- more by two than that of the parts
+  -- more by three than that of the parts
   pub stmt_measure : StmtTree → ℕ
-  stmt_measure (BlockS ss at) = 2 + stmts_measure ss
-  stmt_measure (IfS e s at) = 2 + stmt_measure s
-  stmt_measure (IfElseS e s u at) = 2 + (stmt_measure s + stmt_measure u)
-  stmt_measure (WhileS e s at) = 2 + stmt_measure s
-  stmt_measure (SyncS l ss at) = 2 + stmts_measure ss
+  stmt_measure (BlockS ss at) = 3 + stmts_measure ss
+  stmt_measure (IfS e s at) = 3 + stmt_measure s
+  stmt_measure (IfElseS e s u at) = 3 + (stmt_measure s + stmt_measure u)
+  stmt_measure (WhileS e s at) = 3 + stmt_measure s
+  stmt_measure (SyncS l ss at) = 3 + stmts_measure ss
   stmt_measure _ = 1
 
   -- more than that of each statement in it

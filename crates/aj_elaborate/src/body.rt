@@ -2,19 +2,18 @@
 #![tactic(auto, using(crate::proofs::Noting::noted_append))]
 
 ghost use Rattle.std.specs.Prelude.{◌≡◌, ◌++◌, option_map, IfOk, OnOk};
-ghost use Rattle.aj_core.specs.Views as core;
 ghost use Rattle.aj_syntax.specs.Views.{expr_of};
 ghost use Rattle.aj_elaborate.specs.Inside.{expr_faults_in, typed_in};
 ghost use Rattle.aj_elaborate.specs.Noted.{noted};
 ghost use Rattle.aj_elaborate.specs.Rulings.{broken, given};
 ghost use Rattle.aj_elaborate.specs.Stmts.{condition_rule};
-ghost use Rattle.aj_elaborate.specs.Views.{typed_data};
+ghost use Rattle.aj_elaborate.specs.Views.{boxed_data, boxed_expr as boxed_node};
 
-use crate::exprs::expr;
+use crate::exprs::boxed_expr;
 use crate::first::FirstFault;
 use crate::scope::Bound;
 use crate::stmt_rules::condition_rule;
-use crate::types::TypedExpr;
+use crate::types::BoxedExpr;
 use aj_classes::ClassTable;
 use aj_core::{CoreExpr, CoreType};
 use aj_paths::ClassId;
@@ -32,17 +31,17 @@ pub(crate) struct Body<'t, 'a> {
     pub(crate) first_local: u8,
 }
 
-/// An expression with these variables in scope.
+/// An expression with these variables in scope, in a box.
 pub(crate) fn typed(
     body: &Body,
     scope: &[Bound],
     e: &Expr,
     first: &mut FirstFault,
-) -> Result<Option<TypedExpr>, NoMemory>
-    ensures typed { IfOk result (λ r. option_map typed_data r ≡ typed_in body.now scope.now (expr_of e.now)) }
+) -> Result<Option<BoxedExpr>, NoMemory>
+    ensures typed { IfOk result (λ r. option_map boxed_data r ≡ typed_in body.now scope.now (expr_of e.now)) }
     ensures fault { OnOk result (first.new ≡ noted first.old (expr_faults_in body.now scope.now (expr_of e.now))) }
 {
-    expr(body.alloc, body.table, body.class, scope, e, first)
+    boxed_expr(body.alloc, body.table, body.class, scope, e, first)
 }
 
 /// A condition with these variables in scope.
@@ -52,8 +51,8 @@ pub(crate) fn condition(
     e: &Expr,
     at: u32,
     first: &mut FirstFault,
-) -> Result<Option<CoreExpr>, NoMemory>
-    ensures node { IfOk result (λ c. option_map core.expr_of c ≡ given (condition_rule at) (typed_in body.now scope.now (expr_of e.now))) }
+) -> Result<Option<Box<CoreExpr>>, NoMemory>
+    ensures node { IfOk result (λ c. option_map boxed_node c ≡ given (condition_rule at) (typed_in body.now scope.now (expr_of e.now))) }
     ensures fault { OnOk result (first.new ≡ noted first.old (expr_faults_in body.now scope.now (expr_of e.now) ++ broken (condition_rule at) (typed_in body.now scope.now (expr_of e.now)))) }
 {
     let part = typed(body, scope, e, first)?;

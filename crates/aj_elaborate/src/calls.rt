@@ -9,13 +9,13 @@ ghost use Rattle.aj_elaborate.specs.Exprs.{unknown_only, call_fault, new_fault};
 ghost use Rattle.aj_elaborate.specs.Noted.{noted};
 ghost use Rattle.aj_elaborate.specs.Rulings.{gain, loss, given, broken, both};
 ghost use Rattle.aj_elaborate.specs.Rules.{fields_in, class_fields, fit_each, method_rule, call_rule, new_rule};
-ghost use Rattle.aj_elaborate.specs.Views.{typed_data, typed_list, type_data, types_of, nodes_of, method_found};
+ghost use Rattle.aj_elaborate.specs.Views.{boxed_data, typed_data, typed_list, type_data, types_of, nodes_of, method_found};
 
 use crate::fault::TypeFault;
 use crate::first::FirstFault;
 use crate::lookup::method_named;
 use crate::rules::{class_rule, value};
-use crate::types::{ExprType, TypedExpr};
+use crate::types::{BoxedExpr, ExprType, TypedExpr};
 use aj_classes::{ClassEntry, ClassTable, FieldEntry, MethodEntry, ParamEntry};
 use aj_core::{CoreExpr, CoreType};
 use aj_paths::{ClassId, MethodId};
@@ -156,12 +156,12 @@ fn typed_call(
     alloc: Global,
     table: &ClassTable,
     name: &Name,
-    receiver: TypedExpr,
+    receiver: BoxedExpr,
     args: Vec<TypedExpr>,
     first: &mut FirstFault,
 ) -> Result<Option<TypedExpr>, NoMemory>
-    ensures typed { IfOk result (λ e. option_map typed_data e ≡ gain (call_rule (table_data table.now) name.now (typed_data receiver, typed_list args.items))) }
-    ensures fault { OnOk result (first.new ≡ noted first.old (loss (call_rule (table_data table.now) name.now (typed_data receiver, typed_list args.items)))) }
+    ensures typed { IfOk result (λ e. option_map typed_data e ≡ gain (call_rule (table_data table.now) name.now (boxed_data receiver, typed_list args.items))) }
+    ensures fault { OnOk result (first.new ≡ noted first.old (loss (call_rule (table_data table.now) name.now (boxed_data receiver, typed_list args.items)))) }
 {
     let Some((id, method)) = method_rule(table, name, receiver.ty, first) else {
         return Ok(None);
@@ -170,11 +170,10 @@ fn typed_call(
         first.note(TypeFault::NoRule(name.at));
         return Ok(None);
     }
-    let receiver = Box::new(alloc, receiver.node)?;
     let args = nodes_of(alloc, args)?;
     Ok(Some(TypedExpr {
         ty: result_type(method.returns),
-        node: call_node(receiver, id, args),
+        node: call_node(receiver.node, id, args),
     }))
 }
 
@@ -183,12 +182,12 @@ pub(crate) fn call_rule(
     alloc: Global,
     table: &ClassTable,
     name: &Name,
-    receiver: Option<TypedExpr>,
+    receiver: Option<BoxedExpr>,
     args: Option<Vec<TypedExpr>>,
     first: &mut FirstFault,
 ) -> Result<Option<TypedExpr>, NoMemory>
-    ensures typed { IfOk result (λ e. option_map typed_data e ≡ given (call_rule (table_data table.now) name.now) (both (option_map typed_data receiver) (option_map (λ a. typed_list a.items) args))) }
-    ensures fault { OnOk result (first.new ≡ noted first.old (call_fault (table_data table.now) name.now (option_map typed_data receiver) (option_map (λ a. typed_list a.items) args))) }
+    ensures typed { IfOk result (λ e. option_map typed_data e ≡ given (call_rule (table_data table.now) name.now) (both (option_map boxed_data receiver) (option_map (λ a. typed_list a.items) args))) }
+    ensures fault { OnOk result (first.new ≡ noted first.old (call_fault (table_data table.now) name.now (option_map boxed_data receiver) (option_map (λ a. typed_list a.items) args))) }
 {
     let Some(receiver) = receiver else {
         return Ok(None);

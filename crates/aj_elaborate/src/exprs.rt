@@ -7,7 +7,7 @@ ghost use Rattle.aj_syntax.specs.Trees.{BinaryE, CallE, GetE, NegE, NewE, NotE};
 ghost use Rattle.aj_syntax.specs.Views.{expr_of, exprs_from};
 ghost use Rattle.aj_elaborate.specs.Exprs.{elaborated, elaborated_each, expr_faults, each_faults};
 ghost use Rattle.aj_elaborate.specs.Noted.{noted};
-ghost use Rattle.aj_elaborate.specs.Views.{typed_data, typed_list};
+ghost use Rattle.aj_elaborate.specs.Views.{boxed_data, typed_data, typed_list};
 
 use crate::calls::{call_rule, new_rule};
 use crate::first::FirstFault;
@@ -16,7 +16,7 @@ use crate::rules::{
     binary_rule, get_rule, least_number, neg_rule, not_rule, number_rule, value, variable_rule,
 };
 use crate::scope::Bound;
-use crate::types::{ExprType, TypedExpr};
+use crate::types::{BoxedExpr, ExprType, TypedExpr};
 use aj_classes::ClassTable;
 use aj_core::{CoreExpr, CoreType};
 use aj_paths::ClassId;
@@ -25,7 +25,7 @@ use std::alloc::{AllocError as NoMemory, Global};
 
 /// An expression in a class, with these variables in scope. None where it has no type; its faults are noted.
 #[cycle(expressions)]
-pub(crate) fn expr(
+fn expr(
     alloc: Global,
     table: &ClassTable,
     class: ClassId,
@@ -60,6 +60,26 @@ pub(crate) fn expr(
     }
 }
 
+/// An expression in a box. It is boxed at once, so that there is only a box to drop where a later part fails.
+#[cycle(expressions)]
+pub(crate) fn boxed_expr(
+    alloc: Global,
+    table: &ClassTable,
+    class: ClassId,
+    scope: &[Bound],
+    e: &Expr,
+    first: &mut FirstFault,
+) -> Result<Option<BoxedExpr>, NoMemory>
+    ensures typed { IfOk result (λ r. option_map boxed_data r ≡ elaborated (table_data table.now) class scope.now (expr_of e.now)) }
+    ensures fault { OnOk result (first.new ≡ noted first.old (expr_faults (table_data table.now) class scope.now (expr_of e.now))) }
+{
+    let Some(made) = expr(alloc, table, class, scope, e, first)? else {
+        return Ok(None);
+    };
+    let node = Box::new(alloc, made.node)?;
+    Ok(Some(BoxedExpr { ty: made.ty, node }))
+}
+
 #[cycle(expressions)]
 #[inline(never)]
 fn not_expr(
@@ -74,8 +94,8 @@ fn not_expr(
     ensures typed { IfOk result (λ r. option_map typed_data r ≡ elaborated (table_data table.now) class scope.now (NotE (expr_of part.now) at)) }
     ensures fault { OnOk result (first.new ≡ noted first.old (expr_faults (table_data table.now) class scope.now (NotE (expr_of part.now) at))) }
 {
-    let part = expr(alloc, table, class, scope, part, first)?;
-    not_rule(alloc, at, part, first)
+    let part = boxed_expr(alloc, table, class, scope, part, first)?;
+    Ok(not_rule(at, part, first))
 }
 
 #[cycle(expressions)]
@@ -92,8 +112,8 @@ fn neg_expr(
     ensures typed { IfOk result (λ r. option_map typed_data r ≡ elaborated (table_data table.now) class scope.now (NegE (expr_of part.now) at)) }
     ensures fault { OnOk result (first.new ≡ noted first.old (expr_faults (table_data table.now) class scope.now (NegE (expr_of part.now) at))) }
 {
-    let part = expr(alloc, table, class, scope, part, first)?;
-    neg_rule(alloc, at, part, first)
+    let part = boxed_expr(alloc, table, class, scope, part, first)?;
+    Ok(neg_rule(at, part, first))
 }
 
 #[cycle(expressions)]
@@ -112,9 +132,9 @@ fn binary_expr(
     ensures typed { IfOk result (λ r. option_map typed_data r ≡ elaborated (table_data table.now) class scope.now (BinaryE op (expr_of left.now) (expr_of right.now) at)) }
     ensures fault { OnOk result (first.new ≡ noted first.old (expr_faults (table_data table.now) class scope.now (BinaryE op (expr_of left.now) (expr_of right.now) at))) }
 {
-    let left = expr(alloc, table, class, scope, left, first)?;
-    let right = expr(alloc, table, class, scope, right, first)?;
-    binary_rule(alloc, op, at, left, right, first)
+    let left = boxed_expr(alloc, table, class, scope, left, first)?;
+    let right = boxed_expr(alloc, table, class, scope, right, first)?;
+    Ok(binary_rule(op, at, left, right, first))
 }
 
 #[cycle(expressions)]
@@ -131,8 +151,8 @@ fn get_expr(
     ensures typed { IfOk result (λ r. option_map typed_data r ≡ elaborated (table_data table.now) class scope.now (GetE (expr_of receiver.now) name.now)) }
     ensures fault { OnOk result (first.new ≡ noted first.old (expr_faults (table_data table.now) class scope.now (GetE (expr_of receiver.now) name.now))) }
 {
-    let receiver = expr(alloc, table, class, scope, receiver, first)?;
-    get_rule(alloc, table, name, receiver, first)
+    let receiver = boxed_expr(alloc, table, class, scope, receiver, first)?;
+    Ok(get_rule(table, name, receiver, first))
 }
 
 #[cycle(expressions)]
@@ -150,7 +170,7 @@ fn call_expr(
     ensures typed { IfOk result (λ r. option_map typed_data r ≡ elaborated (table_data table.now) class scope.now (CallE (expr_of receiver.now) name.now (exprs_from (map expr_of args.now)))) }
     ensures fault { OnOk result (first.new ≡ noted first.old (expr_faults (table_data table.now) class scope.now (CallE (expr_of receiver.now) name.now (exprs_from (map expr_of args.now))))) }
 {
-    let receiver = expr(alloc, table, class, scope, receiver, first)?;
+    let receiver = boxed_expr(alloc, table, class, scope, receiver, first)?;
     let args = arguments(alloc, table, class, scope, args, first)?;
     call_rule(alloc, table, name, receiver, args, first)
 }

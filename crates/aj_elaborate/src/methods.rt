@@ -212,20 +212,30 @@ fn core_method(
         body: part,
     } = made;
     let locals = part.locals;
-    let Some(locks) = locks else {
-        return Ok(None);
-    };
     let Some(node) = part.node else {
         return Ok(None);
+    };
+    // Where the node isn't used a call drops it: dropped at an exit, each of its arms is a case of the proof.
+    let Some(locks) = locks else {
+        drop(node);
+        return Ok(None);
+    };
+    let Ok(requires_) = ascending(body.alloc, locks) else {
+        drop(node);
+        return Err(NoMemory);
+    };
+    let Ok(slots) = slots(body.first_local, locals) else {
+        drop(node);
+        return Err(NoMemory);
     };
     Ok(Some(CoreMethod {
         class: body.class,
         place_at,
         annotated: atomic,
-        requires_: ascending(body.alloc, locks)?,
+        requires_,
         params: types,
         result: body.returns,
-        slots: slots(body.first_local, locals)?,
+        slots,
         body: node,
     }))
 }

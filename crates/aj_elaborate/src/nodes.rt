@@ -2,10 +2,11 @@
 
 ghost use Rattle.std.specs.Prelude.{◌≡◌, ◌+◌, ◌||◌, None, true, option_map, IfOk};
 ghost use Rattle.aj_core.specs.Core.{BlockS, EmptyS, IfS, WhileS, SyncS};
-ghost use Rattle.aj_core.specs.Views.{expr_of, stmt_of, stmts_from};
+ghost use Rattle.aj_core.specs.Views.{stmt_of, stmts_from};
 ghost use Rattle.aj_elaborate.specs.Gathered.{gathered};
 ghost use Rattle.aj_elaborate.specs.Rulings.{both};
 ghost use Rattle.aj_elaborate.specs.Stmts.{if_node};
+ghost use Rattle.aj_elaborate.specs.Views.{boxed_expr, boxed_stmt};
 
 use crate::gather::Gathered;
 use aj_core::{CoreExpr, CoreStmt, CoreType};
@@ -20,6 +21,15 @@ pub(crate) struct StmtPart {
     pub(crate) locals: usize,
     pub(crate) completes: bool,
     pub(crate) declared: Option<CoreType>,
+}
+
+/// What a statement in another gives: its core node in a box, where it has one; how many locals it declares; whether it
+/// can complete.
+#[derive(Drop)]
+pub(crate) struct BoxedPart {
+    pub(crate) node: Option<Box<CoreStmt>>,
+    pub(crate) locals: usize,
+    pub(crate) completes: bool,
 }
 
 /// The sum of two counts. There is no memory for a program that has more of something than a `usize` can count.
@@ -48,46 +58,59 @@ pub(crate) fn block_of(nodes: Gathered<CoreStmt>) -> Option<CoreStmt>
     }
 }
 
-fn if_node(
-    alloc: Global,
-    condition: Option<CoreExpr>,
-    then: Option<CoreStmt>,
-    other: Option<CoreStmt>,
-) -> Result<Option<CoreStmt>, NoMemory>
-    ensures { IfOk result (λ s. option_map stmt_of s ≡ option_map if_node (both (option_map expr_of condition) (both (option_map stmt_of then) (option_map stmt_of other)))) }
+fn boxed_node(alloc: Global, node: Option<CoreStmt>) -> Result<Option<Box<CoreStmt>>, NoMemory>
+    ensures { IfOk result (λ b. option_map boxed_stmt b ≡ option_map stmt_of node) }
 {
-    let Some(condition) = condition else {
+    let Some(node) = node else {
         return Ok(None);
     };
-    let Some(then) = then else {
-        return Ok(None);
-    };
-    let Some(other) = other else {
-        return Ok(None);
-    };
-    let condition = Box::new(alloc, condition)?;
-    let then = Box::new(alloc, then)?;
-    let other = Box::new(alloc, other)?;
-    Ok(Some(CoreStmt::If(condition, then, other)))
+    let node = Box::new(alloc, node)?;
+    Ok(Some(node))
+}
+
+/// What a statement gives, with its core node in a box.
+pub(crate) fn boxed_part(alloc: Global, part: StmtPart) -> Result<BoxedPart, NoMemory>
+    ensures node { IfOk result (λ p. option_map boxed_stmt p.node ≡ option_map stmt_of part.node) }
+    ensures locals { IfOk result (λ p. p.locals ≡ part.locals) }
+    ensures completes { IfOk result (λ p. p.completes ≡ part.completes) }
+{
+    let locals = part.locals;
+    let completes = part.completes;
+    let node = boxed_node(alloc, part.node)?;
+    Ok(BoxedPart {
+        node,
+        locals,
+        completes,
+    })
+}
+
+fn if_node(
+    condition: Option<Box<CoreExpr>>,
+    then: Option<Box<CoreStmt>>,
+    other: Option<Box<CoreStmt>>,
+) -> Option<CoreStmt>
+    ensures { option_map stmt_of result ≡ option_map if_node (both (option_map boxed_expr condition) (both (option_map boxed_stmt then) (option_map boxed_stmt other))) }
+{
+    Some(CoreStmt::If(condition?, then?, other?))
 }
 
 /// A choice between two statements.
 pub(crate) fn if_part(
     alloc: Global,
-    condition: Option<CoreExpr>,
-    then: StmtPart,
+    condition: Option<Box<CoreExpr>>,
+    then: BoxedPart,
     other: StmtPart,
 ) -> Result<StmtPart, NoMemory>
-    ensures node { IfOk result (λ p. option_map stmt_of p.node ≡ option_map if_node (both (option_map expr_of condition) (both (option_map stmt_of then.node) (option_map stmt_of other.node)))) }
+    ensures node { IfOk result (λ p. option_map stmt_of p.node ≡ option_map if_node (both (option_map boxed_expr condition) (both (option_map boxed_stmt then.node) (option_map stmt_of other.node)))) }
     ensures locals { IfOk result (λ p. p.locals ≡ then.locals + other.locals) }
     ensures completes { IfOk result (λ p. p.completes ≡ (then.completes || other.completes)) }
     ensures declared { IfOk result (λ p. p.declared ≡ None) }
 {
+    let other = boxed_part(alloc, other)?;
     let locals = total(then.locals, other.locals)?;
     let completes = then.completes || other.completes;
-    let node = if_node(alloc, condition, then.node, other.node)?;
     Ok(StmtPart {
-        node,
+        node: if_node(condition, then.node, other.node),
         locals,
         completes,
         declared: None,
@@ -97,79 +120,57 @@ pub(crate) fn if_part(
 /// A choice between a statement and nothing.
 pub(crate) fn if_alone(
     alloc: Global,
-    condition: Option<CoreExpr>,
+    condition: Option<Box<CoreExpr>>,
     then: StmtPart,
 ) -> Result<StmtPart, NoMemory>
-    ensures node { IfOk result (λ p. option_map stmt_of p.node ≡ option_map (λ q. IfS q.0 q.1 EmptyS) (both (option_map expr_of condition) (option_map stmt_of then.node))) }
+    ensures node { IfOk result (λ p. option_map stmt_of p.node ≡ option_map (λ q. IfS q.0 q.1 EmptyS) (both (option_map boxed_expr condition) (option_map stmt_of then.node))) }
     ensures locals { IfOk result (λ p. p.locals ≡ then.locals) }
     ensures completes { IfOk result (λ p. p.completes ≡ true) }
     ensures declared { IfOk result (λ p. p.declared ≡ None) }
 {
     let locals = then.locals;
-    let node = if_node(alloc, condition, then.node, Some(CoreStmt::Empty))?;
+    let then = boxed_node(alloc, then.node)?;
+    let other = Box::new(alloc, CoreStmt::Empty)?;
     Ok(StmtPart {
-        node,
+        node: if_node(condition, then, Some(other)),
         locals,
         completes: true,
         declared: None,
     })
 }
 
-fn while_node(
-    alloc: Global,
-    condition: Option<CoreExpr>,
-    body: Option<CoreStmt>,
-) -> Result<Option<CoreStmt>, NoMemory>
-    ensures { IfOk result (λ s. option_map stmt_of s ≡ option_map (λ p. WhileS p.0 p.1) (both (option_map expr_of condition) (option_map stmt_of body))) }
+fn while_node(condition: Option<Box<CoreExpr>>, body: Option<Box<CoreStmt>>) -> Option<CoreStmt>
+    ensures { option_map stmt_of result ≡ option_map (λ p. WhileS p.0 p.1) (both (option_map boxed_expr condition) (option_map boxed_stmt body)) }
 {
-    let Some(condition) = condition else {
-        return Ok(None);
-    };
-    let Some(body) = body else {
-        return Ok(None);
-    };
-    let condition = Box::new(alloc, condition)?;
-    let body = Box::new(alloc, body)?;
-    Ok(Some(CoreStmt::While(condition, body)))
+    Some(CoreStmt::While(condition?, body?))
 }
 
 /// A loop around a statement. It completes where its condition may be false.
 pub(crate) fn while_part(
     alloc: Global,
-    condition: Option<CoreExpr>,
+    condition: Option<Box<CoreExpr>>,
     completes: bool,
     inner: StmtPart,
 ) -> Result<StmtPart, NoMemory>
-    ensures node { IfOk result (λ p. option_map stmt_of p.node ≡ option_map (λ q. WhileS q.0 q.1) (both (option_map expr_of condition) (option_map stmt_of inner.node))) }
+    ensures node { IfOk result (λ p. option_map stmt_of p.node ≡ option_map (λ q. WhileS q.0 q.1) (both (option_map boxed_expr condition) (option_map stmt_of inner.node))) }
     ensures locals { IfOk result (λ p. p.locals ≡ inner.locals) }
     ensures completes { IfOk result (λ p. p.completes ≡ completes) }
     ensures declared { IfOk result (λ p. p.declared ≡ None) }
 {
     let locals = inner.locals;
-    let node = while_node(alloc, condition, inner.node)?;
+    let body = boxed_node(alloc, inner.node)?;
     Ok(StmtPart {
-        node,
+        node: while_node(condition, body),
         locals,
         completes,
         declared: None,
     })
 }
 
-fn sync_node(
-    alloc: Global,
-    path: Option<Path>,
-    body: Option<CoreStmt>,
-) -> Result<Option<CoreStmt>, NoMemory>
-    ensures { IfOk result (λ s. option_map stmt_of s ≡ option_map (λ p. SyncS p.0 p.1) (both path (option_map stmt_of body))) }
+fn sync_node(path: Option<Path>, body: Option<Box<CoreStmt>>) -> Option<CoreStmt>
+    ensures { option_map stmt_of result ≡ option_map (λ p. SyncS p.0 p.1) (both path (option_map boxed_stmt body)) }
 {
-    let Some(path) = path else {
-        return Ok(None);
-    };
-    let Some(body) = body else {
-        return Ok(None);
-    };
-    let body = Box::new(alloc, body)?;
-    Ok(Some(CoreStmt::Sync(path, body)))
+    Some(CoreStmt::Sync(path?, body?))
 }
 
 /// A block that holds a lock.
@@ -185,9 +186,9 @@ pub(crate) fn sync_part(
 {
     let locals = inner.locals;
     let completes = inner.completes;
-    let node = sync_node(alloc, path, inner.node)?;
+    let body = boxed_node(alloc, inner.node)?;
     Ok(StmtPart {
-        node,
+        node: sync_node(path, body),
         locals,
         completes,
         declared: None,

@@ -1,6 +1,6 @@
 //! The rule of each kind of expression. A part comes with its type, if it has one; a fault is noted.
 
-ghost use Rattle.std.specs.Prelude.{◌≡◌, option_map, IfOk, OnOk};
+ghost use Rattle.std.specs.Prelude.{◌≡◌, option_map};
 ghost use Rattle.aj_classes.specs.Views.{table_data};
 ghost use Rattle.aj_core.specs.Types.{ValueT};
 ghost use Rattle.aj_core.specs.Views.{expr_of};
@@ -8,18 +8,17 @@ ghost use Rattle.aj_elaborate.specs.Exprs.{variable_rule};
 ghost use Rattle.aj_elaborate.specs.Noted.{noted};
 ghost use Rattle.aj_elaborate.specs.Rulings.{gain, loss, given, broken, both};
 ghost use Rattle.aj_elaborate.specs.Rules.{typed, number_rule, least_typed, not_rule, neg_rule, operator_rule, logical_node, logical_rule, binary_rule, field_rule, class_rule, get_rule};
-ghost use Rattle.aj_elaborate.specs.Views.{typed_data, type_data, field_found};
+ghost use Rattle.aj_elaborate.specs.Views.{typed_data, boxed_data, type_data, field_found};
 
 use crate::fault::TypeFault;
 use crate::first::FirstFault;
 use crate::lookup::field_named;
 use crate::scope::{Bound, find};
-use crate::types::{ExprType, TypedExpr, binary_type};
+use crate::types::{BoxedExpr, ExprType, TypedExpr, binary_type};
 use aj_classes::{ClassTable, FieldEntry};
 use aj_core::{CoreExpr, CoreOp, CoreType};
 use aj_paths::{ClassId, FieldId};
 use aj_syntax::{Name, Op};
-use std::alloc::{AllocError as NoMemory, Global};
 
 /// An expression of a value's type.
 pub(crate) fn value(ty: CoreType, node: CoreExpr) -> TypedExpr
@@ -73,141 +72,119 @@ pub(crate) fn variable_rule(
 }
 
 pub(crate) fn not_rule(
-    alloc: Global,
     at: u32,
-    part: Option<TypedExpr>,
+    part: Option<BoxedExpr>,
     first: &mut FirstFault,
-) -> Result<Option<TypedExpr>, NoMemory>
-    ensures typed { IfOk result (λ e. option_map typed_data e ≡ given (not_rule at) (option_map typed_data part)) }
-    ensures fault { OnOk result (first.new ≡ noted first.old (broken (not_rule at) (option_map typed_data part))) }
+) -> Option<TypedExpr>
+    ensures typed { option_map typed_data result ≡ given (not_rule at) (option_map boxed_data part) }
+    ensures fault { first.new ≡ noted first.old (broken (not_rule at) (option_map boxed_data part)) }
 {
-    let Some(part) = part else {
-        return Ok(None);
-    };
+    let part = part?;
     if !part.ty.is_boolean() {
         first.note(TypeFault::NoRule(at));
-        return Ok(None);
+        return None;
     }
-    let node = CoreExpr::Not(Box::new(alloc, part.node)?);
-    Ok(Some(value(CoreType::Boolean, node)))
+    Some(value(CoreType::Boolean, CoreExpr::Not(part.node)))
 }
 
 pub(crate) fn neg_rule(
-    alloc: Global,
     at: u32,
-    part: Option<TypedExpr>,
+    part: Option<BoxedExpr>,
     first: &mut FirstFault,
-) -> Result<Option<TypedExpr>, NoMemory>
-    ensures typed { IfOk result (λ e. option_map typed_data e ≡ given (neg_rule at) (option_map typed_data part)) }
-    ensures fault { OnOk result (first.new ≡ noted first.old (broken (neg_rule at) (option_map typed_data part))) }
+) -> Option<TypedExpr>
+    ensures typed { option_map typed_data result ≡ given (neg_rule at) (option_map boxed_data part) }
+    ensures fault { first.new ≡ noted first.old (broken (neg_rule at) (option_map boxed_data part)) }
 {
-    let Some(part) = part else {
-        return Ok(None);
-    };
+    let part = part?;
     if !part.ty.is_int() {
         first.note(TypeFault::NoRule(at));
-        return Ok(None);
+        return None;
     }
-    let node = CoreExpr::Neg(Box::new(alloc, part.node)?);
-    Ok(Some(value(CoreType::Int, node)))
+    Some(value(CoreType::Int, CoreExpr::Neg(part.node)))
 }
 
 fn operator_rule(
-    alloc: Global,
     op: CoreOp,
     at: u32,
-    left: TypedExpr,
-    right: TypedExpr,
+    left: BoxedExpr,
+    right: BoxedExpr,
     first: &mut FirstFault,
-) -> Result<Option<TypedExpr>, NoMemory>
-    ensures typed { IfOk result (λ e. option_map typed_data e ≡ gain (operator_rule op at (typed_data left, typed_data right))) }
-    ensures fault { OnOk result (first.new ≡ noted first.old (loss (operator_rule op at (typed_data left, typed_data right)))) }
+) -> Option<TypedExpr>
+    ensures typed { option_map typed_data result ≡ gain (operator_rule op at (boxed_data left, boxed_data right)) }
+    ensures fault { first.new ≡ noted first.old (loss (operator_rule op at (boxed_data left, boxed_data right))) }
 {
     let Some(ty) = binary_type(op, left.ty, right.ty) else {
         first.note(TypeFault::NoRule(at));
-        return Ok(None);
+        return None;
     };
-    let left = Box::new(alloc, left.node)?;
-    let right = Box::new(alloc, right.node)?;
-    Ok(Some(TypedExpr {
+    Some(TypedExpr {
         ty,
-        node: CoreExpr::Binary(op, left, right),
-    }))
+        node: CoreExpr::Binary(op, left.node, right.node),
+    })
 }
 
 /// `&&` where it is asked for, else `||`.
 fn logical_rule(
-    alloc: Global,
     is_and: bool,
     at: u32,
-    left: TypedExpr,
-    right: TypedExpr,
+    left: BoxedExpr,
+    right: BoxedExpr,
     first: &mut FirstFault,
-) -> Result<Option<TypedExpr>, NoMemory>
-    ensures typed { IfOk result (λ e. option_map typed_data e ≡ gain (logical_rule (logical_node is_and) at (typed_data left, typed_data right))) }
-    ensures fault { OnOk result (first.new ≡ noted first.old (loss (logical_rule (logical_node is_and) at (typed_data left, typed_data right)))) }
+) -> Option<TypedExpr>
+    ensures typed { option_map typed_data result ≡ gain (logical_rule (logical_node is_and) at (boxed_data left, boxed_data right)) }
+    ensures fault { first.new ≡ noted first.old (loss (logical_rule (logical_node is_and) at (boxed_data left, boxed_data right))) }
 {
     if !(left.ty.is_boolean() && right.ty.is_boolean()) {
         first.note(TypeFault::NoRule(at));
-        return Ok(None);
+        return None;
     }
-    let left = Box::new(alloc, left.node)?;
-    let right = Box::new(alloc, right.node)?;
     let node = if is_and {
-        CoreExpr::And(left, right)
+        CoreExpr::And(left.node, right.node)
     } else {
-        CoreExpr::Or(left, right)
+        CoreExpr::Or(left.node, right.node)
     };
-    Ok(Some(value(CoreType::Boolean, node)))
+    Some(value(CoreType::Boolean, node))
 }
 
 /// The rule of a sign between two parts that have types.
 fn sign_rule(
-    alloc: Global,
     op: Op,
     at: u32,
-    left: TypedExpr,
-    right: TypedExpr,
+    left: BoxedExpr,
+    right: BoxedExpr,
     first: &mut FirstFault,
-) -> Result<Option<TypedExpr>, NoMemory>
-    ensures typed { IfOk result (λ e. option_map typed_data e ≡ gain (binary_rule op at (typed_data left, typed_data right))) }
-    ensures fault { OnOk result (first.new ≡ noted first.old (loss (binary_rule op at (typed_data left, typed_data right)))) }
+) -> Option<TypedExpr>
+    ensures typed { option_map typed_data result ≡ gain (binary_rule op at (boxed_data left, boxed_data right)) }
+    ensures fault { first.new ≡ noted first.old (loss (binary_rule op at (boxed_data left, boxed_data right))) }
 {
     match op {
-        Op::Or => logical_rule(alloc, false, at, left, right, first),
-        Op::And => logical_rule(alloc, true, at, left, right, first),
-        Op::Eq => operator_rule(alloc, CoreOp::Eq, at, left, right, first),
-        Op::Ne => operator_rule(alloc, CoreOp::Ne, at, left, right, first),
-        Op::Lt => operator_rule(alloc, CoreOp::Lt, at, left, right, first),
-        Op::Le => operator_rule(alloc, CoreOp::Le, at, left, right, first),
-        Op::Gt => operator_rule(alloc, CoreOp::Gt, at, left, right, first),
-        Op::Ge => operator_rule(alloc, CoreOp::Ge, at, left, right, first),
-        Op::Add => operator_rule(alloc, CoreOp::Add, at, left, right, first),
-        Op::Sub => operator_rule(alloc, CoreOp::Sub, at, left, right, first),
-        Op::Mul => operator_rule(alloc, CoreOp::Mul, at, left, right, first),
-        Op::Div => operator_rule(alloc, CoreOp::Div, at, left, right, first),
-        Op::Rem => operator_rule(alloc, CoreOp::Rem, at, left, right, first),
+        Op::Or => logical_rule(false, at, left, right, first),
+        Op::And => logical_rule(true, at, left, right, first),
+        Op::Eq => operator_rule(CoreOp::Eq, at, left, right, first),
+        Op::Ne => operator_rule(CoreOp::Ne, at, left, right, first),
+        Op::Lt => operator_rule(CoreOp::Lt, at, left, right, first),
+        Op::Le => operator_rule(CoreOp::Le, at, left, right, first),
+        Op::Gt => operator_rule(CoreOp::Gt, at, left, right, first),
+        Op::Ge => operator_rule(CoreOp::Ge, at, left, right, first),
+        Op::Add => operator_rule(CoreOp::Add, at, left, right, first),
+        Op::Sub => operator_rule(CoreOp::Sub, at, left, right, first),
+        Op::Mul => operator_rule(CoreOp::Mul, at, left, right, first),
+        Op::Div => operator_rule(CoreOp::Div, at, left, right, first),
+        Op::Rem => operator_rule(CoreOp::Rem, at, left, right, first),
     }
 }
 
 pub(crate) fn binary_rule(
-    alloc: Global,
     op: Op,
     at: u32,
-    left: Option<TypedExpr>,
-    right: Option<TypedExpr>,
+    left: Option<BoxedExpr>,
+    right: Option<BoxedExpr>,
     first: &mut FirstFault,
-) -> Result<Option<TypedExpr>, NoMemory>
-    ensures typed { IfOk result (λ e. option_map typed_data e ≡ given (binary_rule op at) (both (option_map typed_data left) (option_map typed_data right))) }
-    ensures fault { OnOk result (first.new ≡ noted first.old (broken (binary_rule op at) (both (option_map typed_data left) (option_map typed_data right)))) }
+) -> Option<TypedExpr>
+    ensures typed { option_map typed_data result ≡ given (binary_rule op at) (both (option_map boxed_data left) (option_map boxed_data right)) }
+    ensures fault { first.new ≡ noted first.old (broken (binary_rule op at) (both (option_map boxed_data left) (option_map boxed_data right))) }
 {
-    let Some(left) = left else {
-        return Ok(None);
-    };
-    let Some(right) = right else {
-        return Ok(None);
-    };
-    sign_rule(alloc, op, at, left, right, first)
+    sign_rule(op, at, left?, right?, first)
 }
 
 /// The field that a name means for a receiver of this type.
@@ -244,21 +221,17 @@ pub(crate) fn class_rule(table: &ClassTable, name: &Name, first: &mut FirstFault
 }
 
 pub(crate) fn get_rule(
-    alloc: Global,
     table: &ClassTable,
     name: &Name,
-    receiver: Option<TypedExpr>,
+    receiver: Option<BoxedExpr>,
     first: &mut FirstFault,
-) -> Result<Option<TypedExpr>, NoMemory>
-    ensures typed { IfOk result (λ e. option_map typed_data e ≡ given (get_rule (table_data table.now) name.now) (option_map typed_data receiver)) }
-    ensures fault { OnOk result (first.new ≡ noted first.old (broken (get_rule (table_data table.now) name.now) (option_map typed_data receiver))) }
+) -> Option<TypedExpr>
+    ensures typed { option_map typed_data result ≡ given (get_rule (table_data table.now) name.now) (option_map boxed_data receiver) }
+    ensures fault { first.new ≡ noted first.old (broken (get_rule (table_data table.now) name.now) (option_map boxed_data receiver)) }
 {
-    let Some(receiver) = receiver else {
-        return Ok(None);
-    };
+    let receiver = receiver?;
     let Some((id, field)) = field_rule(table, name, receiver.ty, first) else {
-        return Ok(None);
+        return None;
     };
-    let node = CoreExpr::Get(Box::new(alloc, receiver.node)?, id);
-    Ok(Some(value(field.ty, node)))
+    Some(value(field.ty, CoreExpr::Get(receiver.node, id)))
 }

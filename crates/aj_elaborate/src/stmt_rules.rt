@@ -1,6 +1,6 @@
 //! The rule of each kind of statement. A part comes with its type, if it has one; a fault is noted.
 
-ghost use Rattle.std.specs.Prelude.{◌≡◌, ◌+◌, ◌++◌, ℕ, Bool, None, nat_lt, option_map, IfOk, OnOk, if◌then◌else◌};
+ghost use Rattle.std.specs.Prelude.{◌≡◌, ◌+◌, ◌++◌, ℕ, Bool, None, nat_lt, option_map, if◌then◌else◌};
 ghost use Rattle.aj_classes.specs.Views.{table_data};
 ghost use Rattle.aj_core.specs.Core.{LocalS};
 ghost use Rattle.aj_core.specs.Typed.{is_call_or_new, gives_value, most_locals};
@@ -10,18 +10,17 @@ ghost use Rattle.aj_elaborate.specs.Noted.{noted};
 ghost use Rattle.aj_elaborate.specs.Rulings.{gain, loss, given, broken, both};
 ghost use Rattle.aj_elaborate.specs.Rules.{type_rule, fit_rule};
 ghost use Rattle.aj_elaborate.specs.Stmts.{local_rule, target_rule, set_rule, field_target, put_rule, do_rule, condition_rule, return_rule, value_rule, print_rule, is_runnable, start_rule, too_many, redeclared};
-ghost use Rattle.aj_elaborate.specs.Views.{typed_data, type_data, target_data};
+ghost use Rattle.aj_elaborate.specs.Views.{boxed_data, boxed_expr, type_data, target_data};
 
 use crate::fault::TypeFault;
 use crate::first::FirstFault;
 use crate::rules::field_rule;
 use crate::scope::{Bound, Slot, find};
-use crate::types::{ExprType, TypedExpr};
+use crate::types::{BoxedExpr, ExprType};
 use aj_classes::{ClassTable, FieldEntry};
 use aj_core::{CoreExpr, CoreStmt, CoreType};
 use aj_paths::{ClassId, FieldId};
 use aj_syntax::{Name, TypeName};
-use std::alloc::{AllocError as NoMemory, Global};
 
 /// How many locals a method may declare.
 pub(crate) const MOST_LOCALS: usize = 64;
@@ -49,9 +48,14 @@ pub(crate) fn type_rule(
 }
 
 /// A value for a place of this type.
-fn fit_rule(at: u32, ty: CoreType, value: TypedExpr, first: &mut FirstFault) -> Option<CoreExpr>
-    ensures node { option_map expr_of result ≡ gain (fit_rule at ty (typed_data value)) }
-    ensures fault { first.new ≡ noted first.old (loss (fit_rule at ty (typed_data value))) }
+fn fit_rule(
+    at: u32,
+    ty: CoreType,
+    value: BoxedExpr,
+    first: &mut FirstFault,
+) -> Option<Box<CoreExpr>>
+    ensures node { option_map boxed_expr result ≡ gain (fit_rule at ty (boxed_data value)) }
+    ensures fault { first.new ≡ noted first.old (loss (fit_rule at ty (boxed_data value))) }
 {
     if !value.ty.fits(ExprType::Value(ty)) {
         first.note(TypeFault::NoRule(at));
@@ -64,11 +68,11 @@ fn fit_rule(at: u32, ty: CoreType, value: TypedExpr, first: &mut FirstFault) -> 
 pub(crate) fn local_value(
     at: u32,
     ty: &Option<CoreType>,
-    value: Option<TypedExpr>,
+    value: Option<BoxedExpr>,
     first: &mut FirstFault,
-) -> Option<(CoreType, CoreExpr)>
-    ensures node { (slot : ℕ) (is_final : Bool) → option_map (λ p. LocalS slot is_final p.0 (expr_of p.1)) result ≡ given (local_rule slot is_final at) (both ty.now (option_map typed_data value)) }
-    ensures fault { (slot : ℕ) (is_final : Bool) → first.new ≡ noted first.old (broken (local_rule slot is_final at) (both ty.now (option_map typed_data value))) }
+) -> Option<(CoreType, Box<CoreExpr>)>
+    ensures node { (slot : ℕ) (is_final : Bool) → option_map (λ p. LocalS slot is_final p.0 (boxed_expr p.1)) result ≡ given (local_rule slot is_final at) (both ty.now (option_map boxed_data value)) }
+    ensures fault { (slot : ℕ) (is_final : Bool) → first.new ≡ noted first.old (broken (local_rule slot is_final at) (both ty.now (option_map boxed_data value))) }
 {
     let Some(ty) = ty else {
         return None;
@@ -79,27 +83,24 @@ pub(crate) fn local_value(
 
 /// The node of a declaration, where so many locals stand before it. There is none past the limit.
 pub(crate) fn local_node(
-    alloc: Global,
     first_local: u8,
     before: usize,
     is_final: bool,
-    value: Option<(CoreType, CoreExpr)>,
-) -> Result<Option<CoreStmt>, NoMemory>
-    ensures { IfOk result (λ s. option_map stmt_of s ≡ (if nat_lt before most_locals then option_map (λ p. LocalS (first_local + before) is_final p.0 (expr_of p.1)) value else None)) }
+    value: Option<(CoreType, Box<CoreExpr>)>,
+) -> Option<CoreStmt>
+    ensures { option_map stmt_of result ≡ (if nat_lt before most_locals then option_map (λ p. LocalS (first_local + before) is_final p.0 (boxed_expr p.1)) value else None) }
 {
     if before >= MOST_LOCALS {
-        return Ok(None);
+        return None;
     }
-    let Some((ty, value)) = value else {
-        return Ok(None);
-    };
+    let (ty, value) = value?;
     let slot = first_local as u16 + before as u16;
-    Ok(Some(CoreStmt::Local {
+    Some(CoreStmt::Local {
         slot,
         is_final,
         ty,
-        value: Box::new(alloc, value)?,
-    }))
+        value,
+    })
 }
 
 fn note_too_many(before: usize, name: &Name, first: &mut FirstFault)
@@ -145,37 +146,28 @@ pub(crate) fn target_rule(scope: &[Bound], name: &Name, first: &mut FirstFault) 
 
 /// An assignment to a variable.
 pub(crate) fn set_rule(
-    alloc: Global,
     at: u32,
     target: Option<Slot>,
-    value: Option<TypedExpr>,
+    value: Option<BoxedExpr>,
     first: &mut FirstFault,
-) -> Result<Option<CoreStmt>, NoMemory>
-    ensures node { IfOk result (λ s. option_map stmt_of s ≡ given (set_rule at) (both (option_map variable_of target) (option_map typed_data value))) }
-    ensures fault { OnOk result (first.new ≡ noted first.old (broken (set_rule at) (both (option_map variable_of target) (option_map typed_data value)))) }
+) -> Option<CoreStmt>
+    ensures node { option_map stmt_of result ≡ given (set_rule at) (both (option_map variable_of target) (option_map boxed_data value)) }
+    ensures fault { first.new ≡ noted first.old (broken (set_rule at) (both (option_map variable_of target) (option_map boxed_data value))) }
 {
-    let Some(target) = target else {
-        return Ok(None);
-    };
-    let Some(value) = value else {
-        return Ok(None);
-    };
-    let Some(value) = fit_rule(at, target.ty, value, first) else {
-        return Ok(None);
-    };
-    let value = Box::new(alloc, value)?;
-    Ok(Some(CoreStmt::SetVar(target.slot, value)))
+    let target = target?;
+    let value = fit_rule(at, target.ty, value?, first)?;
+    Some(CoreStmt::SetVar(target.slot, value))
 }
 
 /// The receiver and the field that are assigned.
 pub(crate) fn field_target<'t, 'a>(
     table: &'t ClassTable<'a>,
     name: &Name,
-    receiver: Option<TypedExpr>,
+    receiver: Option<BoxedExpr>,
     first: &mut FirstFault,
-) -> Option<(CoreExpr, (FieldId, &'t FieldEntry<'a>))>
-    ensures target { option_map target_data result ≡ given (field_target (table_data table.now) name.now) (option_map typed_data receiver) }
-    ensures fault { first.new ≡ noted first.old (broken (field_target (table_data table.now) name.now) (option_map typed_data receiver)) }
+) -> Option<(Box<CoreExpr>, (FieldId, &'t FieldEntry<'a>))>
+    ensures target { option_map target_data result ≡ given (field_target (table_data table.now) name.now) (option_map boxed_data receiver) }
+    ensures fault { first.new ≡ noted first.old (broken (field_target (table_data table.now) name.now) (option_map boxed_data receiver)) }
 {
     let receiver = receiver?;
     let Some((id, field)) = field_rule(table, name, receiver.ty, first) else {
@@ -190,27 +182,19 @@ pub(crate) fn field_target<'t, 'a>(
 
 /// An assignment to a field.
 pub(crate) fn put_rule(
-    alloc: Global,
     at: u32,
-    target: Option<(CoreExpr, (FieldId, &FieldEntry))>,
-    value: Option<TypedExpr>,
+    target: Option<(Box<CoreExpr>, (FieldId, &FieldEntry))>,
+    value: Option<BoxedExpr>,
     first: &mut FirstFault,
-) -> Result<Option<CoreStmt>, NoMemory>
-    ensures node { IfOk result (λ s. option_map stmt_of s ≡ given (put_rule at) (both (option_map target_data target.entry) (option_map typed_data value))) }
-    ensures fault { OnOk result (first.new ≡ noted first.old (broken (put_rule at) (both (option_map target_data target.entry) (option_map typed_data value)))) }
+) -> Option<CoreStmt>
+    ensures node { option_map stmt_of result ≡ given (put_rule at) (both (option_map target_data target.entry) (option_map boxed_data value)) }
+    ensures fault { first.new ≡ noted first.old (broken (put_rule at) (both (option_map target_data target.entry) (option_map boxed_data value))) }
 {
     let Some((receiver, (id, field))) = target else {
-        return Ok(None);
+        return None;
     };
-    let Some(value) = value else {
-        return Ok(None);
-    };
-    let Some(value) = fit_rule(at, field.ty, value, first) else {
-        return Ok(None);
-    };
-    let receiver = Box::new(alloc, receiver)?;
-    let value = Box::new(alloc, value)?;
-    Ok(Some(CoreStmt::SetField(receiver, id, value)))
+    let value = fit_rule(at, field.ty, value?, first)?;
+    Some(CoreStmt::SetField(receiver, id, value))
 }
 
 fn is_call_or_new(node: &CoreExpr) -> bool
@@ -232,34 +216,25 @@ fn gives_value(ty: ExprType) -> bool
 }
 
 /// A call or a `new` as a statement.
-pub(crate) fn do_rule(
-    alloc: Global,
-    at: u32,
-    part: Option<TypedExpr>,
-    first: &mut FirstFault,
-) -> Result<Option<CoreStmt>, NoMemory>
-    ensures node { IfOk result (λ s. option_map stmt_of s ≡ given (do_rule at) (option_map typed_data part)) }
-    ensures fault { OnOk result (first.new ≡ noted first.old (broken (do_rule at) (option_map typed_data part))) }
+pub(crate) fn do_rule(at: u32, part: Option<BoxedExpr>, first: &mut FirstFault) -> Option<CoreStmt>
+    ensures node { option_map stmt_of result ≡ given (do_rule at) (option_map boxed_data part) }
+    ensures fault { first.new ≡ noted first.old (broken (do_rule at) (option_map boxed_data part)) }
 {
-    let Some(part) = part else {
-        return Ok(None);
-    };
+    let part = part?;
     if !is_call_or_new(&part.node) {
         first.note(TypeFault::NoRule(at));
-        return Ok(None);
+        return None;
     }
-    let drops = gives_value(part.ty);
-    let node = Box::new(alloc, part.node)?;
-    Ok(Some(CoreStmt::Do(node, drops)))
+    Some(CoreStmt::Do(part.node, gives_value(part.ty)))
 }
 
 pub(crate) fn condition_rule(
     at: u32,
-    part: Option<TypedExpr>,
+    part: Option<BoxedExpr>,
     first: &mut FirstFault,
-) -> Option<CoreExpr>
-    ensures node { option_map expr_of result ≡ given (condition_rule at) (option_map typed_data part) }
-    ensures fault { first.new ≡ noted first.old (broken (condition_rule at) (option_map typed_data part)) }
+) -> Option<Box<CoreExpr>>
+    ensures node { option_map boxed_expr result ≡ given (condition_rule at) (option_map boxed_data part) }
+    ensures fault { first.new ≡ noted first.old (broken (condition_rule at) (option_map boxed_data part)) }
 {
     let part = part?;
     if !part.ty.is_boolean() {
@@ -287,47 +262,37 @@ pub(crate) fn return_rule(
 
 /// A return of a value.
 pub(crate) fn value_rule(
-    alloc: Global,
     at: u32,
     returns: Option<CoreType>,
-    part: Option<TypedExpr>,
+    part: Option<BoxedExpr>,
     first: &mut FirstFault,
-) -> Result<Option<CoreStmt>, NoMemory>
-    ensures node { IfOk result (λ s. option_map stmt_of s ≡ given (value_rule at returns) (option_map typed_data part)) }
-    ensures fault { OnOk result (first.new ≡ noted first.old (broken (value_rule at returns) (option_map typed_data part))) }
+) -> Option<CoreStmt>
+    ensures node { option_map stmt_of result ≡ given (value_rule at returns) (option_map boxed_data part) }
+    ensures fault { first.new ≡ noted first.old (broken (value_rule at returns) (option_map boxed_data part)) }
 {
-    let Some(part) = part else {
-        return Ok(None);
-    };
+    let part = part?;
     let Some(ty) = returns else {
         first.note(TypeFault::NoRule(at));
-        return Ok(None);
+        return None;
     };
-    let Some(value) = fit_rule(at, ty, part, first) else {
-        return Ok(None);
-    };
-    let value = Box::new(alloc, value)?;
-    Ok(Some(CoreStmt::Return(Some(value))))
+    let value = fit_rule(at, ty, part, first)?;
+    Some(CoreStmt::Return(Some(value)))
 }
 
 pub(crate) fn print_rule(
-    alloc: Global,
     at: u32,
-    part: Option<TypedExpr>,
+    part: Option<BoxedExpr>,
     first: &mut FirstFault,
-) -> Result<Option<CoreStmt>, NoMemory>
-    ensures node { IfOk result (λ s. option_map stmt_of s ≡ given (print_rule at) (option_map typed_data part)) }
-    ensures fault { OnOk result (first.new ≡ noted first.old (broken (print_rule at) (option_map typed_data part))) }
+) -> Option<CoreStmt>
+    ensures node { option_map stmt_of result ≡ given (print_rule at) (option_map boxed_data part) }
+    ensures fault { first.new ≡ noted first.old (broken (print_rule at) (option_map boxed_data part)) }
 {
-    let Some(part) = part else {
-        return Ok(None);
-    };
+    let part = part?;
     if !part.ty.is_int() {
         first.note(TypeFault::NoRule(at));
-        return Ok(None);
+        return None;
     }
-    let node = Box::new(alloc, part.node)?;
-    Ok(Some(CoreStmt::Print(node)))
+    Some(CoreStmt::Print(part.node))
 }
 
 /// Whether there is a class, and it says `implements Runnable`.
@@ -344,22 +309,18 @@ fn is_runnable(table: &ClassTable, class: Option<ClassId>) -> bool
 }
 
 pub(crate) fn start_rule(
-    alloc: Global,
     table: &ClassTable,
     at: u32,
-    part: Option<TypedExpr>,
+    part: Option<BoxedExpr>,
     first: &mut FirstFault,
-) -> Result<Option<CoreStmt>, NoMemory>
-    ensures node { IfOk result (λ s. option_map stmt_of s ≡ given (start_rule (table_data table.now) at) (option_map typed_data part)) }
-    ensures fault { OnOk result (first.new ≡ noted first.old (broken (start_rule (table_data table.now) at) (option_map typed_data part))) }
+) -> Option<CoreStmt>
+    ensures node { option_map stmt_of result ≡ given (start_rule (table_data table.now) at) (option_map boxed_data part) }
+    ensures fault { first.new ≡ noted first.old (broken (start_rule (table_data table.now) at) (option_map boxed_data part)) }
 {
-    let Some(part) = part else {
-        return Ok(None);
-    };
+    let part = part?;
     if !is_runnable(table, part.ty.class()) {
         first.note(TypeFault::NoRule(at));
-        return Ok(None);
+        return None;
     }
-    let node = Box::new(alloc, part.node)?;
-    Ok(Some(CoreStmt::Start(node)))
+    Some(CoreStmt::Start(part.node))
 }

@@ -21,7 +21,9 @@ use crate::fault::TypeFault;
 use crate::first::FirstFault;
 use crate::gather::Gathered;
 use crate::lock::lock_path;
-use crate::nodes::{StmtPart, block_of, if_alone, if_part, sync_part, total, while_part};
+use crate::nodes::{
+    StmtPart, block_of, boxed_part, if_alone, if_part, sync_part, total, while_part,
+};
 use crate::scope::Bound;
 use crate::stmt_rules::{
     MOST_LOCALS, do_rule, field_target, local_node, local_value, note_declaration, print_rule,
@@ -66,7 +68,7 @@ fn local(
     let value = typed(body, scope, value, first)?;
     let value = local_value(name.at, &ty, value, first);
     note_declaration(scope, before, name, first);
-    let node = local_node(body.alloc, body.first_local, before, is_final, value)?;
+    let node = local_node(body.first_local, before, is_final, value);
     Ok(StmtPart {
         node,
         locals: 1,
@@ -91,7 +93,7 @@ fn set_var(
 {
     let target = target_rule(scope, name, first);
     let value = typed(body, scope, value, first)?;
-    let node = set_rule(body.alloc, at, target, value, first)?;
+    let node = set_rule(at, target, value, first);
     Ok(simple(node))
 }
 
@@ -113,7 +115,7 @@ fn set_field(
     let receiver = typed(body, scope, receiver, first)?;
     let target = field_target(body.table, name, receiver, first);
     let value = typed(body, scope, value, first)?;
-    let node = put_rule(body.alloc, at, target, value, first)?;
+    let node = put_rule(at, target, value, first);
     Ok(simple(node))
 }
 
@@ -131,7 +133,7 @@ fn call(
     ensures fault { OnOk result (first.new ≡ noted first.old (faults_in body.now scope.now 0 (tree.DoS (expr_of part.now) at))) }
 {
     let part = typed(body, scope, part, first)?;
-    let node = do_rule(body.alloc, at, part, first)?;
+    let node = do_rule(at, part, first);
     Ok(simple(node))
 }
 
@@ -149,7 +151,7 @@ fn print(
     ensures fault { OnOk result (first.new ≡ noted first.old (faults_in body.now scope.now 0 (tree.PrintS (expr_of part.now) at))) }
 {
     let part = typed(body, scope, part, first)?;
-    let node = print_rule(body.alloc, at, part, first)?;
+    let node = print_rule(at, part, first);
     Ok(simple(node))
 }
 
@@ -167,7 +169,7 @@ fn start(
     ensures fault { OnOk result (first.new ≡ noted first.old (faults_in body.now scope.now 0 (tree.StartS (expr_of part.now) at))) }
 {
     let part = typed(body, scope, part, first)?;
-    let node = start_rule(body.alloc, body.table, at, part, first)?;
+    let node = start_rule(body.table, at, part, first);
     Ok(simple(node))
 }
 
@@ -185,7 +187,7 @@ fn return_node(
         return Ok(return_rule(at, body.returns, first));
     };
     let value = typed(body, scope, value, first)?;
-    value_rule(body.alloc, at, body.returns, value, first)
+    Ok(value_rule(at, body.returns, value, first))
 }
 
 fn return_part(
@@ -266,6 +268,7 @@ fn stmt<'a>(
     ensures declared { IfOk result (λ p. p.declared ≡ declared_type (table_data body.now.table.now) (stmt_of s.now)) }
     ensures fault { OnOk result (first.new ≡ noted first.old (faults_in body.now scope.old.items before (stmt_of s.now))) }
 {
+    let seen = scope.as_slice();
     match s {
         Stmt::Empty(_) => Ok(simple(Some(CoreStmt::Empty))),
         Stmt::Block(stmts, _) => block(body, scope, before, stmts, first),
@@ -275,32 +278,21 @@ fn stmt<'a>(
             name,
             value,
             at: _,
-        } => local(
-            body,
-            scope.as_slice(),
-            before,
-            *is_final,
-            ty,
-            name,
-            value,
-            first,
-        ),
-        Stmt::SetVar(name, value, at) => {
-            set_var(body, scope.as_slice(), name, value, *at, first)
-        }
+        } => local(body, seen, before, *is_final, ty, name, value, first),
+        Stmt::SetVar(name, value, at) => set_var(body, seen, name, value, *at, first),
         Stmt::SetField(receiver, name, value, at) => {
-            set_field(body, scope.as_slice(), receiver, name, value, *at, first)
+            set_field(body, seen, receiver, name, value, *at, first)
         }
-        Stmt::Do(part, at) => call(body, scope.as_slice(), part, *at, first),
+        Stmt::Do(part, at) => call(body, seen, part, *at, first),
         Stmt::If(part, then, None, at) => if_then(body, scope, before, part, then, *at, first),
         Stmt::If(part, then, Some(other), at) => {
             if_else(body, scope, before, part, then, other, *at, first)
         }
         Stmt::While(part, inner, at) => while_loop(body, scope, before, part, inner, *at, first),
         Stmt::Sync(lock, stmts, _) => sync(body, scope, before, lock, stmts, first),
-        Stmt::Return(value, at) => return_part(body, scope.as_slice(), value, *at, first),
-        Stmt::Print(part, at) => print(body, scope.as_slice(), part, *at, first),
-        Stmt::Start(part, at) => start(body, scope.as_slice(), part, *at, first),
+        Stmt::Return(value, at) => return_part(body, seen, value, *at, first),
+        Stmt::Print(part, at) => print(body, seen, part, *at, first),
+        Stmt::Start(part, at) => start(body, seen, part, *at, first),
     }
 }
 
@@ -348,6 +340,7 @@ fn if_else<'a>(
 {
     let part = condition(body, scope.as_slice(), part, at, first)?;
     let then = stmt(body, scope, before, then, first)?;
+    let then = boxed_part(body.alloc, then)?;
     let before_other = total(before, then.locals)?;
     let other = stmt(body, scope, before_other, other, first)?;
     if_part(body.alloc, part, then, other)
@@ -423,8 +416,8 @@ pub(crate) fn block<'a>(
         note_unreachable(live, s, first);
         let before_s = total(before, locals)?;
         let part = stmt(body, scope, before_s, s, first)?;
-        declare(body, before_s, s, part.declared, scope)?;
         nodes.add(part.node)?;
+        declare(body, before_s, s, part.declared, scope)?;
         locals = total(locals, part.locals)?;
         live &= part.completes;
     }

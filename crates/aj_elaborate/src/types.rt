@@ -24,6 +24,13 @@ pub(crate) struct TypedExpr {
     pub(crate) node: CoreExpr,
 }
 
+/// A part of a node: an expression of the core program in a box, with its type.
+#[derive(Drop)]
+pub(crate) struct BoxedExpr {
+    pub(crate) ty: ExprType,
+    pub(crate) node: Box<CoreExpr>,
+}
+
 /// The class of an object's type.
 pub(crate) fn class_in(ty: CoreType) -> Option<ClassId>
     ensures { result ≡ class_in ty }

@@ -8,7 +8,7 @@ use Rattle.aj_elaborate.specs.Exprs.{elaborated, elaborated_each, expr_faults, e
 use Rattle.aj_elaborate.specs.Gathered.{gathered}
 use Rattle.aj_elaborate.specs.Noted.{noted}
 use Rattle.aj_elaborate.specs.Rules.{with_argument}
-use Rattle.aj_elaborate.specs.Views.{typed_data, typed_list}
+use Rattle.aj_elaborate.specs.Views.{boxed_data, typed_data, typed_list}
 use Rattle.aj_elaborate.proofs.Gathering.{so_far}
 use Rattle.aj_elaborate.proofs.Called.{argument_step, argument_fault, all_typed, call_noted}
 use Rattle.aj_elaborate.proofs.Measures.{expr_measure, exprs_measure, expr_lighter}
@@ -56,8 +56,8 @@ call_expr-returns-clause-fault t c =
     let es = exprs_from (map expr_of c.args.args.now) in
     subst (λ z. OnOk c.call_rule.result (c.call_rule.new.first ≡ z))
     (call_noted T C S (CallE e c.args.name.now es) e c.args.name.now es
-    (option_map typed_data c.in_ok-receiver.receiver) (option_map (λ a. typed_list a.items) c.in_ok-args.args)
-    c.args.first.now c.expr.new.first c.arguments.new.first
+    (option_map boxed_data c.in_ok-receiver.receiver) (option_map (λ a. typed_list a.items) c.in_ok-args.args)
+    c.args.first.now c.boxed_expr.new.first c.arguments.new.first
     refl c.in_ok-receiver.ensures.typed c.in_ok-args.ensures.typed c.in_ok-receiver.ensures.fault c.in_ok-args.ensures.fault)
     c.call_rule.ensures.fault
 

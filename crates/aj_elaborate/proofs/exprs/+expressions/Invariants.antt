@@ -13,23 +13,26 @@ use Rattle.aj_elaborate.proofs.exprs.+expressions.Given as goal
 abbrev pub decreases-expr : goal.decreases-expr
 decreases-expr l = expr_measure (expr_of l.e.now)
 
+abbrev pub decreases-boxed_expr : goal.decreases-boxed_expr
+decreases-boxed_expr l = 1 + expr_measure (expr_of l.e.now)
+
 abbrev pub decreases-not_expr : goal.decreases-not_expr
-decreases-not_expr l = 1 + expr_measure (expr_of l.part.now)
+decreases-not_expr l = 2 + expr_measure (expr_of l.part.now)
 
 abbrev pub decreases-neg_expr : goal.decreases-neg_expr
-decreases-neg_expr l = 1 + expr_measure (expr_of l.part.now)
+decreases-neg_expr l = 2 + expr_measure (expr_of l.part.now)
 
 abbrev pub decreases-binary_expr : goal.decreases-binary_expr
-decreases-binary_expr l = 1 + (expr_measure (expr_of l.left.now) + expr_measure (expr_of l.right.now))
+decreases-binary_expr l = 2 + (expr_measure (expr_of l.left.now) + expr_measure (expr_of l.right.now))
 
 abbrev pub decreases-get_expr : goal.decreases-get_expr
-decreases-get_expr l = 1 + expr_measure (expr_of l.receiver.now)
+decreases-get_expr l = 2 + expr_measure (expr_of l.receiver.now)
 
 abbrev pub decreases-call_expr : goal.decreases-call_expr
-decreases-call_expr l = 1 + (expr_measure (expr_of l.receiver.now) + exprs_measure (exprs_from (map expr_of l.args.now)))
+decreases-call_expr l = 2 + (expr_measure (expr_of l.receiver.now) + exprs_measure (exprs_from (map expr_of l.args.now)))
 
 abbrev pub decreases-new_expr : goal.decreases-new_expr
-decreases-new_expr l = 1 + exprs_measure (exprs_from (map expr_of l.args.now))
+decreases-new_expr l = 2 + exprs_measure (exprs_from (map expr_of l.args.now))
 
 abbrev pub decreases-arguments : goal.decreases-arguments
 decreases-arguments l = exprs_measure (exprs_from (map expr_of l.args.now))

@@ -1,7 +1,16 @@
-use Rattle.std.proofs.Common.{◌∙◌, option_map}
-use Rattle.aj_core.specs.Views.{expr_of, stmt_of}
+use Rattle.std.proofs.Common.{◌∙◌, Some, ap, option_map}
+use Rattle.aj_core.specs.Views.{stmt_of}
+use Rattle.aj_elaborate.specs.Rulings.{both}
+use Rattle.aj_elaborate.specs.Stmts.{if_node}
+use Rattle.aj_elaborate.specs.Views.{boxed_expr}
 use Rattle.aj_elaborate.proofs.Blocks.{one_branch}
 use Rattle.aj_elaborate.proofs.nodes.if_alone.Goals as goal
 
 pub returns-clause-node : goal.returns-clause-node
-returns-clause-node c = c.in_ok-node.ensures ∙ one_branch (option_map expr_of c.args.condition) (option_map stmt_of c.args.then.node)
+returns-clause-node c =
+    let condition = option_map boxed_expr c.args.condition in
+    let then = option_map stmt_of c.args.then.node in
+    c.if_node.ensures
+    ∙ ap (λ z. option_map if_node (both condition (both z (Some (stmt_of c.in_ok-other.other.value))))) c.in_ok-then.ensures
+    ∙ ap (λ z. option_map if_node (both condition (both then (Some (stmt_of z))))) c.in_ok-other.ensures.ok
+    ∙ one_branch condition then
