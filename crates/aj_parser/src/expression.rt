@@ -13,8 +13,8 @@ ghost use Rattle.aj_parser.specs.Expressions.{arguments as arguments_at, below, 
 use crate::lexeme::Lexeme;
 use crate::stop::{Fault, Stop};
 use crate::tokens::{
-    begins, begins_any_operator, begins_expression, begins_least, begins_number, begins_operator,
-    least, name, number, operator, take,
+    accept, begins, begins_any_operator, begins_expression, begins_least, begins_number,
+    begins_operator, least, name, number, operator, take,
 };
 use aj_syntax::{Expr, Name, Op, Terminal};
 use std::alloc::Global;
@@ -61,20 +61,16 @@ pub fn leaf<'t, 'a>(tokens: &'t [Lexeme<'a>]) -> Result<Parsed<'t, 'a>, Stop<'t,
         let ((value, at), rest) = number(tokens)?;
         return Ok(leaf_of(Expr::Number(value, at), rest));
     }
-    if begins(tokens, Terminal::True) {
-        let (at, rest) = take(tokens, Terminal::True)?;
+    if let Some((at, rest)) = accept(tokens, Terminal::True) {
         return Ok(leaf_of(Expr::Truth(true, at), rest));
     }
-    if begins(tokens, Terminal::False) {
-        let (at, rest) = take(tokens, Terminal::False)?;
+    if let Some((at, rest)) = accept(tokens, Terminal::False) {
         return Ok(leaf_of(Expr::Truth(false, at), rest));
     }
-    if begins(tokens, Terminal::Null) {
-        let (at, rest) = take(tokens, Terminal::Null)?;
+    if let Some((at, rest)) = accept(tokens, Terminal::Null) {
         return Ok(leaf_of(Expr::Null(at), rest));
     }
-    if begins(tokens, Terminal::This) {
-        let (at, rest) = take(tokens, Terminal::This)?;
+    if let Some((at, rest)) = accept(tokens, Terminal::This) {
         return Ok(leaf_of(Expr::This(at), rest));
     }
     let (variable, rest) = name(tokens)?;
@@ -272,8 +268,7 @@ pub fn primary<'t, 'a>(
     if begins(tokens, Terminal::OpenParen) {
         return parenthesised(alloc, tokens, high);
     }
-    if begins(tokens, Terminal::New) {
-        let (at, rest) = take(tokens, Terminal::New)?;
+    if let Some((at, rest)) = accept(tokens, Terminal::New) {
         return new_rest(alloc, rest, high, at);
     }
     leaf(tokens)
@@ -424,8 +419,7 @@ fn unary<'t, 'a>(
     ensures height { IfOk result (λ x. x.height ≡ height_of (expr_of x.tree)) }
     ensures limit { IfOk result (λ x. x.height ≤ high) }
 {
-    if begins(tokens, Terminal::Bang) {
-        let (at, rest) = take(tokens, Terminal::Bang)?;
+    if let Some((at, rest)) = accept(tokens, Terminal::Bang) {
         let Parsed { tree, height, rest } = chain(alloc, rest, high - 1, 0)?;
         return Ok(Parsed {
             tree: Expr::Not(Box::new(alloc, tree)?, at),
@@ -433,8 +427,7 @@ fn unary<'t, 'a>(
             rest,
         });
     }
-    if begins(tokens, Terminal::Minus) {
-        let (at, rest) = take(tokens, Terminal::Minus)?;
+    if let Some((at, rest)) = accept(tokens, Terminal::Minus) {
         return negated(alloc, rest, high, at);
     }
     postfix(alloc, tokens, high)

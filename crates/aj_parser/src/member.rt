@@ -14,7 +14,7 @@ use crate::expression::field_name;
 use crate::lexeme::Lexeme;
 use crate::statement::{Braces, block, lock, type_name};
 use crate::stop::Stop;
-use crate::tokens::{begins, begins_name, flag, goes_on, name, take};
+use crate::tokens::{accept, begins, begins_name, flag, goes_on, name, take};
 use aj_syntax::{Class, Lock, MOST_HEIGHT, Member, Name, Param, Terminal, TypeName};
 use std::alloc::Global;
 
@@ -117,10 +117,9 @@ fn required<'t, 'a>(
     ensures { Gives (λ x. (map lock_of x.0.items, x.1.now)) result (required_at tokens.now) }
 {
     let mut list = (Vec::new(alloc), tokens);
-    if !begins(tokens, Terminal::Requires) {
+    let Some((_, rest)) = accept(tokens, Terminal::Requires) else {
         return Ok(list);
-    }
-    let (_, rest) = take(tokens, Terminal::Requires)?;
+    };
     let (first, rest) = lock(alloc, rest)?;
     list.0.push(first)?;
     list.1 = rest;
@@ -230,13 +229,11 @@ fn guard<'t, 'a>(
 ) -> Result<((Option<Lock<'a>>, bool), &'t [Lexeme<'a>]), Stop<'t, 'a>>
     ensures { Gives (λ x. ((option_map lock_of x.0.0, x.0.1), x.1.now)) result (guard_at tokens.now) }
 {
-    if begins(tokens, Terminal::GuardedBy) {
-        let (_, rest) = take(tokens, Terminal::GuardedBy)?;
+    if let Some((_, rest)) = accept(tokens, Terminal::GuardedBy) {
         let (held, rest) = lock(alloc, rest)?;
         return Ok(((Some(held), false), rest));
     }
-    if begins(tokens, Terminal::WriteGuardedBy) {
-        let (_, rest) = take(tokens, Terminal::WriteGuardedBy)?;
+    if let Some((_, rest)) = accept(tokens, Terminal::WriteGuardedBy) {
         let (held, rest) = lock(alloc, rest)?;
         return Ok(((Some(held), true), rest));
     }
@@ -312,8 +309,7 @@ fn result_type<'t, 'a>(
 ) -> Result<(Option<TypeName<'a>>, &'t [Lexeme<'a>]), Stop<'t, 'a>>
     ensures { Gives (λ x. (x.0, x.1.now)) result (result_type_at tokens.now) }
 {
-    if begins(tokens, Terminal::Void) {
-        let (_, rest) = take(tokens, Terminal::Void)?;
+    if let Some((_, rest)) = accept(tokens, Terminal::Void) {
         return Ok((None, rest));
     }
     let (ty, rest) = type_name(tokens)?;
@@ -359,8 +355,7 @@ fn bare_member<'t, 'a>(
     if begins(tokens, Terminal::Final) {
         return final_field(tokens);
     }
-    if begins(tokens, Terminal::Atomic) {
-        let (_, rest) = take(tokens, Terminal::Atomic)?;
+    if let Some((_, rest)) = accept(tokens, Terminal::Atomic) {
         return plain_method(alloc, true, rest);
     }
     if begins(tokens, Terminal::Void) {
@@ -418,8 +413,7 @@ fn members<'t, 'a>(
 fn runnable<'t, 'a>(tokens: &'t [Lexeme<'a>]) -> Result<(bool, &'t [Lexeme<'a>]), Stop<'t, 'a>>
     ensures { Gives (λ x. (x.0, x.1.now)) result (runnable_at tokens.now) }
 {
-    if begins(tokens, Terminal::Implements) {
-        let (_, rest) = take(tokens, Terminal::Implements)?;
+    if let Some((_, rest)) = accept(tokens, Terminal::Implements) {
         let (_, rest) = take(rest, Terminal::Runnable)?;
         return Ok((true, rest));
     }

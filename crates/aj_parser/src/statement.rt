@@ -17,8 +17,8 @@ use crate::expression::{LEVELS, Parsed, chain, dots, field_name, new_rest, prima
 use crate::lexeme::Lexeme;
 use crate::stop::{Fault, Stop};
 use crate::tokens::{
-    begins, begins_declaration, begins_name, begins_second_name, begins_statement, goes_on, name,
-    take,
+    accept, begins, begins_declaration, begins_name, begins_second_name, begins_statement, goes_on,
+    name, take,
 };
 use aj_syntax::{Expr, Lock, Name, Stmt, Terminal, TypeName};
 use std::alloc::Global;
@@ -37,12 +37,10 @@ pub fn type_name<'t, 'a>(
 ) -> Result<(TypeName<'a>, &'t [Lexeme<'a>]), Stop<'t, 'a>>
     ensures { Gives (λ x. (x.0, x.1.now)) result (type_name_at tokens.now) }
 {
-    if begins(tokens, Terminal::Int) {
-        let (_, rest) = take(tokens, Terminal::Int)?;
+    if let Some((_, rest)) = accept(tokens, Terminal::Int) {
         return Ok((TypeName::Int, rest));
     }
-    if begins(tokens, Terminal::Boolean) {
-        let (_, rest) = take(tokens, Terminal::Boolean)?;
+    if let Some((_, rest)) = accept(tokens, Terminal::Boolean) {
         return Ok((TypeName::Boolean, rest));
     }
     let (class, rest) = name(tokens)?;
@@ -85,8 +83,7 @@ pub fn lock<'t, 'a>(
 ) -> Result<(Lock<'a>, &'t [Lexeme<'a>]), Stop<'t, 'a>>
     ensures { Gives (λ x. (lock_of x.0, x.1.now)) result (lock_at tokens.now) }
 {
-    if begins(tokens, Terminal::This) {
-        let (at, rest) = take(tokens, Terminal::This)?;
+    if let Some((at, rest)) = accept(tokens, Terminal::This) {
         let (fields, rest) = fields(alloc, rest)?;
         return Ok((
             Lock {
@@ -156,8 +153,7 @@ fn return_statement<'t, 'a>(
     ensures { Gives (λ x. (stmt_of x.0, x.1.now)) result (return_statement_at high tokens.now) }
 {
     let (at, rest) = take(tokens, Terminal::Return)?;
-    if begins(rest, Terminal::Semicolon) {
-        let (_, rest) = take(rest, Terminal::Semicolon)?;
+    if let Some((_, rest)) = accept(rest, Terminal::Semicolon) {
         return Ok((Stmt::Return(None, at), rest));
     }
     let (value, rest) = expression(alloc, rest, high)?;
@@ -263,13 +259,11 @@ fn local_statement<'t, 'a>(
     requires positive { 0 < high }
     ensures { Gives (λ x. (stmt_of x.0, x.1.now)) result (local_statement_at high tokens.now) }
 {
-    if begins(tokens, Terminal::Final) {
-        let (at, rest) = take(tokens, Terminal::Final)?;
+    if let Some((at, rest)) = accept(tokens, Terminal::Final) {
         let (ty, rest) = type_name(rest)?;
         return local_rest(alloc, true, ty, at, rest, high);
     }
-    if begins(tokens, Terminal::Int) {
-        let (at, rest) = take(tokens, Terminal::Int)?;
+    if let Some((at, rest)) = accept(tokens, Terminal::Int) {
         return local_rest(alloc, false, TypeName::Int, at, rest, high);
     }
     let (at, rest) = take(tokens, Terminal::Boolean)?;
@@ -440,8 +434,7 @@ fn plain_statement<'t, 'a>(
     requires positive { 0 < high }
     ensures { Gives (λ x. (stmt_of x.0, x.1.now)) result (plain_statement_at high in_block tokens.now) }
 {
-    if begins(tokens, Terminal::Semicolon) {
-        let (at, rest) = take(tokens, Terminal::Semicolon)?;
+    if let Some((at, rest)) = accept(tokens, Terminal::Semicolon) {
         return Ok((Stmt::Empty(at), rest));
     }
     if begins(tokens, Terminal::Return) {
@@ -506,8 +499,7 @@ fn else_part<'t, 'a>(
     requires positive { 0 < high }
     ensures { Gives (λ x. (stmt_of x.0, x.1.now)) result (else_part_at high (statement_at (high - 1)) (block_at (high - 1)) at (expr_of condition.entry.value) (stmt_of branch.entry.value) tokens.now) }
 {
-    if begins(tokens, Terminal::Else) {
-        let (_, rest) = take(tokens, Terminal::Else)?;
+    if let Some((_, rest)) = accept(tokens, Terminal::Else) {
         let (other, rest) = statement(alloc, rest, high - 1, false)?;
         let other = Box::new(alloc, other)?;
         return Ok((make_if_else(condition, branch, other, at), rest));

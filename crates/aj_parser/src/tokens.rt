@@ -1,6 +1,6 @@
 //! Single tokens at the front of a list.
 
-ghost use Rattle.std.specs.Prelude.{◌≡◌, ◌&&◌};
+ghost use Rattle.std.specs.Prelude.{◌≡◌, ◌&&◌, Ok, true, false, IfSome, IfNone};
 ghost use Rattle.aj_syntax.specs.Grammar.{level as level_of, offset as offset_of};
 ghost use Rattle.aj_syntax.specs.Tokens.{is};
 ghost use Rattle.aj_parser.specs.Answer.{Gives};
@@ -36,6 +36,21 @@ pub fn take<'t, 'a>(
     match tokens {
         [token, rest @ ..] if token.is(terminal) => Ok((token.at, rest)),
         _ => Err(Stop::Fault(Fault::Unexpected, tokens)),
+    }
+}
+
+/// Takes the terminal where it stands first, and gives its offset.
+#[inline(always)]
+pub fn accept<'t, 'a>(
+    tokens: &'t [Lexeme<'a>],
+    terminal: Terminal,
+) -> Option<(u32, &'t [Lexeme<'a>])>
+    ensures taken { IfSome result (λ x. (starts (is terminal) tokens.now ≡ true) × (take_one terminal tokens.now ≡ Ok (x.0, x.1.now))) }
+    ensures another { IfNone result (starts (is terminal) tokens.now ≡ false) }
+{
+    match tokens {
+        [token, rest @ ..] if token.is(terminal) => Some((token.at, rest)),
+        _ => None,
     }
 }
 
