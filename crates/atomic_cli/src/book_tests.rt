@@ -1,8 +1,9 @@
 //! What the program answers to the rows on books.
 
-use crate::schedule_tests::{answer_failing, expect};
-use crate::tests::{APPEND_LOCKED, EIGHT_LOCKS, LOCKED, answer, counter, expect as expect_one};
+use crate::schedule_tests::{answer_failing, expect, expect_inputs};
+use crate::tests::{APPEND_LOCKED, EIGHT_LOCKS, LOCKED, counter, expect_rows, written};
 use std::alloc::Global;
+use std::process::Abort;
 use std::test::Fail;
 
 /// The book of `LOCKED`, in parts: its trees, its derivation, and its last line.
@@ -23,7 +24,7 @@ fn book(alloc: Global, trees: &str, nodes: &str, end: &str) -> Result<String, Fa
 }
 
 /// Books for `LOCKED`, each with the status and the text of `verify`.
-const BOOKS: [(&str, &str, &str, u8, &str); 16] = [
+static BOOKS: [(&str, &str, &str, u8, &str); 16] = [
     (TREES, NODES, END, 0, "verified\n"),
     (
         "(0 mover atomic)\n(0 mover error)\nmover\n",
@@ -121,7 +122,7 @@ const BOOKS: [(&str, &str, &str, u8, &str); 16] = [
 ];
 
 /// Texts that are no books, each with the line of its first fault.
-const NO_BOOKS: [(&str, &str); 16] = [
+static NO_BOOKS: [(&str, &str); 16] = [
     ("", "book refused at byte 0: form\n"),
     ("book", "book refused at byte 4: form\n"),
     ("book 01\n", "book refused at byte 6: form\n"),
@@ -166,8 +167,16 @@ const NO_BOOKS: [(&str, &str); 16] = [
 
 #[test]
 fn texts_that_are_no_books_have_their_first_fault(rt: HostRuntime) -> Result<(), Fail> {
-    for (text, line) in NO_BOOKS {
-        expect(&rt, rt.alloc(), "verify", LOCKED, text, 11, line)?;
+    for (text, line) in &NO_BOOKS {
+        expect(
+            &rt,
+            rt.alloc(),
+            "verify",
+            LOCKED,
+            text.as_bytes(),
+            11,
+            line.as_bytes(),
+        )?;
     }
     Ok(())
 }
@@ -177,7 +186,7 @@ const CALLS: &str = "class Main { void main() { this.f(); } void f() { } }";
 
 /// Books for `CALLS`, with the line of `verify`. A test of a callee's tree on a path that isn't relevant there counts as not held. All
 /// shapes come before the first step, and a body is compared with its method's tree at all sets.
-const CALLED: [(&str, u8, &str); 6] = [
+static CALLED: [(&str, u8, &str); 6] = [
     (
         "book 1\nconst\nmethod 0 0\n(block 0 (do 0 (call 0 (this 0))))\nmethod 1 0\n(block 0)\nend\n",
         0,
@@ -212,24 +221,21 @@ const CALLED: [(&str, u8, &str); 6] = [
 
 #[test]
 fn faults_of_books_are_told_in_order(rt: HostRuntime) -> Result<(), Fail> {
-    for (text, status, line) in CALLED {
-        expect(&rt, rt.alloc(), "verify", CALLS, text, status, line)?;
-    }
-    Ok(())
+    expect_inputs(&rt, rt.alloc(), "verify", CALLS, &CALLED)
 }
 
 #[test]
 fn verify_tells_what_is_wrong_first(rt: HostRuntime) -> Result<(), Fail> {
-    for (trees, nodes, end, status, text) in BOOKS {
+    for (trees, nodes, end, status, text) in &BOOKS {
         let given = book(rt.alloc(), trees, nodes, end)?;
         expect(
             &rt,
             rt.alloc(),
             "verify",
             LOCKED,
-            given.as_str(),
-            status,
-            text,
+            given.as_bytes(),
+            *status,
+            text.as_bytes(),
         )?;
     }
     Ok(())
@@ -241,35 +247,47 @@ fn a_derivation_is_at_most_64_high(rt: HostRuntime) -> Result<(), Fail> {
     for _ in 0..65u32 {
         given.push_str("(block 0 ")?;
     }
+    let line = "book refused at byte 600: too deep\n";
     expect(
         &rt,
         rt.alloc(),
         "verify",
         LOCKED,
-        given.as_str(),
+        given.as_bytes(),
         11,
-        "book refused at byte 600: too deep\n",
+        line.as_bytes(),
     )
 }
 
 #[test]
 fn derive_writes_the_book_of_the_least_assignment(rt: HostRuntime) -> Result<(), Fail> {
     let given = book(rt.alloc(), TREES, NODES, END)?;
-    expect_one(
+    expect_rows(
         &rt,
         rt.alloc(),
-        &["derive", "a"],
-        LOCKED.as_bytes(),
+        "derive",
+        &[
+            (LOCKED, 0, given.as_str()),
+            (
+                "class Main { int u; atomic void main() { this.u = 1; this.u = 2; } }",
+                2,
+                "Main.main: declared atomic, found cmpd\n",
+            ),
+        ],
+    )
+}
+
+/// What is derived for the source is verified.
+fn expect_derived(rt: &impl Abort, alloc: Global, source: &str) -> Result<(), Fail> {
+    let derived = written(rt, alloc, "derive", source.as_bytes())?;
+    expect(
+        rt,
+        alloc,
+        "verify",
+        source,
+        derived.as_slice(),
         0,
-        given.as_str(),
-    )?;
-    expect_one(
-        &rt,
-        rt.alloc(),
-        &["derive", "a"],
-        b"class Main { int u; atomic void main() { this.u = 1; this.u = 2; } }",
-        2,
-        "Main.main: declared atomic, found cmpd\n",
+        b"verified\n",
     )
 }
 
@@ -281,20 +299,10 @@ fn what_is_derived_is_verified(rt: HostRuntime) -> Result<(), Fail> {
         "",
         "class Box { final Cell c; Box(Cell c) { this.c = c; } atomic void clear() { final Cell x = this.c; synchronized (x) { x.v = 0; } } }",
     )?;
-    for source in [LOCKED, APPEND_LOCKED, EIGHT_LOCKS, source.as_str()] {
-        let derived = answer(rt.alloc(), &["derive", "a"], source.as_bytes())?;
-        assert_eq!(rt; derived.0, 0);
-        let given = answer_failing(
-            rt.alloc(),
-            "verify",
-            source,
-            derived.1.as_slice(),
-            Vec::new(rt.alloc()),
-        )?;
-        assert_eq!(rt; given.0, 0);
-        assert_eq!(rt; given.1.as_slice(), b"verified\n".as_slice());
-    }
-    Ok(())
+    expect_derived(&rt, rt.alloc(), LOCKED)?;
+    expect_derived(&rt, rt.alloc(), APPEND_LOCKED)?;
+    expect_derived(&rt, rt.alloc(), EIGHT_LOCKS)?;
+    expect_derived(&rt, rt.alloc(), source.as_str())
 }
 
 /// The bytes with `0` in the place of this one.
@@ -310,19 +318,19 @@ fn damaged(alloc: Global, bytes: &[u8], at: usize) -> Result<Vec<u8>, Fail> {
     Ok(given)
 }
 
+/// The text is a good book for `LOCKED`, or a refused one.
+fn expect_judged(rt: &impl Abort, alloc: Global, text: &[u8]) -> Result<(), Fail> {
+    let given = answer_failing(alloc, "verify", LOCKED, text, Vec::new(alloc))?;
+    assert!(rt; given.0 == 0 || given.0 == 11);
+    Ok(())
+}
+
 #[test]
 fn a_damaged_book_is_good_or_refused(rt: HostRuntime) -> Result<(), Fail> {
     let whole = book(rt.alloc(), TREES, NODES, END)?;
     for at in 0..115usize {
         let bytes = damaged(rt.alloc(), whole.as_bytes(), at)?;
-        let given = answer_failing(
-            rt.alloc(),
-            "verify",
-            LOCKED,
-            bytes.as_slice(),
-            Vec::new(rt.alloc()),
-        )?;
-        assert!(rt; given.0 == 0 || given.0 == 11);
+        expect_judged(&rt, rt.alloc(), bytes.as_slice())?;
     }
     Ok(())
 }

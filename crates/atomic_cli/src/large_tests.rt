@@ -1,6 +1,6 @@
 //! A schedule of 200,000 entries, as another tool would write it, and books that are too long to be judged in memory.
 
-use crate::schedule_tests::{answer_failing, expect};
+use crate::schedule_tests::{expect, expect_read_again};
 use crate::tests::LOCKED;
 use std::alloc::Global;
 use std::test::Fail;
@@ -24,26 +24,8 @@ fn schedule(alloc: Global) -> Result<Vec<u8>, Fail> {
 
 #[test]
 fn serialise_reads_its_own_large_output(rt: HostRuntime) -> Result<(), Fail> {
-    let alloc = rt.alloc();
-    let text = schedule(alloc)?;
-    let first = answer_failing(
-        alloc,
-        "serialise",
-        WORKERS,
-        text.as_slice(),
-        Vec::new(alloc),
-    )?;
-    assert_eq!(rt; first.0, 0);
-    let second = answer_failing(
-        alloc,
-        "serialise",
-        WORKERS,
-        first.1.as_slice(),
-        Vec::new(alloc),
-    )?;
-    assert_eq!(rt; second.0, 0);
-    assert_eq!(rt; second.1.as_slice(), first.1.as_slice());
-    Ok(())
+    let text = schedule(rt.alloc())?;
+    expect_read_again(&rt, rt.alloc(), WORKERS, text.as_slice())
 }
 
 /// A book for `LOCKED` with this derivation. Its table has 235,300 trees that no node names, so that it has more than 4,000,000
@@ -63,7 +45,7 @@ fn long_book(alloc: Global, nodes: &str) -> Result<String, Fail> {
 }
 
 /// Derivations for `LOCKED`, each with the status and the text of `verify`.
-const DERIVATIONS: [(&str, u8, &str); 4] = [
+static DERIVATIONS: [(&str, u8, &str); 4] = [
     (
         "(block 0 (sync 0 (block 1 (put 1 (this 2) (lit 2)))))",
         0,
@@ -88,16 +70,16 @@ const DERIVATIONS: [(&str, u8, &str); 4] = [
 
 #[test]
 fn long_books_are_judged_in_place(rt: HostRuntime) -> Result<(), Fail> {
-    for (nodes, status, text) in DERIVATIONS {
+    for (nodes, status, text) in &DERIVATIONS {
         let given = long_book(rt.alloc(), nodes)?;
         expect(
             &rt,
             rt.alloc(),
             "verify",
             LOCKED,
-            given.as_str(),
-            status,
-            text,
+            given.as_bytes(),
+            *status,
+            text.as_bytes(),
         )?;
     }
     Ok(())

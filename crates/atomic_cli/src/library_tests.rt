@@ -3,12 +3,14 @@
 
 use crate::machine_tests::{BOOK, COUNTER, checked_of, schedule_of, source_of};
 use aj_compile::compile;
+use aj_cond::Tree;
 use aj_deriv::{BookCursor, BookFault, DerivBook, Word, read_book, read_table, write_book};
 use aj_deriv_check::{Checked, Refused, Wrong, accept};
 use aj_machine::Machine;
 use aj_serialise::{SerialEnd, serialise};
 use aj_sources::Source;
 use std::alloc::Global;
+use std::process::Abort;
 use std::test::Fail;
 
 /// The book of the counter program without its last method.
@@ -44,23 +46,40 @@ fn judged(alloc: Global, text: &str, book: &DerivBook) -> Result<Result<Checked,
     Ok(accept(alloc, program, sets, book))
 }
 
-#[test]
-fn a_book_that_was_read_is_written_back(rt: HostRuntime) -> Result<(), Fail> {
-    let alloc = rt.alloc();
-    let book = book_of(alloc, BOOK)?;
-    assert_eq!(rt; book.table.len(), 7);
-    assert_eq!(rt; book.methods.len(), 3);
-    assert_eq!(rt; write_book(alloc, &book)?.as_slice(), BOOK.as_bytes());
-    if BOOK.len() <= 16777216 {
-        let Ok(table) = read_table(alloc, BOOK.as_bytes()) else {
-            return Err(Fail::new("no table"));
-        };
-        assert_eq!(rt; table.len(), 7);
-        for (tree, other) in table.iter().zip(book.table.iter()) {
-            assert!(rt; tree.same(other));
-        }
+/// The book has these counts, and is written as this text.
+fn expect_written(
+    rt: &impl Abort,
+    alloc: Global,
+    book: &DerivBook,
+    counts: (usize, usize),
+    text: &str,
+) -> Result<(), Fail> {
+    assert_eq!(rt; (book.table.len(), book.methods.len()), counts);
+    let written = write_book(alloc, book)?;
+    assert_eq!(rt; written.as_slice(), text.as_bytes());
+    Ok(())
+}
+
+/// The table of a text has these trees.
+fn expect_table(rt: &impl Abort, alloc: Global, text: &str, trees: &[Tree]) -> Result<(), Fail> {
+    if text.len() > 16777216 {
+        return Err(Fail::new("a long book"));
+    }
+    let Ok(table) = read_table(alloc, text.as_bytes()) else {
+        return Err(Fail::new("no table"));
+    };
+    assert_eq!(rt; table.len(), trees.len());
+    for (tree, other) in table.iter().zip(trees.iter()) {
+        assert!(rt; tree.same(other));
     }
     Ok(())
+}
+
+#[test]
+fn a_book_that_was_read_is_written_back(rt: HostRuntime) -> Result<(), Fail> {
+    let book = book_of(rt.alloc(), BOOK)?;
+    expect_written(&rt, rt.alloc(), &book, (7, 3), BOOK)?;
+    expect_table(&rt, rt.alloc(), BOOK, book.table.as_slice())
 }
 
 #[test]
@@ -71,16 +90,21 @@ fn the_table_of_no_book_has_the_same_fault(rt: HostRuntime) -> Result<(), Fail> 
     Ok(())
 }
 
-#[test]
-fn a_book_in_memory_is_judged(rt: HostRuntime) -> Result<(), Fail> {
-    let alloc = rt.alloc();
-    let book = book_of(alloc, BOOK)?;
-    assert!(rt; judged(alloc, COUNTER, &book)?.is_ok());
-    let short = book_of(alloc, SHORT_BOOK)?;
-    match judged(alloc, COUNTER, &short)? {
+/// The book of a text is a good one of the counter program.
+fn expect_good(rt: &impl Abort, alloc: Global, text: &str) -> Result<(), Fail> {
+    let book = book_of(alloc, text)?;
+    let judgement = judged(alloc, COUNTER, &book)?;
+    assert!(rt; judgement.is_ok());
+    Ok(())
+}
+
+/// The book of a text is refused for this reason, and the counter program is handed back.
+fn expect_refused(rt: &impl Abort, alloc: Global, text: &str, why: Wrong) -> Result<(), Fail> {
+    let book = book_of(alloc, text)?;
+    match judged(alloc, COUNTER, &book)? {
         Ok(_) => assert!(rt; false),
         Err(refused) => {
-            assert!(rt; refused.why == Wrong::Shape { method: 2, node: 0 });
+            assert!(rt; refused.why == why);
             assert_eq!(rt; refused.program.methods().len(), 3);
         }
     }
@@ -88,48 +112,79 @@ fn a_book_in_memory_is_judged(rt: HostRuntime) -> Result<(), Fail> {
 }
 
 #[test]
-fn a_checked_program_is_serialised(rt: HostRuntime) -> Result<(), Fail> {
-    let alloc = rt.alloc();
-    let checked = checked_of(alloc, COUNTER, BOOK)?;
-    let code = compile(alloc, checked.program())?;
-    let schedule = schedule_of(
-        alloc,
-        &[
-            (0, 10),
-            (1, 4),
-            (2, 4),
-            (1, 2),
-            (2, 1),
-            (1, 7),
-            (2, 1),
-            (1, 1),
-            (2, 8),
-            (1, 1),
-            (2, 1),
-        ],
-    )?;
-    let order = schedule_of(
-        alloc,
-        &[(0, 10), (1, 3), (2, 3), (1, 11), (2, 11), (1, 1), (2, 1)],
-    )?;
+fn a_book_in_memory_is_judged(rt: HostRuntime) -> Result<(), Fail> {
+    expect_good(&rt, rt.alloc(), BOOK)?;
+    expect_refused(
+        &rt,
+        rt.alloc(),
+        SHORT_BOOK,
+        Wrong::Shape { method: 2, node: 0 },
+    )
+}
+
+/// The written order of a schedule of the counter program.
+fn order_of(alloc: Global, schedule: &[u32]) -> Result<Result<Vec<u32>, SerialEnd>, Fail> {
     if schedule.len() > 200000 {
         return Err(Fail::new("a long schedule"));
     }
-    match serialise(alloc, &checked, &code, schedule.as_slice()) {
+    let checked = checked_of(alloc, COUNTER, BOOK)?;
+    let code = compile(alloc, checked.program())?;
+    Ok(serialise(alloc, &checked, &code, schedule))
+}
+
+/// The written order of these groups has the others.
+fn expect_order(
+    rt: &impl Abort,
+    alloc: Global,
+    groups: &[(u32, u32)],
+    others: &[(u32, u32)],
+) -> Result<(), Fail> {
+    let schedule = schedule_of(alloc, groups)?;
+    let order = schedule_of(alloc, others)?;
+    match order_of(alloc, schedule.as_slice())? {
         Ok(found) => assert_eq!(rt; found.as_slice(), order.as_slice()),
         Err(_) => assert!(rt; false),
     }
-    let open = schedule_of(alloc, &[(0, 10), (1, 6)])?;
-    if open.len() > 200000 {
-        return Err(Fail::new("a long schedule"));
-    }
-    assert!(rt;
-        matches!(
-            serialise(alloc, &checked, &code, open.as_slice()),
-            Err(SerialEnd::Open { thread: 1 })
-        )
-    );
     Ok(())
+}
+
+/// These groups end with this thread inside a call.
+fn expect_open(
+    rt: &impl Abort,
+    alloc: Global,
+    groups: &[(u32, u32)],
+    inside: u32,
+) -> Result<(), Fail> {
+    let schedule = schedule_of(alloc, groups)?;
+    match order_of(alloc, schedule.as_slice())? {
+        Err(SerialEnd::Open { thread }) => assert_eq!(rt; thread, inside),
+        _ => assert!(rt; false),
+    }
+    Ok(())
+}
+
+/// A schedule of the counter program in groups.
+static GROUPS: [(u32, u32); 11] = [
+    (0, 10),
+    (1, 4),
+    (2, 4),
+    (1, 2),
+    (2, 1),
+    (1, 7),
+    (2, 1),
+    (1, 1),
+    (2, 8),
+    (1, 1),
+    (2, 1),
+];
+
+/// Its written order.
+static ORDER: [(u32, u32); 7] = [(0, 10), (1, 3), (2, 3), (1, 11), (2, 11), (1, 1), (2, 1)];
+
+#[test]
+fn a_checked_program_is_serialised(rt: HostRuntime) -> Result<(), Fail> {
+    expect_order(&rt, rt.alloc(), &GROUPS, &ORDER)?;
+    expect_open(&rt, rt.alloc(), &[(0, 10), (1, 6)], 1)
 }
 
 #[test]

@@ -1,6 +1,7 @@
 //! The exchange of neighbours and watched machines, which no row of the program reaches.
 
 ghost use Rattle.std.specs.Prelude.{◌≡◌, ◌≤◌, ℕ, List, length, IfOk};
+ghost use Rattle.aj_core.specs.Typed.{IsTyped};
 ghost use Rattle.aj_core.specs.Views.{program_of};
 ghost use Rattle.aj_compile.specs.IsCode.{IsCodeOf};
 ghost use Rattle.aj_steps.specs.Run.{Runs};
@@ -12,7 +13,7 @@ use aj_deriv_check::{Checked, accept_text};
 use aj_held::Watched;
 use aj_machine::{Machine, StepEnd};
 use aj_sources::{Source, read_source};
-use aj_state::{Address, StepKind};
+use aj_state::{Address, Heap, Locks, StepKind, ThreadCell};
 use aj_swap::{SwapEnd, swap_at};
 use std::alloc::Global;
 use std::process::Abort;
@@ -65,6 +66,14 @@ pub fn source_of<'a>(alloc: Global, text: &'a str) -> Result<Source<'a>, Fail>
     }
 }
 
+/// The core program of a text that is a well-formed source.
+fn core_of(alloc: Global, text: &str) -> Result<CoreProgram, Fail>
+    ensures { IfOk result (λ program. IsTyped (program_of program)) }
+{
+    let Source { program, .. } = source_of(alloc, text)?;
+    Ok(program)
+}
+
 /// The schedule of a source with the entry at a place and the next one exchanged.
 fn exchange(
     alloc: Global,
@@ -72,8 +81,6 @@ fn exchange(
     schedule: &[u32],
     place: u32,
 ) -> Result<Result<Vec<u32>, SwapEnd>, Fail> {
-    let source = source_of(alloc, text)?;
-    let code = compile(alloc, &source.program)?;
     let next = place as usize + 1;
     if schedule.len() > 200000 || next >= schedule.len() {
         return Err(Fail::new("no such entry"));
@@ -81,70 +88,126 @@ fn exchange(
     if schedule[place as usize] == schedule[next] {
         return Err(Fail::new("one thread"));
     }
-    run_whole(alloc, &source.program, &code, schedule)?;
-    Ok(swap_at(alloc, &source.program, &code, schedule, place))
+    let program = core_of(alloc, text)?;
+    let code = compile(alloc, &program)?;
+    run_whole(alloc, &program, &code, schedule)?;
+    Ok(swap_at(alloc, &program, &code, schedule, place))
+}
+
+/// The machine of a program after a schedule.
+fn machine_after<'p>(
+    alloc: Global,
+    program: &'p CoreProgram,
+    code: &'p CodeTable,
+    schedule: &[u32],
+) -> Result<Machine<'p>, Fail>
+    requires code { IsCodeOf (program_of program.now) code.now.code.items code.now.entry.items code.now.room.items }
+    requires short { length schedule.now ≤ 200000 }
+{
+    let mut machine = Machine::start(alloc, program, code)?;
+    match machine.run(alloc, schedule) {
+        Ok(()) => Ok(machine),
+        Err(_) => Err(Fail::new("the schedule stops")),
+    }
+}
+
+/// The copy of a heap has the main object, the cell and the workers.
+fn expect_heap_copied(rt: &impl Abort, alloc: Global, heap: &Heap) -> Result<(), Fail> {
+    let copied = heap.copy(alloc)?;
+    assert_eq!(rt; copied.len(), 4);
+    assert_eq!(rt; copied.made(0), 4);
+    Ok(())
+}
+
+/// In the copy of the locks the first worker has the lock of the cell, once.
+fn expect_locks_copied(rt: &impl Abort, alloc: Global, locks: &Locks) -> Result<(), Fail> {
+    let copied = locks.copy(alloc)?;
+    let cell = Address {
+        thread: 0,
+        count: 1,
+    };
+    assert!(rt; matches!(copied.find(cell), Some((1, 1))));
+    Ok(())
+}
+
+/// The copy of a thread has as much as the thread.
+fn expect_thread_copied(rt: &impl Abort, alloc: Global, thread: &ThreadCell) -> Result<(), Fail> {
+    let copied = thread.copy(alloc)?;
+    assert_eq!(rt; copied.frames(), thread.frames());
+    assert_eq!(rt; copied.slots(), thread.slots());
+    assert_eq!(rt; copied.operands(), thread.operands());
+    assert_eq!(rt; copied.taken(), thread.taken());
+    Ok(())
+}
+
+/// The copies of a machine's parts have what they copy.
+fn expect_copied(rt: &impl Abort, alloc: Global, machine: &Machine<'_>) -> Result<(), Fail> {
+    expect_heap_copied(rt, alloc, machine.heap())?;
+    expect_locks_copied(rt, alloc, machine.locks())?;
+    for thread in machine.threads() {
+        expect_thread_copied(rt, alloc, thread)?;
+    }
+    Ok(())
 }
 
 /// Copies of heap, locks and threads, made while a thread is inside the call that holds the lock of the cell.
 #[test]
 fn copies_have_what_they_copy(rt: HostRuntime) -> Result<(), Fail> {
     let alloc = rt.alloc();
-    let source = source_of(alloc, COUNTER)?;
-    let code = compile(alloc, &source.program)?;
     let schedule = schedule_of(alloc, &[(0, 10), (1, 12)])?;
     if schedule.len() > 200000 {
         return Err(Fail::new("a long schedule"));
     }
-    let mut machine = Machine::start(alloc, &source.program, &code)?;
-    if machine.run(alloc, schedule.as_slice()).is_err() {
-        return Err(Fail::new("the schedule stops"));
+    let program = core_of(alloc, COUNTER)?;
+    let code = compile(alloc, &program)?;
+    let machine = machine_after(alloc, &program, &code, schedule.as_slice())?;
+    expect_copied(&rt, alloc, &machine)
+}
+
+/// With the entry at this place and the next one exchanged, the groups of a schedule are the others.
+fn expect_exchanged(
+    rt: &impl Abort,
+    alloc: Global,
+    groups: &[(u32, u32)],
+    place: u32,
+    others: &[(u32, u32)],
+) -> Result<(), Fail> {
+    let schedule = schedule_of(alloc, groups)?;
+    let exchanged = schedule_of(alloc, others)?;
+    match exchange(alloc, COUNTER, schedule.as_slice(), place)? {
+        Ok(given) => assert_eq!(rt; given.as_slice(), exchanged.as_slice()),
+        Err(_) => assert!(rt; false),
     }
-    let heap = machine.heap().copy(alloc)?;
-    assert_eq!(rt; heap.len(), 4);
-    assert_eq!(rt; heap.made(0), 4);
-    let locks = machine.locks().copy(alloc)?;
-    let cell = Address {
-        thread: 0,
-        count: 1,
-    };
-    assert!(rt; matches!(locks.find(cell), Some((1, 1))));
-    for thread in machine.threads() {
-        let copied = thread.copy(alloc)?;
-        assert_eq!(rt; copied.frames(), thread.frames());
-        assert_eq!(rt; copied.slots(), thread.slots());
-        assert_eq!(rt; copied.operands(), thread.operands());
-        assert_eq!(rt; copied.taken(), thread.taken());
+    Ok(())
+}
+
+/// The entry at this place and the next one are not exchanged, for this reason.
+fn expect_kept(
+    rt: &impl Abort,
+    alloc: Global,
+    groups: &[(u32, u32)],
+    place: u32,
+    why: SwapEnd,
+) -> Result<(), Fail> {
+    let schedule = schedule_of(alloc, groups)?;
+    match exchange(alloc, COUNTER, schedule.as_slice(), place)? {
+        Ok(_) => assert!(rt; false),
+        Err(end) => assert!(rt; end == why),
     }
     Ok(())
 }
 
 #[test]
 fn neighbours_change_places_where_they_may(rt: HostRuntime) -> Result<(), Fail> {
-    let alloc = rt.alloc();
-    let movers = schedule_of(alloc, &[(0, 10), (1, 1), (2, 1)])?;
-    let exchanged = schedule_of(alloc, &[(0, 10), (2, 1), (1, 1)])?;
-    match exchange(alloc, COUNTER, movers.as_slice(), 10)? {
-        Ok(given) => assert_eq!(rt; given.as_slice(), exchanged.as_slice()),
-        Err(_) => assert!(rt; false),
-    }
-    let start = schedule_of(alloc, &[(0, 6), (1, 1)])?;
-    assert!(rt;
-        matches!(
-            exchange(alloc, COUNTER, start.as_slice(), 5)?,
-            Err(SwapEnd::Starts)
-        )
-    );
-    let locks = schedule_of(alloc, &[(0, 10), (1, 12), (2, 5), (1, 1), (2, 1)])?;
-    assert!(rt;
-        matches!(
-            exchange(alloc, COUNTER, locks.as_slice(), 27)?,
-            Err(SwapEnd::NotMovers {
-                first: StepKind::Left,
-                second: StepKind::Right
-            })
-        )
-    );
-    Ok(())
+    let movers = [(0, 10), (1, 1), (2, 1)];
+    expect_exchanged(&rt, rt.alloc(), &movers, 10, &[(0, 10), (2, 1), (1, 1)])?;
+    expect_kept(&rt, rt.alloc(), &[(0, 6), (1, 1)], 5, SwapEnd::Starts)?;
+    let locks = [(0, 10), (1, 12), (2, 5), (1, 1), (2, 1)];
+    let kinds = SwapEnd::NotMovers {
+        first: StepKind::Left,
+        second: StepKind::Right,
+    };
+    expect_kept(&rt, rt.alloc(), &locks, 27, kinds)
 }
 
 /// The book of the counter program, as `derive` writes it.
@@ -163,11 +226,10 @@ const WRITE_GUARDED_BOOK: &str =
 
 /// The checked program of a source and a good book of it.
 pub fn checked_of(alloc: Global, text: &str, book: &str) -> Result<Checked, Fail> {
-    let source = source_of(alloc, text)?;
     if book.len() > 16777216 {
         return Err(Fail::new("a long book"));
     }
-    let Source { program, sets, .. } = source;
+    let Source { program, sets, .. } = source_of(alloc, text)?;
     match accept_text(alloc, program, sets, book.as_bytes()) {
         Ok(checked) => Ok(checked),
         Err(_) => Err(Fail::new("no good book")),
@@ -200,35 +262,73 @@ fn expect_kinds(
     Ok(())
 }
 
-#[test]
-fn watched_steps_have_their_kinds(rt: HostRuntime) -> Result<(), Fail> {
-    use StepKind::{Both, Left, Right};
-    let alloc = rt.alloc();
-    let checked = checked_of(alloc, COUNTER, BOOK)?;
-    let code = compile(alloc, checked.program())?;
-    let mut watched = Watched::start(alloc, &checked, &code)?;
+/// The kinds of a worker's steps.
+static WORKER: [StepKind; 15] = [
+    StepKind::Both,
+    StepKind::Both,
+    StepKind::Both,
+    StepKind::Both,
+    StepKind::Both,
+    StepKind::Right,
+    StepKind::Both,
+    StepKind::Both,
+    StepKind::Both,
+    StepKind::Both,
+    StepKind::Both,
+    StepKind::Both,
+    StepKind::Left,
+    StepKind::Both,
+    StepKind::Both,
+];
+
+/// Ten steps of `main`, all of a worker, and none of a thread that is absent.
+fn expect_counter_steps(
+    rt: &impl Abort,
+    alloc: Global,
+    watched: &mut Watched<'_>,
+) -> Result<(), Fail> {
     for _ in 0..10 {
-        assert!(rt; step_of(alloc, &mut watched, 0)?.is_ok());
+        assert!(rt; step_of(alloc, watched, 0)?.is_ok());
     }
-    let worker = [
-        Both, Both, Both, Both, Both, Right, Both, Both, Both, Both, Both, Both, Left, Both, Both,
-    ];
-    expect_kinds(&rt, alloc, &mut watched, 1, &worker)?;
-    assert!(rt; step_of(alloc, &mut watched, 5)? == Err(StepEnd::Absent));
+    expect_kinds(rt, alloc, watched, 1, &WORKER)?;
+    assert!(rt; step_of(alloc, watched, 5)? == Err(StepEnd::Absent));
     assert_eq!(rt; watched.steps().len(), 25);
     assert_eq!(rt; watched.machine().made(), 25);
     Ok(())
 }
 
 #[test]
+fn watched_steps_have_their_kinds(rt: HostRuntime) -> Result<(), Fail> {
+    let alloc = rt.alloc();
+    let checked = checked_of(alloc, COUNTER, BOOK)?;
+    let code = compile(alloc, checked.program())?;
+    let mut watched = Watched::start(alloc, &checked, &code)?;
+    expect_counter_steps(&rt, alloc, &mut watched)
+}
+
+/// The kinds of the steps of a thread that reads and writes what is guarded for writing only.
+static WRITER: [StepKind; 14] = [
+    StepKind::Both,
+    StepKind::Both,
+    StepKind::Other,
+    StepKind::Other,
+    StepKind::Both,
+    StepKind::Right,
+    StepKind::Both,
+    StepKind::Both,
+    StepKind::Other,
+    StepKind::Both,
+    StepKind::Both,
+    StepKind::Other,
+    StepKind::Left,
+    StepKind::Both,
+];
+
+#[test]
 fn watched_writes_are_no_movers(rt: HostRuntime) -> Result<(), Fail> {
-    use StepKind::{Both, Left, Other, Right};
     let alloc = rt.alloc();
     let checked = checked_of(alloc, WRITE_GUARDED, WRITE_GUARDED_BOOK)?;
     let code = compile(alloc, checked.program())?;
     let mut watched = Watched::start(alloc, &checked, &code)?;
-    let kinds = [
-        Both, Both, Other, Other, Both, Right, Both, Both, Other, Both, Both, Other, Left, Both,
-    ];
-    expect_kinds(&rt, alloc, &mut watched, 0, &kinds)
+    expect_kinds(&rt, alloc, &mut watched, 0, &WRITER)
 }

@@ -7,6 +7,7 @@ use aj_algebra::{Algebra, Basic};
 use aj_nodes::NodeTable;
 use aj_paths::Path;
 use std::alloc::{AllocError as NoMemory, Global};
+use std::process::Abort;
 use std::test::Fail;
 
 /// A synchronized part on the path whose body is `Const`.
@@ -33,26 +34,30 @@ fn const_or<G: Algebra>(
     algebra.held_or(alloc, p, &held, &free)
 }
 
-#[test]
-fn equal_values_have_equal_numbers(rt: HostRuntime) -> Result<(), Fail> {
-    let alloc = rt.alloc();
+/// Whether the synchronized part and the one that is `Const` under its lock, else this basic, have equal values and numbers.
+fn expect_same(
+    rt: &impl Abort,
+    alloc: Global,
+    nodes: &mut NodeTable,
+    free: Basic,
+    same: bool,
+) -> Result<(), Fail> {
     let lock = Path::of_root(1);
-    let mut nodes = NodeTable::new(alloc);
-    let part = synchronized(alloc, &mut nodes, &lock)?;
-    let equal = const_or(alloc, &mut nodes, &lock, Basic::Atomic)?;
-    assert!(rt; nodes.same_value(&part, &equal));
-    assert!(rt; part == equal);
+    let part = synchronized(alloc, nodes, &lock)?;
+    let other = const_or(alloc, nodes, &lock, free)?;
+    assert_eq!(rt; nodes.same_value(&part, &other), same);
+    assert_eq!(rt; part == other, same);
     Ok(())
 }
 
 #[test]
+fn equal_values_have_equal_numbers(rt: HostRuntime) -> Result<(), Fail> {
+    let mut nodes = NodeTable::new(rt.alloc());
+    expect_same(&rt, rt.alloc(), &mut nodes, Basic::Atomic, true)
+}
+
+#[test]
 fn other_values_have_other_numbers(rt: HostRuntime) -> Result<(), Fail> {
-    let alloc = rt.alloc();
-    let lock = Path::of_root(1);
-    let mut nodes = NodeTable::new(alloc);
-    let part = synchronized(alloc, &mut nodes, &lock)?;
-    let other = const_or(alloc, &mut nodes, &lock, Basic::Mover)?;
-    assert!(rt; !nodes.same_value(&part, &other));
-    assert!(rt; part != other);
-    Ok(())
+    let mut nodes = NodeTable::new(rt.alloc());
+    expect_same(&rt, rt.alloc(), &mut nodes, Basic::Mover, false)
 }

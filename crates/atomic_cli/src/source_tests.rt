@@ -1,7 +1,7 @@
 //! Sources with the first fault of their tokens or their grammar, fields that are guarded for writing only, and what
 //! the trees of sources hold.
 
-use crate::tests::{answer, expect};
+use crate::tests::{answer, expect, expect_texts, written};
 use aj_lexer::{Token, lex};
 use aj_parser::parse;
 use aj_syntax::{Member, Program, Stmt};
@@ -9,7 +9,7 @@ use std::alloc::Global;
 use std::test::Fail;
 
 /// Sources with a fault of their tokens or their grammar, each with its line. Columns count bytes.
-const UNREADABLE: [(&str, &str); 19] = [
+static UNREADABLE: [(&str, &str); 19] = [
     ("a # b", "refused at 1:3: bad character\n"),
     ("a &", "refused at 1:3: bad character\n"),
     ("class A\n{ $", "refused at 2:3: bad character\n"),
@@ -66,35 +66,33 @@ const UNREADABLE: [(&str, &str); 19] = [
 
 #[test]
 fn tokens_and_grammar_have_their_faults(rt: HostRuntime) -> Result<(), Fail> {
-    for (source, line) in UNREADABLE {
-        expect(&rt, rt.alloc(), &["check", "a"], source.as_bytes(), 1, line)?;
-        expect(&rt, rt.alloc(), &["print", "a"], source.as_bytes(), 1, line)?;
-    }
-    Ok(())
+    expect_texts(&rt, rt.alloc(), "check", 1, &UNREADABLE)?;
+    expect_texts(&rt, rt.alloc(), "print", 1, &UNREADABLE)
 }
+
+/// Programs of the grammar.
+static PROGRAMS: [&str; 7] = [
+    "",
+    "public class Main { public void main() { } }",
+    "class C { final D d; C(final D d) { this.d = d; } }",
+    "class C { int v guarded_by this; int u write_guarded_by this.l; atomic int m() requires this, a.b { return -1; } }",
+    "class W implements Runnable { void run() { new Thread(new W()).start(); } }",
+    "class A { void m() { final A a = new A(); A b = a; a.f.g(1, b).h = - 2147483648; } }",
+    "class A { void m() { while (a + 1 * 2 < 3 && !b) { synchronized (a.l) { return; } } } }",
+];
+
+/// A class with fields that are guarded, and its layout.
+static GUARDED_FIELDS: [(&str, &str); 1] = [(
+    "class A{int v write_guarded_by this.l;int u guarded_by this;}",
+    "class A {\n    int v write_guarded_by this.l;\n    int u guarded_by this;\n}\n",
+)];
 
 #[test]
 fn programs_of_the_grammar_are_printed(rt: HostRuntime) -> Result<(), Fail> {
-    for source in [
-        "",
-        "public class Main { public void main() { } }",
-        "class C { final D d; C(final D d) { this.d = d; } }",
-        "class C { int v guarded_by this; int u write_guarded_by this.l; atomic int m() requires this, a.b { return -1; } }",
-        "class W implements Runnable { void run() { new Thread(new W()).start(); } }",
-        "class A { void m() { final A a = new A(); A b = a; a.f.g(1, b).h = - 2147483648; } }",
-        "class A { void m() { while (a + 1 * 2 < 3 && !b) { synchronized (a.l) { return; } } } }",
-    ] {
-        let given = answer(rt.alloc(), &["print", "a"], source.as_bytes())?;
-        assert_eq!(rt; given.0, 0);
+    for source in &PROGRAMS {
+        written(&rt, rt.alloc(), "print", source.as_bytes())?;
     }
-    expect(
-        &rt,
-        rt.alloc(),
-        &["print", "a"],
-        b"class A{int v write_guarded_by this.l;int u guarded_by this;}",
-        0,
-        "class A {\n    int v write_guarded_by this.l;\n    int u guarded_by this;\n}\n",
-    )
+    expect_texts(&rt, rt.alloc(), "print", 0, &GUARDED_FIELDS)
 }
 
 /// A class with a field that is guarded for writing only, with one more member.
@@ -110,7 +108,7 @@ fn guarded_writes(alloc: Global, member: &str) -> Result<String, Fail> {
 }
 
 /// Members of that class, each with the status and the text of `check`.
-const GUARDED_WRITES: [(&str, u8, &str); 9] = [
+static GUARDED_WRITES: [(&str, u8, &str); 9] = [
     (
         "",
         0,
@@ -161,32 +159,32 @@ const GUARDED_WRITES: [(&str, u8, &str); 9] = [
     ),
 ];
 
+/// Guards of writes that are no locks, each with its line.
+static NO_GUARDS: [(&str, &str); 2] = [
+    (
+        "class Main { int v write_guarded_by x; void main() { } }",
+        "refused at 1:37: unknown name\n",
+    ),
+    (
+        "class Main { int v write_guarded_by this.v; void main() { } }",
+        "refused at 1:37: not a lock\n",
+    ),
+];
+
 #[test]
 fn guarded_writes_are_judged(rt: HostRuntime) -> Result<(), Fail> {
-    for (member, status, text) in GUARDED_WRITES {
+    for (member, status, text) in &GUARDED_WRITES {
         let source = guarded_writes(rt.alloc(), member)?;
         expect(
             &rt,
             rt.alloc(),
             &["check", "a"],
             source.as_bytes(),
-            status,
+            *status,
             text,
         )?;
     }
-    for (source, line) in [
-        (
-            "class Main { int v write_guarded_by x; void main() { } }",
-            "refused at 1:37: unknown name\n",
-        ),
-        (
-            "class Main { int v write_guarded_by this.v; void main() { } }",
-            "refused at 1:37: not a lock\n",
-        ),
-    ] {
-        expect(&rt, rt.alloc(), &["check", "a"], source.as_bytes(), 1, line)?;
-    }
-    Ok(())
+    expect_texts(&rt, rt.alloc(), "check", 1, &NO_GUARDS)
 }
 
 /// The end of the line for a method body that begins with `front` and goes on with `unit`, many times.
@@ -199,26 +197,29 @@ fn nested(alloc: Global, front: &str, unit: &str, times: u32) -> Result<Vec<u8>,
     Ok(answer(alloc, &["print", "a"], source.as_bytes())?.1)
 }
 
+/// Fronts and units that are too many, and their counts.
+static TOO_DEEP: [(&str, &str, u32); 11] = [
+    ("", "{", 100_000),
+    ("a = ", "(", 100_000),
+    ("a = ", "!", 100_000),
+    ("a = ", "- ", 100_000),
+    ("a", ".f", 100_000),
+    ("a = 1", "+1", 100_000),
+    ("", "if(a);else ", 20_000),
+    ("", "while(a)", 20_000),
+    ("", "synchronized(a){", 10_000),
+    ("a = ", "a.f(", 50_000),
+    ("a = ", "new A(", 30_000),
+];
+
 #[test]
 fn nesting_has_a_limit(rt: HostRuntime) -> Result<(), Fail> {
     let last = nested(rt.alloc(), "", "{", 64)?;
     assert_eq!(rt; last.as_slice(), b"refused at 1:91: too deep\n".as_slice());
     let end = nested(rt.alloc(), "", "{", 63)?;
     assert_eq!(rt; end.as_slice(), b"refused at 1:91: unexpected\n".as_slice());
-    for (front, unit, times) in [
-        ("", "{", 100_000),
-        ("a = ", "(", 100_000),
-        ("a = ", "!", 100_000),
-        ("a = ", "- ", 100_000),
-        ("a", ".f", 100_000),
-        ("a = 1", "+1", 100_000),
-        ("", "if(a);else ", 20_000),
-        ("", "while(a)", 20_000),
-        ("", "synchronized(a){", 10_000),
-        ("a = ", "a.f(", 50_000),
-        ("a = ", "new A(", 30_000),
-    ] {
-        let line = nested(rt.alloc(), front, unit, times)?;
+    for (front, unit, times) in &TOO_DEEP {
+        let line = nested(rt.alloc(), front, unit, *times)?;
         assert!(rt; line.as_slice().ends_with(b": too deep\n"), "{unit}");
     }
     Ok(())

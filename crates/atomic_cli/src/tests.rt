@@ -19,15 +19,39 @@ pub fn words_of(alloc: Global, words: &[&str]) -> Result<Vec<String>, Fail> {
     Ok(list)
 }
 
+/// One more file of this name and with these bytes.
+pub fn add_file(
+    alloc: Global,
+    files: &mut Vec<(String, Vec<u8>)>,
+    name: &str,
+    bytes: &[u8],
+) -> Result<(), Fail> {
+    let name = String::from_str(alloc, name)?;
+    let bytes = bytes.to_vec(alloc)?;
+    files.push((name, bytes))?;
+    Ok(())
+}
+
+/// The status and the text of the words over these files; the folder fails at these calls.
+pub fn answer_over(
+    alloc: Global,
+    words: &[&str],
+    files: Vec<(String, Vec<u8>)>,
+    fail: Vec<u64>,
+) -> Result<(u8, Vec<u8>), Fail> {
+    let words = words_of(alloc, words)?;
+    let mut folder = MemFolder::new(alloc, files, 4096, fail)?;
+    let mut sink = MemSink::new(alloc, 1048576, Vec::new(alloc), 1048576)?;
+    let status = run(alloc, words.as_slice(), &mut folder, &mut sink);
+    let text = sink.bytes().to_vec(alloc)?;
+    Ok((status, text))
+}
+
 /// The status and the text of the words, where the file `a` has these bytes.
 pub fn answer(alloc: Global, words: &[&str], bytes: &[u8]) -> Result<(u8, Vec<u8>), Fail> {
     let mut files = Vec::new(alloc);
-    files.push((String::from_str(alloc, "a")?, bytes.to_vec(alloc)?))?;
-    let mut folder = MemFolder::new(alloc, files, 4096, Vec::new(alloc))?;
-    let mut sink = MemSink::new(alloc, 1048576, Vec::new(alloc), 1048576)?;
-    let words = words_of(alloc, words)?;
-    let status = run(alloc, words.as_slice(), &mut folder, &mut sink);
-    Ok((status, sink.bytes().to_vec(alloc)?))
+    add_file(alloc, &mut files, "a", bytes)?;
+    answer_over(alloc, words, files, Vec::new(alloc))
 }
 
 /// The source, followed by blanks up to this many bytes.
@@ -39,6 +63,7 @@ fn padded(alloc: Global, source: &str, len: usize) -> Result<Vec<u8>, Fail> {
     Ok(bytes)
 }
 
+/// The words have this status and this text, where the file `a` has these bytes.
 pub fn expect(
     rt: &impl Abort,
     alloc: Global,
@@ -51,6 +76,45 @@ pub fn expect(
     assert_eq!(rt; given.0, status);
     assert_eq!(rt; given.1.as_slice(), text.as_bytes());
     Ok(())
+}
+
+/// Each source has this status and this text under the command.
+pub fn expect_rows(
+    rt: &impl Abort,
+    alloc: Global,
+    command: &str,
+    rows: &[(&str, u8, &str)],
+) -> Result<(), Fail> {
+    for (source, status, text) in rows {
+        expect(rt, alloc, &[command, "a"], source.as_bytes(), *status, text)?;
+    }
+    Ok(())
+}
+
+/// Each source has this text under the command, and all have one status.
+pub fn expect_texts(
+    rt: &impl Abort,
+    alloc: Global,
+    command: &str,
+    status: u8,
+    rows: &[(&str, &str)],
+) -> Result<(), Fail> {
+    for (source, text) in rows {
+        expect(rt, alloc, &[command, "a"], source.as_bytes(), status, text)?;
+    }
+    Ok(())
+}
+
+/// What the command writes where its status is 0.
+pub fn written(
+    rt: &impl Abort,
+    alloc: Global,
+    command: &str,
+    bytes: &[u8],
+) -> Result<Vec<u8>, Fail> {
+    let given = answer(alloc, &[command, "a"], bytes)?;
+    assert_eq!(rt; given.0, 0);
+    Ok(given.1)
 }
 
 /// The source of a method `main` with this body.
@@ -84,16 +148,19 @@ pub fn counter(alloc: Global, in_cell: &str, in_main: &str, behind: &str) -> Res
     Ok(source)
 }
 
+/// The examples. A `static` is lent, where a `const` is copied into the function that names it.
+static EXAMPLE_ROWS: [(&str, &str, u8, &str); 20] = EXAMPLES;
+
 /// Each file of `examples/` that `check` judges gets the lines that the README there states.
 #[test]
 fn examples_say_what_their_readme_states(rt: HostRuntime) -> Result<(), Fail> {
-    for (_, source, status, text) in EXAMPLES {
+    for (_, source, status, text) in &EXAMPLE_ROWS {
         expect(
             &rt,
             rt.alloc(),
             &["check", "a"],
             source.as_bytes(),
-            status,
+            *status,
             text,
         )?;
     }
@@ -101,7 +168,7 @@ fn examples_say_what_their_readme_states(rt: HostRuntime) -> Result<(), Fail> {
 }
 
 /// What is put into the counter program, in the order of `counter`, with the status of `check` and its text.
-const COUNTER_ROWS: [(&str, &str, &str, u8, &str); 13] = [
+static COUNTER_ROWS: [(&str, &str, &str, u8, &str); 13] = [
     (
         "",
         "",
@@ -197,14 +264,14 @@ const COUNTER_ROWS: [(&str, &str, &str, u8, &str); 13] = [
 
 #[test]
 fn check_judges_the_counter_program(rt: HostRuntime) -> Result<(), Fail> {
-    for (in_cell, in_main, behind, status, text) in COUNTER_ROWS {
+    for (in_cell, in_main, behind, status, text) in &COUNTER_ROWS {
         let source = counter(rt.alloc(), in_cell, in_main, behind)?;
         expect(
             &rt,
             rt.alloc(),
             &["check", "a"],
             source.as_bytes(),
-            status,
+            *status,
             text,
         )?;
     }
@@ -235,46 +302,38 @@ const NINE_LOCKS: &str =
     { synchronized (a) { } synchronized (b) { } synchronized (c) { } synchronized (d) { } synchronized (e) { } synchronized (f) { } \
     synchronized (g) { } synchronized (h) { } synchronized (i) { } } void main() { } }";
 
+/// Other sources, each with the status of `check` and its text.
+static OTHER_SOURCES: [(&str, u8, &str); 7] = [
+    (LOCKED, 0, "Main.main this ? mover : atomic\n"),
+    (
+        "class Main { int u; atomic void main() { this.u = 1; this.u = 2; } }",
+        2,
+        "Main.main: declared atomic, found cmpd\n",
+    ),
+    (
+        "class Main { int v guarded_by this; void main() { } void set() requires this { this.v = 1; } }",
+        0,
+        "Main.main const\nMain.set mover\n",
+    ),
+    (APPEND, 2, "Buf.append: declared atomic, found cmpd\n"),
+    (
+        APPEND_LOCKED,
+        0,
+        "Buf.length this ? mover : atomic\nBuf.get this ? mover : atomic\nBuf.append this ? (sb ? mover : atomic) : atomic\nMain.main const\n",
+    ),
+    (NINE_LOCKS, 1, "refused at 1:31: too many locks\n"),
+    ("", 1, "refused at 1:1: no main\n"),
+];
+
 #[test]
 fn check_judges_other_sources(rt: HostRuntime) -> Result<(), Fail> {
-    let rows: [(&str, u8, &str); 7] = [
-        (LOCKED, 0, "Main.main this ? mover : atomic\n"),
-        (
-            "class Main { int u; atomic void main() { this.u = 1; this.u = 2; } }",
-            2,
-            "Main.main: declared atomic, found cmpd\n",
-        ),
-        (
-            "class Main { int v guarded_by this; void main() { } void set() requires this { this.v = 1; } }",
-            0,
-            "Main.main const\nMain.set mover\n",
-        ),
-        (APPEND, 2, "Buf.append: declared atomic, found cmpd\n"),
-        (
-            APPEND_LOCKED,
-            0,
-            "Buf.length this ? mover : atomic\nBuf.get this ? mover : atomic\nBuf.append this ? (sb ? mover : atomic) : atomic\nMain.main const\n",
-        ),
-        (NINE_LOCKS, 1, "refused at 1:31: too many locks\n"),
-        ("", 1, "refused at 1:1: no main\n"),
-    ];
-    for (source, status, text) in rows {
-        expect(
-            &rt,
-            rt.alloc(),
-            &["check", "a"],
-            source.as_bytes(),
-            status,
-            text,
-        )?;
-    }
-    let eight = answer(rt.alloc(), &["check", "a"], EIGHT_LOCKS.as_bytes())?;
-    assert_eq!(rt; eight.0, 0);
+    expect_rows(&rt, rt.alloc(), "check", &OTHER_SOURCES)?;
+    written(&rt, rt.alloc(), "check", EIGHT_LOCKS.as_bytes())?;
     Ok(())
 }
 
 /// Sources with a fault of their classes, each with its line.
-const CLASS_FAULTS: [(&str, &str); 7] = [
+static CLASS_FAULTS: [(&str, &str); 7] = [
     (
         "class A { } class A { } class Main { void main() { } }",
         "refused at 1:19: declared twice\n",
@@ -306,7 +365,7 @@ const CLASS_FAULTS: [(&str, &str); 7] = [
 ];
 
 /// Sources with a fault of their types, each with its line.
-const TYPE_FAULTS: [(&str, &str); 24] = [
+static TYPE_FAULTS: [(&str, &str); 24] = [
     (
         "class Main { void main() { a = 1; } }",
         "refused at 1:28: unknown name\n",
@@ -407,13 +466,8 @@ const TYPE_FAULTS: [(&str, &str); 24] = [
 
 #[test]
 fn the_first_fault_has_its_line(rt: HostRuntime) -> Result<(), Fail> {
-    for (source, line) in CLASS_FAULTS {
-        expect(&rt, rt.alloc(), &["check", "a"], source.as_bytes(), 1, line)?;
-    }
-    for (source, line) in TYPE_FAULTS {
-        expect(&rt, rt.alloc(), &["check", "a"], source.as_bytes(), 1, line)?;
-    }
-    Ok(())
+    expect_texts(&rt, rt.alloc(), "check", 1, &CLASS_FAULTS)?;
+    expect_texts(&rt, rt.alloc(), "check", 1, &TYPE_FAULTS)
 }
 
 /// So many lines between two texts, each with its number.
@@ -435,91 +489,99 @@ fn numbered(
     Ok(source)
 }
 
-/// The line of a source with so many numbered lines.
-fn expect_numbered(
-    rt: &impl Abort,
-    alloc: Global,
-    lines: (&str, &str, &str, u32, &str),
-    text: &str,
-) -> Result<(), Fail> {
-    let (before, word, behind, times, after) = lines;
-    let source = numbered(alloc, before, word, behind, times, after)?;
-    expect(rt, alloc, &["check", "a"], source.as_bytes(), 1, text)
-}
+/// Numbered lines of a source, in the order of `numbered`, with the text of `check`.
+static NUMBERED: [(&str, &str, &str, u32, &str, &str); 4] = [
+    (
+        "class Main {\n",
+        "int f",
+        ";\n",
+        33,
+        "void main() { } }",
+        "refused at 34:5: too many\n",
+    ),
+    (
+        "class Main {\n",
+        "int f",
+        ";\n",
+        32,
+        "int f0; void main() { } }",
+        "refused at 34:5: declared twice\n",
+    ),
+    (
+        "class Main { void main() {\n",
+        "int a",
+        " = 0;\n",
+        65,
+        "} }",
+        "refused at 66:5: too many locals\n",
+    ),
+    (
+        "class Main { void main() {\n",
+        "{ int a",
+        " = 0; }\n",
+        65,
+        "} }",
+        "refused at 66:7: too many locals\n",
+    ),
+];
 
 #[test]
 fn fields_and_locals_have_their_limits(rt: HostRuntime) -> Result<(), Fail> {
-    let class = "class Main {\n";
-    let body = "class Main { void main() {\n";
-    let rows: [((&str, &str, &str, u32, &str), &str); 4] = [
-        (
-            (class, "int f", ";\n", 33, "void main() { } }"),
-            "refused at 34:5: too many\n",
-        ),
-        (
-            (class, "int f", ";\n", 32, "int f0; void main() { } }"),
-            "refused at 34:5: declared twice\n",
-        ),
-        (
-            (body, "int a", " = 0;\n", 65, "} }"),
-            "refused at 66:5: too many locals\n",
-        ),
-        (
-            (body, "{ int a", " = 0; }\n", 65, "} }"),
-            "refused at 66:7: too many locals\n",
-        ),
-    ];
-    for (lines, text) in rows {
-        expect_numbered(&rt, rt.alloc(), lines, text)?;
+    for (before, word, behind, times, after, text) in &NUMBERED {
+        let source = numbered(rt.alloc(), before, word, behind, *times, after)?;
+        expect(&rt, rt.alloc(), &["check", "a"], source.as_bytes(), 1, text)?;
     }
     Ok(())
 }
 
+/// Sources that end too soon or hold no text, or what is no token of the language, each with its line.
+static DAMAGED: [(&[u8], &str); 6] = [
+    (b"/* x", "refused at 1:1: open comment\n"),
+    (b"class \x80", "refused at 1:7: not text\n"),
+    (
+        b"class Main { void main() { if (true) { } el",
+        "refused at 1:44: unexpected\n",
+    ),
+    (
+        b"class Main { void main() { System.out.println(21",
+        "refused at 1:49: unexpected\n",
+    ),
+    (
+        b"class Main { void main() { x++; } }",
+        "refused at 1:29: unexpected\n",
+    ),
+    (
+        b"class Main { void main() { a = 2147483649; } }",
+        "refused at 1:32: literal too large\n",
+    ),
+];
+
 #[test]
 fn damaged_sources_have_their_line(rt: HostRuntime) -> Result<(), Fail> {
-    let rows: [(&[u8], &str); 6] = [
-        (b"/* x", "refused at 1:1: open comment\n"),
-        (b"class \x80", "refused at 1:7: not text\n"),
-        (
-            b"class Main { void main() { if (true) { } el",
-            "refused at 1:44: unexpected\n",
-        ),
-        (
-            b"class Main { void main() { System.out.println(21",
-            "refused at 1:49: unexpected\n",
-        ),
-        (
-            b"class Main { void main() { x++; } }",
-            "refused at 1:29: unexpected\n",
-        ),
-        (
-            b"class Main { void main() { a = 2147483649; } }",
-            "refused at 1:32: literal too large\n",
-        ),
-    ];
-    for (source, line) in rows {
+    for (source, line) in &DAMAGED {
         expect(&rt, rt.alloc(), &["check", "a"], source, 1, line)?;
         expect(&rt, rt.alloc(), &["print", "a"], source, 1, line)?;
     }
     Ok(())
 }
 
+/// The layout of a class `Main` with an empty `main`.
+const EMPTY: &str = "class Main {\n    void main() {\n    }\n}\n";
+
+/// Sources, each with its layout.
+static LAYOUTS: [(&str, &str); 4] = [
+    ("class Main{void main(){}}", EMPTY),
+    ("public class Main{public void main(){}}", EMPTY),
+    (
+        "class Main{void main(){if(true){;}else{}}}",
+        "class Main {\n    void main() {\n        if (true) {\n            ;\n        }\n        else {\n        }\n    }\n}\n",
+    ),
+    ("", ""),
+];
+
 #[test]
 fn print_writes_the_canonical_layout(rt: HostRuntime) -> Result<(), Fail> {
-    let empty = "class Main {\n    void main() {\n    }\n}\n";
-    let rows: [(&str, &str); 4] = [
-        ("class Main{void main(){}}", empty),
-        ("public class Main{public void main(){}}", empty),
-        (
-            "class Main{void main(){if(true){;}else{}}}",
-            "class Main {\n    void main() {\n        if (true) {\n            ;\n        }\n        else {\n        }\n    }\n}\n",
-        ),
-        ("", ""),
-    ];
-    for (source, text) in rows {
-        expect(&rt, rt.alloc(), &["print", "a"], source.as_bytes(), 0, text)?;
-    }
-    Ok(())
+    expect_texts(&rt, rt.alloc(), "print", 0, &LAYOUTS)
 }
 
 /// A source with every production of the grammar.
@@ -531,83 +593,57 @@ const EVERYTHING: &str =
 
 #[test]
 fn what_is_printed_is_printed_so_again(rt: HostRuntime) -> Result<(), Fail> {
-    let once = answer(rt.alloc(), &["print", "a"], EVERYTHING.as_bytes())?;
-    assert_eq!(rt; once.0, 0);
-    let twice = answer(rt.alloc(), &["print", "a"], once.1.as_slice())?;
-    assert_eq!(rt; twice.0, 0);
-    assert_eq!(rt; twice.1.as_slice(), once.1.as_slice());
+    let once = written(&rt, rt.alloc(), "print", EVERYTHING.as_bytes())?;
+    let twice = written(&rt, rt.alloc(), "print", once.as_slice())?;
+    assert_eq!(rt; twice.as_slice(), once.as_slice());
     Ok(())
 }
 
 #[test]
 fn a_body_is_at_most_64_high(rt: HostRuntime) -> Result<(), Fail> {
     let high = with_body(rt.alloc(), "{", 64, "}")?;
-    expect(
-        &rt,
-        rt.alloc(),
-        &["print", "a"],
-        high.as_bytes(),
-        1,
-        "refused at 1:90: too deep\n",
-    )?;
+    let line = "refused at 1:90: too deep\n";
+    expect(&rt, rt.alloc(), &["print", "a"], high.as_bytes(), 1, line)?;
     let low = with_body(rt.alloc(), "{", 63, "}")?;
-    let printed = answer(rt.alloc(), &["print", "a"], low.as_bytes())?;
-    assert_eq!(rt; printed.0, 0);
+    written(&rt, rt.alloc(), "print", low.as_bytes())?;
     Ok(())
 }
 
+const USAGE: &str =
+    "usage: atomic check FILE | run FILE SCHEDULE | serialise FILE SCHEDULE | derive FILE | verify FILE BOOK | print FILE | generate N\n";
+
+/// Words with a status of their own, and their text.
+static WORDS: [(&[&str], u8, &str); 5] = [
+    (&["check"], 9, USAGE),
+    (&[], 9, USAGE),
+    (&["generate", "a"], 9, USAGE),
+    (&["check", "z"], 6, "cannot read z\n"),
+    (&["print", "z"], 6, "cannot read z\n"),
+];
+
 #[test]
 fn each_row_of_words_has_its_status(rt: HostRuntime) -> Result<(), Fail> {
-    let usage =
-        "usage: atomic check FILE | run FILE SCHEDULE | serialise FILE SCHEDULE | derive FILE | verify FILE BOOK | print FILE | generate N\n";
-    expect(&rt, rt.alloc(), &["check"], LOCKED.as_bytes(), 9, usage)?;
-    expect(&rt, rt.alloc(), &[], LOCKED.as_bytes(), 9, usage)?;
-    expect(
-        &rt,
-        rt.alloc(),
-        &["generate", "a"],
-        LOCKED.as_bytes(),
-        9,
-        usage,
-    )?;
-    expect(
-        &rt,
-        rt.alloc(),
-        &["check", "z"],
-        LOCKED.as_bytes(),
-        6,
-        "cannot read z\n",
-    )?;
-    expect(
-        &rt,
-        rt.alloc(),
-        &["print", "z"],
-        LOCKED.as_bytes(),
-        6,
-        "cannot read z\n",
-    )
+    for (words, status, text) in &WORDS {
+        expect(&rt, rt.alloc(), words, LOCKED.as_bytes(), *status, text)?;
+    }
+    Ok(())
 }
 
 #[test]
 fn a_source_has_at_most_262144_bytes(rt: HostRuntime) -> Result<(), Fail> {
     let source = counter(rt.alloc(), "", "", "")?;
     let full = padded(rt.alloc(), source.as_str(), 262144)?;
-    expect(
-        &rt,
-        rt.alloc(),
-        &["check", "a"],
-        full.as_slice(),
-        0,
-        "Cell.inc this ? mover : atomic\nW.run this.c ? mover : atomic\nMain.main cmpd\n",
-    )?;
+    let judged = "Cell.inc this ? mover : atomic\nW.run this.c ? mover : atomic\nMain.main cmpd\n";
+    expect(&rt, rt.alloc(), &["check", "a"], full.as_slice(), 0, judged)?;
     let over = padded(rt.alloc(), source.as_str(), 262145)?;
+    let refused = "a is too large\n";
     expect(
         &rt,
         rt.alloc(),
         &["check", "a"],
         over.as_slice(),
         10,
-        "a is too large\n",
+        refused,
     )?;
     expect(
         &rt,
@@ -615,6 +651,6 @@ fn a_source_has_at_most_262144_bytes(rt: HostRuntime) -> Result<(), Fail> {
         &["print", "a"],
         over.as_slice(),
         10,
-        "a is too large\n",
+        refused,
     )
 }
