@@ -1,31 +1,36 @@
 //! `serialise FILE SCHEDULE`.
 
 ghost use Rattle.std.specs.Prelude.{◌≡◌, ◌≤◌, ◌++◌, ℕ, List, Some, length, MatchResult, IfOk};
+ghost use Rattle.aj_classes.specs.Views.{table_data};
 ghost use Rattle.aj_compile.specs.IsCode.{IsCodeOf};
 ghost use Rattle.aj_core.specs.Core.{Program};
 ghost use Rattle.aj_core.specs.Typed.{IsTyped};
 ghost use Rattle.aj_core.specs.Views.{program_of};
-ghost use Rattle.aj_machine.specs.Standing.{StandsFor};
+ghost use Rattle.aj_machine.specs.Standing.{StandsFor, program_run};
 ghost use Rattle.aj_rules.specs.Rules.{IsAccepted};
 ghost use Rattle.aj_schedule.specs.Comments.{commented};
 ghost use Rattle.aj_schedule.specs.Text.{IsSchedule};
 ghost use Rattle.aj_schedule.specs.Written.{written};
 ghost use Rattle.aj_serialise.specs.Rewritten.{IsRewritten, IsRefused};
+ghost use Rattle.aj_sources.specs.Checking.{IsSourceOf};
 ghost use Rattle.aj_sources.specs.Refusals.{IsRight, Tells};
 ghost use Rattle.aj_state.specs.States.{State};
 ghost use Rattle.aj_state_report.specs.Schedules.{open_line};
+ghost use Rattle.aj_state_report.specs.States.{state_text as state_bytes};
 ghost use Rattle.aj_steps.specs.Run.{run};
 ghost use Rattle.atomic_cli.specs.Schedules.{NoOrder};
 ghost use Rattle.atomic_cli.specs.Serialise.{SerialiseAnswer};
 
 use crate::schedules::{refuse_stop, schedule_of};
+use aj_classes::ClassTable;
 use aj_compile::{CodeTable, compile};
 use aj_core::CoreProgram;
 use aj_schedule::{add_comments, comment_laws, write_schedule};
 use aj_serialise::{SerialEnd, Serialised, rewritten_with_machine};
-use aj_sources::{Ending, Refusal, accepted, read_source};
+use aj_sources::{Ending, Refusal, Source, accepted, read_source};
 use aj_state_report::{open_text, state_text};
 use std::alloc::{AllocError as NoMemory, Global};
+use std::mem::forget;
 
 /// The refusal of a schedule that isn't rewritten, for this reason.
 fn refuse_end(alloc: Global, end: SerialEnd) -> Refusal
@@ -80,6 +85,31 @@ fn with_comments(alloc: Global, schedule: &[u32], comment: &[u8]) -> Result<Vec<
     Ok(text)
 }
 
+/// What is written for an order and the machine that ran its schedule.
+fn order_text(alloc: Global, table: &ClassTable, found: &Serialised) -> Result<Vec<u8>, NoMemory>
+    ensures text { (q : State) → StandsFor found.now.machine q → IfOk result (λ out. out.items ≡
+        written found.now.order.items ++ commented (state_bytes (program_run found.now.machine) (table_data table.now) q)) }
+    ensures spells { IfOk result (λ out. length found.now.order.items ≤ 200000 → IsSchedule out.items found.now.order.items) }
+{
+    let state = state_text(alloc, table, &found.machine)?;
+    with_comments(alloc, found.order.as_slice(), state.as_bytes())
+}
+
+/// Writes a schedule of this source with each atomic call in one piece, and the text of the state that it runs to; or the refusal.
+fn serialised(alloc: Global, source: &Source, text: &[u8]) -> Result<Vec<u8>, Refusal>
+    requires source { (file : List ℕ) × IsSourceOf file source.now }
+    requires text { length text.now ≤ 16777216 }
+    ensures { (file : List ℕ) → IsSourceOf file source.now →
+        MatchResult result (λ out. SerialiseAnswer file text.now Ending.Done out.items) (IsRight (SerialiseAnswer file text.now)) }
+{
+    accepted(alloc, source)?;
+    let schedule = schedule_of(alloc, text)?;
+    let code = compile(alloc, &source.program)?;
+    let found = order_of(alloc, &source.program, &code, schedule.as_slice())?;
+    let out = order_text(alloc, &source.table, &found)?;
+    Ok(out)
+}
+
 /// Writes a schedule of a source with each atomic call in one piece, and the text of the state that it runs to; or the refusal.
 pub fn serialise(alloc: Global, file: &[u8], text: &[u8]) -> Result<Vec<u8>, Refusal>
     requires file { length file.now ≤ 262144 }
@@ -87,11 +117,7 @@ pub fn serialise(alloc: Global, file: &[u8], text: &[u8]) -> Result<Vec<u8>, Ref
     ensures { MatchResult result (λ out. SerialiseAnswer file.now text.now Ending.Done out.items) (IsRight (SerialiseAnswer file.now text.now)) }
 {
     let source = read_source(alloc, file)?;
-    accepted(alloc, &source)?;
-    let schedule = schedule_of(alloc, text)?;
-    let code = compile(alloc, &source.program)?;
-    let found = order_of(alloc, &source.program, &code, schedule.as_slice())?;
-    let state = state_text(alloc, &source.table, &found.machine)?;
-    let out = with_comments(alloc, found.order.as_slice(), state.as_bytes())?;
-    Ok(out)
+    let out = serialised(alloc, &source, text);
+    forget(source);
+    out
 }
