@@ -16,14 +16,14 @@ use Rattle.aj_syntax.specs.Tokens.{is, token, name_token}
 use Rattle.aj_syntax.proofs.Fields.{final_field as final_tree, mutable_field as mutable_tree, each_field}
 use Rattle.aj_syntax.specs.Trees.{LockTree, StmtTrees, MethodTree, FieldTree, MemberTree, FieldM, CtorM, MethodM, ClassTree, ProgramTree}
 use Rattle.aj_syntax.specs.Views.{stmts_from}
-use Rattle.aj_parser.proofs.Complete.{Same, same, same_along, same_then, same_bind, at_list}
+use Rattle.aj_expressions.proofs.Complete.{Same, same, same_along, same_then, same_bind, at_list}
 use Rattle.aj_parser.proofs.CompleteStatements.{lock_read, type_read, block_read, items_read}
-use Rattle.aj_parser.proofs.Lists.{shift}
-use Rattle.aj_parser.proofs.LoopLaw.{loop_done, loop_more, Takes}
+use Rattle.aj_expressions.proofs.Lists.{shift}
+use Rattle.aj_expressions.proofs.LoopLaw.{loop_done, loop_more, Takes}
 use Rattle.aj_parser.proofs.MemberLoops.{param_takes, lock_takes, set_takes, member_takes, class_takes}
 use Rattle.aj_parser.proofs.Members.{ParamL, class_long}
-use Rattle.aj_parser.specs.Combine.{Res, ◌>>=◌, starts, first, take_one, flag, flagged, loop, several, separated, item_step, comma_step}
-use Rattle.aj_parser.specs.Words.{a_name, field_name, lock, type_name}
+use Rattle.aj_expressions.specs.Combine.{Res, ◌>>=◌, starts, first, take_one, flag, flagged, loop, several, separated, item_step, comma_step}
+use Rattle.aj_expressions.specs.Words.{a_name, field_name, lock, type_name}
 use Rattle.aj_parser.specs.Statements.{goes_on, block_at}
 use Rattle.aj_parser.specs.Members.{param, param_list, params, required, method_rest, set, ctor_rest, guard, field_rest, typed_rest, final_field, result_type, plain_method, named_member, bare_member, member, runnable, class_at, program}
 

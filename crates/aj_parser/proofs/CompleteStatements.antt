@@ -13,16 +13,16 @@ use Rattle.aj_syntax.specs.Heights.{height, stmt_height, stmt_heights}
 use Rattle.aj_syntax.specs.Tokens.{is, token, name_token, number_token}
 use Rattle.aj_syntax.specs.Trees.{LockTree, ExprTree, NumberE, LeastE, TruthE, NullE, ThisE, VarE, ParenE, NotE, NegE, BinaryE, GetE, CallE, NewE, StmtTree, StmtTrees, EmptyS, BlockS, LocalS, SetVarS, SetFieldS, DoS, IfS, IfElseS, WhileS, SyncS, ReturnS, PrintS, StartS, no_stmts, more_stmts}
 use Rattle.aj_syntax.specs.Views.{stmts_from}
-use Rattle.aj_parser.proofs.Complete.{starts_append, Same, same, deep, same_along, same_weaker, same_then, same_bind, same_allow, at_list, postfix_first, reads, reads_any, calm_close, calm_semicolon, no_semicolon}
-use Rattle.aj_parser.proofs.Expressions.{spelled_long}
-use Rattle.aj_parser.proofs.Lists.{shift}
-use Rattle.aj_parser.proofs.Loops.{member_done}
+use Rattle.aj_expressions.proofs.Complete.{starts_append, Same, same, deep, same_along, same_weaker, same_then, same_bind, same_allow, at_list, postfix_first, reads, reads_any, calm_close, calm_semicolon, no_semicolon}
+use Rattle.aj_expressions.proofs.Expressions.{spelled_long}
+use Rattle.aj_expressions.proofs.Lists.{shift}
+use Rattle.aj_expressions.proofs.Loops.{member_done}
 use Rattle.aj_parser.proofs.StatementLoops.{field_more, field_done, statement_more, statement_done, statement_zero, statement_positive, block_zero, block_positive}
 use Rattle.aj_parser.proofs.Statements.{first_is}
-use Rattle.aj_parser.specs.Combine.{Res, ◌>>=◌, starts, when, take_one, loop, item_step}
-use Rattle.aj_parser.specs.Words.{is_name, field_name, lock, type_name}
+use Rattle.aj_expressions.specs.Combine.{Res, ◌>>=◌, starts, when, take_one, loop, item_step}
+use Rattle.aj_expressions.specs.Words.{is_name, field_name, lock, type_name}
 use Rattle.aj_syntax.specs.Offsets.{first_at}
-use Rattle.aj_parser.specs.Expressions.{leaf, below, dots, primary, new_rest, postfix}
+use Rattle.aj_expressions.specs.Expressions.{leaf, below, dots, primary, new_rest, postfix}
 use Rattle.aj_parser.specs.Statements.{begins_local, begins_statement, goes_on, braces, condition, return_statement, print_statement, start_rest, assign, assigned, local_rest, local_statement, call_end, target, finish, finish_from, new_statement, name_statement, expression_statement, plain_statement, else_part, if_statement, while_statement, sync_statement, block_statement, statement_with, statement_at, block_at}
 
 -- locks

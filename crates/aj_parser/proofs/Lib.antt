@@ -1,15 +1,7 @@
-pub mod Complete
 pub mod CompleteStatements
 pub mod CompleteMembers
-pub mod Expressions
-pub mod LoopLaw
-pub mod Lists
-pub mod Loops
 pub mod MemberLoops
 pub mod Members
-pub mod Parts
-pub mod Ranks
-pub mod Right
 pub mod StatementLoops
 pub mod Statements
 pub mod Whole

@@ -7,14 +7,14 @@ use Rattle.aj_syntax.specs.declared.tree.Param.{Param}
 use Rattle.aj_syntax.specs.Grammar.{SpellsLock, SpellsSet, SpellsMember, SpellsClass}
 use Rattle.aj_syntax.specs.Tokens.{is, token}
 use Rattle.aj_syntax.specs.Trees.{LockTree, MemberTree, ClassTree}
-use Rattle.aj_parser.proofs.Lists.{several_takes, separated_takes}
-use Rattle.aj_parser.proofs.LoopLaw.{loop_done, loop_more, Takes}
-use Rattle.aj_parser.proofs.Loops.{right_shorter}
+use Rattle.aj_expressions.proofs.Lists.{several_takes, separated_takes}
+use Rattle.aj_expressions.proofs.LoopLaw.{loop_done, loop_more, Takes}
+use Rattle.aj_expressions.proofs.Loops.{right_shorter}
 use Rattle.aj_parser.proofs.Members.{ParamL, param_long, param_example, right_param, lock_long, right_set, set_example, set_long, right_member, member_example, member_long, LowMember, right_class, class_example, class_long, LowClass}
-use Rattle.aj_parser.proofs.Right.{Any}
+use Rattle.aj_expressions.proofs.Right.{Any}
 use Rattle.aj_parser.proofs.Statements.{right_lock, this_lock, this_lock_is}
-use Rattle.aj_parser.specs.Combine.{◌>>=◌, starts, loop, comma_step, item_step}
-use Rattle.aj_parser.specs.Words.{lock}
+use Rattle.aj_expressions.specs.Combine.{◌>>=◌, starts, loop, comma_step, item_step}
+use Rattle.aj_expressions.specs.Words.{lock}
 use Rattle.aj_parser.specs.Statements.{goes_on}
 use Rattle.aj_parser.specs.Members.{param, set, member, class_at}
 

@@ -6,15 +6,15 @@ use Rattle.aj_syntax.specs.declared.tree.Name.{Name}
 use Rattle.aj_syntax.specs.Tokens.{is, token, name_token}
 use Rattle.aj_syntax.specs.Trees.{StmtTree, EmptyS, BlockS}
 use Rattle.aj_syntax.specs.Views.{stmts_from}
-use Rattle.aj_parser.proofs.Expressions.{field_law}
-use Rattle.aj_parser.proofs.LoopLaw.{loop_done, loop_more, Takes}
-use Rattle.aj_parser.proofs.Loops.{right_shorter}
-use Rattle.aj_parser.proofs.Lists.{several_takes}
-use Rattle.aj_parser.proofs.Parts.{x_name}
-use Rattle.aj_parser.proofs.Right.{Any}
+use Rattle.aj_expressions.proofs.Expressions.{field_law}
+use Rattle.aj_expressions.proofs.LoopLaw.{loop_done, loop_more, Takes}
+use Rattle.aj_expressions.proofs.Loops.{right_shorter}
+use Rattle.aj_expressions.proofs.Lists.{several_takes}
+use Rattle.aj_expressions.proofs.Parts.{x_name}
+use Rattle.aj_expressions.proofs.Right.{Any}
 use Rattle.aj_parser.proofs.Statements.{FieldL, field_long, StmtL, Ends, stmt_long, right_statement}
-use Rattle.aj_parser.specs.Combine.{◌>>=◌, starts, loop, beyond, item_step}
-use Rattle.aj_parser.specs.Words.{field_name}
+use Rattle.aj_expressions.specs.Combine.{◌>>=◌, starts, loop, beyond, item_step}
+use Rattle.aj_expressions.specs.Words.{field_name}
 use Rattle.aj_parser.specs.Statements.{goes_on, braces, statement_at, statement_with, block_at, begins_statement, block_statement}
 
 field_takes : Takes (is T.Dot) (item_step field_name)

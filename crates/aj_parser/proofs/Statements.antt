@@ -12,15 +12,15 @@ use Rattle.aj_syntax.specs.Heights.{height, stmt_height, stmt_heights}
 use Rattle.aj_syntax.specs.Tokens.{is, token, name_token}
 use Rattle.aj_syntax.specs.Trees.{LockTree, ExprTree, NumberE, LeastE, TruthE, NullE, ThisE, VarE, ParenE, NotE, NegE, BinaryE, GetE, CallE, NewE, no_exprs, StmtTree, EmptyS, BlockS, LocalS, SetVarS, SetFieldS, DoS, IfS, IfElseS, WhileS, SyncS, ReturnS, PrintS, StartS, no_stmts}
 use Rattle.aj_syntax.specs.Views.{stmts_from}
-use Rattle.aj_parser.proofs.Expressions.{along_length, append_left, Level, Postfix, spelled_long, Completes, leaf_some, paren_some, new_some, or_else, field_law, right_primary, right_dots, right_new_rest}
-use Rattle.aj_parser.proofs.Lists.{right_several}
-use Rattle.aj_parser.proofs.Loops.{below_law}
-use Rattle.aj_parser.proofs.Parts.{One, Through_next, right_one, right_tok, right_name, right_done, right_if, right_choice, right_allow, right_beyond, x_name, is_token, right_fail}
-use Rattle.aj_parser.proofs.Right.{Right, Any, Some_of, right_seq, right_weaker}
-use Rattle.aj_parser.specs.Combine.{Res, ◌>>=◌, starts, several}
-use Rattle.aj_parser.specs.Words.{is_name, field_name, lock, type_name}
+use Rattle.aj_expressions.proofs.Expressions.{along_length, append_left, Level, Postfix, spelled_long, Completes, leaf_some, paren_some, new_some, or_else, field_law, right_primary, right_dots, right_new_rest}
+use Rattle.aj_expressions.proofs.Lists.{right_several}
+use Rattle.aj_expressions.proofs.Loops.{below_law}
+use Rattle.aj_expressions.proofs.Parts.{One, Through_next, right_one, right_tok, right_name, right_done, right_if, right_choice, right_allow, right_beyond, x_name, is_token, right_fail}
+use Rattle.aj_expressions.proofs.Right.{Right, Any, Some_of, right_seq, right_weaker}
+use Rattle.aj_expressions.specs.Combine.{Res, ◌>>=◌, starts, several}
+use Rattle.aj_expressions.specs.Words.{is_name, field_name, lock, type_name}
 use Rattle.aj_syntax.specs.Offsets.{first_at}
-use Rattle.aj_parser.specs.Expressions.{is_leaf, below}
+use Rattle.aj_expressions.specs.Expressions.{is_leaf, below}
 use Rattle.aj_parser.specs.Statements.{begins_local, begins_statement, goes_on, braces, expression, condition, return_statement, print_statement, start_rest, assign, assigned, local_rest, local_statement, call_end, target, finish, finish_from, new_statement, name_statement, expression_statement, plain_statement, else_part, if_statement, while_statement, sync_statement, block_statement, statement_with, statement_at, block_at}
 
 x_tokens : List Token

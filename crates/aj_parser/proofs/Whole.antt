@@ -10,14 +10,14 @@ use Rattle.aj_syntax.specs.Names.{names_of_program}
 use Rattle.aj_syntax.specs.Tokens.{name_token}
 use Rattle.aj_syntax.proofs.Naming.{names_are_tokens}
 use Rattle.aj_syntax.specs.Trees.{ProgramTree}
-use Rattle.aj_parser.proofs.Complete.{IsDeep, Same, same, deep}
+use Rattle.aj_expressions.proofs.Complete.{IsDeep, Same, same, deep}
 use Rattle.aj_parser.proofs.CompleteMembers.{program_read}
 use Rattle.aj_parser.proofs.Members.{right_program}
-use Rattle.aj_parser.proofs.Right.{Meets, Goes, RightAt, RightOk, RightErr}
-use Rattle.aj_parser.specs.Combine.{Res, starts}
+use Rattle.aj_expressions.proofs.Right.{Meets, Goes, RightAt, RightOk, RightErr}
+use Rattle.aj_expressions.specs.Combine.{Res, starts}
 use Rattle.aj_parser.specs.Members.{program}
-use Rattle.aj_parser.specs.declared.stop.Fault.{Fault}
-use Rattle.aj_parser.specs.declared.stop.Fault.TheVariants as F
+use Rattle.aj_expressions.specs.declared.stop.Fault.{Fault}
+use Rattle.aj_expressions.specs.declared.stop.Fault.TheVariants as F
 
 abbrev Reads : List Token → ProgramTree → Type 0
 Reads zs t = Wide zs t

@@ -9,11 +9,11 @@ use Rattle.aj_syntax.specs.Heights.{height}
 use Rattle.aj_syntax.specs.Tokens.{is}
 use Rattle.aj_syntax.specs.Trees.{ExprTree, NumberE, LeastE, TruthE, NullE, ThisE, VarE, ParenE, NotE, NegE, BinaryE, GetE, CallE, NewE, StmtTree, EmptyS, BlockS, LocalS, SetVarS, SetFieldS, DoS, IfS, IfElseS, WhileS, SyncS, ReturnS, PrintS, StartS}
 use Rattle.aj_syntax.specs.Views.{stmts_from}
-use Rattle.aj_parser.specs.Combine.{Res, ◌>>=◌, starts, first, take_one, allow, beyond, several}
-use Rattle.aj_parser.specs.declared.stop.Fault.TheVariants as F
-use Rattle.aj_parser.specs.Words.{a_name, is_name, lock, type_name}
+use Rattle.aj_expressions.specs.Combine.{Res, ◌>>=◌, starts, first, take_one, allow, beyond, several}
+use Rattle.aj_expressions.specs.declared.stop.Fault.TheVariants as F
+use Rattle.aj_expressions.specs.Words.{a_name, is_name, lock, type_name}
 use Rattle.aj_syntax.specs.Offsets.{first_at}
-use Rattle.aj_parser.specs.Expressions.{is_leaf, new_rest, primary, dots, below}
+use Rattle.aj_expressions.specs.Expressions.{is_leaf, new_rest, primary, dots, below}
 
 abbrev pub begins_local : Token → Bool
 begins_local x = is T.Final x || is T.Int x || is T.Boolean x

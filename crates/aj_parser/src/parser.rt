@@ -12,9 +12,8 @@ ghost use Rattle.aj_syntax.specs.Trees.{ProgramTree};
 ghost use Rattle.aj_syntax.specs.Views.{program_of};
 
 use crate::faults::ParseFault;
-use crate::lexeme::{Lexeme, lexemes};
 use crate::member::classes;
-use crate::stop::{Fault, Stop};
+use aj_expressions::{Fault, Lexeme, Stop, lexemes};
 use aj_lexer::Token;
 use aj_syntax::Program;
 use std::alloc::Global;

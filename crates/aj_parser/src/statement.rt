@@ -7,18 +7,16 @@ ghost use Rattle.aj_syntax.specs.Limits.{most_height};
 ghost use Rattle.aj_syntax.specs.Tokens.{is};
 ghost use Rattle.aj_syntax.specs.Trees.{BlockS, DoS, IfS, IfElseS, LocalS, SetFieldS, SetVarS, SyncS};
 ghost use Rattle.aj_syntax.specs.Views.{expr_of, lock_of, stmt_of, stmts_from};
-ghost use Rattle.aj_parser.specs.Answer.{Gives};
-ghost use Rattle.aj_parser.specs.Combine.{item_step, several};
-ghost use Rattle.aj_parser.specs.Words.{field_name as field_name_at, lock as lock_at, type_name as type_name_at};
-ghost use Rattle.aj_parser.specs.Expressions.{below};
+ghost use Rattle.aj_expressions.specs.Answer.{Gives};
+ghost use Rattle.aj_expressions.specs.Combine.{item_step, several};
+ghost use Rattle.aj_expressions.specs.Words.{field_name as field_name_at, lock as lock_at, type_name as type_name_at};
+ghost use Rattle.aj_expressions.specs.Expressions.{below};
 ghost use Rattle.aj_parser.specs.Statements.{assigned as assigned_at, block_at, block_statement, braces, call_end as call_end_at, condition as condition_at, else_part as else_part_at, expression as expression_at, expression_statement as expression_statement_at, finish as finish_at, finish_from as finish_from_at, goes_on as may_go_on, if_statement as if_statement_at, local_rest as local_rest_at, local_statement as local_statement_at, name_statement as name_statement_at, new_statement as new_statement_at, plain_statement as plain_statement_at, print_statement as print_statement_at, return_statement as return_statement_at, start_rest as start_rest_at, statement_at, statement_with, sync_statement as sync_statement_at, target as target_at, while_statement as while_statement_at};
 
-use crate::expression::{LEVELS, Parsed, chain, dots, field_name, new_rest, primary};
-use crate::lexeme::Lexeme;
-use crate::stop::{Fault, Stop};
-use crate::tokens::{
-    accept, begins, begins_declaration, begins_name, begins_second_name, begins_statement, goes_on,
-    name, take,
+use crate::begins::{begins_declaration, begins_second_name, begins_statement, goes_on};
+use aj_expressions::{
+    Fault, LEVELS, Lexeme, Parsed, Stop, accept, begins, begins_name, chain, dots, field_name,
+    name, new_rest, primary, take,
 };
 use aj_syntax::{Expr, Lock, Name, Stmt, Terminal, TypeName};
 use std::alloc::Global;
@@ -31,7 +29,7 @@ pub struct Braces<'a> {
     pub end: u32,
 }
 
-#[tactic(auto, unfolding(crate::specs::Words::type_name))]
+#[tactic(auto, unfolding(aj_expressions::specs::Words::type_name))]
 pub fn type_name<'t, 'a>(
     tokens: &'t [Lexeme<'a>],
 ) -> Result<(TypeName<'a>, &'t [Lexeme<'a>]), Stop<'t, 'a>>
@@ -76,7 +74,7 @@ fn fields<'t, 'a>(
     Ok(list)
 }
 
-#[tactic(auto, unfolding(crate::specs::Words::lock))]
+#[tactic(auto, unfolding(aj_expressions::specs::Words::lock))]
 pub fn lock<'t, 'a>(
     alloc: Global,
     tokens: &'t [Lexeme<'a>],

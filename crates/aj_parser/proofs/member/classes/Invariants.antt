@@ -1,6 +1,6 @@
 use Rattle.std.proofs.Common.{◌≡◌, map, length, true}
 use Rattle.aj_syntax.specs.Views.{class_of}
-use Rattle.aj_parser.specs.Combine.{item_step, loop}
+use Rattle.aj_expressions.specs.Combine.{item_step, loop}
 use Rattle.aj_parser.specs.Members.{class_at, program}
 use Rattle.aj_parser.proofs.member.classes.Given as goal
 

@@ -1,7 +1,7 @@
 use Rattle.std.proofs.Common.{◌≡◌, length}
 use Rattle.aj_syntax.specs.Tokens.{is}
 use Rattle.aj_syntax.specs.declared.terminal.Terminal.TheVariants as T
-use Rattle.aj_parser.specs.Combine.{comma_step, loop}
+use Rattle.aj_expressions.specs.Combine.{comma_step, loop}
 use Rattle.aj_parser.specs.Members.{param, param_list}
 use Rattle.aj_parser.proofs.member.param_list.Given as goal
 

@@ -2,8 +2,8 @@ use Rattle.std.proofs.Common.{◌≡◌, map, length}
 use Rattle.aj_syntax.specs.Tokens.{is}
 use Rattle.aj_syntax.specs.declared.terminal.Terminal.TheVariants as T
 use Rattle.aj_syntax.specs.Views.{lock_of}
-use Rattle.aj_parser.specs.Combine.{comma_step, loop}
-use Rattle.aj_parser.specs.Words.{lock}
+use Rattle.aj_expressions.specs.Combine.{comma_step, loop}
+use Rattle.aj_expressions.specs.Words.{lock}
 use Rattle.aj_parser.specs.Members.{required}
 use Rattle.aj_parser.proofs.member.required.Given as goal
 

@@ -1,6 +1,6 @@
 use Rattle.std.proofs.Common.{◌≡◌, ◌+◌, ◌*◌, true, map, length}
 use Rattle.aj_syntax.specs.Views.{stmt_of}
-use Rattle.aj_parser.specs.Combine.{item_step, loop, several}
+use Rattle.aj_expressions.specs.Combine.{item_step, loop, several}
 use Rattle.aj_parser.specs.Statements.{goes_on, statement_at}
 use Rattle.aj_parser.proofs.statement.+statement.Given as goal
 

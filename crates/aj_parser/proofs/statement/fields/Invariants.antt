@@ -1,8 +1,8 @@
 use Rattle.std.proofs.Common.{◌≡◌, length}
 use Rattle.aj_syntax.specs.Tokens.{is}
 use Rattle.aj_syntax.specs.declared.terminal.Terminal.TheVariants as T
-use Rattle.aj_parser.specs.Combine.{item_step, loop, several}
-use Rattle.aj_parser.specs.Words.{field_name}
+use Rattle.aj_expressions.specs.Combine.{item_step, loop, several}
+use Rattle.aj_expressions.specs.Words.{field_name}
 use Rattle.aj_parser.proofs.statement.fields.Given as goal
 
 abbrev pub invariant-loop-list : goal.invariant-loop-list

@@ -1,0 +1,5 @@
+pub mod Answer
+pub mod Lexemes
+pub mod Combine
+pub mod Words
+pub mod Expressions
