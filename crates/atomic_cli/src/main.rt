@@ -3,39 +3,26 @@
 
 #[cfg(test)]
 mod book_tests;
-mod check;
-mod command;
-mod derive_book;
 #[cfg(test)]
 mod examples;
-mod files;
 #[cfg(test)]
 mod large_tests;
 #[cfg(test)]
 mod library_tests;
-mod lines;
 #[cfg(test)]
 mod machine_tests;
 #[cfg(test)]
 mod nodes_tests;
-mod print;
-mod run;
-mod run_schedule;
 #[cfg(test)]
 mod schedule_tests;
 #[cfg(test)]
 mod schedule_text_tests;
-mod schedules;
-mod serialise;
 #[cfg(test)]
 mod source_tests;
-mod status;
 #[cfg(test)]
 mod tests;
-mod verify_book;
 
-use crate::run::run;
-use crate::status::Status;
+use aj_commands::{Status, run};
 use aj_edge::{FileFolder, OutSink};
 use std::alloc::AllocError as NoMemory;
 use std::env;

@@ -1,7 +1,7 @@
 //! What the program answers, over a folder and a sink in memory.
 
 use crate::examples::EXAMPLES;
-use crate::run::run;
+use aj_commands::run;
 use aj_edge::{MemFolder, MemSink};
 use itoa::Buffer;
 use std::alloc::Global;

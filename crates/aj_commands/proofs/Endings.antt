@@ -1,0 +1,177 @@
+-- Which status comes for the answer to a row.
+use Rattle.std.proofs.Common.{◌≡◌, ℕ, ◌≤◌, List, Option, None, IsSome, refl, sym, subst, ap, ◌∙◌, arith, inl, inr, is_some, true, false, zero, suc}
+use Rattle.aj_sources.specs.declared.refusal.Ending.{Ending}
+use Rattle.aj_sources.specs.declared.refusal.Ending.TheVariants.{Done, Refused, Inadmissible, NoSchedule, Stopped, Open, BookRefused}
+use Rattle.aj_sources.specs.Refusals.{code_of}
+use Rattle.aj_sources.specs.Facts.{RefusedAs}
+use Rattle.aj_sources.proofs.Apart.{no_program_is_none, no_program_ends, no_accepted_is, accepted_or_none}
+use Rattle.aj_commands.specs.declared.command.Command.{Command}
+use Rattle.aj_commands.specs.declared.command.Command.TheVariants.{Check, Print, Run, Serialise, Derive, Verify}
+use Rattle.aj_commands.specs.Rows.{Row}
+use Rattle.aj_commands.specs.Files.{first_too_large, file_at}
+use Rattle.aj_commands.specs.Check.{CheckAnswer, CheckFact, not_accepted, judged}
+use Rattle.aj_commands.specs.Print.{PrintAnswer, PrintFact, no_program, printed}
+use Rattle.aj_commands.specs.Derive.{DeriveAnswer, DeriveFact, not_accepted as not_accepted_derive, derived}
+use Rattle.aj_commands.proofs.BookEndings.{verify_caused, verify_apart}
+use Rattle.aj_commands.proofs.ScheduleEndings.{run_caused, run_apart, serialise_caused, serialise_apart}
+use Rattle.aj_commands.specs.Answers.{Answer, Fact, Belongs, too_large, ended, Yields, IsExact}
+
+-- `check`: each ending has its fact, and one alone
+refused_fact : (file : List ℕ) (ending : Ending) → RefusedAs file ending → CheckFact file ending
+refused_fact file Done is = absurd is
+refused_fact file Refused is = is
+refused_fact file Inadmissible is = is
+refused_fact file NoSchedule is = is
+refused_fact file Stopped is = is
+refused_fact file Open is = is
+refused_fact file BookRefused is = is
+
+check_caused : (file : List ℕ) (ending : Ending) (text : List ℕ) → CheckAnswer file ending text → CheckFact file ending
+check_caused file _ _ (not_accepted {ending = ending} {line = line} is) = refused_fact file ending (no_accepted_is file ending line is)
+check_caused file _ _ (judged tree P trees is least) = (tree, P, is, least.accepted)
+
+check_apart : (file : List ℕ) (one other : Ending) → CheckFact file one → CheckFact file other → one ≡ other
+check_apart file Done Done f g = refl
+check_apart file Refused Refused f g = refl
+check_apart file Inadmissible Inadmissible f g = refl
+check_apart file Done Refused f g = absurd (g f.0 f.1 f.2)
+check_apart file Refused Done f g = absurd (f g.0 g.1 g.2)
+check_apart file Done Inadmissible f g = absurd (accepted_or_none file f g)
+check_apart file Inadmissible Done f g = absurd (accepted_or_none file g f)
+check_apart file Refused Inadmissible f g = absurd (f g.0 g.1 g.2)
+check_apart file Inadmissible Refused f g = absurd (g f.0 f.1 f.2)
+check_apart file NoSchedule other f g = absurd f
+check_apart file Stopped other f g = absurd f
+check_apart file Open other f g = absurd f
+check_apart file Done NoSchedule f g = absurd g
+check_apart file Done Stopped f g = absurd g
+check_apart file Done Open f g = absurd g
+check_apart file Refused NoSchedule f g = absurd g
+check_apart file Refused Stopped f g = absurd g
+check_apart file Refused Open f g = absurd g
+check_apart file Inadmissible NoSchedule f g = absurd g
+check_apart file Inadmissible Stopped f g = absurd g
+check_apart file Inadmissible Open f g = absurd g
+check_apart file BookRefused other f g = absurd f
+check_apart file Done BookRefused f g = absurd g
+check_apart file Refused BookRefused f g = absurd g
+check_apart file Inadmissible BookRefused f g = absurd g
+
+-- `print`: the same
+print_caused : (file : List ℕ) (ending : Ending) (text : List ℕ) → PrintAnswer file ending text → PrintFact file ending
+print_caused file _ _ (no_program {ending = ending} {line = line} is) = subst (PrintFact file) (sym (no_program_ends file ending line is)) (no_program_is_none file ending line is)
+print_caused file _ _ (printed tree is again) = (tree, is)
+
+print_apart : (file : List ℕ) (one other : Ending) → PrintFact file one → PrintFact file other → one ≡ other
+print_apart file Done Done f g = refl
+print_apart file Refused Refused f g = refl
+print_apart file Done Refused f g = absurd (g f.0 f.1)
+print_apart file Refused Done f g = absurd (f g.0 g.1)
+print_apart file Inadmissible other f g = absurd f
+print_apart file NoSchedule other f g = absurd f
+print_apart file Stopped other f g = absurd f
+print_apart file Open other f g = absurd f
+print_apart file Done Inadmissible f g = absurd g
+print_apart file Done NoSchedule f g = absurd g
+print_apart file Done Stopped f g = absurd g
+print_apart file Done Open f g = absurd g
+print_apart file Refused Inadmissible f g = absurd g
+print_apart file Refused NoSchedule f g = absurd g
+print_apart file Refused Stopped f g = absurd g
+print_apart file Refused Open f g = absurd g
+print_apart file BookRefused other f g = absurd f
+print_apart file Done BookRefused f g = absurd g
+print_apart file Refused BookRefused f g = absurd g
+
+-- `derive`: as `check`
+derive_caused : (file : List ℕ) (ending : Ending) (text : List ℕ) → DeriveAnswer file ending text → DeriveFact file ending
+derive_caused file _ _ (not_accepted_derive {ending = ending} {line = line} is) = refused_fact file ending (no_accepted_is file ending line is)
+derive_caused file _ _ (derived tree P is does) = (tree, P, is, does.least.accepted)
+
+-- all rows
+caused : (command : Command) (files : List (List ℕ)) (ending : Ending) (text : List ℕ) → Answer command files ending text → Fact command files ending
+caused Check files ending text is = check_caused (file_at files 0) ending text is
+caused Print files ending text is = print_caused (file_at files 0) ending text is
+caused Run files ending text is = run_caused (file_at files 0) (file_at files 1) ending text is
+caused Serialise files ending text is = serialise_caused (file_at files 0) (file_at files 1) ending text is
+caused Derive files ending text is = derive_caused (file_at files 0) ending text is
+caused Verify files ending text is = verify_caused (file_at files 0) (file_at files 1) ending text is
+
+apart : (command : Command) (files : List (List ℕ)) (one other : Ending) → Fact command files one → Fact command files other → one ≡ other
+apart Check files one other f g = check_apart (file_at files 0) one other f g
+apart Print files one other f g = print_apart (file_at files 0) one other f g
+apart Run files one other f g = run_apart (file_at files 0) (file_at files 1) one other f g
+apart Serialise files one other f g = serialise_apart (file_at files 0) (file_at files 1) one other f g
+apart Derive files one other f g = check_apart (file_at files 0) one other f g
+apart Verify files one other f g = verify_apart (file_at files 0) (file_at files 1) one other f g
+
+-- an ending's status is none of those that aren't endings
+pub no_ending : (ending : Ending) (status : ℕ) → 6 ≤ status → status ≤ 10 → code_of ending ≡ status → ⊥
+no_ending Done status low high e = omega arith
+no_ending Refused status low high e = omega arith
+no_ending Inadmissible status low high e = omega arith
+no_ending NoSchedule status low high e = omega arith
+no_ending Stopped status low high e = omega arith
+no_ending Open status low high e = omega arith
+no_ending BookRefused status low high e = omega arith
+
+-- the ending with a status
+ending_of : ℕ → Ending
+ending_of zero = Done
+ending_of (suc zero) = Refused
+ending_of (suc (suc zero)) = Inadmissible
+ending_of (suc (suc (suc zero))) = NoSchedule
+ending_of (suc (suc (suc (suc zero)))) = Stopped
+ending_of (suc (suc (suc (suc (suc zero))))) = Open
+ending_of (suc (suc (suc (suc (suc (suc rest)))))) = BookRefused
+
+ending_back : (ending : Ending) → ending_of (code_of ending) ≡ ending
+unfolding ending_of
+ending_back Done = refl
+ending_back Refused = refl
+ending_back Inadmissible = refl
+ending_back NoSchedule = refl
+ending_back Stopped = refl
+ending_back Open = refl
+ending_back BookRefused = refl
+
+-- endings with one status are equal
+same_ending : (one other : Ending) → code_of one ≡ code_of other → one ≡ other
+same_ending one other e = sym (ending_back one) ∙ ap ending_of e ∙ ending_back other
+
+-- a file is over its limit, or none is
+never_both : (o : Option (List ℕ)) → IsSome o → o ≡ None → ⊥
+never_both o some none = absurd (let e : true ≡ false = sym some ∙ ap is_some none in cc)
+
+pub exact_answer : (row : Row) (files : List (List ℕ)) (status : ℕ) (text : List ℕ) → Belongs row files status text → IsExact row files status
+exact_answer row files _ _ (too_large name is) = record {
+  too_large = record { only = λ _. ap is_some is; all = λ _. inl refl };
+  ended = λ ending. record {
+    only = λ e. absurd (no_ending ending 10 (omega arith) (omega arith) (sym e));
+    all = λ f. absurd (never_both (first_too_large row files) (ap is_some is) f.0);
+  };
+}
+exact_answer row files _ _ (ended ending text within answer) = record {
+  too_large = record {
+    only = λ e. absurd (no_ending ending 10 (omega arith) (omega arith) e);
+    all = λ some. absurd (never_both (first_too_large row files) some within);
+  };
+  ended = λ other. record {
+    only = λ e. (within, subst (Fact row.command files) (same_ending ending other e) (caused row.command files ending text answer));
+    all = λ f. inl (ap code_of (apart row.command files ending other (caused row.command files ending text answer) f.1));
+  };
+}
+
+-- a status that stands in the place of all of them
+yield_range : (status : ℕ) → Yields status → (6 ≤ status) × (status ≤ 8)
+yield_range status (inl e) = (omega arith, omega arith)
+yield_range status (inr (inl e)) = (omega arith, omega arith)
+yield_range status (inr (inr e)) = (omega arith, omega arith)
+
+pub exact_yield : (row : Row) (files : List (List ℕ)) (status : ℕ) → Yields status → IsExact row files status
+exact_yield row files status y =
+    let r = yield_range status y in
+    record {
+      too_large = record { only = λ e. absurd (omega (arith, r.1)); all = λ _. inr y };
+      ended = λ ending. record { only = λ e. absurd (no_ending ending status r.0 (omega (arith, r.1)) (sym e)); all = λ _. inr y };
+    }

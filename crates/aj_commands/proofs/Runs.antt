@@ -1,0 +1,120 @@
+-- What the clauses of the top call say, from what was done and what was said.
+use Rattle.std.proofs.Common.{◌≡◌, ℕ, List, ◌∷◌, Option, Some, None, if◌then◌else◌, codes, refl, sym, subst, ap, ◌∙◌, arith, inl, inr, ◌⊎◌, Contains}
+use Rattle.std.specs.Str.{bytes_eq}
+use Rattle.aj_edge.specs.Faults.{Rose}
+use Rattle.aj_commands.specs.declared.command.Command.{Command}
+use Rattle.aj_commands.specs.declared.command.Command.TheVariants.{Check, Print, Run, Serialise, Derive, Verify}
+use Rattle.aj_commands.specs.declared.status.Status.{Status}
+use Rattle.aj_commands.specs.declared.status.Status.TheVariants.{Ended, CannotRead, CannotWrite, NoMemory, Usage, TooLarge}
+use Rattle.aj_commands.specs.Rows.{Row, IsRow, word_of}
+use Rattle.aj_commands.specs.Files.{IsAsked}
+use Rattle.aj_commands.specs.Answers.{Belongs, too_large, ended, Yields, IsExact}
+use Rattle.aj_commands.specs.Said.{Says, IsUnread, WritesUnread, WritesAnswer, WritesFront}
+use Rattle.aj_commands.specs.Commands.{status_of}
+use Rattle.aj_commands.specs.Outcomes.{IsOutcome}
+use Rattle.aj_commands.proofs.Endings.{exact_answer, exact_yield, no_ending}
+
+-- the command that a word names
+command_of : List ℕ → Option Command
+command_of word = if bytes_eq word (codes "check") then Some Check else if bytes_eq word (codes "print") then Some Print
+    else if bytes_eq word (codes "run") then Some Run else if bytes_eq word (codes "serialise") then Some Serialise
+    else if bytes_eq word (codes "derive") then Some Derive else if bytes_eq word (codes "verify") then Some Verify else None
+
+named : (command : Command) → command_of (word_of command) ≡ Some command
+unfolding command_of
+named Check = refl
+named Print = refl
+named Run = refl
+named Serialise = refl
+named Derive = refl
+named Verify = refl
+
+-- words are one row at most
+one_row : (words : List (List ℕ)) (row other : Row) → IsRow words row → IsRow words other → row ≡ other
+one_row words row other a b =
+    let same : word_of row.command ∷ row.names ≡ word_of other.command ∷ other.names = sym a.said ∙ b.said in
+    let word : word_of row.command ≡ word_of other.command = cc in
+    let names : row.names ≡ other.names = cc in
+    let some : Some row.command ≡ Some other.command = sym (named row.command) ∙ ap command_of word ∙ named other.command in
+    let command : row.command ≡ other.command = cc in
+    λ i. record { command = command i; names = names i }
+
+-- no outcome has the status of a sink that fails
+other_than_seven : (row : Row) (told : List ℕ → Option (List ℕ)) (before now : List ℕ → ℕ) (status : Status) (text : List ℕ) → IsOutcome row told before now status text → status_of status ≡ 7 → ⊥
+other_than_seven row told before now (Ended ending) text is e = no_ending ending 7 (omega arith) (omega arith) e
+other_than_seven row told before now CannotRead text is e = omega arith
+other_than_seven row told before now TooLarge text is e = omega arith
+other_than_seven row told before now CannotWrite text is e = is
+other_than_seven row told before now NoMemory text is e = is
+other_than_seven row told before now Usage text is e = is
+
+-- a row was done: its status and text, and what was said
+pub record IsDone (words : List (List ℕ)) (result : ℕ) (told : List ℕ → Option (List ℕ)) (before now : List ℕ → ℕ) (old new : Option (List ℕ)) (sink_before sink_now : ℕ) : Type 0 where
+  pub row : Row
+  pub is_row : IsRow words row
+  pub status : Status
+  pub text : List ℕ
+  pub outcome : IsOutcome row told before now status text
+  pub said : Says result (status_of status) text old new sink_before sink_now
+
+module _ (words : List (List ℕ)) (result : ℕ) (told : List ℕ → Option (List ℕ)) (before now : List ℕ → ℕ) (old new : Option (List ℕ)) (sink_before sink_now : ℕ)
+    (d : IsDone words result told before now old new sink_before sink_now) where
+  -- a file that can't be read
+  pub unreadable : (row : Row) → IsRow words row → result ≡ 6 → WritesUnread row before now old new
+  unreadable row is six = by d.status (subst (λ r. IsOutcome r told before now d.status d.text) (one_row words d.row row d.is_row is) d.outcome) d.said
+    where
+      by : (status : Status) → IsOutcome row told before now status d.text → Says result (status_of status) d.text old new sink_before sink_now → WritesUnread row before now old new
+      by status is (inr s) = absurd (omega (arith, s.0))
+      by CannotRead is (inl s) = record { line = d.text; unread = is; written = s.1 }
+      by (Ended ending) is (inl s) = absurd (no_ending ending 6 (omega arith) (omega arith) (sym s.0 ∙ six))
+      by TooLarge is (inl s) = absurd (omega (arith, s.0))
+      by CannotWrite is (inl s) = absurd is
+      by NoMemory is (inl s) = absurd is
+      by Usage is (inl s) = absurd is
+
+  module _ (row : Row) (files : List (List ℕ)) (asked : IsAsked words told row files) where
+    -- the line of a file that can't be read, or what belongs to the files
+    its : (IsUnread row before now d.text × (status_of d.status ≡ 6)) ⊎ Belongs row files (status_of d.status) d.text
+    its = by d.status (subst (λ r. IsOutcome r told before now d.status d.text) (one_row words d.row row d.is_row asked.is_row) d.outcome)
+      where
+        by : (status : Status) → IsOutcome row told before now status d.text → (IsUnread row before now d.text × (status_of status ≡ 6)) ⊎ Belongs row files (status_of status) d.text
+        by CannotRead is = inl (is, refl)
+        by (Ended ending) is = let a = is files asked.are_told in inr (ended ending d.text a.0 a.1)
+        by TooLarge is = let a = is files asked.are_told in inr (subst (Belongs row files 10) (sym a.2) (too_large a.0 a.1))
+        by CannotWrite is = absurd is
+        by NoMemory is = absurd is
+        by Usage is = absurd is
+
+    pub answered : Yields result ⊎ WritesAnswer row files result old new
+    answered = by d.said its
+      where
+        by : Says result (status_of d.status) d.text old new sink_before sink_now → (IsUnread row before now d.text × (status_of d.status ≡ 6)) ⊎ Belongs row files (status_of d.status) d.text → Yields result ⊎ WritesAnswer row files result old new
+        by (inr s) a = inl (inr (inl s.0))
+        by (inl s) (inl six) = inl (inl (s.0 ∙ six.1))
+        by (inl s) (inr a) = inr (record { text = d.text; belongs = subst (λ n. Belongs row files n d.text) (sym s.0) a; written = s.1 })
+
+    pub exact : IsExact row files result
+    exact = by answered
+      where
+        by : Yields result ⊎ WritesAnswer row files result old new → IsExact row files result
+        by (inl y) = exact_yield row files result y
+        by (inr w) = exact_answer row files result w.text w.belongs
+
+    pub front : result ≡ 7 → WritesFront row files before now old new
+    front seven = by d.said its
+      where
+        belongs : (IsUnread row before now d.text × (status_of d.status ≡ 6)) ⊎ Belongs row files (status_of d.status) d.text → IsUnread row before now d.text ⊎ Belongs row files (status_of d.status) d.text
+        belongs (inl a) = inl a.0
+        belongs (inr a) = inr a
+
+        by : Says result (status_of d.status) d.text old new sink_before sink_now → (IsUnread row before now d.text × (status_of d.status ≡ 6)) ⊎ Belongs row files (status_of d.status) d.text → WritesFront row files before now old new
+        by (inl s) a = absurd (other_than_seven d.row told before now d.status d.text d.outcome (sym s.0 ∙ seven))
+        by (inr s) a = record { status = status_of d.status; text = d.text; belongs = belongs a; written = s.1 }
+
+    pub complete : ((name : List ℕ) → Contains row.names name → Rose (before name) (now name) → ⊥) → (Rose sink_before sink_now → ⊥) → (result ≡ 8) ⊎ WritesAnswer row files result old new
+    complete calm sink_calm = by d.said its
+      where
+        by : Says result (status_of d.status) d.text old new sink_before sink_now → (IsUnread row before now d.text × (status_of d.status ≡ 6)) ⊎ Belongs row files (status_of d.status) d.text → (result ≡ 8) ⊎ WritesAnswer row files result old new
+        by (inr s) a = absurd (sink_calm s.2)
+        by (inl s) (inl six) = absurd (calm six.0.name six.0.named six.0.rose)
+        by (inl s) (inr a) = inr (record { text = d.text; belongs = subst (λ n. Belongs row files n d.text) (sym s.0) a; written = s.1 })

@@ -1,0 +1,27 @@
+use Rattle.std.proofs.Common.{map}
+use Rattle.aj_commands.proofs.Rows.{check_answers, print_answers, run_answers, serialise_answers, derive_answers, verify_answers}
+use Rattle.aj_commands.proofs.run.answer.Goals as goal
+
+pub returns-in-Check : goal.returns-in-Check
+returns-in-Check c = check_answers c.args.command (map (λ file. file.items) c.args.files.now) c.file_at.result.now c.check.result c.in-Check.is c.file_at.ensures c.check.ensures
+
+pub returns-in-Print : goal.returns-in-Print
+returns-in-Print c = print_answers c.args.command (map (λ file. file.items) c.args.files.now) c.file_at-in-Print.result.now c.print.result c.in-Print.is c.file_at-in-Print.ensures c.print.ensures
+
+pub returns-in-Run : goal.returns-in-Run
+returns-in-Run c =
+    run_answers c.args.command (map (λ file. file.items) c.args.files.now) c.file_at-in-Run.result.now c.file_at-in-Run-2.result.now c.run_schedule.result
+    c.in-Run.is c.file_at-in-Run.ensures c.file_at-in-Run-2.ensures c.run_schedule.ensures
+
+pub returns-in-Serialise : goal.returns-in-Serialise
+returns-in-Serialise c =
+    serialise_answers c.args.command (map (λ file. file.items) c.args.files.now) c.file_at-in-Serialise.result.now c.file_at-in-Serialise-2.result.now c.serialise.result
+    c.in-Serialise.is c.file_at-in-Serialise.ensures c.file_at-in-Serialise-2.ensures c.serialise.ensures
+
+pub returns-in-Derive : goal.returns-in-Derive
+returns-in-Derive c = derive_answers c.args.command (map (λ file. file.items) c.args.files.now) c.file_at-in-Derive.result.now c.derive_book.result c.in-Derive.is c.file_at-in-Derive.ensures c.derive_book.ensures
+
+pub returns-in-Verify : goal.returns-in-Verify
+returns-in-Verify c =
+    verify_answers c.args.command (map (λ file. file.items) c.args.files.now) c.file_at-in-Verify.result.now c.file_at-in-Verify-2.result.now c.verify_book.result
+    c.in-Verify.is c.file_at-in-Verify.ensures c.file_at-in-Verify-2.ensures c.verify_book.ensures

@@ -1,0 +1,60 @@
+use Rattle.std.proofs.Common.{map, string_bytes, subst, inl, inr}
+use Rattle.aj_commands.specs.Commands.{row_of, status_of}
+use Rattle.aj_commands.specs.Said.{Says}
+use Rattle.aj_commands.proofs.Headlines.{headline_of}
+use Rattle.aj_commands.proofs.Certified.{books_of}
+use Rattle.aj_commands.proofs.Endings.{exact_yield}
+use Rattle.aj_commands.proofs.Runs.{IsDone, exact, answered, front, unreadable, complete}
+use Rattle.aj_commands.proofs.run.run.Given.{Over}
+use Rattle.aj_commands.proofs.run.run.Goals as goal
+
+the_row : (g : Over) (c : goal.After-drop-outcome g) → IsDone (map string_bytes c.args.words.now) c.say-in-Ok.result (g.F.Folder.told c.args.folder.now) (g.F.Folder.faults c.args.folder.now) (g.F.Folder.faults c.perform.new.folder)
+    (g.K.Sink.written c.args.sink.now) (g.K.Sink.written c.say-in-Ok.new.sink) (g.K.Sink.faults c.args.sink.now) (g.K.Sink.faults c.say-in-Ok.new.sink)
+the_row g c = record {
+  row = row_of c.in-Some.row;
+  is_row = c.in-Some.ensures;
+  status = c.in-Ok.outcome.status;
+  text = c.in-Ok.outcome.text.items;
+  outcome = c.in-Ok.ensures;
+  said = subst (λ text. Says c.say-in-Ok.result (status_of c.in-Ok.outcome.status) text (g.K.Sink.written c.args.sink.now) (g.K.Sink.written c.say-in-Ok.new.sink) (g.K.Sink.faults c.args.sink.now) (g.K.Sink.faults c.say-in-Ok.new.sink))
+      c.as_slice.ensures.value c.say-in-Ok.ensures;
+}
+
+pub returns-in-Ok-clause-usage : goal.returns-in-Ok-clause-usage
+returns-in-Ok-clause-usage g c = λ none. absurd (none (row_of c.in-Some.row) c.in-Some.ensures)
+
+pub returns-in-Err-clause-usage : goal.returns-in-Err-clause-usage
+returns-in-Err-clause-usage g c = λ none. absurd (none (row_of c.in-Some.row) c.in-Some.ensures)
+
+pub returns-in-Ok-clause-exact : goal.returns-in-Ok-clause-exact
+returns-in-Ok-clause-exact g c = λ row files asked. exact _ _ _ _ _ _ _ _ _ (the_row g c) row files asked
+
+pub returns-in-Ok-clause-text : goal.returns-in-Ok-clause-text
+returns-in-Ok-clause-text g c = λ row files asked. answered _ _ _ _ _ _ _ _ _ (the_row g c) row files asked
+
+pub returns-in-Ok-clause-front : goal.returns-in-Ok-clause-front
+returns-in-Ok-clause-front g c = λ row files asked. front _ _ _ _ _ _ _ _ _ (the_row g c) row files asked
+
+pub returns-in-Ok-clause-cannot_read : goal.returns-in-Ok-clause-cannot_read
+returns-in-Ok-clause-cannot_read g c = λ row is six. unreadable _ _ _ _ _ _ _ _ _ (the_row g c) row is six
+
+pub returns-in-Ok-clause-complete : goal.returns-in-Ok-clause-complete
+returns-in-Ok-clause-complete g c = λ row files asked calm sink_calm. complete _ _ _ _ _ _ _ _ _ (the_row g c) row files asked calm sink_calm
+
+pub returns-in-Ok-clause-headline : goal.returns-in-Ok-clause-headline
+returns-in-Ok-clause-headline g c = headline_of _ (λ row files asked calm. complete _ _ _ _ _ _ _ _ _ (the_row g c) row files asked calm.files calm.sink)
+
+pub returns-in-Err-clause-headline : goal.returns-in-Err-clause-headline
+returns-in-Err-clause-headline g c = headline_of _ (λ row files asked calm. inl c.code.ensures)
+
+pub returns-in_default-clause-headline : goal.returns-in_default-clause-headline
+returns-in_default-clause-headline g c = headline_of _ (λ row files asked calm. absurd (c.in_default.ensures row asked.is_row))
+
+pub returns-in-Ok-clause-books : goal.returns-in-Ok-clause-books
+returns-in-Ok-clause-books g c = books_of _ (λ row files asked. exact _ _ _ _ _ _ _ _ _ (the_row g c) row files asked) (λ row files asked calm. complete _ _ _ _ _ _ _ _ _ (the_row g c) row files asked calm.files calm.sink)
+
+pub returns-in-Err-clause-books : goal.returns-in-Err-clause-books
+returns-in-Err-clause-books g c = books_of _ (λ row files asked. exact_yield row files c.code.result (inr (inr c.code.ensures))) (λ row files asked calm. inl c.code.ensures)
+
+pub returns-in_default-clause-books : goal.returns-in_default-clause-books
+returns-in_default-clause-books g c = books_of _ (λ row files asked. absurd (c.in_default.ensures row asked.is_row)) (λ row files asked calm. absurd (c.in_default.ensures row asked.is_row))

@@ -1,0 +1,52 @@
+-- What the program answers to a row, for the bytes of the files that it names.
+use Rattle.std.specs.Prelude.{◌≡◌, ℕ, List, Some, IsSome, ◌⊎◌}
+use Rattle.aj_sources.specs.declared.refusal.Ending.{Ending}
+use Rattle.aj_sources.specs.Refusals.{code_of}
+use Rattle.aj_commands.specs.declared.command.Command.{Command}
+use Rattle.aj_commands.specs.declared.command.Command.TheVariants.{Check, Print, Run, Serialise, Derive, Verify}
+use Rattle.aj_commands.specs.Lines.{too_large_line}
+use Rattle.aj_commands.specs.Rows.{Row}
+use Rattle.aj_commands.specs.Files.{first_too_large, AreWithin, file_at}
+use Rattle.aj_commands.specs.Check.{CheckAnswer, CheckFact}
+use Rattle.aj_commands.specs.Print.{PrintAnswer, PrintFact}
+use Rattle.aj_commands.specs.Run.{RunAnswer, RunFact}
+use Rattle.aj_commands.specs.Serialise.{SerialiseAnswer, SerialiseFact}
+use Rattle.aj_commands.specs.Derive.{DeriveAnswer, DeriveFact}
+use Rattle.aj_commands.specs.Verify.{VerifyAnswer, VerifyFact}
+
+-- the texts that belong to each ending of a command
+abbrev pub Answer : Command → List (List ℕ) → Ending → List ℕ → Type 0
+Answer Check files = CheckAnswer (file_at files 0)
+Answer Print files = PrintAnswer (file_at files 0)
+Answer Run files = RunAnswer (file_at files 0) (file_at files 1)
+Answer Serialise files = SerialiseAnswer (file_at files 0) (file_at files 1)
+Answer Derive files = DeriveAnswer (file_at files 0)
+Answer Verify files = VerifyAnswer (file_at files 0) (file_at files 1)
+
+-- when a command ends how
+abbrev pub Fact : Command → List (List ℕ) → Ending → Type 0
+Fact Check files = CheckFact (file_at files 0)
+Fact Print files = PrintFact (file_at files 0)
+Fact Run files = RunFact (file_at files 0) (file_at files 1)
+Fact Serialise files = SerialiseFact (file_at files 0) (file_at files 1)
+Fact Derive files = DeriveFact (file_at files 0)
+Fact Verify files = VerifyFact (file_at files 0) (file_at files 1)
+
+-- the status and the text that belong to a row and the bytes of its files
+pub data Belongs (row : Row) (files : List (List ℕ)) : ℕ → List ℕ → Type 0 where
+  too_large : (name : List ℕ) → first_too_large row files ≡ Some name → Belongs row files 10 (too_large_line name)
+  ended : (ending : Ending) (text : List ℕ) → AreWithin row files → Answer row.command files ending text → Belongs row files (code_of ending) text
+
+-- the answers that come before a status, or in its place: a file that can't be read, a sink that fails, want of memory
+abbrev pub Yields : ℕ → Type 0
+Yields status = (status ≡ 6) ⊎ ((status ≡ 7) ⊎ (status ≡ 8))
+
+-- the status comes exactly where the fact holds, but for those answers
+pub record Exactly (result status : ℕ) (fact : Type 0) : Type 0 where
+  pub only : result ≡ status → fact
+  pub all : fact → (result ≡ status) ⊎ Yields result
+
+-- which status comes for a row and the bytes of its files
+pub record IsExact (row : Row) (files : List (List ℕ)) (result : ℕ) : Type 0 where
+  pub too_large : Exactly result 10 (IsSome (first_too_large row files))
+  pub ended : (ending : Ending) → Exactly result (code_of ending) (AreWithin row files × Fact row.command files ending)
