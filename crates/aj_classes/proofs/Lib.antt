@@ -1,4 +1,5 @@
 mod Sets
+mod Counting
 mod Tables
 mod Titles
 mod Leasts

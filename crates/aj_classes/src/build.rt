@@ -196,7 +196,7 @@ fn method_set<'a>(alloc: Global, members: &[Member<'a>]) -> Result<NameSet<'a>, 
     Ok(names)
 }
 
-/// A class, where so many fields and methods stand before.
+/// A class, where so many fields and methods stand before. There is no memory for a class whose members are too many for ids.
 fn class_entry<'a>(
     alloc: Global,
     class: &Class<'a>,
@@ -206,10 +206,10 @@ fn class_entry<'a>(
     ensures { IfOk result (λ c. class_data c ≡ class_at first_field first_method (class_of class.now)) }
 {
     let members = class.members.as_slice();
+    check_room(first_field, members.len())?;
+    check_room(first_method, members.len())?;
     let field_names = field_set(alloc, members)?;
-    check_room(first_field, field_names.len())?;
     let method_names = method_set(alloc, members)?;
-    check_room(first_method, method_names.len())?;
     Ok(ClassEntry {
         runnable: class.runnable,
         first_field,

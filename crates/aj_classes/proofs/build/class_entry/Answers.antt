@@ -1,0 +1,19 @@
+-- A class has no more names than members, for which there is room.
+use Rattle.std.proofs.Common.{map, length, ap, arith}
+use Rattle.std.proofs.lemmas.List.{length-map}
+use Rattle.aj_syntax.specs.Views.{member_of}
+use Rattle.aj_classes.proofs.Counting.{few_fields, few_methods}
+use Rattle.aj_classes.proofs.build.class_entry.Goals as goal
+
+pub invariant_of-result : goal.invariant_of-result
+invariant_of-result c =
+    let members = c.as_slice-members.result.now in
+    let count = length-map members member_of in
+    let fields = few_fields (map member_of members) in
+    let methods = few_methods (map member_of members) in
+    let own_fields = ap length c.in_ok-field_names.ensures in
+    let own_methods = ap length c.in_ok-method_names.ensures in
+    record {
+      few_fields = omega (arith, c.in_ok-check_room.ensures);
+      few_methods = omega (arith, c.in_ok-check_room-2.ensures);
+    }
