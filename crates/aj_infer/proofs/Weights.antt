@@ -21,11 +21,11 @@ abbrev mutual
   weights_of (and_expr e es) = 1 + (weight_of e + weights_of es)
 
 abbrev mutual
-  -- more than the weights of all statements in it
+  -- more than the weights of all statements in it; by two where a function of its own goes to them
   pub stmt_weight : Stmt → ℕ
   stmt_weight (BlockS ss) = 1 + stmts_weight ss
-  stmt_weight (IfS c s t) = 1 + (stmt_weight s + stmt_weight t)
-  stmt_weight (WhileS c s) = 1 + stmt_weight s
+  stmt_weight (IfS c s t) = 2 + (stmt_weight s + stmt_weight t)
+  stmt_weight (WhileS c s) = 2 + stmt_weight s
   stmt_weight (SyncS p s) = 1 + stmt_weight s
   stmt_weight _ = 1
 

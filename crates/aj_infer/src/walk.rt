@@ -1,8 +1,9 @@
 //! The effect of a body at every set of held paths at once.
-ghost use Rattle.std.specs.Prelude.{◌≡◌, IfOk, if◌then◌else◌};
-ghost use Rattle.aj_algebra.specs.Basics.{seq_of};
+ghost use Rattle.std.specs.Prelude.{◌≡◌, ◌++◌, false, IfOk, if◌then◌else◌};
+ghost use Rattle.aj_algebra.specs.Basics.{seq_of, join_of, star_of};
 ghost use Rattle.aj_algebra.specs.HeldPaths.{Held};
-ghost use Rattle.aj_algebra.specs.Values.{Keeps};
+ghost use Rattle.aj_algebra.specs.Values.{sync_of, Keeps};
+ghost use Rattle.aj_core.specs.Core.{SetFieldS, IfS, WhileS};
 ghost use Rattle.aj_core.specs.Locks.{path_of};
 ghost use Rattle.aj_core.specs.Views.{expr_of, exprs_from, stmt_of, stmts_from};
 ghost use Rattle.aj_rules.specs.Mentions.{mentions, block_mentions};
@@ -93,6 +94,99 @@ fn then_basic<G: Algebra>(
     algebra.seq(alloc, &value, &next)
 }
 
+/// Three values, one after the other.
+fn in_turn<G: Algebra>(
+    alloc: Global,
+    algebra: &mut G,
+    first: G::A,
+    second: G::A,
+    third: G::A,
+) -> Result<G::A, NoMemory>
+    requires first { G.IsKnown algebra.old first }
+    requires second { G.IsKnown algebra.old second }
+    requires third { G.IsKnown algebra.old third }
+    ensures known { IfOk result (λ r. G.IsKnown algebra.new r) }
+    ensures value { IfOk result (λ r. (H : Held) → let v = G.value algebra.old in
+        G.value algebra.new r H ≡ seq_of (v first H) (seq_of (v second H) (v third H))) }
+    ensures keeps { Keeps G.IsKnown G.value algebra.old algebra.new }
+{
+    let rest = algebra.seq(alloc, &second, &third)?;
+    algebra.seq(alloc, &first, &rest)
+}
+
+/// A test, then one of two branches.
+fn choice<G: Algebra>(
+    alloc: Global,
+    algebra: &mut G,
+    test: G::A,
+    first: G::A,
+    second: G::A,
+) -> Result<G::A, NoMemory>
+    requires test { G.IsKnown algebra.old test }
+    requires first { G.IsKnown algebra.old first }
+    requires second { G.IsKnown algebra.old second }
+    ensures known { IfOk result (λ r. G.IsKnown algebra.new r) }
+    ensures value { IfOk result (λ r. (H : Held) → let v = G.value algebra.old in
+        G.value algebra.new r H ≡ seq_of (v test H) (join_of (v first H) (v second H))) }
+    ensures keeps { Keeps G.IsKnown G.value algebra.old algebra.new }
+{
+    let either = algebra.join(alloc, &first, &second)?;
+    algebra.seq(alloc, &test, &either)
+}
+
+/// A test, then the body and the test again, any number of times.
+fn repeated<G: Algebra>(
+    alloc: Global,
+    algebra: &mut G,
+    test: G::A,
+    body: G::A,
+) -> Result<G::A, NoMemory>
+    requires test { G.IsKnown algebra.old test }
+    requires body { G.IsKnown algebra.old body }
+    ensures known { IfOk result (λ r. G.IsKnown algebra.new r) }
+    ensures value { IfOk result (λ r. (H : Held) → let v = G.value algebra.old in
+        G.value algebra.new r H ≡ seq_of (v test H) (star_of (seq_of (v body H) (v test H)))) }
+    ensures keeps { Keeps G.IsKnown G.value algebra.old algebra.new }
+{
+    let turn = algebra.seq(alloc, &body, &test)?;
+    let turns = algebra.star(alloc, &turn)?;
+    algebra.seq(alloc, &test, &turns)
+}
+
+/// A body with this path locked.
+fn synchronized<G: Algebra>(
+    alloc: Global,
+    algebra: &mut G,
+    path: &Path,
+    body: G::A,
+) -> Result<G::A, NoMemory>
+    requires { G.IsKnown algebra.old body }
+    ensures known { IfOk result (λ r. G.IsKnown algebra.new r) }
+    ensures value { IfOk result (λ r. (H : Held) → G.value algebra.new r H ≡ sync_of path.now (G.value algebra.old body) H) }
+    ensures keeps { Keeps G.IsKnown G.value algebra.old algebra.new }
+{
+    algebra.sync(alloc, path, &body)
+}
+
+/// A receiver's value, then a read of its field.
+fn then_read<G: Algebra>(
+    alloc: Global,
+    walk: &Walk<'_>,
+    algebra: &mut G,
+    value: G::A,
+    receiver: &CoreExpr,
+    field: FieldId,
+) -> Result<G::A, NoMemory>
+    requires { G.IsKnown algebra.old value }
+    ensures known { IfOk result (λ r. G.IsKnown algebra.new r) }
+    ensures value { IfOk result (λ r. (H : Held) → let P = program_at walk.now in
+        G.value algebra.new r H ≡ seq_of (G.value algebra.old value H) (access_of P false field (path_of P (expr_of receiver.now)) H)) }
+    ensures keeps { Keeps G.IsKnown G.value algebra.old algebra.new }
+{
+    let access = access_value(alloc, walk, algebra, receiver, field, false)?;
+    algebra.seq(alloc, &value, &access)
+}
+
 /// The effect of an expression.
 #[cycle(expressions)]
 fn expr_value<G: Algebra>(
@@ -120,15 +214,13 @@ fn expr_value<G: Algebra>(
         }
         CoreExpr::Get(a, field) => {
             let receiver = expr_value(alloc, walk, algebra, a)?;
-            let access = access_value(alloc, walk, algebra, a, *field, false)?;
-            algebra.seq(alloc, &receiver, &access)
+            then_read(alloc, walk, algebra, receiver, a, *field)
         }
         CoreExpr::Call(a, callee, args) => {
             let receiver = expr_value(alloc, walk, algebra, a)?;
             let passed = exprs_value(alloc, walk, algebra, args.as_slice())?;
             let call = call_value(alloc, walk, algebra, a, *callee, args.as_slice())?;
-            let rest = algebra.seq(alloc, &passed, &call)?;
-            algebra.seq(alloc, &receiver, &rest)
+            in_turn(alloc, algebra, receiver, passed, call)
         }
         CoreExpr::New(_, args) => {
             let passed = exprs_value(alloc, walk, algebra, args.as_slice())?;
@@ -158,6 +250,43 @@ fn exprs_value<G: Algebra>(
     algebra.seq(alloc, &first, &later)
 }
 
+/// An expression, then a basic.
+fn expr_then<G: Algebra>(
+    alloc: Global,
+    walk: &Walk<'_>,
+    algebra: &mut G,
+    e: &CoreExpr,
+    next: Basic,
+) -> Result<G::A, NoMemory>
+    ensures known { IfOk result (λ r. G.IsKnown algebra.new r) }
+    ensures value { IfOk result (λ r. (H : Held) →
+        G.value algebra.new r H ≡ seq_of (expr_effect (program_at walk.now) (rel_at walk.now) (assigned_at walk.now) (expr_of e.now) H) next) }
+    ensures keeps { Keeps G.IsKnown G.value algebra.old algebra.new }
+{
+    let value = expr_value(alloc, walk, algebra, e)?;
+    then_basic(alloc, algebra, value, next)
+}
+
+/// Writing what an expression gives into a field of a receiver.
+fn write_value<G: Algebra>(
+    alloc: Global,
+    walk: &Walk<'_>,
+    algebra: &mut G,
+    receiver: &CoreExpr,
+    field: FieldId,
+    written: &CoreExpr,
+) -> Result<G::A, NoMemory>
+    ensures known { IfOk result (λ r. G.IsKnown algebra.new r) }
+    ensures value { IfOk result (λ r. (H : Held) →
+        G.value algebra.new r H ≡ effect (program_at walk.now) (rel_at walk.now) (assigned_at walk.now) (SetFieldS (expr_of receiver.now) field (expr_of written.now)) H) }
+    ensures keeps { Keeps G.IsKnown G.value algebra.old algebra.new }
+{
+    let before = expr_value(alloc, walk, algebra, receiver)?;
+    let value = expr_value(alloc, walk, algebra, written)?;
+    let access = access_value(alloc, walk, algebra, receiver, field, true)?;
+    in_turn(alloc, algebra, before, value, access)
+}
+
 /// The effect of a statement of the method's body.
 #[cycle(statements)]
 pub(crate) fn stmt_value<G: Algebra>(
@@ -177,40 +306,66 @@ pub(crate) fn stmt_value<G: Algebra>(
         CoreStmt::Empty | CoreStmt::Return(None) => algebra.leaf(alloc, Basic::Const),
         CoreStmt::Block(body) => block_value(alloc, walk, algebra, body.as_slice()),
         CoreStmt::Local { value, .. } | CoreStmt::SetVar(_, value) => {
-            let value = expr_value(alloc, walk, algebra, value)?;
-            then_basic(alloc, algebra, value, Basic::Mover)
+            expr_then(alloc, walk, algebra, value, Basic::Mover)
         }
-        CoreStmt::SetField(a, field, b) => {
-            let receiver = expr_value(alloc, walk, algebra, a)?;
-            let value = expr_value(alloc, walk, algebra, b)?;
-            let access = access_value(alloc, walk, algebra, a, *field, true)?;
-            let rest = algebra.seq(alloc, &value, &access)?;
-            algebra.seq(alloc, &receiver, &rest)
-        }
+        CoreStmt::SetField(a, field, b) => write_value(alloc, walk, algebra, a, *field, b),
         CoreStmt::Do(e, _) | CoreStmt::Return(Some(e)) => expr_value(alloc, walk, algebra, e),
-        CoreStmt::If(c, a, b) => {
-            let test = expr_value(alloc, walk, algebra, c)?;
-            let first = stmt_value(alloc, walk, algebra, a)?;
-            let second = stmt_value(alloc, walk, algebra, b)?;
-            let either = algebra.join(alloc, &first, &second)?;
-            algebra.seq(alloc, &test, &either)
-        }
-        CoreStmt::While(c, a) => {
-            let test = expr_value(alloc, walk, algebra, c)?;
-            let body = stmt_value(alloc, walk, algebra, a)?;
-            let turn = algebra.seq(alloc, &body, &test)?;
-            let turns = algebra.star(alloc, &turn)?;
-            algebra.seq(alloc, &test, &turns)
-        }
+        CoreStmt::If(c, a, b) => if_value(alloc, walk, algebra, c, a, b),
+        CoreStmt::While(c, a) => while_value(alloc, walk, algebra, c, a),
         CoreStmt::Sync(path, a) => {
             let body = stmt_value(alloc, walk, algebra, a)?;
-            algebra.sync(alloc, path, &body)
+            synchronized(alloc, algebra, path, body)
         }
         CoreStmt::Print(e) | CoreStmt::Start(e) => {
-            let value = expr_value(alloc, walk, algebra, e)?;
-            then_basic(alloc, algebra, value, Basic::Atomic)
+            expr_then(alloc, walk, algebra, e, Basic::Atomic)
         }
     }
+}
+
+/// The effect of an `if` statement of the method's body.
+#[cycle(statements)]
+fn if_value<G: Algebra>(
+    alloc: Global,
+    walk: &Walk<'_>,
+    algebra: &mut G,
+    test: &CoreExpr,
+    first: &CoreStmt,
+    second: &CoreStmt,
+) -> Result<G::A, NoMemory>
+    requires relevant { AreRelevant (program_at walk.now) walk.now.sets.now }
+    requires parts { AreOfBody walk.now (mentions (stmt_of first.now) ++ mentions (stmt_of second.now)) }
+    ensures known { IfOk result (λ r. G.IsKnown algebra.new r) }
+    ensures value { IfOk result (λ r. (H : Held) →
+        G.value algebra.new r H ≡ effect (program_at walk.now) (rel_at walk.now) (assigned_at walk.now)
+        (IfS (expr_of test.now) (stmt_of first.now) (stmt_of second.now)) H) }
+    ensures keeps { Keeps G.IsKnown G.value algebra.old algebra.new }
+{
+    let test = expr_value(alloc, walk, algebra, test)?;
+    let first = stmt_value(alloc, walk, algebra, first)?;
+    let second = stmt_value(alloc, walk, algebra, second)?;
+    choice(alloc, algebra, test, first, second)
+}
+
+/// The effect of a loop of the method's body.
+#[cycle(statements)]
+fn while_value<G: Algebra>(
+    alloc: Global,
+    walk: &Walk<'_>,
+    algebra: &mut G,
+    test: &CoreExpr,
+    body: &CoreStmt,
+) -> Result<G::A, NoMemory>
+    requires relevant { AreRelevant (program_at walk.now) walk.now.sets.now }
+    requires part { AreOfBody walk.now (mentions (stmt_of body.now)) }
+    ensures known { IfOk result (λ r. G.IsKnown algebra.new r) }
+    ensures value { IfOk result (λ r. (H : Held) →
+        G.value algebra.new r H ≡ effect (program_at walk.now) (rel_at walk.now) (assigned_at walk.now)
+        (WhileS (expr_of test.now) (stmt_of body.now)) H) }
+    ensures keeps { Keeps G.IsKnown G.value algebra.old algebra.new }
+{
+    let test = expr_value(alloc, walk, algebra, test)?;
+    let body = stmt_value(alloc, walk, algebra, body)?;
+    repeated(alloc, algebra, test, body)
 }
 
 /// A statement of a block and then the rest of the block, from the rest's value.

@@ -20,12 +20,12 @@ expr_value-exprs_value-requires-in-New g t c κs within =
     let s = ap (λ xs. weights_of (exprs_from xs)) c.as_slice-in-New.ensures.value in
     (omega arith, within)
 
-pub expr_value-returns-in_ok-rest-in-Call-clause-value :
-    goal.expr_value-returns-in_ok-rest-in-Call-clause-value
-expr_value-returns-in_ok-rest-in-Call-clause-value g t c =
+pub expr_value-returns-in_ok-call-in-Call-clause-value :
+    goal.expr_value-returns-in_ok-call-in-Call-clause-value
+expr_value-returns-in_ok-call-in-Call-clause-value g t c =
     let w = c.args.walk.now in
     let e = ap expr_of c.in-Call.is ∙ expr_of-Call c.in-Call.a c.in-Call.callee c.in-Call.args in
-    value_same g.G.Algebra.value c.seq-in-Call-2.new.self c.seq-in-Call-2.result
+    value_same g.G.Algebra.value c.in_turn.new.algebra c.in_turn.result
     (expr_effect (program_at w) (rel_at w) (assigned_at w) (CallE (expr_of c.in-Call.a.value) c.in-Call.callee (exprs_from c.in-Call.args.items)))
     (expr_effect (program_at w) (rel_at w) (assigned_at w) (expr_of c.args.e.now))
     (λ H. ap (λ x. expr_effect (program_at w) (rel_at w) (assigned_at w) x H) (sym e))

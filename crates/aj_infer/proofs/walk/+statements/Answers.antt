@@ -30,13 +30,11 @@ stmt_value-block_value-requires g t c κs within =
       ),
     )
 
-pub stmt_value-stmt_value-requires : goal.stmt_value-stmt_value-requires
-stmt_value-stmt_value-requires g t c κs within =
+pub stmt_value-if_value-requires : goal.stmt_value-if_value-requires
+stmt_value-if_value-requires g t c κs within =
     let lighter = ap (λ s. stmt_weight (stmt_of s)) c.in-If.is in
-    let same = ap (λ s. stmt_weight (stmt_of s)) c.deref-in-If-2.ensures in
-    let P = program_at c.args.walk.now in
-    let m = c.args.walk.now.method in
-    let both = mentions (stmt_of c.in-If.a.value) ++ mentions (stmt_of c.in-If.b.value) in (
+    let same_first = ap (λ s. stmt_weight (stmt_of s)) c.deref-in-If-2.ensures in
+    let same_second = ap (λ s. stmt_weight (stmt_of s)) c.deref-in-If-3.ensures in (
       omega arith,
       (
         within.0,
@@ -44,36 +42,16 @@ stmt_value-stmt_value-requires g t c κs within =
           within.1,
           (
             c.requires.relevant,
-            first_part P m both (mentions (stmt_of c.in-If.a.value)) (mentions (stmt_of c.in-If.b.value)) (mentions (stmt_of c.deref-in-If-2.result.now)) refl (ap (λ s. mentions (stmt_of s)) c.deref-in-If-2.ensures)
-                (second_part P m (mentions (stmt_of c.args.s.now)) (expr_mentions (expr_of c.in-If.c.value)) both both (ap (λ s. mentions (stmt_of s)) c.in-If.is) refl c.requires.part),
+            second_part (program_at c.args.walk.now) c.args.walk.now.method (mentions (stmt_of c.args.s.now)) (expr_mentions (expr_of c.in-If.c.value))
+                (mentions (stmt_of c.in-If.a.value) ++ mentions (stmt_of c.in-If.b.value)) (mentions (stmt_of c.deref-in-If-2.result.now) ++ mentions (stmt_of c.deref-in-If-3.result.now))
+                (ap (λ s. mentions (stmt_of s)) c.in-If.is) (λ i. mentions (stmt_of (c.deref-in-If-2.ensures i)) ++ mentions (stmt_of (c.deref-in-If-3.ensures i))) c.requires.part,
           ),
         ),
       ),
     )
 
-pub stmt_value-stmt_value-requires-in-If : goal.stmt_value-stmt_value-requires-in-If
-stmt_value-stmt_value-requires-in-If g t c κs within =
-    let lighter = ap (λ s. stmt_weight (stmt_of s)) c.in-If.is in
-    let same = ap (λ s. stmt_weight (stmt_of s)) c.deref-in-If-3.ensures in
-    let P = program_at c.args.walk.now in
-    let m = c.args.walk.now.method in
-    let both = mentions (stmt_of c.in-If.a.value) ++ mentions (stmt_of c.in-If.b.value) in (
-      omega arith,
-      (
-        within.0,
-        (
-          within.1,
-          (
-            c.requires.relevant,
-            second_part P m both (mentions (stmt_of c.in-If.a.value)) (mentions (stmt_of c.in-If.b.value)) (mentions (stmt_of c.deref-in-If-3.result.now)) refl (ap (λ s. mentions (stmt_of s)) c.deref-in-If-3.ensures)
-                (second_part P m (mentions (stmt_of c.args.s.now)) (expr_mentions (expr_of c.in-If.c.value)) both both (ap (λ s. mentions (stmt_of s)) c.in-If.is) refl c.requires.part),
-          ),
-        ),
-      ),
-    )
-
-pub stmt_value-stmt_value-requires-in-While : goal.stmt_value-stmt_value-requires-in-While
-stmt_value-stmt_value-requires-in-While g t c κs within =
+pub stmt_value-while_value-requires : goal.stmt_value-while_value-requires
+stmt_value-while_value-requires g t c κs within =
     let lighter = ap (λ s. stmt_weight (stmt_of s)) c.in-While.is in
     let same = ap (λ s. stmt_weight (stmt_of s)) c.deref-in-While-2.ensures in (
       omega arith,
@@ -90,8 +68,24 @@ stmt_value-stmt_value-requires-in-While g t c κs within =
       ),
     )
 
-pub stmt_value-stmt_value-requires-in-Sync : goal.stmt_value-stmt_value-requires-in-Sync
-stmt_value-stmt_value-requires-in-Sync g t c κs within =
+pub if_value-stmt_value-requires : goal.if_value-stmt_value-requires
+if_value-stmt_value-requires g t c κs within =
+    let first = mentions (stmt_of c.args.first.now) in
+    let second = mentions (stmt_of c.args.second.now) in (
+      omega arith,
+      (within.0, (within.1, (c.requires.relevant, first_part (program_at c.args.walk.now) c.args.walk.now.method (first ++ second) first second first refl refl c.requires.parts))),
+    )
+
+pub if_value-stmt_value-requires-2 : goal.if_value-stmt_value-requires-2
+if_value-stmt_value-requires-2 g t c κs within =
+    let first = mentions (stmt_of c.args.first.now) in
+    let second = mentions (stmt_of c.args.second.now) in (
+      omega arith,
+      (within.0, (within.1, (c.requires.relevant, second_part (program_at c.args.walk.now) c.args.walk.now.method (first ++ second) first second second refl refl c.requires.parts))),
+    )
+
+pub stmt_value-stmt_value-requires : goal.stmt_value-stmt_value-requires
+stmt_value-stmt_value-requires g t c κs within =
     let lighter = ap (λ s. stmt_weight (stmt_of s)) c.in-Sync.is in
     let same = ap (λ s. stmt_weight (stmt_of s)) c.deref-in-Sync.ensures in (
       omega arith,

@@ -11,6 +11,12 @@ use Rattle.aj_infer.proofs.walk.+statements.Given as goal
 abbrev pub decreases-stmt_value : goal.decreases-stmt_value
 decreases-stmt_value G l = stmt_weight (stmt_of l.s.now)
 
+abbrev pub decreases-if_value : goal.decreases-if_value
+decreases-if_value G l = 1 + (stmt_weight (stmt_of l.first.now) + stmt_weight (stmt_of l.second.now))
+
+abbrev pub decreases-while_value : goal.decreases-while_value
+decreases-while_value G l = 1 + stmt_weight (stmt_of l.body.now)
+
 abbrev pub decreases-statement_and_rest : goal.decreases-statement_and_rest
 decreases-statement_and_rest G l = 1 + stmt_weight (stmt_of l.s.now)
 
