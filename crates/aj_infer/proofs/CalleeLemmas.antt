@@ -1,8 +1,8 @@
 -- The methods that a body calls are those of its list, and what rows of callers keep.
-use Rattle.std.proofs.Common.{◌≡◌, ℕ, zero, suc, ◌+◌, ◌<◌, ◌≤◌, ◌⊎◌, Bool, true, false, ◌||◌, ◌==◌, List, [], ◌∷◌, ◌++◌, length, map, take, get_or, slice_get, Some, None, refl, sym, ap, subst, ◌∙◌, arith, inl, inr}
+use Rattle.std.proofs.Common.{◌≡◌, ℕ, zero, suc, ◌+◌, ◌<◌, ◌≤◌, ◌⊎◌, Bool, true, false, ◌||◌, ◌==◌, List, [], ◌∷◌, ◌++◌, length, map, take, get_or, slice_get, slice_set, Some, None, refl, sym, ap, subst, ◌∙◌, arith, inl, inr}
 use Rattle.std.specs.Prelude.{Option, Result, Ok, Err, OnOk, Contains}
 use Rattle.std.proofs.lemmas.Grind.{common_steps}
-use Rattle.std.proofs.lemmas.List.{take_more}
+use Rattle.std.proofs.lemmas.List.{take_more, length-set}
 use Rattle.std.proofs.lemmas.Option.{slice_get_within, slice_get-get_or}
 use Rattle.std.proofs.lemmas.List.Elements.{Contains-push, Contains-push_cases, Contains-append_left, Contains-append_right}
 use Rattle.std.proofs.lemmas.Bool.{eqb-true, or_right, or_left, eq-eqb}
@@ -11,7 +11,7 @@ use Rattle.aj_core.specs.Core.{Stmt, Stmts, EmptyS, BlockS, LocalS, SetVarS, Set
 use Rattle.aj_core.specs.declared.program.CoreMethod.{CoreMethod}
 use Rattle.aj_core.specs.Views.{method_of, stmt_of}
 use Rattle.aj_infer.proofs.Lookups.{found_method}
-use Rattle.aj_fix.proofs.NoteLemmas.{contains_none, contains_cases}
+use Rattle.aj_fix.proofs.NoteLemmas.{contains_none, contains_cases, set_here, set_at}
 use Rattle.aj_infer.specs.Called.{expr_calls, exprs_call, stmt_calls, block_calls, expr_callees, exprs_callees, stmt_callees, block_callees, method_calls, calls, row_of, row_at, HasCaller, HasCallers, has_caller, AreCallers}
 
 or_has : (callee : ℕ) (a b : Bool) (xs ys : List ℕ) → (a || b) ≡ true → (a ≡ true → Contains xs callee) → (b ≡ true → Contains ys callee) → Contains (xs ++ ys) callee
@@ -68,6 +68,22 @@ module _ (callee : ℕ) where
     block_has (and_stmt s ss) c = or_has callee (stmt_calls test s) (block_calls test ss) (stmt_callees s) (block_callees ss) c (stmt_has s) (block_has ss)
 
 -- Rows of callers.
+
+-- the row of a method with the caller behind what it had
+pub caller_put : (rows : List (List ℕ)) (place callee caller : ℕ) (row longer none : List ℕ) → place ≡ callee → place < length rows → row ≡ get_or rows place none → longer ≡ row ++ caller ∷ []
+    → HasCaller rows (slice_set rows place longer) callee caller
+caller_put rows place callee caller row longer none place_is below is put = record {
+  size = length-set rows place longer;
+  has = λ within. subst (λ m. Contains (row_at (slice_set rows place longer) m) caller) place_is
+      (subst (λ o. Contains (row_of o) caller) (sym (set_here rows place longer below)) (subst (λ l. Contains l caller) (sym put) (Contains-push row caller)));
+  still = λ m k h. elim (set_at rows place longer m) as (λ _. Contains (row_at (slice_set rows place longer) m) k) [
+    | inl here ↦ subst (λ o. Contains (row_of o) k) (sym here.1) (subst (λ l. Contains l k) (sym put) (Contains-append_left row (caller ∷ []) k (subst (λ l. Contains l k) (there m here.0) h)))
+    | inr other ↦ subst (λ o. Contains (row_of o) k) (sym other) h
+  ];
+}
+  where
+    there : (m : ℕ) → place ≡ m → row_at rows m ≡ row
+    there m same = ap row_of (subst (λ n. slice_get rows n ≡ Some row) same (slice_get-get_or rows place none below ∙ ap Some (sym is)))
 
 -- no callee so far, and one more
 pub callers_none : (rows : List (List ℕ)) (caller : ℕ) → HasCallers rows rows [] caller
