@@ -1,8 +1,8 @@
 -- Rows of basics, one place more at a time.
-use Rattle.std.proofs.Common.{◌≡◌, ℕ, zero, suc, ◌+◌, ◌<◌, ◌≤◌, Bool, true, false, ◌&&◌, ◌||◌, List, [], ◌∷◌, ◌++◌, length, length-append, drop, get_or, slice_get, None, refl, sym, ap, subst, ◌∙◌, arith, append_assoc}
+use Rattle.std.proofs.Common.{◌≡◌, ℕ, zero, suc, ◌+◌, ◌-◌, ◌<◌, ◌≤◌, Bool, true, false, ◌&&◌, ◌||◌, List, [], ◌∷◌, ◌++◌, length, length-append, take, drop, get_or, slice_get, None, refl, sym, ap, subst, ◌∙◌, arith, append_assoc}
 use Rattle.std.specs.Prelude.{Result, Ok, Err, OnOk}
 use Rattle.std.proofs.lemmas.List.Folds.{list_any-append}
-use Rattle.std.proofs.Math.Seq.{drop-append_seam}
+use Rattle.std.proofs.Math.Seq.{take-append_seam, drop-append_seam}
 use Rattle.std.proofs.Math.Numerals.{add-one}
 use Rattle.aj_paths.specs.Paths.{PathData, path_eq}
 use Rattle.aj_paths.proofs.PathOrder.{eq_is}
@@ -102,3 +102,11 @@ consts_repeated (Ok a) old one two paths rest p first paths_are first_is one_is 
     let others = at_parts (λ qs. Const) (held ++ p ∷ []) rest in
     repeated ∙ ap (λ n. one ++ drop n one) first_is ∙ (let front = one_is held in let back = one_is (held ++ p ∷ []) in λ i. front i ++ drop (length old) (back i))
     ∙ ap (λ bs. (old ++ parts) ++ bs) (drop-append_seam old others) ∙ append_assoc old parts others ∙ ap (λ ps. old ++ at_parts (λ qs. Const) held ps) (sym paths_are)
+
+-- what was put behind a list and taken away again leaves the list
+pub put_and_taken : {X : Type 0} (old first put second taken : List X) (x : X) (count : ℕ) → first ≡ old → put ≡ first ++ x ∷ [] → second ≡ put → count ≡ length second → taken ≡ take (count - 1) second → taken ≡ old
+put_and_taken old first put second taken x count first_is put_is second_is count_is taken_is =
+    let all = second_is ∙ put_is ∙ ap (λ xs. xs ++ x ∷ []) first_is in
+    let size = ap length all ∙ length-append old (x ∷ []) in
+    let less : count - 1 ≡ length old = omega (arith, size, count_is) in
+    taken_is ∙ (λ i. take (less i) (all i)) ∙ take-append_seam old (x ∷ [])

@@ -1,7 +1,8 @@
 use Rattle.std.proofs.Common.{arith}
 use Rattle.aj_rules.specs.Near.{rel_of}
 use Rattle.aj_infer.specs.Tables.{assigned}
-use Rattle.aj_infer.proofs.ValueLemmas.{all_values, assigned_past}
+use Rattle.aj_infer.proofs.Answers.{keeps_both}
+use Rattle.aj_infer.proofs.ValueLemmas.{all_values, values_more, assigned_past}
 use Rattle.aj_infer.proofs.inference.values_of.Goals as goal
 
 pub returns-clause-same : goal.returns-clause-same
@@ -9,3 +10,10 @@ returns-clause-same g c =
     let rel = rel_of c.args.sets.now in
     λ i m H. all_values g.G.Algebra.IsKnown g.G.Algebra.value (assigned rel c.args.tables.now) c.loop-method.algebra c.loop-method.values.items c.loop-method.method c.loop-method.invariant.values
     (λ n K past. assigned_past rel c.args.tables.now n K (omega (arith, past, c.loop-method-test.false))) m H i
+
+pub loop-method-preserved : goal.loop-method-preserved
+loop-method-preserved g c = record {
+  values = values_more g.G.Algebra.IsKnown g.G.Algebra.value (assigned (rel_of c.args.sets.now) c.args.tables.now) c.loop-method.algebra c.value_of.new.algebra c.loop-method.values.items c.push.new.self.items
+      c.in_ok-value_of.field-0 c.loop-method.method c.in_ok-push.ensures.items c.value_of.ensures.keeps c.in_ok-value_of.ensures.known c.in_ok-value_of.ensures.value c.loop-method.invariant.values;
+  keeps = keeps_both g.G.Algebra.IsKnown g.G.Algebra.value _ _ _ c.loop-method.invariant.keeps c.value_of.ensures.keeps;
+}
