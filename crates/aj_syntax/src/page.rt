@@ -10,7 +10,7 @@ use std::alloc::{AllocError as NoMemory, Global};
 use std::marker::Model;
 
 /// The place of the next token, as far as the token before it matters.
-#[derive(Clone, Copy, Debug, PartialEq, Eq)]
+#[derive(Clone, Copy)]
 pub enum Place {
     LineStart,
     /// Behind a token that no blank follows.
@@ -21,7 +21,7 @@ pub enum Place {
 }
 
 /// How a token joins what is before it.
-#[derive(Clone, Copy, Debug, PartialEq, Eq)]
+#[derive(Clone, Copy)]
 pub enum Lead {
     CloseBrace,
     OpenParen,
