@@ -40,7 +40,7 @@ pub enum Op {
 }
 
 /// A type as it is written.
-#[derive(Debug, Drop)]
+#[derive(Drop)]
 pub enum TypeName<'a> {
     Int,
     Boolean,
@@ -48,7 +48,7 @@ pub enum TypeName<'a> {
 }
 
 /// A parameter of a method or a constructor. A constructor's parameter is never final, whatever its text says.
-#[derive(Debug, Drop)]
+#[derive(Drop)]
 pub struct Param<'a> {
     pub is_final: bool,
     pub ty: TypeName<'a>,
@@ -57,7 +57,7 @@ pub struct Param<'a> {
 
 /// A lock expression: a variable, or `this` where there is no root, and the fields that follow.
 /// `at` is the offset of its first token.
-#[derive(Debug, Drop)]
+#[derive(Drop)]
 pub struct Lock<'a> {
     pub root: Option<Name<'a>>,
     pub fields: Vec<Name<'a>>,
@@ -65,7 +65,7 @@ pub struct Lock<'a> {
 }
 
 /// An expression. Its offset is that of its first token, of a binary expression that of the operator.
-#[derive(Debug, Drop)]
+#[derive(Drop)]
 pub enum Expr<'a> {
     Number(u32, u32),
     /// The least number, -2147483648, whose digits alone are no number.
@@ -84,7 +84,7 @@ pub enum Expr<'a> {
 }
 
 /// A statement. Its offset is that of its first token, of an assignment that of the `=`.
-#[derive(Debug, Drop)]
+#[derive(Drop)]
 pub enum Stmt<'a> {
     Empty(u32),
     Block(Vec<Stmt<'a>>, u32),
@@ -108,7 +108,7 @@ pub enum Stmt<'a> {
 
 /// A member of a class. A field's guard holds for its writes alone where `writes_only` is true, and a field without a
 /// guard has it false.
-#[derive(Debug, Drop)]
+#[derive(Drop)]
 pub enum Member<'a> {
     Field {
         is_final: bool,
@@ -135,14 +135,14 @@ pub enum Member<'a> {
     },
 }
 
-#[derive(Debug, Drop)]
+#[derive(Drop)]
 pub struct Class<'a> {
     pub name: Name<'a>,
     pub runnable: bool,
     pub members: Vec<Member<'a>>,
 }
 
-#[derive(Debug, Drop)]
+#[derive(Drop)]
 pub struct Program<'a> {
     pub classes: Vec<Class<'a>>,
 }
