@@ -6,7 +6,7 @@ ghost use Rattle.aj_lexer.specs.Pieces.{is_blank, is_digit, is_word_byte, is_in_
 ghost use Rattle.aj_lexer.specs.Reading.{close_end, block_front, slash_front, sign_front, front};
 
 /// What a piece of a source is.
-#[derive(Clone, Copy, Debug, PartialEq, Eq)]
+#[derive(Clone, Copy)]
 pub enum Piece {
     Blanks,
     Comment,
@@ -18,7 +18,7 @@ pub enum Piece {
 }
 
 /// The piece at the start of a text, and its length in bytes.
-#[derive(Clone, Copy, Debug, PartialEq, Eq)]
+#[derive(Clone, Copy)]
 pub struct Front {
     pub kind: Piece,
     pub len: usize,
