@@ -7,12 +7,12 @@ use Rattle.aj_syntax.specs.declared.tree.Member.{Member}
 use Rattle.aj_syntax.specs.Trees.{MemberTree, FieldM, CtorM, MethodM}
 use Rattle.aj_syntax.specs.Views.{member_of, class_of}
 use Rattle.aj_classes.specs.Table.{TableData}
-use Rattle.aj_elaborate.specs.declared.fault.TypeFault.{TypeFault}
+use Rattle.aj_type_rules.specs.declared.fault.TypeFault.{TypeFault}
 use Rattle.aj_elaborate.specs.Gathered.{appended, with_field, with_method, index_after}
-use Rattle.aj_elaborate.specs.Noted.{noted}
+use Rattle.aj_type_rules.specs.Noted.{noted}
 use Rattle.aj_elaborate.specs.Programs.{all_there, guard_path, field_node, method_core, fields_core, methods_core, member_faults, faults_from, all_fields, all_methods}
 use Rattle.aj_elaborate.proofs.Gathering.{appended_more, appended_assoc, all_there_append}
-use Rattle.aj_elaborate.proofs.Noting.{noted_append}
+use Rattle.aj_type_rules.proofs.Noting.{noted_append}
 
 module _ (t : TableData) where
   one_field : (k i : ℕ) (m : MemberTree) (ms : List MemberTree) (g : Option (List Field))

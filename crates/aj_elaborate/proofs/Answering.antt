@@ -4,11 +4,11 @@ use Rattle.std.specs.Prelude.{MatchResult, IsSome}
 use Rattle.aj_core.specs.Core.{Program, Field, Method}
 use Rattle.aj_syntax.specs.Trees.{ProgramTree}
 use Rattle.aj_classes.specs.Table.{TableData, table_of}
-use Rattle.aj_elaborate.specs.declared.fault.TypeFault.{TypeFault}
-use Rattle.aj_elaborate.specs.declared.fault.TypeFault.TheVariants.{NoMemory as OutOfMemory}
-use Rattle.aj_elaborate.specs.Noted.{noted}
+use Rattle.aj_type_rules.specs.declared.fault.TypeFault.{TypeFault}
+use Rattle.aj_type_rules.specs.declared.fault.TypeFault.TheVariants.{NoMemory as OutOfMemory}
+use Rattle.aj_type_rules.specs.Noted.{noted}
 use Rattle.aj_elaborate.specs.Programs.{IsFirstFault, IsCoreOf, faults_of, faults_from, program_node, all_there, all_fields, all_methods}
-use Rattle.aj_elaborate.specs.Rulings.{both}
+use Rattle.aj_type_rules.specs.Rulings.{both}
 use Rattle.aj_elaborate.specs.Order.{Ascends}
 use Rattle.aj_elaborate.proofs.Ordering.{fields_ascend}
 use Rattle.aj_elaborate.proofs.Complete.{one_core, program_there}

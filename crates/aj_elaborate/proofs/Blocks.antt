@@ -14,16 +14,16 @@ use Rattle.aj_syntax.specs.Trees.{LockTree, StmtTree, StmtTrees}
 use Rattle.aj_syntax.specs.Trees as tree
 use Rattle.aj_syntax.specs.Views.{stmt_of, stmts_from}
 use Rattle.aj_classes.specs.Table.{TableData}
-use Rattle.aj_elaborate.specs.declared.fault.TypeFault.{TypeFault}
-use Rattle.aj_elaborate.specs.Completion.{completes, completes_each, locals_in, locals_in_each}
+use Rattle.aj_type_rules.specs.declared.fault.TypeFault.{TypeFault}
+use Rattle.aj_type_rules.specs.Completion.{completes, completes_each, locals_in, locals_in_each}
 use Rattle.aj_elaborate.specs.Gathered.{one_more}
-use Rattle.aj_elaborate.specs.Noted.{noted}
-use Rattle.aj_elaborate.specs.Locks.{lock_rule}
-use Rattle.aj_elaborate.specs.Rulings.{gain, loss, both}
-use Rattle.aj_elaborate.specs.Scopes.{Scope}
-use Rattle.aj_elaborate.specs.Stmts.{if_node, scope_after, stmt_core, block_core, stmt_faults, block_faults, unreachable}
+use Rattle.aj_type_rules.specs.Noted.{noted}
+use Rattle.aj_type_rules.specs.Locks.{lock_rule}
+use Rattle.aj_type_rules.specs.Rulings.{gain, loss, both}
+use Rattle.aj_type_rules.specs.Scopes.{Scope}
+use Rattle.aj_type_rules.specs.Stmts.{if_node, scope_after, stmt_core, block_core, stmt_faults, block_faults, unreachable}
 use Rattle.aj_elaborate.proofs.Gathering.{so_far, so_far_more, before_rest, linked}
-use Rattle.aj_elaborate.proofs.Noting.{noted_append}
+use Rattle.aj_type_rules.proofs.Noting.{noted_append}
 
 -- a statement before others
 abbrev pub link : node.Stmt × Stmts → Stmts

@@ -9,17 +9,17 @@ use Rattle.aj_syntax.specs.declared.tree.Name.{Name}
 use Rattle.aj_syntax.specs.Trees.{ExprTree, ExprTrees, CallE, NewE}
 use Rattle.aj_syntax.specs.Views.{expr_of, exprs_from}
 use Rattle.aj_classes.specs.Table.{TableData}
-use Rattle.aj_elaborate.specs.declared.fault.TypeFault.{TypeFault}
-use Rattle.aj_elaborate.specs.declared.types.TypedExpr.{TypedExpr}
-use Rattle.aj_elaborate.specs.Exprs.{elaborated, elaborated_each, expr_faults, each_faults, call_fault, new_fault}
+use Rattle.aj_type_rules.specs.declared.fault.TypeFault.{TypeFault}
+use Rattle.aj_type_rules.specs.declared.types.TypedExpr.{TypedExpr}
+use Rattle.aj_type_rules.specs.Exprs.{elaborated, elaborated_each, expr_faults, each_faults, call_fault, new_fault}
 use Rattle.aj_elaborate.specs.Gathered.{one_more}
-use Rattle.aj_elaborate.specs.Noted.{noted}
-use Rattle.aj_elaborate.specs.Rules.{TypedData, TypedList, with_argument, call_rule, new_rule}
-use Rattle.aj_elaborate.specs.Rulings.{given, both}
-use Rattle.aj_elaborate.specs.Scopes.{Scope}
-use Rattle.aj_elaborate.specs.Views.{typed_data, typed_list}
+use Rattle.aj_type_rules.specs.Noted.{noted}
+use Rattle.aj_type_rules.specs.Rules.{TypedData, TypedList, with_argument, call_rule, new_rule}
+use Rattle.aj_type_rules.specs.Rulings.{given, both}
+use Rattle.aj_type_rules.specs.Scopes.{Scope}
+use Rattle.aj_type_rules.specs.Views.{typed_data, typed_list}
 use Rattle.aj_elaborate.proofs.Gathering.{so_far, so_far_more, before_rest, linked}
-use Rattle.aj_elaborate.proofs.Noting.{noted_append}
+use Rattle.aj_type_rules.proofs.Noting.{noted_append}
 
 -- no arguments
 abbrev pub no_rest : Option TypedList

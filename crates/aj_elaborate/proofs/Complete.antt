@@ -11,17 +11,17 @@ use Rattle.aj_core.specs.Core as core
 use Rattle.aj_core.specs.Core.{Stmt, Program}
 use Rattle.aj_core.specs.Typed.{most_locals}
 use Rattle.aj_classes.specs.Table.{TableData, table_of}
-use Rattle.aj_elaborate.specs.declared.fault.TypeFault.TheVariants.{TooManyLocals}
-use Rattle.aj_elaborate.specs.Rules.{type_rule}
-use Rattle.aj_elaborate.specs.Locks.{lock_rule}
-use Rattle.aj_elaborate.specs.Completion.{completes, locals_in}
-use Rattle.aj_elaborate.specs.Stmts.{condition_rule, local_rule, too_many, set_rule, target_rule, put_rule, field_target, do_rule, if_node, return_rule, value_rule, print_rule, start_rule, unreachable, scope_after, stmt_core, block_core, stmt_faults, block_faults}
+use Rattle.aj_type_rules.specs.declared.fault.TypeFault.TheVariants.{TooManyLocals}
+use Rattle.aj_type_rules.specs.Rules.{type_rule}
+use Rattle.aj_type_rules.specs.Locks.{lock_rule}
+use Rattle.aj_type_rules.specs.Completion.{completes, locals_in}
+use Rattle.aj_type_rules.specs.Stmts.{condition_rule, local_rule, too_many, set_rule, target_rule, put_rule, field_target, do_rule, if_node, return_rule, value_rule, print_rule, start_rule, unreachable, scope_after, stmt_core, block_core, stmt_faults, block_faults}
 use Rattle.aj_elaborate.specs.Programs.{all_there, method_scope, method_result, method_faults, method_node, method_core, guard_faults, guard_path, member_faults, faults_from, fields_core, methods_core, all_fields, all_methods, program_node, faults_of, core_of, IsCoreOf}
-use Rattle.aj_elaborate.specs.declared.fault.TypeFault.{TypeFault}
-use Rattle.aj_elaborate.specs.Rulings.{gain, loss, given, broken, both}
-use Rattle.aj_elaborate.specs.Scopes.{Scope}
-use Rattle.aj_elaborate.specs.Rules.{TypedData, TypedList, not_rule, neg_rule, binary_rule, get_rule, call_rule, new_rule, number_rule, with_argument}
-use Rattle.aj_elaborate.specs.Exprs.{elaborated, elaborated_each, expr_faults, each_faults, call_fault, new_fault, variable_rule}
+use Rattle.aj_type_rules.specs.declared.fault.TypeFault.{TypeFault}
+use Rattle.aj_type_rules.specs.Rulings.{gain, loss, given, broken, both}
+use Rattle.aj_type_rules.specs.Scopes.{Scope}
+use Rattle.aj_type_rules.specs.Rules.{TypedData, TypedList, not_rule, neg_rule, binary_rule, get_rule, call_rule, new_rule, number_rule, with_argument}
+use Rattle.aj_type_rules.specs.Exprs.{elaborated, elaborated_each, expr_faults, each_faults, call_fault, new_fault, variable_rule}
 
 -- ---- lists
 

@@ -3,11 +3,11 @@ use Rattle.std.proofs.Common.{◌≡◌, [], Some, None, refl, ◌==◌, if◌th
 use Rattle.aj_faults.specs.declared.first.Place.{Place}
 use Rattle.aj_faults.proofs.FirstFaults as first
 use Rattle.aj_syntax.specs.Trees.{ProgramTree}
-use Rattle.aj_elaborate.specs.declared.fault.TypeFault.{TypeFault}
-use Rattle.aj_elaborate.specs.declared.fault.TypeFault.TheVariants as kind
-use Rattle.aj_elaborate.specs.Faults.{place_of}
+use Rattle.aj_type_rules.specs.declared.fault.TypeFault.{TypeFault}
+use Rattle.aj_type_rules.specs.declared.fault.TypeFault.TheVariants as kind
+use Rattle.aj_type_rules.specs.Faults.{place_of}
 use Rattle.aj_elaborate.specs.Programs.{faults_of, IsFirstFault}
-use Rattle.aj_elaborate.specs.Noted.{noted}
+use Rattle.aj_type_rules.specs.Noted.{noted}
 
 -- the fault that stands at a place
 abbrev fault_at : Place → TypeFault

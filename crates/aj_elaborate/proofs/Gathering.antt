@@ -1,7 +1,7 @@
 -- Parts that are gathered one after the other, and what the rest of them gives.
 use Rattle.std.proofs.Common.{◌≡◌, List, [], ◌∷◌, ◌++◌, Option, Some, None, option_map, map, refl, ap, sym, ◌∙◌}
 use Rattle.std.proofs.lemmas.List.{append_assoc, map-append}
-use Rattle.aj_elaborate.specs.Rulings.{both}
+use Rattle.aj_type_rules.specs.Rulings.{both}
 use Rattle.aj_elaborate.specs.Gathered.{one_more, appended}
 use Rattle.aj_elaborate.specs.Programs.{all_there}
 

@@ -2,8 +2,8 @@
 use Rattle.std.proofs.Common.{◌≡◌, Bool, true, false, Option, Some, None, is_none, Result, Ok, Err, refl, ap, option_map}
 use Rattle.std.specs.Prelude.{ok_or}
 use Rattle.std.proofs.lemmas.Option.{same_Some}
-use Rattle.aj_elaborate.specs.declared.fault.TypeFault.{TypeFault}
-use Rattle.aj_elaborate.specs.Rulings.{gain, given, both, demand, then_rule}
+use Rattle.aj_type_rules.specs.declared.fault.TypeFault.{TypeFault}
+use Rattle.aj_type_rules.specs.Rulings.{gain, given, both, demand, then_rule}
 
 pub same_ok : {A : Type 0} (x y : A) → Path (Result A TypeFault) (Ok x) (Ok y) → x ≡ y
 same_ok x y h = cc

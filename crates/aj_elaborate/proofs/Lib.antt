@@ -13,14 +13,11 @@ pub mod Places
 pub mod Built
 pub mod Agreement
 pub mod TypedPrograms
-pub mod Fitting
 pub mod Gathering
 pub mod Blocks
 pub mod Called
-pub mod Noting
 pub mod Ordering
 pub mod Ascending
-pub mod Steps
 pub mod Adding
 pub mod Answering
 pub mod Bodies

@@ -12,7 +12,7 @@ use Rattle.aj_syntax.specs.Trees.{MemberTree, FieldM, CtorM, MethodM, ProgramTre
 use Rattle.aj_classes.specs.Table.{TableData}
 use Rattle.aj_elaborate.specs.Order.{Ascends}
 use Rattle.aj_elaborate.specs.Programs.{all_there, field_node, guard_path, fields_core, all_fields, all_classes, run_of}
-use Rattle.aj_elaborate.specs.Rulings.{both}
+use Rattle.aj_type_rules.specs.Rulings.{both}
 
 differs : (a b : ℕ) → a < b → (b == a) ≡ false
 differs a b h = grind (arith, nat_tests)

@@ -6,7 +6,7 @@ use Rattle.std.proofs.lemmas.List.Elements.{All-cons, All-nil}
 use Rattle.std.proofs.lemmas.Bool.Decides.{nat_tests}
 pub use Rattle.aj_lemmas.proofs.Lists.{at_left, at_either, get_below}
 pub use Rattle.aj_classes.proofs.Parts.{Each, each_both, each_at, nothing_at, mapped_at, before_mapped}
-use Rattle.aj_elaborate.specs.Rulings.{both}
+use Rattle.aj_type_rules.specs.Rulings.{both}
 use Rattle.aj_elaborate.specs.Programs.{all_there}
 use Rattle.aj_elaborate.proofs.Complete.{front_empty, back_empty}
 use Rattle.aj_elaborate.proofs.Inversions.{both_of, map_of}

@@ -15,12 +15,12 @@ use Rattle.aj_core.specs.Types.{NodeType, ValueT, boolean_type, int_type, class_
 use Rattle.aj_core.specs.Sizes.{height_of, highest_of, nodes_of, nodes_of_each}
 use Rattle.aj_core.specs.Typed as typing
 use Rattle.aj_classes.specs.Table.{TableData, FieldData, MethodData}
-use Rattle.aj_elaborate.specs.declared.fault.TypeFault.TheVariants.{UnknownName, NoRule}
-use Rattle.aj_elaborate.specs.Rulings.{both, demand}
-use Rattle.aj_elaborate.specs.Scopes.{Scope, variable}
-use Rattle.aj_elaborate.specs.Completion.{is_true_literal}
-use Rattle.aj_elaborate.specs.Rules.{TypedData, TypedList, typed, with_argument, is_int, is_boolean, number_rule, variable_typed, not_rule, neg_rule, operator_rule, logical_rule, binary_rule, field_rule, method_rule, get_rule, call_rule, class_rule, new_rule, fit_each, final_types, parameter_types}
-use Rattle.aj_elaborate.specs.Exprs.{elaborated, elaborated_each, variable_rule}
+use Rattle.aj_type_rules.specs.declared.fault.TypeFault.TheVariants.{UnknownName, NoRule}
+use Rattle.aj_type_rules.specs.Rulings.{both, demand}
+use Rattle.aj_type_rules.specs.Scopes.{Scope, variable}
+use Rattle.aj_type_rules.specs.Completion.{is_true_literal}
+use Rattle.aj_type_rules.specs.Rules.{TypedData, TypedList, typed, with_argument, is_int, is_boolean, number_rule, variable_typed, not_rule, neg_rule, operator_rule, logical_rule, binary_rule, field_rule, method_rule, get_rule, call_rule, class_rule, new_rule, fit_each, final_types, parameter_types}
+use Rattle.aj_type_rules.specs.Exprs.{elaborated, elaborated_each, variable_rule}
 use Rattle.aj_elaborate.proofs.Inversions.{same_ok, gain_of, given_of, both_of, demand_of, then_of, ok_or_of, map_of}
 
 abbrev mutual

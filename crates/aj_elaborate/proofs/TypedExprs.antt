@@ -18,11 +18,11 @@ use Rattle.aj_core.specs.Types as typing
 use Rattle.aj_core.specs.Types.{NodeType, ValueT, NullT, VoidT, int_type, boolean_type, class_type, result_type, fits, binary_type, Variable, field_types, HasType, FitEach}
 use Rattle.aj_core.specs.Typed.{IsRunnable}
 use Rattle.aj_classes.specs.Table.{TableData, ClassData, FieldData, MethodData, class_number}
-use Rattle.aj_elaborate.specs.declared.fault.TypeFault.TheVariants.{UnknownName, NoRule}
-use Rattle.aj_elaborate.specs.Rulings.{both, demand}
-use Rattle.aj_elaborate.specs.Scopes.{Scope, variable}
-use Rattle.aj_elaborate.specs.Rules.{TypedData, TypedList, typed, with_argument, is_int, is_boolean, class_in, receiver_class, number_rule, variable_typed, not_rule, neg_rule, operator_rule, logical_rule, binary_rule, field_named, method_named, field_rule, method_rule, get_rule, call_rule, class_rule, new_rule, fit_each, final_types, parameter_types}
-use Rattle.aj_elaborate.specs.Exprs.{elaborated, elaborated_each, variable_rule}
+use Rattle.aj_type_rules.specs.declared.fault.TypeFault.TheVariants.{UnknownName, NoRule}
+use Rattle.aj_type_rules.specs.Rulings.{both, demand}
+use Rattle.aj_type_rules.specs.Scopes.{Scope, variable}
+use Rattle.aj_type_rules.specs.Rules.{TypedData, TypedList, typed, with_argument, is_int, is_boolean, class_in, receiver_class, number_rule, variable_typed, not_rule, neg_rule, operator_rule, logical_rule, binary_rule, field_named, method_named, field_rule, method_rule, get_rule, call_rule, class_rule, new_rule, fit_each, final_types, parameter_types}
+use Rattle.aj_type_rules.specs.Exprs.{elaborated, elaborated_each, variable_rule}
 use Rattle.aj_elaborate.proofs.Inversions.{same_ok, gain_of, given_of, both_of, demand_of, then_of, ok_or_of, map_of}
 
 -- ---- what a table tells of a core program

@@ -14,11 +14,11 @@ use Rattle.aj_core.specs.Locks.{slot_path, is_class}
 use Rattle.aj_core.specs.Types.{Variable}
 use Rattle.aj_core.specs.Typed.{IsRoot, LeadsOn, IsLock}
 use Rattle.aj_classes.specs.Table.{TableData, FieldData}
-use Rattle.aj_elaborate.specs.declared.fault.TypeFault.TheVariants.{UnknownName, NotALock}
-use Rattle.aj_elaborate.specs.Rulings.{demand, then_rule}
-use Rattle.aj_elaborate.specs.Scopes.{Scope, variable, this_variable}
-use Rattle.aj_elaborate.specs.Rules.{class_in, field_named}
-use Rattle.aj_elaborate.specs.Locks.{Reach, reach_of, through, lock_field, along, lock_end, root_rule, lock_rule}
+use Rattle.aj_type_rules.specs.declared.fault.TypeFault.TheVariants.{UnknownName, NotALock}
+use Rattle.aj_type_rules.specs.Rulings.{demand, then_rule}
+use Rattle.aj_type_rules.specs.Scopes.{Scope, variable, this_variable}
+use Rattle.aj_type_rules.specs.Rules.{class_in, field_named}
+use Rattle.aj_type_rules.specs.Locks.{Reach, reach_of, through, lock_field, along, lock_end, root_rule, lock_rule}
 use Rattle.aj_elaborate.proofs.Inversions.{same_ok, demand_of, then_of, ok_or_of}
 use Rattle.aj_elaborate.proofs.TypedExprs.{IsFieldOf, Agrees, Seen, class_in_of}
 

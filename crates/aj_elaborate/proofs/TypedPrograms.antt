@@ -20,9 +20,9 @@ use Rattle.aj_classes.specs.Members.{is_empty, finals_of, class_names, field_nam
 use Rattle.aj_classes.specs.Faults.{twice_faults}
 use Rattle.aj_classes.specs.Faults as class_fault
 use Rattle.aj_classes.specs.Table.{TableData, type_of, class_number, method_number, table_of}
-use Rattle.aj_elaborate.specs.Rulings.{gain, both}
-use Rattle.aj_elaborate.specs.Locks.{lock_rule}
-use Rattle.aj_elaborate.specs.Stmts.{block_core}
+use Rattle.aj_type_rules.specs.Rulings.{gain, both}
+use Rattle.aj_type_rules.specs.Locks.{lock_rule}
+use Rattle.aj_type_rules.specs.Stmts.{block_core}
 use Rattle.aj_elaborate.specs.Programs.{all_there, ascending, guard_path, method_scope, method_result, method_node, run_of}
 use Rattle.aj_elaborate.proofs.Complete.{front_empty, back_empty}
 use Rattle.aj_elaborate.proofs.Inversions.{both_of, map_of}
@@ -41,11 +41,11 @@ use Rattle.aj_core.specs.Typed as typed
 use Rattle.aj_core.specs.Typed.{IsType, IsLock, parameters, size_of, most_nodes, IsTypedClass, IsTypedField, IsTypedMethod, AreTypedStmts, IsTyped}
 use Rattle.aj_classes.specs.Members.{param_names}
 use Rattle.aj_classes.specs.declared.fault.ClassFault.TheVariants.{UnknownClass}
-use Rattle.aj_elaborate.specs.declared.fault.TypeFault.TheVariants.{MissingReturn}
-use Rattle.aj_elaborate.specs.Rulings.{loss}
-use Rattle.aj_elaborate.specs.Scopes.{Binding, Scope, variable, parameters_from}
-use Rattle.aj_elaborate.specs.Completion.{completes_each}
-use Rattle.aj_elaborate.specs.Stmts.{block_faults}
+use Rattle.aj_type_rules.specs.declared.fault.TypeFault.TheVariants.{MissingReturn}
+use Rattle.aj_type_rules.specs.Rulings.{loss}
+use Rattle.aj_type_rules.specs.Scopes.{Binding, Scope, variable, parameters_from}
+use Rattle.aj_type_rules.specs.Completion.{completes_each}
+use Rattle.aj_type_rules.specs.Stmts.{block_faults}
 use Rattle.aj_elaborate.specs.Programs.{member_faults, method_faults, missing_return, faults_from, IsCoreOf}
 use Rattle.aj_elaborate.proofs.Inversions.{gain_of}
 use Rattle.aj_elaborate.proofs.TypedExprs.{Seen}

@@ -3,10 +3,9 @@ use Rattle.std.specs.Prelude.{ℕ, ◌+◌, Bool, List, [], ◌∷◌, ◌++◌,
 use Rattle.aj_core.specs.Core.{Field, Method}
 use Rattle.aj_syntax.specs.Trees.{MemberTree, FieldM, CtorM, MethodM}
 use Rattle.aj_classes.specs.Table.{TableData}
-use Rattle.aj_elaborate.specs.declared.fault.TypeFault.{TypeFault}
-use Rattle.aj_elaborate.specs.declared.fault.TypeFault.TheVariants.{MissingReturn}
+use Rattle.aj_type_rules.specs.declared.fault.TypeFault.{TypeFault}
 use Rattle.aj_elaborate.specs.declared.gather.Gathered.{Gathered}
-use Rattle.aj_elaborate.specs.Rulings.{both}
+use Rattle.aj_type_rules.specs.Rulings.{both}
 use Rattle.aj_elaborate.specs.Programs.{guard_path, field_node, method_core, method_faults}
 
 -- the parts so far, where none was missing
@@ -53,7 +52,3 @@ abbrev pub faults_in_method : TableData → ℕ → MemberTree → List TypeFaul
 faults_in_method t k (FieldM f) = []
 faults_in_method t k (CtorM n params sets) = []
 faults_in_method t k (MethodM m) = method_faults t k m
-
--- of a body that can complete and must not
-abbrev pub return_faults : Bool → ℕ → List TypeFault
-return_faults missing at = if missing then MissingReturn at ∷ [] else []

@@ -4,11 +4,11 @@ use Rattle.aj_core.specs.Core.{Stmt, Stmts}
 use Rattle.aj_syntax.specs.Trees.{StmtTree, StmtTrees, ExprTree}
 use Rattle.aj_classes.specs.Views.{table_data}
 use Rattle.aj_elaborate.specs.declared.body.Body.{Body}
-use Rattle.aj_elaborate.specs.declared.fault.TypeFault.{TypeFault}
-use Rattle.aj_elaborate.specs.Exprs.{elaborated, expr_faults}
-use Rattle.aj_elaborate.specs.Rules.{TypedData}
-use Rattle.aj_elaborate.specs.Scopes.{Scope}
-use Rattle.aj_elaborate.specs.Stmts.{scope_after, stmt_core, block_core, stmt_faults, block_faults}
+use Rattle.aj_type_rules.specs.declared.fault.TypeFault.{TypeFault}
+use Rattle.aj_type_rules.specs.Exprs.{elaborated, expr_faults}
+use Rattle.aj_type_rules.specs.Rules.{TypedData}
+use Rattle.aj_type_rules.specs.Scopes.{Scope}
+use Rattle.aj_type_rules.specs.Stmts.{scope_after, stmt_core, block_core, stmt_faults, block_faults}
 
 -- the type and core node of an expression
 abbrev pub typed_in : Body → Scope → ExprTree → Option TypedData

@@ -1,16 +1,6 @@
-pub mod Faults
-pub mod Noted
-pub mod Rulings
-pub mod Scopes
-pub mod Rules
-pub mod Locks
-pub mod Exprs
-pub mod Completion
-pub mod Stmts
 pub mod Inside
 pub mod Programs
 pub mod Gathered
 pub mod Making
 pub mod Order
 pub mod Views
-pub mod Names

@@ -9,14 +9,14 @@ use Rattle.aj_core.specs.Typed.{fields_from, is_final_at}
 use Rattle.aj_faults.specs.First.{IsFirst}
 use Rattle.aj_syntax.specs.Trees.{LockTree, MethodTree, FieldTree, MemberTree, FieldM, CtorM, MethodM, ClassTree, ProgramTree}
 use Rattle.aj_classes.specs.Table.{TableData, type_of, class_number, method_number, table_of}
-use Rattle.aj_elaborate.specs.declared.fault.TypeFault.{TypeFault}
-use Rattle.aj_elaborate.specs.declared.fault.TypeFault.TheVariants.{MissingReturn}
-use Rattle.aj_elaborate.specs.Faults.{place_of}
-use Rattle.aj_elaborate.specs.Rulings.{gain, loss, both}
-use Rattle.aj_elaborate.specs.Scopes.{Scope, parameters_from}
-use Rattle.aj_elaborate.specs.Locks.{lock_rule}
-use Rattle.aj_elaborate.specs.Completion.{completes_each, locals_in_each}
-use Rattle.aj_elaborate.specs.Stmts.{block_core, block_faults}
+use Rattle.aj_type_rules.specs.declared.fault.TypeFault.{TypeFault}
+use Rattle.aj_type_rules.specs.declared.fault.TypeFault.TheVariants.{MissingReturn}
+use Rattle.aj_type_rules.specs.Faults.{place_of}
+use Rattle.aj_type_rules.specs.Rulings.{gain, loss, both}
+use Rattle.aj_type_rules.specs.Scopes.{Scope, parameters_from}
+use Rattle.aj_type_rules.specs.Locks.{lock_rule}
+use Rattle.aj_type_rules.specs.Completion.{completes_each, locals_in_each}
+use Rattle.aj_type_rules.specs.Stmts.{block_core, block_faults}
 
 -- all of a list, where none is missing
 abbrev pub all_there : {A : Type 0} → List (Option A) → Option (List A)

@@ -1,68 +1,15 @@
 -- What the values of the code are as plain data.
-use Rattle.std.specs.Prelude.{ℕ, List, Option, map, option_map}
-use Rattle.std.specs.Borrow.{Bor}
+use Rattle.std.specs.Prelude.{List, Option, map, option_map}
 use Rattle.std.specs.declared.alloc.Global.{Global}
 use Rattle.std.specs.declared.boxed.Box.{Box}
-use Rattle.aj_paths.specs.declared.ids.FieldId.{FieldId}
-use Rattle.aj_paths.specs.declared.ids.MethodId.{MethodId}
-use Rattle.aj_classes.specs.declared.entries.FieldEntry.{FieldEntry}
-use Rattle.aj_classes.specs.declared.entries.MethodEntry.{MethodEntry}
-use Rattle.aj_classes.specs.Seen.{FieldData}
-use Rattle.aj_classes.specs.Table.{MethodData}
-use Rattle.aj_classes.specs.Views.{method_data}
-use Rattle.aj_elaborate.specs.declared.lock.ReachTo.{ReachTo}
-use Rattle.aj_elaborate.specs.Locks.{Reach}
-use Rattle.aj_core.specs.Core.{Expr, Field, Method, Stmt}
-use Rattle.aj_core.specs.Types.{NodeType, ValueT, NullT, VoidT}
-use Rattle.aj_core.specs.Views.{expr_of, exprs_from, field_of, method_of, stmt_of}
+use Rattle.aj_core.specs.Core.{Field, Method, Stmt}
+use Rattle.aj_core.specs.Views.{field_of, method_of, stmt_of}
+use Rattle.aj_core.specs.declared.tree.CoreStmt.{CoreStmt}
 use Rattle.aj_elaborate.specs.declared.members.Parts.{Parts}
 use Rattle.aj_elaborate.specs.Gathered.{gathered}
-use Rattle.aj_elaborate.specs.declared.types.ExprType.{ExprType}
-use Rattle.aj_elaborate.specs.declared.types.ExprType.TheVariants as ty
-use Rattle.aj_elaborate.specs.declared.types.TypedExpr.{TypedExpr}
-use Rattle.aj_elaborate.specs.declared.types.BoxedExpr.{BoxedExpr}
-use Rattle.aj_core.specs.declared.tree.CoreExpr.{CoreExpr}
-use Rattle.aj_core.specs.declared.tree.CoreStmt.{CoreStmt}
-use Rattle.aj_elaborate.specs.Rules.{TypedData, TypedList}
-
-abbrev pub type_data : ExprType → NodeType
-type_data (ty.Value t) = ValueT t
-type_data ty.Null = NullT
-type_data ty.Void = VoidT
-
-abbrev pub typed_data : TypedExpr → TypedData
-typed_data e = record { ty = type_data e.ty; node = expr_of e.node }
-
-abbrev pub boxed_expr : Box CoreExpr Global → Expr
-boxed_expr b = expr_of b.value
 
 abbrev pub boxed_stmt : Box CoreStmt Global → Stmt
 boxed_stmt b = stmt_of b.value
-
-abbrev pub boxed_data : BoxedExpr → TypedData
-boxed_data e = record { ty = type_data e.ty; node = boxed_expr e.node }
-
-abbrev pub types_of : List TypedExpr → List NodeType
-types_of = map (λ e. type_data e.ty)
-
-abbrev pub nodes_of : List TypedExpr → List CoreExpr
-nodes_of = map (λ e. e.node)
-
-abbrev pub typed_list : List TypedExpr → TypedList
-typed_list es = record { types = types_of es; nodes = exprs_from (nodes_of es) }
-
-abbrev pub field_found : FieldId × Bor FieldEntry → ℕ × FieldData
-field_found f = (f.0, f.1.now)
-
-abbrev pub method_found : MethodId × Bor MethodEntry → ℕ × MethodData
-method_found m = (m.0, method_data m.1.now)
-
-abbrev pub reach_data : ReachTo → Reach
-reach_data r = record { path = r.path; is_final = r.is_final; ty = r.ty }
-
--- the receiver and the field of an assignment
-abbrev pub target_data : Box CoreExpr Global × (FieldId × Bor FieldEntry) → Expr × (ℕ × FieldData)
-target_data p = (boxed_expr p.0, field_found p.1)
 
 abbrev pub fields_data : Parts → Option (List Field)
 fields_data p = option_map (map field_of) (gathered p.fields)

@@ -1,26 +1,23 @@
 //! Expressions: the type and core node of each, where it has a type.
-#![tactic(auto, using(crate::proofs::Noting::noted_append))]
+#![tactic(auto, using(aj_type_rules::proofs::Noting::noted_append))]
 
 ghost use Rattle.std.specs.Prelude.{◌≡◌, map, option_map, IfOk, OnOk};
 ghost use Rattle.aj_classes.specs.Views.{table_data};
 ghost use Rattle.aj_syntax.specs.Trees.{BinaryE, CallE, GetE, NegE, NewE, NotE};
 ghost use Rattle.aj_syntax.specs.Views.{expr_of, exprs_from};
-ghost use Rattle.aj_elaborate.specs.Exprs.{elaborated, elaborated_each, expr_faults, each_faults};
-ghost use Rattle.aj_elaborate.specs.Noted.{noted};
-ghost use Rattle.aj_elaborate.specs.Views.{boxed_data, typed_data, typed_list};
+ghost use Rattle.aj_type_rules.specs.Exprs.{elaborated, elaborated_each, expr_faults, each_faults};
+ghost use Rattle.aj_type_rules.specs.Noted.{noted};
+ghost use Rattle.aj_type_rules.specs.Views.{boxed_data, typed_data, typed_list};
 
-use crate::calls::{call_rule, new_rule};
-use crate::first::FirstFault;
 use crate::gather::Gathered;
-use crate::rules::{
-    binary_rule, get_rule, least_number, neg_rule, not_rule, number_rule, value, variable_rule,
-};
-use crate::scope::Bound;
-use crate::types::{BoxedExpr, ExprType, TypedExpr};
 use aj_classes::ClassTable;
 use aj_core::{CoreExpr, CoreType};
 use aj_paths::ClassId;
 use aj_syntax::{Expr, Name, Op};
+use aj_type_rules::{
+    Bound, BoxedExpr, ExprType, FirstFault, TypedExpr, binary_rule, call_rule, get_rule,
+    least_number, neg_rule, new_rule, not_rule, number_rule, value, variable_rule,
+};
 use std::alloc::{AllocError as NoMemory, Global};
 
 /// An expression in a class, with these variables in scope. None where it has no type; its faults are noted.

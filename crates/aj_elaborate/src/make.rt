@@ -11,21 +11,20 @@ ghost use Rattle.aj_lexer.specs.declared.tokens.Token.{Token};
 ghost use Rattle.aj_syntax.specs.Grammar.{Grammar};
 ghost use Rattle.aj_syntax.specs.Limits.{most_tokens};
 ghost use Rattle.aj_syntax.specs.Views.{class_of, program_of};
-ghost use Rattle.aj_elaborate.specs.declared.fault.TypeFault.{TypeFault};
-ghost use Rattle.aj_elaborate.specs.declared.fault.TypeFault.TheVariants.{NoMemory as OutOfMemory};
+ghost use Rattle.aj_type_rules.specs.declared.fault.TypeFault.{TypeFault};
+ghost use Rattle.aj_type_rules.specs.declared.fault.TypeFault.TheVariants.{NoMemory as OutOfMemory};
 ghost use Rattle.aj_elaborate.specs.Order.{Ascends};
 ghost use Rattle.aj_elaborate.specs.Programs.{IsFirstFault, IsCoreOf, main_class, main_method, program_node, all_there, all_fields, all_methods};
-ghost use Rattle.aj_elaborate.specs.Rulings.{both};
+ghost use Rattle.aj_type_rules.specs.Rulings.{both};
 ghost use Rattle.aj_elaborate.specs.Views.{fields_data, methods_data};
 
 use crate::classes::core_classes;
-use crate::fault::TypeFault;
-use crate::first::FirstFault;
 use crate::members::{Parts, parts_of};
 use aj_classes::ClassTable;
 use aj_core::{CoreField, CoreMethod, CoreProgram};
 use aj_paths::{ClassId, MethodId};
 use aj_syntax::{Class, Program};
+use aj_type_rules::{FirstFault, TypeFault};
 use std::alloc::{AllocError as NoMemory, Global};
 
 fn main_class(table: &ClassTable) -> ClassId

@@ -1,5 +1,5 @@
 //! The fields and methods of all classes.
-#![tactic(auto, using(crate::proofs::Noting::noted_append))]
+#![tactic(auto, using(aj_type_rules::proofs::Noting::noted_append))]
 
 ghost use Rattle.std.specs.Prelude.{false, ◌≡◌, ◌+◌, map, option_map, IfOk, OnOk};
 ghost use Rattle.aj_classes.specs.Table.{type_of};
@@ -7,19 +7,18 @@ ghost use Rattle.aj_classes.specs.Views.{table_data};
 ghost use Rattle.aj_core.specs.Views.{field_of};
 ghost use Rattle.aj_syntax.specs.Views.{lock_of, member_of, class_of};
 ghost use Rattle.aj_elaborate.specs.Gathered.{appended, with_field, with_method, index_after};
-ghost use Rattle.aj_elaborate.specs.Noted.{noted};
+ghost use Rattle.aj_type_rules.specs.Noted.{noted};
 ghost use Rattle.aj_elaborate.specs.Programs.{all_there, guard_faults, guard_path, member_faults, faults_from, fields_core, methods_core, all_fields, all_methods};
 ghost use Rattle.aj_elaborate.specs.Views.{fields_data, methods_data};
 ghost use Rattle.std.specs.Prelude.{flat_map};
 
-use crate::first::FirstFault;
 use crate::gather::Gathered;
-use crate::lock::lock_path;
 use crate::methods::{core_type, method};
 use aj_classes::ClassTable;
 use aj_core::{CoreField, CoreMethod};
 use aj_paths::{ClassId, Path};
 use aj_syntax::{Class, Lock, Member, TypeName};
+use aj_type_rules::{FirstFault, lock_path};
 use std::alloc::{AllocError as NoMemory, Global};
 
 /// The core fields and methods so far.

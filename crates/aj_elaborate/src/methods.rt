@@ -1,34 +1,31 @@
 //! Methods: their parameters, locks and bodies.
-#![tactic(auto, using(crate::proofs::Noting::noted_append))]
+#![tactic(auto, using(aj_type_rules::proofs::Noting::noted_append))]
 
-ghost use Rattle.std.specs.Prelude.{true, ◌≡◌, ◌+◌, length, map, flat_map, option_map, is_some, IfOk, OnOk, ◌&&◌};
+ghost use Rattle.std.specs.Prelude.{true, ◌≡◌, ◌+◌, length, map, flat_map, option_map, is_some, IfOk, OnOk};
 ghost use Rattle.aj_classes.specs.Table.{type_of};
 ghost use Rattle.aj_classes.specs.Views.{table_data};
 ghost use Rattle.aj_core.specs.Views.{method_of, stmt_of};
 ghost use Rattle.aj_core.specs.Core.{BlockS};
 ghost use Rattle.aj_syntax.specs.Views.{lock_of, member_of, stmt_of as tree_of, stmts_from};
 ghost use Rattle.aj_elaborate.specs.Inside.{block_faults_in, block_in};
-ghost use Rattle.aj_elaborate.specs.Completion.{locals_in_each, completes_each};
-ghost use Rattle.aj_elaborate.specs.Gathered.{method_in, faults_in_method, return_faults};
-ghost use Rattle.aj_elaborate.specs.Locks.{lock_rule};
+ghost use Rattle.aj_type_rules.specs.Completion.{locals_in_each, completes_each};
+ghost use Rattle.aj_elaborate.specs.Gathered.{method_in, faults_in_method};
+ghost use Rattle.aj_type_rules.specs.Locks.{lock_rule};
 ghost use Rattle.aj_elaborate.specs.Making.{method_with, types_in};
-ghost use Rattle.aj_elaborate.specs.Noted.{noted};
+ghost use Rattle.aj_type_rules.specs.Noted.{noted};
 ghost use Rattle.aj_elaborate.specs.Programs.{all_there, ascending};
-ghost use Rattle.aj_elaborate.specs.Rulings.{gain, loss, both};
-ghost use Rattle.aj_elaborate.specs.Scopes.{parameters_from};
+ghost use Rattle.aj_type_rules.specs.Rulings.{gain, loss, both};
+ghost use Rattle.aj_type_rules.specs.Scopes.{parameters_from};
 
 use crate::body::Body;
-use crate::fault::TypeFault;
-use crate::first::FirstFault;
 use crate::gather::Gathered;
-use crate::lock::lock_path;
 use crate::nodes::StmtPart;
-use crate::scope::Bound;
 use crate::stmts::block;
 use aj_classes::ClassTable;
 use aj_core::{CoreMethod, CoreType};
 use aj_paths::{ClassId, Path};
 use aj_syntax::{Lock, Member, Param, Stmt, TypeName};
+use aj_type_rules::{Bound, FirstFault, lock_path, note_missing_return};
 use std::alloc::{AllocError as NoMemory, Global};
 use std::collections::BTreeSet;
 
@@ -149,15 +146,6 @@ fn ascending(alloc: Global, paths: Vec<Path>) -> Result<Vec<Path>, NoMemory>
         set.insert(path)?;
     }
     set.into_iter().collect(alloc)
-}
-
-/// Notes that the body of a method with a result can complete. Its closing brace stands at `at`.
-fn note_missing_return(returns: bool, completes: bool, at: u32, first: &mut FirstFault)
-    ensures { first.new ≡ noted first.old (return_faults (returns && completes) at) }
-{
-    if returns && completes {
-        first.note(TypeFault::MissingReturn(at));
-    }
 }
 
 /// The types of a method's parameters, the locks that it requires, where each is one, and what its body gives.

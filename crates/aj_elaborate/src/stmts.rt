@@ -1,5 +1,5 @@
 //! Statements and blocks: the core node of each, where each part has one.
-#![tactic(auto, using(crate::proofs::Noting::noted_append))]
+#![tactic(auto, using(aj_type_rules::proofs::Noting::noted_append))]
 
 ghost use Rattle.std.specs.Prelude.{◌≡◌, ◌+◌, ◌++◌, ◌||◌, List, None, true, false, not, map, option_map, IfOk, OnOk};
 ghost use Rattle.aj_classes.specs.Views.{table_data};
@@ -7,30 +7,27 @@ ghost use Rattle.aj_core.specs.Core.{BlockS};
 ghost use Rattle.aj_core.specs.Views as core;
 ghost use Rattle.aj_syntax.specs.Trees as tree;
 ghost use Rattle.aj_syntax.specs.Views.{expr_of, lock_of, stmt_of, stmts_from};
-ghost use Rattle.aj_elaborate.specs.Completion.{completes, completes_each, is_true_literal as literal_true, locals_in, locals_in_each};
+ghost use Rattle.aj_type_rules.specs.Completion.{completes, completes_each, is_true_literal as literal_true, locals_in, locals_in_each};
 ghost use Rattle.aj_elaborate.specs.Inside.{block_faults_in, block_in, core_in, faults_in, scope_in};
-ghost use Rattle.aj_elaborate.specs.Noted.{noted};
-ghost use Rattle.aj_elaborate.specs.Rulings.{gain};
-ghost use Rattle.aj_elaborate.specs.Rules.{type_rule};
-ghost use Rattle.aj_elaborate.specs.Stmts.{declared_type, unreachable};
-ghost use Rattle.aj_elaborate.specs.declared.scope.Bound.{Bound};
+ghost use Rattle.aj_type_rules.specs.Noted.{noted};
+ghost use Rattle.aj_type_rules.specs.Rulings.{gain};
+ghost use Rattle.aj_type_rules.specs.Rules.{type_rule};
+ghost use Rattle.aj_type_rules.specs.Stmts.{declared_type, unreachable};
+ghost use Rattle.aj_type_rules.specs.declared.scope.Bound.{Bound};
 
 use crate::body::{Body, condition, typed};
 use crate::completion::is_true_literal;
-use crate::fault::TypeFault;
-use crate::first::FirstFault;
 use crate::gather::Gathered;
-use crate::lock::lock_path;
 use crate::nodes::{
     StmtPart, block_of, boxed_part, if_alone, if_part, sync_part, total, while_part,
 };
-use crate::scope::Bound;
-use crate::stmt_rules::{
-    MOST_LOCALS, do_rule, field_target, local_node, local_value, note_declaration, print_rule,
-    put_rule, return_rule, set_rule, start_rule, target_rule, type_rule, value_rule,
-};
 use aj_core::{CoreStmt, CoreType};
 use aj_syntax::{Expr, Lock, Name, Stmt, TypeName};
+use aj_type_rules::{
+    Bound, FirstFault, MOST_LOCALS, TypeFault, do_rule, field_target, local_node, local_value,
+    lock_path, note_declaration, print_rule, put_rule, return_rule, set_rule, start_rule,
+    target_rule, type_rule, value_rule,
+};
 use std::alloc::{AllocError as NoMemory, Global};
 
 /// A statement that declares nothing and can complete.

@@ -7,8 +7,8 @@ use Rattle.aj_parser.specs.declared.faults.ParseFault.{ParseFault}
 use Rattle.aj_parser.specs.declared.faults.ParseFault.TheVariants as parse
 use Rattle.aj_classes.specs.declared.fault.ClassFault.{ClassFault}
 use Rattle.aj_classes.specs.declared.fault.ClassFault.TheVariants as class
-use Rattle.aj_elaborate.specs.declared.fault.TypeFault.{TypeFault}
-use Rattle.aj_elaborate.specs.declared.fault.TypeFault.TheVariants as types
+use Rattle.aj_type_rules.specs.declared.fault.TypeFault.{TypeFault}
+use Rattle.aj_type_rules.specs.declared.fault.TypeFault.TheVariants as types
 use Rattle.aj_report.specs.declared.source_fault.SourceFault.{SourceFault}
 use Rattle.aj_report.specs.declared.source_fault.SourceFault.TheVariants as source
 

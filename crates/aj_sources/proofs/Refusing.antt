@@ -9,8 +9,8 @@ use Rattle.aj_rules.proofs.UniqueSets.{first_has}
 use Rattle.aj_classes.specs.declared.fault.ClassFault.{ClassFault}
 use Rattle.aj_classes.specs.declared.fault.ClassFault.TheVariants as class
 use Rattle.aj_classes.specs.Faults as classes
-use Rattle.aj_elaborate.specs.declared.fault.TypeFault.{TypeFault}
-use Rattle.aj_elaborate.specs.declared.fault.TypeFault.TheVariants as types
+use Rattle.aj_type_rules.specs.declared.fault.TypeFault.{TypeFault}
+use Rattle.aj_type_rules.specs.declared.fault.TypeFault.TheVariants as types
 use Rattle.aj_elaborate.specs.Programs as elaboration
 use Rattle.aj_report.specs.declared.source_fault.SourceFault.TheVariants as source
 use Rattle.aj_report.specs.SourceFaults.{IsTold, refused_line, class_offset_of, class_kind, type_offset_of, type_kind, locks_kind}

@@ -8,7 +8,7 @@ use Rattle.aj_classes.specs.Views.{table_data}
 use Rattle.aj_core.specs.Core.{Program, Method}
 use Rattle.aj_core.specs.Typed.{IsTyped}
 use Rattle.aj_core.specs.Views.{program_of}
-use Rattle.aj_elaborate.specs.declared.fault.TypeFault.{TypeFault}
+use Rattle.aj_type_rules.specs.declared.fault.TypeFault.{TypeFault}
 use Rattle.aj_elaborate.specs.Programs as types
 use Rattle.aj_rules.specs.Limits.{IsFirstCrowded}
 use Rattle.aj_rules.specs.Near.{IsWellFormed, AreRelevant, AreFew}

@@ -21,11 +21,12 @@ use crate::reading::{text_of, tree_of};
 use crate::refusal::{Refusal, refuse};
 use aj_classes::{ClassFault, ClassTable, table};
 use aj_core::CoreProgram;
-use aj_elaborate::{TypeFault, elaborate};
+use aj_elaborate::elaborate;
 use aj_paths::MethodId;
 use aj_report::SourceFault;
 use aj_rules::{RelevantSets, RuleEnd, relevant};
 use aj_syntax::Program;
+use aj_type_rules::TypeFault;
 use std::alloc::Global;
 use std::mem::forget;
 

@@ -4,11 +4,11 @@ use Rattle.aj_classes.specs.Views.{table_data}
 use Rattle.aj_syntax.specs.Trees.{CallE, NewE}
 use Rattle.aj_syntax.specs.Views.{expr_of, exprs_from}
 use Rattle.aj_syntax.proofs.Bridge.{view_call, view_new}
-use Rattle.aj_elaborate.specs.Exprs.{elaborated, elaborated_each, expr_faults, each_faults}
+use Rattle.aj_type_rules.specs.Exprs.{elaborated, elaborated_each, expr_faults, each_faults}
 use Rattle.aj_elaborate.specs.Gathered.{gathered}
-use Rattle.aj_elaborate.specs.Noted.{noted}
-use Rattle.aj_elaborate.specs.Rules.{with_argument}
-use Rattle.aj_elaborate.specs.Views.{boxed_data, typed_data, typed_list}
+use Rattle.aj_type_rules.specs.Noted.{noted}
+use Rattle.aj_type_rules.specs.Rules.{with_argument}
+use Rattle.aj_type_rules.specs.Views.{boxed_data, typed_data, typed_list}
 use Rattle.aj_elaborate.proofs.Gathering.{so_far}
 use Rattle.aj_elaborate.proofs.Called.{argument_step, argument_fault, all_typed, call_noted}
 use Rattle.aj_elaborate.proofs.Measures.{expr_measure, exprs_measure, expr_lighter}

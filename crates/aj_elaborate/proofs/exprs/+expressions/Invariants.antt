@@ -1,11 +1,11 @@
 use Rattle.std.proofs.Common.{◌≡◌, ◌+◌, drop, map}
 use Rattle.aj_classes.specs.Views.{table_data}
 use Rattle.aj_syntax.specs.Views.{expr_of, exprs_from}
-use Rattle.aj_elaborate.specs.Exprs.{elaborated_each, each_faults}
+use Rattle.aj_type_rules.specs.Exprs.{elaborated_each, each_faults}
 use Rattle.aj_elaborate.specs.Gathered.{gathered}
-use Rattle.aj_elaborate.specs.Noted.{noted}
-use Rattle.aj_elaborate.specs.Rules.{with_argument}
-use Rattle.aj_elaborate.specs.Views.{typed_data}
+use Rattle.aj_type_rules.specs.Noted.{noted}
+use Rattle.aj_type_rules.specs.Rules.{with_argument}
+use Rattle.aj_type_rules.specs.Views.{typed_data}
 use Rattle.aj_elaborate.proofs.Gathering.{so_far}
 use Rattle.aj_elaborate.proofs.Measures.{expr_measure, exprs_measure}
 use Rattle.aj_elaborate.proofs.exprs.+expressions.Given as goal

@@ -2,7 +2,7 @@ use Rattle.std.proofs.Common.{Some, None, inr, map, ap, sym, ◌∙◌}
 use Rattle.aj_classes.specs.Views.{table_data}
 use Rattle.aj_core.specs.Views as core
 use Rattle.aj_syntax.specs.Views.{class_of, program_of}
-use Rattle.aj_elaborate.specs.Noted.{noted}
+use Rattle.aj_type_rules.specs.Noted.{noted}
 use Rattle.aj_elaborate.specs.Programs.{faults_from}
 use Rattle.aj_elaborate.specs.Views.{fields_data, methods_data}
 use Rattle.aj_elaborate.proofs.Answering.{found_in, told, made, all_are_there}

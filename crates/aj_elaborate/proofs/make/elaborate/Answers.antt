@@ -1,6 +1,6 @@
 use Rattle.aj_core.specs.Views as core
 use Rattle.aj_syntax.specs.Views.{program_of}
-use Rattle.aj_elaborate.specs.declared.fault.TypeFault.TheVariants.{NoMemory as OutOfMemory}
+use Rattle.aj_type_rules.specs.declared.fault.TypeFault.TheVariants.{NoMemory as OutOfMemory}
 use Rattle.std.proofs.Common.{◌≡◌, ◌⊎◌}
 use Rattle.aj_elaborate.specs.Programs.{IsFirstFault}
 use Rattle.aj_elaborate.proofs.Answering.{core_told, fault_told}

@@ -2,7 +2,7 @@ use Rattle.std.proofs.Common.{map, flat_map}
 use Rattle.aj_classes.specs.Views.{table_data}
 use Rattle.aj_syntax.specs.Views.{member_of}
 use Rattle.aj_elaborate.specs.Gathered.{appended}
-use Rattle.aj_elaborate.specs.Noted.{noted}
+use Rattle.aj_type_rules.specs.Noted.{noted}
 use Rattle.aj_elaborate.specs.Programs.{all_there, fields_core, methods_core, member_faults}
 use Rattle.aj_elaborate.specs.Views.{fields_data, methods_data}
 use Rattle.aj_elaborate.proofs.Adding.{field_step, method_step, member_fault}

@@ -2,7 +2,7 @@ use Rattle.std.proofs.Common.{map, flat_map, ap, ◌∙◌}
 use Rattle.aj_classes.specs.Views.{table_data}
 use Rattle.aj_syntax.specs.Views.{class_of, member_of}
 use Rattle.aj_elaborate.specs.Gathered.{appended}
-use Rattle.aj_elaborate.specs.Noted.{noted}
+use Rattle.aj_type_rules.specs.Noted.{noted}
 use Rattle.aj_elaborate.specs.Programs.{all_there, fields_core, methods_core, member_faults, faults_from, all_fields, all_methods}
 use Rattle.aj_elaborate.specs.Views.{fields_data, methods_data}
 use Rattle.aj_elaborate.proofs.Adding.{class_fields_step, class_methods_step, class_fault}

@@ -2,7 +2,7 @@ use Rattle.std.proofs.Common.{◌≡◌, drop, map}
 use Rattle.aj_classes.specs.Views.{table_data}
 use Rattle.aj_syntax.specs.Views.{class_of}
 use Rattle.aj_elaborate.specs.Gathered.{appended}
-use Rattle.aj_elaborate.specs.Noted.{noted}
+use Rattle.aj_type_rules.specs.Noted.{noted}
 use Rattle.aj_elaborate.specs.Programs.{all_there, all_fields, all_methods, faults_from}
 use Rattle.aj_elaborate.specs.Views.{fields_data, methods_data}
 use Rattle.aj_elaborate.proofs.members.parts_of.Given as goal

@@ -1,6 +1,6 @@
 use Rattle.std.proofs.Common.{◌≡◌, ◌++◌, drop}
 use Rattle.aj_classes.specs.Views.{table_data}
-use Rattle.aj_elaborate.specs.Scopes.{parameters_from}
+use Rattle.aj_type_rules.specs.Scopes.{parameters_from}
 use Rattle.aj_elaborate.proofs.methods.parameters.Given as goal
 
 abbrev pub invariant-loop-param : goal.invariant-loop-param

@@ -2,10 +2,10 @@ use Rattle.std.proofs.Common.{◌≡◌, drop, flat_map, map}
 use Rattle.aj_classes.specs.Views.{table_data}
 use Rattle.aj_syntax.specs.Views.{lock_of}
 use Rattle.aj_elaborate.specs.Gathered.{gathered, appended}
-use Rattle.aj_elaborate.specs.Locks.{lock_rule}
-use Rattle.aj_elaborate.specs.Noted.{noted}
+use Rattle.aj_type_rules.specs.Locks.{lock_rule}
+use Rattle.aj_type_rules.specs.Noted.{noted}
 use Rattle.aj_elaborate.specs.Programs.{all_there}
-use Rattle.aj_elaborate.specs.Rulings.{gain, loss}
+use Rattle.aj_type_rules.specs.Rulings.{gain, loss}
 use Rattle.aj_elaborate.proofs.methods.required.Given as goal
 
 abbrev pub invariant-loop-lock : goal.invariant-loop-lock

@@ -1,9 +1,0 @@
-use Rattle.std.proofs.Common.{◌≡◌, drop, filter, map}
-use Rattle.aj_elaborate.specs.Rules.{fit_each}
-use Rattle.aj_elaborate.specs.Views.{types_of}
-use Rattle.aj_elaborate.proofs.calls.fit_finals.Given as goal
-
-abbrev pub invariant-loop-field : goal.invariant-loop-field
-invariant-loop-field l =
-    fit_each (types_of l.rest) (map (λ f. f.ty) (filter (λ f. f.is_final) (drop l.field-index l.fields)))
-    ≡ fit_each (types_of l.args) (map (λ f. f.ty) (filter (λ f. f.is_final) l.fields))

@@ -1,0 +1,3 @@
+mod Fitting
+pub mod Noting
+mod Steps

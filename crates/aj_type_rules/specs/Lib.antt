@@ -1,0 +1,11 @@
+pub mod Faults
+pub mod Noted
+pub mod Rulings
+pub mod Scopes
+pub mod Rules
+pub mod Locks
+pub mod Exprs
+pub mod Completion
+pub mod Stmts
+pub mod Views
+pub mod Names

@@ -1,0 +1,225 @@
+//! The rules of calls and of `new`.
+
+ghost use Rattle.std.specs.Prelude.{◌≡◌, map, filter, take, drop, slice_get, option_map, IfOk, OnOk};
+ghost use Rattle.aj_classes.specs.Views.{table_data, class_data};
+ghost use Rattle.aj_core.specs.Core.{CallE, NewE};
+ghost use Rattle.aj_core.specs.Types.{result_type};
+ghost use Rattle.aj_core.specs.Views.{expr_of, exprs_from};
+ghost use Rattle.aj_type_rules.specs.Exprs.{unknown_only, call_fault, new_fault};
+ghost use Rattle.aj_type_rules.specs.Noted.{noted};
+ghost use Rattle.aj_type_rules.specs.Rulings.{gain, loss, given, broken, both};
+ghost use Rattle.aj_type_rules.specs.Rules.{fields_in, class_fields, fit_each, method_rule, call_rule, new_rule};
+ghost use Rattle.aj_type_rules.specs.Views.{boxed_data, typed_data, typed_list, type_data, types_of, nodes_of, method_found};
+
+use crate::fault::TypeFault;
+use crate::first::FirstFault;
+use crate::lookup::method_named;
+use crate::rules::{class_rule, value};
+use crate::types::{BoxedExpr, ExprType, TypedExpr};
+use aj_classes::{ClassEntry, ClassTable, FieldEntry, MethodEntry, ParamEntry};
+use aj_core::{CoreExpr, CoreType};
+use aj_paths::{ClassId, MethodId};
+use aj_syntax::Name;
+use std::alloc::{AllocError as NoMemory, Global};
+
+/// The method that a name means for a receiver of this type.
+pub fn method_rule<'t, 'a>(
+    table: &'t ClassTable<'a>,
+    name: &Name,
+    receiver: ExprType,
+    first: &mut FirstFault,
+) -> Option<(MethodId, &'t MethodEntry<'a>)>
+    ensures method { option_map method_found result ≡ gain (method_rule (table_data table.now) name.now (type_data receiver)) }
+    ensures fault { first.new ≡ noted first.old (loss (method_rule (table_data table.now) name.now (type_data receiver))) }
+{
+    let Some(class) = receiver.class() else {
+        first.note(TypeFault::NoRule(name.at));
+        return None;
+    };
+    let found = method_named(table, class, name.text);
+    if found.is_none() {
+        first.note(TypeFault::UnknownName(name.at));
+    }
+    found
+}
+
+/// Notes a method that the receiver's class lacks, and nothing else.
+fn note_unknown_method(table: &ClassTable, name: &Name, receiver: ExprType, first: &mut FirstFault)
+    ensures { first.new ≡ noted first.old (unknown_only (method_rule (table_data table.now) name.now (type_data receiver))) }
+{
+    let Some(class) = receiver.class() else {
+        return;
+    };
+    if method_named(table, class, name.text).is_none() {
+        first.note(TypeFault::UnknownName(name.at));
+    }
+}
+
+fn fit_params(args: &[TypedExpr], params: &[ParamEntry]) -> bool
+    ensures { result ≡ fit_each (types_of args.now) (map (λ p. p.ty) params.now) }
+{
+    let mut rest = args;
+    for param in params {
+        let Some((arg, more)) = rest.split_first() else {
+            return false;
+        };
+        if !arg.ty.fits(ExprType::Value(param.ty)) {
+            return false;
+        }
+        rest = more;
+    }
+    rest.is_empty()
+}
+
+/// Whether arguments fit the final ones of these fields.
+fn fit_finals(args: &[TypedExpr], fields: &[FieldEntry]) -> bool
+    ensures { result ≡ fit_each (types_of args.now) (map (λ f. f.ty) (filter (λ f. f.is_final) fields.now)) }
+{
+    let mut rest = args;
+    for field in fields {
+        if !field.is_final {
+            continue;
+        }
+        let Some((arg, more)) = rest.split_first() else {
+            return false;
+        };
+        if !arg.ty.fits(ExprType::Value(field.ty)) {
+            return false;
+        }
+        rest = more;
+    }
+    rest.is_empty()
+}
+
+/// So many fields from a place on; fewer where they end before.
+fn window<'t, 'a>(all: &'t [FieldEntry<'a>], start: usize, count: usize) -> &'t [FieldEntry<'a>]
+    ensures { result.now ≡ take count (drop start all.now) }
+{
+    let (_, later) = all.split_at(start.min(all.len()));
+    let (own, _) = later.split_at(count.min(later.len()));
+    own
+}
+
+fn class_entry<'t, 'a>(table: &'t ClassTable<'a>, class: ClassId) -> Option<&'t ClassEntry<'a>>
+    ensures { option_map (λ e. class_data e.now) result ≡ slice_get (table_data table.now).classes class }
+{
+    table.classes().get(class.0 as usize)
+}
+
+fn entry_fields<'t, 'a>(table: &'t ClassTable<'a>, entry: &ClassEntry) -> &'t [FieldEntry<'a>]
+    ensures { result.now ≡ fields_in (table_data table.now) (class_data entry.now) }
+{
+    let start = entry.first_field().0 as usize;
+    window(table.fields(), start, entry.field_count())
+}
+
+/// The fields of a class.
+fn fields_of<'t, 'a>(table: &'t ClassTable<'a>, class: ClassId) -> &'t [FieldEntry<'a>]
+    ensures { result.now ≡ class_fields (table_data table.now) class }
+{
+    match class_entry(table, class) {
+        Some(entry) => entry_fields(table, entry),
+        None => window(table.fields(), 0, 0),
+    }
+}
+
+fn nodes_of(alloc: Global, parts: Vec<TypedExpr>) -> Result<Vec<CoreExpr>, NoMemory>
+    ensures { IfOk result (λ nodes. nodes.items ≡ nodes_of parts.items) }
+{
+    parts.into_iter().map(|part| part.node).collect(alloc)
+}
+
+fn call_node(receiver: Box<CoreExpr>, method: MethodId, args: Vec<CoreExpr>) -> CoreExpr
+    ensures { expr_of result ≡ CallE (expr_of receiver.value) method (exprs_from args.items) }
+{
+    CoreExpr::Call(receiver, method, args)
+}
+
+fn new_node(class: ClassId, args: Vec<CoreExpr>) -> CoreExpr
+    ensures { expr_of result ≡ NewE class (exprs_from args.items) }
+{
+    CoreExpr::New(class, args)
+}
+
+/// What a call of a method with this result gives.
+fn result_type(returns: Option<CoreType>) -> ExprType
+    ensures { type_data result ≡ result_type returns }
+{
+    match returns {
+        Some(ty) => ExprType::Value(ty),
+        None => ExprType::Void,
+    }
+}
+
+/// A call whose receiver and arguments have types.
+fn typed_call(
+    alloc: Global,
+    table: &ClassTable,
+    name: &Name,
+    receiver: BoxedExpr,
+    args: Vec<TypedExpr>,
+    first: &mut FirstFault,
+) -> Result<Option<TypedExpr>, NoMemory>
+    ensures typed { IfOk result (λ e. option_map typed_data e ≡ gain (call_rule (table_data table.now) name.now (boxed_data receiver, typed_list args.items))) }
+    ensures fault { OnOk result (first.new ≡ noted first.old (loss (call_rule (table_data table.now) name.now (boxed_data receiver, typed_list args.items)))) }
+{
+    let Some((id, method)) = method_rule(table, name, receiver.ty, first) else {
+        return Ok(None);
+    };
+    if !fit_params(args.as_slice(), method.params.as_slice()) {
+        first.note(TypeFault::NoRule(name.at));
+        return Ok(None);
+    }
+    let args = nodes_of(alloc, args)?;
+    Ok(Some(TypedExpr {
+        ty: result_type(method.returns),
+        node: call_node(receiver.node, id, args),
+    }))
+}
+
+/// A call. Where the arguments have no types, only a method that the class lacks is a fault.
+pub fn call_rule(
+    alloc: Global,
+    table: &ClassTable,
+    name: &Name,
+    receiver: Option<BoxedExpr>,
+    args: Option<Vec<TypedExpr>>,
+    first: &mut FirstFault,
+) -> Result<Option<TypedExpr>, NoMemory>
+    ensures typed { IfOk result (λ e. option_map typed_data e ≡ given (call_rule (table_data table.now) name.now) (both (option_map boxed_data receiver) (option_map (λ a. typed_list a.items) args))) }
+    ensures fault { OnOk result (first.new ≡ noted first.old (call_fault (table_data table.now) name.now (option_map boxed_data receiver) (option_map (λ a. typed_list a.items) args))) }
+{
+    let Some(receiver) = receiver else {
+        return Ok(None);
+    };
+    let Some(args) = args else {
+        note_unknown_method(table, name, receiver.ty, first);
+        return Ok(None);
+    };
+    typed_call(alloc, table, name, receiver, args, first)
+}
+
+/// A `new`. Where the arguments have no types, only a name of no class is a fault.
+pub fn new_rule(
+    alloc: Global,
+    table: &ClassTable,
+    name: &Name,
+    args: Option<Vec<TypedExpr>>,
+    first: &mut FirstFault,
+) -> Result<Option<TypedExpr>, NoMemory>
+    ensures typed { IfOk result (λ e. option_map typed_data e ≡ given (new_rule (table_data table.now) name.now) (option_map (λ a. typed_list a.items) args)) }
+    ensures fault { OnOk result (first.new ≡ noted first.old (new_fault (table_data table.now) name.now (option_map (λ a. typed_list a.items) args))) }
+{
+    let Some(class) = class_rule(table, name, first) else {
+        return Ok(None);
+    };
+    let Some(args) = args else {
+        return Ok(None);
+    };
+    if !fit_finals(args.as_slice(), fields_of(table, class)) {
+        first.note(TypeFault::NoRule(name.at));
+        return Ok(None);
+    }
+    let args = nodes_of(alloc, args)?;
+    Ok(Some(value(CoreType::Class(class), new_node(class, args))))
+}

@@ -1,0 +1,39 @@
+//! Keeps the first of the faults that are found.
+
+ghost use Rattle.std.specs.Prelude.{◌≡◌, [], ◌∷◌, None};
+ghost use Rattle.aj_type_rules.specs.Noted.{noted};
+
+use crate::fault::TypeFault;
+use aj_faults::first_of;
+use std::marker::Model;
+
+/// The first of the faults that were noted.
+#[derive(Drop)]
+pub struct FirstFault {
+    pub found: Option<TypeFault>,
+}
+
+impl Model for FirstFault {
+    ghost use Rattle.std.specs.Prelude.{Option};
+    ghost use Rattle.aj_type_rules.specs.declared.fault.TypeFault.{TypeFault};
+
+    ghost Value = { Option TypeFault };
+
+    ghost view = { λ f. f.found };
+
+    ghost inverse = { λ f. record { found = f } };
+}
+
+impl FirstFault {
+    pub fn new() -> FirstFault
+        ensures { result ≡ None }
+    {
+        FirstFault { found: None }
+    }
+
+    pub fn note(&mut self, fault: TypeFault)
+        ensures { self.new ≡ noted self.old (fault ∷ []) }
+    {
+        self.found = first_of(self.found, fault);
+    }
+}

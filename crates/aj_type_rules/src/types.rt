@@ -1,0 +1,137 @@
+//! Types of expressions, and expressions with their types.
+
+ghost use Rattle.std.specs.Prelude.{◌≡◌, ◌∷◌, IfOk, option_map, map};
+ghost use Rattle.aj_core.specs.declared.types.CoreType.TheVariants as type;
+ghost use Rattle.aj_core.specs.Types.{ValueT, fits, type_eq, binary_type};
+ghost use Rattle.aj_type_rules.specs.Rules.{is_int, is_boolean, receiver_class, class_in, fit_each};
+ghost use Rattle.aj_type_rules.specs.Views.{type_data};
+
+use aj_core::{CoreExpr, CoreOp, CoreType};
+use aj_paths::ClassId;
+
+/// The type of an expression: that of a value, that of `null`, or void.
+#[derive(Clone, Copy, Debug)]
+pub enum ExprType {
+    Value(CoreType),
+    Null,
+    Void,
+}
+
+/// An expression of the core program with its type.
+#[derive(Drop)]
+pub struct TypedExpr {
+    pub ty: ExprType,
+    pub node: CoreExpr,
+}
+
+/// A part of a node: an expression of the core program in a box, with its type.
+#[derive(Drop)]
+pub struct BoxedExpr {
+    pub ty: ExprType,
+    pub node: Box<CoreExpr>,
+}
+
+/// The class of an object's type.
+pub fn class_in(ty: CoreType) -> Option<ClassId>
+    ensures { result ≡ class_in ty }
+{
+    match ty {
+        CoreType::Class(class) => Some(class),
+        CoreType::Int | CoreType::Boolean => None,
+    }
+}
+
+impl ExprType {
+    pub fn is_int(self) -> bool
+        ensures { result ≡ is_int (type_data self) }
+    {
+        matches!(self, ExprType::Value(CoreType::Int))
+    }
+
+    pub fn is_boolean(self) -> bool
+        ensures { result ≡ is_boolean (type_data self) }
+    {
+        matches!(self, ExprType::Value(CoreType::Boolean))
+    }
+
+    /// The class of a receiver of this type.
+    pub fn class(self) -> Option<ClassId>
+        ensures { result ≡ receiver_class (type_data self) }
+    {
+        match self {
+            ExprType::Value(ty) => class_in(ty),
+            ExprType::Null | ExprType::Void => None,
+        }
+    }
+
+    /// Whether this type fits another.
+    pub fn fits(self, other: ExprType) -> bool
+        ensures { result ≡ fits (type_data self) (type_data other) }
+    {
+        match (self, other) {
+            (ExprType::Value(ty), ExprType::Value(other)) => same_type(ty, other),
+            (ExprType::Null, ExprType::Null) => true,
+            (ExprType::Null, ExprType::Value(other)) => class_in(other).is_some(),
+            _ => false,
+        }
+    }
+}
+
+fn same_type(ty: CoreType, other: CoreType) -> bool
+    ensures { result ≡ type_eq ty other }
+{
+    match ty {
+        CoreType::Int => matches!(other, CoreType::Int),
+        CoreType::Boolean => matches!(other, CoreType::Boolean),
+        CoreType::Class(class) => is_of_class(other, class),
+    }
+}
+
+fn is_of_class(ty: CoreType, class: ClassId) -> bool
+    ensures { result ≡ type_eq (type.Class class) ty }
+{
+    match ty {
+        CoreType::Class(other) => class == other,
+        CoreType::Int | CoreType::Boolean => false,
+    }
+}
+
+/// The type that an operator on two values gives.
+pub fn binary_type(op: CoreOp, left: ExprType, right: ExprType) -> Option<ExprType>
+    ensures { option_map type_data result ≡ binary_type op (type_data left) (type_data right) }
+{
+    match op {
+        CoreOp::Eq | CoreOp::Ne => of_equals(left.fits(right) || right.fits(left)),
+        CoreOp::Lt | CoreOp::Le | CoreOp::Gt | CoreOp::Ge => of_ints(
+            CoreType::Boolean,
+            left,
+            right,
+        ),
+        CoreOp::Add | CoreOp::Sub | CoreOp::Mul | CoreOp::Div | CoreOp::Rem => {
+            of_ints(CoreType::Int, left, right)
+        }
+    }
+}
+
+ghost use Rattle.aj_core.specs.Types.{of_equals, of_ints};
+
+fn of_equals(equal: bool) -> Option<ExprType>
+    ensures { option_map type_data result ≡ of_equals equal }
+{
+    if equal {
+        Some(ExprType::Value(CoreType::Boolean))
+    } else {
+        None
+    }
+}
+
+fn of_ints(ty: CoreType, left: ExprType, right: ExprType) -> Option<ExprType>
+    ensures { option_map type_data result ≡ of_ints (ValueT ty) (type_data left) (type_data right) }
+{
+    match (left, right) {
+        (ExprType::Value(CoreType::Int), ExprType::Value(CoreType::Int)) => Some(ExprType::Value(
+            ty,
+        )),
+        _ => None,
+    }
+}
