@@ -6,50 +6,81 @@ use std::io::{Print, Write};
 use std::test::Fail;
 use std::{fs, io};
 
-/// A folder with two files of one name, an empty one, and 3 bytes a call.
+/// Two files of one name, and an empty one.
+static FILES: [(&str, &str); 3] = [("a", "eleven byte"), ("a", "other"), ("empty", "")];
+
+/// A folder with these files that gives 3 bytes a call, and fails at these calls.
 fn folder(rt: &HostRuntime, failing: &[u64]) -> Result<MemFolder, Fail> {
     let alloc = rt.alloc();
     let mut files = Vec::new(alloc);
-    for (name, text) in [("a", "eleven byte"), ("a", "other"), ("empty", "")] {
-        let name = String::from_str(rt.alloc(), name)?;
-        files.push((name, text.as_bytes().to_vec(rt.alloc())?))?;
+    for (name, text) in &FILES {
+        let name = String::from_str(alloc, name)?;
+        files.push((name, text.as_bytes().to_vec(alloc)?))?;
     }
-    Ok(MemFolder::new(rt.alloc(), files, 3, failing.to_vec(rt.alloc())?)?)
+    Ok(MemFolder::new(alloc, files, 3, failing.to_vec(alloc)?)?)
 }
+
+/// Failing calls, the name and the limit with which a file is read, and its text.
+static READ: [(&[u64], &str, u32, &str); 3] = [
+    (&[], "a", 11, "eleven byte"),
+    (&[], "empty", 0, ""),
+    (&[6], "a", 11, "eleven byte"),
+];
+
+/// Failing calls, the name and the limit with which no file is read, and why.
+static REFUSED: [(&[u64], &str, u32, ReadEnd); 3] = [
+    (&[], "a", 10, ReadEnd::TooLarge),
+    (&[], "z", 11, ReadEnd::Fault),
+    (&[2], "a", 11, ReadEnd::Fault),
+];
 
 #[test]
 fn files_in_memory_are_read_whole_or_not_at_all(rt: HostRuntime) -> Result<(), Fail> {
-    let none: [u64; 0] = [];
-    // failing calls, name, limit, answer
-    let cases = [
-        (none.as_slice(), "a", 11, Ok("eleven byte")),
-        (none.as_slice(), "a", 10, Err(ReadEnd::TooLarge)),
-        (none.as_slice(), "empty", 0, Ok("")),
-        (none.as_slice(), "z", 11, Err(ReadEnd::Fault)),
-        ([2].as_slice(), "a", 11, Err(ReadEnd::Fault)),
-        ([6].as_slice(), "a", 11, Ok("eleven byte")),
-    ];
-    for (failing, name, limit, answer) in cases {
+    for (failing, name, limit, text) in &READ {
         let mut folder = folder(&rt, failing)?;
-        match (read_file(rt.alloc(), &mut folder, name, limit), answer) {
-            (Ok(bytes), Ok(text)) => assert_eq!(rt; bytes.as_slice(), text.as_bytes()),
-            (Err(end), Err(wanted)) => assert_eq!(rt; end, wanted, "{name} {limit}"),
-            _ => assert!(rt; false, "{name} {limit}"),
-        }
+        let Ok(bytes) = read_file(rt.alloc(), &mut folder, name, *limit) else {
+            return Err(Fail::new("the file is not read"));
+        };
+        assert_eq!(rt; bytes.as_slice(), text.as_bytes());
+    }
+    for (failing, name, limit, why) in &REFUSED {
+        let mut folder = folder(&rt, failing)?;
+        let Err(end) = read_file(rt.alloc(), &mut folder, name, *limit) else {
+            return Err(Fail::new("the file is read"));
+        };
+        assert_eq!(rt; end, *why);
     }
     Ok(())
 }
+
+/// Bytes that are written one after the other, what comes of each, and what the sink has taken then.
+static WRITTEN: [(&[u8], Result<(), Fault>, &[u8]); 4] = [
+    (b"Cell.inc", Err(Fault), b"Cell"),
+    (b".inc ", Ok(()), b"Cell.inc "),
+    (b"mover", Err(Fault), b"Cell.inc m"),
+    (b"", Ok(()), b"Cell.inc m"),
+];
 
 #[test]
 fn a_sink_in_memory_takes_what_it_has_room_for(rt: HostRuntime) -> Result<(), Fail> {
     let mut sink = MemSink::new(rt.alloc(), 4, [2].to_vec(rt.alloc())?, 10)?;
-    assert_eq!(rt; write_all(&mut sink, b"Cell.inc"), Err(Fault));
-    assert_eq!(rt; sink.bytes(), b"Cell".as_slice());
-    assert_eq!(rt; write_all(&mut sink, b".inc "), Ok(()));
-    assert_eq!(rt; write_all(&mut sink, b"mover"), Err(Fault));
-    assert_eq!(rt; sink.bytes(), b"Cell.inc m".as_slice());
-    assert_eq!(rt; write_all(&mut sink, b""), Ok(()));
+    for (bytes, done, taken) in &WRITTEN {
+        assert_eq!(rt; write_all(&mut sink, bytes), *done);
+        assert_eq!(rt; sink.bytes(), *taken);
+    }
     Ok(())
+}
+
+/// Whether a real file is read whole within this limit.
+fn is_read(rt: &HostRuntime, name: &str, limit: u32, bytes: &[u8]) -> bool {
+    let read = read_file(rt.alloc(), &mut FileFolder::new(rt), name, limit);
+    matches!(read, Ok(read) if read.as_slice() == bytes)
+}
+
+/// Whether a real file isn't read within this limit, for this reason.
+fn is_refused(rt: &HostRuntime, name: &str, limit: u32, why: ReadEnd) -> bool {
+    let read = read_file(rt.alloc(), &mut FileFolder::new(rt), name, limit);
+    matches!(read, Err(end) if end == why)
 }
 
 #[test]
@@ -60,16 +91,10 @@ fn a_real_file_of_10_000_bytes_is_read_whole(rt: HostRuntime) -> Result<(), Fail
     }
     let name = "a_real_file_of_10_000_bytes";
     fs::write(&rt, name, bytes.as_slice())?;
-    let read = read_file(rt.alloc(), &mut FileFolder::new(&rt), name, 10_000);
-    let refused = read_file(rt.alloc(), &mut FileFolder::new(&rt), name, 9_999);
+    assert!(rt; is_read(&rt, name, 10_000, bytes.as_slice()));
+    assert!(rt; is_refused(&rt, name, 9_999, ReadEnd::TooLarge));
     fs::remove_file(&rt, name)?;
-    match read {
-        Ok(read) => assert_eq!(rt; read.as_slice(), bytes.as_slice()),
-        Err(_) => assert!(rt; false, "the file was not read"),
-    }
-    assert!(rt; matches!(refused, Err(ReadEnd::TooLarge)));
-    let missing = read_file(rt.alloc(), &mut FileFolder::new(&rt), name, 10_000);
-    assert!(rt; matches!(missing, Err(ReadEnd::Fault)));
+    assert!(rt; is_refused(&rt, name, 10_000, ReadEnd::Fault));
     Ok(())
 }
 
