@@ -14,6 +14,7 @@ ghost use Rattle.aj_state_report.specs.States.{state_text};
 ghost use Rattle.aj_steps.specs.Run.{run};
 ghost use Rattle.aj_commands.specs.Schedules.{NoSchedule, NoRun};
 
+use aj_classes::ClassTable;
 use aj_compile::CodeTable;
 use aj_machine::{Machine, StepEnd, Stopped};
 use aj_schedule::{SchedFault, read_schedule};
@@ -88,6 +89,25 @@ fn run_to_end(alloc: Global, machine: &mut Machine, schedule: &[u32]) -> Result<
     }
 }
 
+/// The text of the state that a schedule runs to on a machine at the start.
+fn text_after(
+    alloc: Global,
+    table: &ClassTable,
+    machine: &mut Machine,
+    schedule: &[u32],
+) -> Result<String, Refusal>
+    requires start { StandsFor machine.old (initial (program_run machine.old)) }
+    requires made { machine.old.made ≡ 0 }
+    requires short { length schedule.now ≤ 200000 }
+    ensures { MatchResult result
+        (λ text. (q : State) × (run (program_run machine.old) schedule.now ≡ Some q) × (string_bytes text ≡ state_text (program_run machine.old) (table_data table.now) q))
+        (IsRight (NoRun (program_run machine.old) schedule.now)) }
+{
+    run_to_end(alloc, machine, schedule)?;
+    let text = state_text(alloc, table, machine)?;
+    Ok(text)
+}
+
 /// The text of the state that a schedule of a source runs to, over the code of its program.
 pub fn state_after(
     alloc: Global,
@@ -102,7 +122,5 @@ pub fn state_after(
         (IsRight (NoRun (program_of source.now.program) schedule.now)) }
 {
     let mut machine = Machine::start(alloc, &source.program, code)?;
-    run_to_end(alloc, &mut machine, schedule)?;
-    let text = state_text(alloc, &source.table, &machine)?;
-    Ok(text)
+    text_after(alloc, &source.table, &mut machine, schedule)
 }
