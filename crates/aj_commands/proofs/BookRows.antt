@@ -14,7 +14,8 @@ use Rattle.aj_deriv.specs.Books.{Book}
 use Rattle.aj_deriv.specs.Texts.{IsTextOf}
 use Rattle.aj_deriv.specs.declared.stop.BookFault.TheVariants as faults
 use Rattle.aj_deriv_check.specs.Checks.{IsJudged}
-use Rattle.aj_deriv_check.specs.Good.{IsGoodBook, tree_value}
+use Rattle.aj_deriv_rules.specs.Conclusions.{tree_value}
+use Rattle.aj_deriv_check.specs.Good.{IsGoodBook}
 use Rattle.aj_deriv_check.specs.declared.wrong.TextWrong.{TextWrong}
 use Rattle.aj_deriv_check.specs.declared.wrong.TextWrong.TheVariants as text
 use Rattle.aj_deriv_check.specs.declared.wrong.Wrong.TheVariants as wrong

@@ -12,8 +12,9 @@ use Rattle.aj_rules.specs.Rules.{IsPart, AtMost, IsAdmissible, IsAccepted, decla
 use Rattle.aj_rules.proofs.BasicLemmas.{below_itself, below_chain}
 use Rattle.aj_deriv.specs.Derivations.{number_of}
 use Rattle.aj_deriv.specs.Books.{Line, Book}
-use Rattle.aj_deriv_check.specs.Parts.{StmtP}
-use Rattle.aj_deriv_check.specs.Good.{table_value, tree_value, line_value, book_assignment, cond_at, Falls, IsGoodBook}
+use Rattle.aj_deriv_rules.specs.Parts.{StmtP}
+use Rattle.aj_deriv_rules.specs.Conclusions.{table_value, tree_value}
+use Rattle.aj_deriv_check.specs.Good.{line_value, book_assignment, cond_at, Falls, IsGoodBook}
 use Rattle.aj_deriv_check.proofs.Above.{above}
 
 -- the line of a method

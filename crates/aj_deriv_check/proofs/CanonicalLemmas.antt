@@ -10,12 +10,12 @@ use Rattle.aj_cond.proofs.CondLemmas.{after_test, is-cond_eq}
 use Rattle.aj_core.specs.Core.{Method}
 use Rattle.aj_rules.specs.Effect.{Assignment}
 use Rattle.aj_deriv.specs.Books.{Line, Book, AreTrees, is_less, comes_after, is_canonical_below}
-use Rattle.aj_deriv_check.specs.declared.judge.Judge.{Judge}
+use Rattle.aj_deriv_rules.specs.declared.judge.Judge.{Judge}
 use Rattle.aj_deriv_check.specs.declared.wrong.Wrong.{Wrong}
 use Rattle.aj_deriv_check.specs.declared.wrong.Wrong.TheVariants as wrong
 use Rattle.aj_deriv_check.specs.Good.{line_value, book_assignment, IsShaped, IsGoodLine, IsGoodBook}
 use Rattle.aj_deriv_check.specs.Faults.{IsShapedAt, AreShaped, AreGoodBefore, IsFirstWrong, IsWrong, IsLineVerdict}
-use Rattle.aj_deriv_check.specs.Judges.{judge_program, judge_rel, judge_table, judge_assignment, number_value, AreCanonical}
+use Rattle.aj_deriv_rules.specs.Judges.{judge_program, judge_rel, judge_table, judge_assignment, number_value, AreCanonical}
 use Rattle.aj_deriv_check.specs.Passes.{numbers_of, AreGoodLines, IsWrongLine, AreLinesJudged, IsVerdict}
 
 -- below a path, if there is one

@@ -2,7 +2,7 @@
 use Rattle.std.proofs.Common.{◌≡◌, ℕ, zero, suc, ◌+◌, ◌<◌, ◌⊎◌, inl, inr, List, [], ◌∷◌, ◌++◌, length, Some, None, ◌∙◌, subst, arith, slice_get}
 use Rattle.std.proofs.lemmas.Option.{same_Some, slice_get_within}
 use Rattle.aj_lemmas.proofs.Lists.{at_left, at_either, get_right}
-use Rattle.aj_deriv_check.specs.Parts.{Place, Each, IsLeastBad}
+use Rattle.aj_deriv_rules.specs.Parts.{Place, Each, IsLeastBad}
 
 pub each_left : (G : Place → Type 0) (xs ys : List Place) → Each G (xs ++ ys) → Each G xs
 each_left G xs ys all = λ k x e. all k x (at_left xs ys k x e)

@@ -7,11 +7,11 @@ use Rattle.aj_core.specs.Core.{Program, Method}
 use Rattle.aj_core.specs.declared.program.CoreMethod.{CoreMethod}
 use Rattle.aj_core.specs.Views.{method_of}
 use Rattle.aj_deriv.specs.Books.{Line, Book}
-use Rattle.aj_deriv_check.specs.declared.judge.Judge.{Judge}
+use Rattle.aj_deriv_rules.specs.declared.judge.Judge.{Judge}
 use Rattle.aj_deriv_check.specs.declared.wrong.Wrong.{Wrong}
 use Rattle.aj_deriv_check.specs.declared.wrong.Wrong.TheVariants as wrong
 use Rattle.aj_deriv_check.specs.Good.{IsShaped, IsGoodLine}
-use Rattle.aj_deriv_check.specs.Judges.{judge_assignment, judge_program, judge_rel, judge_table}
+use Rattle.aj_deriv_rules.specs.Judges.{judge_assignment, judge_program, judge_rel, judge_table}
 use Rattle.aj_deriv_check.specs.Faults.{IsShapedAt, HasShapeFault, AreShaped, IsFirstMisshaped, IsWrong}
 use Rattle.aj_deriv_check.specs.Passes.{IsShapeFault, IsShapeStep, numbers_of, IsLineStep, AreGoodLines, IsWrongLine}
 

@@ -5,10 +5,10 @@ use Rattle.aj_deriv.specs.Books.{Line}
 use Rattle.aj_deriv_check.specs.declared.wrong.Wrong.{Wrong}
 use Rattle.aj_deriv_check.specs.declared.wrong.Wrong.TheVariants as wrong
 use Rattle.aj_deriv_check.specs.declared.walk.End.TheVariants.{Good, Bad}
-use Rattle.aj_deriv_check.specs.Parts.{StmtP, Place, places, Fits, IsLeastBad}
+use Rattle.aj_deriv_rules.specs.Parts.{StmtP, Place, places, Fits, IsLeastBad}
 use Rattle.aj_deriv_check.specs.Walks.{IsEnd}
-use Rattle.aj_deriv_check.specs.declared.judge.Judge.{Judge}
-use Rattle.aj_deriv_check.specs.Judges.{judge_assignment, judge_program, judge_rel, judge_table}
+use Rattle.aj_deriv_rules.specs.declared.judge.Judge.{Judge}
+use Rattle.aj_deriv_rules.specs.Judges.{judge_assignment, judge_program, judge_rel, judge_table}
 use Rattle.aj_deriv_check.specs.Faults.{IsLineVerdict}
 use Rattle.aj_deriv_check.specs.Passes.{IsShapeStep, IsLineStep}
 

@@ -6,8 +6,9 @@ use Rattle.aj_core.specs.Core.{Program, Method}
 use Rattle.aj_deriv.specs.Books.{Line, Book}
 use Rattle.aj_deriv_check.specs.declared.wrong.Wrong.{Wrong}
 use Rattle.aj_deriv_check.specs.declared.wrong.Wrong.TheVariants as wrong
-use Rattle.aj_deriv_check.specs.Parts.{StmtP, places, Fits, IsLeastBad}
-use Rattle.aj_deriv_check.specs.Good.{table_value, book_assignment, cond_at, IsStep, IsUnderOwn, IsShaped, IsTabled, IsStepped, IsBounded, IsGoodLine}
+use Rattle.aj_deriv_rules.specs.Parts.{StmtP, places, Fits, IsLeastBad}
+use Rattle.aj_deriv_rules.specs.Conclusions.{table_value}
+use Rattle.aj_deriv_check.specs.Good.{book_assignment, cond_at, IsStep, IsUnderOwn, IsShaped, IsTabled, IsStepped, IsBounded, IsGoodLine}
 use Rattle.aj_rules.specs.Effect.{Assignment}
 use Rattle.aj_cond.specs.Conditions.{Cond}
 

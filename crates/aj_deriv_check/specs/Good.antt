@@ -1,5 +1,5 @@
 -- Books that are good for a program.
-use Rattle.std.specs.Prelude.{◌≡◌, ℕ, Bool, true, ◌&&◌, List, [], ◌∷◌, length, Option, Some, None, slice_get}
+use Rattle.std.specs.Prelude.{◌≡◌, ℕ, Bool, true, ◌&&◌, List, length, Option, Some, None, slice_get}
 use Rattle.aj_paths.specs.Paths.{PathData}
 use Rattle.aj_algebra.specs.declared.basic.Basic.TheVariants.{Const}
 use Rattle.aj_algebra.specs.HeldPaths.{Held, has_path}
@@ -7,19 +7,11 @@ use Rattle.aj_core.specs.Core.{Program, Method}
 use Rattle.aj_cond.specs.Conditions.{Cond, LeafC, TestC, value_of}
 use Rattle.aj_rules.specs.Effect.{Assignment}
 use Rattle.aj_rules.specs.Rules.{IsPart, AtMost, declared_bound}
-use Rattle.aj_deriv.specs.Derivations.{Nodes, no_nodes, and_node, number_of, premises_of}
+use Rattle.aj_deriv.specs.Derivations.{number_of, premises_of}
 use Rattle.aj_deriv.specs.Books.{Line, Book}
-use Rattle.aj_deriv_check.specs.Parts.{StmtP, Place, places, Fits, Each}
-use Rattle.aj_deriv_check.specs.Rules.{Value, rule_of}
-
--- the value of a tree; const where there is none
-abbrev pub tree_value : Option Cond → Value
-tree_value None H = Const
-tree_value (Some t) H = value_of t H
-
--- the value of the tree with this number in a table
-abbrev pub table_value : List Cond → ℕ → Value
-table_value table n = tree_value (slice_get table n)
+use Rattle.aj_deriv_rules.specs.Parts.{StmtP, Place, places, Fits, Each}
+use Rattle.aj_deriv_rules.specs.Rules.{Value, rule_of}
+use Rattle.aj_deriv_rules.specs.Conclusions.{table_value, conclusions}
 
 -- the number of a method line's tree, where there is one
 abbrev pub line_value : List Cond → Option Line → Value
@@ -29,11 +21,6 @@ line_value table (Some line) H = table_value table line.number H
 -- what the trees of the method lines assign to the methods
 abbrev pub book_assignment : Book → Assignment
 book_assignment book m H = line_value book.table (slice_get book.lines m) H
-
--- the values of the conclusions of nodes
-abbrev pub conclusions : (ℕ → Value) → Nodes → List Value
-conclusions V no_nodes = []
-conclusions V (and_node d ds) = V (number_of d) ∷ conclusions V ds
 
 -- more held paths never give a greater basic
 abbrev pub Falls : Value → Type 0

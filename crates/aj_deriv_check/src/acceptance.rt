@@ -17,12 +17,12 @@ ghost use Rattle.aj_deriv_check.specs.declared.wrong.Wrong.{Wrong};
 ghost use Rattle.aj_deriv_check.specs.Passes.{IsVerdict};
 
 use crate::checked::Checked;
-use crate::judge::Judge;
 use crate::passes::{lines, shapes};
 use crate::wrong::{TextWrong, Wrong};
 use aj_cond::Tree;
 use aj_core::CoreProgram;
 use aj_deriv::{BookCursor, BookFault, DerivBook, Lines, LinesInMemory, read_book};
+use aj_deriv_rules::Judge;
 use aj_rules::RelevantSets;
 use std::alloc::Global;
 use std::mem::forget;

@@ -1,31 +1,15 @@
 //! What is asked of each node: first its shape, then its step.
-ghost use Rattle.std.specs.Prelude.{◌≡◌, ◌↔◌, ℕ, List, map, true, IfOk};
-ghost use Rattle.aj_algebra.specs.HeldPaths.{Held};
-ghost use Rattle.aj_cond.specs.Conditions.{cond_of, value_of, IsCanonical};
-ghost use Rattle.aj_core.specs.Views.{stmt_of, stmts_from};
-ghost use Rattle.aj_rules.specs.Rules.{AtMost};
+ghost use Rattle.std.specs.Prelude.{◌≡◌, ◌↔◌, true};
 ghost use Rattle.aj_deriv.specs.Derivations.{node};
-ghost use Rattle.aj_deriv_check.specs.Good.{conclusions, IsStep};
-ghost use Rattle.aj_deriv_check.specs.Judges.{judge_assignment, judge_program, judge_rel, judge_table, judge_value, AreCanonical};
-ghost use Rattle.aj_deriv_check.specs.Parts.{Fits};
-ghost use Rattle.aj_deriv_check.specs.Rules.{block_value, rule_of, stmt_rule as stmt_rule_of, Value};
-ghost use Rattle.aj_deriv_check.specs.Walks.{part_of};
+ghost use Rattle.aj_deriv_rules.specs.Bodies.{part_of};
+ghost use Rattle.aj_deriv_rules.specs.Judges.{judge_assignment, judge_program, judge_rel, judge_table, judge_value, AreCanonical};
+ghost use Rattle.aj_deriv_rules.specs.Parts.{Fits};
+ghost use Rattle.aj_deriv_check.specs.Good.{IsStep};
 
-use crate::branching::plain_step;
-use crate::chain::is_step_at_end;
-use crate::judge::Judge;
-use crate::lookups::tree_at;
-use crate::parts::{BodyPart, inner_parts, part_word, same_length};
-use crate::rules::{expr_rule, stmt_rule};
-use crate::sequences::{block_below, expr_below, stmt_below};
-use crate::values::below;
 use crate::walk::Asked;
-use crate::work::{LITTLE, Work};
-use aj_cond::Tree;
-use aj_core::CoreStmt;
 use aj_deriv::{Nodes, Word};
+use aj_deriv_rules::{BodyPart, Judge, Work, inner_parts, is_step, part_word, same_length};
 use std::alloc::{AllocError as NoMemory, Global};
-use std::cell::Cell;
 
 /// Asks whether a node has the word and the number of premises of its part.
 #[derive(Clone, Copy)]
@@ -59,163 +43,7 @@ impl Asked for Shapes {
     }
 }
 
-/// The numbers of the conclusions of nodes.
-fn numbers<F: Nodes>(alloc: Global, nodes: F) -> Result<Vec<u32>, NoMemory>
-    requires { F.AreKept nodes }
-    ensures { IfOk result (λ numbers. (V : ℕ → Value) → map V numbers.items ≡ conclusions V (F.nodes nodes)) }
-{
-    let mut numbers = Vec::new(alloc);
-    let mut rest = nodes;
-    while let Some(first) = rest.first() {
-        numbers.push(first.number)?;
-        rest = first.rest;
-    }
-    Ok(numbers)
-}
-
-/// The value that a part's rule gives, from the numbers of its premises' conclusions.
-pub fn rule(
-    alloc: Global,
-    judge: &Judge<'_>,
-    part: BodyPart<'_>,
-    numbers: &[u32],
-) -> Result<Tree, NoMemory>
-    requires { AreCanonical (judge_table judge.now) }
-    ensures known { IfOk result (λ r. IsCanonical (cond_of r)) }
-    ensures value { IfOk result (λ r. (H : Held) → value_of (cond_of r) H ≡
-        rule_of (judge_program judge.now) (judge_rel judge.now) (judge_assignment judge.now) (part_of part.entry) (map (judge_value judge.now) numbers.now) H) }
-{
-    let left = Cell::new(u32::MAX);
-    rule_within(alloc, Work::ample(&left), judge, part, numbers)
-}
-
-/// The value that a part's rule gives, within so much work.
-fn rule_within(
-    alloc: Global,
-    work: Work<'_>,
-    judge: &Judge<'_>,
-    part: BodyPart<'_>,
-    numbers: &[u32],
-) -> Result<Tree, NoMemory>
-    requires { AreCanonical (judge_table judge.now) }
-    ensures known { IfOk result (λ r. IsCanonical (cond_of r)) }
-    ensures value { IfOk result (λ r. (H : Held) → value_of (cond_of r) H ≡
-        rule_of (judge_program judge.now) (judge_rel judge.now) (judge_assignment judge.now) (part_of part.entry) (map (judge_value judge.now) numbers.now) H) }
-{
-    match part {
-        BodyPart::Expr(e) => expr_rule(alloc, work, judge, e, numbers),
-        BodyPart::Stmt(s) => stmt_rule(alloc, work, judge, s, numbers),
-    }
-}
-
-/// Whether a tree is at or above the value that a statement's rule gives, with no tree for that value. Only for blocks; want of
-/// memory elsewhere.
-fn stmt_by_pairs(
-    work: Work<'_>,
-    judge: &Judge<'_>,
-    s: &CoreStmt,
-    numbers: &[u32],
-    d: &Tree,
-) -> Result<bool, NoMemory>
-    requires canonical { AreCanonical (judge_table judge.now) }
-    requires known { IsCanonical (cond_of d.now) }
-    ensures { IfOk result (λ b. (b ≡ true) ↔ ((H : Held) →
-        AtMost (stmt_rule_of (judge_program judge.now) (judge_rel judge.now) (judge_assignment judge.now) (stmt_of s.now) (map (judge_value judge.now) numbers.now) H) (value_of (cond_of d.now) H))) }
-{
-    match s {
-        CoreStmt::Block(body) => block_below(work, judge, body.as_slice(), numbers, d),
-        _ => Err(NoMemory),
-    }
-}
-
-/// Whether a tree is at or above the value that a part's rule gives, with no tree for that value, where it can be told so.
-fn is_step_by_pairs(
-    work: Work<'_>,
-    judge: &Judge<'_>,
-    part: BodyPart<'_>,
-    numbers: &[u32],
-    d: &Tree,
-) -> Result<bool, NoMemory>
-    requires canonical { AreCanonical (judge_table judge.now) }
-    requires known { IsCanonical (cond_of d.now) }
-    ensures { IfOk result (λ b. (b ≡ true) ↔ ((H : Held) →
-        AtMost (rule_of (judge_program judge.now) (judge_rel judge.now) (judge_assignment judge.now) (part_of part.entry) (map (judge_value judge.now) numbers.now) H) (value_of (cond_of d.now) H))) }
-{
-    match part {
-        BodyPart::Stmt(s) => stmt_by_pairs(work, judge, s, numbers, d),
-        BodyPart::Expr(_) => Err(NoMemory),
-    }
-}
-
-/// Whether a tree is at or above the value that a part's rule gives. Where that value would be too large a tree, a block is judged
-/// by pairs of its statements.
-#[tactic(auto, using(crate::proofs::AskedLemmas::step_is))]
-fn is_step_by_value(
-    alloc: Global,
-    work: Work<'_>,
-    judge: &Judge<'_>,
-    part: BodyPart<'_>,
-    numbers: &[u32],
-    d: &Tree,
-) -> Result<bool, NoMemory>
-    requires canonical { AreCanonical (judge_table judge.now) }
-    requires known { IsCanonical (cond_of d.now) }
-    ensures { IfOk result (λ b. (b ≡ true) ↔ ((H : Held) →
-        AtMost (rule_of (judge_program judge.now) (judge_rel judge.now) (judge_assignment judge.now) (part_of part.entry) (map (judge_value judge.now) numbers.now) H) (value_of (cond_of d.now) H))) }
-{
-    match rule_within(alloc, work, judge, part, numbers) {
-        Ok(value) => below(work, &value, d),
-        Err(_) => is_step_by_pairs(work, judge, part, numbers, d),
-    }
-}
-
-/// Whether a tree is at or above the value that a part's rule gives, where that takes little work and no tree for the value.
-fn is_step_at_once(
-    alloc: Global,
-    work: Work<'_>,
-    little: Work<'_>,
-    judge: &Judge<'_>,
-    part: BodyPart<'_>,
-    numbers: &[u32],
-    d: &Tree,
-) -> Result<bool, NoMemory>
-    requires canonical { AreCanonical (judge_table judge.now) }
-    requires known { IsCanonical (cond_of d.now) }
-    ensures { IfOk result (λ b. (b ≡ true) ↔ ((H : Held) →
-        AtMost (rule_of (judge_program judge.now) (judge_rel judge.now) (judge_assignment judge.now) (part_of part.entry) (map (judge_value judge.now) numbers.now) H) (value_of (cond_of d.now) H))) }
-{
-    match part {
-        BodyPart::Expr(e) => expr_below(alloc, work, little, judge, e, numbers, d),
-        BodyPart::Stmt(s) => stmt_below(alloc, work, little, judge, s, numbers, d),
-    }
-}
-
-/// Whether a tree is at or above the value that a part's rule gives.
-fn is_step(
-    alloc: Global,
-    work: Work<'_>,
-    judge: &Judge<'_>,
-    part: BodyPart<'_>,
-    numbers: &[u32],
-    d: &Tree,
-) -> Result<bool, NoMemory>
-    requires canonical { AreCanonical (judge_table judge.now) }
-    requires known { IsCanonical (cond_of d.now) }
-    ensures { IfOk result (λ b. (b ≡ true) ↔ ((H : Held) →
-        AtMost (rule_of (judge_program judge.now) (judge_rel judge.now) (judge_assignment judge.now) (part_of part.entry) (map (judge_value judge.now) numbers.now) H) (value_of (cond_of d.now) H))) }
-{
-    if is_step_at_end(alloc, judge, part, numbers, d) {
-        return Ok(true);
-    }
-    let left = Cell::new(LITTLE);
-    match is_step_at_once(alloc, work, Work::little(&left), judge, part, numbers, d) {
-        Ok(is) => Ok(is),
-        Err(_) => is_step_by_value(alloc, work, judge, part, numbers, d),
-    }
-}
-
-/// Asks whether a node's conclusion is at or above its rule's value. Want of memory where its number has no tree, which no book
-/// has.
+/// Asks whether a node's conclusion is at or above its rule's value.
 #[derive(Clone, Copy)]
 pub(crate) struct Steps<'a> {
     pub(crate) judge: &'a Judge<'a>,
@@ -235,13 +63,6 @@ impl<'a> Asked for Steps<'a> {
         number: u32,
         premises: F,
     ) -> Result<bool, NoMemory> {
-        let Some(d) = tree_at(self.judge.table, number) else {
-            return Err(NoMemory);
-        };
-        if let Some(is) = plain_step(self.judge.program, self.judge.table, part, premises, d) {
-            return Ok(is);
-        }
-        let numbers = numbers(alloc, premises)?;
-        is_step(alloc, self.work, self.judge, part, numbers.as_slice(), d)
+        is_step(alloc, self.work, self.judge, part, number, premises)
     }
 }

@@ -8,21 +8,18 @@ ghost use Rattle.aj_deriv.specs.Derivations.{node};
 ghost use Rattle.aj_rules.specs.Rules.{declared_bound};
 ghost use Rattle.aj_deriv_check.specs.Faults.{IsLineVerdict};
 ghost use Rattle.aj_deriv_check.specs.Good.{cond_at, tests_only as tests_only_of, Falls, IsTabled, IsUnder};
-ghost use Rattle.aj_deriv_check.specs.Judges.{judge_assignment, judge_program, judge_rel, judge_table, judge_value, AreCanonical};
+ghost use Rattle.aj_deriv_rules.specs.Judges.{judge_assignment, judge_program, judge_rel, judge_table, judge_value, AreCanonical};
 
 use crate::asked::Steps;
-use crate::judge::Judge;
-use crate::lookups::{conclusion, tree_at};
-use crate::names::{holds, where_held};
-use crate::parts::BodyPart;
-use crate::values::{below, same_copy};
 use crate::walk::{End, walk_node};
-use crate::work::Work;
 use crate::wrong::Wrong;
 use aj_algebra::{Algebra, Basic};
 use aj_cond::{Tree, Trees};
 use aj_core::CoreMethod;
 use aj_deriv::{Nodes, Word};
+use aj_deriv_rules::{
+    BodyPart, Judge, Work, below, conclusion, holds, same_copy, tree_at, where_held,
+};
 use aj_paths::{MethodId, Path};
 use aj_rules::RelevantSets;
 use std::alloc::{AllocError as NoMemory, Global};

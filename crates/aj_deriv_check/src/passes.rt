@@ -3,21 +3,22 @@ ghost use Rattle.std.specs.Prelude.{◌≡◌, ◌↔◌, ◌+◌, ℕ, List, tr
 ghost use Rattle.aj_core.specs.Views.{method_of, program_of};
 ghost use Rattle.aj_cond.specs.Conditions.{Cond};
 ghost use Rattle.aj_paths.specs.Paths.{PathData};
-ghost use Rattle.aj_deriv_check.specs.Judges.{judge_table, AreCanonical};
+ghost use Rattle.aj_deriv_rules.specs.Judges.{judge_table, AreCanonical};
 ghost use Rattle.aj_deriv_check.specs.Passes.{AreAllShaped, AreLinesJudged, IsLineStep, IsShapeStep};
 
 use crate::asked::Shapes;
-use crate::judge::Judge;
 use crate::line::line_verdict;
-use crate::parts::BodyPart;
 use crate::walk::{End, walk_node};
-use crate::work::MOST_WORK;
 use crate::wrong::Wrong;
 use aj_core::{CoreMethod, CoreProgram};
 use aj_deriv::Lines;
+use aj_deriv_rules::{BodyPart, Judge};
 use aj_paths::MethodId;
 use std::alloc::{AllocError as NoMemory, Global};
 use std::cell::Cell;
+
+/// How many pairs of subtrees all operations may visit that are beyond what trees over near paths ask for.
+const MOST_WORK: u32 = 1 << 26;
 
 /// Whether an id is this number.
 fn is_method(id: MethodId, m: u32) -> bool

@@ -1,11 +1,12 @@
 //! A walk along the nodes of a derivation, beside the parts that they stand for.
 ghost use Rattle.std.specs.Prelude.{◌≡◌, ◌↔◌, ◌+◌, true, IfOk};
 ghost use Rattle.aj_deriv.specs.Derivations.{node};
-ghost use Rattle.aj_deriv_check.specs.Parts.{places, places_of};
-ghost use Rattle.aj_deriv_check.specs.Walks.{list_of, part_of, IsEnd};
+ghost use Rattle.aj_deriv_rules.specs.Parts.{places, places_of};
+ghost use Rattle.aj_deriv_rules.specs.Bodies.{list_of, part_of};
+ghost use Rattle.aj_deriv_check.specs.Walks.{IsEnd};
 
-use crate::parts::{BodyPart, Parts, inner_parts};
 use aj_deriv::{Nodes, Word};
+use aj_deriv_rules::{BodyPart, Parts, inner_parts};
 use std::alloc::{AllocError as NoMemory, Global};
 
 /// Where a walk ends: all nodes are good, and this number comes next; or this is the least that is not.
@@ -17,7 +18,7 @@ pub(crate) enum End {
 
 /// What is asked of each node.
 pub(crate) trait Asked {
-    ghost use Rattle.aj_deriv_check.specs.Parts.{Place};
+    ghost use Rattle.aj_deriv_rules.specs.Parts.{Place};
 
     /// The answer that is right.
     ghost IsGood: { Self → Place → Type 0 };

@@ -9,9 +9,10 @@ use Rattle.aj_rules.specs.Effect.{Assignment}
 use Rattle.aj_deriv.specs.declared.word.Word.{Word}
 use Rattle.aj_deriv.specs.Derivations.{Node, node, Nodes, no_nodes, and_node, number_of, count_nodes}
 use Rattle.aj_deriv.specs.Books.{IsNumbered, AreNumbered}
-use Rattle.aj_deriv_check.specs.Parts.{Part, word_of, parts_of, places, places_of, Fits, Each}
-use Rattle.aj_deriv_check.specs.Rules.{rule_of}
-use Rattle.aj_deriv_check.specs.Good.{tree_value, table_value, conclusions, IsExact}
+use Rattle.aj_deriv_rules.specs.Parts.{Part, word_of, parts_of, places, places_of, Fits, Each}
+use Rattle.aj_deriv_rules.specs.Rules.{rule_of}
+use Rattle.aj_deriv_rules.specs.Conclusions.{tree_value, table_value, conclusions}
+use Rattle.aj_deriv_check.specs.Good.{IsExact}
 use Rattle.aj_deriv.specs.Memory.{node_of, nodes_at}
 use Rattle.aj_deriv.specs.declared.derivation.Derivation.{Derivation}
 use Rattle.aj_deriv_check.proofs.Lists.{each_both, each_none, each_one}

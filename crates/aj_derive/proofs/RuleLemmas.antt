@@ -16,10 +16,10 @@ use Rattle.aj_nodes.specs.Shown.{IsThere, AreThere, node_value}
 use Rattle.aj_deriv.specs.declared.derivation.Derivation.{Derivation}
 use Rattle.aj_deriv.specs.Derivations.{number_of}
 use Rattle.aj_deriv.specs.Memory.{node_of, nodes_at}
-use Rattle.aj_deriv_check.specs.Good.{tree_value, conclusions}
-use Rattle.aj_deriv_check.specs.Rules.{Value}
-use Rattle.aj_deriv_check.specs.Judges.{named_set, local_name, call_name}
-use Rattle.aj_deriv_check.proofs.NameLemmas.{local_value, call_value, call_all}
+use Rattle.aj_deriv_rules.specs.Conclusions.{tree_value, conclusions}
+use Rattle.aj_deriv_rules.specs.Rules.{Value}
+use Rattle.aj_deriv_rules.specs.Judges.{named_set, local_name, call_name}
+use Rattle.aj_deriv_rules.proofs.NameLemmas.{local_value, call_value, call_all}
 use Rattle.aj_derive.specs.Derived.{trees_assign}
 use Rattle.aj_derive.proofs.Rows.{pushed_more}
 

@@ -16,8 +16,9 @@ use Rattle.aj_rules.proofs.Falling.{closed_above}
 use Rattle.aj_rules.proofs.BasicLemmas.{below_itself}
 use Rattle.aj_deriv.specs.Derivations.{number_of}
 use Rattle.aj_deriv.specs.Books.{Line, Book, IsBook, IsLine, AreLines, AreTrees}
-use Rattle.aj_deriv_check.specs.Parts.{StmtP, places, Each}
-use Rattle.aj_deriv_check.specs.Good.{tree_value, table_value, line_value, book_assignment, cond_at, tests_only, Falls, IsExact, IsTabled, IsGoodLine, IsGoodBook}
+use Rattle.aj_deriv_rules.specs.Parts.{StmtP, places, Each}
+use Rattle.aj_deriv_rules.specs.Conclusions.{tree_value, table_value}
+use Rattle.aj_deriv_check.specs.Good.{line_value, book_assignment, cond_at, tests_only, Falls, IsExact, IsTabled, IsGoodLine, IsGoodBook}
 use Rattle.aj_derive.specs.Derived.{trees_assign, AreDistinct, IsDerived, KeepsRules}
 use Rattle.aj_derive.specs.Lines.{AreLinesOf}
 use Rattle.aj_derive.proofs.ConcludeLemmas.{some_at, numbered, each_fits, each_exact, effect_is}

@@ -7,8 +7,9 @@ use Rattle.aj_cond.specs.Conditions.{Cond, cond_of}
 use Rattle.aj_rules.specs.Effect.{Assignment}
 use Rattle.aj_rules.specs.Near.{rel_of}
 use Rattle.aj_deriv.specs.Derivations.{Node, node, Nodes, no_nodes, and_node}
-use Rattle.aj_deriv_check.specs.Parts.{Part, parts_of, Fits}
-use Rattle.aj_deriv_check.specs.Good.{table_value, IsExact}
+use Rattle.aj_deriv_rules.specs.Parts.{Part, parts_of, Fits}
+use Rattle.aj_deriv_rules.specs.Conclusions.{table_value}
+use Rattle.aj_deriv_check.specs.Good.{IsExact}
 use Rattle.aj_derive.specs.declared.basis.Basis.{Basis}
 use Rattle.aj_derive.specs.Derived.{trees_assign}
 

@@ -8,8 +8,9 @@ use Rattle.aj_rules.specs.Effect.{Assignment}
 use Rattle.aj_rules.specs.Rules.{IsFalling, IsClosed, HoldsBound}
 use Rattle.aj_deriv.specs.Derivations.{Node, node, Nodes, no_nodes, and_node}
 use Rattle.aj_deriv.specs.Books.{Line, Book}
-use Rattle.aj_deriv_check.specs.Parts.{StmtP, places, Each}
-use Rattle.aj_deriv_check.specs.Good.{tree_value, table_value, book_assignment, IsExact, IsShaped}
+use Rattle.aj_deriv_rules.specs.Parts.{StmtP, places, Each}
+use Rattle.aj_deriv_rules.specs.Conclusions.{tree_value, table_value}
+use Rattle.aj_deriv_check.specs.Good.{book_assignment, IsExact, IsShaped}
 
 -- what trees assign, one to each method
 abbrev pub trees_assign : List Cond → Assignment

@@ -3,7 +3,7 @@ use Rattle.aj_algebra.specs.HeldPaths.{Held}
 use Rattle.aj_cond.specs.Conditions.{cond_of, value_of}
 use Rattle.aj_rules.specs.Rules.{AtMost}
 use Rattle.aj_deriv_check.specs.Good.{IsUnder}
-use Rattle.aj_deriv_check.specs.Judges.{judge_value}
+use Rattle.aj_deriv_rules.specs.Judges.{judge_value}
 use Rattle.aj_deriv_check.proofs.LineLemmas.{under_is, ok_iff}
 use Rattle.aj_deriv_check.proofs.line.is_under.Goals as goal
 

@@ -4,8 +4,8 @@ use Rattle.std.proofs.lemmas.Bool.{both_ways}
 use Rattle.aj_core.specs.Views.{method_of}
 use Rattle.aj_deriv.specs.Derivations.{node}
 use Rattle.aj_deriv_check.specs.Good.{IsStep, IsTabled, IsUnder, cond_at}
-use Rattle.aj_deriv_check.specs.Judges.{judge_assignment, judge_program, judge_rel, judge_table, judge_value}
-use Rattle.aj_deriv_check.specs.Parts.{StmtP, places}
+use Rattle.aj_deriv_rules.specs.Judges.{judge_assignment, judge_program, judge_rel, judge_table, judge_value}
+use Rattle.aj_deriv_rules.specs.Parts.{StmtP, places}
 use Rattle.aj_deriv_check.specs.Walks.{IsEnd}
 use Rattle.aj_deriv_check.proofs.VerdictLemmas.{bad_from}
 use Rattle.aj_deriv_check.proofs.line.line_verdict.Goals as goal

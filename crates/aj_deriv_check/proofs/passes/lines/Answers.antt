@@ -1,7 +1,7 @@
 -- One line more, the first that is wrong, and the end.
 use Rattle.std.proofs.Common.{arith, [], drop, sym, ◌∙◌, ap, subst}
 use Rattle.aj_core.specs.Views.{method_of}
-use Rattle.aj_deriv_check.specs.Judges.{judge_program}
+use Rattle.aj_deriv_rules.specs.Judges.{judge_program}
 use Rattle.aj_deriv_check.specs.Passes.{AreGoodLines}
 use Rattle.aj_deriv_check.proofs.PassLemmas.{LinesSoFar, line_more, line_wrong, method_front, methods_end}
 use Rattle.aj_deriv_check.proofs.passes.lines.Goals as goal

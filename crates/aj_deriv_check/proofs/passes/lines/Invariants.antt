@@ -1,6 +1,6 @@
 use Rattle.std.proofs.Common.{◌≡◌, ◌≤◌, drop, length, map}
 use Rattle.aj_core.specs.Views.{method_of}
-use Rattle.aj_deriv_check.specs.Judges.{judge_program}
+use Rattle.aj_deriv_rules.specs.Judges.{judge_program}
 use Rattle.aj_deriv_check.proofs.PassLemmas.{LinesSoFar}
 use Rattle.aj_deriv_check.proofs.passes.lines.Given as goal
 

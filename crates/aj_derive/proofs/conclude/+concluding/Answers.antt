@@ -7,9 +7,9 @@ use Rattle.aj_nodes.specs.Shown.{AreThere, node_tree, trees_at}
 use Rattle.aj_nodes.proofs.Tables.{grows_itself}
 use Rattle.aj_nodes.proofs.Steps.{grows_chain}
 use Rattle.aj_deriv.specs.Memory.{nodes_at}
-use Rattle.aj_deriv_check.specs.Good.{conclusions, table_value}
-use Rattle.aj_deriv_check.specs.Rules.{rule_of}
-use Rattle.aj_deriv_check.specs.Walks.{list_of, part_of}
+use Rattle.aj_deriv_rules.specs.Conclusions.{conclusions, table_value}
+use Rattle.aj_deriv_rules.specs.Rules.{rule_of}
+use Rattle.aj_deriv_rules.specs.Bodies.{list_of, part_of}
 use Rattle.aj_derive.specs.Concluded.{own_trees, ConcludesOn, ConcludeAllOn}
 use Rattle.aj_derive.specs.Derived.{trees_assign}
 use Rattle.aj_derive.proofs.Rows.{pushed_more, begins_itself, begins_chain, begins_one}

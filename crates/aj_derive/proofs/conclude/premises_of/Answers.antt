@@ -2,7 +2,7 @@
 use Rattle.std.proofs.Common.{ap, length, sym, subst}
 use Rattle.aj_deriv.specs.Derivations.{number_of}
 use Rattle.aj_deriv.specs.Memory.{nodes_at}
-use Rattle.aj_deriv_check.specs.Good.{conclusions, table_value}
+use Rattle.aj_deriv_rules.specs.Conclusions.{conclusions, table_value}
 use Rattle.aj_nodes.specs.Shown.{AreThere, node_value, trees_at}
 use Rattle.aj_derive.proofs.RuleLemmas.{values_more}
 use Rattle.aj_derive.proofs.Tables.{there_pushed}

@@ -3,8 +3,8 @@ use Rattle.std.proofs.Common.{◌∙◌, ap, map}
 use Rattle.aj_core.specs.Views.{program_of}
 use Rattle.aj_rules.specs.Near.{rel_of}
 use Rattle.aj_nodes.specs.Shown.{node_value}
-use Rattle.aj_deriv_check.specs.Rules.{rule_of}
-use Rattle.aj_deriv_check.specs.Walks.{part_of}
+use Rattle.aj_deriv_rules.specs.Rules.{rule_of}
+use Rattle.aj_deriv_rules.specs.Bodies.{part_of}
 use Rattle.aj_derive.specs.Concluded.{own_trees}
 use Rattle.aj_derive.specs.Derived.{trees_assign}
 use Rattle.aj_derive.proofs.Tables.{grows_by}

@@ -7,7 +7,7 @@ use Rattle.aj_nodes.specs.Shown.{trees_at}
 use Rattle.aj_nodes.proofs.Steps.{grows_chain}
 use Rattle.aj_deriv.specs.Books.{IsNumbered}
 use Rattle.aj_deriv.specs.Memory.{node_of}
-use Rattle.aj_deriv_check.specs.Parts.{StmtP}
+use Rattle.aj_deriv_rules.specs.Parts.{StmtP}
 use Rattle.aj_derive.specs.Concluded.{own_trees}
 use Rattle.aj_derive.specs.Derived.{trees_assign}
 use Rattle.aj_derive.specs.Moved.{IsMoved}

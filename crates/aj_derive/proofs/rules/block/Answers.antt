@@ -5,7 +5,7 @@ use Rattle.aj_core.specs.Views.{program_of, stmt_of}
 use Rattle.aj_rules.specs.Effect.{after_stmt}
 use Rattle.aj_nodes.specs.declared.table.Node.{Node}
 use Rattle.aj_nodes.specs.Shown.{node_value}
-use Rattle.aj_deriv_check.proofs.RuleLemmas.{block_from, block_end, block_earlier}
+use Rattle.aj_deriv_rules.proofs.RuleLemmas.{block_from, block_end, block_earlier}
 use Rattle.aj_derive.proofs.RuleLemmas.{there_at}
 use Rattle.aj_derive.proofs.Tables.{keeps_chain, keeps_itself}
 use Rattle.aj_derive.proofs.rules.block.Goals as goal

@@ -3,7 +3,7 @@ use Rattle.aj_algebra.specs.HeldPaths.{Held}
 use Rattle.aj_core.specs.Views.{program_of}
 use Rattle.aj_nodes.specs.Shown.{IsThere, node_value}
 use Rattle.aj_derive.specs.Named.{Keeping}
-use Rattle.aj_deriv_check.proofs.RuleLemmas.{block_from}
+use Rattle.aj_deriv_rules.proofs.RuleLemmas.{block_from}
 use Rattle.aj_derive.proofs.rules.block.Given as goal
 
 -- the node so far is that of the statements from this place on

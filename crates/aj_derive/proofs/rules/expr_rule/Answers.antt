@@ -5,7 +5,7 @@ use Rattle.aj_core.specs.Views.{program_of, expr_of, exprs_from}
 use Rattle.aj_core.proofs.ViewLemmas.{expr_of-Call}
 use Rattle.aj_rules.specs.Near.{rel_of}
 use Rattle.aj_nodes.specs.Shown.{node_value}
-use Rattle.aj_deriv_check.specs.Rules.{expr_rule}
+use Rattle.aj_deriv_rules.specs.Rules.{expr_rule}
 use Rattle.aj_derive.specs.Concluded.{own_trees}
 use Rattle.aj_derive.specs.Derived.{trees_assign}
 use Rattle.aj_derive.proofs.RuleLemmas.{value_as}

@@ -5,7 +5,7 @@ use Rattle.aj_core.specs.Views.{program_of, stmt_of, stmts_from}
 use Rattle.aj_core.proofs.ViewLemmas.{stmt_of-Block}
 use Rattle.aj_rules.specs.Near.{rel_of}
 use Rattle.aj_nodes.specs.Shown.{node_value}
-use Rattle.aj_deriv_check.specs.Rules.{stmt_rule}
+use Rattle.aj_deriv_rules.specs.Rules.{stmt_rule}
 use Rattle.aj_derive.specs.Concluded.{own_trees}
 use Rattle.aj_derive.specs.Derived.{trees_assign}
 use Rattle.aj_derive.proofs.RuleLemmas.{value_as}

@@ -1,0 +1,20 @@
+-- What the nodes of a derivation conclude: values of trees, by their numbers in a table.
+use Rattle.std.specs.Prelude.{ℕ, List, [], ◌∷◌, Option, Some, None, slice_get}
+use Rattle.aj_algebra.specs.declared.basic.Basic.TheVariants.{Const}
+use Rattle.aj_cond.specs.Conditions.{Cond, value_of}
+use Rattle.aj_deriv.specs.Derivations.{Nodes, no_nodes, and_node, number_of}
+use Rattle.aj_deriv_rules.specs.Rules.{Value}
+
+-- the value of a tree; const where there is none
+abbrev pub tree_value : Option Cond → Value
+tree_value None H = Const
+tree_value (Some t) H = value_of t H
+
+-- the value of the tree with this number in a table
+abbrev pub table_value : List Cond → ℕ → Value
+table_value table n = tree_value (slice_get table n)
+
+-- the values of the conclusions of nodes
+abbrev pub conclusions : (ℕ → Value) → Nodes → List Value
+conclusions V no_nodes = []
+conclusions V (and_node d ds) = V (number_of d) ∷ conclusions V ds

@@ -1,0 +1,171 @@
+//! Trees under other names: before a final local is declared, and at a call.
+ghost use Rattle.std.specs.Prelude.{◌≡◌, IfOk, if◌then◌else◌};
+ghost use Rattle.std.specs.List.{list_all};
+ghost use Rattle.std.specs.Option.{option_copied};
+ghost use Rattle.aj_algebra.specs.declared.basic.Basic.TheVariants.{Error};
+ghost use Rattle.aj_algebra.specs.HeldPaths.{Held, has_path};
+ghost use Rattle.aj_cond.specs.Conditions.{cond_of, value_of, IsCanonical};
+ghost use Rattle.aj_core.specs.Views.{program_of, stmt_of};
+ghost use Rattle.aj_rules.specs.Effect.{after_stmt, held_under};
+ghost use Rattle.aj_deriv_rules.specs.Judges.{call_name as call_name_of, local_name as local_name_of, named_set};
+
+use crate::values::{held_or, leaf};
+use crate::work::Work;
+use aj_algebra::Basic;
+use aj_cond::Tree;
+use aj_core::{CoreProgram, CoreStmt, path_of};
+use aj_paths::{Path, extend, under_call};
+use std::alloc::{AllocError as NoMemory, Global};
+
+/// What a path was called before the final local with this slot was declared.
+fn local_name(slot: u16, value: Option<&Path>, path: &Path) -> Option<Path>
+    ensures { result ≡ local_name_of slot (option_copied value.entry) path.now }
+{
+    if path.root == slot {
+        extend(value?, path.fields.as_slice())
+    } else {
+        Some(path.copy())
+    }
+}
+
+/// The value of a tree before the final local with this slot was declared.
+fn before_local(
+    alloc: Global,
+    work: Work<'_>,
+    slot: u16,
+    value: Option<&Path>,
+    t: &Tree,
+) -> Result<Tree, NoMemory>
+    ensures known { IfOk result (λ r. IsCanonical (cond_of r)) }
+    ensures value { IfOk result (λ r. (H : Held) →
+        value_of (cond_of r) H ≡ value_of (cond_of t.now) (named_set (local_name_of slot (option_copied value.entry)) H)) }
+{
+    match t {
+        Tree::Leaf(basic) => Ok(leaf(*basic)),
+        Tree::Test(path, a, b) => {
+            let held = before_local(alloc, work, slot, value, a)?;
+            let free = before_local(alloc, work, slot, value, b)?;
+            let name = local_name(slot, value, path);
+            held_or(alloc, work, name.as_ref(), &held, &free)
+        }
+    }
+}
+
+/// The value of the rest of a block before a statement.
+#[tactic(auto, using(crate::proofs::NameLemmas::local_value))]
+pub(crate) fn before(
+    alloc: Global,
+    work: Work<'_>,
+    program: &CoreProgram,
+    s: &CoreStmt,
+    rest: Tree,
+) -> Result<Tree, NoMemory>
+    requires { IsCanonical (cond_of rest) }
+    ensures known { IfOk result (λ r. IsCanonical (cond_of r)) }
+    ensures value { IfOk result (λ r. (H : Held) →
+        value_of (cond_of r) H ≡ value_of (cond_of rest) (after_stmt (program_of program.now) (stmt_of s.now) H)) }
+{
+    let CoreStmt::Local {
+        slot,
+        is_final: true,
+        value,
+        ..
+    } = s
+    else {
+        return Ok(rest);
+    };
+    let path = path_of(program, value);
+    before_local(alloc, work, *slot, path.as_ref(), &rest)
+}
+
+/// Whether the list has the path.
+pub fn holds(paths: &[Path], path: &Path) -> bool
+    ensures { result ≡ has_path paths.now path.now }
+{
+    paths.iter().any(|other| other.same(path))
+}
+
+/// What a callee's path is called here, where it is relevant.
+pub(crate) fn call_name(
+    rel: &[Path],
+    receiver: Option<&Path>,
+    args: &[Option<Path>],
+    path: &Path,
+) -> Option<Path>
+    ensures { result ≡ call_name_of rel.now (option_copied receiver.entry) args.now path.now }
+{
+    if holds(rel, path) {
+        under_call(path, receiver, args)
+    } else {
+        None
+    }
+}
+
+/// The value of a callee's tree at the set that the callee begins with.
+pub(crate) fn at_call(
+    alloc: Global,
+    work: Work<'_>,
+    rel: &[Path],
+    receiver: Option<&Path>,
+    args: &[Option<Path>],
+    t: &Tree,
+) -> Result<Tree, NoMemory>
+    ensures known { IfOk result (λ r. IsCanonical (cond_of r)) }
+    ensures value { IfOk result (λ r. (H : Held) →
+        value_of (cond_of r) H ≡ value_of (cond_of t.now) (named_set (call_name_of rel.now (option_copied receiver.entry) args.now) H)) }
+{
+    match t {
+        Tree::Leaf(basic) => Ok(leaf(*basic)),
+        Tree::Test(path, a, b) => {
+            let held = at_call(alloc, work, rel, receiver, args, a)?;
+            let free = at_call(alloc, work, rel, receiver, args, b)?;
+            let name = call_name(rel, receiver, args, path);
+            held_or(alloc, work, name.as_ref(), &held, &free)
+        }
+    }
+}
+
+/// The value where each of a callee's required paths has a name here and is held, else error.
+pub(crate) fn with_required(
+    alloc: Global,
+    work: Work<'_>,
+    rel: &[Path],
+    receiver: Option<&Path>,
+    args: &[Option<Path>],
+    required: &[Path],
+    value: Tree,
+) -> Result<Tree, NoMemory>
+    requires { IsCanonical (cond_of value) }
+    ensures known { IfOk result (λ r. IsCanonical (cond_of r)) }
+    ensures value { IfOk result (λ r. (H : Held) → value_of (cond_of r) H ≡
+        (if list_all (named_set (call_name_of rel.now (option_copied receiver.entry) args.now) H) required.now
+        then value_of (cond_of value) H else Error)) }
+{
+    let Some((path, rest)) = required.split_first() else {
+        return Ok(value);
+    };
+    let later = with_required(alloc, work, rel, receiver, args, rest, value)?;
+    let name = call_name(rel, receiver, args, path);
+    let error = leaf(Basic::Error);
+    held_or(alloc, work, name.as_ref(), &later, &error)
+}
+
+/// The value where each of these paths is held, else error.
+pub fn where_held(
+    alloc: Global,
+    work: Work<'_>,
+    required: &[Path],
+    value: Tree,
+) -> Result<Tree, NoMemory>
+    requires { IsCanonical (cond_of value) }
+    ensures known { IfOk result (λ r. IsCanonical (cond_of r)) }
+    ensures value { IfOk result (λ r. (H : Held) → value_of (cond_of r) H ≡
+        (if list_all H required.now then value_of (cond_of value) H else Error)) }
+{
+    let Some((path, rest)) = required.split_first() else {
+        return Ok(value);
+    };
+    let later = where_held(alloc, work, rest, value)?;
+    let error = leaf(Basic::Error);
+    held_or(alloc, work, Some(path), &later, &error)
+}

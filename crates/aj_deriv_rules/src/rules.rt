@@ -1,0 +1,401 @@
+//! The rules on trees: the value of a node from the numbers of its premises' conclusions.
+ghost use Rattle.std.specs.Prelude.{◌≡◌, ◌==◌, ℕ, true, IfOk, map, slice_get, if◌then◌else◌};
+ghost use Rattle.std.specs.List.{list_any};
+ghost use Rattle.std.specs.Option.{option_copied};
+ghost use Rattle.aj_algebra.specs.declared.basic.Basic.TheVariants.{Const};
+ghost use Rattle.aj_algebra.specs.Basics.{seq_of};
+ghost use Rattle.aj_algebra.specs.HeldPaths.{Held};
+ghost use Rattle.aj_cond.specs.Conditions.{cond_of, value_of, IsCanonical};
+ghost use Rattle.aj_core.specs.Locks.{path_of};
+ghost use Rattle.aj_core.specs.Views.{expr_of, exprs_from, program_of, stmt_of, stmts_from};
+ghost use Rattle.aj_rules.specs.Effect.{access_of, after_stmt, call_of, required_paths};
+ghost use Rattle.aj_rules.specs.Mentions.{paths_of};
+ghost use Rattle.aj_rules.specs.Near.{rel_of};
+ghost use Rattle.aj_deriv_rules.specs.Judges.{judge_assignment, judge_program, judge_rel, judge_table, judge_value, AreCanonical};
+ghost use Rattle.aj_deriv_rules.specs.Rules.{block_value, choice_value, expr_rule as expr_rule_of, in_sequence, lock_value, loop_value, stmt_rule as stmt_rule_of, Value};
+ghost use Rattle.aj_deriv_rules.specs.Pairs.{AreAbsorbed, IsAbsorbed};
+
+use crate::branching::{Branching, access_value};
+use crate::judge::Judge;
+use crate::lookups::{assigned, conclusion, required};
+use crate::names::{at_call, before, with_required};
+use crate::pairs::{both, keeps_paths};
+use crate::values::{held_or, join, leaf, seq, star, sync, then_basic};
+use crate::work::Work;
+use aj_algebra::Basic;
+use aj_cond::Tree;
+use aj_core::{CoreExpr, CoreProgram, CoreStmt, path_of};
+use aj_paths::{FieldId, MethodId, Path};
+use std::alloc::{AllocError as NoMemory, Global};
+
+/// How many numbers are noted at most.
+const MOST_NOTED: usize = 16;
+
+/// Premises one after another. Their number is that of a call's arguments at most, so the recursion isn't deep.
+fn sequence(
+    alloc: Global,
+    work: Work<'_>,
+    judge: &Judge<'_>,
+    numbers: &[u32],
+) -> Result<Tree, NoMemory>
+    requires { AreCanonical (judge_table judge.now) }
+    ensures known { IfOk result (λ r. IsCanonical (cond_of r)) }
+    ensures value { IfOk result (λ r. (H : Held) → value_of (cond_of r) H ≡ in_sequence (map (judge_value judge.now) numbers.now) H) }
+{
+    let Some((number, others)) = numbers.split_first() else {
+        return Ok(leaf(Basic::Const));
+    };
+    let first = conclusion(alloc, work, judge, *number)?;
+    let rest = sequence(alloc, work, judge, others)?;
+    seq(alloc, work, &first, &rest)
+}
+
+/// A basic where there is a path and it is held, else another.
+fn held_or_else(
+    alloc: Global,
+    work: Work<'_>,
+    path: &Path,
+    held: Basic,
+    free: Basic,
+) -> Result<Tree, NoMemory>
+    ensures known { IfOk result (λ r. IsCanonical (cond_of r)) }
+    ensures value { IfOk result (λ r. (H : Held) → value_of (cond_of r) H ≡ (if H path.now then held else free)) }
+{
+    held_or(alloc, work, Some(path), &leaf(held), &leaf(free))
+}
+
+/// Reading or writing a field of this receiver.
+pub(crate) fn access(
+    alloc: Global,
+    work: Work<'_>,
+    program: &CoreProgram,
+    receiver: &CoreExpr,
+    field: FieldId,
+    writes: bool,
+) -> Result<Tree, NoMemory>
+    ensures known { IfOk result (λ r. IsCanonical (cond_of r)) }
+    ensures value { IfOk result (λ r. (H : Held) → let P = program_of program.now in
+        value_of (cond_of r) H ≡ access_of P writes field (path_of P (expr_of receiver.now)) H) }
+{
+    match access_value(program, receiver, field, writes) {
+        Branching::Always(basic) => Ok(leaf(basic)),
+        Branching::Where(path, held, free) => held_or_else(alloc, work, &path, held, free),
+    }
+}
+
+/// The path of each argument, or none.
+pub fn paths(
+    alloc: Global,
+    program: &CoreProgram,
+    args: &[CoreExpr],
+) -> Result<Vec<Option<Path>>, NoMemory>
+    ensures { IfOk result (λ paths. paths.items ≡ paths_of (program_of program.now) (exprs_from args.now)) }
+{
+    let mut paths = Vec::new(alloc);
+    for arg in args {
+        paths.push(path_of(program, arg))?;
+    }
+    Ok(paths)
+}
+
+/// What a callee's tree gives at a call on this receiver with these arguments, by their paths.
+#[tactic(auto, using(crate::proofs::NameLemmas::call_value, crate::proofs::NameLemmas::call_all))]
+fn call_by_paths(
+    alloc: Global,
+    work: Work<'_>,
+    judge: &Judge<'_>,
+    callee: MethodId,
+    receiver: Option<&Path>,
+    args: &[Option<Path>],
+) -> Result<Tree, NoMemory>
+    requires { AreCanonical (judge_table judge.now) }
+    ensures known { IfOk result (λ r. IsCanonical (cond_of r)) }
+    ensures value { IfOk result (λ r. (H : Held) → value_of (cond_of r) H ≡
+        call_of (judge_program judge.now) (judge_rel judge.now) (judge_assignment judge.now) callee (option_copied receiver.entry) args.now H) }
+{
+    let rel = judge.sets.rel(callee);
+    let tree = assigned(alloc, work, judge, callee)?;
+    let value = at_call(alloc, work, rel, receiver, args, &tree)?;
+    with_required(
+        alloc,
+        work,
+        rel,
+        receiver,
+        args,
+        required(judge.program, callee),
+        value,
+    )
+}
+
+/// The last part of a call.
+pub(crate) fn call(
+    alloc: Global,
+    work: Work<'_>,
+    judge: &Judge<'_>,
+    callee: MethodId,
+    receiver: &CoreExpr,
+    args: &[CoreExpr],
+) -> Result<Tree, NoMemory>
+    requires { AreCanonical (judge_table judge.now) }
+    ensures known { IfOk result (λ r. IsCanonical (cond_of r)) }
+    ensures value { IfOk result (λ r. (H : Held) → let P = judge_program judge.now in value_of (cond_of r) H ≡
+        call_of P (judge_rel judge.now) (judge_assignment judge.now) callee (path_of P (expr_of receiver.now)) (paths_of P (exprs_from args.now)) H) }
+{
+    let receiver = path_of(judge.program, receiver);
+    let args = paths(alloc, judge.program, args)?;
+    call_by_paths(
+        alloc,
+        work,
+        judge,
+        callee,
+        receiver.as_ref(),
+        args.as_slice(),
+    )
+}
+
+/// The value of an expression's node.
+pub(crate) fn expr_rule(
+    alloc: Global,
+    work: Work<'_>,
+    judge: &Judge<'_>,
+    e: &CoreExpr,
+    numbers: &[u32],
+) -> Result<Tree, NoMemory>
+    requires { AreCanonical (judge_table judge.now) }
+    ensures known { IfOk result (λ r. IsCanonical (cond_of r)) }
+    ensures value { IfOk result (λ r. (H : Held) → value_of (cond_of r) H ≡
+        expr_rule_of (judge_program judge.now) (judge_rel judge.now) (judge_assignment judge.now) (expr_of e.now) (map (judge_value judge.now) numbers.now) H) }
+{
+    match e {
+        CoreExpr::Int(_) | CoreExpr::Truth(_) | CoreExpr::Null | CoreExpr::This => {
+            Ok(leaf(Basic::Const))
+        }
+        CoreExpr::Var { is_final: true, .. } => Ok(leaf(Basic::Const)),
+        CoreExpr::Var { .. } => Ok(leaf(Basic::Mover)),
+        CoreExpr::Not(_)
+        | CoreExpr::Neg(_)
+        | CoreExpr::Binary(_, _, _)
+        | CoreExpr::And(_, _)
+        | CoreExpr::Or(_, _) => sequence(alloc, work, judge, numbers),
+        CoreExpr::Get(receiver, field) => {
+            let parts = sequence(alloc, work, judge, numbers)?;
+            let access = access(alloc, work, judge.program, receiver, *field, false)?;
+            seq(alloc, work, &parts, &access)
+        }
+        CoreExpr::Call(receiver, callee, args) => {
+            let parts = sequence(alloc, work, judge, numbers)?;
+            let call = call(alloc, work, judge, *callee, receiver, args.as_slice())?;
+            seq(alloc, work, &parts, &call)
+        }
+        CoreExpr::New(_, _) => {
+            let parts = sequence(alloc, work, judge, numbers)?;
+            then_basic(alloc, work, &parts, Basic::Mover)
+        }
+    }
+}
+
+/// The condition, then either branch.
+fn choice(
+    alloc: Global,
+    work: Work<'_>,
+    judge: &Judge<'_>,
+    numbers: &[u32],
+) -> Result<Tree, NoMemory>
+    requires { AreCanonical (judge_table judge.now) }
+    ensures known { IfOk result (λ r. IsCanonical (cond_of r)) }
+    ensures value { IfOk result (λ r. (H : Held) → value_of (cond_of r) H ≡ choice_value (map (judge_value judge.now) numbers.now) H) }
+{
+    let Some((condition, branches)) = numbers.split_first() else {
+        return Ok(leaf(Basic::Const));
+    };
+    let Some((first, others)) = branches.split_first() else {
+        return Ok(leaf(Basic::Const));
+    };
+    let Some((second, _)) = others.split_first() else {
+        return Ok(leaf(Basic::Const));
+    };
+    let condition = conclusion(alloc, work, judge, *condition)?;
+    let first = conclusion(alloc, work, judge, *first)?;
+    let second = conclusion(alloc, work, judge, *second)?;
+    let either = join(alloc, work, &first, &second)?;
+    seq(alloc, work, &condition, &either)
+}
+
+/// The condition, then the body and the condition again, any number of times.
+fn repetition(
+    alloc: Global,
+    work: Work<'_>,
+    judge: &Judge<'_>,
+    numbers: &[u32],
+) -> Result<Tree, NoMemory>
+    requires { AreCanonical (judge_table judge.now) }
+    ensures known { IfOk result (λ r. IsCanonical (cond_of r)) }
+    ensures value { IfOk result (λ r. (H : Held) → value_of (cond_of r) H ≡ loop_value (map (judge_value judge.now) numbers.now) H) }
+{
+    let Some((condition, bodies)) = numbers.split_first() else {
+        return Ok(leaf(Basic::Const));
+    };
+    let Some((body, _)) = bodies.split_first() else {
+        return Ok(leaf(Basic::Const));
+    };
+    let condition = conclusion(alloc, work, judge, *condition)?;
+    let body = conclusion(alloc, work, judge, *body)?;
+    let turn = seq(alloc, work, &body, &condition)?;
+    let turns = star(alloc, work, &turn)?;
+    seq(alloc, work, &condition, &turns)
+}
+
+/// A synchronized part.
+fn locked(
+    alloc: Global,
+    work: Work<'_>,
+    judge: &Judge<'_>,
+    path: &Path,
+    numbers: &[u32],
+) -> Result<Tree, NoMemory>
+    requires { AreCanonical (judge_table judge.now) }
+    ensures known { IfOk result (λ r. IsCanonical (cond_of r)) }
+    ensures value { IfOk result (λ r. (H : Held) → value_of (cond_of r) H ≡ lock_value path.now (map (judge_value judge.now) numbers.now) H) }
+{
+    let Some((body, _)) = numbers.split_first() else {
+        return Ok(leaf(Basic::Const));
+    };
+    let body = conclusion(alloc, work, judge, *body)?;
+    sync(alloc, work, path, &body)
+}
+
+/// The value of the rest of a block, and the numbers of trees that are known to change nothing before it.
+#[derive(Drop)]
+struct Rest {
+    value: Tree,
+    absorbed: Vec<u32>,
+}
+
+/// What is left behind the last statement.
+fn nothing_left(alloc: Global) -> Rest
+    ensures known { IsCanonical (cond_of result.value) }
+    ensures absorbed { (V : ℕ → Value) → AreAbsorbed V (value_of (cond_of result.value)) result.absorbed.items }
+    ensures value { (H : Held) → value_of (cond_of result.value) H ≡ Const }
+{
+    Rest {
+        value: Tree::Leaf(Basic::Const),
+        absorbed: Vec::new(alloc),
+    }
+}
+
+/// Whether a list has a number.
+fn has_number(numbers: &[u32], number: u32) -> bool
+    ensures { result ≡ list_any (λ n. n == number) numbers.now }
+{
+    numbers.contains(&number)
+}
+
+/// The list with a number that is absorbed, where the list is short; no list where the number isn't.
+fn noted(
+    alloc: Global,
+    absorbed: Vec<u32>,
+    number: u32,
+    is_absorbed: bool,
+) -> Result<Vec<u32>, NoMemory>
+    ensures { (V : ℕ → Value) (v : Value) → (is_absorbed ≡ true → AreAbsorbed V v absorbed.items × IsAbsorbed V v number) → IfOk result (λ r. AreAbsorbed V v r.items) }
+{
+    if !is_absorbed {
+        return Ok(Vec::new(alloc));
+    }
+    if absorbed.len() >= MOST_NOTED {
+        return Ok(absorbed);
+    }
+    let mut longer = absorbed;
+    longer.push(number)?;
+    Ok(longer)
+}
+
+/// A statement of a block and then the rest of the block, from the rest's value.
+fn statement_and_rest(
+    alloc: Global,
+    work: Work<'_>,
+    judge: &Judge<'_>,
+    s: &CoreStmt,
+    number: u32,
+    rest: Rest,
+) -> Result<Rest, NoMemory>
+    requires canonical { AreCanonical (judge_table judge.now) }
+    requires known { IsCanonical (cond_of rest.value) }
+    requires absorbed { AreAbsorbed (judge_value judge.now) (value_of (cond_of rest.value)) rest.absorbed.items }
+    ensures known { IfOk result (λ r. IsCanonical (cond_of r.value)) }
+    ensures absorbed { IfOk result (λ r. AreAbsorbed (judge_value judge.now) (value_of (cond_of r.value)) r.absorbed.items) }
+    ensures value { IfOk result (λ r. (H : Held) → value_of (cond_of r.value) H ≡
+        seq_of (judge_value judge.now number H) (value_of (cond_of rest.value) (after_stmt (judge_program judge.now) (stmt_of s.now) H))) }
+{
+    let keeps = keeps_paths(s);
+    if both(keeps, has_number(rest.absorbed.as_slice(), number)) {
+        return Ok(rest);
+    }
+    let Rest { value, absorbed } = rest;
+    let later = before(alloc, work, judge.program, s, value)?;
+    let first = conclusion(alloc, work, judge, number)?;
+    let whole = seq(alloc, work, &first, &later)?;
+    let longer = noted(alloc, absorbed, number, both(keeps, whole.same(&later)))?;
+    Ok(Rest {
+        value: whole,
+        absorbed: longer,
+    })
+}
+
+/// The statements of a block, from the last to the first.
+fn block(
+    alloc: Global,
+    work: Work<'_>,
+    judge: &Judge<'_>,
+    body: &[CoreStmt],
+    numbers: &[u32],
+) -> Result<Tree, NoMemory>
+    requires { AreCanonical (judge_table judge.now) }
+    ensures known { IfOk result (λ r. IsCanonical (cond_of r)) }
+    ensures value { IfOk result (λ r. (H : Held) → value_of (cond_of r) H ≡
+        block_value (judge_program judge.now) (stmts_from body.now) (map (judge_value judge.now) numbers.now) H) }
+{
+    let mut rest = nothing_left(alloc);
+    let mut place = body.len().min(numbers.len());
+    while place > 0 {
+        place -= 1;
+        rest = statement_and_rest(alloc, work, judge, &body[place], numbers[place], rest)?;
+    }
+    Ok(rest.value)
+}
+
+/// The value of a statement's node.
+pub(crate) fn stmt_rule(
+    alloc: Global,
+    work: Work<'_>,
+    judge: &Judge<'_>,
+    s: &CoreStmt,
+    numbers: &[u32],
+) -> Result<Tree, NoMemory>
+    requires { AreCanonical (judge_table judge.now) }
+    ensures known { IfOk result (λ r. IsCanonical (cond_of r)) }
+    ensures value { IfOk result (λ r. (H : Held) → value_of (cond_of r) H ≡
+        stmt_rule_of (judge_program judge.now) (judge_rel judge.now) (judge_assignment judge.now) (stmt_of s.now) (map (judge_value judge.now) numbers.now) H) }
+{
+    match s {
+        CoreStmt::Empty => Ok(leaf(Basic::Const)),
+        CoreStmt::Block(body) => block(alloc, work, judge, body.as_slice(), numbers),
+        CoreStmt::Local { .. } | CoreStmt::SetVar(_, _) => {
+            let parts = sequence(alloc, work, judge, numbers)?;
+            then_basic(alloc, work, &parts, Basic::Mover)
+        }
+        CoreStmt::SetField(receiver, field, _) => {
+            let parts = sequence(alloc, work, judge, numbers)?;
+            let access = access(alloc, work, judge.program, receiver, *field, true)?;
+            seq(alloc, work, &parts, &access)
+        }
+        CoreStmt::Do(_, _) | CoreStmt::Return(_) => sequence(alloc, work, judge, numbers),
+        CoreStmt::If(_, _, _) => choice(alloc, work, judge, numbers),
+        CoreStmt::While(_, _) => repetition(alloc, work, judge, numbers),
+        CoreStmt::Sync(path, _) => locked(alloc, work, judge, path, numbers),
+        CoreStmt::Print(_) | CoreStmt::Start(_) => {
+            let parts = sequence(alloc, work, judge, numbers)?;
+            then_basic(alloc, work, &parts, Basic::Atomic)
+        }
+    }
+}

@@ -1,0 +1,183 @@
+//! Operations on trees, each with its value at every set of held paths. An operation whose work would pass a bound answers want of
+//! memory.
+ghost use Rattle.std.specs.Prelude.{◌≡◌, ◌↔◌, true, IfOk, if◌then◌else◌};
+ghost use Rattle.std.specs.Option.{option_copied};
+ghost use Rattle.std.specs.List.{list_all};
+ghost use Rattle.aj_paths.specs.Paths.{PathData};
+ghost use Rattle.aj_algebra.specs.declared.basic.Basic.TheVariants.{Error};
+ghost use Rattle.aj_algebra.specs.Basics.{seq_of, join_of, star_of};
+ghost use Rattle.aj_algebra.specs.HeldPaths.{Held, holds_at};
+ghost use Rattle.aj_algebra.specs.Values.{sync_of};
+ghost use Rattle.aj_cond.specs.Conditions.{cond_of, value_of, IsCanonical};
+ghost use Rattle.aj_rules.specs.Rules.{AtMost};
+
+use crate::work::{MOST_DEPTH, Work};
+use aj_algebra::{Algebra, Basic};
+use aj_cond::{Tree, Trees};
+use aj_paths::{Path, order};
+use std::alloc::{AllocError as NoMemory, Global};
+use std::cmp::Ordering;
+
+/// What is left of `left` after a visit of the pairs of subtrees that an operation on two trees visits; `None` where it is too
+/// little, or the pairs go too deep.
+fn visited(t: &Tree, u: &Tree, depth: u32, left: u32) -> Option<u32> {
+    if depth == 0 {
+        return None;
+    }
+    let left = left.checked_sub(1)?;
+    match (t, u) {
+        (Tree::Leaf(_), Tree::Leaf(_)) => Some(left),
+        (Tree::Leaf(_), Tree::Test(_, c, d)) => {
+            let left = visited(t, c, depth - 1, left)?;
+            visited(t, d, depth - 1, left)
+        }
+        (Tree::Test(_, a, b), Tree::Leaf(_)) => {
+            let left = visited(a, u, depth - 1, left)?;
+            visited(b, u, depth - 1, left)
+        }
+        (Tree::Test(p, a, b), Tree::Test(q, c, d)) => match order(p, q) {
+            Ordering::Less => {
+                let left = visited(a, u, depth - 1, left)?;
+                visited(b, u, depth - 1, left)
+            }
+            Ordering::Equal => {
+                let left = visited(a, c, depth - 1, left)?;
+                visited(b, d, depth - 1, left)
+            }
+            Ordering::Greater => {
+                let left = visited(t, c, depth - 1, left)?;
+                visited(t, d, depth - 1, left)
+            }
+        },
+    }
+}
+
+/// Want of memory, where an operation on the two trees would pass the bounds.
+fn check_small(work: Work<'_>, t: &Tree, u: &Tree) -> Result<(), NoMemory> {
+    let most = work.most();
+    match visited(t, u, MOST_DEPTH, most) {
+        Some(left) => work.charge(most.saturating_sub(left)),
+        None => Err(NoMemory),
+    }
+}
+
+/// The tree of a basic.
+pub(crate) fn leaf(basic: Basic) -> Tree
+    ensures known { IsCanonical (cond_of result) }
+    ensures value { (H : Held) → value_of (cond_of result) H ≡ basic }
+{
+    Tree::Leaf(basic)
+}
+
+/// A copy.
+pub(crate) fn copied(alloc: Global, work: Work<'_>, t: &Tree) -> Result<Tree, NoMemory>
+    requires { IsCanonical (cond_of t.now) }
+    ensures known { IfOk result (λ r. IsCanonical (cond_of r)) }
+    ensures value { IfOk result (λ r. (H : Held) → value_of (cond_of r) H ≡ value_of (cond_of t.now) H) }
+{
+    check_small(work, t, t)?;
+    t.copy(alloc)
+}
+
+/// A copy, node by node.
+pub fn same_copy(alloc: Global, work: Work<'_>, t: &Tree) -> Result<Tree, NoMemory>
+    ensures { IfOk result (λ r. cond_of r ≡ cond_of t.now) }
+{
+    check_small(work, t, t)?;
+    t.copy(alloc)
+}
+
+/// The first, then the second.
+pub(crate) fn seq(alloc: Global, work: Work<'_>, t: &Tree, u: &Tree) -> Result<Tree, NoMemory>
+    requires first { IsCanonical (cond_of t.now) }
+    requires second { IsCanonical (cond_of u.now) }
+    ensures known { IfOk result (λ r. IsCanonical (cond_of r)) }
+    ensures value { IfOk result (λ r. (H : Held) →
+        value_of (cond_of r) H ≡ seq_of (value_of (cond_of t.now) H) (value_of (cond_of u.now) H)) }
+{
+    check_small(work, t, u)?;
+    let mut trees = Trees::new();
+    trees.seq(alloc, t, u)
+}
+
+/// Either of the two.
+pub(crate) fn join(alloc: Global, work: Work<'_>, t: &Tree, u: &Tree) -> Result<Tree, NoMemory>
+    requires first { IsCanonical (cond_of t.now) }
+    requires second { IsCanonical (cond_of u.now) }
+    ensures known { IfOk result (λ r. IsCanonical (cond_of r)) }
+    ensures value { IfOk result (λ r. (H : Held) →
+        value_of (cond_of r) H ≡ join_of (value_of (cond_of t.now) H) (value_of (cond_of u.now) H)) }
+{
+    check_small(work, t, u)?;
+    let mut trees = Trees::new();
+    trees.join(alloc, t, u)
+}
+
+/// Any number of times.
+pub(crate) fn star(alloc: Global, work: Work<'_>, t: &Tree) -> Result<Tree, NoMemory>
+    requires { IsCanonical (cond_of t.now) }
+    ensures known { IfOk result (λ r. IsCanonical (cond_of r)) }
+    ensures value { IfOk result (λ r. (H : Held) → value_of (cond_of r) H ≡ star_of (value_of (cond_of t.now) H)) }
+{
+    check_small(work, t, t)?;
+    let mut trees = Trees::new();
+    trees.star(alloc, t)
+}
+
+/// Under the lock with this path.
+pub(crate) fn sync(alloc: Global, work: Work<'_>, p: &Path, t: &Tree) -> Result<Tree, NoMemory>
+    requires { IsCanonical (cond_of t.now) }
+    ensures known { IfOk result (λ r. IsCanonical (cond_of r)) }
+    ensures value { IfOk result (λ r. (H : Held) → value_of (cond_of r) H ≡ sync_of p.now (value_of (cond_of t.now)) H) }
+{
+    check_small(work, t, t)?;
+    let mut trees = Trees::new();
+    trees.sync(alloc, p, t)
+}
+
+/// A value, then a basic.
+pub(crate) fn then_basic(
+    alloc: Global,
+    work: Work<'_>,
+    t: &Tree,
+    basic: Basic,
+) -> Result<Tree, NoMemory>
+    requires { IsCanonical (cond_of t.now) }
+    ensures known { IfOk result (λ r. IsCanonical (cond_of r)) }
+    ensures value { IfOk result (λ r. (H : Held) → value_of (cond_of r) H ≡ seq_of (value_of (cond_of t.now) H) basic) }
+{
+    let next = leaf(basic);
+    seq(alloc, work, t, &next)
+}
+
+/// The first where there is a path and it is held, else the second.
+pub(crate) fn held_or(
+    alloc: Global,
+    work: Work<'_>,
+    name: Option<&Path>,
+    t: &Tree,
+    u: &Tree,
+) -> Result<Tree, NoMemory>
+    requires first { IsCanonical (cond_of t.now) }
+    requires second { IsCanonical (cond_of u.now) }
+    ensures known { IfOk result (λ r. IsCanonical (cond_of r)) }
+    ensures value { IfOk result (λ r. (H : Held) → value_of (cond_of r) H ≡
+        (if holds_at (option_copied name.entry) H then value_of (cond_of t.now) H else value_of (cond_of u.now) H)) }
+{
+    check_small(work, t, u)?;
+    let Some(path) = name else {
+        return copied(alloc, work, u);
+    };
+    let mut trees = Trees::new();
+    trees.held_or(alloc, path, t, u)
+}
+
+/// Whether the first is at most the second at every set.
+pub fn below(work: Work<'_>, t: &Tree, u: &Tree) -> Result<bool, NoMemory>
+    requires first { IsCanonical (cond_of t.now) }
+    requires second { IsCanonical (cond_of u.now) }
+    ensures { IfOk result (λ b. (b ≡ true) ↔ ((H : Held) → AtMost (value_of (cond_of t.now) H) (value_of (cond_of u.now) H))) }
+{
+    check_small(work, t, u)?;
+    Ok(Trees::new().below(t, u))
+}

@@ -1,0 +1,74 @@
+//! How much work the judgement of a book may make. Whoever wrote the book, the judgement comes to an end soon.
+use std::alloc::AllocError as NoMemory;
+use std::cell::Cell;
+
+/// How many pairs of subtrees one operation may visit, where the near paths of the method don't ask for more.
+const SMALL: u32 = 1 << 14;
+
+/// How many pairs of subtrees the step of a node may visit where no tree is made for its value. What needs more is begun anew.
+pub(crate) const LITTLE: u32 = 1 << 8;
+
+/// How deep an operation may go.
+pub(crate) const MOST_DEPTH: u32 = 512;
+
+/// How many near paths a method of an accepted program has at most.
+const MOST_NEAR: u32 = 16;
+
+/// How many relevant paths a method has at most, and so a callee's tree.
+const MOST_RELEVANT: u32 = 8;
+
+/// The work that is left.
+#[derive(Clone, Copy)]
+pub struct Work<'a> {
+    free: u32,
+    left: &'a Cell<u32>,
+}
+
+/// More than the pairs of subtrees that an operation visits on two trees over so many paths, or over those of a callee.
+fn pairs_over(paths: u32) -> u32 {
+    2u32 << paths.max(MOST_RELEVANT).min(MOST_NEAR)
+}
+
+impl<'a> Work<'a> {
+    /// The work for a method with so many near paths.
+    pub fn new(near: u32, left: &'a Cell<u32>) -> Work<'a> {
+        Work {
+            free: pairs_over(near),
+            left,
+        }
+    }
+
+    /// This little work.
+    pub(crate) fn little(left: &'a Cell<u32>) -> Work<'a> {
+        Work { free: 0, left }
+    }
+
+    /// The work for any method.
+    pub(crate) fn ample(left: &'a Cell<u32>) -> Work<'a> {
+        Work::new(MOST_NEAR, left)
+    }
+
+    /// How many pairs one operation may visit.
+    pub(crate) fn most(self) -> u32 {
+        self.free.max(SMALL)
+    }
+
+    /// Takes the pairs that an operation visits from what is left, where they are more than trees over near paths ask for.
+    pub(crate) fn charge(self, pairs: u32) -> Result<(), NoMemory> {
+        if pairs <= self.free {
+            return Ok(());
+        }
+        self.take(pairs)
+    }
+
+    /// Takes these pairs from what is left.
+    pub(crate) fn take(self, pairs: u32) -> Result<(), NoMemory> {
+        match self.left.get().checked_sub(pairs) {
+            Some(left) => {
+                self.left.set(left);
+                Ok(())
+            }
+            None => Err(NoMemory),
+        }
+    }
+}
