@@ -18,7 +18,7 @@ use Rattle.aj_deriv_rules.specs.Parts.{Part, ExprP, StmtP, places, places_of, pa
 use Rattle.aj_deriv_rules.specs.Rules.{Value, in_sequence, choice_value, loop_value, lock_value, block_value, rule_of}
 use Rattle.aj_deriv_rules.specs.Conclusions.{conclusions}
 use Rattle.aj_deriv_check.specs.Good.{IsStep}
-use Rattle.aj_deriv_rules.proofs.Laws.{unit_after, associative}
+use Rattle.aj_deriv_steps.proofs.Laws.{unit_after, associative}
 use Rattle.aj_deriv_check.proofs.Lists.{each_left, each_right}
 
 -- each value is at most the other in its place

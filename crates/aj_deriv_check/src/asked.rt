@@ -8,7 +8,8 @@ ghost use Rattle.aj_deriv_check.specs.Good.{IsStep};
 
 use crate::walk::Asked;
 use aj_deriv::{Nodes, Word};
-use aj_deriv_rules::{BodyPart, Judge, Work, inner_parts, is_step, part_word, same_length};
+use aj_deriv_rules::{BodyPart, Judge, Work, inner_parts, part_word, same_length};
+use aj_deriv_steps::is_step;
 use std::alloc::{AllocError as NoMemory, Global};
 
 /// Asks whether a node has the word and the number of premises of its part.

@@ -1,5 +1,5 @@
 //! Checking a book of derivations against a program, with no inference: whoever wrote the book, a program whose book is good is
-//! accepted. A walk along the nodes asks of each its shape and its step (`aj_deriv_rules` says what a step is).
+//! accepted. A walk along the nodes asks of each its shape and its step (`aj_deriv_steps`).
 #![tactic(auto)]
 
 mod acceptance;

@@ -1,26 +1,21 @@
-//! One node of a derivation: the part of a body that it stands for, the value that the part's rule gives from what the node's premises
-//! conclude, and whether the node's own conclusion is at or above that value.
+//! The rules of derivations: the part of a body that a node stands for, and the value that the part's rule gives from what the node's
+//! premises conclude, as a tree. The work on trees has a bound.
 #![tactic(auto)]
 
-mod branching;
-mod chain;
+mod accesses;
 mod judge;
 mod lookups;
 mod names;
-mod pairs;
 mod parts;
 mod rules;
-mod sequences;
-mod steps;
-mod unmoved;
 mod values;
 mod work;
 
+pub use accesses::{Branching, access, access_value};
 pub use judge::Judge;
-pub use lookups::{conclusion, required, tree_at};
-pub use names::{holds, where_held};
+pub use lookups::{conclusion, line_number, required, tree_at};
+pub use names::{call_name, holds, where_held};
 pub use parts::{BodyPart, Parts, inner_parts, part_word, same_length};
-pub use rules::paths;
-pub use steps::{is_step, rule};
-pub use values::{below, same_copy};
-pub use work::Work;
+pub use rules::{call, keeps_paths, paths, rule, rule_within};
+pub use values::{below, leaf, same_copy};
+pub use work::{MOST_DEPTH, Work};

@@ -24,7 +24,7 @@ pub fn tree_at<'a>(table: &'a [Tree], number: u32) -> Option<&'a Tree>
 }
 
 /// The number of the tree of a method's line.
-pub(crate) fn line_number(lines: &[u32], m: MethodId) -> Option<u32>
+pub fn line_number(lines: &[u32], m: MethodId) -> Option<u32>
     ensures { result ≡ slice_get lines.now m }
 {
     lines.get(m.0 as usize).copied()

@@ -86,7 +86,7 @@ pub fn holds(paths: &[Path], path: &Path) -> bool
 }
 
 /// What a callee's path is called here, where it is relevant.
-pub(crate) fn call_name(
+pub fn call_name(
     rel: &[Path],
     receiver: Option<&Path>,
     args: &[Option<Path>],

@@ -1,5 +1,5 @@
 //! The rules on trees: the value of a node from the numbers of its premises' conclusions.
-ghost use Rattle.std.specs.Prelude.{◌≡◌, ◌==◌, ℕ, true, IfOk, map, slice_get, if◌then◌else◌};
+ghost use Rattle.std.specs.Prelude.{◌≡◌, ◌==◌, ◌&&◌, ℕ, true, IfOk, map, slice_get};
 ghost use Rattle.std.specs.List.{list_any};
 ghost use Rattle.std.specs.Option.{option_copied};
 ghost use Rattle.aj_algebra.specs.declared.basic.Basic.TheVariants.{Const};
@@ -8,25 +8,27 @@ ghost use Rattle.aj_algebra.specs.HeldPaths.{Held};
 ghost use Rattle.aj_cond.specs.Conditions.{cond_of, value_of, IsCanonical};
 ghost use Rattle.aj_core.specs.Locks.{path_of};
 ghost use Rattle.aj_core.specs.Views.{expr_of, exprs_from, program_of, stmt_of, stmts_from};
-ghost use Rattle.aj_rules.specs.Effect.{access_of, after_stmt, call_of, required_paths};
+ghost use Rattle.aj_rules.specs.Effect.{after_stmt, call_of, required_paths};
 ghost use Rattle.aj_rules.specs.Mentions.{paths_of};
 ghost use Rattle.aj_rules.specs.Near.{rel_of};
 ghost use Rattle.aj_deriv_rules.specs.Judges.{judge_assignment, judge_program, judge_rel, judge_table, judge_value, AreCanonical};
-ghost use Rattle.aj_deriv_rules.specs.Rules.{block_value, choice_value, expr_rule as expr_rule_of, in_sequence, lock_value, loop_value, stmt_rule as stmt_rule_of, Value};
-ghost use Rattle.aj_deriv_rules.specs.Pairs.{AreAbsorbed, IsAbsorbed};
+ghost use Rattle.aj_deriv_rules.specs.Rules.{block_value, choice_value, expr_rule as expr_rule_of, in_sequence, lock_value, loop_value, rule_of, stmt_rule as stmt_rule_of, Value};
+ghost use Rattle.aj_deriv_rules.specs.Blocks.{keeps_paths as keeps_paths_of, AreAbsorbed, IsAbsorbed};
+ghost use Rattle.aj_deriv_rules.specs.Bodies.{part_of};
 
-use crate::branching::{Branching, access_value};
+use crate::accesses::access;
 use crate::judge::Judge;
 use crate::lookups::{assigned, conclusion, required};
 use crate::names::{at_call, before, with_required};
-use crate::pairs::{both, keeps_paths};
-use crate::values::{held_or, join, leaf, seq, star, sync, then_basic};
+use crate::parts::BodyPart;
+use crate::values::{join, leaf, seq, star, sync, then_basic};
 use crate::work::Work;
 use aj_algebra::Basic;
 use aj_cond::Tree;
 use aj_core::{CoreExpr, CoreProgram, CoreStmt, path_of};
-use aj_paths::{FieldId, MethodId, Path};
+use aj_paths::{MethodId, Path};
 use std::alloc::{AllocError as NoMemory, Global};
+use std::cell::Cell;
 
 /// How many numbers are noted at most.
 const MOST_NOTED: usize = 16;
@@ -48,39 +50,6 @@ fn sequence(
     let first = conclusion(alloc, work, judge, *number)?;
     let rest = sequence(alloc, work, judge, others)?;
     seq(alloc, work, &first, &rest)
-}
-
-/// A basic where there is a path and it is held, else another.
-fn held_or_else(
-    alloc: Global,
-    work: Work<'_>,
-    path: &Path,
-    held: Basic,
-    free: Basic,
-) -> Result<Tree, NoMemory>
-    ensures known { IfOk result (λ r. IsCanonical (cond_of r)) }
-    ensures value { IfOk result (λ r. (H : Held) → value_of (cond_of r) H ≡ (if H path.now then held else free)) }
-{
-    held_or(alloc, work, Some(path), &leaf(held), &leaf(free))
-}
-
-/// Reading or writing a field of this receiver.
-pub(crate) fn access(
-    alloc: Global,
-    work: Work<'_>,
-    program: &CoreProgram,
-    receiver: &CoreExpr,
-    field: FieldId,
-    writes: bool,
-) -> Result<Tree, NoMemory>
-    ensures known { IfOk result (λ r. IsCanonical (cond_of r)) }
-    ensures value { IfOk result (λ r. (H : Held) → let P = program_of program.now in
-        value_of (cond_of r) H ≡ access_of P writes field (path_of P (expr_of receiver.now)) H) }
-{
-    match access_value(program, receiver, field, writes) {
-        Branching::Always(basic) => Ok(leaf(basic)),
-        Branching::Where(path, held, free) => held_or_else(alloc, work, &path, held, free),
-    }
 }
 
 /// The path of each argument, or none.
@@ -128,7 +97,7 @@ fn call_by_paths(
 }
 
 /// The last part of a call.
-pub(crate) fn call(
+pub fn call(
     alloc: Global,
     work: Work<'_>,
     judge: &Judge<'_>,
@@ -154,7 +123,7 @@ pub(crate) fn call(
 }
 
 /// The value of an expression's node.
-pub(crate) fn expr_rule(
+fn expr_rule(
     alloc: Global,
     work: Work<'_>,
     judge: &Judge<'_>,
@@ -310,6 +279,20 @@ fn noted(
     Ok(longer)
 }
 
+/// Whether both hold.
+fn both(first: bool, second: bool) -> bool
+    ensures { result ≡ (first && second) }
+{
+    first && second
+}
+
+/// Whether the paths that are held behind a statement are those before it.
+pub fn keeps_paths(s: &CoreStmt) -> bool
+    ensures { result ≡ keeps_paths_of (stmt_of s.now) }
+{
+    !matches!(s, CoreStmt::Local { is_final: true, .. })
+}
+
 /// A statement of a block and then the rest of the block, from the rest's value.
 fn statement_and_rest(
     alloc: Global,
@@ -365,7 +348,7 @@ fn block(
 }
 
 /// The value of a statement's node.
-pub(crate) fn stmt_rule(
+fn stmt_rule(
     alloc: Global,
     work: Work<'_>,
     judge: &Judge<'_>,
@@ -397,5 +380,40 @@ pub(crate) fn stmt_rule(
             let parts = sequence(alloc, work, judge, numbers)?;
             then_basic(alloc, work, &parts, Basic::Atomic)
         }
+    }
+}
+
+/// The value that a part's rule gives, from the numbers of its premises' conclusions.
+pub fn rule(
+    alloc: Global,
+    judge: &Judge<'_>,
+    part: BodyPart<'_>,
+    numbers: &[u32],
+) -> Result<Tree, NoMemory>
+    requires { AreCanonical (judge_table judge.now) }
+    ensures known { IfOk result (λ r. IsCanonical (cond_of r)) }
+    ensures value { IfOk result (λ r. (H : Held) → value_of (cond_of r) H ≡
+        rule_of (judge_program judge.now) (judge_rel judge.now) (judge_assignment judge.now) (part_of part.entry) (map (judge_value judge.now) numbers.now) H) }
+{
+    let left = Cell::new(u32::MAX);
+    rule_within(alloc, Work::ample(&left), judge, part, numbers)
+}
+
+/// The value that a part's rule gives, within so much work.
+pub fn rule_within(
+    alloc: Global,
+    work: Work<'_>,
+    judge: &Judge<'_>,
+    part: BodyPart<'_>,
+    numbers: &[u32],
+) -> Result<Tree, NoMemory>
+    requires { AreCanonical (judge_table judge.now) }
+    ensures known { IfOk result (λ r. IsCanonical (cond_of r)) }
+    ensures value { IfOk result (λ r. (H : Held) → value_of (cond_of r) H ≡
+        rule_of (judge_program judge.now) (judge_rel judge.now) (judge_assignment judge.now) (part_of part.entry) (map (judge_value judge.now) numbers.now) H) }
+{
+    match part {
+        BodyPart::Expr(e) => expr_rule(alloc, work, judge, e, numbers),
+        BodyPart::Stmt(s) => stmt_rule(alloc, work, judge, s, numbers),
     }
 }

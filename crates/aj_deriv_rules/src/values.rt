@@ -62,7 +62,7 @@ fn check_small(work: Work<'_>, t: &Tree, u: &Tree) -> Result<(), NoMemory> {
 }
 
 /// The tree of a basic.
-pub(crate) fn leaf(basic: Basic) -> Tree
+pub fn leaf(basic: Basic) -> Tree
     ensures known { IsCanonical (cond_of result) }
     ensures value { (H : Held) → value_of (cond_of result) H ≡ basic }
 {

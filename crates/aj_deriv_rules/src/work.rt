@@ -5,11 +5,8 @@ use std::cell::Cell;
 /// How many pairs of subtrees one operation may visit, where the near paths of the method don't ask for more.
 const SMALL: u32 = 1 << 14;
 
-/// How many pairs of subtrees the step of a node may visit where no tree is made for its value. What needs more is begun anew.
-pub(crate) const LITTLE: u32 = 1 << 8;
-
 /// How deep an operation may go.
-pub(crate) const MOST_DEPTH: u32 = 512;
+pub const MOST_DEPTH: u32 = 512;
 
 /// How many near paths a method of an accepted program has at most.
 const MOST_NEAR: u32 = 16;
@@ -39,7 +36,7 @@ impl<'a> Work<'a> {
     }
 
     /// This little work.
-    pub(crate) fn little(left: &'a Cell<u32>) -> Work<'a> {
+    pub fn little(left: &'a Cell<u32>) -> Work<'a> {
         Work { free: 0, left }
     }
 
@@ -62,7 +59,7 @@ impl<'a> Work<'a> {
     }
 
     /// Takes these pairs from what is left.
-    pub(crate) fn take(self, pairs: u32) -> Result<(), NoMemory> {
+    pub fn take(self, pairs: u32) -> Result<(), NoMemory> {
         match self.left.get().checked_sub(pairs) {
             Some(left) => {
                 self.left.set(left);

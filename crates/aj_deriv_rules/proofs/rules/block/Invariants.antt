@@ -2,7 +2,7 @@ use Rattle.std.proofs.Common.{◌≡◌, ◌≤◌, length}
 use Rattle.aj_algebra.specs.HeldPaths.{Held}
 use Rattle.aj_cond.specs.Conditions.{cond_of, value_of, IsCanonical}
 use Rattle.aj_deriv_rules.specs.Judges.{judge_program, judge_value}
-use Rattle.aj_deriv_rules.specs.Pairs.{AreAbsorbed}
+use Rattle.aj_deriv_rules.specs.Blocks.{AreAbsorbed}
 use Rattle.aj_deriv_rules.proofs.RuleLemmas.{block_from}
 use Rattle.aj_deriv_rules.proofs.rules.block.Given as goal
 

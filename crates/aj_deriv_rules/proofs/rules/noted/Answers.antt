@@ -1,5 +1,5 @@
 -- One number more that is absorbed.
-use Rattle.aj_deriv_rules.proofs.PairLemmas.{absorbed_pushed}
+use Rattle.aj_deriv_rules.proofs.BlockLemmas.{absorbed_pushed}
 use Rattle.aj_deriv_rules.proofs.rules.noted.Goals as goal
 
 pub returns : goal.returns

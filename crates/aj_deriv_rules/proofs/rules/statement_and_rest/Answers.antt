@@ -5,7 +5,7 @@ use Rattle.std.specs.List.{list_any}
 use Rattle.aj_cond.specs.Conditions.{cond_of, value_of}
 use Rattle.aj_core.specs.Views.{stmt_of}
 use Rattle.aj_deriv_rules.specs.Judges.{judge_program, judge_value}
-use Rattle.aj_deriv_rules.proofs.PairLemmas.{absorbed_before, statement_absorbed}
+use Rattle.aj_deriv_rules.proofs.BlockLemmas.{absorbed_before, statement_absorbed}
 use Rattle.aj_deriv_rules.proofs.rules.statement_and_rest.Goals as goal
 
 pub returns-then-both-clause-value : goal.returns-then-both-clause-value

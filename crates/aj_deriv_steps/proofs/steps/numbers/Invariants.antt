@@ -1,0 +1,14 @@
+use Rattle.std.proofs.Common.{◌≡◌, ◌++◌, ℕ, map}
+use Rattle.aj_deriv.specs.Derivations.{count_nodes}
+use Rattle.aj_deriv_rules.specs.Conclusions.{conclusions}
+use Rattle.aj_deriv_rules.specs.Rules.{Value}
+use Rattle.aj_deriv_steps.proofs.steps.numbers.Given as goal
+
+abbrev pub invariant-loop-first : goal.invariant-loop-first
+invariant-loop-first F l = record {
+  kept : F.F.Nodes.AreKept l.rest;
+  same : (V : ℕ → Value) → map V l.numbers.items ++ conclusions V (F.F.Nodes.nodes l.rest) ≡ conclusions V (F.F.Nodes.nodes l.fn.nodes);
+}
+
+abbrev pub decreases-loop-first : goal.decreases-loop-first
+decreases-loop-first F l = count_nodes (F.F.Nodes.nodes l.rest)

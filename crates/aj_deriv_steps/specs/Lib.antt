@@ -1,0 +1,4 @@
+-- What the private functions cite; the contract of a step cites the definitions of aj_deriv_rules alone.
+pub mod Pairs
+pub mod Merges
+pub mod Chains
