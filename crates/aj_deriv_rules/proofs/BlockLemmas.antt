@@ -57,10 +57,10 @@ statement_absorbed P V v ns n s kept test are H =
     sym (absorbed_at V v ns n are test H) ∙ ap (λ K. seq_of (V n H) (v K)) (sym (kept_set P s H kept))
 
 -- what is absorbed before a statement that changes nothing
-pub absorbed_before : (P : Program) (V : ℕ → Value) (v later first whole : Value) (ns : List ℕ) (n : ℕ) (s : Stmt) → keeps_paths s ≡ true → Same later whole →
-    ((H : Held) → later H ≡ v (after_stmt P s H)) → Same first (V n) → ((H : Held) → whole H ≡ seq_of (first H) (later H)) → AreAbsorbed V v ns →
+pub absorbed_before : (P : Program) (V : ℕ → Value) (v later whole : Value) (ns : List ℕ) (n : ℕ) (s : Stmt) → keeps_paths s ≡ true → Same later whole →
+    ((H : Held) → later H ≡ v (after_stmt P s H)) → ((H : Held) → whole H ≡ seq_of (V n H) (later H)) → AreAbsorbed V v ns →
     AreAbsorbed V whole ns × IsAbsorbed V whole n
-absorbed_before P V v later first whole ns n s kept same moved is sequence are = (
+absorbed_before P V v later whole ns n s kept same moved sequence are = (
   absorbed_same V v whole ns (λ H. ap v (sym (kept_set P s H kept)) ∙ sym (moved H) ∙ same H) are,
-  (λ H. (λ i. seq_of (sym (is H) i) (sym (same H) i)) ∙ sym (sequence H)),
+  (λ H. ap (λ z. seq_of (V n H) z) (sym (same H)) ∙ sym (sequence H)),
 )

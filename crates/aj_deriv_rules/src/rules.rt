@@ -3,7 +3,7 @@ ghost use Rattle.std.specs.Prelude.{◌≡◌, ◌==◌, ◌&&◌, ℕ, true, If
 ghost use Rattle.std.specs.List.{list_any};
 ghost use Rattle.std.specs.Option.{option_copied};
 ghost use Rattle.aj_algebra.specs.declared.basic.Basic.TheVariants.{Const};
-ghost use Rattle.aj_algebra.specs.Basics.{seq_of};
+ghost use Rattle.aj_algebra.specs.Basics.{join_of, seq_of, star_of};
 ghost use Rattle.aj_algebra.specs.HeldPaths.{Held};
 ghost use Rattle.aj_cond.specs.Conditions.{cond_of, value_of, IsCanonical};
 ghost use Rattle.aj_core.specs.Locks.{path_of};
@@ -21,7 +21,7 @@ use crate::judge::Judge;
 use crate::lookups::{assigned, conclusion, required};
 use crate::names::{at_call, before, with_required};
 use crate::parts::BodyPart;
-use crate::values::{join, leaf, seq, star, sync, then_basic};
+use crate::values::{join, leaf, seq, star, sync};
 use crate::work::Work;
 use aj_algebra::Basic;
 use aj_cond::Tree;
@@ -32,6 +32,23 @@ use std::cell::Cell;
 
 /// How many numbers are noted at most.
 const MOST_NOTED: usize = 16;
+
+/// The value of the tree with this number, and then another.
+fn conclusion_then(
+    alloc: Global,
+    work: Work<'_>,
+    judge: &Judge<'_>,
+    number: u32,
+    later: &Tree,
+) -> Result<Tree, NoMemory>
+    requires canonical { AreCanonical (judge_table judge.now) }
+    requires later { IsCanonical (cond_of later.now) }
+    ensures known { IfOk result (λ r. IsCanonical (cond_of r)) }
+    ensures value { IfOk result (λ r. (H : Held) → value_of (cond_of r) H ≡ seq_of (judge_value judge.now number H) (value_of (cond_of later.now) H)) }
+{
+    let first = conclusion(alloc, work, judge, number)?;
+    seq(alloc, work, &first, later)
+}
 
 /// Premises one after another. Their number is that of a call's arguments at most, so the recursion isn't deep.
 fn sequence(
@@ -47,9 +64,26 @@ fn sequence(
     let Some((number, others)) = numbers.split_first() else {
         return Ok(leaf(Basic::Const));
     };
-    let first = conclusion(alloc, work, judge, *number)?;
     let rest = sequence(alloc, work, judge, others)?;
-    seq(alloc, work, &first, &rest)
+    conclusion_then(alloc, work, judge, *number, &rest)
+}
+
+/// Premises one after another, and then a last value.
+fn sequence_then(
+    alloc: Global,
+    work: Work<'_>,
+    judge: &Judge<'_>,
+    numbers: &[u32],
+    last: &Tree,
+) -> Result<Tree, NoMemory>
+    requires canonical { AreCanonical (judge_table judge.now) }
+    requires last { IsCanonical (cond_of last.now) }
+    ensures known { IfOk result (λ r. IsCanonical (cond_of r)) }
+    ensures value { IfOk result (λ r. (H : Held) → value_of (cond_of r) H ≡
+        seq_of (in_sequence (map (judge_value judge.now) numbers.now) H) (value_of (cond_of last.now) H)) }
+{
+    let parts = sequence(alloc, work, judge, numbers)?;
+    seq(alloc, work, &parts, last)
 }
 
 /// The path of each argument, or none.
@@ -147,20 +181,32 @@ fn expr_rule(
         | CoreExpr::And(_, _)
         | CoreExpr::Or(_, _) => sequence(alloc, work, judge, numbers),
         CoreExpr::Get(receiver, field) => {
-            let parts = sequence(alloc, work, judge, numbers)?;
             let access = access(alloc, work, judge.program, receiver, *field, false)?;
-            seq(alloc, work, &parts, &access)
+            sequence_then(alloc, work, judge, numbers, &access)
         }
         CoreExpr::Call(receiver, callee, args) => {
-            let parts = sequence(alloc, work, judge, numbers)?;
             let call = call(alloc, work, judge, *callee, receiver, args.as_slice())?;
-            seq(alloc, work, &parts, &call)
+            sequence_then(alloc, work, judge, numbers, &call)
         }
-        CoreExpr::New(_, _) => {
-            let parts = sequence(alloc, work, judge, numbers)?;
-            then_basic(alloc, work, &parts, Basic::Mover)
-        }
+        CoreExpr::New(_, _) => sequence_then(alloc, work, judge, numbers, &leaf(Basic::Mover)),
     }
+}
+
+/// Either of two branches.
+fn either(
+    alloc: Global,
+    work: Work<'_>,
+    judge: &Judge<'_>,
+    first: u32,
+    second: u32,
+) -> Result<Tree, NoMemory>
+    requires { AreCanonical (judge_table judge.now) }
+    ensures known { IfOk result (λ r. IsCanonical (cond_of r)) }
+    ensures value { IfOk result (λ r. (H : Held) → value_of (cond_of r) H ≡ join_of (judge_value judge.now first H) (judge_value judge.now second H)) }
+{
+    let first = conclusion(alloc, work, judge, first)?;
+    let second = conclusion(alloc, work, judge, second)?;
+    join(alloc, work, &first, &second)
 }
 
 /// The condition, then either branch.
@@ -183,11 +229,25 @@ fn choice(
     let Some((second, _)) = others.split_first() else {
         return Ok(leaf(Basic::Const));
     };
-    let condition = conclusion(alloc, work, judge, *condition)?;
-    let first = conclusion(alloc, work, judge, *first)?;
-    let second = conclusion(alloc, work, judge, *second)?;
-    let either = join(alloc, work, &first, &second)?;
-    seq(alloc, work, &condition, &either)
+    let either = either(alloc, work, judge, *first, *second)?;
+    conclusion_then(alloc, work, judge, *condition, &either)
+}
+
+/// A loop's body and then its condition, any number of times.
+fn turns(
+    alloc: Global,
+    work: Work<'_>,
+    judge: &Judge<'_>,
+    body: u32,
+    condition: &Tree,
+) -> Result<Tree, NoMemory>
+    requires canonical { AreCanonical (judge_table judge.now) }
+    requires condition { IsCanonical (cond_of condition.now) }
+    ensures known { IfOk result (λ r. IsCanonical (cond_of r)) }
+    ensures value { IfOk result (λ r. (H : Held) → value_of (cond_of r) H ≡ star_of (seq_of (judge_value judge.now body H) (value_of (cond_of condition.now) H))) }
+{
+    let turn = conclusion_then(alloc, work, judge, body, condition)?;
+    star(alloc, work, &turn)
 }
 
 /// The condition, then the body and the condition again, any number of times.
@@ -208,9 +268,7 @@ fn repetition(
         return Ok(leaf(Basic::Const));
     };
     let condition = conclusion(alloc, work, judge, *condition)?;
-    let body = conclusion(alloc, work, judge, *body)?;
-    let turn = seq(alloc, work, &body, &condition)?;
-    let turns = star(alloc, work, &turn)?;
+    let turns = turns(alloc, work, judge, *body, &condition)?;
     seq(alloc, work, &condition, &turns)
 }
 
@@ -316,8 +374,7 @@ fn statement_and_rest(
     }
     let Rest { value, absorbed } = rest;
     let later = before(alloc, work, judge.program, s, value)?;
-    let first = conclusion(alloc, work, judge, number)?;
-    let whole = seq(alloc, work, &first, &later)?;
+    let whole = conclusion_then(alloc, work, judge, number, &later)?;
     let longer = noted(alloc, absorbed, number, both(keeps, whole.same(&later)))?;
     Ok(Rest {
         value: whole,
@@ -364,21 +421,18 @@ fn stmt_rule(
         CoreStmt::Empty => Ok(leaf(Basic::Const)),
         CoreStmt::Block(body) => block(alloc, work, judge, body.as_slice(), numbers),
         CoreStmt::Local { .. } | CoreStmt::SetVar(_, _) => {
-            let parts = sequence(alloc, work, judge, numbers)?;
-            then_basic(alloc, work, &parts, Basic::Mover)
+            sequence_then(alloc, work, judge, numbers, &leaf(Basic::Mover))
         }
         CoreStmt::SetField(receiver, field, _) => {
-            let parts = sequence(alloc, work, judge, numbers)?;
             let access = access(alloc, work, judge.program, receiver, *field, true)?;
-            seq(alloc, work, &parts, &access)
+            sequence_then(alloc, work, judge, numbers, &access)
         }
         CoreStmt::Do(_, _) | CoreStmt::Return(_) => sequence(alloc, work, judge, numbers),
         CoreStmt::If(_, _, _) => choice(alloc, work, judge, numbers),
         CoreStmt::While(_, _) => repetition(alloc, work, judge, numbers),
         CoreStmt::Sync(path, _) => locked(alloc, work, judge, path, numbers),
         CoreStmt::Print(_) | CoreStmt::Start(_) => {
-            let parts = sequence(alloc, work, judge, numbers)?;
-            then_basic(alloc, work, &parts, Basic::Atomic)
+            sequence_then(alloc, work, judge, numbers, &leaf(Basic::Atomic))
         }
     }
 }

@@ -135,21 +135,6 @@ pub(crate) fn sync(alloc: Global, work: Work<'_>, p: &Path, t: &Tree) -> Result<
     trees.sync(alloc, p, t)
 }
 
-/// A value, then a basic.
-pub(crate) fn then_basic(
-    alloc: Global,
-    work: Work<'_>,
-    t: &Tree,
-    basic: Basic,
-) -> Result<Tree, NoMemory>
-    requires { IsCanonical (cond_of t.now) }
-    ensures known { IfOk result (λ r. IsCanonical (cond_of r)) }
-    ensures value { IfOk result (λ r. (H : Held) → value_of (cond_of r) H ≡ seq_of (value_of (cond_of t.now) H) basic) }
-{
-    let next = leaf(basic);
-    seq(alloc, work, t, &next)
-}
-
 /// The first where there is a path and it is held, else the second.
 pub(crate) fn held_or(
     alloc: Global,

@@ -13,7 +13,7 @@ returns-in_ok-call-in-Call-clause-value c =
     let j = c.args.judge.now in
     let vs = map (judge_value j) c.args.numbers.now in
     let e = ap expr_of c.in-Call.is ∙ expr_of-Call c.in-Call.receiver c.in-Call.callee c.in-Call.args in
-    value_as c.seq-in-Call.result
+    value_as c.sequence_then-in-Call.result
     (expr_rule (judge_program j) (judge_rel j) (judge_assignment j) (CallE (expr_of c.in-Call.receiver.value) c.in-Call.callee (exprs_from c.in-Call.args.items)) vs)
     (expr_rule (judge_program j) (judge_rel j) (judge_assignment j) (expr_of c.args.e.now) vs)
     (λ H. ap (λ x. expr_rule (judge_program j) (judge_rel j) (judge_assignment j) x vs H) (sym e))

@@ -22,7 +22,7 @@ returns-clause-absorbed c =
     let j = c.args.judge.now in
     c.in_ok-longer.ensures (judge_value j) (value_of (cond_of c.in_ok-whole.whole)) (λ is.
     let parts = and_parts c.keeps_paths-keeps.result c.same.result (sym c.both-2.ensures ∙ is) in
-    absorbed_before (judge_program j) (judge_value j) (value_of (cond_of c.args.rest.value)) (value_of (cond_of c.in_ok-later.later)) (value_of (cond_of c.in_ok-first.first)) (value_of (cond_of c.in_ok-whole.whole))
+    absorbed_before (judge_program j) (judge_value j) (value_of (cond_of c.args.rest.value)) (value_of (cond_of c.in_ok-later.later)) (value_of (cond_of c.in_ok-whole.whole))
     c.args.rest.absorbed.items c.args.number (stmt_of c.args.s.now) (sym c.keeps_paths-keeps.ensures ∙ parts.0)
     (λ H. ap (λ t. value_of t H) (sym (c.same.ensures.0 parts.1)))
-    c.in_ok-later.ensures.value c.in_ok-first.ensures.value c.in_ok-whole.ensures.value c.requires.absorbed)
+    c.in_ok-later.ensures.value c.in_ok-whole.ensures.value c.requires.absorbed)
