@@ -1,4 +1,4 @@
-//! How much work the judgement of a book may make. Whoever wrote the book, the judgement comes to an end soon.
+//! How much work on trees the judgement of a book may make. Whoever wrote the book, the judgement comes to an end soon.
 use std::alloc::AllocError as NoMemory;
 use std::cell::Cell;
 
@@ -35,7 +35,7 @@ impl<'a> Work<'a> {
         }
     }
 
-    /// This little work.
+    /// This little work, none of which is free.
     pub fn little(left: &'a Cell<u32>) -> Work<'a> {
         Work { free: 0, left }
     }
