@@ -11,7 +11,7 @@ ghost use Rattle.aj_commands.specs.Verify.{VerifyAnswer, told_line};
 
 use crate::lines::VERIFIED;
 use aj_book_report::{WrongKind, book_fault_text, wrong_text};
-use aj_deriv::BookFault;
+use aj_book_text::BookFault;
 use aj_deriv_check::{Checked, TextWrong, Wrong, accept_text};
 use aj_sources::{Ending, Refusal, Source, read_source};
 use std::alloc::{AllocError as NoMemory, Global};

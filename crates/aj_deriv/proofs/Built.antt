@@ -4,21 +4,21 @@ use Rattle.std.proofs.lemmas.List.{map-append}
 use Rattle.aj_cond.specs.Conditions.{cond_of}
 use Rattle.aj_cond.specs.declared.tree.Tree.{Tree}
 use Rattle.aj_deriv.specs.declared.derivation.Derivation.{Derivation}
-use Rattle.aj_deriv.specs.declared.word.Word.{Word}
-use Rattle.aj_deriv.specs.Derivations.{Node, node, and_node, nodes_from}
-use Rattle.aj_deriv.specs.Books.{Line}
-use Rattle.aj_deriv.specs.Texts.{book_text, IsTextOf}
-use Rattle.aj_deriv.specs.Combine.{Res, begins, exactly, several}
+use Rattle.aj_book_text.specs.declared.word.Word.{Word}
+use Rattle.aj_book_text.specs.Derivations.{Node, node, and_node, nodes_from}
+use Rattle.aj_book_text.specs.Books.{Line}
+use Rattle.aj_book_text.specs.Texts.{book_text, IsTextOf}
+use Rattle.aj_book_text.specs.Combine.{Res, begins, exactly, several}
 use Rattle.aj_deriv.specs.Memory.{book_of, line_of, node_of, nodes_at}
-use Rattle.aj_deriv.specs.Passing.{pass_table}
-use Rattle.aj_deriv.specs.Reading.{count_at, line_at, lines_at, node_at, premise_with, table_line}
-use Rattle.aj_deriv.specs.Views.{after_those, plain_line, IsReadAs}
-use Rattle.aj_deriv.proofs.BookLaws.{book_by, found_text, pass_table-is, Found}
-use Rattle.aj_deriv.proofs.CursorLaws.{lines_end}
-use Rattle.aj_deriv.proofs.PassBooks.{line_shorter}
-use Rattle.aj_deriv.proofs.PassLemmas.{premise_takes}
-use Rattle.aj_deriv.proofs.Several.{Takes, several_done, several_more, unseen}
-use Rattle.aj_deriv.proofs.TableLaws.{exactly_plain, moved, read_same}
+use Rattle.aj_book_text.specs.Passing.{pass_table}
+use Rattle.aj_book_text.specs.Reading.{count_at, line_at, lines_at, node_at, premise_with, table_line}
+use Rattle.aj_book_text.specs.Views.{after_those, plain_line, IsReadAs}
+use Rattle.aj_book_text.proofs.BookLaws.{book_by, found_text, pass_table-is, Found}
+use Rattle.aj_book_text.proofs.CursorLaws.{lines_end}
+use Rattle.aj_book_text.proofs.PassBooks.{line_shorter}
+use Rattle.aj_book_text.proofs.PassLemmas.{premise_takes}
+use Rattle.aj_book_text.proofs.Several.{Takes, several_done, several_more, unseen}
+use Rattle.aj_book_text.proofs.TableLaws.{exactly_plain, moved, read_same}
 
 -- one item more
 item_pushed : {T A : Type 0} (f : T → A) (byte : ℕ) (item : List ℕ → Res A) → Takes item → (old new : List T) (t : T) (rest behind : List ℕ) →

@@ -1,11 +1,2 @@
--- What the contracts of derivations and their books cite. To read the contract: Derivations, Books, Texts, then Reading, which says
--- what a text is read as and where its first fault stands.
-pub mod Derivations
+-- What derivations and books in memory are as plain data.
 pub mod Memory
-pub mod Books
-pub mod Texts
-pub mod Combine
-pub mod Reading
-pub mod Faults
-pub mod Passing
-pub mod Views

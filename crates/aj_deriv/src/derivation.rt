@@ -1,10 +1,9 @@
 //! Derivations in memory.
 ghost use Rattle.std.specs.Prelude.{◌≡◌};
-ghost use Rattle.aj_deriv.specs.Derivations.{node};
+ghost use Rattle.aj_book_text.specs.Derivations.{node};
 ghost use Rattle.aj_deriv.specs.Memory.{node_of, nodes_at};
 
-use crate::nodes::{First, Nodes};
-use crate::word::Word;
+use aj_book_text::{First, Nodes, Word};
 
 /// A node of a derivation, by its word: the number of its conclusion in the table of its book, and its premises.
 #[derive(Drop)]

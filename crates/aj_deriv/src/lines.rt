@@ -1,13 +1,11 @@
 //! Method lines of a book, wherever they are kept.
 ghost use Rattle.std.specs.Prelude.{◌≡◌, ◌∷◌, [], map, IfNone, IfSome};
-ghost use Rattle.aj_deriv.specs.Derivations.{node};
+ghost use Rattle.aj_book_text.specs.Derivations.{node};
 ghost use Rattle.aj_deriv.specs.Memory.{line_of, nodes_at};
-ghost use Rattle.aj_deriv.specs.Views.{lines_in, IsAtSome};
+ghost use Rattle.aj_book_text.specs.Views.{lines_in, IsAtSome};
 
-use crate::cursor::{BookCursor, Premises};
 use crate::derivation::{Derivation, InMemory};
-use crate::nodes::Nodes;
-use crate::word::Word;
+use aj_book_text::{BookCursor, Nodes, Premises, Word};
 use aj_paths::MethodId;
 
 /// The first of some method lines: the method, the number of its tree, and the word, the number and the premises of its body's
@@ -25,7 +23,7 @@ pub struct FirstLine<F, L> {
 /// Method lines, in memory or in the text of a book.
 pub trait Lines: Copy {
     ghost use Rattle.std.specs.Prelude.{List};
-    ghost use Rattle.aj_deriv.specs.Books.{Line};
+    ghost use Rattle.aj_book_text.specs.Books.{Line};
 
     /// How premises are kept.
     type Premises: Nodes;

@@ -1,29 +1,25 @@
 //! Books read from their texts.
 ghost use Rattle.std.specs.Prelude.{◌≡◌, ◌≤◌, ◌^◌, ◌⊎◌, map, length, Some, Ok, IfOk, IfErr, MatchResult};
-ghost use Rattle.aj_deriv.specs.Books.{Book};
-ghost use Rattle.aj_deriv.specs.Combine.{several};
-ghost use Rattle.aj_deriv.specs.Faults.{first_fault};
+ghost use Rattle.aj_book_text.specs.Books.{Book};
+ghost use Rattle.aj_book_text.specs.Combine.{several};
+ghost use Rattle.aj_book_text.specs.Faults.{first_fault};
 ghost use Rattle.aj_deriv.specs.Memory.{book_of, line_of, node_of};
-ghost use Rattle.aj_deriv.specs.Reading.{line_at, lines_at, node_at, premise_with};
-ghost use Rattle.aj_deriv.specs.Texts.{IsTextOf};
-ghost use Rattle.aj_deriv.specs.declared.stop.BookFault.{BookFault};
+ghost use Rattle.aj_book_text.specs.Reading.{line_at, lines_at, node_at, premise_with};
+ghost use Rattle.aj_book_text.specs.Texts.{IsTextOf};
+ghost use Rattle.aj_book_text.specs.declared.stop.BookFault.{BookFault};
 
-use crate::book_reader::{count, end, table};
 use crate::books::DerivBook;
-use crate::cursor::BookCursor;
 use crate::derivation::Derivation;
-use crate::front::{begins, expect, expect_byte};
-use crate::names::word;
-use crate::node_reader::MOST_HEIGHT;
-use crate::numbers::{NUMBERS_END, number};
-use crate::stop::{BookFault, Unbuilt};
-use crate::table::trees;
+use aj_book_text::{
+    BookCursor, BookFault, MOST_HEIGHT, NUMBERS_END, Unbuilt, begins, count, end, expect,
+    expect_byte, first_word, number, table_lines, trees,
+};
 use aj_cond::Tree;
 use aj_paths::MethodId;
 use std::alloc::Global;
 
 /// The node that a text begins with, with at most `room` nodes within each other, whose numbers are below `end`.
-#[tactic(auto, unfolding(crate::specs::Reading::node_at), using(crate::proofs::Built::node_built))]
+#[tactic(auto, unfolding(aj_book_text::specs::Reading::node_at), using(crate::proofs::Built::node_built))]
 #[cycle(building)]
 fn derivation<'a>(
     alloc: Global,
@@ -38,7 +34,7 @@ fn derivation<'a>(
         return Err(Unbuilt);
     }
     let rest = expect_byte(text, b'(')?;
-    let (word, rest) = word(rest)?;
+    let (word, rest) = first_word(rest)?;
     let (number, rest) = number(rest, end)?;
     let (premises, rest) = derivations(alloc, rest, end, room - 1)?;
     let rest = expect_byte(rest, b')')?;
@@ -83,7 +79,7 @@ fn premise<'a>(
 }
 
 /// The method line that a text begins with.
-#[tactic(auto, unfolding(crate::specs::Reading::line_at))]
+#[tactic(auto, unfolding(aj_book_text::specs::Reading::line_at))]
 fn method_line<'a>(
     alloc: Global,
     text: &'a [u8],
@@ -123,7 +119,7 @@ fn method_lines<'a>(
 }
 
 /// The method lines that a text begins with, up to the end of the book.
-#[tactic(auto, unfolding(crate::specs::Reading::lines_at))]
+#[tactic(auto, unfolding(aj_book_text::specs::Reading::lines_at))]
 fn last_lines<'a>(
     alloc: Global,
     text: &'a [u8],
@@ -146,7 +142,7 @@ fn parts(
     ensures { IfOk result (λ x. IsTextOf bytes.now (book_of (x.0.items, x.1.items))) }
 {
     let (size, first) = count(bytes)?;
-    let behind = table(first, size)?;
+    let behind = table_lines(first, size)?;
     let trees = trees(alloc, first, size)?;
     let (lines, _) = last_lines(alloc, behind, size as u64)?;
     Ok((trees, lines))

@@ -14,7 +14,7 @@ use Rattle.aj_nodes.specs.declared.table.Node.{Node}
 use Rattle.aj_nodes.specs.Nodes.{Items}
 use Rattle.aj_nodes.specs.Shown.{IsThere, AreThere, node_value}
 use Rattle.aj_deriv.specs.declared.derivation.Derivation.{Derivation}
-use Rattle.aj_deriv.specs.Derivations.{number_of}
+use Rattle.aj_book_text.specs.Derivations.{number_of}
 use Rattle.aj_deriv.specs.Memory.{node_of, nodes_at}
 use Rattle.aj_deriv_rules.specs.Conclusions.{tree_value, conclusions}
 use Rattle.aj_deriv_rules.specs.Rules.{Value}

@@ -1,8 +1,8 @@
 use Rattle.std.proofs.Common.{◌≡◌, ◌+◌, ◌*◌, length, map}
-use Rattle.aj_deriv.specs.Combine.{several}
+use Rattle.aj_book_text.specs.Combine.{several}
 use Rattle.aj_deriv.specs.Memory.{node_of}
-use Rattle.aj_deriv.specs.Reading.{node_at, premise_with}
-use Rattle.aj_deriv.specs.Views.{after_those}
+use Rattle.aj_book_text.specs.Reading.{node_at, premise_with}
+use Rattle.aj_book_text.specs.Views.{after_those}
 use Rattle.aj_deriv.proofs.reader.+building.Given as goal
 
 abbrev pub decreases-derivation : goal.decreases-derivation

@@ -1,8 +1,8 @@
 use Rattle.std.proofs.Common.{◌≡◌, length, map}
-use Rattle.aj_deriv.specs.Combine.{several}
+use Rattle.aj_book_text.specs.Combine.{several}
 use Rattle.aj_deriv.specs.Memory.{line_of}
-use Rattle.aj_deriv.specs.Reading.{line_at}
-use Rattle.aj_deriv.specs.Views.{after_those}
+use Rattle.aj_book_text.specs.Reading.{line_at}
+use Rattle.aj_book_text.specs.Views.{after_those}
 use Rattle.aj_deriv.proofs.reader.method_lines.Given as goal
 
 -- what is built, and then the rest, is all
