@@ -33,11 +33,12 @@ fn tree<'a>(alloc: Global, text: &'a [u8], room: u32) -> Result<(Tree, &'a [u8])
     let (path, rest) = path(rest)?;
     let rest = expect_byte(rest, b' ')?;
     let (held, rest) = tree(alloc, rest, room - 1)?;
+    let held = Box::new(alloc, held)?;
     let rest = expect_byte(rest, b' ')?;
     let (free, rest) = tree(alloc, rest, room - 1)?;
+    let free = Box::new(alloc, free)?;
     let rest = expect_byte(rest, b')')?;
-    let test = Tree::Test(path, Box::new(alloc, held)?, Box::new(alloc, free)?);
-    Ok((test, rest))
+    Ok((Tree::Test(path, held, free), rest))
 }
 
 /// The tree in a line of the table.
