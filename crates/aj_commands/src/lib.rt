@@ -7,12 +7,12 @@ mod derive_book;
 mod files;
 mod lines;
 mod print;
-mod run;
+mod program;
 mod run_schedule;
 mod schedules;
 mod serialise;
 mod status;
 mod verify_book;
 
-pub use run::run;
+pub use program::run;
 pub use status::Status;

@@ -1,6 +1,6 @@
 use Rattle.std.proofs.Common.{map}
 use Rattle.aj_commands.proofs.Rows.{check_answers, print_answers, run_answers, serialise_answers, derive_answers, verify_answers}
-use Rattle.aj_commands.proofs.run.answer.Goals as goal
+use Rattle.aj_commands.proofs.program.answer.Goals as goal
 
 pub returns-in-Check : goal.returns-in-Check
 returns-in-Check c = check_answers c.args.command (map (λ file. file.items) c.args.files.now) c.file_at.result.now c.check.result c.in-Check.is c.file_at.ensures c.check.ensures

@@ -5,8 +5,8 @@ use Rattle.aj_commands.proofs.Headlines.{headline_of}
 use Rattle.aj_commands.proofs.Certified.{books_of}
 use Rattle.aj_commands.proofs.Endings.{exact_yield}
 use Rattle.aj_commands.proofs.Runs.{IsDone, exact, answered, front, unreadable, complete}
-use Rattle.aj_commands.proofs.run.run.Given.{Over}
-use Rattle.aj_commands.proofs.run.run.Goals as goal
+use Rattle.aj_commands.proofs.program.run.Given.{Over}
+use Rattle.aj_commands.proofs.program.run.Goals as goal
 
 the_row : (g : Over) (c : goal.After-drop-outcome g) → IsDone (map string_bytes c.args.words.now) c.say-in-Ok.result (g.F.Folder.told c.args.folder.now) (g.F.Folder.faults c.args.folder.now) (g.F.Folder.faults c.perform.new.folder)
     (g.K.Sink.written c.args.sink.now) (g.K.Sink.written c.say-in-Ok.new.sink) (g.K.Sink.faults c.args.sink.now) (g.K.Sink.faults c.say-in-Ok.new.sink)
