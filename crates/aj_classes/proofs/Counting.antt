@@ -2,8 +2,8 @@
 use Rattle.std.proofs.Common.{◌+◌, ◌≤◌, Bool, true, false, List, [], ◌∷◌, ◌++◌, ℕ, length, if◌then◌else◌, arith, length-append}
 use Rattle.aj_syntax.specs.declared.tree.Name.{Name}
 use Rattle.aj_syntax.specs.Trees.{MemberTree, FieldM, CtorM, MethodM}
-use Rattle.aj_classes.specs.Names.{distinct, distinct_after, has_text, with_text}
-use Rattle.aj_classes.specs.Members.{field_names, method_names}
+use Rattle.aj_class_rules.specs.Names.{distinct, distinct_after, has_text, with_text}
+use Rattle.aj_class_rules.specs.Members.{field_names, method_names}
 
 one_more : (seen : List (List ℕ)) (text : List ℕ) (b : Bool) → length (if b then seen else seen ++ text ∷ []) ≤ length seen + 1
 one_more seen text true = omega arith

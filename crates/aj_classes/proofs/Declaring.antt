@@ -14,8 +14,8 @@ use Rattle.aj_syntax.specs.Names.{names_of_type, names_of_result, names_of_param
 use Rattle.aj_syntax.specs.Tokens.{name_token}
 use Rattle.aj_syntax.specs.Trees.{MemberTree, FieldM, CtorM, MethodM, ProgramTree}
 use Rattle.aj_classes.specs.Declarations.{IsDeclared, declared_fields, declared_methods, method_params, declared_params}
-use Rattle.aj_classes.specs.Members.{class_names, field_names, method_names, param_names}
-use Rattle.aj_classes.specs.Names.{texts_of}
+use Rattle.aj_class_rules.specs.Members.{class_names, field_names, method_names, param_names}
+use Rattle.aj_class_rules.specs.Names.{texts_of}
 use Rattle.aj_classes.specs.Seen.{FieldData}
 use Rattle.aj_classes.specs.Table.{TableData, MethodData, param_of, fields_of, methods_of, all_fields, all_methods, table_of, slot_of, slot_title}
 use Rattle.aj_classes.proofs.Parts.{Each, each_both, nothing_at, mapped_at, each_at, before_mapped}

@@ -8,9 +8,9 @@ use Rattle.aj_classes.specs.declared.entries.MethodEntry.{MethodEntry}
 use Rattle.aj_classes.specs.Views.{method_data}
 use Rattle.aj_syntax.specs.declared.tree.Name.{Name}
 use Rattle.aj_syntax.specs.Trees.{MemberTree, FieldM, CtorM, MethodM, ClassTree, ProgramTree}
-use Rattle.aj_classes.specs.Names.{has_text, texts_of, repeats, repeats_after, distinct_after, distinct}
-use Rattle.aj_classes.specs.Members.{class_names, field_names, method_names}
-use Rattle.aj_classes.specs.Faults.{twice_faults, class_faults, missing_main, faults_of}
+use Rattle.aj_class_rules.specs.Names.{has_text, texts_of, repeats, repeats_after, distinct_after, distinct}
+use Rattle.aj_class_rules.specs.Members.{class_names, field_names, method_names}
+use Rattle.aj_class_rules.specs.Faults.{twice_faults, class_faults, missing_main, faults_of}
 use Rattle.aj_classes.specs.Seen.{FieldData}
 use Rattle.aj_classes.specs.Table.{ClassData, MethodData, TableData, fields_of, methods_of, all_fields, all_methods, classes_from, table_of}
 use Rattle.aj_classes.specs.Building.{PartsData, class_at, with_class, with_classes, no_parts}

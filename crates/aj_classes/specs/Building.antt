@@ -2,8 +2,8 @@
 use Rattle.std.specs.Prelude.{ℕ, List, [], ◌∷◌, ◌++◌, map, length}
 use Rattle.aj_syntax.specs.Trees.{ClassTree, ProgramTree}
 use Rattle.aj_classes.specs.declared.build.Parts.{Parts}
-use Rattle.aj_classes.specs.Names.{distinct}
-use Rattle.aj_classes.specs.Members.{field_names, method_names}
+use Rattle.aj_class_rules.specs.Names.{distinct}
+use Rattle.aj_class_rules.specs.Members.{field_names, method_names}
 use Rattle.aj_classes.specs.Seen.{FieldData}
 use Rattle.aj_classes.specs.Table.{ClassData, MethodData, fields_of, methods_of}
 use Rattle.aj_classes.specs.Views.{class_data, method_data}

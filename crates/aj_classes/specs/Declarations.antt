@@ -5,7 +5,7 @@ use Rattle.aj_syntax.specs.declared.tree.Name.{Name}
 use Rattle.aj_syntax.specs.declared.tree.Param.{Param}
 use Rattle.aj_syntax.specs.Tokens.{name_token}
 use Rattle.aj_syntax.specs.Trees.{MemberTree, FieldM, CtorM, MethodM, ProgramTree}
-use Rattle.aj_classes.specs.Members.{field_names, method_names}
+use Rattle.aj_class_rules.specs.Members.{field_names, method_names}
 
 -- the names of the fields of all classes, in source order
 abbrev pub declared_fields : ProgramTree → List Name

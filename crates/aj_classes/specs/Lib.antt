@@ -1,11 +1,6 @@
-pub mod Limits
-pub mod Names
-pub mod Members
-pub mod Faults
-pub mod Noted
-pub mod Finals
+-- For a reader of the contracts, in this order: the table of a tree (Table, Seen), what the code's table is as plain data (Views), and
+-- where names are declared (Declarations). Building serves the code.
 pub mod Seen
-pub mod Shows
 pub mod Table
 pub mod Views
 pub mod Building

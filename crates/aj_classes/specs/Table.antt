@@ -7,8 +7,8 @@ use Rattle.aj_syntax.specs.declared.tree.Param.{Param}
 use Rattle.aj_syntax.specs.declared.tree.TypeName.{TypeName}
 use Rattle.aj_syntax.specs.declared.tree.TypeName.TheVariants as Y
 use Rattle.aj_syntax.specs.Trees.{MemberTree, FieldM, CtorM, MethodM, ProgramTree}
-use Rattle.aj_classes.specs.Names.{texts_of}
-use Rattle.aj_classes.specs.Members.{class_names, field_names, method_names}
+use Rattle.aj_class_rules.specs.Names.{texts_of}
+use Rattle.aj_class_rules.specs.Members.{class_names, field_names, method_names}
 pub use Rattle.aj_classes.specs.Seen.{FieldData, ParamData}
 
 -- a class: the number of its first field and of its first method, and the names of both in order

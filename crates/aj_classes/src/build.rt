@@ -1,15 +1,15 @@
 //! Builds the table of a program without faults.
 
-ghost use Rattle.std.specs.Prelude.{◌≡◌, ◌+◌, ◌^◌, ◌<◌, ◌++◌, [], map, length, option_map, IfOk, OnOk};
+ghost use Rattle.std.specs.Prelude.{◌≡◌, ◌+◌, ◌^◌, ◌<◌, ◌++◌, [], map, option_map, IfOk, OnOk};
 ghost use Rattle.aj_syntax.specs.Views.{member_of, class_of};
-ghost use Rattle.aj_classes.specs.Names.{distinct};
-ghost use Rattle.aj_classes.specs.Members.{field_names, method_names};
+ghost use Rattle.aj_class_rules.specs.Names.{distinct};
+ghost use Rattle.aj_class_rules.specs.Members.{field_names, method_names};
 ghost use Rattle.aj_classes.specs.Table.{type_of, param_of, fields_of, methods_of};
 ghost use Rattle.aj_classes.specs.Views.{class_data, method_data};
 ghost use Rattle.aj_classes.specs.Building.{parts_data, class_at, with_class, with_classes, no_parts};
 
 use crate::entries::{ClassEntry, FieldEntry, MethodEntry, ParamEntry};
-use crate::names::NameSet;
+use aj_class_rules::NameSet;
 use aj_core::CoreType;
 use aj_paths::ClassId;
 use aj_syntax::{Class, Member, Name, Param, TypeName};

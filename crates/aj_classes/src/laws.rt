@@ -7,7 +7,7 @@ ghost use Rattle.aj_syntax.specs.declared.tree.Param.{Param};
 ghost use Rattle.aj_syntax.specs.Grammar.{Grammar};
 ghost use Rattle.aj_syntax.specs.Trees.{ProgramTree};
 ghost use Rattle.aj_classes.specs.Declarations.{IsDeclared, declared_fields, declared_methods, declared_params};
-ghost use Rattle.aj_classes.specs.Members.{class_names, param_names};
+ghost use Rattle.aj_class_rules.specs.Members.{class_names, param_names};
 ghost use Rattle.aj_classes.specs.Table.{FieldData, MethodData, TableData, slot_title, table_of};
 
 use aj_syntax::name_laws;

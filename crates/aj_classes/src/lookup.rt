@@ -1,6 +1,6 @@
 //! What a class table tells.
 
-ghost use Rattle.std.specs.Prelude.{◌≡◌, ◌^◌, ◌<◌, length, map, slice_get, option_map, is_some, nat_lt};
+ghost use Rattle.std.specs.Prelude.{◌≡◌, ◌<◌, length, map, slice_get, option_map, is_some, nat_lt};
 ghost use Rattle.aj_classes.specs.Table.{class_number, field_number, method_number, method_title, slot_title, field_in, method_in, slot_of};
 ghost use Rattle.aj_classes.specs.Views.{class_data, method_data, table_data};
 

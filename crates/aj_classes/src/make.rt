@@ -2,20 +2,18 @@
 
 ghost use Rattle.std.specs.Prelude.{◌≡◌, ◌⊎◌, [], MatchResult};
 ghost use Rattle.aj_syntax.specs.Views.{program_of};
-ghost use Rattle.aj_classes.specs.declared.fault.ClassFault.{ClassFault};
-ghost use Rattle.aj_classes.specs.declared.fault.ClassFault.TheVariants.{NoMemory as OutOfMemory};
-ghost use Rattle.aj_classes.specs.Names.{distinct};
-ghost use Rattle.aj_classes.specs.Members.{class_names};
-ghost use Rattle.aj_classes.specs.Faults.{faults_of, IsFirstFault};
+ghost use Rattle.aj_class_rules.specs.declared.fault.ClassFault.{ClassFault};
+ghost use Rattle.aj_class_rules.specs.declared.fault.ClassFault.TheVariants.{NoMemory as OutOfMemory};
+ghost use Rattle.aj_class_rules.specs.Names.{distinct};
+ghost use Rattle.aj_class_rules.specs.Members.{class_names};
+ghost use Rattle.aj_class_rules.specs.Faults.{faults_of, IsFirstFault};
 ghost use Rattle.aj_classes.specs.Table.{table_of};
 ghost use Rattle.aj_classes.specs.Views.{table_data};
 ghost use Rattle.std.specs.Prelude.{IfOk};
 
 use crate::build::{Parts, number, parts_of};
-use crate::check::first_fault;
 use crate::entries::ClassTable;
-use crate::fault::ClassFault;
-use crate::names::NameSet;
+use aj_class_rules::{ClassFault, NameSet, first_fault};
 use aj_syntax::Program;
 use std::alloc::{AllocError as NoMemory, Global};
 

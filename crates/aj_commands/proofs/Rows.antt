@@ -7,8 +7,8 @@ use Rattle.aj_cond.specs.declared.tree.Tree.{Tree}
 use Rattle.aj_core.specs.Core.{Program}
 use Rattle.aj_core.specs.Typed.{IsTyped}
 use Rattle.aj_core.specs.Views.{program_of}
-use Rattle.aj_syntax.specs.Printing.{canonical}
-use Rattle.aj_syntax.specs.Reprinted.{ReadsBack}
+use Rattle.aj_printer.specs.Printing.{canonical}
+use Rattle.aj_printer.specs.Reprinted.{ReadsBack}
 use Rattle.aj_syntax.specs.Trees.{ProgramTree}
 use Rattle.aj_sources.specs.declared.checking.Source.{Source}
 use Rattle.aj_sources.specs.declared.refusal.Ending.TheVariants.{Done}

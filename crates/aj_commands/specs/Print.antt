@@ -1,7 +1,7 @@
 -- `print FILE`: lexes and parses only.
 use Rattle.std.specs.Prelude.{ℕ, List}
-use Rattle.aj_syntax.specs.Printing.{canonical}
-use Rattle.aj_syntax.specs.Reprinted.{ReadsBack}
+use Rattle.aj_printer.specs.Printing.{canonical}
+use Rattle.aj_printer.specs.Reprinted.{ReadsBack}
 use Rattle.aj_syntax.specs.Trees.{ProgramTree}
 use Rattle.aj_sources.specs.declared.refusal.Ending.{Ending}
 use Rattle.aj_sources.specs.declared.refusal.Ending.TheVariants.{Done, Refused}

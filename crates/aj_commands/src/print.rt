@@ -4,8 +4,8 @@ ghost use Rattle.std.specs.Prelude.{◌≡◌, ◌≤◌, List, length, MatchRes
 ghost use Rattle.aj_sources.specs.Refusals.{IsRight};
 ghost use Rattle.aj_commands.specs.Print.{PrintAnswer};
 
+use aj_printer::print_program;
 use aj_sources::{Ending, Refusal, text_of, tree_of};
-use aj_syntax::print_program;
 use std::alloc::Global;
 use std::mem::forget;
 

@@ -13,14 +13,14 @@ use Rattle.aj_core.specs.Typed.{fields_from, is_final_at, IsEntry, IsRunnable}
 use Rattle.aj_syntax.specs.declared.tree.Name.{Name}
 use Rattle.aj_syntax.specs.Trees.{ClassTree, ProgramTree}
 use Rattle.aj_lemmas.proofs.Options.{then_parts}
-use Rattle.aj_classes.specs.Names.{texts_of, has_text, repeats}
-use Rattle.aj_classes.specs.Members.{is_empty, finals_of, class_names, field_names, method_names, is_entry, is_main}
-use Rattle.aj_classes.specs.Faults.{twice_faults, class_faults, missing_run, missing_main}
-use Rattle.aj_classes.specs.Faults as class_fault
-use Rattle.aj_classes.specs.declared.fault.ClassFault.TheVariants.{Twice, NoRun, NoMain, TooMany}
+use Rattle.aj_class_rules.specs.Names.{texts_of, has_text, repeats}
+use Rattle.aj_class_rules.specs.Members.{is_empty, finals_of, class_names, field_names, method_names, is_entry, is_main}
+use Rattle.aj_class_rules.specs.Faults.{twice_faults, class_faults, missing_run, missing_main}
+use Rattle.aj_class_rules.specs.Faults as class_fault
+use Rattle.aj_class_rules.specs.declared.fault.ClassFault.TheVariants.{Twice, NoRun, NoMain, TooMany}
 use Rattle.aj_classes.specs.Table.{TableData, ClassData, FieldData, MethodData, type_of, class_number, field_in, field_number, method_in, method_number, table_of}
 use Rattle.aj_type_rules.specs.Rulings.{gain}
-use Rattle.aj_type_rules.specs.Locks.{lock_rule}
+use Rattle.aj_statement_rules.specs.Locks.{lock_rule}
 use Rattle.aj_type_rules.specs.Rules.{field_named, numbered_field, method_named, numbered_method, parameter_types, final_types, fields_in}
 use Rattle.aj_elaborate.specs.Programs.{all_there, field_node, ascending, guard_path, method_scope, run_of}
 use Rattle.aj_elaborate.proofs.Complete.{front_empty, back_empty}

@@ -8,8 +8,8 @@ use Rattle.std.proofs.lemmas.Option.{same_Some}
 use Rattle.aj_core.specs.Core.{Field, Method}
 use Rattle.aj_core.specs.Typed.{fields_from}
 use Rattle.aj_syntax.specs.Trees.{MethodTree, FieldTree, MemberTree, FieldM, CtorM, MethodM, ClassTree, ProgramTree}
-use Rattle.aj_classes.specs.Names.{texts_of}
-use Rattle.aj_classes.specs.Members.{field_names, method_names}
+use Rattle.aj_class_rules.specs.Names.{texts_of}
+use Rattle.aj_class_rules.specs.Members.{field_names, method_names}
 use Rattle.aj_classes.specs.Table.{TableData, ClassData, MethodData, type_of, param_of, fields_of, methods_of, classes_from}
 use Rattle.aj_classes.specs.Seen.{FieldData}
 use Rattle.aj_classes.specs.Table as table

@@ -14,9 +14,9 @@ use Rattle.aj_type_rules.specs.declared.fault.TypeFault.TheVariants.{MissingRetu
 use Rattle.aj_type_rules.specs.Faults.{place_of}
 use Rattle.aj_type_rules.specs.Rulings.{gain, loss, both}
 use Rattle.aj_type_rules.specs.Scopes.{Scope, parameters_from}
-use Rattle.aj_type_rules.specs.Locks.{lock_rule}
-use Rattle.aj_type_rules.specs.Completion.{completes_each, locals_in_each}
-use Rattle.aj_type_rules.specs.Stmts.{block_core, block_faults}
+use Rattle.aj_statement_rules.specs.Locks.{lock_rule}
+use Rattle.aj_statement_rules.specs.Completion.{completes_each, locals_in_each}
+use Rattle.aj_statement_rules.specs.Stmts.{block_core, block_faults}
 
 -- all of a list, where none is missing
 abbrev pub all_there : {A : Type 0} → List (Option A) → Option (List A)

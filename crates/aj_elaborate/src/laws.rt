@@ -7,7 +7,7 @@ ghost use Rattle.aj_lexer.specs.declared.tokens.Token.{Token};
 ghost use Rattle.aj_syntax.specs.Grammar.{Grammar};
 ghost use Rattle.aj_syntax.specs.Limits.{most_tokens};
 ghost use Rattle.aj_syntax.specs.Trees.{ProgramTree};
-ghost use Rattle.aj_classes.specs.Faults as classes;
+ghost use Rattle.aj_class_rules.specs.Faults as classes;
 ghost use Rattle.aj_type_rules.specs.declared.fault.TypeFault.{TypeFault};
 ghost use Rattle.aj_elaborate.specs.Programs.{faults_of, IsFirstFault, IsCoreOf};
 

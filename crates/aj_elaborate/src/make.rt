@@ -1,7 +1,7 @@
 //! The core program of a program, or its first type fault.
 
 ghost use Rattle.std.specs.Prelude.{◌≡◌, ◌≤◌, ◌⊎◌, List, [], Some, length, map, option_map, IfOk, MatchResult};
-ghost use Rattle.aj_classes.specs.Faults as classes;
+ghost use Rattle.aj_class_rules.specs.Faults as classes;
 ghost use Rattle.aj_classes.specs.Table.{table_of};
 ghost use Rattle.aj_classes.specs.Views.{table_data};
 ghost use Rattle.aj_core.specs.Core.{Program as CoreData};

@@ -1,3 +1,5 @@
+-- For a reader of the parser, in this order: reading from the front of a list (Combine), names and types (Words), expressions
+-- (Expressions), what the functions answer (Answer). Lexemes serves the code.
 pub mod Answer
 pub mod Lexemes
 pub mod Combine

@@ -6,7 +6,6 @@ mod laws;
 mod lexer;
 mod pieces;
 mod places;
-mod reserved;
 mod tokens;
 mod utf8;
 

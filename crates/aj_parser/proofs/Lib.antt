@@ -2,6 +2,4 @@ pub mod CompleteStatements
 pub mod CompleteMembers
 pub mod MemberLoops
 pub mod Members
-pub mod StatementLoops
-pub mod Statements
 pub mod Whole

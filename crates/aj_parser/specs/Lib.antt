@@ -1,2 +1,2 @@
-pub mod Statements
+-- How members and programs are read. The contract of `parse` cites the grammar of `aj_syntax` alone.
 pub mod Members

@@ -1,2 +1,3 @@
+-- What the contracts of the lines cite.
 pub mod SourceFaults
 pub mod Verdicts

@@ -5,8 +5,8 @@ use Rattle.aj_lexer.specs.declared.faults.LexFault.TheVariants as lex
 use Rattle.aj_lexer.specs.Places.{line_of, column_of}
 use Rattle.aj_parser.specs.declared.faults.ParseFault.{ParseFault}
 use Rattle.aj_parser.specs.declared.faults.ParseFault.TheVariants as parse
-use Rattle.aj_classes.specs.declared.fault.ClassFault.{ClassFault}
-use Rattle.aj_classes.specs.declared.fault.ClassFault.TheVariants as class
+use Rattle.aj_class_rules.specs.declared.fault.ClassFault.{ClassFault}
+use Rattle.aj_class_rules.specs.declared.fault.ClassFault.TheVariants as class
 use Rattle.aj_type_rules.specs.declared.fault.TypeFault.{TypeFault}
 use Rattle.aj_type_rules.specs.declared.fault.TypeFault.TheVariants as types
 use Rattle.aj_report.specs.declared.source_fault.SourceFault.{SourceFault}

@@ -5,7 +5,7 @@ ghost use Rattle.aj_lexer.specs.Limits.{longest_source};
 ghost use Rattle.aj_lexer.specs.Places.{line_of, column_of};
 ghost use Rattle.aj_report.specs.SourceFaults.{IsTold, offset_of, lex_offset_of, class_offset_of, type_offset_of, kind_of, lex_kind, parse_kind, class_kind, type_kind, source_fault_line};
 
-use aj_classes::ClassFault;
+use aj_class_rules::ClassFault;
 use aj_lexer::{LexFault, NotText, Place, place_of};
 use aj_parser::ParseFault;
 use aj_type_rules::TypeFault;

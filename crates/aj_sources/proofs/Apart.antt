@@ -8,7 +8,7 @@ use Rattle.aj_syntax.specs.Faults.{Through}
 use Rattle.aj_syntax.specs.Trees.{ProgramTree}
 use Rattle.aj_syntax.specs.Grammar.{Grammar}
 use Rattle.aj_parser.proofs.Whole.{one_tree}
-use Rattle.aj_classes.specs.Faults as class
+use Rattle.aj_class_rules.specs.Faults as class
 use Rattle.aj_core.specs.Core.{Program}
 use Rattle.aj_elaborate.specs.Programs as types
 use Rattle.aj_rules.specs.Limits.{IsFirstCrowded}

@@ -6,9 +6,9 @@ use Rattle.aj_algebra.specs.HeldPaths.{has_path}
 use Rattle.aj_core.specs.Core.{Program, Method}
 use Rattle.aj_rules.specs.Limits.{IsCrowded, IsFirstCrowded}
 use Rattle.aj_rules.proofs.UniqueSets.{first_has}
-use Rattle.aj_classes.specs.declared.fault.ClassFault.{ClassFault}
-use Rattle.aj_classes.specs.declared.fault.ClassFault.TheVariants as class
-use Rattle.aj_classes.specs.Faults as classes
+use Rattle.aj_class_rules.specs.declared.fault.ClassFault.{ClassFault}
+use Rattle.aj_class_rules.specs.declared.fault.ClassFault.TheVariants as class
+use Rattle.aj_class_rules.specs.Faults as classes
 use Rattle.aj_type_rules.specs.declared.fault.TypeFault.{TypeFault}
 use Rattle.aj_type_rules.specs.declared.fault.TypeFault.TheVariants as types
 use Rattle.aj_elaborate.specs.Programs as elaboration

@@ -1,8 +1,8 @@
 -- What is asked of a program of the grammar before the rules of atomicity: a class table, a core program, few enough locks.
 use Rattle.std.specs.Prelude.{◌≡◌, ℕ, List, [], Some, slice_get}
 use Rattle.aj_syntax.specs.Trees.{ProgramTree}
-use Rattle.aj_classes.specs.declared.fault.ClassFault.{ClassFault}
-use Rattle.aj_classes.specs.Faults as class
+use Rattle.aj_class_rules.specs.declared.fault.ClassFault.{ClassFault}
+use Rattle.aj_class_rules.specs.Faults as class
 use Rattle.aj_classes.specs.Table.{table_of}
 use Rattle.aj_classes.specs.Views.{table_data}
 use Rattle.aj_core.specs.Core.{Program, Method}

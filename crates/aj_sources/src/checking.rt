@@ -4,7 +4,7 @@ ghost use Rattle.std.specs.Prelude.{◌≡◌, ◌≤◌, ℕ, List, [], length,
 ghost use Rattle.aj_lexer.specs.Limits.{longest_source};
 ghost use Rattle.aj_syntax.specs.Trees.{ProgramTree};
 ghost use Rattle.aj_syntax.specs.Views.{program_of as tree_of};
-ghost use Rattle.aj_classes.specs.Faults.{faults_of};
+ghost use Rattle.aj_class_rules.specs.Faults.{faults_of};
 ghost use Rattle.aj_classes.specs.Table.{table_of};
 ghost use Rattle.aj_classes.specs.Views.{table_data};
 ghost use Rattle.aj_core.specs.Typed.{IsTyped};
@@ -19,7 +19,8 @@ ghost use Rattle.aj_sources.specs.Offsets.{name_offset};
 
 use crate::reading::{text_of, tree_of};
 use crate::refusal::{Refusal, refuse};
-use aj_classes::{ClassFault, ClassTable, table};
+use aj_class_rules::ClassFault;
+use aj_classes::{ClassTable, table};
 use aj_core::CoreProgram;
 use aj_elaborate::elaborate;
 use aj_paths::MethodId;

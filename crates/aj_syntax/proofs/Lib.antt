@@ -1,11 +1,3 @@
 pub mod Bridge
-pub mod Cutting
 pub mod Fields
-pub mod Moving
-pub mod MovingExprs
-pub mod MovingStmts
 pub mod Naming
-pub mod Parting
-pub mod Placing
-pub mod ReadingBack
-pub mod Writing

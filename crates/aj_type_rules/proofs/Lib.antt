@@ -1,3 +1,2 @@
 mod Fitting
 pub mod Noting
-mod Steps

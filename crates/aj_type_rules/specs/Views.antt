@@ -10,8 +10,6 @@ use Rattle.aj_classes.specs.declared.entries.MethodEntry.{MethodEntry}
 use Rattle.aj_classes.specs.Seen.{FieldData}
 use Rattle.aj_classes.specs.Table.{MethodData}
 use Rattle.aj_classes.specs.Views.{method_data}
-use Rattle.aj_type_rules.specs.declared.lock.ReachTo.{ReachTo}
-use Rattle.aj_type_rules.specs.Locks.{Reach}
 use Rattle.aj_core.specs.Core.{Expr}
 use Rattle.aj_core.specs.Types.{NodeType, ValueT, NullT, VoidT}
 use Rattle.aj_core.specs.Views.{expr_of, exprs_from}
@@ -50,9 +48,6 @@ field_found f = (f.0, f.1.now)
 
 abbrev pub method_found : MethodId × Bor MethodEntry → ℕ × MethodData
 method_found m = (m.0, method_data m.1.now)
-
-abbrev pub reach_data : ReachTo → Reach
-reach_data r = record { path = r.path; is_final = r.is_final; ty = r.ty }
 
 -- the receiver and the field of an assignment
 abbrev pub target_data : Box CoreExpr Global × (FieldId × Bor FieldEntry) → Expr × (ℕ × FieldData)

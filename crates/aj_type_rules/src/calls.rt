@@ -7,7 +7,7 @@ ghost use Rattle.aj_core.specs.Types.{result_type};
 ghost use Rattle.aj_core.specs.Views.{expr_of, exprs_from};
 ghost use Rattle.aj_type_rules.specs.Exprs.{unknown_only, call_fault, new_fault};
 ghost use Rattle.aj_type_rules.specs.Noted.{noted};
-ghost use Rattle.aj_type_rules.specs.Rulings.{gain, loss, given, broken, both};
+ghost use Rattle.aj_type_rules.specs.Rulings.{gain, loss, given, both};
 ghost use Rattle.aj_type_rules.specs.Rules.{fields_in, class_fields, fit_each, method_rule, call_rule, new_rule};
 ghost use Rattle.aj_type_rules.specs.Views.{boxed_data, typed_data, typed_list, type_data, types_of, nodes_of, method_found};
 

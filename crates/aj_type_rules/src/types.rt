@@ -1,9 +1,9 @@
 //! Types of expressions, and expressions with their types.
 
-ghost use Rattle.std.specs.Prelude.{◌≡◌, ◌∷◌, IfOk, option_map, map};
+ghost use Rattle.std.specs.Prelude.{◌≡◌, option_map};
 ghost use Rattle.aj_core.specs.declared.types.CoreType.TheVariants as type;
 ghost use Rattle.aj_core.specs.Types.{ValueT, fits, type_eq, binary_type};
-ghost use Rattle.aj_type_rules.specs.Rules.{is_int, is_boolean, receiver_class, class_in, fit_each};
+ghost use Rattle.aj_type_rules.specs.Rules.{is_int, is_boolean, receiver_class, class_in};
 ghost use Rattle.aj_type_rules.specs.Views.{type_data};
 
 use aj_core::{CoreExpr, CoreOp, CoreType};

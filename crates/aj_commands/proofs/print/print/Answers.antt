@@ -1,5 +1,5 @@
 use Rattle.std.proofs.Common.{ap, subst, ◌∙◌}
-use Rattle.aj_syntax.specs.Reprinted.{ReadsBack}
+use Rattle.aj_printer.specs.Reprinted.{ReadsBack}
 use Rattle.aj_syntax.specs.Views.{program_of as tree_of}
 use Rattle.aj_commands.proofs.Rows.{printed_text}
 use Rattle.aj_commands.proofs.print.print.Goals as goal

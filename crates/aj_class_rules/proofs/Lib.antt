@@ -1,0 +1,3 @@
+mod Sets
+pub mod Leasts
+mod Noting

@@ -1,0 +1,7 @@
+-- What the code keeps of a final field.
+use Rattle.aj_syntax.specs.declared.tree.Name.{Name}
+use Rattle.aj_syntax.specs.declared.tree.TypeName.{TypeName}
+use Rattle.aj_class_rules.specs.declared.constructors.FinalField.{FinalField}
+
+abbrev pub final_of : FinalField → TypeName × Name
+final_of f = (f.ty.now, f.name.now)

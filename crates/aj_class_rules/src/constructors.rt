@@ -1,0 +1,163 @@
+//! Notes the faults of constructors: each assigns the final fields of its class in order.
+
+ghost use Rattle.std.specs.Prelude.{◌≡◌, true, false, not, Option, map, IfOk};
+ghost use Rattle.std.specs.List.{list_any};
+ghost use Rattle.aj_syntax.specs.Views.{member_of};
+ghost use Rattle.aj_class_rules.specs.Members.{finals_of, is_constructor, is_same_type, are_params_of, are_sets_of, is_empty};
+ghost use Rattle.aj_class_rules.specs.Faults.{is_right, constructor_faults, missing_constructor};
+ghost use Rattle.aj_class_rules.specs.Noted.{noted};
+ghost use Rattle.aj_class_rules.specs.Finals.{final_of};
+
+use crate::fault::ClassFault;
+use aj_faults::first_of;
+use aj_syntax::{Member, Name, Param, TypeName};
+use std::alloc::{AllocError as NoMemory, Global};
+
+/// A final field, which the constructor of its class assigns.
+#[derive(Clone, Copy)]
+pub(crate) struct FinalField<'m, 'a> {
+    pub(crate) ty: &'m TypeName<'a>,
+    pub(crate) name: &'m Name<'a>,
+}
+
+pub(crate) fn final_fields<'m, 'a>(
+    alloc: Global,
+    members: &'m [Member<'a>],
+) -> Result<Vec<FinalField<'m, 'a>>, NoMemory>
+    ensures { IfOk result (λ fs. map final_of fs.items ≡ finals_of (map member_of members.entry.now)) }
+{
+    let mut finals = Vec::new(alloc);
+    for member in members {
+        if let Member::Field {
+            is_final: true,
+            ty,
+            name,
+            ..
+        } = member
+        {
+            finals.push(FinalField { ty, name })?;
+        }
+    }
+    Ok(finals)
+}
+
+fn is_same(one: &TypeName, other: &TypeName) -> bool
+    ensures { result ≡ is_same_type one.now other.now }
+{
+    match (one, other) {
+        (TypeName::Int, TypeName::Int) | (TypeName::Boolean, TypeName::Boolean) => true,
+        (TypeName::Class(m), TypeName::Class(n)) => m.text == n.text,
+        _ => false,
+    }
+}
+
+fn match_params(finals: &[FinalField], params: &[Param]) -> bool
+    ensures { result ≡ are_params_of (map final_of finals.now) params.now }
+{
+    let mut rest = params;
+    for field in finals {
+        let [param, more @ ..] = rest else {
+            return false;
+        };
+        let name = field.name;
+        if !is_same(field.ty, &param.ty) || name.text != param.name.text {
+            return false;
+        }
+        rest = more;
+    }
+    rest.is_empty()
+}
+
+fn match_sets(finals: &[FinalField], sets: &[(Name, Name)]) -> bool
+    ensures { result ≡ are_sets_of (map final_of finals.now) sets.now }
+{
+    let mut rest = sets;
+    for field in finals {
+        let [(target, value), more @ ..] = rest else {
+            return false;
+        };
+        let name = field.name;
+        if name.text != target.text || name.text != value.text {
+            return false;
+        }
+        rest = more;
+    }
+    rest.is_empty()
+}
+
+/// Whether a constructor assigns the final fields of its class, which has this name, in order.
+fn is_right_constructor(
+    class: &Name,
+    finals: &[FinalField],
+    name: &Name,
+    params: &[Param],
+    sets: &[(Name, Name)],
+) -> bool
+    ensures { result ≡ is_right class.now (map final_of finals.now) name.now params.now sets.now }
+{
+    !finals.is_empty()
+        && name.text == class.text
+        && match_params(finals, params)
+        && match_sets(finals, sets)
+}
+
+/// The faults of constructors that aren't right, and of those after a first one.
+pub(crate) fn note_constructors(
+    class: &Name,
+    finals: &[FinalField],
+    members: &[Member],
+    first: Option<ClassFault>,
+) -> Option<ClassFault>
+    ensures { result ≡ noted first (constructor_faults class.now (map final_of finals.now) false (map member_of members.now)) }
+{
+    let mut found = first;
+    let mut is_later = false;
+    for member in members {
+        if let Member::Ctor { name, params, sets } = member {
+            if is_later
+                || !is_right_constructor(class, finals, name, params.as_slice(), sets.as_slice())
+            {
+                found = first_of(found, ClassFault::BadConstructor(name.at));
+            }
+            is_later = true;
+        }
+    }
+    found
+}
+
+fn has_constructor(members: &[Member]) -> bool
+    ensures { result ≡ list_any is_constructor (map member_of members.now) }
+{
+    for member in members {
+        if let Member::Ctor { .. } = member {
+            return true;
+        }
+    }
+    false
+}
+
+pub(crate) fn note_missing_constructor(
+    class: &Name,
+    finals: &[FinalField],
+    members: &[Member],
+    first: Option<ClassFault>,
+) -> Option<ClassFault>
+    ensures { result ≡ noted first (missing_constructor class.now (map final_of finals.now) (map member_of members.now)) }
+{
+    if finals.is_empty() || has_constructor(members) {
+        first
+    } else {
+        first_of(first, ClassFault::BadConstructor(class.at))
+    }
+}
+
+pub(crate) fn has_finals(members: &[Member]) -> bool
+    ensures { result ≡ not (is_empty (finals_of (map member_of members.now))) }
+{
+    for member in members {
+        if let Member::Field { is_final: true, .. } = member {
+            return true;
+        }
+    }
+    false
+}

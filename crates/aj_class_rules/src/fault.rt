@@ -1,0 +1,85 @@
+//! Why a program has no class table.
+
+ghost use Rattle.std.specs.Prelude.{◌≡◌};
+ghost use Rattle.aj_class_rules.specs.declared.fault.ClassFault.TheVariants.{NoMemory as OutOfMemory};
+ghost use Rattle.aj_class_rules.specs.Faults.{offset_of, rank_of, place_of};
+
+use aj_faults::{Fault, Place};
+use std::alloc::{AllocError, AllocFailed};
+
+/// A fault of a program's classes, with the offset in bytes, from 0, at which it stands.
+#[derive(Clone, Copy, Debug, PartialEq, Eq)]
+pub enum ClassFault {
+    /// A class, a field or method of a class, or a parameter of a method or constructor has a name that stood before.
+    /// The offset is that of the later name.
+    Twice(u32),
+    /// The type of a field, parameter or result is no class of the program. The offset is that of the type's name.
+    UnknownClass(u32),
+    /// A class with final fields has no constructor, at the class's name; or a constructor isn't the one that assigns
+    /// the final fields of its class in order, at the constructor's name.
+    BadConstructor(u32),
+    /// No class `Main` without final fields has a void method `main` without parameters and without `requires`.
+    NoMain,
+    /// A class that says `implements Runnable` has no void method `run` without parameters and without `requires`.
+    /// The offset is that of the class's name.
+    NoRun(u32),
+    /// The 33rd field of a class or the 17th parameter of a method or constructor. The offset is that of its name.
+    TooMany(u32),
+    NoMemory,
+}
+
+impl ClassFault {
+    fn offset(self) -> u64
+        ensures { result ≡ offset_of self }
+    {
+        match self {
+            ClassFault::Twice(at)
+            | ClassFault::UnknownClass(at)
+            | ClassFault::BadConstructor(at)
+            | ClassFault::NoRun(at)
+            | ClassFault::TooMany(at) => at as u64,
+            ClassFault::NoMain | ClassFault::NoMemory => 1 << 32,
+        }
+    }
+
+    fn rank(self) -> u8
+        ensures { result ≡ rank_of self }
+    {
+        match self {
+            ClassFault::Twice(_) => 0,
+            ClassFault::UnknownClass(_) => 1,
+            ClassFault::BadConstructor(_) => 2,
+            ClassFault::NoRun(_) => 3,
+            ClassFault::TooMany(_) => 4,
+            ClassFault::NoMain => 5,
+            ClassFault::NoMemory => 6,
+        }
+    }
+}
+
+impl Fault for ClassFault {
+    ghost place_of = { place_of };
+
+    fn place(self) -> Place {
+        Place {
+            offset: self.offset(),
+            rank: self.rank(),
+        }
+    }
+}
+
+impl From<AllocError> for ClassFault {
+    ghost from_gives = { λ _ e. e ≡ OutOfMemory };
+
+    fn from(_error: AllocError) -> ClassFault {
+        ClassFault::NoMemory
+    }
+}
+
+impl<T: Drop> From<AllocFailed<T>> for ClassFault {
+    ghost from_gives = { λ _ e. e ≡ OutOfMemory };
+
+    fn from(_error: AllocFailed<T>) -> ClassFault {
+        ClassFault::NoMemory
+    }
+}

@@ -1,9 +1,0 @@
-use Rattle.std.proofs.Common.{◌≡◌, drop, map, ◌++◌}
-use Rattle.aj_syntax.specs.Views.{member_of}
-use Rattle.aj_classes.specs.Members.{finals_of}
-use Rattle.aj_classes.specs.Finals.{final_of}
-use Rattle.aj_classes.proofs.constructors.final_fields.Given as goal
-
-abbrev pub invariant-loop-member : goal.invariant-loop-member
-invariant-loop-member l =
-    map final_of l.finals.items ++ finals_of (map member_of (drop l.member-index l.members)) ≡ finals_of (map member_of l.members)

@@ -1,7 +1,0 @@
--- What the code keeps of a final field.
-use Rattle.aj_syntax.specs.declared.tree.Name.{Name}
-use Rattle.aj_syntax.specs.declared.tree.TypeName.{TypeName}
-use Rattle.aj_classes.specs.declared.constructors.FinalField.{FinalField}
-
-abbrev pub final_of : FinalField → TypeName × Name
-final_of f = (f.ty.now, f.name.now)

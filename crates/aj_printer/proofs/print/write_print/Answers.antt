@@ -1,0 +1,11 @@
+use Rattle.std.proofs.Common.{refl}
+use Rattle.aj_printer.specs.Printing.{stmt_lexemes, expr_lexemes}
+use Rattle.aj_syntax.specs.Views.{expr_of}
+use Rattle.aj_syntax.specs.Trees.{PrintS}
+use Rattle.aj_printer.proofs.Writing.{put_first, writes_first, put_last, added}
+use Rattle.aj_printer.proofs.print.write_print.Goals as goal
+
+pub returns : goal.returns
+returns c =
+    added c.terminal-8.result c.args.to.now c.terminal-8.new.self (stmt_lexemes (PrintS (expr_of c.args.value.now) 0)) (stmt_lexemes (PrintS (expr_of c.args.value.now) 0)) refl
+    (put_first c.in_ok-terminal.ensures (put_first c.in_ok-terminal-2.ensures (put_first c.in_ok-terminal-3.ensures (put_first c.in_ok-terminal-4.ensures (put_first c.in_ok-terminal-5.ensures (put_first c.in_ok-terminal-6.ensures (writes_first (expr_lexemes (expr_of c.args.value.now)) c.in_ok-write_expr.ensures (put_first c.in_ok-terminal-7.ensures (put_last c.terminal-8.ensures)))))))))

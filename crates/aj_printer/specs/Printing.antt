@@ -1,0 +1,162 @@
+-- The tokens of a tree in canonical text, and its canonical text.
+use Rattle.std.specs.Prelude.{ℕ, Bool, true, false, ◌&&◌, List, [], ◌∷◌, ◌++◌, Option, Some, None}
+use Rattle.aj_lexer.specs.Limits.{greatest_literal}
+use Rattle.aj_syntax.specs.declared.terminal.Terminal.{Terminal}
+use Rattle.aj_syntax.specs.declared.terminal.Terminal.TheVariants as T
+use Rattle.aj_syntax.specs.declared.tree.Name.{Name}
+use Rattle.aj_syntax.specs.declared.tree.Param.{Param}
+use Rattle.aj_syntax.specs.declared.tree.TypeName.{TypeName}
+use Rattle.aj_syntax.specs.declared.tree.TypeName.TheVariants as Y
+use Rattle.aj_syntax.specs.Grammar.{sign_of}
+use Rattle.aj_printer.specs.Layout.{Lexeme, Fixed, Named, Numeral, laid_out}
+use Rattle.aj_syntax.specs.Tokens.{guard_word}
+use Rattle.aj_syntax.specs.Trees.{LockTree, ExprTree, ExprTrees, NumberE, LeastE, TruthE, NullE, ThisE, VarE, ParenE, NotE, NegE, BinaryE, GetE, CallE, NewE, no_exprs, more_exprs, StmtTree, StmtTrees, EmptyS, BlockS, LocalS, SetVarS, SetFieldS, DoS, IfS, IfElseS, WhileS, SyncS, ReturnS, PrintS, StartS, no_stmts, more_stmts, FieldTree, MemberTree, FieldM, CtorM, MethodM, ClassTree, ProgramTree}
+
+-- several parts, one after another
+abbrev pub all_lexemes : {A : Type 0} → (A → List Lexeme) → List A → List Lexeme
+all_lexemes f [] = []
+all_lexemes f (a ∷ rest) = f a ++ all_lexemes f rest
+
+-- further parts, each with its comma before it
+abbrev pub further_lexemes : {A : Type 0} → (A → List Lexeme) → List A → List Lexeme
+further_lexemes f [] = []
+further_lexemes f (a ∷ rest) = Fixed T.Comma ∷ f a ++ further_lexemes f rest
+
+-- parts with commas between them
+abbrev pub listed_lexemes : {A : Type 0} → (A → List Lexeme) → List A → List Lexeme
+listed_lexemes f [] = []
+listed_lexemes f (a ∷ rest) = f a ++ further_lexemes f rest
+
+-- a terminal that stands where the flag is true
+abbrev pub flag_lexemes : Terminal → Bool → List Lexeme
+flag_lexemes t true = Fixed t ∷ []
+flag_lexemes t false = []
+
+abbrev pub name_lexeme : Name → Lexeme
+name_lexeme n = Named n.text
+
+abbrev pub type_lexeme : TypeName → Lexeme
+type_lexeme Y.Int = Fixed T.Int
+type_lexeme Y.Boolean = Fixed T.Boolean
+type_lexeme (Y.Class n) = name_lexeme n
+
+abbrev pub result_lexeme : Option TypeName → Lexeme
+result_lexeme None = Fixed T.Void
+result_lexeme (Some ty) = type_lexeme ty
+
+abbrev pub dotted_lexemes : Name → List Lexeme
+dotted_lexemes n = Fixed T.Dot ∷ name_lexeme n ∷ []
+
+abbrev pub root_lexeme : Option Name → Lexeme
+root_lexeme None = Fixed T.This
+root_lexeme (Some n) = name_lexeme n
+
+abbrev pub lock_lexemes : LockTree → List Lexeme
+lock_lexemes l = root_lexeme l.root ∷ all_lexemes dotted_lexemes l.fields
+
+abbrev mutual
+  pub expr_lexemes : ExprTree → List Lexeme
+  expr_lexemes (NumberE n at) = Numeral n ∷ []
+  expr_lexemes (LeastE at) = Fixed T.Minus ∷ Numeral greatest_literal ∷ []
+  expr_lexemes (TruthE true at) = Fixed T.True ∷ []
+  expr_lexemes (TruthE false at) = Fixed T.False ∷ []
+  expr_lexemes (NullE at) = Fixed T.Null ∷ []
+  expr_lexemes (ThisE at) = Fixed T.This ∷ []
+  expr_lexemes (VarE n) = name_lexeme n ∷ []
+  expr_lexemes (ParenE e at) = Fixed T.OpenParen ∷ expr_lexemes e ++ (Fixed T.CloseParen ∷ [])
+  expr_lexemes (NotE e at) = Fixed T.Bang ∷ expr_lexemes e
+  expr_lexemes (NegE e at) = Fixed T.Minus ∷ expr_lexemes e
+  expr_lexemes (BinaryE op e f at) = expr_lexemes e ++ (Fixed (sign_of op) ∷ expr_lexemes f)
+  expr_lexemes (GetE e n) = expr_lexemes e ++ (Fixed T.Dot ∷ name_lexeme n ∷ [])
+  expr_lexemes (CallE e n args) =
+      expr_lexemes e ++ (Fixed T.Dot ∷ name_lexeme n ∷ Fixed T.OpenParen ∷ args_lexemes args ++ (Fixed T.CloseParen ∷ []))
+  expr_lexemes (NewE n args at) = Fixed T.New ∷ name_lexeme n ∷ Fixed T.OpenParen ∷ args_lexemes args ++ (Fixed T.CloseParen ∷ [])
+
+  pub args_lexemes : ExprTrees → List Lexeme
+  args_lexemes no_exprs = []
+  args_lexemes (more_exprs e es) = expr_lexemes e ++ more_args_lexemes es
+
+  pub more_args_lexemes : ExprTrees → List Lexeme
+  more_args_lexemes no_exprs = []
+  more_args_lexemes (more_exprs e es) = Fixed T.Comma ∷ expr_lexemes e ++ more_args_lexemes es
+
+abbrev mutual
+  pub stmt_lexemes : StmtTree → List Lexeme
+  stmt_lexemes (EmptyS at) = Fixed T.Semicolon ∷ []
+  stmt_lexemes (BlockS ss at) = Fixed T.OpenBrace ∷ stmts_lexemes ss ++ (Fixed T.CloseBrace ∷ [])
+  stmt_lexemes (LocalS fin ty n e at) =
+      flag_lexemes T.Final fin ++ (type_lexeme ty ∷ name_lexeme n ∷ Fixed T.Assign ∷ expr_lexemes e ++ (Fixed T.Semicolon ∷ []))
+  stmt_lexemes (SetVarS n e at) = name_lexeme n ∷ Fixed T.Assign ∷ expr_lexemes e ++ (Fixed T.Semicolon ∷ [])
+  stmt_lexemes (SetFieldS e n f at) =
+      expr_lexemes e ++ (Fixed T.Dot ∷ name_lexeme n ∷ Fixed T.Assign ∷ expr_lexemes f ++ (Fixed T.Semicolon ∷ []))
+  stmt_lexemes (DoS e at) = expr_lexemes e ++ (Fixed T.Semicolon ∷ [])
+  stmt_lexemes (IfS e s at) = Fixed T.If ∷ Fixed T.OpenParen ∷ expr_lexemes e ++ (Fixed T.CloseParen ∷ stmt_lexemes s)
+  stmt_lexemes (IfElseS e s t at) =
+      Fixed T.If ∷ Fixed T.OpenParen ∷ expr_lexemes e ++ (Fixed T.CloseParen ∷ stmt_lexemes s ++ (Fixed T.Else ∷ stmt_lexemes t))
+  stmt_lexemes (WhileS e s at) = Fixed T.While ∷ Fixed T.OpenParen ∷ expr_lexemes e ++ (Fixed T.CloseParen ∷ stmt_lexemes s)
+  stmt_lexemes (SyncS l ss at) =
+      Fixed T.Synchronized ∷ Fixed T.OpenParen ∷ lock_lexemes l
+      ++ (Fixed T.CloseParen ∷ Fixed T.OpenBrace ∷ stmts_lexemes ss ++ (Fixed T.CloseBrace ∷ []))
+  stmt_lexemes (ReturnS None at) = Fixed T.Return ∷ Fixed T.Semicolon ∷ []
+  stmt_lexemes (ReturnS (Some e) at) = Fixed T.Return ∷ expr_lexemes e ++ (Fixed T.Semicolon ∷ [])
+  stmt_lexemes (PrintS e at) =
+      Fixed T.System ∷ Fixed T.Dot ∷ Fixed T.Out ∷ Fixed T.Dot ∷ Fixed T.Println ∷ Fixed T.OpenParen
+      ∷ expr_lexemes e ++ (Fixed T.CloseParen ∷ Fixed T.Semicolon ∷ [])
+  stmt_lexemes (StartS e at) =
+      Fixed T.New ∷ Fixed T.Thread ∷ Fixed T.OpenParen
+      ∷ expr_lexemes e ++ (Fixed T.CloseParen ∷ Fixed T.Dot ∷ Fixed T.Start ∷ Fixed T.OpenParen ∷ Fixed T.CloseParen ∷ Fixed T.Semicolon ∷ [])
+
+  pub stmts_lexemes : StmtTrees → List Lexeme
+  stmts_lexemes no_stmts = []
+  stmts_lexemes (more_stmts s ss) = stmt_lexemes s ++ stmts_lexemes ss
+
+-- a parameter, with its `final` where that is kept
+abbrev pub param_lexemes : Bool → Param → List Lexeme
+param_lexemes keeps p = flag_lexemes T.Final (keeps && p.is_final) ++ (type_lexeme p.ty ∷ name_lexeme p.name ∷ [])
+
+abbrev pub set_lexemes : (Name × Name) → List Lexeme
+set_lexemes p = Fixed T.This ∷ Fixed T.Dot ∷ name_lexeme p.0 ∷ Fixed T.Assign ∷ name_lexeme p.1 ∷ Fixed T.Semicolon ∷ []
+
+abbrev pub guard_lexemes : Bool → Option LockTree → List Lexeme
+guard_lexemes writes_only None = []
+guard_lexemes writes_only (Some l) = Fixed (guard_word writes_only) ∷ lock_lexemes l
+
+abbrev pub requires_lexemes : List LockTree → List Lexeme
+requires_lexemes [] = []
+requires_lexemes (l ∷ ls) = Fixed T.Requires ∷ listed_lexemes lock_lexemes (l ∷ ls)
+
+abbrev pub method_lexemes : Bool → Option TypeName → Name → List Param → List LockTree → StmtTrees → List Lexeme
+method_lexemes atomic returns n params locks body =
+    flag_lexemes T.Atomic atomic ++ (result_lexeme returns ∷ name_lexeme n ∷ Fixed T.OpenParen
+    ∷ listed_lexemes (param_lexemes true) params
+    ++ (Fixed T.CloseParen ∷ requires_lexemes locks ++ (Fixed T.OpenBrace ∷ stmts_lexemes body ++ (Fixed T.CloseBrace ∷ []))))
+
+abbrev pub field_lexemes : FieldTree → List Lexeme
+field_lexemes f =
+    flag_lexemes T.Final f.is_final
+    ++ (type_lexeme f.ty ∷ name_lexeme f.name ∷ guard_lexemes f.writes_only f.guard ++ (Fixed T.Semicolon ∷ []))
+
+-- a field, constructor or method, without `public`; a constructor's parameters without `final`
+abbrev pub member_lexemes : MemberTree → List Lexeme
+member_lexemes (FieldM f) = field_lexemes f
+member_lexemes (CtorM n params sets) =
+    name_lexeme n ∷ Fixed T.OpenParen ∷ listed_lexemes (param_lexemes false) params
+    ++ (Fixed T.CloseParen ∷ Fixed T.OpenBrace ∷ all_lexemes set_lexemes sets ++ (Fixed T.CloseBrace ∷ []))
+member_lexemes (MethodM m) = method_lexemes m.atomic m.returns m.name m.params m.locks m.body
+
+abbrev pub runnable_lexemes : Bool → List Lexeme
+runnable_lexemes true = Fixed T.Implements ∷ Fixed T.Runnable ∷ []
+runnable_lexemes false = []
+
+-- a class, without `public`
+abbrev pub class_lexemes : ClassTree → List Lexeme
+class_lexemes c =
+    Fixed T.Class ∷ name_lexeme c.name ∷ runnable_lexemes c.runnable
+    ++ (Fixed T.OpenBrace ∷ all_lexemes member_lexemes c.members ++ (Fixed T.CloseBrace ∷ []))
+
+abbrev pub program_lexemes : ProgramTree → List Lexeme
+program_lexemes t = all_lexemes class_lexemes t
+
+-- the canonical text of a program
+abbrev pub canonical : ProgramTree → List ℕ
+canonical t = laid_out (program_lexemes t)

@@ -1,0 +1,9 @@
+//! The canonical text of a tree, which reads back as that tree.
+#![tactic(auto)]
+
+mod laws;
+mod page;
+mod print;
+
+pub use laws::printing_laws;
+pub use print::print_program;

@@ -1,0 +1,2 @@
+-- What the contract of `is_reserved` cites.
+pub mod Reserved
