@@ -1,7 +1,7 @@
 -- Tokens written one after another.
-use Rattle.std.proofs.Common.{◌≡◌, ℕ, zero, suc, ◌+◌, ◌-◌, ◌<◌, ◌≤◌, length, drop, get_or, List, [], ◌∷◌, ◌++◌, codes, refl, ap, sym, arith, append_assoc, append-nil, subst, Result, OnOk, drop-cons, ◌∙◌, add-one}
-use Rattle.aj_printer.specs.Layout.{Lexeme, Page, put, writes, indent, layout, gap, lead_of, place_after, depth_after, lexeme_text, line_end}
-use Rattle.aj_printer.specs.declared.page.Place.TheVariants as P
+use Rattle.std.proofs.Common.{◌≡◌, ℕ, zero, suc, ◌+◌, ◌-◌, ◌<◌, ◌≤◌, length, drop, get_or, List, [], ◌∷◌, ◌++◌, refl, ap, sym, arith, append_assoc, append-nil, subst, Result, OnOk, drop-cons, ◌∙◌, add-one}
+use Rattle.aj_page.specs.Layout.{Lexeme, Page, put, writes, layout, gap, lead_of, place_after, depth_after, lexeme_text, line_end}
+use Rattle.aj_page.specs.declared.page.Place.TheVariants as P
 use Rattle.aj_printer.specs.Printing.{canonical, program_lexemes}
 use Rattle.aj_syntax.specs.Trees.{ProgramTree}
 
@@ -17,12 +17,6 @@ pub writes_both : (page : Page) (xs ys : List Lexeme) → writes page (xs ++ ys)
 unfolding writes
 writes_both page [] ys = refl
 writes_both page (x ∷ xs) ys = writes_both (put page x) xs ys
-
-pub indent_more : (n k : ℕ) → k < n → indent (n - k) ≡ codes "    " ++ indent (n - (k + 1))
-indent_more n k h = let e : n - k ≡ suc (n - (k + 1)) = omega arith in ap indent e
-
-pub indent_step : (whole old now : List ℕ) (n k : ℕ) → k < n → old ++ indent (n - k) ≡ whole → now ≡ old ++ codes "    " → now ++ indent (n - (k + 1)) ≡ whole
-indent_step whole old now n k h e f = rw (f, append_assoc old (codes "    ") (indent (n - (k + 1)))) (rw (sym (indent_more n k h)) e)
 
 -- one item more is written
 pub item_step : {A : Type 0} (f : List A → List Lexeme) (g : A → List Lexeme) → ((x : A) (xs : List A) → f (x ∷ xs) ≡ g x ++ f xs)

@@ -2,7 +2,6 @@
 #![tactic(auto)]
 
 mod laws;
-mod page;
 mod print;
 
 pub use laws::printing_laws;

@@ -2,10 +2,10 @@
 use Rattle.std.specs.Prelude.{ℕ, zero, suc, ◌+◌, ◌-◌, List, [], ◌∷◌, ◌++◌, codes, decimal}
 use Rattle.aj_lexer.specs.declared.tokens.Token.{Token}
 use Rattle.aj_lexer.specs.declared.tokens.TokenKind.TheVariants as K
-use Rattle.aj_printer.specs.declared.page.Lead.{Lead}
-use Rattle.aj_printer.specs.declared.page.Lead.TheVariants as L
-use Rattle.aj_printer.specs.declared.page.Place.{Place}
-use Rattle.aj_printer.specs.declared.page.Place.TheVariants as P
+use Rattle.aj_page.specs.declared.page.Lead.{Lead}
+use Rattle.aj_page.specs.declared.page.Lead.TheVariants as L
+use Rattle.aj_page.specs.declared.page.Place.{Place}
+use Rattle.aj_page.specs.declared.page.Place.TheVariants as P
 use Rattle.aj_syntax.specs.declared.terminal.Terminal.{Terminal}
 use Rattle.aj_syntax.specs.declared.terminal.Terminal.TheVariants as T
 use Rattle.aj_syntax.specs.Tokens.{spelling, token, number_token}

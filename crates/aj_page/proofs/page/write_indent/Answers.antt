@@ -1,7 +1,7 @@
 use Rattle.std.proofs.Common.{◌++◌, string_bytes, arith}
-use Rattle.aj_printer.specs.Layout.{indent}
-use Rattle.aj_printer.proofs.Writing.{indent_step}
-use Rattle.aj_printer.proofs.page.write_indent.Goals as goal
+use Rattle.aj_page.specs.Layout.{indent}
+use Rattle.aj_page.proofs.Indents.{indent_step}
+use Rattle.aj_page.proofs.page.write_indent.Goals as goal
 
 pub loop-level-preserved : goal.loop-level-preserved
 loop-level-preserved c = (

@@ -1,8 +1,8 @@
 //! Lays out tokens in lines, one after another.
 
 ghost use Rattle.std.specs.Prelude.{◌≡◌, ◌+◌, ◌<◌, ◌^◌, [], ◌++◌, ◌≤◌, OnOk, string_bytes, string_len};
-ghost use Rattle.aj_printer.specs.Layout.{Fixed, Named, Numeral, Page, depth_after, gap, indent, lead_of, line_end, place_after, put};
-ghost use Rattle.aj_printer.specs.declared.page.Place.TheVariants as places;
+ghost use Rattle.aj_page.specs.Layout.{Fixed, Named, Numeral, Page, depth_after, gap, indent, lead_of, line_end, place_after, put};
+ghost use Rattle.aj_page.specs.declared.page.Place.TheVariants as places;
 
 use aj_syntax::Terminal;
 use itoa::Buffer;
@@ -40,7 +40,7 @@ pub struct Printer {
 
 impl Model for Printer {
     ghost use Rattle.std.specs.Prelude.{◌≤◌, string_bytes, string_len};
-    ghost use Rattle.aj_printer.specs.Layout.{Page};
+    ghost use Rattle.aj_page.specs.Layout.{Page};
 
     ghost Value = { Page };
 
@@ -103,7 +103,7 @@ impl Printer {
     }
 }
 
-#[tactic(auto, using(crate::proofs::Writing::indent_more))]
+#[tactic(auto, using(crate::proofs::Indents::indent_more))]
 fn write_indent(text: &mut String, depth: usize) -> Result<(), NoMemory>
     ensures text { OnOk result (string_bytes text.new ≡ string_bytes text.old ++ indent depth) }
     ensures longer { string_len text.old ≤ string_len text.new }

@@ -1,0 +1,2 @@
+-- What the contracts of pages cite.
+pub mod Layout
