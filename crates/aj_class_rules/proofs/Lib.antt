@@ -1,3 +1,1 @@
-mod Sets
-pub mod Leasts
-mod Noting
+pub mod Noting

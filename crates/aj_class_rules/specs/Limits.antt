@@ -1,6 +1,6 @@
 -- The limits of classes and methods.
 use Rattle.std.specs.Prelude.{ℕ}
-use Rattle.aj_class_rules.specs.declared.members.TheConstants.{MOST_FIELDS, MOST_PARAMS}
+use Rattle.aj_class_rules.specs.declared.limits.TheConstants.{MOST_FIELDS, MOST_PARAMS}
 
 -- how many parameters a method or a constructor may have
 abbrev pub most_parameters : ℕ

@@ -15,12 +15,12 @@ use std::alloc::{AllocError as NoMemory, Global};
 
 /// A final field, which the constructor of its class assigns.
 #[derive(Clone, Copy)]
-pub(crate) struct FinalField<'m, 'a> {
-    pub(crate) ty: &'m TypeName<'a>,
-    pub(crate) name: &'m Name<'a>,
+struct FinalField<'m, 'a> {
+    ty: &'m TypeName<'a>,
+    name: &'m Name<'a>,
 }
 
-pub(crate) fn final_fields<'m, 'a>(
+fn final_fields<'m, 'a>(
     alloc: Global,
     members: &'m [Member<'a>],
 ) -> Result<Vec<FinalField<'m, 'a>>, NoMemory>
@@ -102,7 +102,19 @@ fn is_right_constructor(
 }
 
 /// The faults of constructors that aren't right, and of those after a first one.
-pub(crate) fn note_constructors(
+pub fn note_constructors(
+    alloc: Global,
+    class: &Name,
+    members: &[Member],
+    first: Option<ClassFault>,
+) -> Result<Option<ClassFault>, NoMemory>
+    ensures { IfOk result (λ f. f ≡ noted first (constructor_faults class.now (finals_of (map member_of members.now)) false (map member_of members.now))) }
+{
+    let finals = final_fields(alloc, members)?;
+    Ok(note_wrong(class, finals.as_slice(), members, first))
+}
+
+fn note_wrong(
     class: &Name,
     finals: &[FinalField],
     members: &[Member],
@@ -136,22 +148,23 @@ fn has_constructor(members: &[Member]) -> bool
     false
 }
 
-pub(crate) fn note_missing_constructor(
+/// The fault of a class that has final fields and no constructor.
+pub fn note_missing_constructor(
     class: &Name,
-    finals: &[FinalField],
     members: &[Member],
     first: Option<ClassFault>,
 ) -> Option<ClassFault>
-    ensures { result ≡ noted first (missing_constructor class.now (map final_of finals.now) (map member_of members.now)) }
+    ensures { result ≡ noted first (missing_constructor class.now (finals_of (map member_of members.now)) (map member_of members.now)) }
 {
-    if finals.is_empty() || has_constructor(members) {
+    if !has_finals(members) || has_constructor(members) {
         first
     } else {
         first_of(first, ClassFault::BadConstructor(class.at))
     }
 }
 
-pub(crate) fn has_finals(members: &[Member]) -> bool
+/// Whether a class has final fields.
+pub fn has_finals(members: &[Member]) -> bool
     ensures { result ≡ not (is_empty (finals_of (map member_of members.now))) }
 {
     for member in members {

@@ -1,12 +1,10 @@
-//! What classes and members owe each other, and the first fault of a program in which they don't.
+//! What classes and members owe each other: the faults of a program, and the rule of constructors.
 #![tactic(auto)]
 
-mod check;
 mod constructors;
 mod fault;
-mod members;
-mod names;
+mod limits;
 
-pub use check::first_fault;
+pub use constructors::{has_finals, note_constructors, note_missing_constructor};
 pub use fault::ClassFault;
-pub use names::NameSet;
+pub use limits::{MOST_FIELDS, MOST_PARAMS};

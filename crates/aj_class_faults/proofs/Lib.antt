@@ -1,0 +1,2 @@
+mod Sets
+pub mod Leasts
