@@ -9,11 +9,11 @@ use Rattle.aj_commands.specs.declared.command.Command.{Command}
 use Rattle.aj_commands.specs.declared.command.Command.TheVariants.{Check, Print, Run, Serialise, Derive, Verify}
 use Rattle.aj_commands.specs.Rows.{Row}
 use Rattle.aj_commands.specs.Files.{first_too_large, file_at}
-use Rattle.aj_commands.specs.Check.{CheckAnswer, CheckFact, not_accepted, judged}
-use Rattle.aj_commands.specs.Print.{PrintAnswer, PrintFact, no_program, printed}
-use Rattle.aj_commands.specs.Derive.{DeriveAnswer, DeriveFact, not_accepted as not_accepted_derive, derived}
-use Rattle.aj_commands.proofs.BookEndings.{verify_caused, verify_apart}
-use Rattle.aj_commands.proofs.ScheduleEndings.{run_caused, run_apart, serialise_caused, serialise_apart}
+use Rattle.aj_source_commands.specs.Check.{CheckAnswer, CheckFact, not_accepted, judged}
+use Rattle.aj_source_commands.specs.Print.{PrintAnswer, PrintFact, no_program, printed}
+use Rattle.aj_book_commands.specs.Derive.{DeriveAnswer, DeriveFact, not_accepted as not_accepted_derive, derived}
+use Rattle.aj_book_commands.proofs.BookEndings.{verify_caused, verify_apart}
+use Rattle.aj_schedule_commands.proofs.ScheduleEndings.{run_caused, run_apart, serialise_caused, serialise_apart}
 use Rattle.aj_commands.specs.Answers.{Answer, Fact, Belongs, too_large, ended, Yields, IsExact}
 
 -- `check`: each ending has its fact, and one alone

@@ -24,12 +24,12 @@ use Rattle.aj_syntax.specs.Trees.{ProgramTree}
 use Rattle.aj_commands.specs.declared.command.Command.TheVariants.{Check, Serialise}
 use Rattle.aj_commands.specs.Rows.{Row}
 use Rattle.aj_commands.specs.Files.{IsAsked, first_over}
-use Rattle.aj_commands.specs.Check.{CheckAnswer, not_accepted as not_checked, judged}
-use Rattle.aj_commands.specs.Serialise.{SerialiseAnswer, SerialiseFact, not_accepted, no_schedule, no_order, serialised}
+use Rattle.aj_source_commands.specs.Check.{CheckAnswer, not_accepted as not_checked, judged}
+use Rattle.aj_schedule_commands.specs.Serialise.{SerialiseAnswer, SerialiseFact, not_accepted, no_schedule, no_order, serialised}
 use Rattle.aj_commands.specs.Answers.{Belongs, too_large, ended}
 use Rattle.aj_commands.specs.Said.{WritesAnswer}
 use Rattle.aj_commands.specs.Headline.{Call, IsCalm, WritesRearrangement, RefusesExactly, Headline}
-use Rattle.aj_commands.proofs.ScheduleEndings.{serialise_caused, serialise_apart, refused_text, order_ends}
+use Rattle.aj_schedule_commands.proofs.ScheduleEndings.{serialise_caused, serialise_apart, refused_text, order_ends}
 
 -- a file within its limit isn't the first over it
 within_one : (limit : ℕ) (name file : List ℕ) → length file ≤ limit → first_over (limit ∷ []) (name ∷ []) (file ∷ []) ≡ None

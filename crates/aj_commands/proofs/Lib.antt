@@ -1,8 +1,3 @@
-pub mod ScheduleEndings
-pub mod ScheduleRows
-pub mod BookEndings
-pub mod BookRows
-mod Counts
 pub mod Endings
 pub mod Runs
 pub mod Headlines

@@ -7,12 +7,12 @@ use Rattle.aj_commands.specs.declared.command.Command.TheVariants.{Check, Print,
 use Rattle.aj_commands.specs.Lines.{too_large_line}
 use Rattle.aj_commands.specs.Rows.{Row}
 use Rattle.aj_commands.specs.Files.{first_too_large, AreWithin, file_at}
-use Rattle.aj_commands.specs.Check.{CheckAnswer, CheckFact}
-use Rattle.aj_commands.specs.Print.{PrintAnswer, PrintFact}
-use Rattle.aj_commands.specs.Run.{RunAnswer, RunFact}
-use Rattle.aj_commands.specs.Serialise.{SerialiseAnswer, SerialiseFact}
-use Rattle.aj_commands.specs.Derive.{DeriveAnswer, DeriveFact}
-use Rattle.aj_commands.specs.Verify.{VerifyAnswer, VerifyFact}
+use Rattle.aj_source_commands.specs.Check.{CheckAnswer, CheckFact}
+use Rattle.aj_source_commands.specs.Print.{PrintAnswer, PrintFact}
+use Rattle.aj_schedule_commands.specs.Run.{RunAnswer, RunFact}
+use Rattle.aj_schedule_commands.specs.Serialise.{SerialiseAnswer, SerialiseFact}
+use Rattle.aj_book_commands.specs.Derive.{DeriveAnswer, DeriveFact}
+use Rattle.aj_book_commands.specs.Verify.{VerifyAnswer, VerifyFact}
 
 -- the texts that belong to each ending of a command
 abbrev pub Answer : Command → List (List ℕ) → Ending → List ℕ → Type 0

@@ -3,7 +3,7 @@
 use Rattle.std.specs.Prelude.{◌≡◌, ℕ, ◌≤◌, List, [], ◌∷◌, Some, codes, length, ◌⊎◌}
 use Rattle.aj_sources.specs.declared.refusal.Ending.TheVariants.{Done}
 use Rattle.aj_sources.specs.Facts.{IsAcceptedSource}
-use Rattle.aj_commands.specs.Derive.{DeriveAnswer}
+use Rattle.aj_book_commands.specs.Derive.{DeriveAnswer}
 use Rattle.aj_commands.specs.Headline.{Call, IsCalm}
 
 -- the words are `verify` and the names of two files, which are told and within their limits

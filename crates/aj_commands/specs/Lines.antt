@@ -13,10 +13,6 @@ line_end = 10 ∷ []
 abbrev pub usage_line : List ℕ
 usage_line = codes "usage: atomic check FILE | run FILE SCHEDULE | serialise FILE SCHEDULE | derive FILE | verify FILE BOOK | print FILE | generate N" ++ line_end
 
--- what `verify` writes where the book is good
-abbrev pub verified_line : List ℕ
-verified_line = codes "verified" ++ line_end
-
 abbrev pub cannot_read_line : List ℕ → List ℕ
 cannot_read_line name = joined (codes "cannot read " ∷ name ∷ line_end ∷ [])
 

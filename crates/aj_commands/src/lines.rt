@@ -9,9 +9,6 @@ use std::alloc::{AllocError as NoMemory, Global};
 pub const USAGE: &[u8] =
     b"usage: atomic check FILE | run FILE SCHEDULE | serialise FILE SCHEDULE | derive FILE | verify FILE BOOK | print FILE | generate N\n";
 
-/// What is written for a book that is good.
-pub const VERIFIED: &[u8] = b"verified\n";
-
 /// What ends a line.
 const LINE_END: &str = "\n";
 

@@ -15,17 +15,14 @@ ghost use Rattle.aj_commands.specs.Headline.{Headline, call_of};
 ghost use Rattle.aj_commands.specs.Books.{Books};
 ghost use Rattle.aj_commands.specs.Outcomes.{IsUnreadFor, IsOutcome};
 
-use crate::check::check;
 use crate::command::{Command, Words, words_of};
-use crate::derive_book::derive_book;
 use crate::files::{Unread, file_at, read_files};
 use crate::lines::{USAGE, cannot_read_line, too_large_line};
-use crate::print::print;
-use crate::run_schedule::run_schedule;
-use crate::serialise::serialise;
 use crate::status::Status;
-use crate::verify_book::verify_book;
+use aj_book_commands::{derive_book, verify_book};
 use aj_edge::{Fault, Folder, Sink, write_all};
+use aj_schedule_commands::{run_schedule, serialise};
+use aj_source_commands::{check, print};
 use aj_sources::{Ending, Refusal};
 use std::alloc::{AllocError as NoMemory, Global};
 

@@ -1,0 +1,33 @@
+-- `derive FILE`: judges the source and the rules, and writes the book of the least closed assignment.
+use Rattle.std.specs.Prelude.{ℕ, List}
+use Rattle.aj_cond.specs.Conditions.{Cond}
+use Rattle.aj_core.specs.Core.{Program}
+use Rattle.aj_book_text.specs.Books.{Book}
+use Rattle.aj_book_text.specs.Texts.{IsTextOf}
+use Rattle.aj_deriv_check.specs.Good.{IsGoodBook}
+use Rattle.aj_derive.specs.Derived.{IsDerived}
+use Rattle.aj_rules.specs.Near.{rel_of}
+use Rattle.aj_syntax.specs.Trees.{ProgramTree}
+use Rattle.aj_sources.specs.declared.refusal.Ending.{Ending}
+use Rattle.aj_sources.specs.declared.refusal.Ending.TheVariants.{Done}
+use Rattle.aj_sources.specs.Checking.{IsWellFormedSource}
+use Rattle.aj_sources.specs.Verdicts.{IsShownLeast, NoAccepted}
+use Rattle.aj_source_commands.specs.Check.{CheckFact}
+
+-- the bytes are the text of the book that is derived from the trees of the least closed assignment, and it is good for the program
+pub record IsDerivedText (P : Program) (out : List ℕ) : Type 0 where
+  pub trees : List Cond
+  pub least : IsShownLeast P trees
+  pub book : Book
+  pub derived : IsDerived P (rel_of least.sets) trees book
+  pub text : IsTextOf out book
+  pub good : IsGoodBook P (rel_of least.sets) book
+
+-- the line that refuses the source; or the text of an accepted one's book
+pub data DeriveAnswer (file : List ℕ) : Ending → List ℕ → Type 0 where
+  not_accepted : {ending : Ending} {line : List ℕ} → NoAccepted file ending line → DeriveAnswer file ending line
+  derived : {out : List ℕ} (tree : ProgramTree) (P : Program) → IsWellFormedSource file tree P → IsDerivedText P out → DeriveAnswer file Done out
+
+-- when `derive` ends how: as `check` does
+abbrev pub DeriveFact : List ℕ → Ending → Type 0
+DeriveFact = CheckFact

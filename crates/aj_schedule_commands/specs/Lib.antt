@@ -1,0 +1,4 @@
+-- What each command on a schedule answers, and when it ends how, in this order: Schedules has what Run and Serialise share.
+pub mod Schedules
+pub mod Run
+pub mod Serialise

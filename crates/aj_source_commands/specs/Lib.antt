@@ -1,0 +1,3 @@
+-- What each command on a source alone answers, and when it ends how: Check and Print stand apart.
+pub mod Check
+pub mod Print
