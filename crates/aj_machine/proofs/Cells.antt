@@ -5,7 +5,7 @@ use Rattle.std.specs.declared.alloc.AllocError.{AllocError}
 use Rattle.std.proofs.lemmas.Option.{slice_get_within}
 use Rattle.std.proofs.lemmas.List.{map-set, map-append, set-append_left, set-get_or}
 use Rattle.aj_state.specs.States.{ThreadOf}
-use Rattle.aj_state.specs.Frames.{CellFrame, CodeFrame, code_thread, top_frame}
+use Rattle.aj_threads.specs.Frames.{CellFrame, CodeFrame, code_thread, top_frame}
 
 pub the_same : {A : Type 0} (o : Option A) (x y : A) → o ≡ Some x → o ≡ Some y → x ≡ y
 the_same o x y a b = cc

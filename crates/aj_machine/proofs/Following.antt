@@ -6,7 +6,7 @@ use Rattle.aj_state.specs.declared.value.Address.{Address}
 use Rattle.aj_state.specs.declared.value.Value.{Value}
 use Rattle.aj_state.specs.Values.{top, under, dropped, as_truth, address_of, binary_value}
 use Rattle.aj_state.specs.Memory.{Hold}
-use Rattle.aj_state.specs.Frames.{given, first_frame}
+use Rattle.aj_threads.specs.Frames.{given, first_frame}
 use Rattle.aj_compile.specs.declared.stack.Instr.{Instr}
 use Rattle.aj_compile.specs.declared.stack.Instr.TheVariants as i
 use Rattle.aj_compile.specs.Rooms.{at_next, other_place, arguments_of_new, arguments_of_call, after_call}

@@ -5,7 +5,7 @@ use Rattle.std.specs.declared.alloc.AllocError.{AllocError}
 use Rattle.aj_state.specs.declared.value.Address.{Address}
 use Rattle.aj_state.specs.declared.value.Value.{Value}
 use Rattle.aj_state.specs.States.{ThreadOf, Ready, Running, Done, Faulted}
-use Rattle.aj_state.specs.Frames.{CellFrame, frames_in, on_first, on_top, top_frame, rest_of, settled, with_given}
+use Rattle.aj_threads.specs.Frames.{CellFrame, frames_in, on_first, on_top, top_frame, rest_of, settled, with_given}
 use Rattle.aj_machine.specs.Rooms.{IsRoomy, AreRoomy, AllRoomy, StaysRoomy, FitsIn}
 use Rattle.aj_machine.specs.declared.deed.Deed.{Deed}
 

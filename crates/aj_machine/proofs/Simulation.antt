@@ -14,7 +14,7 @@ use Rattle.aj_state.specs.Memory.{Hold}
 use Rattle.aj_state.specs.Work as W
 use Rattle.aj_state.specs.Work.{Action, Item, Ex, St, Act, unfolded}
 use Rattle.aj_state.specs.States.{Frame, ThreadOf, Thread, Running, Done, Faulted, new_frame}
-use Rattle.aj_state.specs.Frames.{CodeFrame, rest_of, first_frame}
+use Rattle.aj_threads.specs.Frames.{CodeFrame, rest_of, first_frame}
 use Rattle.aj_state.specs.Stored as S
 use Rattle.aj_state.specs.Stored.{taken_by}
 use Rattle.aj_compile.specs.declared.stack.Code.{Code}

@@ -6,7 +6,7 @@ use Rattle.std.proofs.lemmas.List.{map-set}
 use Rattle.aj_core.specs.Core.{Method}
 use Rattle.aj_state.specs.declared.value.Value.{Value}
 use Rattle.aj_state.specs.States.{ThreadOf, Ready, Running, Done, Faulted, new_slots}
-use Rattle.aj_state.specs.Frames.{CellFrame, code_frame, code_thread, frames_in, top_frame, on_first, on_top, popped, given, settled, operands_of}
+use Rattle.aj_threads.specs.Frames.{CellFrame, code_frame, code_thread, frames_in, top_frame, on_first, on_top, popped, given, settled, operands_of}
 use Rattle.aj_state.specs.declared.value.Address.{Address}
 use Rattle.aj_machine.specs.Listed.{listed}
 use Rattle.aj_machine.specs.Turns.{first_thread}

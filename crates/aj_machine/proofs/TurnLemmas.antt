@@ -13,7 +13,7 @@ use Rattle.aj_state.specs.declared.value.StepKind.TheVariants.{Both}
 use Rattle.aj_state.specs.Values.{top, under, dropped, taken, as_truth, address_of, binary_value}
 use Rattle.aj_state.specs.Memory.{Hold, Object, lists, field_value, new_values}
 use Rattle.aj_state.specs.States.{ThreadOf, Ready, Running, Done, Faulted, StateOf, fields_of}
-use Rattle.aj_state.specs.Frames.{CellFrame, CodeFrame, code_frame, code_thread, frames_in, first_frame, may_enter}
+use Rattle.aj_threads.specs.Frames.{CellFrame, CodeFrame, code_frame, code_thread, frames_in, first_frame, may_enter}
 use Rattle.aj_compile.specs.declared.stack.Code.{Code}
 use Rattle.aj_compile.specs.declared.stack.Instr.{Instr}
 use Rattle.aj_compile.specs.declared.stack.Instr.TheVariants as i

@@ -9,7 +9,7 @@ use Rattle.aj_compile.specs.IsCode.{IsCodeOf}
 use Rattle.aj_state.specs.Memory.{Heap, Locks}
 use Rattle.aj_machine.specs.CodeMachine.{code_outcome}
 use Rattle.aj_state.specs.States.{ThreadOf, Ready, StateOf, State}
-use Rattle.aj_state.specs.Frames.{CellFrame, CodeFrame, code_thread}
+use Rattle.aj_threads.specs.Frames.{CellFrame, CodeFrame, code_thread}
 use Rattle.aj_steps.specs.Step.{Change, Nothing, FieldIs, ObjectIs, LockIs, Prints, Starts, OutcomeOf, Outcome, Moves, Absent, IsDone, HadFaulted, Waits, changed, moved, outcome}
 use Rattle.aj_machine.specs.declared.machine.StepEnd.{StepEnd}
 use Rattle.aj_machine.specs.Likeness.{StateStands}

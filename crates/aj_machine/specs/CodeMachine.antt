@@ -10,7 +10,7 @@ use Rattle.aj_state.specs.declared.value.StepKind.TheVariants.{Both, Right, Left
 use Rattle.aj_state.specs.Values.{top, under, taken, dropped, as_int, as_truth, address_of, unary_value, binary_value}
 use Rattle.aj_state.specs.Memory.{Hold}
 use Rattle.aj_state.specs.States.{ThreadOf, Ready, Running, Done, Faulted, StateOf, new_slots, new_object, initial, main_address}
-use Rattle.aj_state.specs.Frames.{CodeFrame, given, rest_of, first_frame}
+use Rattle.aj_threads.specs.Frames.{CodeFrame, given, rest_of, first_frame}
 use Rattle.aj_state.specs.Stored.{taken_by, given_back}
 use Rattle.aj_compile.specs.declared.stack.Instr.{Instr}
 use Rattle.aj_compile.specs.declared.stack.Instr.TheVariants as i

@@ -14,7 +14,7 @@ use Rattle.aj_machine.specs.Listed.{listed}
 use Rattle.aj_state.specs.declared.value.Address.{Address}
 use Rattle.aj_state.specs.declared.value.Value.{Value}
 use Rattle.aj_state.specs.Values.{under, dropped}
-use Rattle.aj_state.specs.Frames.{CodeFrame, given, rest_of, frames_in, on_first, on_top, popped}
+use Rattle.aj_threads.specs.Frames.{CodeFrame, given, rest_of, frames_in, on_first, on_top, popped}
 
 -- it drops operands, is given one or none, and goes on
 abbrev pub goes_on : ℕ → Option Value → ℕ → CodeFrame → CodeFrame

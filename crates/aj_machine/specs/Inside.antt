@@ -3,7 +3,7 @@ use Rattle.std.specs.Prelude.{ℕ, Bool, false, Option, Some, None, slice_get}
 use Rattle.std.specs.List.{list_any}
 use Rattle.aj_core.specs.Core.{Program}
 use Rattle.aj_state.specs.States.{ThreadOf}
-use Rattle.aj_state.specs.Frames.{CellFrame, frames_in}
+use Rattle.aj_threads.specs.Frames.{CellFrame, frames_in}
 use Rattle.aj_steps.specs.Run.{is_annotated}
 
 -- whether a frame belongs to an annotated method

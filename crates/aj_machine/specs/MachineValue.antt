@@ -5,9 +5,10 @@ use Rattle.std.specs.FinMap as finite
 use Rattle.aj_core.specs.declared.program.CoreProgram.{CoreProgram}
 use Rattle.aj_state.specs.Memory.{Heap, Locks}
 use Rattle.aj_state.specs.States.{ThreadOf, StateOf}
-use Rattle.aj_state.specs.Frames.{CellFrame, CodeFrame, code_thread}
+use Rattle.aj_threads.specs.Frames.{CellFrame, CodeFrame, code_thread}
 use Rattle.aj_state.specs.Slots.{address_code}
-use Rattle.aj_state.specs.Codes.{object_code, hold_code, thread_code}
+use Rattle.aj_state.specs.Codes.{object_code, hold_code}
+use Rattle.aj_threads.specs.ThreadCodes.{thread_code}
 use Rattle.aj_compile.specs.declared.stack.CodeTable.{CodeTable}
 
 pub record MachineValue : Type 0 where

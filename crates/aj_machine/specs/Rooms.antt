@@ -1,7 +1,7 @@
 -- Room for operands: when a deed takes no memory, and what it leaves.
 use Rattle.std.specs.Prelude.{◌≡◌, ℕ, ◌+◌, ◌≤◌, List, [], ◌∷◌, length, Option, Some, slice_get}
 use Rattle.aj_state.specs.States.{ThreadOf, Running}
-use Rattle.aj_state.specs.Frames.{CellFrame, frames_in, settled_operands, HasSpare}
+use Rattle.aj_threads.specs.Frames.{CellFrame, frames_in, settled_operands, HasSpare}
 use Rattle.aj_machine.specs.declared.deed.Deed.{Deed}
 use Rattle.aj_machine.specs.declared.deed.Deed.TheVariants as deed
 use Rattle.aj_machine.specs.declared.deed.Turn.{Turn}

@@ -8,7 +8,7 @@ use Rattle.aj_state.specs.declared.value.Value.{Value}
 use Rattle.aj_state.specs.declared.value.Fault.TheVariants as fault
 use Rattle.aj_state.specs.Memory.{Heap, Locks}
 use Rattle.aj_state.specs.States.{ThreadOf, Ready, Running, Done, Faulted, StateOf}
-use Rattle.aj_state.specs.Frames.{CellFrame, CodeFrame, top_frame, frames_in, slots_of, operands_of, taken_of}
+use Rattle.aj_threads.specs.Frames.{CellFrame, CodeFrame, top_frame, frames_in, slots_of, operands_of, taken_of}
 use Rattle.aj_compile.specs.declared.stack.Code.{Code}
 use Rattle.aj_steps.specs.Step.{Shared, OutcomeOf, Moves, moved}
 use Rattle.aj_machine.specs.declared.machine.StepEnd.{StepEnd}

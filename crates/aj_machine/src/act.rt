@@ -9,14 +9,15 @@ ghost use Rattle.aj_state.specs.States.{fields_of};
 ghost use Rattle.aj_machine.specs.Listed.{listed};
 ghost use Rattle.aj_state.specs.Stored.{HasField, MayTake, taken_by, given_back};
 ghost use Rattle.aj_state.specs.declared.value.Value.TheVariants as value;
-ghost use Rattle.aj_state.specs.Frames.{CellFrame, code_thread, top_frame, on_top, operands_of, slots_of, settled_operands};
+ghost use Rattle.aj_threads.specs.Frames.{CellFrame, code_thread, top_frame, on_top, operands_of, slots_of, settled_operands};
 ghost use Rattle.aj_machine.specs.Rooms.{StaysRoomy};
 ghost use Rattle.aj_machine.specs.Deeds.{goes_on, stores_on, takes_on, gives_on};
 
 use crate::make::values_of;
 use aj_core::CoreProgram;
 use aj_paths::ClassId;
-use aj_state::{Address, Heap, Locks, ThreadCell, Value};
+use aj_state::{Address, Heap, Locks, Value};
+use aj_threads::ThreadCell;
 use std::alloc::{AllocError as NoMemory, Global};
 
 /// The top frame drops operands, is given one or none, and goes on.

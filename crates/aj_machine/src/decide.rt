@@ -15,7 +15,8 @@ use crate::seen::Seen;
 use aj_compile::{Code, Instr};
 use aj_core::CoreProgram;
 use aj_paths::{ClassId, FieldId, MethodId};
-use aj_state::{Address, Fault, ThreadCell, Value};
+use aj_state::{Address, Fault, Value};
+use aj_threads::ThreadCell;
 
 /// One operand more.
 fn pushes(next: u32, found: Option<Value>) -> Deed

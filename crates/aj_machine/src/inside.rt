@@ -2,13 +2,13 @@
 ghost use Rattle.std.specs.Prelude.{◌≡◌, position, reverse, slice_get};
 ghost use Rattle.std.specs.Option.{option_map};
 ghost use Rattle.aj_core.specs.Views.{program_of};
-ghost use Rattle.aj_state.specs.Frames.{frames_in};
+ghost use Rattle.aj_threads.specs.Frames.{frames_in};
 ghost use Rattle.aj_steps.specs.Run.{is_annotated};
 ghost use Rattle.aj_machine.specs.Inside.{method_inside, cell_inside};
 
 use aj_core::CoreProgram;
 use aj_paths::MethodId;
-use aj_state::ThreadCell;
+use aj_threads::ThreadCell;
 
 /// Whether a method is annotated `atomic`.
 fn is_annotated(program: &CoreProgram, method: MethodId) -> bool

@@ -13,7 +13,8 @@ use crate::operators::address_of;
 use crate::seen::Seen;
 use aj_core::CoreField;
 use aj_paths::{FieldId, Path};
-use aj_state::{Address, StepKind, ThreadCell, ThreadState, Value};
+use aj_state::{Address, StepKind, ThreadState, Value};
+use aj_threads::ThreadCell;
 
 /// The value of a field of what a value refers to.
 fn next_at(seen: &Seen<'_>, v: Value, field: FieldId) -> Option<Value>

@@ -21,7 +21,8 @@ use crate::seen::Seen;
 use crate::turn::{next_turn, take_turn};
 use aj_compile::CodeTable;
 use aj_core::CoreProgram;
-use aj_state::{Address, Fault, Heap, Locks, StepKind, ThreadCell};
+use aj_state::{Address, Fault, Heap, Locks, StepKind};
+use aj_threads::ThreadCell;
 use std::alloc::{AllocError as NoMemory, Global};
 use std::marker::Model;
 

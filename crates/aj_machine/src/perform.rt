@@ -4,7 +4,7 @@ ghost use Rattle.std.specs.FinMap as map;
 ghost use Rattle.aj_core.specs.Views.{program_of, method_of};
 ghost use Rattle.aj_state.specs.declared.value.Value.TheVariants as value;
 ghost use Rattle.aj_state.specs.States.{Faulted};
-ghost use Rattle.aj_state.specs.Frames.{CellFrame, rest_of, frames_in, code_thread, top_frame, is_running, slots_of, on_top, popped, HasSpare};
+ghost use Rattle.aj_threads.specs.Frames.{CellFrame, rest_of, frames_in, code_thread, top_frame, is_running, slots_of, on_top, popped, HasSpare};
 ghost use Rattle.aj_machine.specs.Counts.{IsCounted};
 ghost use Rattle.aj_machine.specs.Rooms.{StaysRoomy, HasRoomOf, FitsIn};
 ghost use Rattle.aj_machine.specs.Deeds.{Can, called_thread, given_on, deed_thread, deed_heap, deed_locks, deed_output, seen_of, operands_in};
@@ -14,7 +14,8 @@ use crate::deed::Deed;
 use crate::make::slots_of;
 use aj_core::{CoreMethod, CoreProgram};
 use aj_paths::MethodId;
-use aj_state::{Address, Fault, Heap, Locks, ThreadCell, Value};
+use aj_state::{Address, Fault, Heap, Locks, Value};
+use aj_threads::ThreadCell;
 use std::alloc::{AllocError as NoMemory, Global};
 
 /// A method that is there is entered on an object.

@@ -4,7 +4,7 @@ ghost use Rattle.aj_core.specs.Views.{program_of, method_of};
 ghost use Rattle.aj_core.specs.Core.{Method};
 ghost use Rattle.aj_state.specs.declared.value.Value.TheVariants as value;
 ghost use Rattle.aj_state.specs.States.{ThreadOf, Ready, Running, Faulted};
-ghost use Rattle.aj_state.specs.Frames.{CellFrame, code_thread, may_enter, is_running, top_frame, slots_of, frames_in, on_top};
+ghost use Rattle.aj_threads.specs.Frames.{CellFrame, code_thread, may_enter, is_running, top_frame, slots_of, frames_in, on_top};
 ghost use Rattle.aj_compile.specs.declared.stack.Code.{Code};
 ghost use Rattle.aj_machine.specs.CodeMachine.{code_outcome};
 ghost use Rattle.aj_machine.specs.Deeds.{Can, deed_thread, deed_heap, deed_locks, deed_output, seen_of, operands_in, goes_on};
@@ -23,7 +23,8 @@ use crate::perform::perform;
 use crate::seen::Seen;
 use aj_core::{CoreMethod, CoreProgram};
 use aj_paths::MethodId;
-use aj_state::{Address, Fault, Heap, Locks, ThreadCell, ThreadState, Value};
+use aj_state::{Address, Fault, Heap, Locks, ThreadState, Value};
+use aj_threads::ThreadCell;
 use std::alloc::{AllocError as NoMemory, Global};
 
 /// A ready thread's turn.

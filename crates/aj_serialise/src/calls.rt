@@ -2,7 +2,7 @@
 ghost use Rattle.std.specs.Prelude.{◌≡◌, ◌-◌, ℕ, map, slice_get, IfOk, OnOk, Some};
 ghost use Rattle.std.specs.Option.{option_map};
 ghost use Rattle.aj_core.specs.Views.{program_of};
-ghost use Rattle.aj_state.specs.Frames.{frames_in};
+ghost use Rattle.aj_threads.specs.Frames.{frames_in};
 ghost use Rattle.aj_state.specs.States.{State};
 ghost use Rattle.aj_steps.specs.Run.{is_annotated};
 ghost use Rattle.aj_machine.specs.Standing.{StandsFor};
@@ -13,7 +13,7 @@ use crate::tables::{put, value_at};
 use aj_core::CoreProgram;
 use aj_machine::Machine;
 use aj_paths::MethodId;
-use aj_state::ThreadCell;
+use aj_threads::ThreadCell;
 use std::alloc::AllocError as NoMemory;
 
 /// What is seen of a thread's frames: how many they are, and the innermost one's method.

@@ -5,5 +5,3 @@ pub mod Numbering
 mod Grids
 mod GridMaps
 mod GridCounts
-mod Operands
-mod FrameLemmas

@@ -1,16 +1,10 @@
 -- How values, objects and held locks are stored, by which a proof tells them apart.
-use Rattle.std.specs.Prelude.{◌≡◌, ◌⊎◌, ℕ, ℤ, Bool, true, false, List, Option, Some, None, refl}
+use Rattle.std.specs.Prelude.{◌≡◌, ◌⊎◌, ℕ, ℤ, Bool, List, Option, Some, None, refl}
 use Rattle.std.proofs.Common.{inl, inr}
 use Rattle.std.specs.Coded.{Coded, code_by, coded×, coded⊎, coded_ℕ, coded_ℤ, coded_bool, coded_list, coded_option}
-use Rattle.aj_state.specs.declared.value.Address.{Address}
 use Rattle.aj_state.specs.declared.value.Value.{Value}
 use Rattle.aj_state.specs.declared.value.Value.TheVariants.{Int, Truth, Null, Ref}
 use Rattle.aj_state.specs.Memory.{Object, Hold}
-use Rattle.aj_state.specs.Slots.{address_code}
-use Rattle.aj_state.specs.declared.value.Fault.{Fault}
-use Rattle.aj_state.specs.declared.value.Fault.TheVariants as fault
-use Rattle.aj_state.specs.States.{ThreadOf, Ready, Running, Done, Faulted}
-use Rattle.aj_state.specs.Frames.{CellFrame}
 
 -- a value as a number, a truth value, or an address or none
 abbrev pub Stored : Type 0
@@ -42,52 +36,3 @@ object_code = code_by (ℕ × List Value) (coded× coded_ℕ (coded_list value_c
 
 abbrev pub hold_code : Coded Hold
 hold_code = code_by (ℕ × ℕ) (coded× coded_ℕ coded_ℕ) (λ h. (h.holder, h.count)) (λ p. record { holder = p.0; count = p.1 }) (λ _. refl)
-
-abbrev pub frame_code : Coded CellFrame
-frame_code = code_by ((ℕ × List Value) × ((List Value × ℕ) × (List Address × ℕ)))
-    (coded× (coded× coded_ℕ (coded_list value_code)) (coded× (coded× (coded_list value_code) coded_ℕ) (coded× (coded_list address_code) coded_ℕ)))
-    (λ f. ((f.method, f.slots), ((f.operands, f.place), (f.taken, f.room))))
-    (λ p. record { method = p.0.0; slots = p.0.1; operands = p.1.0.0; place = p.1.0.1; taken = p.1.1.0; room = p.1.1.1 }) (λ _. refl)
-
--- a fault as two truth values
-abbrev pub kind_number : Fault → Bool × Bool
-kind_number fault.Null = (true, true)
-kind_number fault.Zero = (true, false)
-kind_number fault.Depth = (false, false)
-
-abbrev pub kind_of_number : Bool × Bool → Fault
-kind_of_number (true, true) = fault.Null
-kind_of_number (true, false) = fault.Zero
-kind_of_number (false, b) = fault.Depth
-
-pub kind_back : (kind : Fault) → kind_of_number (kind_number kind) ≡ kind
-kind_back fault.Null = refl
-kind_back fault.Zero = refl
-kind_back fault.Depth = refl
-
--- a thread as an object and a method, frames, nothing, or a fault and frames
-abbrev pub StoredThread : Type 0
-StoredThread = ((ℕ × ℕ) × ℕ) ⊎ (List CellFrame ⊎ Option ((Bool × Bool) × List CellFrame))
-
-abbrev pub store_thread : ThreadOf CellFrame → StoredThread
-store_thread (Ready a m) = inl ((a.thread, a.count), m)
-store_thread (Running fs) = inr (inl fs)
-store_thread Done = inr (inr None)
-store_thread (Faulted kind fs) = inr (inr (Some (kind_number kind, fs)))
-
-abbrev pub load_thread : StoredThread → ThreadOf CellFrame
-load_thread (inl p) = Ready (record { thread = p.0.0; count = p.0.1 }) p.1
-load_thread (inr (inl fs)) = Running fs
-load_thread (inr (inr None)) = Done
-load_thread (inr (inr (Some p))) = Faulted (kind_of_number p.0) p.1
-
-pub thread_back : (t : ThreadOf CellFrame) → load_thread (store_thread t) ≡ t
-thread_back (Ready a m) = refl
-thread_back (Running fs) = refl
-thread_back Done = refl
-thread_back (Faulted kind fs) = λ i. Faulted (kind_back kind i) fs
-
-abbrev pub thread_code : Coded (ThreadOf CellFrame)
-thread_code = code_by StoredThread
-    (coded⊎ (coded× (coded× coded_ℕ coded_ℕ) coded_ℕ) (coded⊎ (coded_list frame_code) (coded_option (coded× (coded× coded_bool coded_bool) (coded_list frame_code)))))
-    store_thread load_thread thread_back

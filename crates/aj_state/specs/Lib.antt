@@ -5,6 +5,5 @@ pub mod Memory
 pub mod Work
 pub mod States
 pub mod Slots
-pub mod Frames
 pub mod Codes
 pub mod Stored

@@ -3,16 +3,13 @@
 #![tactic(auto)]
 
 pub mod examples;
-mod frame;
 mod grid;
 mod held;
 mod laws;
 mod objects;
-mod threads;
 mod value;
 
 pub use held::Locks;
 pub use laws::{address_laws, memory_laws, numbering_laws, operand_laws};
 pub use objects::Heap;
-pub use threads::ThreadCell;
 pub use value::{Address, Fault, StepKind, ThreadState, Value};

@@ -9,7 +9,7 @@ use Rattle.aj_machine.specs.Likeness.{FramesStand, no_frames, more_frames, Threa
 use Rattle.aj_machine.specs.MachineValue.{code_state}
 use Rattle.aj_machine.proofs.Simulation.{as_high}
 use Rattle.aj_state.specs.declared.value.ThreadState.TheVariants as status
-use Rattle.aj_state.specs.Frames.{CodeFrame, CellFrame, code_frame, code_thread, first_frame}
+use Rattle.aj_threads.specs.Frames.{CodeFrame, CellFrame, code_frame, code_thread, first_frame}
 use Rattle.aj_state.specs.States.{Frame, ThreadOf, Ready, Running, Done, Faulted, StateOf}
 use Rattle.aj_state_report.specs.States.{sight_of, print_line, object_line, lock_line, threads_text, text_of, state_text}
 

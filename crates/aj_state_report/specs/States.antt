@@ -14,7 +14,7 @@ use Rattle.aj_state.specs.declared.value.ThreadState.{ThreadState}
 use Rattle.aj_state.specs.declared.value.ThreadState.TheVariants as status
 use Rattle.aj_state.specs.declared.value.Value.{Value}
 use Rattle.aj_state.specs.declared.value.Value.TheVariants.{Int, Truth, Null, Ref}
-use Rattle.aj_state.specs.Frames.{frames_in, top_frame, status_of}
+use Rattle.aj_threads.specs.Frames.{frames_in, top_frame, status_of}
 use Rattle.aj_state.specs.Memory.{Object, Hold}
 use Rattle.aj_state.specs.States.{ThreadOf, StateOf, State, fields_of}
 

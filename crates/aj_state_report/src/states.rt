@@ -17,7 +17,8 @@ use aj_core::CoreProgram;
 use aj_machine::Machine;
 use aj_paths::{ClassId, FieldId, MethodId};
 use aj_report::write_title;
-use aj_state::{Address, Heap, Locks, ThreadCell, ThreadState, Value};
+use aj_state::{Address, Heap, Locks, ThreadState, Value};
+use aj_threads::ThreadCell;
 use std::alloc::{AllocError as NoMemory, Global};
 
 /// The text of the state that a machine stands for, with the names of its program's classes, fields and methods: a line for each

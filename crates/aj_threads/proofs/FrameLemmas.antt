@@ -6,7 +6,7 @@ use Rattle.std.specs.Option.{option_map}
 use Rattle.aj_state.specs.declared.value.Address.{Address}
 use Rattle.aj_state.specs.declared.value.ThreadState.{ThreadState}
 use Rattle.aj_state.specs.declared.value.ThreadState.TheVariants as status
-use Rattle.aj_state.specs.Frames.{CellFrame, code_frame, code_thread, frames_from, thread_of, on_first, HasSpare}
+use Rattle.aj_threads.specs.Frames.{CellFrame, code_frame, code_thread, frames_from, thread_of, on_first, HasSpare}
 use Rattle.std.proofs.lemmas.List.{reverse-append, take-append-drop, set_split}
 use Rattle.std.specs.declared.alloc.AllocError.{AllocError}
 use Rattle.aj_state.specs.declared.value.Value.{Value}

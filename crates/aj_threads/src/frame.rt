@@ -1,9 +1,9 @@
 //! A frame of the machine that runs code.
 ghost use Rattle.std.specs.Prelude.{◌≡◌, ◌<◌, ◌≤◌, ◌+◌, ◌-◌, max, [], ◌∷◌, ◌++◌, take, vec_len, vec_capacity, OnSome, IfNone, reverse, length, Some, None, IsOk, IfOk, OnOk, OnErr, slice_set};
 ghost use Rattle.aj_state.specs.Values.{under, dropped};
-ghost use Rattle.aj_state.specs.Frames.{code_frame, given, settled, settled_operands, first_frame, rest_of};
+ghost use Rattle.aj_threads.specs.Frames.{code_frame, given, settled, settled_operands, first_frame, rest_of};
 
-use crate::value::{Address, Value};
+use aj_state::{Address, Value};
 use aj_paths::MethodId;
 use std::alloc::{AllocError as NoMemory, Global};
 use std::marker::Model;
@@ -22,8 +22,8 @@ pub(crate) struct FrameCell {
 
 impl Model for FrameCell {
     ghost use Rattle.std.specs.Prelude.{reverse, ◌≤◌, ◌+◌, vec_len, vec_capacity};
-    ghost use Rattle.aj_state.specs.Frames.{CellFrame};
-    ghost use Rattle.aj_state.specs.Codes.{frame_code};
+    ghost use Rattle.aj_threads.specs.Frames.{CellFrame};
+    ghost use Rattle.aj_threads.specs.ThreadCodes.{frame_code};
 
     ghost Value = { CellFrame };
 

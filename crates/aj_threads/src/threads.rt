@@ -3,10 +3,10 @@ ghost use Rattle.std.specs.Prelude.{◌≡◌, ◌<◌, ◌≤◌, ◌+◌, ◌-
 ghost use Rattle.std.specs.Option.{option_map, option_copied};
 ghost use Rattle.aj_state.specs.Values.{under};
 ghost use Rattle.aj_state.specs.States.{ThreadOf, Ready, Running, Faulted};
-ghost use Rattle.aj_state.specs.Frames.{CellFrame, code_frame, code_thread, frames_in, top_frame, on_top, status_of, waiting_of, is_running, may_enter, popped, settled, settled_operands, with_given, HasRoom, HasSpare, first_frame, rest_of, on_first, given, slots_of, operands_of, taken_of};
+ghost use Rattle.aj_threads.specs.Frames.{CellFrame, code_frame, code_thread, frames_in, top_frame, on_top, status_of, waiting_of, is_running, may_enter, popped, settled, settled_operands, with_given, HasRoom, HasSpare, first_frame, rest_of, on_first, given, slots_of, operands_of, taken_of};
 
 use crate::frame::FrameCell;
-use crate::value::{Address, Fault, ThreadState, Value};
+use aj_state::{Address, Fault, ThreadState, Value};
 use aj_paths::MethodId;
 use std::alloc::{AllocError as NoMemory, Global};
 use std::marker::Model;
@@ -25,8 +25,8 @@ pub struct ThreadCell {
 impl Model for ThreadCell {
     ghost use Rattle.std.specs.Prelude.{reverse};
     ghost use Rattle.aj_state.specs.States.{ThreadOf};
-    ghost use Rattle.aj_state.specs.Frames.{CellFrame, thread_of, frames_from, IsThread};
-    ghost use Rattle.aj_state.specs.Codes.{thread_code};
+    ghost use Rattle.aj_threads.specs.Frames.{CellFrame, thread_of, frames_from, IsThread};
+    ghost use Rattle.aj_threads.specs.ThreadCodes.{thread_code};
 
     ghost Value = { ThreadOf CellFrame };
 

@@ -1,5 +1,5 @@
 use Rattle.std.specs.Prelude.{None}
-use Rattle.aj_state.specs.Frames.{settled}
+use Rattle.aj_threads.specs.Frames.{settled}
 use Rattle.aj_machine.proofs.RoomLemmas.{top_roomy, settled_widens}
 use Rattle.aj_machine.proofs.act.drops.Goals as goal
 

@@ -1,4 +1,4 @@
-use Rattle.aj_state.specs.Frames.{rest_of}
+use Rattle.aj_threads.specs.Frames.{rest_of}
 use Rattle.aj_machine.proofs.RoomLemmas.{top_roomy, place_widens, given_back_widens}
 use Rattle.aj_machine.proofs.act.gives.Goals as goal
 

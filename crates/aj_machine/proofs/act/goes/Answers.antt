@@ -1,4 +1,4 @@
-use Rattle.aj_state.specs.Frames.{settled}
+use Rattle.aj_threads.specs.Frames.{settled}
 use Rattle.aj_machine.proofs.RoomLemmas.{roomy_or, settled_widens}
 use Rattle.aj_machine.proofs.act.goes.Goals as goal
 

@@ -1,5 +1,5 @@
 use Rattle.std.specs.Prelude.{Some, max}
-use Rattle.aj_state.specs.Frames.{settled}
+use Rattle.aj_threads.specs.Frames.{settled}
 use Rattle.aj_state.specs.declared.value.Value.TheVariants as value
 use Rattle.aj_machine.proofs.RoomLemmas.{top_roomy, settled_widens, made_widens}
 use Rattle.aj_machine.proofs.act.makes.Goals as goal

@@ -1,5 +1,5 @@
 use Rattle.std.specs.Prelude.{None, slice_set}
-use Rattle.aj_state.specs.Frames.{settled}
+use Rattle.aj_threads.specs.Frames.{settled}
 use Rattle.aj_machine.proofs.RoomLemmas.{top_roomy, settled_widens, slots_widen}
 use Rattle.aj_machine.proofs.act.stores.Goals as goal
 

@@ -1,6 +1,6 @@
 use Rattle.std.proofs.Common.{reverse, ap, ◌∙◌}
 use Rattle.std.proofs.lemmas.List.{reverse-reverse}
-use Rattle.aj_state.specs.Frames.{top_frame, operands_of, taken_of}
+use Rattle.aj_threads.specs.Frames.{top_frame, operands_of, taken_of}
 use Rattle.aj_machine.specs.CodeMachine.{deed_of}
 use Rattle.aj_machine.specs.Seen.{program_in, entry_in, room_in, shared_in}
 use Rattle.aj_machine.proofs.decide.deed_in.Goals as goal

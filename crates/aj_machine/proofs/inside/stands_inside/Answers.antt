@@ -1,7 +1,7 @@
 use Rattle.std.proofs.Common.{reverse, sym, ◌∙◌, arith}
 use Rattle.std.proofs.lemmas.List.{length-reverse}
 use Rattle.aj_core.specs.Views.{program_of}
-use Rattle.aj_state.specs.Frames.{frames_in}
+use Rattle.aj_threads.specs.Frames.{frames_in}
 use Rattle.aj_machine.specs.Inside.{frame_inside}
 use Rattle.aj_machine.proofs.Insides.{past_one, at_one, at_end, any_reverse}
 use Rattle.aj_machine.proofs.inside.stands_inside.Goals as goal

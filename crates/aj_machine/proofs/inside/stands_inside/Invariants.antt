@@ -1,7 +1,7 @@
 use Rattle.std.proofs.Common.{◌≡◌, ◌-◌, reverse, drop}
 use Rattle.std.specs.List.{list_any}
 use Rattle.aj_core.specs.Views.{program_of}
-use Rattle.aj_state.specs.Frames.{frames_in}
+use Rattle.aj_threads.specs.Frames.{frames_in}
 use Rattle.aj_machine.specs.Inside.{frame_inside, cell_inside}
 use Rattle.aj_machine.proofs.inside.stands_inside.Given as goal
 

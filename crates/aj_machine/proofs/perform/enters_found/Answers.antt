@@ -3,7 +3,7 @@ use Rattle.std.proofs.lemmas.List.{reverse-reverse}
 use Rattle.aj_core.specs.Views.{method_of}
 use Rattle.aj_state.specs.declared.value.Value.TheVariants as value
 use Rattle.aj_state.specs.States.{new_slots}
-use Rattle.aj_state.specs.Frames.{operands_of, top_frame}
+use Rattle.aj_threads.specs.Frames.{operands_of, top_frame}
 use Rattle.aj_machine.specs.Listed.{listed}
 use Rattle.std.specs.Prelude.{◌+◌, []}
 use Rattle.aj_machine.proofs.RoomLemmas.{called_roomy}

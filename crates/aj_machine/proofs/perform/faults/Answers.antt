@@ -1,5 +1,5 @@
 use Rattle.std.proofs.Common.{ap}
-use Rattle.aj_state.specs.Frames.{frames_in}
+use Rattle.aj_threads.specs.Frames.{frames_in}
 use Rattle.aj_machine.proofs.RoomLemmas.{fault_roomy}
 use Rattle.aj_machine.proofs.perform.faults.Goals as goal
 

@@ -1,6 +1,6 @@
 use Rattle.std.proofs.Common.{subst, arith}
 use Rattle.aj_core.specs.Views.{program_of}
-use Rattle.aj_state.specs.Frames.{slots_of, top_frame}
+use Rattle.aj_threads.specs.Frames.{slots_of, top_frame}
 use Rattle.aj_machine.specs.Deeds.{Can, seen_of}
 use Rattle.std.specs.FinMap as map
 use Rattle.aj_machine.proofs.Counting.{may_take}

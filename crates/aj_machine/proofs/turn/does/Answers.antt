@@ -1,7 +1,7 @@
 use Rattle.std.proofs.Common.{◌<◌, length, refl, arith}
 use Rattle.std.proofs.lemmas.Option.{slice_get_read, slice_get_within}
 use Rattle.aj_core.specs.Views.{program_of}
-use Rattle.aj_state.specs.Frames.{code_thread}
+use Rattle.aj_threads.specs.Frames.{code_thread}
 use Rattle.aj_machine.specs.Deeds.{deed_thread, deed_heap, seen_of, operands_in}
 use Rattle.aj_machine.proofs.Cells.{of_found, set_found, set_kept}
 use Rattle.aj_machine.proofs.RoomLemmas.{set_roomy, one_roomy, lean_found}

@@ -1,6 +1,6 @@
 use Rattle.std.proofs.Common.{◌<◌, ap, length, refl, arith}
 use Rattle.std.proofs.lemmas.Option.{slice_get_read}
-use Rattle.aj_state.specs.Frames.{frames_in}
+use Rattle.aj_threads.specs.Frames.{frames_in}
 use Rattle.aj_machine.proofs.RoomLemmas.{set_roomy, one_roomy, fault_roomy}
 use Rattle.aj_machine.proofs.turn.fails.Goals as goal
 

@@ -1,7 +1,7 @@
 use Rattle.std.proofs.Common.{◌<◌, None, length, refl, arith}
 use Rattle.std.proofs.lemmas.Option.{slice_get_read}
 use Rattle.aj_machine.specs.Deeds.{goes_on}
-use Rattle.aj_state.specs.Frames.{on_top}
+use Rattle.aj_threads.specs.Frames.{on_top}
 use Rattle.aj_machine.proofs.Cells.{top_found, set_before, one_more_is}
 use Rattle.aj_state.specs.States.{Ready}
 use Rattle.aj_machine.proofs.RoomLemmas.{set_roomy, one_roomy, more_roomy}

@@ -1,9 +1,9 @@
 use Rattle.std.proofs.Common.{◌≡◌, ◌-◌, length, reverse, sym, ap, subst, ◌∙◌, arith}
 use Rattle.std.specs.Prelude.{OnOk}
 use Rattle.aj_state.specs.Values.{dropped}
-use Rattle.aj_state.specs.Frames.{given}
-use Rattle.aj_state.proofs.Operands.{dropped-reverse, put_on}
-use Rattle.aj_state.proofs.frame.settle_operands.Goals as goal
+use Rattle.aj_threads.specs.Frames.{given}
+use Rattle.aj_threads.proofs.Operands.{dropped-reverse, put_on}
+use Rattle.aj_threads.proofs.frame.settle_operands.Goals as goal
 
 pub returns-in-None-clause-ok : goal.returns-in-None-clause-ok
 returns-in-None-clause-ok c =

@@ -1,7 +1,7 @@
 use Rattle.std.proofs.Common.{◌-◌, Some, vec_len, refl, arith}
-use Rattle.aj_state.specs.Frames.{with_given}
-use Rattle.aj_state.proofs.FrameLemmas.{given_last, on_last_ok, last_spare}
-use Rattle.aj_state.proofs.threads.push_last.Goals as goal
+use Rattle.aj_threads.specs.Frames.{with_given}
+use Rattle.aj_threads.proofs.FrameLemmas.{given_last, on_last_ok, last_spare}
+use Rattle.aj_threads.proofs.threads.push_last.Goals as goal
 
 pub returns-in-Some-clause-ok : goal.returns-in-Some-clause-ok
 returns-in-Some-clause-ok c = given_last c.push.result c.args.frames.now.items (vec_len c.args.frames.now - 1) c.in-Some.frame.now c.push.new.self c.args.value (omega (arith, c.in-Some.ensures.variant.0 refl)) c.in-Some.ensures.value c.push.ensures.ok

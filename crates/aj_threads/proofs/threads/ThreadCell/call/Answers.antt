@@ -1,8 +1,8 @@
 use Rattle.std.proofs.Common.{[], ◌∙◌}
 use Rattle.std.specs.Prelude.{None}
-use Rattle.aj_state.specs.Frames.{frames_in, settled}
-use Rattle.aj_state.proofs.FrameLemmas.{called}
-use Rattle.aj_state.proofs.threads.ThreadCell.call.Goals as goal
+use Rattle.aj_threads.specs.Frames.{frames_in, settled}
+use Rattle.aj_threads.proofs.FrameLemmas.{called}
+use Rattle.aj_threads.proofs.threads.ThreadCell.call.Goals as goal
 
 pub returns-clause-ok : goal.returns-clause-ok
 returns-clause-ok c =

@@ -1,9 +1,9 @@
 use Rattle.std.proofs.Common.{ap, ◌∙◌}
 use Rattle.std.specs.Prelude.{map}
 use Rattle.std.specs.Option.{option_map}
-use Rattle.aj_state.specs.Frames.{code_frame, code_thread}
-use Rattle.aj_state.proofs.FrameLemmas.{same_thread}
-use Rattle.aj_state.proofs.threads.ThreadCell.copy.Goals as goal
+use Rattle.aj_threads.specs.Frames.{code_frame, code_thread}
+use Rattle.aj_threads.proofs.FrameLemmas.{same_thread}
+use Rattle.aj_threads.proofs.threads.ThreadCell.copy.Goals as goal
 
 pub returns : goal.returns
 returns c =

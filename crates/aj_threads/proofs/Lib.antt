@@ -1,0 +1,3 @@
+-- Lemmas on frames, threads and their operands.
+mod Operands
+mod FrameLemmas

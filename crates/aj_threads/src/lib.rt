@@ -1,0 +1,7 @@
+//! Frames and threads of the machine that runs code.
+#![tactic(auto)]
+
+mod frame;
+mod threads;
+
+pub use threads::ThreadCell;
