@@ -1,7 +1,4 @@
 pub mod Depth
-mod Measures
-mod Blocks
-mod Emitting
 mod Lengths
 mod Standings
 mod Fitting

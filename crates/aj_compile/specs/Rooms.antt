@@ -1,12 +1,12 @@
 -- How many operands stand in a frame at each place of the code, and how many at most.
-use Rattle.std.specs.Prelude.{◌≡◌, ℕ, ◌+◌, ◌-◌, max, List, length, Option, Some, None, slice_get}
+use Rattle.std.specs.Prelude.{◌≡◌, ℕ, ◌+◌, ◌-◌, max, List, [], ◌∷◌, length, Option, Some, None, slice_get}
 use Rattle.aj_core.specs.declared.types.CoreType.{CoreType}
 use Rattle.aj_core.specs.Core.{Program, Class, Method}
 use Rattle.aj_core.specs.Core.{Expr, Exprs, NotE, NegE, BinaryE, AndE, OrE, GetE, CallE, NewE, no_exprs, and_expr}
 use Rattle.aj_core.specs.Core.{Stmt, Stmts, EmptyS, BlockS, LocalS, SetVarS, SetFieldS, DoS, IfS, WhileS, SyncS, ReturnS, PrintS, StartS, no_stmts, and_stmt}
-use Rattle.aj_compile.specs.declared.stack.Instr.{Instr}
-use Rattle.aj_compile.specs.declared.stack.Instr.TheVariants as i
-use Rattle.aj_compile.specs.declared.stack.Code.{Code}
+use Rattle.aj_emit.specs.declared.stack.Instr.{Instr}
+use Rattle.aj_emit.specs.declared.stack.Instr.TheVariants as i
+use Rattle.aj_emit.specs.declared.stack.Code.{Code}
 
 -- The code's side: how an instruction changes the number of operands.
 
@@ -106,3 +106,8 @@ abbrev mutual
   pub stmts_room : Stmts → ℕ
   stmts_room no_stmts = 0
   stmts_room (and_stmt s ss) = max (stmt_room s) (stmts_room ss)
+
+-- of methods, one after the other
+abbrev pub method_rooms : List Method → List ℕ
+method_rooms [] = []
+method_rooms (m ∷ ms) = stmt_room m.body ∷ method_rooms ms

@@ -1,12 +1,7 @@
-//! Stack code: what instructions are, what it means that code stands for work lists, and the compiler.
-//!
-//! Each instruction is one action of the machine and names its successor, so that no jump is a step of its own.
+//! The compiler: what it means that code stands for work lists, the room of operands, and the code of a program.
 #![tactic(auto)]
 
 mod compiler;
-mod emit;
 mod rooms;
-mod stack;
 
 pub use compiler::compile;
-pub use stack::{Code, CodeTable, Instr};

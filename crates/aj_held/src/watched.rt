@@ -9,7 +9,7 @@ ghost use Rattle.aj_machine.specs.declared.machine.StepEnd.TheVariants as ends;
 ghost use Rattle.aj_machine.specs.Standing.{program_run, StandsFor, IsSame};
 ghost use Rattle.aj_held.specs.Watching.{IsGuarded, IsWatchedTurn};
 
-use aj_compile::CodeTable;
+use aj_emit::CodeTable;
 use aj_deriv_check::Checked;
 use aj_machine::{Machine, StepEnd};
 use aj_state::StepKind;

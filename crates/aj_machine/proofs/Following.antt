@@ -7,8 +7,8 @@ use Rattle.aj_state.specs.declared.value.Value.{Value}
 use Rattle.aj_state.specs.Values.{top, under, dropped, as_truth, address_of, binary_value}
 use Rattle.aj_state.specs.Memory.{Hold}
 use Rattle.aj_threads.specs.Frames.{given, first_frame}
-use Rattle.aj_compile.specs.declared.stack.Instr.{Instr}
-use Rattle.aj_compile.specs.declared.stack.Instr.TheVariants as i
+use Rattle.aj_emit.specs.declared.stack.Instr.{Instr}
+use Rattle.aj_emit.specs.declared.stack.Instr.TheVariants as i
 use Rattle.aj_compile.specs.Rooms.{at_next, other_place, arguments_of_new, arguments_of_call, after_call}
 use Rattle.aj_steps.specs.Step.{Shared, value_at, unless_final, index_of, run_of, class_finals, most_frames}
 use Rattle.aj_machine.specs.declared.deed.Deed.{Deed}

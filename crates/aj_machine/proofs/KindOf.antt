@@ -7,7 +7,7 @@ use Rattle.aj_core.specs.Core.{Program}
 use Rattle.aj_state.specs.declared.value.StepKind.{StepKind}
 use Rattle.aj_state.specs.States.{ThreadOf, StateOf, State}
 use Rattle.aj_threads.specs.Frames.{CellFrame, code_thread}
-use Rattle.aj_compile.specs.declared.stack.Code.{Code}
+use Rattle.aj_emit.specs.declared.stack.Code.{Code}
 use Rattle.aj_compile.specs.IsCode.{IsCodeOf}
 use Rattle.aj_steps.specs.Step.{seen_by, kind_in, kind_of}
 use Rattle.aj_machine.specs.CodeMachine.{code_turn}

@@ -15,8 +15,8 @@ use Rattle.aj_state.specs.Work as W
 use Rattle.aj_state.specs.Work.{Action, Item}
 use Rattle.aj_state.specs.States.{Frame, Thread, ThreadOf, Ready, Running, Done, Faulted, StateOf, State}
 use Rattle.aj_threads.specs.Frames.{CellFrame, CodeFrame, code_frame, code_thread, frames_in, given, rest_of, HasSpare}
-use Rattle.aj_compile.specs.declared.stack.Code.{Code}
-use Rattle.aj_compile.specs.declared.stack.Instr.TheVariants as i
+use Rattle.aj_emit.specs.declared.stack.Code.{Code}
+use Rattle.aj_emit.specs.declared.stack.Instr.TheVariants as i
 use Rattle.aj_compile.specs.IsCode.{IsCodeOf}
 use Rattle.aj_compile.specs.Standing.{Relation, Agree, Stands}
 use Rattle.aj_compile.specs.Rooms.{Reached, at_start, goes_on, turns, after_call, with_result_of}

@@ -6,7 +6,7 @@ use Rattle.aj_core.specs.Core.{Program}
 use Rattle.aj_state.specs.Memory.{Heap, Locks}
 use Rattle.aj_state.specs.States.{ThreadOf, Ready, initial, main_address}
 use Rattle.aj_threads.specs.Frames.{CellFrame, code_thread}
-use Rattle.aj_compile.specs.declared.stack.Code.{Code}
+use Rattle.aj_emit.specs.declared.stack.Code.{Code}
 use Rattle.aj_machine.specs.Likeness.{StateStands, ThreadsStand, no_threads, more_threads, ready_stands}
 use Rattle.aj_machine.specs.Reaching.{AllReached, IsKept}
 use Rattle.aj_machine.specs.Rooms.{AllRoomy}

@@ -12,7 +12,7 @@ use Rattle.aj_state.specs.declared.value.Fault.{Fault}
 use Rattle.aj_state.specs.Memory.{Heap, Locks}
 use Rattle.aj_state.specs.States.{ThreadOf, Ready, Running, Done, Faulted, StateOf}
 use Rattle.aj_threads.specs.Frames.{CellFrame, CodeFrame, code_frame, code_thread, frames_in, may_enter, is_running, on_top, top_frame, slots_of}
-use Rattle.aj_compile.specs.declared.stack.Code.{Code}
+use Rattle.aj_emit.specs.declared.stack.Code.{Code}
 use Rattle.aj_steps.specs.Step.{OutcomeOf}
 use Rattle.aj_machine.specs.declared.machine.StepEnd.{StepEnd}
 use Rattle.aj_machine.specs.declared.machine.StepEnd.TheVariants as ends

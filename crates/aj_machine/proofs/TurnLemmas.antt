@@ -14,9 +14,9 @@ use Rattle.aj_state.specs.Values.{top, under, dropped, taken, as_truth, address_
 use Rattle.aj_state.specs.Memory.{Hold, Object, lists, field_value, new_values}
 use Rattle.aj_state.specs.States.{ThreadOf, Ready, Running, Done, Faulted, StateOf, fields_of}
 use Rattle.aj_threads.specs.Frames.{CellFrame, CodeFrame, code_frame, code_thread, frames_in, first_frame, may_enter}
-use Rattle.aj_compile.specs.declared.stack.Code.{Code}
-use Rattle.aj_compile.specs.declared.stack.Instr.{Instr}
-use Rattle.aj_compile.specs.declared.stack.Instr.TheVariants as i
+use Rattle.aj_emit.specs.declared.stack.Code.{Code}
+use Rattle.aj_emit.specs.declared.stack.Instr.{Instr}
+use Rattle.aj_emit.specs.declared.stack.Instr.TheVariants as i
 use Rattle.aj_steps.specs.Step.{Shared, OutcomeOf, Moves, Nothing, seen_by, value_at, unless_final, index_of, run_of, most_frames}
 use Rattle.aj_machine.specs.declared.deed.Deed.{Deed}
 use Rattle.aj_machine.specs.declared.deed.Deed.TheVariants as deed

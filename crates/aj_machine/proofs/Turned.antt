@@ -4,7 +4,7 @@ use Rattle.std.specs.Prelude.{Result, Ok, Err, OnErr, map, slice_set}
 use Rattle.std.proofs.lemmas.List.{length-map, length-append, length-set}
 use Rattle.aj_core.specs.Views.{program_of}
 use Rattle.aj_core.specs.declared.program.CoreProgram.{CoreProgram}
-use Rattle.aj_compile.specs.declared.stack.CodeTable.{CodeTable}
+use Rattle.aj_emit.specs.declared.stack.CodeTable.{CodeTable}
 use Rattle.aj_compile.specs.IsCode.{IsCodeOf}
 use Rattle.aj_state.specs.Memory.{Heap, Locks}
 use Rattle.aj_machine.specs.CodeMachine.{code_outcome}

@@ -3,8 +3,8 @@ use Rattle.std.specs.Prelude.{Bool, true, false, ◌∷◌, Option, Some, None}
 use Rattle.aj_state.specs.Work as W
 use Rattle.aj_state.specs.Work.{Action, Next, unfolded}
 use Rattle.aj_state.specs.States.{Thread, Ready, Running}
-use Rattle.aj_compile.specs.declared.stack.Instr.{Instr}
-use Rattle.aj_compile.specs.declared.stack.Instr.TheVariants as i
+use Rattle.aj_emit.specs.declared.stack.Instr.{Instr}
+use Rattle.aj_emit.specs.declared.stack.Instr.TheVariants as i
 
 -- whether an action may take memory: it makes an object, a frame, a hold of a lock, a printed number or a thread
 abbrev pub takes_memory : Action → Bool

@@ -9,7 +9,7 @@ use Rattle.aj_threads.specs.Frames.{CellFrame, CodeFrame, code_thread}
 use Rattle.aj_state.specs.Slots.{address_code}
 use Rattle.aj_state.specs.Codes.{object_code, hold_code}
 use Rattle.aj_threads.specs.ThreadCodes.{thread_code}
-use Rattle.aj_compile.specs.declared.stack.CodeTable.{CodeTable}
+use Rattle.aj_emit.specs.declared.stack.CodeTable.{CodeTable}
 
 pub record MachineValue : Type 0 where
   pub program : CoreProgram

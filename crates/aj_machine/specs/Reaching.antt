@@ -4,7 +4,7 @@ use Rattle.std.specs.Prelude.{◌≡◌, ℕ, List, [], ◌∷◌, length, map, 
 use Rattle.aj_core.specs.Core.{Program, Method}
 use Rattle.aj_state.specs.States.{ThreadOf, StateOf, State}
 use Rattle.aj_threads.specs.Frames.{CellFrame, CodeFrame, code_thread, frames_in}
-use Rattle.aj_compile.specs.declared.stack.Code.{Code}
+use Rattle.aj_emit.specs.declared.stack.Code.{Code}
 use Rattle.aj_compile.specs.Rooms.{Reached, after_call}
 use Rattle.aj_machine.specs.Likeness.{StateStands}
 use Rattle.aj_machine.specs.MachineValue.{code_state}

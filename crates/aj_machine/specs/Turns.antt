@@ -9,7 +9,7 @@ use Rattle.aj_state.specs.declared.value.Fault.TheVariants as fault
 use Rattle.aj_state.specs.Memory.{Heap, Locks}
 use Rattle.aj_state.specs.States.{ThreadOf, Ready, Running, Done, Faulted, StateOf}
 use Rattle.aj_threads.specs.Frames.{CellFrame, CodeFrame, top_frame, frames_in, slots_of, operands_of, taken_of}
-use Rattle.aj_compile.specs.declared.stack.Code.{Code}
+use Rattle.aj_emit.specs.declared.stack.Code.{Code}
 use Rattle.aj_steps.specs.Step.{Shared, OutcomeOf, Moves, moved}
 use Rattle.aj_machine.specs.declared.machine.StepEnd.{StepEnd}
 use Rattle.aj_machine.specs.MachineValue.{MachineValue, code_state}

@@ -12,7 +12,7 @@ ghost use Rattle.aj_machine.specs.Turns.{cell_deed, line_deed};
 use crate::deed::Deed;
 use crate::operators::{address_of, as_int, as_truth, binary_value, operand, unary_value};
 use crate::seen::Seen;
-use aj_compile::{Code, Instr};
+use aj_emit::{Code, Instr};
 use aj_core::CoreProgram;
 use aj_paths::{ClassId, FieldId, MethodId};
 use aj_state::{Address, Fault, Value};

@@ -19,7 +19,7 @@ use crate::inside::{first_inside, stands_inside};
 use crate::kinds::{cell_kind, turn_kind};
 use crate::seen::Seen;
 use crate::turn::{next_turn, take_turn};
-use aj_compile::CodeTable;
+use aj_emit::CodeTable;
 use aj_core::CoreProgram;
 use aj_state::{Address, Fault, Heap, Locks, StepKind};
 use aj_threads::ThreadCell;

@@ -1,5 +1,5 @@
 //! What a thread may see.
-use aj_compile::CodeTable;
+use aj_emit::CodeTable;
 use aj_core::CoreProgram;
 use aj_state::{Heap, Locks};
 

@@ -5,7 +5,7 @@ ghost use Rattle.aj_core.specs.Core.{Method};
 ghost use Rattle.aj_state.specs.declared.value.Value.TheVariants as value;
 ghost use Rattle.aj_state.specs.States.{ThreadOf, Ready, Running, Faulted};
 ghost use Rattle.aj_threads.specs.Frames.{CellFrame, code_thread, may_enter, is_running, top_frame, slots_of, frames_in, on_top};
-ghost use Rattle.aj_compile.specs.declared.stack.Code.{Code};
+ghost use Rattle.aj_emit.specs.declared.stack.Code.{Code};
 ghost use Rattle.aj_machine.specs.CodeMachine.{code_outcome};
 ghost use Rattle.aj_machine.specs.Deeds.{Can, deed_thread, deed_heap, deed_locks, deed_output, seen_of, operands_in, goes_on};
 ghost use Rattle.aj_machine.specs.declared.machine.StepEnd.TheVariants as ends;

@@ -15,7 +15,7 @@ ghost use Rattle.aj_steps.specs.Run.{run};
 ghost use Rattle.aj_schedule_commands.specs.Schedules.{NoSchedule, NoRun};
 
 use aj_classes::ClassTable;
-use aj_compile::CodeTable;
+use aj_emit::CodeTable;
 use aj_machine::{Machine, StepEnd, Stopped};
 use aj_schedule::{SchedFault, read_schedule};
 use aj_sources::{Ending, Refusal, Source};

@@ -20,7 +20,7 @@ use Rattle.aj_machine.specs.MachineValue.{MachineValue}
 use Rattle.aj_machine.specs.Standing.{StandsFor, HasRun, program_run}
 use Rattle.aj_state.specs.States.{Thread, ThreadOf}
 use Rattle.aj_threads.specs.Frames.{CodeFrame, code_thread}
-use Rattle.aj_compile.specs.declared.stack.Code.{Code}
+use Rattle.aj_emit.specs.declared.stack.Code.{Code}
 use Rattle.aj_swap.specs.Seen.{IsSeen}
 use Rattle.aj_swap.specs.Exchanged.{exchanged, AreNeighbours, IsStartOf, ArePassed}
 

@@ -2,9 +2,9 @@
 ghost use Rattle.std.specs.Prelude.{◌≡◌, ◌+◌, ◌<◌, ℕ, List, [], ◌∷◌, ◌++◌, IfOk, vec_len, length};
 ghost use Rattle.aj_core.specs.Core.{WhileS, SyncS};
 ghost use Rattle.aj_core.specs.Views.{expr_of, exprs_from, stmt_of, stmts_from};
-ghost use Rattle.aj_compile.specs.declared.stack.Instr.{Instr};
-ghost use Rattle.aj_compile.specs.declared.stack.Code.{Code};
-ghost use Rattle.aj_compile.specs.Emission.{line, weight, weights, stmt_weight, stmts_weight, expr_entry, exprs_entry, gets_entry, stmt_entry, stmts_entry, emitted, emitted_args, emitted_gets, emitted_stmt, emitted_stmts};
+ghost use Rattle.aj_emit.specs.declared.stack.Instr.{Instr};
+ghost use Rattle.aj_emit.specs.declared.stack.Code.{Code};
+ghost use Rattle.aj_emit.specs.Emission.{line, weight, weights, stmt_weight, stmts_weight, expr_entry, exprs_entry, gets_entry, stmt_entry, stmts_entry, emitted, emitted_args, emitted_gets, emitted_stmt, emitted_stmts};
 
 use crate::stack::{Code, Instr};
 use aj_core::{CoreExpr, CoreStmt, UnaryOp};
@@ -13,7 +13,7 @@ use aj_state::Value;
 use std::alloc::AllocError as NoMemory;
 
 /// Puts down one line; answers its place. Want of memory also where the place is past 32 bits.
-pub(crate) fn put(code: &mut Vec<Code>, instr: Instr, next: u32) -> Result<u32, NoMemory>
+pub fn put(code: &mut Vec<Code>, instr: Instr, next: u32) -> Result<u32, NoMemory>
     ensures code { IfOk result (λ at. code.new.items ≡ code.old.items ++ (line instr next ∷ [])) }
     ensures len { IfOk result (λ at. vec_len code.new ≡ vec_len code.old + 1) }
     ensures place { IfOk result (λ at. at ≡ vec_len code.old) }
@@ -25,7 +25,7 @@ pub(crate) fn put(code: &mut Vec<Code>, instr: Instr, next: u32) -> Result<u32, 
 
 /// Puts down an expression that goes on at `next`; answers where it begins.
 #[cycle(exprs)]
-pub(crate) fn emit_expr(code: &mut Vec<Code>, e: &CoreExpr, next: u32) -> Result<u32, NoMemory>
+pub fn emit_expr(code: &mut Vec<Code>, e: &CoreExpr, next: u32) -> Result<u32, NoMemory>
     ensures code { IfOk result (λ at. code.new.items ≡ code.old.items ++ emitted (expr_of e.now) (vec_len code.old) next) }
     ensures len { IfOk result (λ at. vec_len code.new ≡ vec_len code.old + weight (expr_of e.now)) }
     ensures place { IfOk result (λ at. at ≡ expr_entry (expr_of e.now) (vec_len code.old) next) }
@@ -109,7 +109,7 @@ fn emit_gets(code: &mut Vec<Code>, fields: &[FieldId], next: u32) -> Result<u32,
 /// Puts down a statement that goes on at `next`, and where a `return` inside it goes on at `ret`; answers where it
 /// begins.
 #[cycle(stmts)]
-pub(crate) fn emit_stmt(
+pub fn emit_stmt(
     code: &mut Vec<Code>,
     s: &CoreStmt,
     next: u32,

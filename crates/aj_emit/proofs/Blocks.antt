@@ -3,7 +3,7 @@ use Rattle.std.proofs.Common.{◌≡◌, ℕ, zero, suc, ◌<◌, ◌≤◌, Lis
 use Rattle.aj_lemmas.proofs.Lists.{next_drop}
 use Rattle.aj_core.specs.declared.tree.CoreStmt.{CoreStmt}
 use Rattle.aj_core.specs.Views.{stmt_of, stmts_from}
-use Rattle.aj_compile.proofs.Measures.{stmt_measure, stmts_measure}
+use Rattle.aj_emit.proofs.Measures.{stmt_measure, stmts_measure}
 
 rest_lighter : (ss : List CoreStmt) (k : ℕ) → stmts_measure (stmts_from (drop k ss)) ≤ stmts_measure (stmts_from ss)
 rest_lighter ss zero = omega arith

@@ -2,10 +2,10 @@ use Rattle.std.proofs.Common.{◌≡◌, ◌+◌, ◌-◌, ◌<◌, ◌++◌, le
 use Rattle.std.specs.Prelude.{IfOk}
 use Rattle.aj_core.specs.Views.{stmt_of, stmts_from}
 use Rattle.aj_core.proofs.ViewLemmas.{stmt_of-Block}
-use Rattle.aj_compile.specs.Emission.{stmt_weight, stmt_entry, emitted_stmt}
-use Rattle.aj_compile.proofs.Measures.{stmt_measure, stmts_measure}
-use Rattle.aj_compile.proofs.Blocks.{stmt_lighter}
-use Rattle.aj_compile.proofs.emit.+stmts.Goals as goal
+use Rattle.aj_emit.specs.Emission.{stmt_weight, stmt_entry, emitted_stmt}
+use Rattle.aj_emit.proofs.Measures.{stmt_measure, stmts_measure}
+use Rattle.aj_emit.proofs.Blocks.{stmt_lighter}
+use Rattle.aj_emit.proofs.emit.+stmts.Goals as goal
 
 pub emit_stmt-emit_stmts-requires : goal.emit_stmt-emit_stmts-requires
 emit_stmt-emit_stmts-requires t c =

@@ -5,10 +5,9 @@ use Rattle.aj_core.specs.declared.types.UnaryOp.TheVariants as unary
 use Rattle.aj_core.specs.Core.{Method, Expr, Exprs, IntE, TruthE, NullE, ThisE, VarE, NotE, NegE, BinaryE, AndE, OrE, GetE, CallE, NewE, no_exprs, and_expr}
 use Rattle.aj_core.specs.Core.{Stmt, Stmts, EmptyS, BlockS, LocalS, SetVarS, SetFieldS, DoS, IfS, WhileS, SyncS, ReturnS, PrintS, StartS, no_stmts, and_stmt}
 use Rattle.aj_state.specs.declared.value.Value.TheVariants as value
-use Rattle.aj_compile.specs.declared.stack.Instr.{Instr}
-use Rattle.aj_compile.specs.declared.stack.Instr.TheVariants as i
-use Rattle.aj_compile.specs.declared.stack.Code.{Code}
-use Rattle.aj_compile.specs.Rooms.{stmt_room}
+use Rattle.aj_emit.specs.declared.stack.Instr.{Instr}
+use Rattle.aj_emit.specs.declared.stack.Instr.TheVariants as i
+use Rattle.aj_emit.specs.declared.stack.Code.{Code}
 
 -- a line of code
 abbrev pub line : Instr → ℕ → Code
@@ -178,7 +177,3 @@ emitted_methods (m ∷ ms) at = emitted_method m at ++ emitted_methods ms (at + 
 abbrev pub method_entries : List Method → (at : ℕ) → List ℕ
 method_entries [] at = []
 method_entries (m ∷ ms) at = method_entry m at ∷ method_entries ms (at + method_weight m)
-
-abbrev pub method_rooms : List Method → List ℕ
-method_rooms [] = []
-method_rooms (m ∷ ms) = stmt_room m.body ∷ method_rooms ms

@@ -1,5 +1,5 @@
-use Rattle.aj_compile.proofs.Emitting.{led_on}
-use Rattle.aj_compile.proofs.emit.lead_on.Goals as goal
+use Rattle.aj_emit.proofs.Emitting.{led_on}
+use Rattle.aj_emit.proofs.emit.lead_on.Goals as goal
 
 pub returns-in-Some-clause-line : goal.returns-in-Some-clause-line
 returns-in-Some-clause-line c before after instr old is at =

@@ -3,11 +3,11 @@ use Rattle.std.specs.Prelude.{IfOk}
 use Rattle.std.proofs.lemmas.Result.{IfOk-equal}
 use Rattle.aj_core.specs.Views.{expr_of, exprs_from}
 use Rattle.aj_core.proofs.ViewLemmas.{expr_of-Call, expr_of-New}
-use Rattle.aj_compile.specs.declared.stack.Instr.TheVariants as i
-use Rattle.aj_compile.specs.Emission.{line, weight, expr_entry, emitted}
-use Rattle.aj_compile.proofs.Emitting.{call_lines, new_lines}
-use Rattle.aj_compile.proofs.Measures.{expr_measure, exprs_measure}
-use Rattle.aj_compile.proofs.emit.+exprs.Goals as goal
+use Rattle.aj_emit.specs.declared.stack.Instr.TheVariants as i
+use Rattle.aj_emit.specs.Emission.{line, weight, expr_entry, emitted}
+use Rattle.aj_emit.proofs.Emitting.{call_lines, new_lines}
+use Rattle.aj_emit.proofs.Measures.{expr_measure, exprs_measure}
+use Rattle.aj_emit.proofs.emit.+exprs.Goals as goal
 
 pub emit_expr-emit_args-requires : goal.emit_expr-emit_args-requires
 emit_expr-emit_args-requires t c =

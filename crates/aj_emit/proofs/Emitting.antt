@@ -3,9 +3,9 @@ use Rattle.std.proofs.Common.{◌≡◌, ℕ, ◌+◌, List, [], ◌∷◌, ◌+
 use Rattle.std.proofs.Math.ListN.{set}
 use Rattle.std.proofs.Math.Seq.{get_or-append_seam, set-append_seam}
 use Rattle.aj_core.specs.Core.{Expr, Exprs}
-use Rattle.aj_compile.specs.declared.stack.Instr.{Instr}
-use Rattle.aj_compile.specs.declared.stack.Code.{Code}
-use Rattle.aj_compile.specs.Emission.{line, weights, exprs_entry, emitted, emitted_args}
+use Rattle.aj_emit.specs.declared.stack.Instr.{Instr}
+use Rattle.aj_emit.specs.declared.stack.Code.{Code}
+use Rattle.aj_emit.specs.Emission.{line, weights, exprs_entry, emitted, emitted_args}
 
 joined_three : (old : List Code) (l : Code) (xs ys : List Code) → ((old ++ l ∷ []) ++ xs) ++ ys ≡ old ++ (l ∷ (xs ++ ys))
 joined_three old l xs ys = simp append_assoc

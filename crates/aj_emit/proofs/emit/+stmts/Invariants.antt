@@ -1,10 +1,10 @@
 use Rattle.std.proofs.Common.{◌≡◌, ℕ, ◌+◌, ◌≤◌, List, ◌++◌, length, drop}
 use Rattle.aj_core.specs.declared.tree.CoreStmt.{CoreStmt}
 use Rattle.aj_core.specs.Views.{stmt_of, stmts_from}
-use Rattle.aj_compile.specs.declared.stack.Code.{Code}
-use Rattle.aj_compile.specs.Emission.{stmts_weight, stmts_entry, emitted_stmts}
-use Rattle.aj_compile.proofs.Measures.{stmt_measure, stmts_measure}
-use Rattle.aj_compile.proofs.emit.+stmts.Given as goal
+use Rattle.aj_emit.specs.declared.stack.Code.{Code}
+use Rattle.aj_emit.specs.Emission.{stmts_weight, stmts_entry, emitted_stmts}
+use Rattle.aj_emit.proofs.Measures.{stmt_measure, stmts_measure}
+use Rattle.aj_emit.proofs.emit.+stmts.Given as goal
 
 abbrev pub decreases-emit_stmt : goal.decreases-emit_stmt
 decreases-emit_stmt l = stmt_measure (stmt_of l.s.now)

@@ -1,0 +1,2 @@
+-- What the contracts of emitting cite: Emission, the lines of each expression and statement.
+pub mod Emission
