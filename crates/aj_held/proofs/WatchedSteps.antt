@@ -12,10 +12,10 @@ use Rattle.aj_state.specs.States.{State, initial}
 use Rattle.aj_steps.specs.Step.{Outcome, Moves, Absent, IsDone, HadFaulted, Waits, outcome, step, kind_of}
 use Rattle.aj_steps.specs.Run.{run, run_from}
 use Rattle.aj_steps.proofs.RunLemmas.{run_from-append}
-use Rattle.aj_machine.specs.declared.machine.StepEnd.{StepEnd}
-use Rattle.aj_machine.specs.declared.machine.StepEnd.TheVariants as ends
-use Rattle.aj_machine.specs.Likeness.{StateStands}
-use Rattle.aj_machine.specs.MachineValue.{MachineValue}
+use Rattle.aj_deeds.specs.declared.deed.StepEnd.{StepEnd}
+use Rattle.aj_deeds.specs.declared.deed.StepEnd.TheVariants as ends
+use Rattle.aj_deeds.specs.Likeness.{StateStands}
+use Rattle.aj_perform.specs.MachineValue.{MachineValue}
 use Rattle.aj_machine.specs.Standing.{program_run, StandsFor, IsTurn, IsSame}
 use Rattle.aj_machine.proofs.Schedules.{turned}
 use Rattle.aj_held.specs.Watching.{IsWatched, IsGuarded, IsWatchedTurn}

@@ -10,9 +10,9 @@ use Rattle.aj_steps.specs.Step.{Outcome, Moves, Absent, IsDone, HadFaulted, Wait
 use Rattle.aj_steps.specs.Run.{run}
 use Rattle.aj_steps.specs.Units.{entries, units}
 use Rattle.aj_steps.specs.Words.{HasWords}
-use Rattle.aj_machine.specs.declared.machine.StepEnd.{StepEnd}
-use Rattle.aj_machine.specs.declared.machine.StepEnd.TheVariants as ends
-use Rattle.aj_machine.specs.MachineValue.{MachineValue}
+use Rattle.aj_deeds.specs.declared.deed.StepEnd.{StepEnd}
+use Rattle.aj_deeds.specs.declared.deed.StepEnd.TheVariants as ends
+use Rattle.aj_perform.specs.MachineValue.{MachineValue}
 use Rattle.aj_machine.specs.Standing.{program_run, StandsFor}
 
 -- the machine, and the threads whose steps it made, in order

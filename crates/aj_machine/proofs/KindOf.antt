@@ -10,13 +10,13 @@ use Rattle.aj_threads.specs.Frames.{CellFrame, code_thread}
 use Rattle.aj_emit.specs.declared.stack.Code.{Code}
 use Rattle.aj_compile.specs.IsCode.{IsCodeOf}
 use Rattle.aj_steps.specs.Step.{seen_by, kind_in, kind_of}
-use Rattle.aj_machine.specs.CodeMachine.{code_turn}
-use Rattle.aj_machine.specs.Likeness.{StateStands}
-use Rattle.aj_machine.specs.MachineValue.{code_state}
-use Rattle.aj_machine.specs.declared.deed.Turn.{Turn}
-use Rattle.aj_machine.specs.Turns.{cell_kind, next_turn, turn_kind}
-use Rattle.aj_machine.proofs.KindLemmas as lemmas
-use Rattle.aj_machine.proofs.Runs.{kind_like}
+use Rattle.aj_deeds.specs.CodeMachine.{code_turn}
+use Rattle.aj_deeds.specs.Likeness.{StateStands}
+use Rattle.aj_perform.specs.MachineValue.{code_state}
+use Rattle.aj_deeds.specs.declared.deed.Turn.{Turn}
+use Rattle.aj_deeds.specs.Turns.{cell_kind, next_turn, turn_kind}
+use Rattle.aj_deeds.proofs.KindLemmas as lemmas
+use Rattle.aj_deeds.proofs.Runs.{kind_like}
 
 module _ (P : Program) (code : List Code) (entry room : List ℕ) (s : StateOf CellFrame) (t : ℕ) where
   -- the kind of a thread that may be absent

@@ -22,21 +22,22 @@ use Rattle.aj_compile.specs.Standing.{Relation, Agree, Stands}
 use Rattle.aj_compile.specs.Rooms.{Reached, at_start, goes_on, turns, after_call, with_result_of}
 use Rattle.aj_compile.proofs.Depth.{stands_once}
 use Rattle.aj_steps.specs.Step.{Shared, OutcomeOf, Outcome, has_result, seen_by, moved, outcome}
-use Rattle.aj_machine.specs.declared.machine.StepEnd.{StepEnd}
-use Rattle.aj_machine.specs.declared.deed.Deed.{Deed}
-use Rattle.aj_machine.specs.declared.deed.Deed.TheVariants as deed
-use Rattle.aj_machine.specs.CodeMachine.{code_frame_at, entered, thread_after, returned_to, deed_at, done, enter_first, code_turn, code_outcome}
-use Rattle.aj_machine.specs.Deeds.{seen_of}
-use Rattle.aj_machine.specs.Lean.{takes_memory, next_takes, step_takes, instr_takes}
-use Rattle.aj_machine.specs.Likeness.{with_work, IsLeft, FramesStand, no_frames, more_frames, ThreadStands, ready_stands, running_stands, done_stands, faulted_stands, ThreadsStand, no_threads, more_threads, StateStands}
-use Rattle.aj_machine.specs.MachineValue.{code_state}
+use Rattle.aj_deeds.specs.declared.deed.StepEnd.{StepEnd}
+use Rattle.aj_deeds.specs.declared.deed.Deed.{Deed}
+use Rattle.aj_deeds.specs.declared.deed.Deed.TheVariants as deed
+use Rattle.aj_deeds.specs.CodeMachine.{code_frame_at, entered, thread_after, returned_to, deed_at, done, enter_first, code_turn, code_outcome}
+use Rattle.aj_perform.specs.Deeds.{seen_of}
+use Rattle.aj_perform.specs.Lean.{takes_memory, next_takes, step_takes, instr_takes}
+use Rattle.aj_deeds.specs.Likeness.{with_work, IsLeft, FramesStand, no_frames, more_frames, ThreadStands, ready_stands, running_stands, done_stands, faulted_stands, ThreadsStand, no_threads, more_threads, StateStands}
+use Rattle.aj_perform.specs.MachineValue.{code_state}
 use Rattle.aj_machine.specs.Reaching.{HasReached, BelowReached, AreReached, AllReached, IsKept}
-use Rattle.aj_machine.specs.Rooms.{IsRoomy, AreRoomy, AllRoomy, FitsIn, TurnFits}
-use Rattle.aj_machine.specs.Turns.{line_deed, deed_turn, next_turn, IsTaken}
-use Rattle.aj_machine.proofs.Following.{Leads, Follows, follows}
-use Rattle.aj_machine.proofs.RoomLemmas.{one_roomy}
-use Rattle.aj_machine.proofs.Runs.{moved_stands, outcome_like}
-use Rattle.aj_machine.proofs.Simulation.{same_place, OutcomeStands, both_move, both_absent, both_done, both_faulted, both_wait}
+use Rattle.aj_perform.specs.Rooms.{IsRoomy, AreRoomy, AllRoomy, FitsIn, TurnFits}
+use Rattle.aj_deeds.specs.Turns.{line_deed, deed_turn, next_turn}
+use Rattle.aj_perform.specs.Taken.{IsTaken}
+use Rattle.aj_perform.proofs.Following.{Leads, Follows, follows}
+use Rattle.aj_perform.proofs.RoomLemmas.{one_roomy}
+use Rattle.aj_deeds.proofs.Runs.{moved_stands, outcome_like}
+use Rattle.aj_deeds.proofs.Simulation.{same_place, OutcomeStands, both_move, both_absent, both_done, both_faulted, both_wait}
 
 given_none : (r : Option CoreType) (gives : Option Value) (ops : List Value) → is_some gives ≡ is_some r → with_result_of r (length ops) ≡ length (given gives ops)
 given_none None None ops is = refl

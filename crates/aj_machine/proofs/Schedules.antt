@@ -9,11 +9,11 @@ use Rattle.aj_state.specs.States.{State}
 use Rattle.aj_steps.specs.Step.{Outcome, Moves, Absent, IsDone, HadFaulted, Waits, outcome, moved, step, state_after}
 use Rattle.aj_steps.specs.Run.{run_from}
 use Rattle.aj_steps.proofs.RunLemmas.{run_from-append}
-use Rattle.aj_machine.specs.declared.machine.StepEnd.{StepEnd}
-use Rattle.aj_machine.specs.declared.machine.StepEnd.TheVariants as ends
-use Rattle.aj_machine.specs.Likeness.{StateStands}
-use Rattle.aj_machine.specs.MachineValue.{MachineValue}
-use Rattle.aj_machine.specs.Reasons.{IsReason}
+use Rattle.aj_deeds.specs.declared.deed.StepEnd.{StepEnd}
+use Rattle.aj_deeds.specs.declared.deed.StepEnd.TheVariants as ends
+use Rattle.aj_deeds.specs.Likeness.{StateStands}
+use Rattle.aj_perform.specs.MachineValue.{MachineValue}
+use Rattle.aj_perform.specs.Reasons.{IsReason}
 use Rattle.aj_machine.specs.Standing.{program_run, StandsFor, IsTurn, IsSame, HasRun, HasStopped}
 
 -- after a step the machine stands for the next state

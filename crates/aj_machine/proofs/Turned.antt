@@ -7,17 +7,17 @@ use Rattle.aj_core.specs.declared.program.CoreProgram.{CoreProgram}
 use Rattle.aj_emit.specs.declared.stack.CodeTable.{CodeTable}
 use Rattle.aj_compile.specs.IsCode.{IsCodeOf}
 use Rattle.aj_state.specs.Memory.{Heap, Locks}
-use Rattle.aj_machine.specs.CodeMachine.{code_outcome}
+use Rattle.aj_deeds.specs.CodeMachine.{code_outcome}
 use Rattle.aj_state.specs.States.{ThreadOf, Ready, StateOf, State}
 use Rattle.aj_threads.specs.Frames.{CellFrame, CodeFrame, code_thread}
 use Rattle.aj_steps.specs.Step.{Change, Nothing, FieldIs, ObjectIs, LockIs, Prints, Starts, OutcomeOf, Outcome, Moves, Absent, IsDone, HadFaulted, Waits, changed, moved, outcome}
-use Rattle.aj_machine.specs.declared.machine.StepEnd.{StepEnd}
-use Rattle.aj_machine.specs.Likeness.{StateStands}
-use Rattle.aj_machine.specs.MachineValue.{MachineValue, code_state}
-use Rattle.aj_machine.specs.Turns.{state_in, IsTaken}
+use Rattle.aj_deeds.specs.declared.deed.StepEnd.{StepEnd}
+use Rattle.aj_deeds.specs.Likeness.{StateStands}
+use Rattle.aj_perform.specs.MachineValue.{MachineValue, code_state}
+use Rattle.aj_perform.specs.Taken.{state_in, IsTaken}
 use Rattle.aj_machine.specs.Standing.{program_run, StandsFor, IsTurn}
-use Rattle.aj_machine.proofs.Simulation.{OutcomeStands, both_move, both_absent, both_done, both_faulted, both_wait}
-use Rattle.aj_machine.proofs.Runs.{moved_stands, outcome_like}
+use Rattle.aj_deeds.proofs.Simulation.{OutcomeStands, both_move, both_absent, both_done, both_faulted, both_wait}
+use Rattle.aj_deeds.proofs.Runs.{moved_stands, outcome_like}
 
 pub is_turn : (t : ℕ) (r : Result (Unit {0}) StepEnd) (m : MachineValue) (old : StateOf CodeFrame) (q : State) (o : OutcomeOf CodeFrame) (p : Outcome)
     → OutcomeStands (program_run m) m.code.code.items o p → StateStands (program_run m) m.code.code.items old q → IsTaken t r (code_state m.state) old o → IsTurn t r m q p

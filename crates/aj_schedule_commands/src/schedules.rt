@@ -15,8 +15,9 @@ ghost use Rattle.aj_steps.specs.Run.{run};
 ghost use Rattle.aj_schedule_commands.specs.Schedules.{NoSchedule, NoRun};
 
 use aj_classes::ClassTable;
+use aj_deeds::StepEnd;
 use aj_emit::CodeTable;
-use aj_machine::{Machine, StepEnd, Stopped};
+use aj_machine::{Machine, Stopped};
 use aj_schedule::{SchedFault, read_schedule};
 use aj_sources::{Ending, Refusal, Source};
 use aj_state_report::{schedule_fault_text, state_text, stopped_text};

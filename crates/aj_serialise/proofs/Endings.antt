@@ -6,10 +6,10 @@ use Rattle.aj_core.specs.Core.{Program}
 use Rattle.aj_state.specs.States.{State, initial}
 use Rattle.aj_steps.specs.Run.{run, run_from}
 use Rattle.aj_steps.specs.Step.{Outcome, Moves, Absent, IsDone, HadFaulted, Waits, outcome, step, state_after}
-use Rattle.aj_machine.specs.declared.machine.StepEnd.{StepEnd}
-use Rattle.aj_machine.specs.declared.machine.StepEnd.TheVariants as ends
+use Rattle.aj_deeds.specs.declared.deed.StepEnd.{StepEnd}
+use Rattle.aj_deeds.specs.declared.deed.StepEnd.TheVariants as ends
 use Rattle.aj_machine.specs.declared.machine.Stopped.{Stopped}
-use Rattle.aj_machine.specs.Reasons.{IsReason}
+use Rattle.aj_perform.specs.Reasons.{IsReason}
 use Rattle.aj_machine.specs.Standing.{IsStopped}
 use Rattle.aj_machine.proofs.Schedules.{no_step}
 

@@ -5,7 +5,7 @@ use Rattle.aj_core.specs.Core.{Program}
 use Rattle.aj_threads.specs.Frames.{CellFrame, code_frame, code_thread, frames_in}
 use Rattle.aj_state.specs.States.{Frame, Thread, ThreadOf, Ready, Running, Done, Faulted}
 use Rattle.aj_emit.specs.declared.stack.Code.{Code}
-use Rattle.aj_machine.specs.Likeness.{FramesStand, no_frames, more_frames, ThreadStands, ready_stands, running_stands, done_stands, faulted_stands, ThreadsStand, no_threads, more_threads}
+use Rattle.aj_deeds.specs.Likeness.{FramesStand, no_frames, more_frames, ThreadStands, ready_stands, running_stands, done_stands, faulted_stands, ThreadsStand, no_threads, more_threads}
 use Rattle.aj_serialise.specs.Calls.{methods_of, methods_at}
 
 -- the methods of the frames of a thread that may be absent

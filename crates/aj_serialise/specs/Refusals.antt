@@ -1,7 +1,7 @@
 -- Refused steps, as why a schedule isn't rewritten.
 use Rattle.std.specs.Prelude.{ℕ}
-use Rattle.aj_machine.specs.declared.machine.StepEnd.{StepEnd}
-use Rattle.aj_machine.specs.declared.machine.StepEnd.TheVariants as step
+use Rattle.aj_deeds.specs.declared.deed.StepEnd.{StepEnd}
+use Rattle.aj_deeds.specs.declared.deed.StepEnd.TheVariants as step
 use Rattle.aj_serialise.specs.declared.serial_end.SerialEnd.{SerialEnd}
 use Rattle.aj_serialise.specs.declared.serial_end.SerialEnd.TheVariants as ends
 

@@ -2,7 +2,7 @@
 ghost use Rattle.std.specs.Prelude.{◌≡◌, ◌+◌, ◌<◌, ◌≤◌, ℕ, nat_lt, length, slice_get, IfOk, IfErr, OnOk, OnErr};
 ghost use Rattle.aj_state.specs.States.{State, initial};
 ghost use Rattle.aj_steps.specs.Step.{outcome};
-ghost use Rattle.aj_machine.specs.Reasons.{IsReason};
+ghost use Rattle.aj_perform.specs.Reasons.{IsReason};
 ghost use Rattle.aj_machine.specs.Standing.{program_run, StandsFor};
 ghost use Rattle.aj_serialise.specs.Calls.{AreCalls, calls_after, frames_seen, methods_at};
 ghost use Rattle.aj_serialise.specs.Made.{IsMade, HaveRun};
@@ -13,7 +13,8 @@ use crate::calls::{Frames, frames_at, note_calls};
 use crate::serial_end::{SerialEnd, refusal};
 use crate::step::Step;
 use crate::tables::value_at;
-use aj_machine::{Machine, StepEnd};
+use aj_deeds::StepEnd;
+use aj_machine::Machine;
 use aj_state::StepKind;
 use std::alloc::{AllocError as NoMemory, Global};
 

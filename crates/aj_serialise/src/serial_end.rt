@@ -2,7 +2,8 @@
 ghost use Rattle.std.specs.Prelude.{◌≡◌};
 ghost use Rattle.aj_serialise.specs.Refusals.{refusal};
 
-use aj_machine::{StepEnd, Stopped};
+use aj_deeds::StepEnd;
+use aj_machine::Stopped;
 use std::alloc::{AllocError, AllocFailed};
 
 /// Why a schedule isn't rewritten.

@@ -2,8 +2,8 @@
 use Rattle.std.specs.Prelude.{ℕ, List, ◌++◌, codes, decimal}
 use Rattle.aj_schedule.specs.declared.reader.SchedFault.{SchedFault}
 use Rattle.aj_schedule.specs.declared.reader.SchedFault.TheVariants as schedule
-use Rattle.aj_machine.specs.declared.machine.StepEnd.{StepEnd}
-use Rattle.aj_machine.specs.declared.machine.StepEnd.TheVariants as ends
+use Rattle.aj_deeds.specs.declared.deed.StepEnd.{StepEnd}
+use Rattle.aj_deeds.specs.declared.deed.StepEnd.TheVariants as ends
 use Rattle.aj_machine.specs.declared.machine.Stopped.{Stopped}
 use Rattle.aj_state_report.specs.States.{address_text, fault_text}
 

@@ -5,7 +5,8 @@ ghost use Rattle.aj_state_report.specs.Schedules.{refused_schedule_line, schedul
 
 use crate::numbers::write_number;
 use crate::values::{fault_word, write_address};
-use aj_machine::{StepEnd, Stopped};
+use aj_deeds::StepEnd;
+use aj_machine::Stopped;
 use aj_schedule::SchedFault;
 use std::alloc::{AllocError as NoMemory, Global};
 

@@ -15,8 +15,8 @@ use Rattle.aj_exchange.proofs.SoundRuns.{sound_run}
 use Rattle.aj_steps.specs.Step.{Change, Nothing, FieldIs, ObjectIs, LockIs, Prints, Starts, changed}
 use Rattle.aj_state.specs.declared.value.StepKind.{StepKind}
 use Rattle.aj_state.specs.States.{Ready}
-use Rattle.aj_machine.specs.Likeness.{ThreadsStand, no_threads, more_threads}
-use Rattle.aj_machine.specs.MachineValue.{MachineValue}
+use Rattle.aj_deeds.specs.Likeness.{ThreadsStand, no_threads, more_threads}
+use Rattle.aj_perform.specs.MachineValue.{MachineValue}
 use Rattle.aj_machine.specs.Standing.{StandsFor, HasRun, program_run}
 use Rattle.aj_state.specs.States.{Thread, ThreadOf}
 use Rattle.aj_threads.specs.Frames.{CodeFrame, code_thread}

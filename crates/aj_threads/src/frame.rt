@@ -3,8 +3,8 @@ ghost use Rattle.std.specs.Prelude.{◌≡◌, ◌<◌, ◌≤◌, ◌+◌, ◌-
 ghost use Rattle.aj_state.specs.Values.{under, dropped};
 ghost use Rattle.aj_threads.specs.Frames.{code_frame, given, settled, settled_operands, first_frame, rest_of};
 
-use aj_state::{Address, Value};
 use aj_paths::MethodId;
+use aj_state::{Address, Value};
 use std::alloc::{AllocError as NoMemory, Global};
 use std::marker::Model;
 

@@ -6,8 +6,8 @@ ghost use Rattle.aj_state.specs.States.{ThreadOf, Ready, Running, Faulted};
 ghost use Rattle.aj_threads.specs.Frames.{CellFrame, code_frame, code_thread, frames_in, top_frame, on_top, status_of, waiting_of, is_running, may_enter, popped, settled, settled_operands, with_given, HasRoom, HasSpare, first_frame, rest_of, on_first, given, slots_of, operands_of, taken_of};
 
 use crate::frame::FrameCell;
-use aj_state::{Address, Fault, ThreadState, Value};
 use aj_paths::MethodId;
+use aj_state::{Address, Fault, ThreadState, Value};
 use std::alloc::{AllocError as NoMemory, Global};
 use std::marker::Model;
 

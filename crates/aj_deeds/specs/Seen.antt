@@ -1,0 +1,24 @@
+-- What the machine's private functions see, as the definitions take it.
+use Rattle.std.specs.Prelude.{ℕ, List}
+use Rattle.std.specs.FinMap as map
+use Rattle.aj_core.specs.Core.{Program}
+use Rattle.aj_core.specs.Views.{program_of}
+use Rattle.aj_state.specs.Memory.{made_by}
+use Rattle.aj_emit.specs.declared.stack.Code.{Code}
+use Rattle.aj_steps.specs.Step.{Shared}
+use Rattle.aj_deeds.specs.declared.seen.Seen.{Seen}
+
+abbrev pub program_in : Seen → Program
+program_in s = program_of s.program.now
+
+abbrev pub lines_in : Seen → List Code
+lines_in s = s.code.now.code.items
+
+abbrev pub entry_in : Seen → List ℕ
+entry_in s = s.code.now.entry.items
+
+abbrev pub room_in : Seen → List ℕ
+room_in s = s.code.now.room.items
+
+abbrev pub shared_in : Seen → Shared
+shared_in s = record { object_at = map.get s.heap.now; lock_at = map.get s.locks.now; made = made_by s.thread s.heap.now }
