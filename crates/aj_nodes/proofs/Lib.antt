@@ -1,8 +1,6 @@
 -- Lemmas on shared nodes.
-pub mod Tables
-pub mod Decisions
-pub mod Memo
-pub mod Renaming
-pub mod Steps
-pub mod Values
+mod Memo
+mod Renaming
+mod Steps
+mod Values
 pub mod ShownLemmas

@@ -1,5 +1,5 @@
 -- One step of an operation on numbers: from the parts to the whole.
-use Rattle.std.proofs.Common.{◌≡◌, ℕ, ◌<◌, Bool, true, false, List, length, Result, IfOk, Some, None, refl, sym, ◌∙◌, ap, subst, arith, if◌then◌else◌}
+use Rattle.std.proofs.Common.{◌≡◌, ℕ, ◌<◌, true, false, List, length, Result, IfOk, Some, None, refl, sym, ◌∙◌, ap, subst, arith, if◌then◌else◌}
 use Rattle.aj_paths.specs.Paths.{PathData, path_order}
 use Rattle.aj_algebra.specs.declared.basic.Basic.{Basic}
 use Rattle.aj_algebra.specs.declared.basic.Basic.TheVariants.{Const, Mover, Atomic, Cmpd, Error}
@@ -7,8 +7,8 @@ use Rattle.aj_algebra.specs.Basics.{lift_of}
 use Rattle.aj_cond.specs.Conditions.{Cond, LeafC, TestC, cond_eq, IsCanonical}
 use Rattle.aj_cond.specs.Operations.{node, each_leaf, both_leaves, sync_tree, hold, by_order}
 use Rattle.aj_cond.proofs.CondLemmas.{cond_eq-is}
-use Rattle.aj_nodes.specs.declared.rows.Item.{Item}
-use Rattle.aj_nodes.specs.declared.rows.Item.TheVariants.{Test}
+use Rattle.aj_node_rows.specs.declared.rows.Item.{Item}
+use Rattle.aj_node_rows.specs.declared.rows.Item.TheVariants.{Test}
 use Rattle.std.specs.declared.cmp.Ordering.{Ordering}
 use Rattle.std.specs.declared.cmp.Ordering.TheVariants.{Less, Equal, Greater}
 use Rattle.aj_cond.proofs.LeafLemmas.{each-is, both-is}
@@ -19,35 +19,11 @@ use Rattle.aj_nodes.specs.declared.calls.Pair.{Pair}
 use Rattle.aj_nodes.specs.declared.calls.Pair.TheVariants.{Seq, Join}
 use Rattle.aj_nodes.specs.declared.calls.Call.{Call}
 use Rattle.aj_nodes.specs.declared.calls.Call.TheVariants.{Each, Both, HeldOr, Sync}
-use Rattle.aj_nodes.specs.Nodes.{tree_at, item_tree, AreBefore, IsTable, Grows, Stands}
-use Rattle.aj_nodes.specs.Halving.{Halves, halves_of, AreHalves}
+use Rattle.aj_node_rows.specs.Nodes.{tree_at, item_tree, AreBefore, IsTable, Grows, Stands}
+use Rattle.aj_node_rows.specs.Halving.{Halves, halves_of, AreHalves}
 use Rattle.aj_nodes.specs.Calls.{single_of, pair_of, call_tree, AreThere, IsCombined}
+use Rattle.aj_node_rows.proofs.Tables.{grows_chain}
 use Rattle.aj_nodes.proofs.Memo.{call_on, there_on, stands_on}
-
--- a test of two numbers that differ is a test
-pub node_apart : (is : List Item) (p : PathData) (m n : ℕ) → IsTable is → m < length is → n < length is → (m ≡ n → ⊥) → node p (tree_at is m) (tree_at is n) ≡ TestC p (tree_at is m) (tree_at is n)
-node_apart is p m n table m_there n_there differ = by (cond_eq (tree_at is m) (tree_at is n)) refl
-  where
-    by : (b : Bool) → cond_eq (tree_at is m) (tree_at is n) ≡ b → node p (tree_at is m) (tree_at is n) ≡ TestC p (tree_at is m) (tree_at is n)
-    by true e = absurd (differ (table.apart m n m_there n_there (cond_eq-is (tree_at is m) (tree_at is n) e)))
-    by false e = ap (λ b. if b then tree_at is m else TestC p (tree_at is m) (tree_at is n)) e
-
-pub apart_canonical : (is : List Item) (p q : PathData) (m n : ℕ) → IsTable is → m < length is → n < length is → (m ≡ n → ⊥) → q ≡ p → IsCanonical (node p (tree_at is m) (tree_at is n)) → IsCanonical (TestC q (tree_at is m) (tree_at is n))
-apart_canonical is p q m n table m_there n_there differ same canonical =
-    subst (λ r. IsCanonical (TestC r (tree_at is m) (tree_at is n))) (sym same) (subst IsCanonical (node_apart is p m n table m_there n_there differ) canonical)
-
-pub apart_stands : {E : Type 0} (is new : List Item) (p q : PathData) (m n : ℕ) (r : Result ℕ E) → IsTable is → m < length is → n < length is → (m ≡ n → ⊥) → q ≡ p
-    → IfOk r (λ k. Stands new k (TestC q (tree_at is m) (tree_at is n))) → IfOk r (λ k. Stands new k (node p (tree_at is m) (tree_at is n)))
-apart_stands is new p q m n r table m_there n_there differ same stands =
-    subst (λ t. IfOk r (λ k. Stands new k t)) (ap (λ s. TestC s (tree_at is m) (tree_at is n)) same ∙ sym (node_apart is p m n table m_there n_there differ)) stands
-
-pub grows_chain : (old mid new : List Item) → Grows old mid → Grows mid new → Grows old new
-grows_chain old mid new first second = record {
-  longer = omega (arith, first.longer, second.longer);
-  same = λ n below. second.same n (omega (arith, first.longer, below)) ∙ first.same n below;
-  was = first.was;
-  is = second.is;
-}
 
 -- a call from its two parts, which were found one after the other
 combined : (old mid new : List Item) (x : Call) (p : PathData) (m n : ℕ) (t u : Cond) → AreThere old x → IsCanonical (call_tree old x) → call_tree old x ≡ node p t u

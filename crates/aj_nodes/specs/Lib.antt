@@ -1,5 +1,4 @@
--- What the contracts of shared nodes cite. Of proofs/ the file ShownLemmas is public: crates above cite its lemma.
-pub mod Nodes
-pub mod Halving
+-- What the contracts of shared nodes cite, over Nodes of aj_node_rows. Of proofs/ the file ShownLemmas is public: crates above cite its
+-- lemma.
 pub mod Calls
 pub mod Shown

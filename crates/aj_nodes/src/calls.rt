@@ -2,8 +2,8 @@
 ghost use Rattle.std.specs.Prelude.{◌≡◌, ◌<◌, IfOk};
 ghost use Rattle.aj_nodes.specs.Calls.{single_of, pair_of};
 
-use crate::rows::{hint_at, number_of};
 use aj_algebra::Basic;
+use aj_node_rows::{hint_at, hint_of_path};
 use aj_paths::Path;
 use std::alloc::{AllocError as NoMemory, Global};
 
@@ -56,8 +56,8 @@ pub(crate) fn hint_of(call: &Call) -> usize
     match call {
         Call::Each(_, n) => hint_at(1, *n, 0),
         Call::Both(f, m, n) => hint_of_both(*f, *m, *n),
-        Call::HeldOr(p, m, n) => hint_at(number_of(p), *m, *n),
-        Call::Sync(p, n) => hint_at(number_of(p), *n, 3),
+        Call::HeldOr(p, m, n) => hint_of_path(p, *m, *n),
+        Call::Sync(p, n) => hint_of_path(p, *n, 3),
     }
 }
 

@@ -3,9 +3,7 @@
 
 mod algebra;
 mod calls;
-mod halves;
 mod operations;
-mod rows;
 mod table;
 
 pub use table::{Node, NodeTable};

@@ -1,4 +1,4 @@
-use Rattle.aj_nodes.proofs.rows.Rows.+tree.Given as goal
+use Rattle.aj_node_rows.proofs.rows.Rows.+tree.Given as goal
 
 abbrev pub decreases-tree : goal.decreases-tree
 decreases-tree l = l.n

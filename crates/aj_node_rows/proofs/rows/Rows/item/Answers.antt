@@ -1,9 +1,9 @@
 -- An item behind the basics is a decision of the list.
 use Rattle.std.proofs.Common.{◌≡◌, ◌-◌, sym, ap, ◌∙◌, subst, arith}
 use Rattle.std.specs.Option.{option_copied}
-use Rattle.aj_nodes.specs.Nodes.{tree_at, item_tree, AreBefore}
-use Rattle.aj_nodes.proofs.Decisions.{item_at}
-use Rattle.aj_nodes.proofs.rows.Rows.item.Goals as goal
+use Rattle.aj_node_rows.specs.Nodes.{tree_at, item_tree, AreBefore}
+use Rattle.aj_node_rows.proofs.Decisions.{item_at}
+use Rattle.aj_node_rows.proofs.rows.Rows.item.Goals as goal
 
 pub returns-in_default-clause-tree : goal.returns-in_default-clause-tree
 returns-in_default-clause-tree c =

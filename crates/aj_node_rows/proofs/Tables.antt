@@ -4,9 +4,9 @@ use Rattle.std.proofs.lemmas.Option.{slice_get_within, slice_get-get_or}
 use Rattle.aj_lemmas.proofs.Lists.{get_left, get_last}
 use Rattle.aj_algebra.specs.declared.basic.Basic.TheVariants.{Const}
 use Rattle.aj_cond.specs.Conditions.{Cond, LeafC, TestC, IsCanonical}
-use Rattle.aj_nodes.specs.declared.rows.Item.{Item}
-use Rattle.aj_nodes.specs.declared.rows.Item.TheVariants.{Leaf, Test}
-use Rattle.aj_nodes.specs.Nodes.{by_parts, tree_to, tree_at, item_tree, AreBefore, IsTable, Grows}
+use Rattle.aj_node_rows.specs.declared.rows.Item.{Item}
+use Rattle.aj_node_rows.specs.declared.rows.Item.TheVariants.{Leaf, Test}
+use Rattle.aj_node_rows.specs.Nodes.{by_parts, tree_to, tree_at, item_tree, AreBefore, IsTable, Grows}
 
 front_or_last : (n end : ℕ) → n < suc end → (n < end) ⊎ (n ≡ end)
 front_or_last zero zero below = inr refl
@@ -53,6 +53,14 @@ front_tree old more table (suc d) n below =
 
 pub grows_itself : (is : List Item) → IsTable is → Grows is is
 grows_itself is table = record { longer = omega arith; same = λ n below. refl; was = table; is = table }
+
+pub grows_chain : (old mid new : List Item) → Grows old mid → Grows mid new → Grows old new
+grows_chain old mid new first second = record {
+  longer = omega (arith, first.longer, second.longer);
+  same = λ n below. second.same n (omega (arith, first.longer, below)) ∙ first.same n below;
+  was = first.was;
+  is = second.is;
+}
 
 -- items with one tree are one
 same_item : (is : List Item) → IsTable is → (i j : Item) → AreBefore (length is) i → AreBefore (length is) j → item_tree is i ≡ item_tree is j → i ≡ j

@@ -3,10 +3,10 @@ use Rattle.std.specs.Prelude.{◌≡◌, ◌<◌, ◌+◌, ℕ, List, length, Op
 use Rattle.aj_paths.specs.Paths.{PathData, path_order}
 use Rattle.aj_cond.specs.Conditions.{Cond, LeafC, TestC}
 use Rattle.aj_cond.specs.Operations.{by_order}
-use Rattle.aj_nodes.specs.declared.rows.Item.{Item}
-use Rattle.aj_nodes.specs.declared.halves.Split.{Split}
-use Rattle.aj_nodes.specs.declared.halves.Split.TheVariants.{Leaves, Tests}
-use Rattle.aj_nodes.specs.Nodes.{tree_at}
+use Rattle.aj_node_rows.specs.declared.rows.Item.{Item}
+use Rattle.aj_node_rows.specs.declared.halves.Split.{Split}
+use Rattle.aj_node_rows.specs.declared.halves.Split.TheVariants.{Leaves, Tests}
+use Rattle.aj_node_rows.specs.Nodes.{tree_at}
 
 -- a path, and what is left of two trees where it is held and where it isn't
 pub record Halves : Type 0 where

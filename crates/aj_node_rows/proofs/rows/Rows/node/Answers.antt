@@ -1,9 +1,9 @@
 -- A test of two numbers that differ is a decision.
 use Rattle.std.proofs.Common.{sym, subst}
-use Rattle.aj_nodes.specs.Nodes.{IsTable, Stands}
-use Rattle.aj_nodes.proofs.Tables.{grows_itself}
-use Rattle.aj_nodes.proofs.Steps.{node_apart, apart_canonical, apart_stands}
-use Rattle.aj_nodes.proofs.rows.Rows.node.Goals as goal
+use Rattle.aj_node_rows.specs.Nodes.{IsTable, Stands}
+use Rattle.aj_node_rows.proofs.Tables.{grows_itself}
+use Rattle.aj_node_rows.proofs.Apart.{node_apart, apart_canonical, apart_stands}
+use Rattle.aj_node_rows.proofs.rows.Rows.node.Goals as goal
 
 pub returns-then-held-free-clause-grows : goal.returns-then-held-free-clause-grows
 returns-then-held-free-clause-grows c = grows_itself c.args.self.now (subst IsTable c.self.view_is c.self.invariant)

@@ -2,9 +2,9 @@
 use Rattle.std.specs.Prelude.{◌≡◌, ◌<◌, ◌≤◌, ℕ, zero, suc, List, ◌∷◌, length, map, slice_get, Option, Some, None}
 use Rattle.aj_algebra.specs.declared.basic.Basic.TheVariants.{Const, Mover, Atomic, Cmpd, Error}
 use Rattle.aj_cond.specs.Conditions.{Cond, LeafC, TestC, IsCanonical}
-use Rattle.aj_nodes.specs.declared.rows.Item.{Item}
-use Rattle.aj_nodes.specs.declared.rows.Item.TheVariants.{Leaf, Test}
-use Rattle.aj_nodes.specs.declared.rows.Decision.{Decision}
+use Rattle.aj_node_rows.specs.declared.rows.Item.{Item}
+use Rattle.aj_node_rows.specs.declared.rows.Item.TheVariants.{Leaf, Test}
+use Rattle.aj_node_rows.specs.declared.rows.Decision.{Decision}
 
 -- a decision as an item
 abbrev pub test_of : Decision → Item

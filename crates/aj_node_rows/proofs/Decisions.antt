@@ -9,12 +9,12 @@ use Rattle.aj_paths.specs.Paths.{PathData, path_eq}
 use Rattle.aj_algebra.specs.declared.basic.Basic.TheVariants.{Const, Mover, Atomic, Cmpd, Error}
 use Rattle.aj_paths.proofs.PathOrder.{eq_is, eq_itself}
 use Rattle.aj_cond.specs.Conditions.{TestC, IsCanonical}
-use Rattle.aj_nodes.specs.declared.rows.Item.{Item}
-use Rattle.aj_nodes.specs.declared.rows.Item.TheVariants.{Leaf}
-use Rattle.aj_nodes.specs.declared.rows.Decision.{Decision}
-use Rattle.aj_nodes.specs.contracts.rows.DecisionPartialEq.TheImpl as decisions
-use Rattle.aj_nodes.specs.Nodes.{test_of, items_of, tree_at, item_tree, AreBefore, IsTable, Grows, Stands}
-use Rattle.aj_nodes.proofs.Tables.{got, grows_itself, grown}
+use Rattle.aj_node_rows.specs.declared.rows.Item.{Item}
+use Rattle.aj_node_rows.specs.declared.rows.Item.TheVariants.{Leaf}
+use Rattle.aj_node_rows.specs.declared.rows.Decision.{Decision}
+use Rattle.aj_node_rows.specs.contracts.rows.DecisionPartialEq.TheImpl as decisions
+use Rattle.aj_node_rows.specs.Nodes.{test_of, items_of, tree_at, item_tree, AreBefore, IsTable, Grows, Stands}
+use Rattle.aj_node_rows.proofs.Tables.{got, grows_itself, grown}
 
 abbrev pub same : Decision → Decision → Bool
 same = decisions.eq-value.it

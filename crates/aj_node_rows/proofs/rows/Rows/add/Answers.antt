@@ -1,7 +1,7 @@
 -- The decision is in the list afterwards.
 use Rattle.std.proofs.Common.{arith}
-use Rattle.aj_nodes.proofs.Decisions.{at_most_one, IsFit, inserted, numbered}
-use Rattle.aj_nodes.proofs.rows.Rows.add.Goals as goal
+use Rattle.aj_node_rows.proofs.Decisions.{at_most_one, IsFit, inserted, numbered}
+use Rattle.aj_node_rows.proofs.rows.Rows.add.Goals as goal
 
 pub overflow_add-result : goal.overflow_add-result
 overflow_add-result c = let f = c.in_ok-n.ensures in omega (arith, f.within, f.len, c.len-len.ensures.small, c.len-len.ensures.len, at_most_one c.in_ok-n.field-0-1)

@@ -2,7 +2,7 @@
 ghost use Rattle.std.specs.Prelude.{◌≡◌, ◌<◌, [], length, IfOk, IfSome};
 ghost use Rattle.aj_cond.specs.Conditions.{LeafC, TestC, IsCanonical};
 ghost use Rattle.aj_cond.specs.Operations.{node};
-ghost use Rattle.aj_nodes.specs.Nodes.{items_of, test_of, tree_at, item_tree, AreBefore, IsTable, Grows, Stands};
+ghost use Rattle.aj_node_rows.specs.Nodes.{items_of, test_of, tree_at, item_tree, AreBefore, IsTable, Grows, Stands};
 
 use aj_algebra::Basic;
 use aj_paths::Path;
@@ -13,37 +13,37 @@ use std::marker::Model;
 /// What a number stands for: a basic, or a test with the number of the part where its path is held, then of the part
 /// where it isn't.
 #[derive(Debug, Drop)]
-pub(crate) enum Item {
+pub enum Item {
     Leaf(Basic),
     Test(Path, usize, usize),
 }
 
 /// A test with the numbers of its two parts.
 #[derive(Debug, Drop, PartialEq, Eq, Hash)]
-pub(crate) struct Decision {
-    pub(crate) path: Path,
-    pub(crate) held: usize,
-    pub(crate) free: usize,
+pub struct Decision {
+    pub path: Path,
+    pub held: usize,
+    pub free: usize,
 }
 
 /// The number of the first decision: the five basics come before.
-pub(crate) const BASICS: usize = 5;
+pub const BASICS: usize = 5;
 
 /// How many hints a table has.
-pub(crate) const HINTS: usize = 256;
+pub const HINTS: usize = 256;
 
 /// A list of nodes. The five basics have the first numbers and take no memory. A hint tells where a decision may stand
 /// in the list, so that one which was asked for lately is found without a search.
 #[derive(Drop)]
-pub(crate) struct Rows {
+pub struct Rows {
     decisions: IndexSet<Decision>,
     hints: [usize; HINTS],
 }
 
 impl Model for Rows {
     ghost use Rattle.std.specs.Prelude.{List};
-    ghost use Rattle.aj_nodes.specs.declared.rows.Item.{Item};
-    ghost use Rattle.aj_nodes.specs.Nodes.{items_of, IsTable};
+    ghost use Rattle.aj_node_rows.specs.declared.rows.Item.{Item};
+    ghost use Rattle.aj_node_rows.specs.Nodes.{items_of, IsTable};
 
     ghost Value = { List Item };
 
@@ -54,7 +54,7 @@ impl Model for Rows {
 
 impl Rows {
     /// The basics alone.
-    pub(crate) fn new(alloc: Global) -> Rows
+    pub fn new(alloc: Global) -> Rows
         ensures { result ≡ items_of [] }
     {
         Rows {
@@ -64,7 +64,7 @@ impl Rows {
     }
 
     /// How many numbers there are.
-    pub(crate) fn count(&self) -> usize
+    pub fn count(&self) -> usize
         ensures count { result ≡ length self.now }
         ensures table { IsTable self.now }
     {
@@ -72,7 +72,7 @@ impl Rows {
     }
 
     /// The number of a basic.
-    pub(crate) fn leaf(&self, b: Basic) -> usize
+    pub fn leaf(&self, b: Basic) -> usize
         ensures { Stands self.now result (LeafC b) }
     {
         let _ = &self.decisions;
@@ -86,7 +86,7 @@ impl Rows {
     }
 
     /// The basic that a number stands for, where it is one.
-    pub(crate) fn basic_of(&self, n: usize) -> Option<Basic>
+    pub fn basic_of(&self, n: usize) -> Option<Basic>
         ensures basic { IfSome result (λ b. tree_at self.now n ≡ LeafC b) }
         ensures table { IsTable self.now }
     {
@@ -102,7 +102,7 @@ impl Rows {
     }
 
     /// What a number stands for.
-    pub(crate) fn item(&self, n: usize) -> Item
+    pub fn item(&self, n: usize) -> Item
         requires { n < length self.now }
         ensures tree { tree_at self.now n ≡ item_tree self.now result }
         ensures before { AreBefore n result }
@@ -119,7 +119,7 @@ impl Rows {
     }
 
     /// The number of a test, or of both its parts where they are one.
-    pub(crate) fn node(&mut self, p: &Path, held: usize, free: usize) -> Result<usize, NoMemory>
+    pub fn node(&mut self, p: &Path, held: usize, free: usize) -> Result<usize, NoMemory>
         requires held_there { held < length self.old }
         requires free_there { free < length self.old }
         requires canonical { IsCanonical (node p.now (tree_at self.old held) (tree_at self.old free)) }
@@ -130,7 +130,7 @@ impl Rows {
         if held == free {
             return Ok(held);
         }
-        let hint = hint_at(number_of(p), held, free);
+        let hint = hint_of_path(p, held, free);
         if let Some(known) = self.hinted(hint, p, held, free) {
             return Ok(known);
         }
@@ -178,7 +178,7 @@ impl Rows {
 
 /// A number of a path, by which it has a hint.
 #[inline(always)]
-pub(crate) fn number_of(p: &Path) -> usize {
+fn number_of(p: &Path) -> usize {
     let root = p.root as usize;
     match p.fields.as_slice().last() {
         Some(field) => root
@@ -190,13 +190,21 @@ pub(crate) fn number_of(p: &Path) -> usize {
 
 /// Which hint is that of three numbers.
 #[inline(always)]
-pub(crate) fn hint_at(first: usize, second: usize, third: usize) -> usize
+pub fn hint_at(first: usize, second: usize, third: usize) -> usize
     ensures { result < 256 }
 {
     first
         .wrapping_add(second.wrapping_mul(29))
         .wrapping_add(third.wrapping_mul(47))
         % HINTS
+}
+
+/// Which hint is that of a path and two numbers.
+#[inline(always)]
+pub fn hint_of_path(p: &Path, second: usize, third: usize) -> usize
+    ensures { result < 256 }
+{
+    hint_at(number_of(p), second, third)
 }
 
 /// A decision as an item.

@@ -3,8 +3,8 @@ ghost use Rattle.std.specs.Prelude.{◌≡◌, ◌<◌, length, IfOk};
 ghost use Rattle.aj_algebra.specs.HeldPaths.{has_path};
 ghost use Rattle.aj_cond.specs.Conditions.{cond_of, value_of};
 ghost use Rattle.aj_cond.specs.Operations.{below_tree};
-ghost use Rattle.aj_nodes.specs.Nodes.{tree_at, IsTable};
-ghost use Rattle.aj_nodes.specs.Halving.{IsSplit};
+ghost use Rattle.aj_node_rows.specs.Nodes.{tree_at, IsTable};
+ghost use Rattle.aj_node_rows.specs.Halving.{IsSplit};
 
 use crate::rows::{Item, Rows};
 use aj_algebra::Basic;
@@ -16,7 +16,7 @@ use std::cmp::Ordering;
 /// What two numbers stand for: two basics, or a path with the parts of the first where the path is held and where it
 /// isn't, then those of the second.
 #[derive(Debug, Drop)]
-pub(crate) enum Split {
+pub enum Split {
     Leaves(Basic, Basic),
     Tests(Path, usize, usize, usize, usize),
 }
@@ -30,7 +30,7 @@ fn holds(held: &[Path], p: &Path) -> bool
 
 impl Rows {
     /// The basics of two numbers, or their parts by the smaller of the paths at their roots.
-    pub(crate) fn split(&self, m: usize, n: usize) -> Split
+    pub fn split(&self, m: usize, n: usize) -> Split
         requires m_there { m < length self.now }
         requires n_there { n < length self.now }
         ensures split { IsSplit self.now m n result }
@@ -49,7 +49,7 @@ impl Rows {
     }
 
     /// Whether the first is at most the second at every set.
-    pub(crate) fn below(&self, m: usize, n: usize) -> bool
+    pub fn below(&self, m: usize, n: usize) -> bool
         requires m_there { m < length self.now }
         requires n_there { n < length self.now }
         ensures { result ≡ below_tree (tree_at self.now m) (tree_at self.now n) }
@@ -61,7 +61,7 @@ impl Rows {
     }
 
     /// The basic at the set of these paths.
-    pub(crate) fn at(&self, n: usize, held: &[Path]) -> Basic
+    pub fn at(&self, n: usize, held: &[Path]) -> Basic
         requires { n < length self.now }
         ensures { result ≡ value_of (tree_at self.now n) (has_path held.now) }
     {
@@ -77,7 +77,7 @@ impl Rows {
     }
 
     /// The tree that a number stands for.
-    pub(crate) fn tree(&self, alloc: Global, n: usize) -> Result<Tree, NoMemory>
+    pub fn tree(&self, alloc: Global, n: usize) -> Result<Tree, NoMemory>
         requires { n < length self.now }
         ensures { IfOk result (λ t. cond_of t ≡ tree_at self.now n) }
     {

@@ -1,8 +1,8 @@
 -- The decision at the hint is the one that was asked for.
 use Rattle.std.proofs.Common.{sym, ◌∙◌, slice_index_or}
 use Rattle.aj_paths.proofs.PathOrder.{eq_is}
-use Rattle.aj_nodes.proofs.Decisions.{hinted}
-use Rattle.aj_nodes.proofs.rows.Rows.hinted.Goals as goal
+use Rattle.aj_node_rows.proofs.Decisions.{hinted}
+use Rattle.aj_node_rows.proofs.rows.Rows.hinted.Goals as goal
 
 pub returns-then-same-clause-stands : goal.returns-then-same-clause-stands
 returns-then-same-clause-stands c =

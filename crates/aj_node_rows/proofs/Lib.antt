@@ -1,0 +1,4 @@
+-- Lemmas on numbered nodes.
+pub mod Tables
+mod Decisions
+mod Apart
