@@ -1,7 +1,5 @@
 -- The lemmas that several proofs share.
 mod Rows
-mod Tables
-mod RuleLemmas
 mod PoolLemmas
 mod ConcludeLemmas
 mod MoveLemmas
@@ -9,3 +7,4 @@ mod PartSizes
 mod LineLemmas
 mod Whole
 mod Shown
+mod PremiseLemmas

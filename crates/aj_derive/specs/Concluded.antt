@@ -1,17 +1,17 @@
 -- What nodes conclude exactly.
-use Rattle.std.specs.Prelude.{◌≡◌, ℕ, ◌<◌, List, [], ◌∷◌, ◌++◌, map, length}
+use Rattle.std.specs.Prelude.{◌≡◌, ℕ, ◌<◌, List, [], ◌∷◌, ◌++◌, length}
 use Rattle.aj_paths.specs.Paths.{PathData}
 use Rattle.aj_core.specs.Core.{Program}
 use Rattle.aj_core.specs.Views.{program_of}
-use Rattle.aj_cond.specs.Conditions.{Cond, cond_of}
+use Rattle.aj_cond.specs.Conditions.{Cond}
 use Rattle.aj_rules.specs.Effect.{Assignment}
 use Rattle.aj_rules.specs.Near.{rel_of}
 use Rattle.aj_book_text.specs.Derivations.{Node, node, Nodes, no_nodes, and_node}
 use Rattle.aj_deriv_rules.specs.Parts.{Part, parts_of, Fits}
 use Rattle.aj_deriv_rules.specs.Conclusions.{table_value}
 use Rattle.aj_deriv_check.specs.Good.{IsExact}
-use Rattle.aj_derive.specs.declared.basis.Basis.{Basis}
-use Rattle.aj_derive.specs.Derived.{trees_assign}
+use Rattle.aj_derive_rules.specs.declared.basis.Basis.{Basis}
+use Rattle.aj_derive_rules.specs.Bases.{own_trees, trees_assign}
 
 module _ (P : Program) (rel : ℕ → List PathData) (A : Assignment) (table : List Cond) where
   abbrev mutual
@@ -26,10 +26,6 @@ module _ (P : Program) (rel : ℕ → List PathData) (A : Assignment) (table : L
     ConcludeAll [] (and_node d ds) = ⊥
     ConcludeAll (x ∷ xs) no_nodes = ⊥
     ConcludeAll (x ∷ xs) (and_node d ds) = Concludes x d × ConcludeAll xs ds
-
--- the trees that are assigned to the methods
-abbrev pub own_trees : Basis → List Cond
-own_trees basis = map cond_of basis.own.now
 
 -- a table begins with these trees
 pub record BeginsWith (front table : List Cond) : Type 0 where

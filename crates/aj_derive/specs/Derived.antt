@@ -9,12 +9,8 @@ use Rattle.aj_rules.specs.Rules.{IsFalling, IsClosed, HoldsBound}
 use Rattle.aj_book_text.specs.Derivations.{Node, node, Nodes, no_nodes, and_node}
 use Rattle.aj_book_text.specs.Books.{Line, Book}
 use Rattle.aj_deriv_rules.specs.Parts.{StmtP, places, Each}
-use Rattle.aj_deriv_rules.specs.Conclusions.{tree_value, table_value}
+use Rattle.aj_deriv_rules.specs.Conclusions.{table_value}
 use Rattle.aj_deriv_check.specs.Good.{book_assignment, IsExact, IsShaped}
-
--- what trees assign, one to each method
-abbrev pub trees_assign : List Cond → Assignment
-trees_assign trees m H = tree_value (slice_get trees m) H
 
 abbrev mutual
   -- the numbers of the nodes of a derivation, as they are written

@@ -9,14 +9,13 @@ ghost use Rattle.aj_deriv_rules.specs.Bodies.{list_of, part_of};
 ghost use Rattle.aj_rules.specs.Near.{rel_of};
 ghost use Rattle.aj_node_rows.specs.Nodes.{Grows, IsTable};
 ghost use Rattle.aj_nodes.specs.Shown.{IsThere, AreThere, node_value, trees_at};
-ghost use Rattle.aj_derive.specs.Derived.{trees_assign};
-ghost use Rattle.aj_derive.specs.Concluded.{own_trees, BeginsWith, ConcludesOn, ConcludeAllOn};
+ghost use Rattle.aj_derive_rules.specs.Bases.{own_trees, trees_assign};
+ghost use Rattle.aj_derive.specs.Concluded.{BeginsWith, ConcludesOn, ConcludeAllOn};
 
-use crate::basis::Basis;
-use crate::rules::rule;
 use aj_algebra::Basic;
 use aj_deriv::Derivation;
 use aj_deriv_rules::{BodyPart, Parts, inner_parts, part_word};
+use aj_derive_rules::{Basis, rule};
 use aj_nodes::{Node, NodeTable};
 use std::alloc::{AllocError as NoMemory, Global};
 

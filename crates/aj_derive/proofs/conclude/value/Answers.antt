@@ -5,9 +5,8 @@ use Rattle.aj_rules.specs.Near.{rel_of}
 use Rattle.aj_nodes.specs.Shown.{node_value}
 use Rattle.aj_deriv_rules.specs.Rules.{rule_of}
 use Rattle.aj_deriv_rules.specs.Bodies.{part_of}
-use Rattle.aj_derive.specs.Concluded.{own_trees}
-use Rattle.aj_derive.specs.Derived.{trees_assign}
-use Rattle.aj_derive.proofs.Tables.{grows_by}
+use Rattle.aj_derive_rules.specs.Bases.{own_trees, trees_assign}
+use Rattle.aj_derive_rules.proofs.Tables.{grows_by}
 use Rattle.aj_derive.proofs.conclude.value.Goals as goal
 
 pub returns-clause-value : goal.returns-clause-value

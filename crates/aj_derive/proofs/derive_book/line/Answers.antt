@@ -8,8 +8,7 @@ use Rattle.aj_node_rows.proofs.Tables.{grows_chain}
 use Rattle.aj_book_text.specs.Books.{IsNumbered}
 use Rattle.aj_deriv.specs.Memory.{node_of}
 use Rattle.aj_deriv_rules.specs.Parts.{StmtP}
-use Rattle.aj_derive.specs.Concluded.{own_trees}
-use Rattle.aj_derive.specs.Derived.{trees_assign}
+use Rattle.aj_derive_rules.specs.Bases.{own_trees, trees_assign}
 use Rattle.aj_derive.specs.Moved.{IsMoved}
 use Rattle.aj_derive.specs.Pools.{pool_table, IsNumberIn}
 use Rattle.aj_derive.proofs.ConcludeLemmas.{numbered}

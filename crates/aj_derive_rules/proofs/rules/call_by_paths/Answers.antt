@@ -1,0 +1,16 @@
+-- What is assigned to the callee, under the names of its paths here.
+use Rattle.std.specs.Option.{option_copied}
+use Rattle.aj_core.specs.Views.{program_of}
+use Rattle.aj_rules.specs.Near.{rel_of}
+use Rattle.aj_nodes.specs.Shown.{node_value}
+use Rattle.aj_derive_rules.specs.Bases.{own_trees}
+use Rattle.aj_derive_rules.proofs.RuleLemmas.{value_as, call_made}
+use Rattle.aj_derive_rules.proofs.rules.call_by_paths.Goals as goal
+
+pub returns-clause-value : goal.returns-clause-value
+returns-clause-value c =
+    let g = c.args.basis.now in
+    value_as c.with_required.new.table c.with_required.result _ _
+    (λ H. call_made (own_trees g) (program_of g.program.now) (rel_of g.sets.now) c.args.callee c.rel.result.now c.required.result.now (option_copied c.args.receiver) c.args.args.now H
+    (node_value c.assigned.new.table c.in_ok-value.value H) c.rel.ensures c.required.ensures (c.in_ok-value.ensures.value H))
+    c.with_required.ensures.value
