@@ -10,9 +10,9 @@ use Rattle.aj_core.specs.Core.{Program, Method}
 use Rattle.aj_core.specs.Typed.{IsTyped}
 use Rattle.aj_core.specs.declared.program.CoreProgram.{CoreProgram}
 use Rattle.aj_core.specs.Views.{program_of}
-use Rattle.aj_book_text.specs.Books.{Book}
-use Rattle.aj_book_text.specs.Texts.{IsTextOf}
-use Rattle.aj_book_text.specs.declared.stop.BookFault.TheVariants as faults
+use Rattle.aj_book_grammar.specs.Books.{Book}
+use Rattle.aj_book_grammar.specs.Texts.{IsTextOf}
+use Rattle.aj_book_grammar.specs.declared.stop.BookFault.TheVariants as faults
 use Rattle.aj_deriv_check.specs.Checks.{IsJudged}
 use Rattle.aj_deriv_rules.specs.Conclusions.{tree_value}
 use Rattle.aj_deriv_check.specs.Good.{IsGoodBook}

@@ -3,10 +3,10 @@ use Rattle.std.specs.Prelude.{◌≡◌, ◌≢◌, ℕ, List, [], ◌∷◌, �
 use Rattle.aj_book_report.specs.Books.{form_line, too_deep_line, wrong_line}
 use Rattle.aj_book_report.specs.declared.books.WrongKind.TheVariants as kinds
 use Rattle.aj_core.specs.Core.{Program}
-use Rattle.aj_book_text.specs.Books.{Book}
-use Rattle.aj_book_text.specs.Faults.{first_fault}
-use Rattle.aj_book_text.specs.Texts.{IsTextOf}
-use Rattle.aj_book_text.specs.declared.stop.BookFault.TheVariants as faults
+use Rattle.aj_book_grammar.specs.Books.{Book}
+use Rattle.aj_book_grammar.specs.Faults.{first_fault}
+use Rattle.aj_book_grammar.specs.Texts.{IsTextOf}
+use Rattle.aj_book_grammar.specs.declared.stop.BookFault.TheVariants as faults
 use Rattle.aj_deriv_check.specs.Faults.{IsWrong}
 use Rattle.aj_deriv_check.specs.Good.{IsGoodBook}
 use Rattle.aj_deriv_check.specs.declared.wrong.Wrong.{Wrong}

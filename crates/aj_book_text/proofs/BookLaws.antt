@@ -6,18 +6,18 @@ use Rattle.aj_paths.specs.Paths.{PathData}
 use Rattle.aj_cond.specs.Conditions.{Cond, LeafC, cond_eq}
 use Rattle.aj_cond.specs.Texts.{text_of}
 use Rattle.aj_cond.proofs.CondLemmas.{cond_eq-is, cond_eq-itself}
-use Rattle.aj_book_text.specs.declared.stop.Kind.{Kind}
-use Rattle.aj_book_text.specs.declared.stop.Kind.TheVariants.{Form, TooDeep}
-use Rattle.aj_book_text.specs.Books.{Line, Book, IsBook, AreTrees, AreLines, HasPaths, tests_high, comes_after, is_canonical, is_canonical_below, most_height}
-use Rattle.aj_book_text.specs.Texts.{newline, line_text, lines_text, table_text, book_text, IsTextOf}
-use Rattle.aj_book_text.specs.Combine.{Res, ◌>>=◌, seen, unread, begins, expect, at_most, several, exactly}
-use Rattle.aj_book_text.specs.Reading.{number_at, path_at, leaf_at, test_with, tree_at, canonical_at, table_line, line_at, lines_at, nothing, count_at, book_at}
-use Rattle.aj_book_text.specs.Passing.{texts_differ, pass_test, pass_tree, pass_canonical, pass_several, pass_table_line, pass_table, pass_line, pass_lines, pass_book}
-use Rattle.aj_book_text.proofs.Sound.{SoundAt, sound_seq, Bytes, sound_expect, Row, row_end, row_more, sound_several, RowOf, sound_exactly, IsNumber, sound_number}
-use Rattle.aj_book_text.proofs.SoundTrees.{ReadsTree, sound_tree, ReadsTableLine, sound_table_line, ReadsLine, sound_line}
-use Rattle.aj_book_text.proofs.Several.{unseen}
-use Rattle.aj_book_text.proofs.Complete.{complete_number, complete_tree, complete_canonical, complete_line}
-use Rattle.aj_book_text.proofs.PassLemmas.{pass_seq, pass_same, pass_if, pass_several-is, front_of, front_taken, same_test}
+use Rattle.aj_book_grammar.specs.declared.stop.Kind.{Kind}
+use Rattle.aj_book_grammar.specs.declared.stop.Kind.TheVariants.{Form, TooDeep}
+use Rattle.aj_book_grammar.specs.Books.{Line, Book, IsBook, AreTrees, AreLines, HasPaths, tests_high, comes_after, is_canonical, is_canonical_below, most_height}
+use Rattle.aj_book_grammar.specs.Texts.{newline, line_text, lines_text, table_text, book_text, IsTextOf}
+use Rattle.aj_book_grammar.specs.Combine.{Res, ◌>>=◌, seen, unread, begins, expect, at_most, several, exactly}
+use Rattle.aj_book_grammar.specs.Reading.{number_at, path_at, leaf_at, test_with, tree_at, canonical_at, table_line, line_at, lines_at, nothing, count_at, book_at}
+use Rattle.aj_book_grammar.specs.Passing.{texts_differ, pass_test, pass_tree, pass_canonical, pass_several, pass_table_line, pass_table, pass_line, pass_lines, pass_book}
+use Rattle.aj_book_grammar.proofs.Sound.{SoundAt, sound_seq, Bytes, sound_expect, Row, row_end, row_more, sound_several, RowOf, sound_exactly, IsNumber, sound_number}
+use Rattle.aj_book_grammar.proofs.SoundTrees.{ReadsTree, sound_tree, ReadsTableLine, sound_table_line, ReadsLine, sound_line}
+use Rattle.aj_book_grammar.proofs.Several.{unseen}
+use Rattle.aj_book_grammar.proofs.Complete.{complete_number, complete_tree, complete_canonical, complete_line}
+use Rattle.aj_book_grammar.proofs.PassLemmas.{pass_seq, pass_same, pass_if, pass_several-is, front_of, front_taken, same_test}
 use Rattle.aj_book_text.proofs.PassBooks.{pass_line-is}
 
 -- trees

@@ -1,24 +1,24 @@
 -- What the parts of an open book stand for.
 use Rattle.std.proofs.Common.{◌≡◌, ℕ, ◌-◌, ◌<◌, ◌≤◌, ◌^◌, true, false, List, [], ◌∷◌, ◌++◌, length, codes, decimal, Some, None, Ok, Err, refl, sym, ◌∙◌, ap, arith, append_assoc, append-nil}
-use Rattle.aj_book_text.specs.declared.stop.Kind.{Kind}
-use Rattle.aj_book_text.specs.declared.stop.BookFault.{BookFault}
-use Rattle.aj_book_text.specs.declared.word.Word.{Word}
+use Rattle.aj_book_grammar.specs.declared.stop.Kind.{Kind}
+use Rattle.aj_book_grammar.specs.declared.stop.BookFault.{BookFault}
+use Rattle.aj_book_grammar.specs.declared.word.Word.{Word}
 use Rattle.aj_book_text.specs.declared.cursor.NodeView.{NodeView}
 use Rattle.aj_book_text.specs.declared.cursor.Premises.{Premises}
 use Rattle.aj_book_text.specs.declared.cursor.MethodView.{MethodView}
 use Rattle.aj_book_text.specs.declared.cursor.BookCursor.{BookCursor}
-use Rattle.aj_book_text.specs.Derivations.{Node, node, Nodes, no_nodes, and_node, word_at, number_of, premises_of}
-use Rattle.aj_book_text.specs.Books.{Line, Book, IsLine, IsNumbered, AreNumbered, node_high, nodes_high, most_height}
-use Rattle.aj_book_text.specs.Texts.{newline, node_text, nodes_text, line_text, lines_text, table_text, book_text, IsTextOf}
-use Rattle.aj_book_text.specs.Combine.{Res, ◌>>=◌, unread, begins, expect, several, exactly}
-use Rattle.aj_book_text.specs.Reading.{line_at, lines_at, nothing, table_line, book_at}
-use Rattle.aj_book_text.specs.Faults.{fault_at, fault_of, first_fault}
-use Rattle.aj_book_text.specs.Passing.{pass_node, pass_book}
+use Rattle.aj_book_grammar.specs.Derivations.{Node, node, Nodes, no_nodes, and_node, word_at, number_of, premises_of}
+use Rattle.aj_book_grammar.specs.Books.{Line, Book, IsLine, IsNumbered, AreNumbered, node_high, nodes_high, most_height}
+use Rattle.aj_book_grammar.specs.Texts.{newline, node_text, nodes_text, line_text, lines_text, table_text, book_text, IsTextOf}
+use Rattle.aj_book_grammar.specs.Combine.{Res, ◌>>=◌, unread, begins, expect, several, exactly}
+use Rattle.aj_book_grammar.specs.Reading.{line_at, lines_at, nothing, table_line, book_at}
+use Rattle.aj_book_grammar.specs.Faults.{fault_at, fault_of, first_fault}
+use Rattle.aj_book_grammar.specs.Passing.{pass_node, pass_book}
 use Rattle.aj_book_text.specs.Views.{IsViewOf, ArePremises, IsNext, IsCursorAt, IsNextLine, head_at, view_at, premise_view_at, line_view_at, behind_head}
-use Rattle.aj_book_text.proofs.Sound.{sound_exactly, RowOf}
-use Rattle.aj_book_text.proofs.SoundTrees.{ReadsTableLine, sound_table_line}
-use Rattle.aj_book_text.proofs.Complete.{stops, complete_number, complete_word, complete_node, node_before, line_before}
-use Rattle.aj_book_text.proofs.PassLemmas.{pass_node-is, front_taken}
+use Rattle.aj_book_grammar.proofs.Sound.{sound_exactly, RowOf}
+use Rattle.aj_book_grammar.proofs.SoundTrees.{ReadsTableLine, sound_table_line}
+use Rattle.aj_book_grammar.proofs.Complete.{stops, complete_number, complete_word, complete_node, node_before, line_before}
+use Rattle.aj_book_grammar.proofs.PassLemmas.{pass_node-is, front_taken}
 use Rattle.aj_book_text.proofs.BookLaws.{book_found, found_text, book_fault, complete_book, after_ok, ok_value, sound_ok, row_trees, sound_lines, ReadsLines}
 
 -- opening

@@ -1,14 +1,14 @@
 -- Passing over tables, lines and books gives what reading them gives, seen by less.
 use Rattle.std.proofs.Common.{◌≡◌, ℕ, zero, suc, ◌-◌, ◌<◌, ◌≤◌, ◌^◌, true, false, List, [], ◌∷◌, length, length-append, codes, Ok, Err, refl, sym, ◌∙◌, ap, subst, arith}
-use Rattle.aj_book_text.specs.Books.{Line, most_height}
-use Rattle.aj_book_text.specs.Texts.{newline}
-use Rattle.aj_book_text.specs.Combine.{Res, ◌>>=◌, unread, begins, expect}
-use Rattle.aj_book_text.specs.Reading.{number_at, node_at, line_at}
-use Rattle.aj_book_text.specs.Passing.{pass_several, pass_node, pass_table_line, pass_table, pass_line}
-use Rattle.aj_book_text.proofs.Sound.{SoundAt}
-use Rattle.aj_book_text.proofs.SoundTrees.{ReadsLine, sound_line}
-use Rattle.aj_book_text.proofs.Several.{unseen}
-use Rattle.aj_book_text.proofs.PassLemmas.{pass_seq, pass_same, pass_node-is, several_pass_more, several_pass_done}
+use Rattle.aj_book_grammar.specs.Books.{Line, most_height}
+use Rattle.aj_book_grammar.specs.Texts.{newline}
+use Rattle.aj_book_grammar.specs.Combine.{Res, ◌>>=◌, unread, begins, expect}
+use Rattle.aj_book_grammar.specs.Reading.{number_at, node_at, line_at}
+use Rattle.aj_book_grammar.specs.Passing.{pass_several, pass_node, pass_table_line, pass_table, pass_line}
+use Rattle.aj_book_grammar.proofs.Sound.{SoundAt}
+use Rattle.aj_book_grammar.proofs.SoundTrees.{ReadsLine, sound_line}
+use Rattle.aj_book_grammar.proofs.Several.{unseen}
+use Rattle.aj_book_grammar.proofs.PassLemmas.{pass_seq, pass_same, pass_node-is, several_pass_more, several_pass_done}
 
 pub table_more : (n : ℕ) (ts : List ℕ) → 0 < n → pass_table n ts ≡ (pass_table_line ts >>= λ u ts. pass_table (n - 1) ts)
 table_more zero ts some = absurd (omega (arith, some))

@@ -3,18 +3,18 @@ use Rattle.std.proofs.Common.{◌≡◌, ℕ, zero, suc, ◌-◌, ◌<◌, ◌^�
 use Rattle.std.proofs.lemmas.List.{map-append}
 use Rattle.aj_cond.specs.Conditions.{Cond, cond_of}
 use Rattle.aj_cond.specs.declared.tree.Tree.{Tree}
-use Rattle.aj_book_text.specs.declared.stop.Kind.TheVariants.{Form}
+use Rattle.aj_book_grammar.specs.declared.stop.Kind.TheVariants.{Form}
 use Rattle.aj_book_text.specs.declared.cursor.NodeView.{NodeView}
 use Rattle.aj_book_text.specs.declared.cursor.Premises.{Premises}
 use Rattle.aj_book_text.specs.declared.cursor.MethodView.{MethodView}
 use Rattle.aj_book_text.specs.declared.cursor.BookCursor.{BookCursor}
-use Rattle.aj_book_text.specs.Derivations.{Node, node, Nodes, no_nodes, and_node, premises_of, word_at, number_of}
-use Rattle.aj_book_text.specs.Books.{Line, Book, AreLines, is_canonical, most_height}
-use Rattle.aj_book_text.specs.Texts.{newline, table_text}
-use Rattle.aj_book_text.specs.Combine.{Res, ◌>>=◌, expect, exactly}
-use Rattle.aj_book_text.specs.Reading.{node_at, tree_at, canonical_at, table_line}
+use Rattle.aj_book_grammar.specs.Derivations.{Node, node, Nodes, no_nodes, and_node, premises_of, word_at, number_of}
+use Rattle.aj_book_grammar.specs.Books.{Line, Book, AreLines, is_canonical, most_height}
+use Rattle.aj_book_grammar.specs.Texts.{newline, table_text}
+use Rattle.aj_book_grammar.specs.Combine.{Res, ◌>>=◌, expect, exactly}
+use Rattle.aj_book_grammar.specs.Reading.{node_at, tree_at, canonical_at, table_line}
 use Rattle.aj_book_text.specs.Views.{IsViewOf, ArePremises, IsNext, IsNextLine, IsCursorAt, IsAtSome, nodes_of, nodes_in, lines_of, lines_in, plain_line, after_those, IsReadAs}
-use Rattle.aj_book_text.proofs.Complete.{complete_node, complete_several, from_list}
+use Rattle.aj_book_grammar.proofs.Complete.{complete_node, complete_several, from_list}
 use Rattle.aj_book_text.proofs.BookLaws.{after_ok, complete_table, complete_lines}
 use Rattle.aj_book_text.proofs.CursorLaws.{widened_one}
 

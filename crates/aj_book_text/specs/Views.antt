@@ -1,17 +1,17 @@
 -- What the parts of a book that are lent from its bytes stand for.
 use Rattle.std.specs.Prelude.{◌≡◌, ℕ, ◌-◌, ◌^◌, ◌≤◌, List, [], ◌∷◌, ◌++◌, length, take, codes, Option, Some, None, Ok, Err}
-use Rattle.aj_book_text.specs.declared.word.Word.{Word}
+use Rattle.aj_book_grammar.specs.declared.word.Word.{Word}
 use Rattle.aj_book_text.specs.declared.cursor.NodeView.{NodeView}
 use Rattle.aj_book_text.specs.declared.cursor.Premises.{Premises}
 use Rattle.aj_book_text.specs.declared.cursor.MethodView.{MethodView}
 use Rattle.aj_book_text.specs.declared.cursor.BookCursor.{BookCursor}
-use Rattle.aj_book_text.specs.Derivations.{Node, Nodes, no_nodes, and_node, nodes_from, word_at, number_of}
-use Rattle.aj_book_text.specs.Books.{Line, Book, IsBook, IsNumbered, AreNumbered, node_high, nodes_high, most_height}
-use Rattle.aj_book_text.specs.Texts.{newline, node_text, nodes_text, lines_text, table_text}
-use Rattle.aj_book_text.specs.Combine.{Res, ◌>>=◌, expect, several}
-use Rattle.aj_book_text.specs.Reading.{number_at, word_at_front, premise_with, node_at, tree_at, lines_at}
+use Rattle.aj_book_grammar.specs.Derivations.{Node, Nodes, no_nodes, and_node, nodes_from, word_at, number_of}
+use Rattle.aj_book_grammar.specs.Books.{Line, Book, IsBook, IsNumbered, AreNumbered, node_high, nodes_high, most_height}
+use Rattle.aj_book_grammar.specs.Texts.{newline, node_text, nodes_text, lines_text, table_text}
+use Rattle.aj_book_grammar.specs.Combine.{Res, ◌>>=◌, expect, several}
+use Rattle.aj_book_grammar.specs.Reading.{number_at, word_at_front, premise_with, node_at, tree_at, lines_at}
 use Rattle.aj_cond.specs.Conditions.{Cond}
-use Rattle.aj_book_text.specs.Passing.{pass_node}
+use Rattle.aj_book_grammar.specs.Passing.{pass_node}
 
 -- the view of a node: its word, its number and its text
 pub record IsViewOf (view : NodeView) (d : Node) : Type 0 where

@@ -1,14 +1,15 @@
 //! The parts of a book, passed over from its first byte to its last.
 ghost use Rattle.std.specs.Prelude.{◌≡◌, ◌≤◌, ◌<◌, ◌^◌, length, IfOk};
-ghost use Rattle.aj_book_text.specs.Faults.{Gives};
-ghost use Rattle.aj_book_text.specs.Passing.{pass_book, pass_line, pass_lines, pass_several, pass_table, pass_table_line};
-ghost use Rattle.aj_book_text.specs.Reading.{count_at, nothing};
+ghost use Rattle.aj_book_grammar.specs.Faults.{Gives};
+ghost use Rattle.aj_book_grammar.specs.Passing.{pass_book, pass_line, pass_lines, pass_several, pass_table, pass_table_line};
+ghost use Rattle.aj_book_grammar.specs.Reading.{count_at, nothing};
 
-use crate::front::{begins, expect, expect_byte};
-use crate::node_reader::{MOST_HEIGHT, node};
-use crate::numbers::{NUMBERS_END, number};
-use crate::stop::{Kind, Stop};
-use crate::tree_reader::table_tree;
+use aj_book_grammar::{
+    Kind, NUMBERS_END, Stop, begins, expect, expect_byte, node, number, table_tree,
+};
+
+/// How many nodes stand within each other at most.
+pub const MOST_HEIGHT: u32 = 64;
 
 /// Where the parts of a book begin, and how many trees it has.
 #[derive(Clone, Copy)]
@@ -19,7 +20,7 @@ pub(crate) struct Parts<'a> {
 }
 
 /// The count of the trees, in its line.
-#[tactic(auto, unfolding(crate::specs::Reading::count_at))]
+#[tactic(auto, unfolding(aj_book_grammar::specs::Reading::count_at))]
 pub fn count<'a>(text: &'a [u8]) -> Result<(u32, &'a [u8]), Stop<'a>>
     ensures { Gives (λ x. (x.0, x.1.now)) result (count_at text.now) }
 {
@@ -52,7 +53,7 @@ pub fn table_lines<'a>(text: &'a [u8], count: u32) -> Result<&'a [u8], Stop<'a>>
 }
 
 /// Passes over a method line.
-#[tactic(auto, unfolding(crate::specs::Passing::pass_line))]
+#[tactic(auto, unfolding(aj_book_grammar::specs::Passing::pass_line))]
 fn line<'a>(text: &'a [u8], count: u64) -> Result<&'a [u8], Stop<'a>>
     requires { count ≤ 2 ^ 32 }
     ensures { Gives (λ r. (tt {0}, r.now)) result (pass_line count text.now) }
@@ -93,7 +94,7 @@ pub fn end<'a>(text: &'a [u8]) -> Result<&'a [u8], Stop<'a>>
 }
 
 /// Passes over the method lines and the end of the book.
-#[tactic(auto, unfolding(crate::specs::Passing::pass_lines))]
+#[tactic(auto, unfolding(aj_book_grammar::specs::Passing::pass_lines))]
 fn lines<'a>(text: &'a [u8], count: u64) -> Result<&'a [u8], Stop<'a>>
     requires { count ≤ 2 ^ 32 }
     ensures { Gives (λ r. (tt {0}, r.now)) result (pass_lines count text.now) }
@@ -104,7 +105,7 @@ fn lines<'a>(text: &'a [u8], count: u64) -> Result<&'a [u8], Stop<'a>>
 }
 
 /// Passes over a whole book.
-#[tactic(auto, unfolding(crate::specs::Passing::pass_book))]
+#[tactic(auto, unfolding(aj_book_grammar::specs::Passing::pass_book))]
 pub(crate) fn book<'a>(text: &'a [u8]) -> Result<(Parts<'a>, &'a [u8]), Stop<'a>>
     ensures { Gives (λ x. ((x.0.trees, x.0.table.now, x.0.lines.now), x.1.now)) result (pass_book text.now) }
 {

@@ -1,19 +1,17 @@
 //! Books read in place: each part is lent from the bytes, and nothing takes memory.
 ghost use Rattle.std.specs.Prelude.{◌≡◌, ◌≤◌, ◌^◌, length, IfOk, IfErr, Some, MatchResult};
-ghost use Rattle.aj_book_text.specs.Derivations.{Node, Nodes, premises_of};
-ghost use Rattle.aj_book_text.specs.Books.{Book};
-ghost use Rattle.aj_book_text.specs.Texts.{IsTextOf};
-ghost use Rattle.aj_book_text.specs.Faults.{Gives, first_fault};
-ghost use Rattle.aj_book_text.specs.declared.stop.BookFault.{BookFault};
+ghost use Rattle.aj_book_grammar.specs.Derivations.{Node, Nodes, premises_of};
+ghost use Rattle.aj_book_grammar.specs.Books.{Book};
+ghost use Rattle.aj_book_grammar.specs.Texts.{IsTextOf};
+ghost use Rattle.aj_book_grammar.specs.Faults.{Gives, first_fault};
+ghost use Rattle.aj_book_grammar.specs.declared.stop.BookFault.{BookFault};
 ghost use Rattle.aj_book_text.specs.Views.{ArePremises, IsCursorAt, IsNext, IsNextLine, IsViewOf, behind_head as behind, head_at, line_view_at, premise_view_at, view_at};
 
-use crate::book_reader::book;
-use crate::front::{begins, expect, expect_byte};
-use crate::names::first_word;
-use crate::node_reader::{MOST_HEIGHT, node};
-use crate::numbers::{NUMBERS_END, number};
-use crate::stop::{BookFault, Stop, fault_in};
-use crate::word::Word;
+use crate::book_reader::{MOST_HEIGHT, book};
+use aj_book_grammar::{
+    BookFault, NUMBERS_END, Stop, Word, begins, expect, expect_byte, fault_in, first_word, node,
+    number,
+};
 use aj_paths::MethodId;
 
 /// A node of a derivation: its word, the number of its conclusion, and its text.

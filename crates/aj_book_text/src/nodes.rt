@@ -1,10 +1,10 @@
 //! Nodes side by side, wherever they are kept.
 ghost use Rattle.std.specs.Prelude.{◌≡◌, IfNone, IfSome};
-ghost use Rattle.aj_book_text.specs.Derivations.{node, no_nodes, and_node};
+ghost use Rattle.aj_book_grammar.specs.Derivations.{node, no_nodes, and_node};
 ghost use Rattle.aj_book_text.specs.Views.{ArePremises, nodes_in};
 
 use crate::cursor::Premises;
-use crate::word::Word;
+use aj_book_grammar::Word;
 
 /// The first of some nodes: its word, the number of its conclusion and its premises; and the other nodes.
 #[derive(Clone, Copy)]
@@ -17,7 +17,7 @@ pub struct First<F> {
 
 /// Nodes side by side, in memory or in the text of a book.
 pub trait Nodes: Copy {
-    ghost use Rattle.aj_book_text.specs.Derivations.{Nodes};
+    ghost use Rattle.aj_book_grammar.specs.Derivations.{Nodes};
 
     /// What they are.
     ghost nodes: { Self → Nodes };

@@ -1,24 +1,21 @@
 //! The table of a book, built from its text.
 ghost use Rattle.std.specs.Prelude.{◌≡◌, ◌≤◌, ◌⊎◌, map, length, Some, IfOk, IfErr, MatchResult};
 ghost use Rattle.aj_cond.specs.Conditions.{cond_of};
-ghost use Rattle.aj_book_text.specs.Books.{Book};
-ghost use Rattle.aj_book_text.specs.Combine.{exactly};
-ghost use Rattle.aj_book_text.specs.Faults.{first_fault};
-ghost use Rattle.aj_book_text.specs.Reading.{tree_at};
-ghost use Rattle.aj_book_text.specs.Texts.{IsTextOf};
+ghost use Rattle.aj_book_grammar.specs.Books.{Book};
+ghost use Rattle.aj_book_grammar.specs.Combine.{exactly};
+ghost use Rattle.aj_book_grammar.specs.Faults.{first_fault};
+ghost use Rattle.aj_book_grammar.specs.Reading.{tree_at};
+ghost use Rattle.aj_book_grammar.specs.Texts.{IsTextOf};
 ghost use Rattle.aj_book_text.specs.Views.{IsCursorAt, IsReadAs, plain_line};
-ghost use Rattle.aj_book_text.specs.declared.stop.BookFault.{BookFault};
+ghost use Rattle.aj_book_grammar.specs.declared.stop.BookFault.{BookFault};
 
 use crate::cursor::BookCursor;
-use crate::front::{begins, expect_byte};
-use crate::names::leaf;
-use crate::stop::{BookFault, Unbuilt};
-use crate::tree_reader::{MOST_HEIGHT, path};
+use aj_book_grammar::{BookFault, MOST_TESTS, Unbuilt, begins, expect_byte, leaf, path};
 use aj_cond::Tree;
 use std::alloc::{AllocError as NoMemory, Global};
 
 /// The tree that a text begins with.
-#[tactic(auto, unfolding(crate::specs::Reading::tree_at))]
+#[tactic(auto, unfolding(aj_book_grammar::specs::Reading::tree_at))]
 fn tree<'a>(alloc: Global, text: &'a [u8], room: u32) -> Result<(Tree, &'a [u8]), Unbuilt>
     ensures { IfOk result (λ x. tree_at room text.now ≡ Ok (cond_of x.0, x.1.now)) }
 {
@@ -45,7 +42,7 @@ fn tree<'a>(alloc: Global, text: &'a [u8], room: u32) -> Result<(Tree, &'a [u8])
 fn line<'a>(alloc: Global, text: &'a [u8]) -> Result<(Tree, &'a [u8]), Unbuilt>
     ensures { IfOk result (λ x. plain_line text.now ≡ Ok (cond_of x.0, x.1.now)) }
 {
-    let (tree, rest) = tree(alloc, text, MOST_HEIGHT)?;
+    let (tree, rest) = tree(alloc, text, MOST_TESTS)?;
     let rest = expect_byte(rest, b'\n')?;
     Ok((tree, rest))
 }

@@ -4,20 +4,20 @@ use Rattle.std.proofs.lemmas.List.{map-append}
 use Rattle.aj_cond.specs.Conditions.{cond_of}
 use Rattle.aj_cond.specs.declared.tree.Tree.{Tree}
 use Rattle.aj_deriv.specs.declared.derivation.Derivation.{Derivation}
-use Rattle.aj_book_text.specs.declared.word.Word.{Word}
-use Rattle.aj_book_text.specs.Derivations.{Node, node, and_node, nodes_from}
-use Rattle.aj_book_text.specs.Books.{Line}
-use Rattle.aj_book_text.specs.Texts.{book_text, IsTextOf}
-use Rattle.aj_book_text.specs.Combine.{Res, begins, exactly, several}
+use Rattle.aj_book_grammar.specs.declared.word.Word.{Word}
+use Rattle.aj_book_grammar.specs.Derivations.{Node, node, and_node, nodes_from}
+use Rattle.aj_book_grammar.specs.Books.{Line}
+use Rattle.aj_book_grammar.specs.Texts.{book_text, IsTextOf}
+use Rattle.aj_book_grammar.specs.Combine.{Res, begins, exactly, several}
 use Rattle.aj_deriv.specs.Memory.{book_of, line_of, node_of, nodes_at}
-use Rattle.aj_book_text.specs.Passing.{pass_table}
-use Rattle.aj_book_text.specs.Reading.{count_at, line_at, lines_at, node_at, premise_with, table_line}
+use Rattle.aj_book_grammar.specs.Passing.{pass_table}
+use Rattle.aj_book_grammar.specs.Reading.{count_at, line_at, lines_at, node_at, premise_with, table_line}
 use Rattle.aj_book_text.specs.Views.{after_those, plain_line, IsReadAs}
 use Rattle.aj_book_text.proofs.BookLaws.{book_by, found_text, pass_table-is, Found}
 use Rattle.aj_book_text.proofs.CursorLaws.{lines_end}
 use Rattle.aj_book_text.proofs.PassBooks.{line_shorter}
-use Rattle.aj_book_text.proofs.PassLemmas.{premise_takes}
-use Rattle.aj_book_text.proofs.Several.{Takes, several_done, several_more, unseen}
+use Rattle.aj_book_grammar.proofs.PassLemmas.{premise_takes}
+use Rattle.aj_book_grammar.proofs.Several.{Takes, several_done, several_more, unseen}
 use Rattle.aj_book_text.proofs.TableLaws.{exactly_plain, moved, read_same}
 
 -- one item more

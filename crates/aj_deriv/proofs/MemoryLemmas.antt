@@ -2,12 +2,12 @@
 use Rattle.std.proofs.Common.{◌≡◌, ℕ, refl, ap, ◌∙◌}
 use Rattle.std.specs.Prelude.{Vec}
 use Rattle.std.specs.declared.alloc.Global.{Global}
-use Rattle.aj_book_text.specs.declared.word.Word.{Word}
-use Rattle.aj_book_text.specs.declared.word.Word.TheVariants as w
+use Rattle.aj_book_grammar.specs.declared.word.Word.{Word}
+use Rattle.aj_book_grammar.specs.declared.word.Word.TheVariants as w
 use Rattle.aj_deriv.specs.declared.derivation.Derivation as d
 use Rattle.aj_deriv.specs.declared.derivation.Derivation.{Derivation, Row_of-Derivation, end_of-Derivation, more_of-Derivation, items-the_row-Derivation, items_hidden-the_row-Derivation-0}
 use Rattle.aj_deriv.specs.declared.derivation.Derivation.TheBlock.{hidden-the_row-Derivation-0}
-use Rattle.aj_book_text.specs.Derivations.{node, and_node}
+use Rattle.aj_book_grammar.specs.Derivations.{node, and_node}
 use Rattle.aj_deriv.specs.Memory.{node_of, nodes_of, nodes_at}
 
 -- a row of premises is the list of them

@@ -2,11 +2,11 @@
 use Rattle.std.specs.Prelude.{ℕ, List, [], ◌∷◌, map}
 use Rattle.aj_cond.specs.declared.tree.Tree.{Tree}
 use Rattle.aj_cond.specs.Conditions.{cond_of}
-use Rattle.aj_book_text.specs.declared.word.Word.TheVariants as w
+use Rattle.aj_book_grammar.specs.declared.word.Word.TheVariants as w
 use Rattle.aj_deriv.specs.declared.derivation.Derivation.{Derivation, Row_of-Derivation, end_of-Derivation, more_of-Derivation}
 use Rattle.aj_deriv.specs.declared.derivation.Derivation.TheVariants as d
-use Rattle.aj_book_text.specs.Derivations.{Node, node, Nodes, no_nodes, and_node}
-use Rattle.aj_book_text.specs.Books.{Line, Book}
+use Rattle.aj_book_grammar.specs.Derivations.{Node, node, Nodes, no_nodes, and_node}
+use Rattle.aj_book_grammar.specs.Books.{Line, Book}
 
 abbrev mutual
   -- a node in memory as plain data

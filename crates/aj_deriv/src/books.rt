@@ -1,6 +1,6 @@
 //! Books in memory.
 ghost use Rattle.std.specs.Prelude.{◌≡◌};
-ghost use Rattle.aj_book_text.specs.Books.{IsBook};
+ghost use Rattle.aj_book_grammar.specs.Books.{IsBook};
 ghost use Rattle.aj_deriv.specs.Memory.{book_of};
 
 use crate::derivation::Derivation;
@@ -29,7 +29,7 @@ impl Model for DerivBook {
 
     ghost coded = { Prim.hlevel (codes, tree.the_row.coded, derivation.the_row.coded) };
 
-    ghost use Rattle.aj_book_text.specs.Books.{IsBook};
+    ghost use Rattle.aj_book_grammar.specs.Books.{IsBook};
     ghost use Rattle.aj_deriv.specs.Memory.{book_of};
 
     ghost view = { λ b. (b.table.items, b.methods.items) };

@@ -1,11 +1,12 @@
 //! Method lines of a book, wherever they are kept.
 ghost use Rattle.std.specs.Prelude.{◌≡◌, ◌∷◌, [], map, IfNone, IfSome};
-ghost use Rattle.aj_book_text.specs.Derivations.{node};
+ghost use Rattle.aj_book_grammar.specs.Derivations.{node};
 ghost use Rattle.aj_deriv.specs.Memory.{line_of, nodes_at};
 ghost use Rattle.aj_book_text.specs.Views.{lines_in, IsAtSome};
 
 use crate::derivation::{Derivation, InMemory};
-use aj_book_text::{BookCursor, Nodes, Premises, Word};
+use aj_book_grammar::Word;
+use aj_book_text::{BookCursor, Nodes, Premises};
 use aj_paths::MethodId;
 
 /// The first of some method lines: the method, the number of its tree, and the word, the number and the premises of its body's
@@ -23,7 +24,7 @@ pub struct FirstLine<F, L> {
 /// Method lines, in memory or in the text of a book.
 pub trait Lines: Copy {
     ghost use Rattle.std.specs.Prelude.{List};
-    ghost use Rattle.aj_book_text.specs.Books.{Line};
+    ghost use Rattle.aj_book_grammar.specs.Books.{Line};
 
     /// How premises are kept.
     type Premises: Nodes;

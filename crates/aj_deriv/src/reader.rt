@@ -1,25 +1,25 @@
 //! Books read from their texts.
 ghost use Rattle.std.specs.Prelude.{◌≡◌, ◌≤◌, ◌^◌, ◌⊎◌, map, length, Some, Ok, IfOk, IfErr, MatchResult};
-ghost use Rattle.aj_book_text.specs.Books.{Book};
-ghost use Rattle.aj_book_text.specs.Combine.{several};
-ghost use Rattle.aj_book_text.specs.Faults.{first_fault};
+ghost use Rattle.aj_book_grammar.specs.Books.{Book};
+ghost use Rattle.aj_book_grammar.specs.Combine.{several};
+ghost use Rattle.aj_book_grammar.specs.Faults.{first_fault};
 ghost use Rattle.aj_deriv.specs.Memory.{book_of, line_of, node_of};
-ghost use Rattle.aj_book_text.specs.Reading.{line_at, lines_at, node_at, premise_with};
-ghost use Rattle.aj_book_text.specs.Texts.{IsTextOf};
-ghost use Rattle.aj_book_text.specs.declared.stop.BookFault.{BookFault};
+ghost use Rattle.aj_book_grammar.specs.Reading.{line_at, lines_at, node_at, premise_with};
+ghost use Rattle.aj_book_grammar.specs.Texts.{IsTextOf};
+ghost use Rattle.aj_book_grammar.specs.declared.stop.BookFault.{BookFault};
 
 use crate::books::DerivBook;
 use crate::derivation::Derivation;
-use aj_book_text::{
-    BookCursor, BookFault, MOST_HEIGHT, NUMBERS_END, Unbuilt, begins, count, end, expect,
-    expect_byte, first_word, number, table_lines, trees,
+use aj_book_grammar::{
+    BookFault, NUMBERS_END, Unbuilt, begins, expect, expect_byte, first_word, number,
 };
+use aj_book_text::{BookCursor, MOST_HEIGHT, count, end, table_lines, trees};
 use aj_cond::Tree;
 use aj_paths::MethodId;
 use std::alloc::Global;
 
 /// The node that a text begins with, with at most `room` nodes within each other, whose numbers are below `end`.
-#[tactic(auto, unfolding(aj_book_text::specs::Reading::node_at), using(crate::proofs::Built::node_built))]
+#[tactic(auto, unfolding(aj_book_grammar::specs::Reading::node_at), using(crate::proofs::Built::node_built))]
 #[cycle(building)]
 fn derivation<'a>(
     alloc: Global,
@@ -79,7 +79,7 @@ fn premise<'a>(
 }
 
 /// The method line that a text begins with.
-#[tactic(auto, unfolding(aj_book_text::specs::Reading::line_at))]
+#[tactic(auto, unfolding(aj_book_grammar::specs::Reading::line_at))]
 fn method_line<'a>(
     alloc: Global,
     text: &'a [u8],
@@ -119,7 +119,7 @@ fn method_lines<'a>(
 }
 
 /// The method lines that a text begins with, up to the end of the book.
-#[tactic(auto, unfolding(aj_book_text::specs::Reading::lines_at))]
+#[tactic(auto, unfolding(aj_book_grammar::specs::Reading::lines_at))]
 fn last_lines<'a>(
     alloc: Global,
     text: &'a [u8],

@@ -13,7 +13,7 @@ use Rattle.aj_rules.specs.Mentions.{paths_of}
 use Rattle.aj_rules.specs.Effect.{Assignment, sync_effect, access_of, call_of, after_stmt, expr_effect, exprs_effect, effect, block_effect}
 use Rattle.aj_rules.specs.Rules.{AtMost}
 use Rattle.aj_rules.proofs.BasicLemmas.{below_itself, below_chain, seq_mono, join_mono, star_mono, lift_mono}
-use Rattle.aj_book_text.specs.Derivations.{Node, node, Nodes, no_nodes, and_node, number_of, count_nodes}
+use Rattle.aj_book_grammar.specs.Derivations.{Node, node, Nodes, no_nodes, and_node, number_of, count_nodes}
 use Rattle.aj_deriv_rules.specs.Parts.{Part, ExprP, StmtP, places, places_of, parts_of, args_parts, block_parts, Fits, Each}
 use Rattle.aj_deriv_rules.specs.Rules.{Value, in_sequence, choice_value, loop_value, lock_value, block_value, rule_of}
 use Rattle.aj_deriv_rules.specs.Conclusions.{conclusions}

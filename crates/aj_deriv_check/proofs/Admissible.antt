@@ -10,8 +10,8 @@ use Rattle.aj_rules.specs.Effect.{effect}
 use Rattle.aj_rules.specs.Near.{MethodPaths, AreRelevant, AreFew, rel_of}
 use Rattle.aj_rules.specs.Rules.{IsPart, AtMost, IsAdmissible, IsAccepted, declared_bound}
 use Rattle.aj_rules.proofs.BasicLemmas.{below_itself, below_chain}
-use Rattle.aj_book_text.specs.Derivations.{number_of}
-use Rattle.aj_book_text.specs.Books.{Line, Book}
+use Rattle.aj_book_grammar.specs.Derivations.{number_of}
+use Rattle.aj_book_grammar.specs.Books.{Line, Book}
 use Rattle.aj_deriv_rules.specs.Parts.{StmtP}
 use Rattle.aj_deriv_rules.specs.Conclusions.{table_value, tree_value}
 use Rattle.aj_deriv_check.specs.Good.{line_value, book_assignment, cond_at, Falls, IsGoodBook}

@@ -1,8 +1,8 @@
 -- The shape that is asked of each node.
 use Rattle.std.proofs.Common.{◌≡◌, ℕ, ◌==◌, ◌&&◌, ◌↔◌, Bool, true, List, length, sym, ◌∙◌, ap}
 use Rattle.std.proofs.lemmas.Bool.{and_from, and_parts, eq-eqb, eqb-true}
-use Rattle.aj_book_text.specs.declared.word.Word.{Word}
-use Rattle.aj_book_text.specs.Derivations.{node, Nodes, count_nodes}
+use Rattle.aj_book_grammar.specs.declared.word.Word.{Word}
+use Rattle.aj_book_grammar.specs.Derivations.{node, Nodes, count_nodes}
 use Rattle.aj_deriv_rules.specs.Parts.{Part, Fits, word_of, parts_of}
 
 -- both tests together say that a node fits

@@ -9,7 +9,7 @@ use Rattle.aj_cond.specs.Conditions.{Cond, LeafC, TestC, cond_eq, IsAfter, IsCan
 use Rattle.aj_cond.proofs.CondLemmas.{after_test, is-cond_eq}
 use Rattle.aj_core.specs.Core.{Method}
 use Rattle.aj_rules.specs.Effect.{Assignment}
-use Rattle.aj_book_text.specs.Books.{Line, Book, AreTrees, is_less, comes_after, is_canonical_below}
+use Rattle.aj_book_grammar.specs.Books.{Line, Book, AreTrees, is_less, comes_after, is_canonical_below}
 use Rattle.aj_deriv_rules.specs.declared.judge.Judge.{Judge}
 use Rattle.aj_deriv_check.specs.declared.wrong.Wrong.{Wrong}
 use Rattle.aj_deriv_check.specs.declared.wrong.Wrong.TheVariants as wrong

@@ -6,7 +6,7 @@ use Rattle.aj_cond.specs.Conditions.{Cond}
 use Rattle.aj_core.specs.Core.{Program, Method}
 use Rattle.aj_core.specs.declared.program.CoreMethod.{CoreMethod}
 use Rattle.aj_core.specs.Views.{method_of}
-use Rattle.aj_book_text.specs.Books.{Line, Book}
+use Rattle.aj_book_grammar.specs.Books.{Line, Book}
 use Rattle.aj_deriv_rules.specs.declared.judge.Judge.{Judge}
 use Rattle.aj_deriv_check.specs.declared.wrong.Wrong.{Wrong}
 use Rattle.aj_deriv_check.specs.declared.wrong.Wrong.TheVariants as wrong

@@ -2,10 +2,10 @@
 use Rattle.std.proofs.Common.{◌≡◌, ◌≢◌, ℕ, ◌⊎◌, inl, inr, List, [], Some, Ok, Err, refl, ap, subst}
 use Rattle.aj_paths.specs.Paths.{PathData}
 use Rattle.aj_core.specs.Core.{Program}
-use Rattle.aj_book_text.specs.Books.{Book}
-use Rattle.aj_book_text.specs.Texts.{IsTextOf}
-use Rattle.aj_book_text.specs.Faults.{first_fault}
-use Rattle.aj_book_text.specs.declared.stop.BookFault.{BookFault}
+use Rattle.aj_book_grammar.specs.Books.{Book}
+use Rattle.aj_book_grammar.specs.Texts.{IsTextOf}
+use Rattle.aj_book_grammar.specs.Faults.{first_fault}
+use Rattle.aj_book_grammar.specs.declared.stop.BookFault.{BookFault}
 use Rattle.aj_book_text.proofs.BookLaws.{complete_book}
 use Rattle.aj_book_text.proofs.CursorLaws.{one_book, no_fault, same_fault}
 use Rattle.aj_deriv_check.specs.declared.wrong.Wrong.{Wrong}

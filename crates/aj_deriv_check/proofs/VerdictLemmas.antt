@@ -1,7 +1,7 @@
 -- What the two passes find.
 use Rattle.std.proofs.Common.{◌≡◌, ℕ, inl, inr, List, [], ◌∷◌, Some, None, Ok, Err, refl, sym, subst, arith}
 use Rattle.aj_core.specs.Core.{Method}
-use Rattle.aj_book_text.specs.Books.{Line}
+use Rattle.aj_book_grammar.specs.Books.{Line}
 use Rattle.aj_deriv_check.specs.declared.wrong.Wrong.{Wrong}
 use Rattle.aj_deriv_check.specs.declared.wrong.Wrong.TheVariants as wrong
 use Rattle.aj_deriv_check.specs.declared.walk.End.TheVariants.{Good, Bad}

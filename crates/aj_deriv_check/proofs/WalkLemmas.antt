@@ -1,7 +1,7 @@
 -- Where walks end.
 use Rattle.std.proofs.Common.{◌≡◌, ℕ, suc, ◌+◌, ◌↔◌, Bool, true, List, [], ◌∷◌, ◌++◌, length, length-append, Result, Ok, Err, IfOk, refl, sym, ◌∙◌, ap, subst, arith}
-use Rattle.aj_book_text.specs.declared.word.Word.{Word}
-use Rattle.aj_book_text.specs.Derivations.{Node, node, Nodes, no_nodes, and_node}
+use Rattle.aj_book_grammar.specs.declared.word.Word.{Word}
+use Rattle.aj_book_grammar.specs.Derivations.{Node, node, Nodes, no_nodes, and_node}
 use Rattle.aj_deriv_check.specs.declared.walk.End.{End}
 use Rattle.aj_deriv_check.specs.declared.walk.End.TheVariants.{Good, Bad}
 use Rattle.aj_deriv_rules.specs.Parts.{Part, Place, places, places_of, parts_of}

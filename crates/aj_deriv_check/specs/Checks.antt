@@ -5,9 +5,9 @@ use Rattle.aj_core.specs.Core.{Program}
 use Rattle.aj_core.specs.Typed.{IsTyped}
 use Rattle.aj_rules.specs.Near.{MethodPaths, AreRelevant, AreFew}
 use Rattle.aj_rules.specs.Rules.{IsAccepted}
-use Rattle.aj_book_text.specs.Books.{Book}
-use Rattle.aj_book_text.specs.Texts.{IsTextOf}
-use Rattle.aj_book_text.specs.Faults.{first_fault}
+use Rattle.aj_book_grammar.specs.Books.{Book}
+use Rattle.aj_book_grammar.specs.Texts.{IsTextOf}
+use Rattle.aj_book_grammar.specs.Faults.{first_fault}
 use Rattle.aj_deriv_check.specs.declared.wrong.TextWrong.{TextWrong}
 use Rattle.aj_deriv_check.specs.declared.wrong.TextWrong.TheVariants as text
 use Rattle.aj_deriv_check.specs.Good.{IsGoodBook}

@@ -7,8 +7,8 @@ use Rattle.aj_core.specs.Core.{Program, Method}
 use Rattle.aj_cond.specs.Conditions.{Cond, LeafC, TestC, value_of}
 use Rattle.aj_rules.specs.Effect.{Assignment}
 use Rattle.aj_rules.specs.Rules.{IsPart, AtMost, declared_bound}
-use Rattle.aj_book_text.specs.Derivations.{number_of, premises_of}
-use Rattle.aj_book_text.specs.Books.{Line, Book}
+use Rattle.aj_book_grammar.specs.Derivations.{number_of, premises_of}
+use Rattle.aj_book_grammar.specs.Books.{Line, Book}
 use Rattle.aj_deriv_rules.specs.Parts.{StmtP, Place, places, Fits, Each}
 use Rattle.aj_deriv_rules.specs.Rules.{Value, rule_of}
 use Rattle.aj_deriv_rules.specs.Conclusions.{table_value, conclusions}

@@ -3,7 +3,7 @@ use Rattle.std.specs.Prelude.{◌≡◌, ◌⊎◌, ℕ, ◌<◌, List, [], ◌�
 use Rattle.std.specs.Global.{Global}
 use Rattle.aj_paths.specs.Paths.{PathData}
 use Rattle.aj_core.specs.Core.{Program, Method}
-use Rattle.aj_book_text.specs.Books.{Line, Book}
+use Rattle.aj_book_grammar.specs.Books.{Line, Book}
 use Rattle.aj_deriv_check.specs.declared.wrong.Wrong.{Wrong}
 use Rattle.aj_deriv_check.specs.declared.wrong.Wrong.TheVariants as wrong
 use Rattle.aj_deriv_rules.specs.declared.judge.Judge.{Judge}

@@ -4,7 +4,7 @@ ghost use Rattle.aj_algebra.specs.Basics.{below_of};
 ghost use Rattle.aj_algebra.specs.HeldPaths.{has_path};
 ghost use Rattle.aj_cond.specs.Conditions.{cond_of, value_of, IsCanonical};
 ghost use Rattle.aj_core.specs.Views.{method_of};
-ghost use Rattle.aj_book_text.specs.Derivations.{node};
+ghost use Rattle.aj_book_grammar.specs.Derivations.{node};
 ghost use Rattle.aj_rules.specs.Rules.{declared_bound};
 ghost use Rattle.aj_deriv_check.specs.Faults.{IsLineVerdict};
 ghost use Rattle.aj_deriv_check.specs.Good.{cond_at, tests_only as tests_only_of, Falls, IsTabled, IsUnder};
@@ -14,7 +14,8 @@ use crate::asked::Steps;
 use crate::walk::{End, walk_node};
 use crate::wrong::Wrong;
 use aj_algebra::{Algebra, Basic};
-use aj_book_text::{Nodes, Word};
+use aj_book_grammar::Word;
+use aj_book_text::Nodes;
 use aj_cond::{Tree, Trees};
 use aj_core::CoreMethod;
 use aj_deriv_rules::{

@@ -1,11 +1,12 @@
 //! A walk along the nodes of a derivation, beside the parts that they stand for.
 ghost use Rattle.std.specs.Prelude.{◌≡◌, ◌↔◌, ◌+◌, true, IfOk};
-ghost use Rattle.aj_book_text.specs.Derivations.{node};
+ghost use Rattle.aj_book_grammar.specs.Derivations.{node};
 ghost use Rattle.aj_deriv_rules.specs.Parts.{places, places_of};
 ghost use Rattle.aj_deriv_rules.specs.Bodies.{list_of, part_of};
 ghost use Rattle.aj_deriv_check.specs.Walks.{IsEnd};
 
-use aj_book_text::{Nodes, Word};
+use aj_book_grammar::Word;
+use aj_book_text::Nodes;
 use aj_deriv_rules::{BodyPart, Parts, inner_parts};
 use std::alloc::{AllocError as NoMemory, Global};
 

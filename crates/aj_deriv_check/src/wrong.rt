@@ -1,6 +1,6 @@
 //! What is wrong with a book.
 
-use aj_book_text::BookFault;
+use aj_book_grammar::BookFault;
 use std::alloc::{AllocError, AllocFailed};
 
 /// What is wrong with a book for a program: a position among the method lines, and a node of the derivation there, counted from 0

@@ -2,7 +2,7 @@
 use Rattle.std.specs.Prelude.{ℕ, List, [], ◌∷◌, Option, Some, None, slice_get}
 use Rattle.aj_algebra.specs.declared.basic.Basic.TheVariants.{Const}
 use Rattle.aj_cond.specs.Conditions.{Cond, value_of}
-use Rattle.aj_book_text.specs.Derivations.{Nodes, no_nodes, and_node, number_of}
+use Rattle.aj_book_grammar.specs.Derivations.{Nodes, no_nodes, and_node, number_of}
 use Rattle.aj_deriv_rules.specs.Rules.{Value}
 
 -- the value of a tree; const where there is none

@@ -2,9 +2,9 @@
 use Rattle.std.specs.Prelude.{◌≡◌, ℕ, ◌<◌, List, [], ◌∷◌, ◌++◌, length, Option, Some, None, slice_get}
 use Rattle.aj_core.specs.Core.{Expr, Exprs, IntE, TruthE, NullE, ThisE, VarE, NotE, NegE, BinaryE, AndE, OrE, GetE, CallE, NewE, no_exprs, and_expr}
 use Rattle.aj_core.specs.Core.{Stmt, Stmts, EmptyS, BlockS, LocalS, SetVarS, SetFieldS, DoS, IfS, WhileS, SyncS, ReturnS, PrintS, StartS, no_stmts, and_stmt}
-use Rattle.aj_book_text.specs.declared.word.Word.{Word}
-use Rattle.aj_book_text.specs.declared.word.Word.TheVariants as w
-use Rattle.aj_book_text.specs.Derivations.{Node, node, Nodes, and_node, word_at, premises_of, count_nodes}
+use Rattle.aj_book_grammar.specs.declared.word.Word.{Word}
+use Rattle.aj_book_grammar.specs.declared.word.Word.TheVariants as w
+use Rattle.aj_book_grammar.specs.Derivations.{Node, node, Nodes, and_node, word_at, premises_of, count_nodes}
 
 -- a part of a body that a node of a derivation stands for
 pub data Part : Type 0 where

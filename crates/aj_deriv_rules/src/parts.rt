@@ -1,11 +1,12 @@
 //! The parts of a body that the nodes of a derivation stand for.
 ghost use Rattle.std.specs.Prelude.{◌≡◌, ◌∷◌, ◌==◌, [], length, IfNone, IfSome};
-ghost use Rattle.aj_book_text.specs.Derivations.{count_nodes};
+ghost use Rattle.aj_book_grammar.specs.Derivations.{count_nodes};
 ghost use Rattle.aj_core.specs.Views.{expr_of, stmt_of};
 ghost use Rattle.aj_deriv_rules.specs.Parts.{ExprP, StmtP, parts_of, word_of};
 ghost use Rattle.aj_deriv_rules.specs.Bodies.{list_of, part_of};
 
-use aj_book_text::{Nodes, Word};
+use aj_book_grammar::Word;
+use aj_book_text::Nodes;
 use aj_core::{CoreExpr, CoreStmt};
 
 /// A part of a body.

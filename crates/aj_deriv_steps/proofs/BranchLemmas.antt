@@ -9,7 +9,7 @@ use Rattle.aj_algebra.specs.HeldPaths.{Held, with_path}
 use Rattle.aj_algebra.specs.Values.{sync_of}
 use Rattle.aj_cond.specs.Conditions.{Cond, LeafC, TestC, value_of}
 use Rattle.aj_rules.specs.Rules.{AtMost}
-use Rattle.aj_book_text.specs.Derivations.{Nodes}
+use Rattle.aj_book_grammar.specs.Derivations.{Nodes}
 use Rattle.aj_deriv_rules.specs.declared.accesses.Branching.{Branching}
 use Rattle.aj_deriv_rules.specs.Conclusions.{conclusions}
 use Rattle.aj_deriv_rules.specs.Branches.{branching_value}

@@ -3,7 +3,7 @@ use Rattle.std.specs.Prelude.{◌≡◌, ℕ, ◌∷◌}
 use Rattle.aj_algebra.specs.declared.basic.Basic.{Basic}
 use Rattle.aj_algebra.specs.Basics.{join_of, seq_of}
 use Rattle.aj_algebra.specs.HeldPaths.{Held}
-use Rattle.aj_book_text.specs.Derivations.{Nodes}
+use Rattle.aj_book_grammar.specs.Derivations.{Nodes}
 use Rattle.aj_deriv_rules.specs.declared.accesses.Branching.{Branching}
 use Rattle.aj_deriv_rules.specs.Branches.{branching_value}
 use Rattle.aj_deriv_rules.specs.Conclusions.{conclusions}

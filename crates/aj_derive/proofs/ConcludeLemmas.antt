@@ -6,9 +6,9 @@ use Rattle.aj_algebra.specs.HeldPaths.{Held}
 use Rattle.aj_core.specs.Core.{Program}
 use Rattle.aj_cond.specs.Conditions.{Cond, value_of}
 use Rattle.aj_rules.specs.Effect.{Assignment}
-use Rattle.aj_book_text.specs.declared.word.Word.{Word}
-use Rattle.aj_book_text.specs.Derivations.{Node, node, Nodes, no_nodes, and_node, number_of, count_nodes}
-use Rattle.aj_book_text.specs.Books.{IsNumbered, AreNumbered}
+use Rattle.aj_book_grammar.specs.declared.word.Word.{Word}
+use Rattle.aj_book_grammar.specs.Derivations.{Node, node, Nodes, no_nodes, and_node, number_of, count_nodes}
+use Rattle.aj_book_grammar.specs.Books.{IsNumbered, AreNumbered}
 use Rattle.aj_deriv_rules.specs.Parts.{Part, word_of, parts_of, places, places_of, Fits, Each}
 use Rattle.aj_deriv_rules.specs.Rules.{rule_of}
 use Rattle.aj_deriv_rules.specs.Conclusions.{tree_value, table_value, conclusions}

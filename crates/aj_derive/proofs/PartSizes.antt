@@ -6,8 +6,8 @@ use Rattle.aj_core.specs.Sizes.{height_of, highest_of, nodes_of, nodes_of_each, 
 use Rattle.aj_paths.specs.Paths.{PathData}
 use Rattle.aj_cond.specs.Conditions.{Cond}
 use Rattle.aj_rules.specs.Effect.{Assignment}
-use Rattle.aj_book_text.specs.Derivations.{Node, node, Nodes, no_nodes, and_node}
-use Rattle.aj_book_text.specs.Books.{node_high, nodes_high}
+use Rattle.aj_book_grammar.specs.Derivations.{Node, node, Nodes, no_nodes, and_node}
+use Rattle.aj_book_grammar.specs.Books.{node_high, nodes_high}
 use Rattle.aj_deriv_rules.specs.Parts.{Part, ExprP, StmtP, parts_of, args_parts, block_parts}
 use Rattle.aj_derive.specs.Concluded.{Concludes, ConcludeAll}
 

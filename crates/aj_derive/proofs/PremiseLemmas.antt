@@ -4,7 +4,7 @@ use Rattle.std.proofs.lemmas.List.{map-append}
 use Rattle.aj_algebra.specs.HeldPaths.{Held}
 use Rattle.aj_nodes.specs.declared.table.Node.{Node}
 use Rattle.aj_deriv.specs.declared.derivation.Derivation.{Derivation}
-use Rattle.aj_book_text.specs.Derivations.{number_of}
+use Rattle.aj_book_grammar.specs.Derivations.{number_of}
 use Rattle.aj_deriv.specs.Memory.{node_of, nodes_at}
 use Rattle.aj_deriv_rules.specs.Conclusions.{conclusions}
 use Rattle.aj_deriv_rules.specs.Rules.{Value}

@@ -1,6 +1,6 @@
 //! Derivations numbered in order of first use.
 ghost use Rattle.std.specs.Prelude.{length, IfOk, OnOk};
-ghost use Rattle.aj_book_text.specs.Books.{AreNumbered, IsNumbered};
+ghost use Rattle.aj_book_grammar.specs.Books.{AreNumbered, IsNumbered};
 ghost use Rattle.aj_deriv.specs.Memory.{node_of, nodes_at};
 ghost use Rattle.aj_nodes.specs.Shown.{AreThere, trees_at};
 ghost use Rattle.aj_derive.specs.Moved.{AreMoved, IsMoved};

@@ -109,12 +109,7 @@ fn emit_gets(code: &mut Vec<Code>, fields: &[FieldId], next: u32) -> Result<u32,
 /// Puts down a statement that goes on at `next`, and where a `return` inside it goes on at `ret`; answers where it
 /// begins.
 #[cycle(stmts)]
-pub fn emit_stmt(
-    code: &mut Vec<Code>,
-    s: &CoreStmt,
-    next: u32,
-    ret: u32,
-) -> Result<u32, NoMemory>
+pub fn emit_stmt(code: &mut Vec<Code>, s: &CoreStmt, next: u32, ret: u32) -> Result<u32, NoMemory>
     ensures code { IfOk result (λ at. code.new.items ≡ code.old.items ++ emitted_stmt (stmt_of s.now) (vec_len code.old) next ret) }
     ensures len { IfOk result (λ at. vec_len code.new ≡ vec_len code.old + stmt_weight (stmt_of s.now)) }
     ensures place { IfOk result (λ at. at ≡ stmt_entry (stmt_of s.now) (vec_len code.old) next ret) }

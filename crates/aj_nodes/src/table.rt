@@ -12,8 +12,7 @@ ghost use Rattle.aj_nodes.specs.Calls.{call_tree, IsResult, IsRenamed, AreRename
 use crate::calls::{Call, Pair, Renamed, hint_of, hint_of_both};
 use aj_algebra::Basic;
 use aj_cond::Tree;
-use aj_node_rows::Split;
-use aj_node_rows::{HINTS, Item, Rows};
+use aj_node_rows::{HINTS, Item, Rows, Split};
 use aj_paths::Path;
 use indexmap::IndexMap;
 use std::alloc::{AllocError as NoMemory, Global};

@@ -1,5 +1,5 @@
 use Rattle.std.proofs.Common.{◌≡◌, length}
-use Rattle.aj_book_text.specs.Passing.{pass_several, pass_line}
+use Rattle.aj_book_grammar.specs.Passing.{pass_several, pass_line}
 use Rattle.aj_book_text.proofs.book_reader.several_lines.Given as goal
 
 abbrev pub invariant-loop-rest : goal.invariant-loop-rest

@@ -1,5 +1,5 @@
 use Rattle.std.proofs.Common.{◌≡◌}
-use Rattle.aj_book_text.specs.Passing.{pass_table}
+use Rattle.aj_book_grammar.specs.Passing.{pass_table}
 use Rattle.aj_book_text.proofs.book_reader.table_lines.Given as goal
 
 abbrev pub invariant-loop-left : goal.invariant-loop-left

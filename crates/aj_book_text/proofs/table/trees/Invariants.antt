@@ -1,6 +1,6 @@
 use Rattle.std.proofs.Common.{◌≡◌, map}
 use Rattle.aj_cond.specs.Conditions.{cond_of}
-use Rattle.aj_book_text.specs.Combine.{exactly}
+use Rattle.aj_book_grammar.specs.Combine.{exactly}
 use Rattle.aj_book_text.specs.Views.{after_those, plain_line}
 use Rattle.aj_book_text.proofs.table.trees.Given as goal
 

@@ -1,7 +1,7 @@
 use Rattle.std.proofs.Common.{◌≡◌, ◌++◌, ◌+◌, ◌*◌, ◌≤◌, length, string_bytes}
 use Rattle.aj_deriv.specs.Memory.{node_of, nodes_at}
-use Rattle.aj_book_text.specs.Texts.{nodes_text}
-use Rattle.aj_book_text.specs.Books.{node_high, nodes_high}
+use Rattle.aj_book_grammar.specs.Texts.{nodes_text}
+use Rattle.aj_book_grammar.specs.Books.{node_high, nodes_high}
 use Rattle.aj_deriv.proofs.writer.+writing.Given as goal
 
 abbrev pub decreases-write_node : goal.decreases-write_node

@@ -1,6 +1,6 @@
 use Rattle.std.proofs.Common.{◌≡◌, ◌++◌, drop, map, string_bytes}
 use Rattle.aj_deriv.specs.Memory.{line_of}
-use Rattle.aj_book_text.specs.Texts.{lines_text}
+use Rattle.aj_book_grammar.specs.Texts.{lines_text}
 use Rattle.aj_deriv.proofs.writer.write_lines.Given as goal
 
 -- what is written, and then the text of the rest, is all

@@ -2,7 +2,7 @@
 use Rattle.std.proofs.Common.{inl, inr, refl, sym, subst, slice_get}
 use Rattle.std.proofs.lemmas.Bool.{both_ways}
 use Rattle.aj_core.specs.Views.{method_of}
-use Rattle.aj_book_text.specs.Derivations.{node}
+use Rattle.aj_book_grammar.specs.Derivations.{node}
 use Rattle.aj_deriv_check.specs.Good.{IsStep, IsTabled, IsUnder, cond_at}
 use Rattle.aj_deriv_rules.specs.Judges.{judge_assignment, judge_program, judge_rel, judge_table, judge_value}
 use Rattle.aj_deriv_rules.specs.Parts.{StmtP, places}

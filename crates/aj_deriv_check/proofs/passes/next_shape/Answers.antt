@@ -1,8 +1,8 @@
 -- The least node whose shape is wrong.
 use Rattle.std.proofs.Common.{subst}
 use Rattle.aj_core.specs.Views.{method_of}
-use Rattle.aj_book_text.specs.Books.{Line}
-use Rattle.aj_book_text.specs.Derivations.{node}
+use Rattle.aj_book_grammar.specs.Books.{Line}
+use Rattle.aj_book_grammar.specs.Derivations.{node}
 use Rattle.aj_deriv_rules.specs.Parts.{StmtP, places, Fits}
 use Rattle.aj_deriv_check.specs.Walks.{IsEnd}
 use Rattle.aj_deriv_check.proofs.VerdictLemmas.{shape_bad}

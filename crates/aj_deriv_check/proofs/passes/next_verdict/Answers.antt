@@ -1,8 +1,8 @@
 -- The verdict on the first line.
 use Rattle.std.proofs.Common.{subst}
 use Rattle.aj_core.specs.Views.{method_of}
-use Rattle.aj_book_text.specs.Books.{Line}
-use Rattle.aj_book_text.specs.Derivations.{node}
+use Rattle.aj_book_grammar.specs.Books.{Line}
+use Rattle.aj_book_grammar.specs.Derivations.{node}
 use Rattle.aj_deriv_check.specs.Faults.{IsLineVerdict}
 use Rattle.aj_deriv_rules.specs.Judges.{judge_assignment, judge_program, judge_rel, judge_table}
 use Rattle.aj_deriv_check.proofs.VerdictLemmas.{verdict_good, verdict_wrong}

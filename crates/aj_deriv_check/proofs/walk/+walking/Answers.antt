@@ -1,6 +1,6 @@
 -- One node more, good or bad, and the end of nodes or parts.
 use Rattle.std.proofs.Common.{ap, subst, arith}
-use Rattle.aj_book_text.specs.Derivations.{node}
+use Rattle.aj_book_grammar.specs.Derivations.{node}
 use Rattle.aj_deriv_check.specs.declared.walk.End.TheVariants.{Good, Bad}
 use Rattle.aj_deriv_rules.specs.Parts.{places}
 use Rattle.aj_deriv_rules.specs.Bodies.{list_of, part_of}

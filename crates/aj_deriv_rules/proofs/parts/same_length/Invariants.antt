@@ -1,5 +1,5 @@
 use Rattle.std.proofs.Common.{◌≡◌, ◌==◌, length}
-use Rattle.aj_book_text.specs.Derivations.{count_nodes}
+use Rattle.aj_book_grammar.specs.Derivations.{count_nodes}
 use Rattle.aj_deriv_rules.specs.Bodies.{list_of}
 use Rattle.aj_deriv_rules.proofs.parts.same_length.Given as goal
 

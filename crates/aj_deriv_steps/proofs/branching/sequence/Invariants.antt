@@ -2,7 +2,7 @@ use Rattle.std.proofs.Common.{◌≡◌, map}
 use Rattle.aj_algebra.specs.Basics.{seq_of}
 use Rattle.aj_algebra.specs.HeldPaths.{Held}
 use Rattle.aj_cond.specs.Conditions.{cond_of}
-use Rattle.aj_book_text.specs.Derivations.{count_nodes}
+use Rattle.aj_book_grammar.specs.Derivations.{count_nodes}
 use Rattle.aj_deriv_rules.specs.Branches.{branching_value}
 use Rattle.aj_deriv_rules.specs.Conclusions.{conclusions, table_value}
 use Rattle.aj_deriv_rules.specs.Rules.{in_sequence}

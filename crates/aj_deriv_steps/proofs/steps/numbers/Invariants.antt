@@ -1,5 +1,5 @@
 use Rattle.std.proofs.Common.{◌≡◌, ◌++◌, ℕ, map}
-use Rattle.aj_book_text.specs.Derivations.{count_nodes}
+use Rattle.aj_book_grammar.specs.Derivations.{count_nodes}
 use Rattle.aj_deriv_rules.specs.Conclusions.{conclusions}
 use Rattle.aj_deriv_rules.specs.Rules.{Value}
 use Rattle.aj_deriv_steps.proofs.steps.numbers.Given as goal

@@ -1,6 +1,6 @@
 -- One premise more.
 use Rattle.std.proofs.Common.{ap, length, sym, subst}
-use Rattle.aj_book_text.specs.Derivations.{number_of}
+use Rattle.aj_book_grammar.specs.Derivations.{number_of}
 use Rattle.aj_deriv.specs.Memory.{nodes_at}
 use Rattle.aj_deriv_rules.specs.Conclusions.{conclusions, table_value}
 use Rattle.aj_nodes.specs.Shown.{AreThere, node_value, trees_at}

@@ -1,7 +1,7 @@
 use Rattle.std.proofs.Common.{◌+◌, ◌*◌, ◌≤◌, ◌++◌, List, length}
 use Rattle.aj_cond.specs.Conditions.{Cond}
 use Rattle.aj_nodes.specs.Shown.{trees_at}
-use Rattle.aj_book_text.specs.Books.{AreNumbered, node_high, nodes_high}
+use Rattle.aj_book_grammar.specs.Books.{AreNumbered, node_high, nodes_high}
 use Rattle.aj_deriv.specs.Memory.{node_of, nodes_at}
 use Rattle.aj_deriv.specs.declared.derivation.Derivation.{Derivation}
 use Rattle.aj_derive.specs.Moved.{AreMoved}

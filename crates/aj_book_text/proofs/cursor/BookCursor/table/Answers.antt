@@ -1,7 +1,7 @@
 -- The text at the cursor is that of the table.
 use Rattle.std.proofs.Common.{subst, map}
 use Rattle.aj_cond.specs.Conditions.{cond_of}
-use Rattle.aj_book_text.specs.Combine.{exactly}
+use Rattle.aj_book_grammar.specs.Combine.{exactly}
 use Rattle.aj_book_text.specs.Views.{IsReadAs, plain_line}
 use Rattle.aj_book_text.proofs.TableLaws.{table_is}
 use Rattle.aj_book_text.proofs.cursor.BookCursor.table.Goals as goal

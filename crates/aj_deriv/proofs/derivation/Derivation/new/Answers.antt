@@ -1,6 +1,6 @@
 -- The variant of a node has its word.
 use Rattle.std.proofs.Common.{sym, ap, ◌∙◌}
-use Rattle.aj_book_text.specs.Derivations.{node}
+use Rattle.aj_book_grammar.specs.Derivations.{node}
 use Rattle.aj_deriv.specs.Memory.{nodes_at}
 use Rattle.aj_deriv.proofs.MemoryLemmas.{node_of-Lit, node_of-This, node_of-Var, node_of-Un, node_of-Bin, node_of-And, node_of-Or, node_of-Get, node_of-New, node_of-Call, node_of-Local, node_of-Set, node_of-Put, node_of-Block, node_of-If, node_of-While, node_of-Sync, node_of-Return, node_of-Print, node_of-Start, node_of-Do, node_of-Skip}
 use Rattle.aj_deriv.proofs.derivation.Derivation.new.Goals as goal

@@ -1,5 +1,5 @@
 -- The next method line is the first of the lines.
-use Rattle.aj_book_text.specs.Books.{Book}
+use Rattle.aj_book_grammar.specs.Books.{Book}
 use Rattle.aj_book_text.specs.Views.{lines_in}
 use Rattle.aj_book_text.proofs.TableLaws.{first_line_is, no_line}
 use Rattle.aj_deriv.proofs.lines.BookCursorLines.first_line.Goals as goal

@@ -1,0 +1,9 @@
+-- What is read of a text is its text (Sound, SoundTrees), and of each part's text the part is read (Complete); lemmas on digits, on words and
+-- names at the front of a text, and on items side by side.
+mod Digits
+mod Fronts
+pub mod Sound
+pub mod SoundTrees
+pub mod Several
+pub mod PassLemmas
+pub mod Complete

@@ -1,0 +1,9 @@
+-- What a book and its text are: Derivations, Books, Texts, then Reading, which says production by production what a text is read as and where
+-- its first fault stands (Faults), over Combine. Passing has the same seen by less, as the readers do that take no memory.
+pub mod Derivations
+pub mod Books
+pub mod Texts
+pub mod Combine
+pub mod Reading
+pub mod Faults
+pub mod Passing
