@@ -140,7 +140,7 @@ fn listed_value(
 }
 
 /// The value of a field of the object at an address.
-pub fn value_at(seen: &Seen<'_>, address: Address, field: FieldId) -> Option<Value>
+pub(crate) fn value_at(seen: &Seen<'_>, address: Address, field: FieldId) -> Option<Value>
     ensures { result ≡ value_at (program_in seen.now) (shared_in seen.now) seen.now.thread address field }
 {
     match seen.heap.find(address) {
@@ -398,7 +398,7 @@ fn slot_value(slots: &[Value], slot: u16) -> Option<Value>
 }
 
 /// What an instruction does, for the slots, operands and taken locks of the top frame of a thread with this many frames.
-pub fn deed_of(
+pub(crate) fn deed_of(
     seen: &Seen<'_>,
     slots: &[Value],
     operands: &[Value],

@@ -117,7 +117,7 @@ fn field_kind(seen: &Seen<'_>, writes: bool, address: Address, field: &CoreField
 }
 
 /// The kind of what is done.
-pub fn deed_kind(seen: &Seen<'_>, deed: Deed) -> StepKind
+pub(crate) fn deed_kind(seen: &Seen<'_>, deed: Deed) -> StepKind
     ensures { result ≡ deed_kind (program_in seen.now) (shared_in seen.now) seen.now.thread deed }
 {
     match deed {

@@ -74,7 +74,7 @@ pub fn named(
 
 /// The value where each of these paths has a name and is held, else error.
 #[tactic(auto, using(crate::proofs::Tables::keeps_chain))]
-pub fn with_required(
+pub(crate) fn with_required(
     alloc: Global,
     table: &mut NodeTable,
     names: &Names<'_>,

@@ -25,7 +25,7 @@ pub fn put(code: &mut Vec<Code>, instr: Instr, next: u32) -> Result<u32, NoMemor
 
 /// Puts down an expression that goes on at `next`; answers where it begins.
 #[cycle(exprs)]
-pub fn emit_expr(code: &mut Vec<Code>, e: &CoreExpr, next: u32) -> Result<u32, NoMemory>
+pub(crate) fn emit_expr(code: &mut Vec<Code>, e: &CoreExpr, next: u32) -> Result<u32, NoMemory>
     ensures code { IfOk result (λ at. code.new.items ≡ code.old.items ++ emitted (expr_of e.now) (vec_len code.old) next) }
     ensures len { IfOk result (λ at. vec_len code.new ≡ vec_len code.old + weight (expr_of e.now)) }
     ensures place { IfOk result (λ at. at ≡ expr_entry (expr_of e.now) (vec_len code.old) next) }

@@ -27,7 +27,7 @@ pub struct Decision {
 }
 
 /// The number of the first decision: the five basics come before.
-pub const BASICS: usize = 5;
+pub(crate) const BASICS: usize = 5;
 
 /// How many hints a table has.
 pub const HINTS: usize = 256;

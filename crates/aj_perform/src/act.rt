@@ -21,7 +21,7 @@ use aj_threads::ThreadCell;
 use std::alloc::{AllocError as NoMemory, Global};
 
 /// The top frame drops operands, is given one or none, and goes on.
-pub fn goes(
+pub(crate) fn goes(
     cell: &mut ThreadCell,
     drops: usize,
     gives: Option<Value>,
@@ -37,7 +37,7 @@ pub fn goes(
 }
 
 /// The top frame drops operands and goes on, which takes no memory.
-pub fn drops(cell: &mut ThreadCell, count: usize, place: u32)
+pub(crate) fn drops(cell: &mut ThreadCell, count: usize, place: u32)
     requires { IsSome (top_frame cell.old) }
     ensures thread { code_thread cell.new ≡ on_top (goes_on count None place) (code_thread cell.old) }
     ensures roomy { (rooms : List ℕ) → StaysRoomy rooms cell.old cell.new }
@@ -46,7 +46,7 @@ pub fn drops(cell: &mut ThreadCell, count: usize, place: u32)
 }
 
 /// A slot that is there gets a value.
-pub fn stores(cell: &mut ThreadCell, slot: u16, value: Value, place: u32)
+pub(crate) fn stores(cell: &mut ThreadCell, slot: u16, value: Value, place: u32)
     requires top { IsSome (top_frame cell.old) }
     requires slot { slot < length (slots_of (top_frame cell.old)) }
     ensures thread { code_thread cell.new ≡ on_top (stores_on slot value place) (code_thread cell.old) }
@@ -57,7 +57,7 @@ pub fn stores(cell: &mut ThreadCell, slot: u16, value: Value, place: u32)
 }
 
 /// A lock that no other thread holds is taken once more.
-pub fn takes(
+pub(crate) fn takes(
     alloc: Global,
     locks: &mut Locks,
     cell: &mut ThreadCell,
@@ -83,7 +83,7 @@ pub fn takes(
 }
 
 /// The last taken lock is given back.
-pub fn gives(locks: &mut Locks, cell: &mut ThreadCell, address: Address, place: u32)
+pub(crate) fn gives(locks: &mut Locks, cell: &mut ThreadCell, address: Address, place: u32)
     requires top { IsSome (top_frame cell.old) }
     requires held { IsSome (map.get locks.old address) }
     ensures frame { code_thread cell.new ≡ on_top (gives_on place) (code_thread cell.old) }
@@ -96,7 +96,7 @@ pub fn gives(locks: &mut Locks, cell: &mut ThreadCell, address: Address, place: 
 }
 
 /// An object is made at a free address, and takes the place of the arguments.
-pub fn makes(
+pub(crate) fn makes(
     alloc: Global,
     heap: &mut Heap,
     cell: &mut ThreadCell,
@@ -121,7 +121,7 @@ pub fn makes(
 }
 
 /// A number is printed.
-pub fn prints(
+pub(crate) fn prints(
     output: &mut Vec<i32>,
     cell: &mut ThreadCell,
     number: i32,
@@ -140,7 +140,7 @@ pub fn prints(
 }
 
 /// A field that the object has is written.
-pub fn writes(
+pub(crate) fn writes(
     heap: &mut Heap,
     cell: &mut ThreadCell,
     address: Address,
@@ -170,7 +170,7 @@ fn next_address(heap: &Heap, thread: u32) -> Address
 }
 
 /// An object of a class is made, from the topmost operands as the arguments for its final fields.
-pub fn makes_next(
+pub(crate) fn makes_next(
     alloc: Global,
     program: &CoreProgram,
     heap: &mut Heap,

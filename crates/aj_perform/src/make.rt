@@ -37,7 +37,7 @@ fn fill(into: &mut Vec<Value>, length: usize) -> Result<(), NoMemory>
 }
 
 /// The slots of a new frame of a method that has so many: `this`, the arguments, and 0 in each other slot.
-pub fn slots_of(
+pub(crate) fn slots_of(
     alloc: Global,
     slots: u16,
     this: Value,
@@ -65,7 +65,7 @@ fn default_value(ty: CoreType) -> Value
 }
 
 /// The values of the fields of a new object, from the topmost operands as the arguments for its final fields.
-pub fn values_of(
+pub(crate) fn values_of(
     alloc: Global,
     program: &CoreProgram,
     fields: &[FieldId],

@@ -95,7 +95,7 @@ fn returns(cell: &mut ThreadCell, gives: Option<Value>) -> Result<(), NoMemory>
 }
 
 /// A deed of a running thread is done, but for the start of another thread. Nothing is done where the thread waits.
-pub fn perform(
+pub(crate) fn perform(
     alloc: Global,
     program: &CoreProgram,
     heap: &mut Heap,

@@ -36,7 +36,7 @@ fn refuse_text(alloc: Global, bytes: &[u8], fault: SchedFault) -> Refusal
 }
 
 /// The schedule that these bytes are the text of.
-pub fn schedule_of(alloc: Global, bytes: &[u8]) -> Result<Vec<u32>, Refusal>
+pub(crate) fn schedule_of(alloc: Global, bytes: &[u8]) -> Result<Vec<u32>, Refusal>
     requires { length bytes.now ≤ 16777216 }
     ensures { MatchResult result (λ s. IsSchedule bytes.now s.items) (IsRight (NoSchedule bytes.now)) }
 {
@@ -53,7 +53,7 @@ pub fn schedule_of(alloc: Global, bytes: &[u8]) -> Result<Vec<u32>, Refusal>
 }
 
 /// The refusal of a schedule that stops so.
-pub fn refuse_stop(alloc: Global, stopped: &Stopped) -> Refusal
+pub(crate) fn refuse_stop(alloc: Global, stopped: &Stopped) -> Refusal
     ensures { (P : Program) (s : List ℕ) (before : State) → IsStop P (initial P) s stopped.now before → IsRight (NoRun P s) result }
 {
     if is_want_of_memory(stopped.why) {
@@ -110,7 +110,7 @@ fn text_after(
 }
 
 /// The text of the state that a schedule of a source runs to, over the code of its program.
-pub fn state_after(
+pub(crate) fn state_after(
     alloc: Global,
     source: &Source,
     code: &CodeTable,
