@@ -2,9 +2,9 @@
 //! end how.
 #![tactic(auto)]
 
-mod run_schedule;
+mod running;
 mod schedules;
-mod serialise;
+mod serialising;
 
-pub use run_schedule::run_schedule;
-pub use serialise::serialise;
+pub use running::run_schedule;
+pub use serialising::serialise;

@@ -1,8 +1,8 @@
 //! The commands on a source alone, over the bytes of its file: what `check` and `print` answer, and when they end how.
 #![tactic(auto)]
 
-mod check;
-mod print;
+mod checking;
+mod printing;
 
-pub use check::check;
-pub use print::print;
+pub use checking::check;
+pub use printing::print;

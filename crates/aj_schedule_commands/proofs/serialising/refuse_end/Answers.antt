@@ -7,7 +7,7 @@ use Rattle.aj_sources.specs.declared.refusal.Ending.TheVariants as ending
 use Rattle.aj_state.specs.States.{initial}
 use Rattle.aj_state_report.specs.Schedules.{open_line}
 use Rattle.aj_schedule_commands.specs.Schedules.{NoRun, NoOrder, no_run, open_call}
-use Rattle.aj_schedule_commands.proofs.serialise.refuse_end.Goals as goal
+use Rattle.aj_schedule_commands.proofs.serialising.refuse_end.Goals as goal
 
 pub returns-in-Stopped : goal.returns-in-Stopped
 returns-in-Stopped c = λ P s is.

@@ -5,7 +5,7 @@ use Rattle.aj_cond.specs.Conditions.{cond_of}
 use Rattle.aj_core.specs.Views.{program_of}
 use Rattle.aj_source_commands.specs.Check.{report_from}
 use Rattle.aj_source_commands.proofs.SourceRows.{judged_refusal, judged_text, few_trees}
-use Rattle.aj_source_commands.proofs.check.judged.Goals as goal
+use Rattle.aj_source_commands.proofs.checking.judged.Goals as goal
 
 pub returns-in_err-inferred : goal.returns-in_err-inferred
 returns-in_err-inferred c = λ file is.

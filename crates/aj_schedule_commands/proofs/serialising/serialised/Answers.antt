@@ -16,7 +16,7 @@ use Rattle.aj_serialise.specs.Rewritten.{IsRewritten}
 use Rattle.aj_schedule_commands.specs.Serialise.{SerialiseAnswer}
 use Rattle.aj_source_commands.proofs.SourceRows.{more_refused}
 use Rattle.aj_schedule_commands.proofs.ScheduleRows.{not_accepted_order, unread_order, refused_order, serialised_text}
-use Rattle.aj_schedule_commands.proofs.serialise.serialised.Goals as goal
+use Rattle.aj_schedule_commands.proofs.serialising.serialised.Goals as goal
 
 pub returns-in_err-accepted : goal.returns-in_err-accepted
 returns-in_err-accepted c = λ file is.

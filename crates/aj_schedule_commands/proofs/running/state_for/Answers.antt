@@ -8,7 +8,7 @@ use Rattle.aj_schedule_commands.specs.Run.{RunAnswer}
 use Rattle.aj_schedule_commands.specs.Schedules.{NoSchedule, NoRun}
 use Rattle.aj_source_commands.proofs.SourceRows.{more_refused}
 use Rattle.aj_schedule_commands.proofs.ScheduleRows.{no_schedule_run, stopped_run, ran_text}
-use Rattle.aj_schedule_commands.proofs.run_schedule.state_for.Goals as goal
+use Rattle.aj_schedule_commands.proofs.running.state_for.Goals as goal
 
 pub returns-in_err-schedule : goal.returns-in_err-schedule
 returns-in_err-schedule c = λ file is.

@@ -4,7 +4,7 @@ use Rattle.aj_sources.specs.Checking.{NoSource}
 use Rattle.aj_book_commands.specs.Verify.{VerifyAnswer, no_source}
 use Rattle.aj_book_commands.proofs.BookRows.{verified_result, book_refusal}
 use Rattle.aj_source_commands.proofs.SourceRows.{more_refused}
-use Rattle.aj_book_commands.proofs.verify_book.verify_book.Goals as goal
+use Rattle.aj_book_commands.proofs.judging.verify_book.Goals as goal
 
 pub returns-in_err-source : goal.returns-in_err-source
 returns-in_err-source c =

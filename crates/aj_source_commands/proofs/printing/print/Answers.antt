@@ -2,7 +2,7 @@ use Rattle.std.proofs.Common.{ap, subst, ◌∙◌}
 use Rattle.aj_printer.specs.Reprinted.{ReadsBack}
 use Rattle.aj_syntax.specs.Views.{program_of as tree_of}
 use Rattle.aj_source_commands.proofs.SourceRows.{printed_text}
-use Rattle.aj_source_commands.proofs.print.print.Goals as goal
+use Rattle.aj_source_commands.proofs.printing.print.Goals as goal
 
 pub returns : goal.returns
 returns c =

@@ -4,7 +4,7 @@ use Rattle.aj_sources.specs.Checking.{NoSource}
 use Rattle.aj_schedule_commands.specs.Serialise.{SerialiseAnswer}
 use Rattle.aj_source_commands.proofs.SourceRows.{more_refused}
 use Rattle.aj_schedule_commands.proofs.ScheduleRows.{no_source_order}
-use Rattle.aj_schedule_commands.proofs.serialise.serialise.Goals as goal
+use Rattle.aj_schedule_commands.proofs.serialising.serialise.Goals as goal
 
 pub returns-in_err-source : goal.returns-in_err-source
 returns-in_err-source c =

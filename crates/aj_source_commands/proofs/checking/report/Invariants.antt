@@ -2,7 +2,7 @@ use Rattle.std.proofs.Common.{◌≡◌, ◌++◌, drop, map, string_bytes}
 use Rattle.aj_classes.specs.Views.{table_data}
 use Rattle.aj_cond.specs.Conditions.{cond_of}
 use Rattle.aj_source_commands.specs.Check.{report_from}
-use Rattle.aj_source_commands.proofs.check.report.Given as goal
+use Rattle.aj_source_commands.proofs.checking.report.Given as goal
 
 -- the lines so far and those of the rest are those of all
 abbrev pub invariant-loop-m : goal.invariant-loop-m

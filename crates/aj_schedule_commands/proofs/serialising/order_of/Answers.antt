@@ -1,6 +1,6 @@
 -- The refusal of a schedule that isn't rewritten.
 use Rattle.aj_core.specs.Views.{program_of}
-use Rattle.aj_schedule_commands.proofs.serialise.order_of.Goals as goal
+use Rattle.aj_schedule_commands.proofs.serialising.order_of.Goals as goal
 
 pub returns-in-Err-clause-order : goal.returns-in-Err-clause-order
 returns-in-Err-clause-order c = c.refuse_end.ensures (program_of c.args.program.now) c.args.schedule.now c.in-Err.ensures.refused
