@@ -1,0 +1,8 @@
+use Rattle.aj_generate.proofs.Counted.{generated_once, generated_size}
+use Rattle.aj_generate.proofs.laws.generated_laws.Goals as goal
+
+pub returns-clause-one : goal.returns-clause-one
+returns-clause-one c = generated_once
+
+pub returns-clause-size : goal.returns-clause-size
+returns-clause-size c = generated_size

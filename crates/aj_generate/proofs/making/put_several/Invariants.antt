@@ -1,0 +1,6 @@
+use Rattle.std.proofs.Common.{◌≡◌, ◌≤◌, ◌+◌, ◌-◌, ◌++◌, string_bytes, replicate}
+use Rattle.aj_generate.specs.Made.{by_turns, each_once, each_times, handed_on, called}
+use Rattle.aj_generate.proofs.making.put_several.Given as goal
+
+abbrev pub invariant-loop-round : goal.invariant-loop-round
+invariant-loop-round l = l.schedule.items ++ each_times (5 - l._round) l.n ≡ l.fn.schedule.items ++ each_times 5 l.n

@@ -1,0 +1,6 @@
+use Rattle.std.proofs.Common.{◌≡◌, ◌≤◌, ◌+◌, ◌-◌, ◌++◌, string_bytes, replicate}
+use Rattle.aj_generate.specs.Made.{by_turns, each_once, each_times, handed_on, called}
+use Rattle.aj_generate.proofs.making.put_turns.Given as goal
+
+abbrev pub invariant-loop-turn : goal.invariant-loop-turn
+invariant-loop-turn l = l.schedule.items ++ by_turns (l.count - l._turn) l.first l.second ≡ l.fn.schedule.items ++ by_turns l.count l.first l.second

@@ -1,0 +1,9 @@
+//! What is known of the schedule for a number of workers.
+ghost use Rattle.std.specs.Prelude.{◌≡◌, ◌+◌, ◌*◌, ℕ, List, length};
+ghost use Rattle.aj_generate.specs.Rounds.{IsGenerated};
+
+/// There is one schedule for a number of workers, and it has 4 entries and 109 for each worker.
+pub fn generated_laws()
+    ensures one { (n : ℕ) (schedule other : List ℕ) → IsGenerated n schedule → IsGenerated n other → schedule ≡ other }
+    ensures size { (n : ℕ) (schedule : List ℕ) → IsGenerated n schedule → length schedule ≡ 4 + 109 * n }
+{}
