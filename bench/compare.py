@@ -3,7 +3,7 @@
 
 Both programs get the same sources: worked rows with the answers that are wanted, the files of examples/, those of
 make_source.py and make_checked.py, random programs, and damaged sources; where `atomic` has the commands `run` and
-`serialise`, random schedules too. PROGRAM is the built `atomic`; without it the answers come from `rt try` in
+`serialise`, random schedules too, and `serialise-open` where it has that. PROGRAM is the built `atomic`; without it the answers come from `rt try` in
 crates/atomic_cli, which needs no proof, and these two commands are left out. A place of `too deep` isn't the only right one, so
 where both say that at different places it is counted apart. The exit status is 0 where no answer differs.
 """
@@ -154,7 +154,7 @@ def answer_to(plain, folder, schedule):
 
 
 def compare_schedules(atomic, plain, folder, options, words, report):
-    """Rows and random schedules of `run` and `serialise`. `atomic` is left out where it hasn't got them."""
+    """Rows and random schedules of the commands on them. `atomic` is left out where it hasn't got `run`."""
     write(folder, "a", "class Main { void main() { } }")
     write(folder, "b", "")
     has_them = isinstance(atomic, Program) and atomic.answer(folder, "run", "a", "b")[0] != 9
@@ -167,11 +167,14 @@ def compare_schedules(atomic, plain, folder, options, words, report):
         report.want(command, f"schedule row {number}", (status, text), given)
         if has_them:
             report.compare(command, f"schedule row {number}", atomic.answer(folder, command, "a", "b"), given)
+    commands = ["run", "serialise"]
+    if has_them and atomic.answer(folder, "serialise-open", "a", "b")[0] != 9:
+        commands.append("serialise-open")
     chooser = random.Random(options.seed)
     for number in range(options.count if has_them else 0):
         write(folder, "a", workers(chooser, words))
         write(folder, "b", random_schedule(chooser, lambda s: answer_to(plain, folder, s)))
-        for command in ("run", "serialise"):
+        for command in commands:
             both = [p.answer(folder, command, "a", "b") for p in (atomic, plain)]
             report.compare(command, f"schedule {number}", *both)
 

@@ -11,7 +11,7 @@ HOSTILE = "braces letters not_text parentheses nots dots".split()
 SCHEDULES = "workers objects deep prints".split()
 ROWS = [("print", "full"), ("print", "half"), ("check", "full"), ("check", "half")]
 ROWS += [("check", kind) for kind in KINDS + HOSTILE]
-ROWS += [(command, kind, f"{kind}.schedule") for kind in SCHEDULES for command in ("run", "serialise")]
+ROWS += [(command, kind, f"{kind}.schedule") for kind in SCHEDULES for command in ("run", "serialise", "serialise-open")]
 
 
 def millions(words):
@@ -59,7 +59,7 @@ def shown(value, width):
 def main():
     programs = sys.argv[1:]
     heads = [f"{unit:>8} {'plain':>8} {'ratio':>6}" for unit in ("ms", "Minstr", "KiB")]
-    print(f"{'':20} {' '.join(heads)}")
+    print(f"{'':25} {' '.join(heads)}")
     for words in ROWS:
         ours, theirs = (measured([program, *words]) for program in programs)
         cells = []
@@ -67,7 +67,7 @@ def main():
             a, b = ours and ours[k], theirs[k]
             cells += [shown(a, 8), shown(b, 8), shown(a and b and a / b, 6)]
         same = not ours or ours[3] == theirs[3]
-        print(f"{words[0]:9} {words[1]:10} {' '.join(cells)}  status {theirs[3][0]}{'' if same else ' ANSWERS DIFFER'}", flush=True)
+        print(f"{words[0]:14} {words[1]:10} {' '.join(cells)}  status {theirs[3][0]}{'' if same else ' ANSWERS DIFFER'}", flush=True)
     books(programs[0])
 
 

@@ -28,7 +28,7 @@ const LARGEST_SOURCE: u64 = 262_144;
 const LARGEST_SCHEDULE: u64 = 16_777_216;
 
 const USAGE: &str = "usage: atomic check FILE | run FILE SCHEDULE | serialise FILE SCHEDULE | derive FILE | \
-verify FILE BOOK | print FILE | generate N\n";
+verify FILE BOOK | print FILE | generate N | serialise-open FILE SCHEDULE\n";
 
 /// A status that isn't 0, and its line.
 type Refusal = (u8, String);
@@ -100,13 +100,27 @@ fn serialise(table: &Table<'_, '_>, program: &Program, bytes: &[u8]) -> Answer {
     if let Some(thread) = machine.open_thread() {
         return Err((5, format!("thread {thread} is inside an atomic call\n")));
     }
-    let mut out = schedule::write(&rewritten);
-    for line in machine.text(table).lines() {
+    Ok(with_state(&rewritten, &machine.text(table)))
+}
+
+fn serialise_open(table: &Table<'_, '_>, program: &Program, bytes: &[u8]) -> Answer {
+    let schedule = schedule::read(bytes).map_err(|fault| (3, fault.line()))?;
+    let code = code::compile(program);
+    let mut machine = Machine::start(program, &code);
+    let ended = serialise::serialise_open(&mut machine, &schedule);
+    let rewritten = ended.map_err(|(place, stop)| stopped((place, schedule[place]), stop))?;
+    Ok(with_state(&rewritten, &machine.text(table)))
+}
+
+/// A schedule in a line, and the text of a state as comments.
+fn with_state(schedule: &[u32], state: &str) -> String {
+    let mut out = schedule::write(schedule);
+    for line in state.lines() {
         out.push_str("# ");
         out.push_str(line);
         out.push('\n');
     }
-    Ok(out)
+    out
 }
 
 /// What a text has as a book, whatever it is a book for.
@@ -144,6 +158,14 @@ fn answer(words: &[&str]) -> Answer {
             elaborated(&bytes, |table, program| {
                 let checked = check(table, program)?;
                 Ok(checked.and_then(|_| serialise(table, program, &schedule)))
+            })
+        }
+        ["serialise-open", name, schedule] => {
+            let bytes = read(name, LARGEST_SOURCE)?;
+            let schedule = read(schedule, LARGEST_SCHEDULE)?;
+            elaborated(&bytes, |table, program| {
+                let checked = check(table, program)?;
+                Ok(checked.and_then(|_| serialise_open(table, program, &schedule)))
             })
         }
         ["read-book", name] => read_book(&read(name, LARGEST_SCHEDULE)?),

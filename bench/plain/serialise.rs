@@ -23,11 +23,10 @@ impl Unit {
     }
 }
 
-/// The units in the order of their commit places. The machine ends in the same state. Else the first entry that can't
-/// step, from 0, and why.
-pub fn serialise(machine: &mut Machine<'_>, schedule: &[u32]) -> Result<Vec<u32>, (usize, Stop)> {
+/// The units of a schedule in the order of their first entries, and the last one of each thread. The machine ends in the
+/// schedule's state. Else the first entry that can't step, from 0, and why.
+fn units(machine: &mut Machine<'_>, schedule: &[u32]) -> Result<(Vec<Unit>, Vec<usize>), (usize, Stop)> {
     let mut units: Vec<Unit> = Vec::new();
-    // The last unit of each thread.
     let mut last: Vec<usize> = Vec::new();
     for (place, &thread) in schedule.iter().enumerate() {
         let was_inside = machine.inside(thread);
@@ -46,13 +45,41 @@ pub fn serialise(machine: &mut Machine<'_>, schedule: &[u32]) -> Result<Vec<u32>
         }
         units[last[thread as usize]].step(place, kind);
     }
+    Ok((units, last))
+}
+
+/// The threads of some units, in the order of their commit places, of a schedule of this length.
+fn by_commit<'a>(units: impl Iterator<Item = &'a Unit>, len: usize) -> Vec<u32> {
     // Each place is the commit place of one unit at most.
-    let mut by_commit: Vec<Option<&Unit>> = vec![None; schedule.len()];
-    for unit in &units {
-        by_commit[unit.commit] = Some(unit);
+    let mut places: Vec<Option<&Unit>> = vec![None; len];
+    for unit in units {
+        places[unit.commit] = Some(unit);
     }
-    let ordered = by_commit.into_iter().flatten();
-    Ok(ordered
+    places
+        .into_iter()
+        .flatten()
         .flat_map(|unit| iter::repeat_n(unit.thread, unit.len))
-        .collect())
+        .collect()
+}
+
+/// The units in the order of their commit places.
+pub fn serialise(machine: &mut Machine<'_>, schedule: &[u32]) -> Result<Vec<u32>, (usize, Stop)> {
+    let (units, _) = units(machine, schedule)?;
+    Ok(by_commit(units.iter(), schedule.len()))
+}
+
+/// The units that commit in the order of their commit places, then the calls that are left open before their first Left or
+/// Other step, in the order of their threads.
+pub fn serialise_open(machine: &mut Machine<'_>, schedule: &[u32]) -> Result<Vec<u32>, (usize, Stop)> {
+    let (mut units, last) = units(machine, schedule)?;
+    let mut left = Vec::new();
+    for (thread, &unit) in last.iter().enumerate() {
+        if machine.inside(thread as u32) && !units[unit].is_committed {
+            left.push((thread as u32, units[unit].len));
+            units[unit].len = 0;
+        }
+    }
+    let mut order = by_commit(units.iter(), schedule.len());
+    order.extend(left.into_iter().flat_map(|(thread, len)| iter::repeat_n(thread, len)));
+    Ok(order)
 }

@@ -6,7 +6,7 @@ use Rattle.aj_sources.specs.Refusals.{code_of}
 use Rattle.aj_sources.specs.Facts.{RefusedAs}
 use Rattle.aj_sources.proofs.Apart.{no_program_is_none, no_program_ends, no_accepted_is, accepted_or_none}
 use Rattle.aj_commands.specs.declared.command.Command.{Command}
-use Rattle.aj_commands.specs.declared.command.Command.TheVariants.{Check, Print, Run, Serialise, Derive, Verify}
+use Rattle.aj_commands.specs.declared.command.Command.TheVariants.{Check, Print, Run, Serialise, Derive, Verify, SerialiseOpen}
 use Rattle.aj_commands.specs.Rows.{Row}
 use Rattle.aj_commands.specs.Files.{first_too_large, file_at}
 use Rattle.aj_source_commands.specs.Check.{CheckAnswer, CheckFact, not_accepted, judged}
@@ -14,6 +14,7 @@ use Rattle.aj_source_commands.specs.Print.{PrintAnswer, PrintFact, no_program, p
 use Rattle.aj_book_commands.specs.Derive.{DeriveAnswer, DeriveFact, not_accepted as not_accepted_derive, derived}
 use Rattle.aj_book_commands.proofs.BookEndings.{verify_caused, verify_apart}
 use Rattle.aj_schedule_commands.proofs.ScheduleEndings.{run_caused, run_apart, serialise_caused, serialise_apart}
+use Rattle.aj_schedule_commands.proofs.OpenEndings.{open_caused, open_apart}
 use Rattle.aj_commands.specs.Answers.{Answer, Fact, Belongs, too_large, ended, Yields, IsExact}
 
 -- `check`: each ending has its fact, and one alone
@@ -96,6 +97,7 @@ caused Run files ending text is = run_caused (file_at files 0) (file_at files 1)
 caused Serialise files ending text is = serialise_caused (file_at files 0) (file_at files 1) ending text is
 caused Derive files ending text is = derive_caused (file_at files 0) ending text is
 caused Verify files ending text is = verify_caused (file_at files 0) (file_at files 1) ending text is
+caused SerialiseOpen files ending text is = open_caused (file_at files 0) (file_at files 1) ending text is
 
 apart : (command : Command) (files : List (List ℕ)) (one other : Ending) → Fact command files one → Fact command files other → one ≡ other
 apart Check files one other f g = check_apart (file_at files 0) one other f g
@@ -104,6 +106,7 @@ apart Run files one other f g = run_apart (file_at files 0) (file_at files 1) on
 apart Serialise files one other f g = serialise_apart (file_at files 0) (file_at files 1) one other f g
 apart Derive files one other f g = check_apart (file_at files 0) one other f g
 apart Verify files one other f g = verify_apart (file_at files 0) (file_at files 1) one other f g
+apart SerialiseOpen files one other f g = open_apart (file_at files 0) (file_at files 1) one other f g
 
 -- an ending's status is none of those that aren't endings
 pub no_ending : (ending : Ending) (status : ℕ) → 6 ≤ status → status ≤ 10 → code_of ending ≡ status → ⊥

@@ -1,6 +1,7 @@
 pub mod Endings
 pub mod Runs
 pub mod Headlines
+pub mod OpenCalled
 pub mod Certified
 pub mod Rows
 pub mod FileLemmas

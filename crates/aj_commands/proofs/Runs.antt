@@ -3,7 +3,7 @@ use Rattle.std.proofs.Common.{◌≡◌, ℕ, List, ◌∷◌, Option, Some, Non
 use Rattle.std.specs.Str.{bytes_eq}
 use Rattle.aj_edge.specs.Faults.{Rose}
 use Rattle.aj_commands.specs.declared.command.Command.{Command}
-use Rattle.aj_commands.specs.declared.command.Command.TheVariants.{Check, Print, Run, Serialise, Derive, Verify}
+use Rattle.aj_commands.specs.declared.command.Command.TheVariants.{Check, Print, Run, Serialise, Derive, Verify, SerialiseOpen}
 use Rattle.aj_commands.specs.declared.status.Status.{Status}
 use Rattle.aj_commands.specs.declared.status.Status.TheVariants.{Ended, CannotRead, CannotWrite, NoMemory, Usage, TooLarge}
 use Rattle.aj_commands.specs.Rows.{Row, IsRow, word_of}
@@ -18,7 +18,8 @@ use Rattle.aj_commands.proofs.Endings.{exact_answer, exact_yield, no_ending}
 command_of : List ℕ → Option Command
 command_of word = if bytes_eq word (codes "check") then Some Check else if bytes_eq word (codes "print") then Some Print
     else if bytes_eq word (codes "run") then Some Run else if bytes_eq word (codes "serialise") then Some Serialise
-    else if bytes_eq word (codes "derive") then Some Derive else if bytes_eq word (codes "verify") then Some Verify else None
+    else if bytes_eq word (codes "derive") then Some Derive else if bytes_eq word (codes "verify") then Some Verify
+    else if bytes_eq word (codes "serialise-open") then Some SerialiseOpen else None
 
 named : (command : Command) → command_of (word_of command) ≡ Some command
 unfolding command_of
@@ -28,6 +29,7 @@ named Run = refl
 named Serialise = refl
 named Derive = refl
 named Verify = refl
+named SerialiseOpen = refl
 
 -- words are one row at most
 one_row : (words : List (List ℕ)) (row other : Row) → IsRow words row → IsRow words other → row ≡ other

@@ -1,7 +1,7 @@
 -- The rows of words that the program knows.
 use Rattle.std.specs.Prelude.{◌≡◌, ℕ, List, [], ◌∷◌, codes, length}
 use Rattle.aj_commands.specs.declared.command.Command.{Command}
-use Rattle.aj_commands.specs.declared.command.Command.TheVariants.{Check, Print, Run, Serialise, Derive, Verify}
+use Rattle.aj_commands.specs.declared.command.Command.TheVariants.{Check, Print, Run, Serialise, Derive, Verify, SerialiseOpen}
 
 -- the word that names a command
 abbrev pub word_of : Command → List ℕ
@@ -11,6 +11,7 @@ word_of Run = codes "run"
 word_of Serialise = codes "serialise"
 word_of Derive = codes "derive"
 word_of Verify = codes "verify"
+word_of SerialiseOpen = codes "serialise-open"
 
 -- the most bytes that each file of a command may have, in the order of the words
 abbrev pub limits_of : Command → List ℕ
@@ -20,6 +21,7 @@ limits_of Run = 262144 ∷ 16777216 ∷ []
 limits_of Serialise = 262144 ∷ 16777216 ∷ []
 limits_of Derive = 262144 ∷ []
 limits_of Verify = 262144 ∷ 16777216 ∷ []
+limits_of SerialiseOpen = 262144 ∷ 16777216 ∷ []
 
 -- a command, and the names of its files
 pub record Row : Type 0 where

@@ -28,6 +28,8 @@ pub enum Command {
     Derive,
     /// Checks a source by a book.
     Verify,
+    /// Writes a schedule of a source with each atomic call in one piece, also one that is left open.
+    SerialiseOpen,
 }
 
 impl Command {
@@ -44,6 +46,7 @@ impl Command {
             "serialise" => Some(Command::Serialise),
             "derive" => Some(Command::Derive),
             "verify" => Some(Command::Verify),
+            "serialise-open" => Some(Command::SerialiseOpen),
             _ => None,
         }
     }
@@ -54,7 +57,9 @@ impl Command {
     {
         match self {
             Command::Check | Command::Print | Command::Derive => &[LARGEST_SOURCE],
-            Command::Run | Command::Serialise => &[LARGEST_SOURCE, LARGEST_SCHEDULE],
+            Command::Run | Command::Serialise | Command::SerialiseOpen => {
+                &[LARGEST_SOURCE, LARGEST_SCHEDULE]
+            }
             Command::Verify => &[LARGEST_SOURCE, LARGEST_BOOK],
         }
     }

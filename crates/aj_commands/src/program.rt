@@ -13,6 +13,7 @@ ghost use Rattle.aj_commands.specs.Said.{Says, WritesUnread, WritesAnswer, Write
 ghost use Rattle.aj_commands.specs.Commands.{row_of, status_of};
 ghost use Rattle.aj_commands.specs.Headline.{Headline, call_of};
 ghost use Rattle.aj_commands.specs.Books.{Books};
+ghost use Rattle.aj_commands.specs.OpenCalls.{OpenCalls};
 ghost use Rattle.aj_commands.specs.Outcomes.{IsUnreadFor, IsOutcome};
 
 use crate::command::{Command, Words, words_of};
@@ -21,7 +22,7 @@ use crate::lines::{USAGE, cannot_read_line, too_large_line};
 use crate::status::Status;
 use aj_book_commands::{derive_book, verify_book};
 use aj_edge::{Fault, Folder, Sink, write_all};
-use aj_schedule_commands::{run_schedule, serialise};
+use aj_schedule_commands::{run_schedule, serialise, serialise_open};
 use aj_source_commands::{check, print};
 use aj_sources::{Ending, Refusal};
 use std::alloc::{AllocError as NoMemory, Global};
@@ -45,6 +46,7 @@ fn answer(alloc: Global, command: Command, files: &[Vec<u8>]) -> Result<Vec<u8>,
         Command::Serialise => serialise(alloc, file_at(files, 0), file_at(files, 1)),
         Command::Derive => derive_book(alloc, file_at(files, 0)),
         Command::Verify => verify_book(alloc, file_at(files, 0), file_at(files, 1)),
+        Command::SerialiseOpen => serialise_open(alloc, file_at(files, 0), file_at(files, 1)),
     }
 }
 
@@ -141,6 +143,10 @@ pub fn run<F: Folder, K: Sink>(alloc: Global, words: &[String], folder: &mut F, 
 
     // What books are for, derived from these too.
     ensures books { Books (call_of (map string_bytes words.now) (F.told folder.old) (F.faults folder.old) (F.faults folder.new)
+        (K.faults sink.old) (K.faults sink.new) (K.written sink.old) (K.written sink.new) result) }
+
+    // What `serialise-open` is for, derived from these too.
+    ensures open_calls { OpenCalls (call_of (map string_bytes words.now) (F.told folder.old) (F.faults folder.old) (F.faults folder.new)
         (K.faults sink.old) (K.faults sink.new) (K.written sink.old) (K.written sink.new) result) }
 {
     let Some(row) = words_of(words) else {

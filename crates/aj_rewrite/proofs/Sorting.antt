@@ -159,14 +159,14 @@ each_left_mover (e ∷ u) h = let p = and_parts (moves_left e.kind) (list_all mo
 
 -- Kinds.
 
-quiet_right : (k : StepKind) → is_commit k ≡ false → k ≢ Bare → moves_right k ≡ true
+pub quiet_right : (k : StepKind) → is_commit k ≡ false → k ≢ Bare → moves_right k ≡ true
 quiet_right Both c b = refl
 quiet_right Right c b = refl
 quiet_right Left c b = absurd cc
 quiet_right Other c b = absurd cc
 quiet_right Bare c b = absurd (b refl)
 
-right_no_other : (k : StepKind) → moves_right k ≡ true → k ≡ Other → ⊥
+pub right_no_other : (k : StepKind) → moves_right k ≡ true → k ≡ Other → ⊥
 right_no_other Both r e = cc
 right_no_other Right r e = cc
 right_no_other Left r e = cc
@@ -174,10 +174,10 @@ right_no_other Other r e = cc
 right_no_other Bare r e = cc
 
 -- entries of a unit of another thread
-others : (t : ℕ) (u : List Entry) (n : ℕ) → IsFine n u → is_of_thread t u ≡ false → Each (λ x. x.thread ≡ t → ⊥) u
+pub others : (t : ℕ) (u : List Entry) (n : ℕ) → IsFine n u → is_of_thread t u ≡ false → Each (λ x. x.thread ≡ t → ⊥) u
 others t u n f not = each_more (IsOf f.first.thread) (λ x. x.thread ≡ t → ⊥) (λ x h e. absurd (let c : true ≡ false = sym (eq-eqb t t refl) ∙ ap (λ k. k == t) (sym e ∙ h) ∙ sym (ap (is_of_thread t) f.is) ∙ not in cc)) u f.one
 
-owns : (t : ℕ) (u : List Entry) (n : ℕ) → IsFine n u → is_of_thread t u ≡ true → Each (IsOf t) u
+pub owns : (t : ℕ) (u : List Entry) (n : ℕ) → IsFine n u → is_of_thread t u ≡ true → Each (IsOf t) u
 owns t u n f is = each_more (IsOf f.first.thread) (IsOf t) (λ x h. h ∙ of_first t u n f is) u f.one
 
 pair : {A : Type 0} (Q R : A → Type 0) (xs : List A) → Each Q xs → Each R xs → Each (λ x. Q x × R x) xs

@@ -35,11 +35,11 @@ outcome_run P q r place t s IsDone e ran later = absurd cc
 outcome_run P q r place t s (HadFaulted kind) e ran later = absurd cc
 outcome_run P q r place t s (Waits a holder) e ran later = absurd cc
 
-entries_run : (P : Program) (s : List ℕ) (q r : State) (place : ℕ) → run_from P q s ≡ Some r → Run P q (entries_from P q place s) r
+pub entries_run : (P : Program) (s : List ℕ) (q r : State) (place : ℕ) → run_from P q s ≡ Some r → Run P q (entries_from P q place s) r
 entries_run P [] q r place ran = cc
 entries_run P (t ∷ s) q r place ran = outcome_run P q r place t s (outcome P q t) refl ran (λ next later. entries_run P s next r (place + 1) later)
 
-entries_rise : (P : Program) (s : List ℕ) (q : State) (place : ℕ) → Rises place (entries_from P q place s)
+pub entries_rise : (P : Program) (s : List ℕ) (q : State) (place : ℕ) → Rises place (entries_from P q place s)
 entries_rise P [] q place = tt
 entries_rise P (t ∷ s) q place = by (outcome P q t) (λ next. entries_rise P s next (place + 1))
   where
@@ -54,14 +54,14 @@ entries_rise P (t ∷ s) q place = by (outcome P q t) (λ next. entries_rise P s
     by (Waits a holder) later = tt
 
 -- and a run of entries is one of a schedule, with the same threads and the same threads inside
-run_entries : (P : Program) (es : List Entry) (q r : State) → Run P q es r → run_from P q (map (λ e. e.thread) es) ≡ Some r
+pub run_entries : (P : Program) (es : List Entry) (q r : State) → Run P q es r → run_from P q (map (λ e. e.thread) es) ≡ Some r
 run_entries P [] q r ran = ap Some ran
 run_entries P (e ∷ es) q r ran =
     ap (λ o. option_and_then (λ next. run_from P next (map (λ x. x.thread) es)) (state_after q e.thread o)) ran.1.steps
     ∙ ap (λ z. run_from P z (map (λ x. x.thread) es)) ran.1.to ∙ run_entries P es ran.0 r ran.2
 
 -- what the test for uninterrupted schedules looks at
-abbrev marks : List Entry → List (ℕ × Bool)
+abbrev pub marks : List Entry → List (ℕ × Bool)
 marks es = map (λ e. (e.thread, e.inside)) es
 
 kept_marks : List (ℕ × Bool) → Bool
@@ -75,14 +75,14 @@ kept_is [] = refl
 kept_is (e ∷ []) = refl
 kept_is (e ∷ f ∷ es) = ap (λ b. (not e.inside || (f.thread == e.thread)) && b) (kept_is (f ∷ es))
 
-run_marks : (P : Program) (es : List Entry) (q r : State) (place : ℕ) → Run P q es r → marks (entries_from P q place (map (λ e. e.thread) es)) ≡ marks es
+pub run_marks : (P : Program) (es : List Entry) (q r : State) (place : ℕ) → Run P q es r → marks (entries_from P q place (map (λ e. e.thread) es)) ≡ marks es
 run_marks P [] q r place ran = refl
 run_marks P (e ∷ es) q r place ran =
     ap (λ o. marks (entry_then P q place e.thread o (λ next. entries_from P next (place + 1) (map (λ x. x.thread) es)))) ran.1.steps
     ∙ (λ i. (e.thread, (ap (is_inside_some P) (own_after P q e.thread ran.1.move ran.1.steps) ∙ ran.1.inside) i) ∷ marks (entries_from P (moved e.thread ran.1.move q) (place + 1) (map (λ x. x.thread) es)))
     ∙ ap (λ ms. (e.thread, e.inside) ∷ ms) (ap (λ z. marks (entries_from P z (place + 1) (map (λ x. x.thread) es))) ran.1.to ∙ run_marks P es ran.0 r (place + 1) ran.2)
 
-schedule_is : (us : List (List Entry)) → schedule_of us ≡ map (λ e. e.thread) (flat us)
+pub schedule_is : (us : List (List Entry)) → schedule_of us ≡ map (λ e. e.thread) (flat us)
 schedule_is [] = refl
 schedule_is (u ∷ us) = ap (λ s. map (λ e. e.thread) u ++ s) (schedule_is us) ∙ joined u (flat us)
   where
@@ -92,7 +92,7 @@ schedule_is (u ∷ us) = ap (λ s. map (λ e. e.thread) u ++ s) (schedule_is us)
 
 -- Whole units one after the other are uninterrupted.
 
-abbrev Whole : List Entry → Type 0
+abbrev pub Whole : List Entry → Type 0
 Whole u = is_whole u ≡ true
 
 unit_kept : (t : ℕ) (u more : List Entry) → Each (IsOf t) u → Whole u → are_kept more ≡ true → are_kept (u ++ more) ≡ true
@@ -153,7 +153,7 @@ module _ (P : Program) (typed : IsTyped P) where
       by true is later = (longer ∙ whole.0, whole.1)
       by false is later = (whole.0, later (sym (ap (λ (b : Bool). if b then true else has e.thread us) is) ∙ h))
 
-  whole_units : (es : List Entry) (n : ℕ) → Rises n es → (q r : State) → Run P q es r → ((t : ℕ) → inside P r t ≡ false) → Each Whole (units es)
+  pub whole_units : (es : List Entry) (n : ℕ) → Rises n es → (q r : State) → Run P q es r → ((t : ℕ) → inside P r t ≡ false) → Each Whole (units es)
   whole_units [] n rises q r ran closed = tt
   whole_units (e ∷ es) n rises q r ran closed = by e.inside refl (whole_units es (suc e.place) rises.1 ran.0 r ran.2 closed)
     where
@@ -186,14 +186,14 @@ none_from test (y ∷ ys) i none k x at = by (test y) refl none (λ n j h. none_
     by true e n later = absurd cc
     by false e n later = at_place k e at (later n)
 
-nobody_inside : (P : Program) (q : State) → open_thread P q ≡ None → (t : ℕ) → inside P q t ≡ false
+pub nobody_inside : (P : Program) (q : State) → open_thread P q ≡ None → (t : ℕ) → inside P q t ≡ false
 nobody_inside P q none t = by (slice_get q.threads t) refl
   where
     by : (o : Option Thread) → slice_get q.threads t ≡ o → is_inside_some P o ≡ false
     by None e = refl
     by (Some x) e = none_from (is_inside P) q.threads 0 (sym (position_from-zero (is_inside P) q.threads) ∙ none) t x e
 
-each_from : {A : Type 0} (Q : A → Type 0) (xs : List A) → ((i : ℕ) (x : A) → slice_get xs i ≡ Some x → Q x) → Each Q xs
+pub each_from : {A : Type 0} (Q : A → Type 0) (xs : List A) → ((i : ℕ) (x : A) → slice_get xs i ≡ Some x → Q x) → Each Q xs
 each_from Q [] h = tt
 each_from Q (x ∷ xs) h = (h 0 x refl, each_from Q xs (λ i y e. h (suc i) y e))
 
@@ -213,7 +213,7 @@ added_not_bare e (u ∷ us) h = by (is_of_thread e.thread u) h (λ g. added_not_
     by true g later = word_first e.kind (word_of u) g.0
     by false g later = later g.1
 
-none_bare : (es : List Entry) → Each HasWord (units es) → Each NotBare es
+pub none_bare : (es : List Entry) → Each HasWord (units es) → Each NotBare es
 none_bare [] h = tt
 none_bare (e ∷ es) h = (by e.inside h, none_bare es (words_later e es h))
   where

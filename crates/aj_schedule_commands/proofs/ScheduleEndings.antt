@@ -39,7 +39,7 @@ stops_no_run P s at is runs =
     ∙ ap (option_and_then (λ next. run_from P next rest)) none in
     let f : false ≡ true = sym (ap is_some e) ∙ runs in cc
 
-runs_to : (P : Program) (s : List ℕ) (q : State) → run P s ≡ Some q → Runs P s
+pub runs_to : (P : Program) (s : List ℕ) (q : State) → run P s ≡ Some q → Runs P s
 runs_to P s q e = ap is_some e
 
 outside_or_inside : (P : Program) (s : List ℕ) → EndsOutside P s → EndsInside P s → ⊥
@@ -49,20 +49,20 @@ outside_or_inside P s out into =
     let f : false ≡ true = sym (ap is_some (sym (ap (open_thread P) state) ∙ out.2)) ∙ into.2 in cc
 
 -- two files are one source and one schedule at most
-inputs_apart : (file text : List ℕ) (F G : Program → List ℕ → Type 0) → ((P : Program) (s : List ℕ) → F P s → G P s → ⊥) → HasInput file text F → HasInput file text G → ⊥
+pub inputs_apart : (file text : List ℕ) (F G : Program → List ℕ → Type 0) → ((P : Program) (s : List ℕ) → F P s → G P s → ⊥) → HasInput file text F → HasInput file text G → ⊥
 inputs_apart file text F G not f g =
     let P = f.1 in let s = f.2 in
     let program : g.1 ≡ f.1 = same_core file g.0 f.0 g.1 f.1 g.3.source.has_core f.3.source.has_core in
     let schedule : g.2 ≡ f.2 = one_schedule text g.2 f.2 g.3.schedule f.3.schedule in
     not f.1 f.2 f.4 (subst (λ Q. G Q f.2) program (subst (λ r. G g.1 r) schedule g.4))
 
-no_source_input : (file text : List ℕ) (F : Program → List ℕ → Type 0) → HasInput file text F → IsNotWellFormed file → ⊥
+pub no_source_input : (file text : List ℕ) (F : Program → List ℕ → Type 0) → HasInput file text F → IsNotWellFormed file → ⊥
 no_source_input file text F f none = none f.0 f.1 f.3.source
 
-no_schedule_input : (file text : List ℕ) (F : Program → List ℕ → Type 0) → HasInput file text F → IsNoSchedule text → ⊥
+pub no_schedule_input : (file text : List ℕ) (F : Program → List ℕ → Type 0) → HasInput file text F → IsNoSchedule text → ⊥
 no_schedule_input file text F f none = none f.2 f.3.schedule
 
-accepted_input : (file text : List ℕ) (F : Program → List ℕ → Type 0) → HasInput file text (λ P s. IsAccepted P × F P s) → IsAcceptedSource file
+pub accepted_input : (file text : List ℕ) (F : Program → List ℕ → Type 0) → HasInput file text (λ P s. IsAccepted P × F P s) → IsAcceptedSource file
 accepted_input file text F f = (f.0, f.1, f.3.source, f.4.0)
 
 -- a text with a line that refuses it spells no schedule
@@ -70,7 +70,7 @@ pub refused_text : (text : List ℕ) (ended : Ending) (line : List ℕ) → NoSc
 refused_text text _ _ (form place is) = (refl, λ s i. schedule_or_form text s place i is)
 refused_text text _ _ (too_long place is) = (refl, λ s i. schedule_or_long text s place i is)
 
-refused_run : (P : Program) (s : List ℕ) (ended : Ending) (line : List ℕ) → NoRun P s ended line → (ended ≡ ending.Stopped) × (Runs P s → ⊥)
+pub refused_run : (P : Program) (s : List ℕ) (ended : Ending) (line : List ℕ) → NoRun P s ended line → (ended ≡ ending.Stopped) × (Runs P s → ⊥)
 refused_run P s _ _ (stopped at is) = (refl, stops_no_run P s at is)
 
 -- a schedule with a line that refuses it isn't done

@@ -61,7 +61,7 @@ pub refused_order : (file text : List ℕ) (source : Source) (s : List ℕ) → 
 refused_order file text source s is accepted schedule ended line told = no_order is.0 (program_of source.program) s (the_input file text source s is schedule) accepted told
 
 -- the states of one run are one
-same_state : (P : Program) (s : List ℕ) (q r : State) → run P s ≡ Some q → run P s ≡ Some r → q ≡ r
+pub same_state : (P : Program) (s : List ℕ) (q r : State) → run P s ≡ Some q → run P s ≡ Some r → q ≡ r
 same_state P s q r one other = let e : Some q ≡ Some r = sym one ∙ other in cc
 
 pub serialised_text : (file text : List ℕ) (source : Source) (s order said out : List ℕ) → IsSourceOf file source → IsAccepted (program_of source.program) → IsSchedule text s

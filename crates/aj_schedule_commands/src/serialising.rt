@@ -76,7 +76,11 @@ fn order_of<'p>(
 }
 
 /// A schedule in a line, and a text behind it as comments.
-fn with_comments(alloc: Global, schedule: &[u32], comment: &[u8]) -> Result<Vec<u8>, NoMemory>
+pub(crate) fn with_comments(
+    alloc: Global,
+    schedule: &[u32],
+    comment: &[u8],
+) -> Result<Vec<u8>, NoMemory>
     ensures text { IfOk result (λ out. out.items ≡ written schedule.now ++ commented comment.now) }
     ensures spells { IfOk result (λ out. length schedule.now ≤ 200000 → IsSchedule out.items schedule.now) }
 {

@@ -1,8 +1,2 @@
 -- Lemmas on rewriting.
-mod Found
-mod Spread
-mod Endings
-mod AtomicCalls
-mod SeenFrames
-mod Running
 mod Results

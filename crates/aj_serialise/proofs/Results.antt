@@ -13,13 +13,13 @@ use Rattle.aj_rewrite.proofs.Whole.{written}
 use Rattle.aj_machine.specs.declared.machine.Stopped.{Stopped}
 use Rattle.aj_perform.specs.MachineValue.{MachineValue}
 use Rattle.aj_machine.specs.Standing.{program_run, StandsFor, IsStopped}
-use Rattle.aj_serialise.specs.declared.step.Step.{Step}
-use Rattle.aj_serialise.specs.Entries.{entries_of}
-use Rattle.aj_serialise.specs.Made.{HaveRun}
+use Rattle.aj_units.specs.declared.step.Step.{Step}
+use Rattle.aj_units.specs.Entries.{entries_of}
+use Rattle.aj_noted.specs.Made.{HaveRun}
 use Rattle.aj_serialise.specs.declared.serial_end.SerialEnd.{SerialEnd}
 use Rattle.aj_serialise.specs.declared.serial_end.SerialEnd.TheVariants as ends
 use Rattle.aj_serialise.specs.Rewritten.{IsRewritten, EndsInside, IsRefused}
-use Rattle.aj_serialise.proofs.Endings.{runs_not_stops, stops_once}
+use Rattle.aj_noted.proofs.Endings.{runs_not_stops, stops_once}
 
 -- what came of a run with no thread inside an atomic call at its end, and with one
 pub finished : (P : Program) → IsTyped P → IsAccepted P → (s : List ℕ) (m : MachineValue) (steps : List Step) (calls : ℕ → ℕ) → program_run m ≡ P → HaveRun m s steps calls → (known : Option ℕ) → ((q : State) → StandsFor m q → known ≡ open_thread (program_run m) q) → known ≡ None
@@ -42,12 +42,6 @@ left_open P s m steps calls is done known told t some = record {
   ran = ap (λ p. run p s) (sym is) ∙ done.ran;
   least = ap (λ p. open_thread p done.end) (sym is) ∙ sym (told done.end done.stands) ∙ some;
 }
-
--- the machine stands for the state that the schedule runs to
-pub stands_at_end : (P : Program) (s : List ℕ) (m : MachineValue) (steps : List Step) (calls : ℕ → ℕ) → program_run m ≡ P → HaveRun m s steps calls → (q : State) → run P s ≡ Some q → StandsFor m q
-stands_at_end P s m steps calls is done q ran =
-    let same : done.end ≡ q = ap (λ o. unwrap_or o q) (sym done.ran ∙ ap (λ p. run p s) is ∙ ran) in
-    subst (StandsFor m) same done.stands
 
 module _ (P : Program) (s : List ℕ) where
   same_open : (q r : State) → run P s ≡ Some q → run P s ≡ Some r → (a b : Option ℕ) → open_thread P q ≡ a → open_thread P r ≡ b → a ≡ b

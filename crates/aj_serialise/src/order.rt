@@ -1,22 +1,11 @@
 //! The written order of a run's steps.
-ghost use Rattle.std.specs.Prelude.{◌≡◌, ◌≤◌, ◌++◌, length, replicate, IfOk, OnOk};
+ghost use Rattle.std.specs.Prelude.{◌≡◌, ◌≤◌, length, IfOk};
 ghost use Rattle.aj_steps.specs.Units.{units, in_order, schedule_of};
-ghost use Rattle.aj_serialise.specs.Entries.{entries_of};
-ghost use Rattle.aj_serialise.specs.UnitMaps.{maps_of, spread};
+ghost use Rattle.aj_units.specs.Entries.{entries_of};
+ghost use Rattle.aj_units.specs.UnitMaps.{maps_of, spread};
 
-use crate::step::Step;
-use crate::units::{UnitTables, unit_tables};
+use aj_units::{Step, UnitTables, append, unit_tables};
 use std::alloc::{AllocError as NoMemory, Global};
-
-/// Appends a thread, so many times.
-fn append(order: &mut Vec<u32>, thread: u32, times: u32) -> Result<(), NoMemory>
-    ensures { OnOk result (order.new.items ≡ order.old.items ++ replicate times thread) }
-{
-    for _step in 0..times {
-        order.push(thread)?;
-    }
-    Ok(())
-}
 
 /// The threads of the steps, each as often as the unit that commits there has steps.
 fn spread(alloc: Global, tables: &UnitTables, steps: &[Step]) -> Result<Vec<u32>, NoMemory>

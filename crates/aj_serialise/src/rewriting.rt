@@ -7,17 +7,19 @@ ghost use Rattle.aj_state.specs.States.{State, initial};
 ghost use Rattle.aj_compile.specs.IsCode.{IsCodeOf};
 ghost use Rattle.aj_steps.specs.Run.{run, open_thread};
 ghost use Rattle.aj_machine.specs.declared.machine.Stopped.{Stopped};
-ghost use Rattle.aj_machine.specs.Standing.{StandsFor, IsStopped};
+ghost use Rattle.aj_machine.specs.Standing.{program_run, StandsFor, IsStopped};
+ghost use Rattle.aj_noted.specs.Made.{HaveRun};
 ghost use Rattle.aj_serialise.specs.declared.serial_end.SerialEnd.TheVariants as ends;
 ghost use Rattle.aj_serialise.specs.Rewritten.{IsRewritten, EndsInside, IsRefused};
 
 use crate::order::in_order;
-use crate::run::run_noted;
-use crate::serial_end::SerialEnd;
+use crate::serial_end::{SerialEnd, end_of};
 use aj_core::CoreProgram;
 use aj_deriv_check::Checked;
 use aj_emit::CodeTable;
 use aj_machine::Machine;
+use aj_noted::run_noted;
+use aj_units::Step;
 use std::alloc::Global;
 
 /// A schedule in its written order, and the machine that ran it, at its end.
@@ -25,6 +27,26 @@ use std::alloc::Global;
 pub struct Serialised<'p> {
     pub order: Vec<u32>,
     pub machine: Machine<'p>,
+}
+
+/// Runs a schedule on a machine at its start.
+fn run_steps(
+    alloc: Global,
+    machine: &mut Machine<'_>,
+    schedule: &[u32],
+) -> Result<Vec<Step>, SerialEnd>
+    requires stands { StandsFor machine.old (initial (program_run machine.old)) }
+    requires start { machine.old.made ≡ 0 }
+    requires size { length schedule.now ≤ 200000 }
+    ensures ran { IfOk result (λ steps. (calls : ℕ → ℕ) × HaveRun machine.new schedule.now steps.items calls) }
+    ensures length { IfOk result (λ steps. length steps.items ≡ length schedule.now) }
+    ensures refused { IfErr result (IsRefused (program_run machine.old) schedule.now) }
+    ensures program { machine.new.program ≡ machine.old.program }
+{
+    match run_noted(alloc, machine, schedule) {
+        Ok(steps) => Ok(steps),
+        Err(end) => Err(end_of(end)),
+    }
 }
 
 /// Runs a schedule, and puts it in its written order.
@@ -44,7 +66,7 @@ fn rewrite<'p>(
     ensures refused { IfErr result (IsRefused (program_of program.now) schedule.now) }
 {
     let mut machine = Machine::start(alloc, program, code)?;
-    let steps = run_noted(alloc, &mut machine, schedule)?;
+    let steps = run_steps(alloc, &mut machine, schedule)?;
     match machine.open_thread() {
         Some(thread) => Err(SerialEnd::Open { thread }),
         None => {

@@ -1,9 +1,11 @@
 //! Why a schedule isn't rewritten.
-ghost use Rattle.std.specs.Prelude.{◌≡◌};
-ghost use Rattle.aj_serialise.specs.Refusals.{refusal};
+ghost use Rattle.std.specs.Prelude.{ℕ, List};
+ghost use Rattle.aj_core.specs.Core.{Program};
+ghost use Rattle.aj_noted.specs.NoRun.{IsNoRun};
+ghost use Rattle.aj_serialise.specs.Rewritten.{IsRefused};
 
-use aj_deeds::StepEnd;
 use aj_machine::Stopped;
+use aj_noted::RunEnd;
 use std::alloc::{AllocError, AllocFailed};
 
 /// Why a schedule isn't rewritten.
@@ -39,12 +41,12 @@ impl<T: Drop> From<AllocFailed<T>> for SerialEnd {
     }
 }
 
-/// Why a schedule isn't rewritten whose entry of this number, counted from 1, didn't step.
-pub(crate) fn refusal(entry: u32, thread: u32, why: StepEnd) -> SerialEnd
-    ensures { result ≡ refusal entry thread why }
+/// Why a schedule isn't rewritten that doesn't run.
+pub(crate) fn end_of(end: RunEnd) -> SerialEnd
+    ensures { (P : Program) (s : List ℕ) → IsNoRun P s end → IsRefused P s result }
 {
-    match why {
-        StepEnd::NoMemory => SerialEnd::NoMemory,
-        why => SerialEnd::Stopped(Stopped { entry, thread, why }),
+    match end {
+        RunEnd::Stopped(stopped) => SerialEnd::Stopped(stopped),
+        RunEnd::NoMemory => SerialEnd::NoMemory,
     }
 }

@@ -9,6 +9,7 @@ use aj_cond::Tree;
 use aj_deriv::{DerivBook, read_book, write_book};
 use aj_deriv_check::{Checked, Refused, Wrong, accept};
 use aj_machine::Machine;
+use aj_open::{OpenEnd, serialise_open};
 use aj_serialise::{SerialEnd, serialise};
 use aj_sources::Source;
 use std::alloc::Global;
@@ -187,6 +188,38 @@ static ORDER: [(u32, u32); 7] = [(0, 10), (1, 3), (2, 3), (1, 11), (2, 11), (1, 
 fn a_checked_program_is_serialised(rt: HostRuntime) -> Result<(), Fail> {
     expect_order(&rt, rt.alloc(), &GROUPS, &ORDER)?;
     expect_open(&rt, rt.alloc(), &[(0, 10), (1, 6)], 1)
+}
+
+/// The open order of a schedule of the counter program.
+fn open_order_of(alloc: Global, schedule: &[u32]) -> Result<Result<Vec<u32>, OpenEnd>, Fail> {
+    if schedule.len() > 200000 {
+        return Err(Fail::new("a long schedule"));
+    }
+    let checked = checked_of(alloc, COUNTER, BOOK)?;
+    let code = compile(alloc, checked.program())?;
+    Ok(serialise_open(alloc, &checked, &code, schedule))
+}
+
+/// A schedule of the counter program that ends with both workers inside a call, in groups.
+static OPEN_GROUPS: [(u32, u32); 3] = [(0, 10), (2, 5), (1, 5)];
+
+/// Its open order.
+static OPEN_ORDER: [(u32, u32); 4] = [(0, 10), (2, 3), (1, 5), (2, 2)];
+
+#[test]
+fn a_checked_program_is_put_in_open_order(rt: HostRuntime) -> Result<(), Fail> {
+    let schedule = schedule_of(rt.alloc(), &OPEN_GROUPS)?;
+    let order = schedule_of(rt.alloc(), &OPEN_ORDER)?;
+    match open_order_of(rt.alloc(), schedule.as_slice())? {
+        Ok(found) => assert_eq!(rt; found.as_slice(), order.as_slice()),
+        Err(_) => assert!(rt; false),
+    }
+    let stops = schedule_of(rt.alloc(), &[(0, 3), (5, 1)])?;
+    match open_order_of(rt.alloc(), stops.as_slice())? {
+        Err(OpenEnd::Stopped(stopped)) => assert_eq!(rt; stopped.entry, 4),
+        _ => assert!(rt; false),
+    }
+    Ok(())
 }
 
 #[test]

@@ -14,6 +14,8 @@ mod machine_tests;
 #[cfg(test)]
 mod nodes_tests;
 #[cfg(test)]
+mod open_tests;
+#[cfg(test)]
 mod schedule_tests;
 #[cfg(test)]
 mod schedule_text_tests;

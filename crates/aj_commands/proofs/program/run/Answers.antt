@@ -3,6 +3,7 @@ use Rattle.aj_commands.specs.Commands.{row_of, status_of}
 use Rattle.aj_commands.specs.Said.{Says}
 use Rattle.aj_commands.proofs.Headlines.{headline_of}
 use Rattle.aj_commands.proofs.Certified.{books_of}
+use Rattle.aj_commands.proofs.OpenCalled.{open_calls_of}
 use Rattle.aj_commands.proofs.Endings.{exact_yield}
 use Rattle.aj_commands.proofs.Runs.{IsDone, exact, answered, front, unreadable, complete}
 use Rattle.aj_commands.proofs.program.run.Given.{Over}
@@ -58,3 +59,12 @@ returns-in-Err-clause-books g c = books_of _ (λ row files asked. exact_yield ro
 
 pub returns-in_default-clause-books : goal.returns-in_default-clause-books
 returns-in_default-clause-books g c = books_of _ (λ row files asked. absurd (c.in_default.ensures row asked.is_row)) (λ row files asked calm. absurd (c.in_default.ensures row asked.is_row))
+
+pub returns-in-Ok-clause-open_calls : goal.returns-in-Ok-clause-open_calls
+returns-in-Ok-clause-open_calls g c = open_calls_of _ (λ row files asked calm. complete _ _ _ _ _ _ _ _ _ (the_row g c) row files asked calm.files calm.sink)
+
+pub returns-in-Err-clause-open_calls : goal.returns-in-Err-clause-open_calls
+returns-in-Err-clause-open_calls g c = open_calls_of _ (λ row files asked calm. inl c.code.ensures)
+
+pub returns-in_default-clause-open_calls : goal.returns-in_default-clause-open_calls
+returns-in_default-clause-open_calls g c = open_calls_of _ (λ row files asked calm. absurd (c.in_default.ensures row asked.is_row))

@@ -1,4 +1,4 @@
-use Rattle.aj_serialise.proofs.Endings.{runs_or_stops, runs_not_stops, stops_once}
+use Rattle.aj_noted.proofs.Endings.{runs_or_stops, runs_not_stops, stops_once}
 use Rattle.aj_serialise.proofs.laws.ending_laws.Goals as goal
 
 pub returns-clause-either : goal.returns-clause-either

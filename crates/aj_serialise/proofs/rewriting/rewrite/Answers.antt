@@ -2,9 +2,10 @@ use Rattle.std.proofs.Common.{ap, subst, ◌∙◌}
 use Rattle.std.proofs.lemmas.Result.{err_from_is_err_and}
 use Rattle.aj_core.specs.Views.{program_of}
 use Rattle.aj_steps.specs.Units.{units, in_order, schedule_of}
-use Rattle.aj_serialise.specs.Entries.{entries_of}
+use Rattle.aj_units.specs.Entries.{entries_of}
 use Rattle.aj_serialise.specs.Rewritten.{IsRefused}
-use Rattle.aj_serialise.proofs.Results.{finished, left_open, stands_at_end}
+use Rattle.aj_noted.proofs.Running.{stands_at_end}
+use Rattle.aj_serialise.proofs.Results.{finished, left_open}
 use Rattle.aj_serialise.proofs.rewriting.rewrite.Goals as goal
 
 pub returns-in_err-steps-clause-refused : goal.returns-in_err-steps-clause-refused
@@ -14,14 +15,14 @@ returns-in_err-steps-clause-refused c =
 
 pub returns-in-Some-clause-refused : goal.returns-in-Some-clause-refused
 returns-in-Some-clause-refused c =
-    left_open (program_of c.args.program.now) c.args.schedule.now c.run_noted.new.machine c.in_ok-steps.steps.items c.in_ok-steps.ensures.ran.0 (ap program_of (c.in_ok-steps.ensures.program ∙ c.in_ok-machine.ensures.program)) c.in_ok-steps.ensures.ran.1
+    left_open (program_of c.args.program.now) c.args.schedule.now c.run_steps.new.machine c.in_ok-steps.steps.items c.in_ok-steps.ensures.ran.0 (ap program_of (c.in_ok-steps.ensures.program ∙ c.in_ok-machine.ensures.program)) c.in_ok-steps.ensures.ran.1
     c.open_thread.result c.open_thread.ensures c.in-Some.thread c.in-Some.is
 
 pub returns-clause-rewritten : goal.returns-clause-rewritten
 returns-clause-rewritten c =
-    finished (program_of c.args.program.now) c.requires.typed c.requires.accepted c.args.schedule.now c.run_noted.new.machine c.in_ok-steps.steps.items c.in_ok-steps.ensures.ran.0 (ap program_of (c.in_ok-steps.ensures.program ∙ c.in_ok-machine.ensures.program)) c.in_ok-steps.ensures.ran.1
+    finished (program_of c.args.program.now) c.requires.typed c.requires.accepted c.args.schedule.now c.run_steps.new.machine c.in_ok-steps.steps.items c.in_ok-steps.ensures.ran.0 (ap program_of (c.in_ok-steps.ensures.program ∙ c.in_ok-machine.ensures.program)) c.in_ok-steps.ensures.ran.1
     c.open_thread.result c.open_thread.ensures c.in-None.is c.in_ok-order-in-None.order.items (c.in_ok-order-in-None.ensures ∙ ap (λ steps. schedule_of (in_order (units (entries_of 0 steps)))) c.deref.ensures.value)
 
 pub returns-clause-stands : goal.returns-clause-stands
 returns-clause-stands c q ran =
-    stands_at_end (program_of c.args.program.now) c.args.schedule.now c.run_noted.new.machine c.in_ok-steps.steps.items c.in_ok-steps.ensures.ran.0 (ap program_of (c.in_ok-steps.ensures.program ∙ c.in_ok-machine.ensures.program)) c.in_ok-steps.ensures.ran.1 q ran
+    stands_at_end (program_of c.args.program.now) c.args.schedule.now c.run_steps.new.machine c.in_ok-steps.steps.items c.in_ok-steps.ensures.ran.0 (ap program_of (c.in_ok-steps.ensures.program ∙ c.in_ok-machine.ensures.program)) c.in_ok-steps.ensures.ran.1 q ran

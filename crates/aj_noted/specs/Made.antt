@@ -1,0 +1,28 @@
+-- Steps that a machine made.
+use Rattle.std.specs.Prelude.{◌≡◌, ℕ, List, Some}
+use Rattle.aj_core.specs.Core.{Program}
+use Rattle.aj_state.specs.States.{State}
+use Rattle.aj_steps.specs.Run.{run, inside}
+use Rattle.aj_steps.specs.Step.{Outcome, Moves, moved}
+use Rattle.aj_steps.specs.Units.{entries}
+use Rattle.aj_perform.specs.MachineValue.{MachineValue}
+use Rattle.aj_machine.specs.Standing.{program_run, StandsFor}
+use Rattle.aj_units.specs.declared.step.Step.{Step}
+use Rattle.aj_noted.specs.Calls.{AreCalls}
+use Rattle.aj_units.specs.Entries.{entries_of}
+
+-- what a step of a thread is told as, where the definition's turn comes to this; for which state the machine stands then, and
+-- the numbers of atomic calls in it
+abbrev pub IsMade : Program → ℕ → State → MachineValue → Step → (ℕ → ℕ) → Outcome → Type 0
+IsMade P t q m step calls (Moves move) =
+    (step ≡ record { thread = t; kind = move.kind; inside = inside P (moved t move q) t }) × StandsFor m (moved t move q) × AreCalls P (moved t move q) calls
+IsMade P t q m step calls _ = ⊥
+
+-- these steps are those of the schedule from the start, the machine stands for the state that it runs to, and these are the
+-- numbers of atomic calls in it
+pub record HaveRun (m : MachineValue) (s : List ℕ) (steps : List Step) (calls : ℕ → ℕ) : Type 0 where
+  pub end : State
+  pub ran : run (program_run m) s ≡ Some end
+  pub stands : StandsFor m end
+  pub called : AreCalls (program_run m) end calls
+  pub noted : entries_of 0 steps ≡ entries (program_run m) s

@@ -1,0 +1,87 @@
+//! Running a schedule, with a note of each step.
+ghost use Rattle.std.specs.Prelude.{◌≡◌, ◌+◌, ◌<◌, ◌≤◌, ℕ, nat_lt, length, slice_get, IfOk, IfErr, OnOk, OnErr};
+ghost use Rattle.aj_state.specs.States.{State, initial};
+ghost use Rattle.aj_steps.specs.Step.{outcome};
+ghost use Rattle.aj_perform.specs.Reasons.{IsReason};
+ghost use Rattle.aj_machine.specs.Standing.{program_run, StandsFor};
+ghost use Rattle.aj_noted.specs.Calls.{AreCalls, calls_after, frames_seen, methods_at};
+ghost use Rattle.aj_noted.specs.Made.{IsMade, HaveRun};
+ghost use Rattle.aj_noted.specs.NoRun.{IsNoRun};
+ghost use Rattle.aj_units.specs.Tables.{value_at, put_at};
+
+use crate::calls::{Frames, frames_at, note_calls};
+use crate::run_end::{RunEnd, refusal};
+use aj_deeds::StepEnd;
+use aj_machine::Machine;
+use aj_state::StepKind;
+use aj_units::{Step, value_at};
+use std::alloc::{AllocError as NoMemory, Global};
+
+/// Notes the step of this kind that a thread made, whose frames were seen so before it.
+fn note_step(
+    machine: &Machine<'_>,
+    calls: &mut Vec<u32>,
+    thread: u32,
+    kind: StepKind,
+    before: Frames,
+) -> Result<Step, NoMemory>
+    ensures step { IfOk result (λ step. step ≡ record { thread = thread; kind = kind; inside = nat_lt 0 (value_at 0 calls.new.items thread) }) }
+    ensures calls { OnOk result ((q : State) → StandsFor machine.now q → (other : ℕ) → value_at 0 calls.new.items other ≡
+        put_at (value_at 0 calls.old.items) thread
+        (calls_after (program_run machine.now) before (frames_seen (methods_at (slice_get q.threads thread))) (value_at 0 calls.old.items thread)) other) }
+{
+    let after = frames_at(machine, thread);
+    note_calls(machine.program(), calls, thread, before, after)?;
+    Ok(Step {
+        thread,
+        kind,
+        inside: value_at(calls, 0, thread) > 0,
+    })
+}
+
+/// Makes a step of a thread.
+fn make_step(
+    alloc: Global,
+    machine: &mut Machine<'_>,
+    calls: &mut Vec<u32>,
+    thread: u32,
+) -> Result<Step, StepEnd>
+    requires room { machine.old.made < 4294967295 }
+    ensures made { IfOk result (λ step. (q : State) → StandsFor machine.old q → AreCalls (program_run machine.old) q (value_at 0 calls.old.items) →
+        IsMade (program_run machine.old) thread q machine.new step (value_at 0 calls.new.items) (outcome (program_run machine.old) q thread)) }
+    ensures refused { IfErr result (λ why. (q : State) → StandsFor machine.old q → IsReason why (outcome (program_run machine.old) q thread)) }
+    ensures counted { OnOk result (machine.new.made ≡ machine.old.made + 1) }
+    ensures program { machine.new.program ≡ machine.old.program }
+{
+    let before = frames_at(machine, thread);
+    let kind = machine.step_kind(alloc, thread)?;
+    match note_step(machine, calls, thread, kind, before) {
+        Ok(step) => Ok(step),
+        Err(NoMemory) => Err(StepEnd::NoMemory),
+    }
+}
+
+/// Runs a schedule on a machine at its start.
+pub fn run_noted(
+    alloc: Global,
+    machine: &mut Machine<'_>,
+    schedule: &[u32],
+) -> Result<Vec<Step>, RunEnd>
+    requires stands { StandsFor machine.old (initial (program_run machine.old)) }
+    requires start { machine.old.made ≡ 0 }
+    requires size { length schedule.now ≤ 200000 }
+    ensures ran { IfOk result (λ steps. (calls : ℕ → ℕ) × HaveRun machine.new schedule.now steps.items calls) }
+    ensures length { IfOk result (λ steps. length steps.items ≡ length schedule.now) }
+    ensures refused { IfErr result (IsNoRun (program_run machine.old) schedule.now) }
+    ensures program { machine.new.program ≡ machine.old.program }
+{
+    let mut calls = Vec::new(alloc);
+    let mut steps = Vec::with_capacity(alloc, schedule.len())?;
+    for (place, thread) in schedule.iter().enumerate() {
+        match make_step(alloc, machine, &mut calls, *thread) {
+            Ok(step) => steps.push(step)?,
+            Err(why) => return Err(refusal(place as u32 + 1, *thread, why)),
+        }
+    }
+    Ok(steps)
+}

@@ -1,0 +1,48 @@
+-- What comes of a schedule is the answer, or memory was wanting.
+use Rattle.std.proofs.Common.{◌≡◌, ◌⊎◌, inl, inr, ℕ, List, Some, None, refl, sym, ap, subst, ◌∙◌}
+use Rattle.std.specs.Prelude.{Result, Ok, Err, IfOk, IfErr, MatchResult}
+use Rattle.aj_core.specs.Core.{Program}
+use Rattle.aj_core.specs.Typed.{IsTyped}
+use Rattle.aj_rules.specs.Rules.{IsAccepted}
+use Rattle.aj_state.specs.States.{State, initial}
+use Rattle.aj_steps.specs.Run.{run}
+use Rattle.aj_steps.specs.Units.{entries, units, schedule_of}
+use Rattle.aj_held.proofs.Theorem.{words}
+use Rattle.aj_machine.specs.declared.machine.Stopped.{Stopped}
+use Rattle.aj_perform.specs.MachineValue.{MachineValue}
+use Rattle.aj_machine.specs.Standing.{program_run, IsStopped}
+use Rattle.aj_units.specs.declared.step.Step.{Step}
+use Rattle.aj_units.specs.Entries.{entries_of}
+use Rattle.aj_noted.specs.Made.{HaveRun}
+use Rattle.aj_noted.proofs.Endings.{runs_not_stops, stops_once}
+use Rattle.aj_open.specs.declared.open_end.OpenEnd.{OpenEnd}
+use Rattle.aj_open.specs.declared.open_end.OpenEnd.TheVariants as ends
+use Rattle.aj_open.specs.Opened.{IsOpened, IsRefused}
+use Rattle.aj_open.specs.OpenOrder.{open_units, open_order}
+use Rattle.aj_open.specs.Whole.{IsGathered}
+use Rattle.aj_open.proofs.Gathered.{gathered, closed_order}
+
+-- what came of a run
+pub finished : (P : Program) → IsTyped P → IsAccepted P → (s : List ℕ) (m : MachineValue) (steps : List Step) (calls : ℕ → ℕ) → program_run m ≡ P → HaveRun m s steps calls
+    → (r : List ℕ) → r ≡ schedule_of (open_units (units (entries_of 0 steps))) → IsOpened P s r
+finished P typed accepted s m steps calls is done r ordered =
+    let ran = ap (λ p. run p s) (sym is) ∙ done.ran in
+    let order : r ≡ open_order P s = ordered ∙ ap (λ es. schedule_of (open_units (units es))) (done.noted ∙ ap (λ p. entries p s) is) in
+    record {
+      end = done.end;
+      ran = ran;
+      ordered = order;
+      gathered = subst (λ x. IsGathered P s x done.end) (sym order) (gathered P typed s done.end ran (words P typed accepted s));
+      closed = λ nobody. order ∙ closed_order P typed s done.end ran nobody;
+    }
+
+module _ (P : Program) (s : List ℕ) {T : Type 0} (items : T → List ℕ) where
+  pub opens : (result : Result T OpenEnd) (q : State) → run P s ≡ Some q → IfOk result (λ r. IsOpened P s (items r)) → IfErr result (IsRefused P s) → MatchResult result (λ r. IsOpened P s (items r)) (λ e. e ≡ ends.NoMemory)
+  opens (Ok r) q ran good refused = good
+  opens (Err (ends.Stopped stopped)) q ran good refused = absurd (runs_not_stops P s q stopped ran refused)
+  opens (Err ends.NoMemory) q ran good refused = refl
+
+  pub stops : (result : Result T OpenEnd) (stopped : Stopped) → IsStopped P (initial P) s stopped → IfOk result (λ r. IsOpened P s (items r)) → IfErr result (IsRefused P s) → MatchResult result (λ _. ⊥) (λ e. (e ≡ ends.Stopped stopped) ⊎ (e ≡ ends.NoMemory))
+  stops (Ok r) stopped is good refused = runs_not_stops P s good.end stopped good.ran is
+  stops (Err (ends.Stopped other)) stopped is good refused = inl (ap ends.Stopped (stops_once P s other stopped refused is))
+  stops (Err ends.NoMemory) stopped is good refused = inr refl

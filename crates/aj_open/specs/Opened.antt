@@ -1,0 +1,25 @@
+-- What comes of a schedule: it is put in its open order, or it stops.
+use Rattle.std.specs.Prelude.{◌≡◌, ℕ, List, Some, None}
+use Rattle.aj_core.specs.Core.{Program}
+use Rattle.aj_state.specs.States.{State, initial}
+use Rattle.aj_steps.specs.Run.{run, open_thread}
+use Rattle.aj_steps.specs.Units.{written_order}
+use Rattle.aj_machine.specs.Standing.{IsStopped}
+use Rattle.aj_open.specs.declared.open_end.OpenEnd.{OpenEnd}
+use Rattle.aj_open.specs.declared.open_end.OpenEnd.TheVariants as ends
+use Rattle.aj_open.specs.Whole.{IsGathered}
+use Rattle.aj_open.specs.OpenOrder.{open_order}
+
+-- The schedule runs, and r is its open order: a rearrangement that runs to the same state, is whole, and leads every thread
+-- through the same frames and statuses. Where no thread stands inside an atomic call at the end, it is the written order.
+pub record IsOpened (P : Program) (s r : List ℕ) : Type 0 where
+  pub end : State
+  pub ran : run P s ≡ Some end
+  pub ordered : r ≡ open_order P s
+  pub gathered : IsGathered P s r end
+  pub closed : open_thread P end ≡ None → r ≡ written_order P s
+
+-- when each refusal comes; of want of memory nothing is said
+abbrev pub IsRefused : Program → List ℕ → OpenEnd → Type 0
+IsRefused P s (ends.Stopped stopped) = IsStopped P (initial P) s stopped
+IsRefused P s ends.NoMemory = Unit {0}

@@ -1,0 +1,11 @@
+//! Rewriting a schedule also where it leaves atomic calls open: each call in one piece, to the same state.
+#![tactic(auto)]
+
+mod laws;
+mod open_end;
+mod opening;
+mod spreading;
+
+pub use laws::{accepted_programs_gather, open_order_runs};
+pub use open_end::OpenEnd;
+pub use opening::{InOrder, opened, opened_with_machine, serialise_open};

@@ -1,0 +1,6 @@
+-- The refusal of a schedule that isn't put in its open order.
+use Rattle.aj_core.specs.Views.{program_of}
+use Rattle.aj_schedule_commands.proofs.opening.order_of.Goals as goal
+
+pub returns-in-Err-clause-order : goal.returns-in-Err-clause-order
+returns-in-Err-clause-order c = c.refuse_end.ensures (program_of c.args.program.now) c.args.schedule.now c.in-Err.ensures.refused
