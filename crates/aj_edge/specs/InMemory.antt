@@ -1,5 +1,5 @@
 -- A folder and a sink that are kept in memory, and how a call changes them.
-use Rattle.std.specs.Prelude.{ℕ, ◌+◌, ◌-◌, ◌^◌, ◌==◌, ◌||◌, ◌&&◌, Bool, List, ◌++◌, Option, Some, None, String, Vec, length, drop, min, map, find, position, is_none, nat_lt, slice_index, slice_set, string_bytes}
+use Rattle.std.specs.Prelude.{ℕ, ◌+◌, ◌-◌, ◌^◌, ◌==◌, ◌||◌, ◌&&◌, Bool, List, [], ◌++◌, Option, Some, None, String, Vec, length, drop, min, map, find, position, is_none, nat_lt, slice_index, slice_set, string_bytes, unwrap_or}
 use Rattle.std.specs.Global.{Global}
 use Rattle.std.specs.Option.{option_map, option_map_or}
 use Rattle.std.specs.List.{list_any}
@@ -31,6 +31,10 @@ place_of files name = position (λ f. bytes_eq f.name name) files
 -- the bytes of the first file of a name
 abbrev pub bytes_of : List StoredFile → List ℕ → Option (List ℕ)
 bytes_of files name = option_map (λ f. f.bytes) (find (λ f. bytes_eq f.name name) files)
+
+-- the same where a name without a file counts as an empty file
+abbrev pub bytes_or_none : List StoredFile → List ℕ → List ℕ
+bytes_or_none files name = unwrap_or (bytes_of files name) []
 
 -- the faults of a name: a count for each file, and one for all names without a file
 abbrev pub faults_of : FolderInMemory → List ℕ → ℕ

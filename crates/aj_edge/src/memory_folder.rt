@@ -78,7 +78,7 @@ fn place_of(files: &[(String, Vec<u8>)], name: &str) -> Option<usize>
 }
 
 /// The first file of a name: its place and its bytes.
-fn find_file<'f>(files: &'f [(String, Vec<u8>)], name: &str) -> Option<(usize, &'f [u8])>
+pub(crate) fn find_file<'f>(files: &'f [(String, Vec<u8>)], name: &str) -> Option<(usize, &'f [u8])>
     ensures no_place { IfNone result (place_of (stored_files files.now) name.now ≡ None) }
     ensures no_bytes { IfNone result (bytes_of (stored_files files.now) name.now ≡ None) }
     ensures place { IfSome result (λ file. place_of (stored_files files.now) name.now ≡ Some file.0) }
@@ -108,7 +108,7 @@ fn count_fault(faults: &mut [u64], place: usize)
 }
 
 /// Copies at most `most` bytes of a file from byte `at` on, and returns how many.
-fn give(file: &[u8], at: u64, most: usize, into: &mut [u8]) -> usize
+pub(crate) fn give(file: &[u8], at: u64, most: usize, into: &mut [u8]) -> usize
     ensures count { result ≡ given_count most (length into.old) at file.now }
     ensures bytes { take result into.new ≡ take result (drop at file.now) }
     ensures rest { drop result into.new ≡ drop result into.old }

@@ -1,8 +1,8 @@
--- The lemmas that several proofs share. UniqueLemmas is public: crates above cite it.
+-- The lemmas that several proofs share. UniqueLemmas and WrittenLemmas are public: crates above cite them.
 mod NumberLemmas
 mod FrontLemmas
 mod ReadLemmas
 pub mod UniqueLemmas
 mod FormLemmas
-mod WrittenLemmas
+pub mod WrittenLemmas
 mod CommentLemmas

@@ -1,7 +1,9 @@
--- Refusals and answers of the commands on a schedule (ScheduleRows, OpenRows), and that each ending has its fact, and one alone
--- (ScheduleEndings, OpenEndings).
+-- Refusals and answers of the commands on a schedule (ScheduleRows, OpenRows, GenerateRows), and that each ending has its fact, and one alone
+-- (ScheduleEndings, OpenEndings, GenerateEndings).
 mod ScheduleRows
 mod OpenRows
+mod GenerateRows
 pub mod ScheduleEndings
 pub mod OpenEndings
+pub mod GenerateEndings
 mod Counts

@@ -3,3 +3,4 @@ pub mod Schedules
 pub mod Run
 pub mod Serialise
 pub mod SerialiseOpen
+pub mod Generate

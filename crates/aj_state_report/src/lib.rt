@@ -6,5 +6,6 @@ mod schedules;
 mod states;
 mod values;
 
+pub use numbers::write_number;
 pub use schedules::{open_text, schedule_fault_text, stopped_text};
 pub use states::state_text;

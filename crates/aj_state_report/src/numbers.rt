@@ -6,7 +6,7 @@ use itoa::{Buffer, Integer};
 use std::alloc::AllocError as NoMemory;
 
 /// Writes a number.
-pub(crate) fn write_number<N: Integer>(text: &mut String, number: N) -> Result<(), NoMemory>
+pub fn write_number<N: Integer>(text: &mut String, number: N) -> Result<(), NoMemory>
     ensures { OnOk result (string_bytes text.new ≡ string_bytes text.old ++ N.text number) }
 {
     let mut digits = Buffer::new();

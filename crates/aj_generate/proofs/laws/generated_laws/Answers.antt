@@ -1,4 +1,5 @@
 use Rattle.aj_generate.proofs.Counted.{generated_once, generated_size}
+use Rattle.aj_generate.proofs.Growing.{source_size}
 use Rattle.aj_generate.proofs.laws.generated_laws.Goals as goal
 
 pub returns-clause-one : goal.returns-clause-one
@@ -6,3 +7,6 @@ returns-clause-one c = generated_once
 
 pub returns-clause-size : goal.returns-clause-size
 returns-clause-size c = generated_size
+
+pub returns-clause-source_size : goal.returns-clause-source_size
+returns-clause-source_size c = source_size
