@@ -3,3 +3,4 @@ pub mod PassBooks
 pub mod BookLaws
 pub mod CursorLaws
 pub mod TableLaws
+mod BeforeFaults

@@ -2,20 +2,20 @@
 use Rattle.std.proofs.Common.{◌≡◌, ℕ, ◌≤◌, List, [], ◌∷◌, Option, Some, None, false, nat_lt, length, refl, sym, subst, ap, ◌∙◌, arith, inl, inr, ◌⊎◌}
 use Rattle.std.proofs.lemmas.Bool.Decides.{nat_tests}
 use Rattle.std.specs.Io.KnownBytes.{Appends}
-use Rattle.aj_classes.specs.Table.{table_of}
+use Rattle.aj_algebra.specs.declared.basic.Basic.{Basic}
+use Rattle.aj_algebra.specs.HeldPaths.{has_path}
+use Rattle.aj_classes.specs.Table.{TableData, table_of}
 use Rattle.aj_core.specs.Core.{Program}
-use Rattle.aj_rules.specs.Rules.{IsAccepted}
+use Rattle.aj_rules.specs.Rules.{IsAccepted, declared_bound}
 use Rattle.aj_schedule.proofs.UniqueLemmas.{one_schedule}
 use Rattle.aj_schedule.specs.Text.{IsSchedule}
 use Rattle.aj_sources.specs.declared.refusal.Ending.{Ending}
 use Rattle.aj_sources.specs.declared.refusal.Ending.TheVariants as ending
 use Rattle.aj_sources.specs.Refusals.{code_of}
 use Rattle.aj_sources.specs.Checking.{IsWellFormedSource}
-use Rattle.aj_infer.specs.Verdicts.{IsBrokenByAll}
 use Rattle.aj_report.specs.Verdicts.{broken_line}
-use Rattle.aj_rules.specs.Near.{AreRelevant, rel_of}
 use Rattle.aj_sources.specs.Facts.{RefusedAs}
-use Rattle.aj_sources.specs.Verdicts.{no_source, refuted}
+use Rattle.aj_sources.specs.Verdicts.{IsRefuted, no_source, refuted}
 use Rattle.aj_sources.proofs.Apart.{same_core, same_tree, no_accepted_is, no_source_is_none}
 use Rattle.aj_state.specs.States.{State}
 use Rattle.aj_steps.specs.Run.{run, open_thread, IsRearrangement, IsUninterrupted}
@@ -28,7 +28,7 @@ use Rattle.aj_source_commands.specs.Check.{CheckAnswer, not_accepted as not_chec
 use Rattle.aj_schedule_commands.specs.Serialise.{SerialiseAnswer, SerialiseFact, not_accepted, no_schedule, no_order, serialised}
 use Rattle.aj_commands.specs.Answers.{Belongs, too_large, ended}
 use Rattle.aj_commands.specs.Said.{WritesAnswer}
-use Rattle.aj_commands.specs.Headline.{Call, IsCalm, WritesRearrangement, RefusesExactly, Headline}
+use Rattle.aj_commands.specs.Headline.{Call, IsCalm, WritesRearrangement, NamesBroken, RefusesExactly, Headline}
 use Rattle.aj_schedule_commands.proofs.ScheduleEndings.{serialise_caused, serialise_apart, refused_text, order_ends}
 
 -- a file within its limit isn't the first over it
@@ -68,6 +68,24 @@ module _ (call : Call) where
         uninterrupted = subst (λ R. IsUninterrupted R (written_order Q r)) program is.serial.uninterrupted;
       }
 
+  -- the line of a program that is refuted names the method that refutes it
+  named_broken : (P : Program) (table : TableData) (m : ℕ) (declared found : Basic) → IsRefuted P m declared found → Appends call.written_before call.written_after (broken_line table m declared found) → NamesBroken call P table
+  named_broken P table m declared found refutes wrote =
+      let same : refutes.first.method ≡ refutes.broken.method = (let e = sym refutes.first.is ∙ refutes.broken.is in cc) in
+      record {
+        method = m;
+        declared = declared;
+        found = found;
+        written = wrote;
+        sets = refutes.sets;
+        relevant = refutes.least.relevant;
+        broken = refutes.broken;
+        declared_is = refutes.first.declared_is ∙ ap (λ x. declared_bound x.annotated) same;
+        least = refutes.assignment;
+        is_least = refutes.least.least;
+        found_is = refutes.first.found_is ∙ ap (λ x. refutes.assignment m (has_path x.requires_)) same;
+      }
+
   -- what was written for an answer of `check`
   judged_exactly : (file out : List ℕ) (its : Ending) → CheckAnswer file its out → call.status ≡ code_of its → Appends call.written_before call.written_after out
       → (tree : ProgramTree) (P : Program) → IsWellFormedSource file tree P → RefusesExactly call P (table_of tree)
@@ -86,15 +104,8 @@ module _ (call : Call) where
       record {
         only = λ two. none;
         all = λ n. status;
-        names = λ two. record {
-          method = m;
-          declared = declared;
-          found = found;
-          written = subst (λ t. Appends call.written_before call.written_after (broken_line t m declared found)) table wrote;
-          sets = broken.sets;
-          relevant = subst (λ R. AreRelevant R broken.sets) program broken.least.relevant;
-          broken = subst (λ R. IsBrokenByAll R (rel_of broken.sets) m) program broken.broken;
-        };
+        names = λ two. named_broken P (table_of tree) m declared found (subst (λ R. IsRefuted R m declared found) program broken)
+            (subst (λ t. Appends call.written_before call.written_after (broken_line t m declared found)) table wrote);
       }
 
   -- the sentence, from what comes where nothing failed

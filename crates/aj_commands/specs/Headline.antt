@@ -6,13 +6,16 @@
 use Rattle.std.specs.Prelude.{◌≡◌, ℕ, ◌≤◌, List, [], ◌∷◌, Option, Some, None, Contains, length, codes, ◌⊎◌}
 use Rattle.std.specs.Io.KnownBytes.{Appends}
 use Rattle.aj_algebra.specs.declared.basic.Basic.{Basic}
+use Rattle.aj_algebra.specs.HeldPaths.{has_path}
 use Rattle.aj_classes.specs.Table.{TableData, table_of}
 use Rattle.aj_core.specs.Core.{Program}
 use Rattle.aj_edge.specs.Faults.{Rose}
+use Rattle.aj_infer.specs.Least.{IsLeast}
 use Rattle.aj_infer.specs.Verdicts.{IsBrokenByAll}
 use Rattle.aj_report.specs.Verdicts.{broken_line}
+use Rattle.aj_rules.specs.Effect.{Assignment}
 use Rattle.aj_rules.specs.Near.{MethodPaths, AreRelevant, rel_of}
-use Rattle.aj_rules.specs.Rules.{IsAccepted}
+use Rattle.aj_rules.specs.Rules.{IsAccepted, declared_bound}
 use Rattle.aj_schedule.specs.Text.{IsSchedule}
 use Rattle.aj_sources.specs.Checking.{IsWellFormedSource}
 use Rattle.aj_state.specs.States.{State}
@@ -63,15 +66,24 @@ pub record WritesRearrangement (call : Call) (P : Program) (s : List ℕ) (q : S
   pub same_state : run P order ≡ Some q
   pub uninterrupted : IsUninterrupted P order
 
--- the line that the call wrote names a method whose bound every closed assignment breaks
+-- the line that the call wrote names a method of the program whose bound every closed assignment breaks
 pub record NamesBroken (call : Call) (P : Program) (table : TableData) : Type 0 where
+  -- the line with a method's number, what the method declares, and what was found of it
   pub method : ℕ
   pub declared : Basic
   pub found : Basic
   pub written : Appends call.written_before call.written_after (broken_line table method declared found)
+  -- the relevant sets of the program
   pub sets : List MethodPaths
   pub relevant : AreRelevant P sets
+  -- the program has that method, and every closed assignment breaks its bound
   pub broken : IsBrokenByAll P (rel_of sets) method
+  -- what it declares is its bound
+  pub declared_is : declared ≡ declared_bound broken.method.annotated
+  -- what was found is its value in the least closed assignment, at its required paths
+  pub least : Assignment
+  pub is_least : IsLeast P (rel_of sets) least
+  pub found_is : found ≡ least method (has_path broken.method.requires_)
 
 -- the call refuses exactly where no assignment is admissible, and names such a method
 pub record RefusesExactly (call : Call) (P : Program) (table : TableData) : Type 0 where

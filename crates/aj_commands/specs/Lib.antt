@@ -1,10 +1,12 @@
--- For a reader of the top call, in this order: the lines (Lines), the rows of words and their files (Rows, Files), what each row
--- answers and when it ends how (Check and Print of aj_source_commands, Run, Serialise and SerialiseOpen of aj_schedule_commands, Derive and Verify of
--- aj_book_commands), the same for all rows (Answers), what is written (Said), the sentence that the program is for (Headline), what books
--- are for (Books), and what `serialise-open` is for (OpenCalls). Commands and Outcomes serve the proofs.
+-- For a reader of the top call, in this order: the lines (Lines), the rows of words and their files (Rows, Files), in which order these
+-- are read (Reading), what each row answers and when it ends how (Check and Print of `aj_source_commands`, Run, Serialise, SerialiseOpen
+-- and Generate of `aj_schedule_commands`, Derive and Verify of `aj_book_commands`), the same for all rows (Answers), what is written (Said),
+-- the sentence that the program is for (Headline), what books are for (Books), and what `serialise-open` is for (OpenCalls). Commands and
+-- Outcomes serve the proofs.
 pub mod Lines
 pub mod Rows
 pub mod Files
+pub mod Reading
 pub mod Answers
 pub mod Said
 pub mod Headline

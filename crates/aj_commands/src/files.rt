@@ -1,8 +1,9 @@
 //! Reads the files that a row names.
 
-ghost use Rattle.std.specs.Prelude.{◌≡◌, ◌++◌, ◌≤◌, ◌∷◌, [], ℕ, List, None, length, map, string_bytes, OnOk, IfOk, IfErr};
-ghost use Rattle.aj_commands.specs.Files.{AreTold, AreBounded, first_over, file_at};
-ghost use Rattle.aj_commands.specs.Outcomes.{IsUnreadFor};
+ghost use Rattle.std.specs.Prelude.{◌≡◌, ◌++◌, ◌∷◌, [], length, map, string_bytes, OnOk, IfOk, IfErr};
+ghost use Rattle.aj_commands.specs.Files.{file_at};
+ghost use Rattle.aj_commands.specs.Reading.{AreRead};
+ghost use Rattle.aj_commands.specs.Outcomes.{HasMore, IsUnreadFor};
 
 use aj_edge::{Folder, ReadEnd, read_file};
 use std::alloc::{AllocError, AllocError as NoMemory, Global};
@@ -48,12 +49,9 @@ fn read_each<'a, F: Folder>(
     files: &mut Vec<Vec<u8>>,
 ) -> Result<(), Unread<'a>>
     requires { length (map string_bytes names.now) ≡ length limits.now }
-    ensures read { OnOk result ((told : List (List ℕ)) → AreTold (F.told folder.old) (map string_bytes names.now) told →
-        (map (λ file. file.items) files.new.items ≡ map (λ file. file.items) files.old.items ++ told) × (first_over limits.now (map string_bytes names.now) told ≡ None)) }
-    ensures bounded { OnOk result ((more : List (List ℕ)) × (map (λ file. file.items) files.new.items ≡ map (λ file. file.items) files.old.items ++ more) × AreBounded limits.now more) }
+    ensures read { OnOk result (HasMore (F.told folder.old) (F.faults folder.old) (F.faults folder.new) limits.now (map string_bytes names.now)
+        (map (λ file. file.items) files.old.items) (map (λ file. file.items) files.new.items)) }
     ensures end { IfErr result (IsUnreadFor limits.now (map string_bytes names.now) (F.told folder.old) (F.faults folder.old) (F.faults folder.new)) }
-    ensures told { (other : List ℕ) → F.told folder.new other ≡ F.told folder.old other }
-    ensures never_fall { (other : List ℕ) → F.faults folder.old other ≤ F.faults folder.new other }
 {
     let Some((limit, more)) = limits.split_first() else {
         return Ok(());
@@ -79,9 +77,7 @@ pub fn read_files<'a, F: Folder>(
     names: &'a [String],
 ) -> Result<Vec<Vec<u8>>, Unread<'a>>
     requires { length (map string_bytes names.now) ≡ length limits.now }
-    ensures read { IfOk result (λ files. (told : List (List ℕ)) → AreTold (F.told folder.old) (map string_bytes names.now) told →
-        (map (λ file. file.items) files.items ≡ told) × (first_over limits.now (map string_bytes names.now) told ≡ None)) }
-    ensures bounded { IfOk result (λ files. AreBounded limits.now (map (λ file. file.items) files.items)) }
+    ensures read { IfOk result (λ files. AreRead (F.told folder.old) (F.faults folder.old) (F.faults folder.new) limits.now (map string_bytes names.now) (map (λ file. file.items) files.items)) }
     ensures end { IfErr result (IsUnreadFor limits.now (map string_bytes names.now) (F.told folder.old) (F.faults folder.old) (F.faults folder.new)) }
 {
     let mut files = Vec::new(alloc);

@@ -9,7 +9,8 @@ ghost use Rattle.aj_commands.specs.Lines.{usage_line};
 ghost use Rattle.aj_commands.specs.Rows.{Row, IsRow, IsNoRow, limits_of};
 ghost use Rattle.aj_commands.specs.Files.{IsAsked, AreBounded};
 ghost use Rattle.aj_commands.specs.Answers.{Answer, Yields, IsExact};
-ghost use Rattle.aj_commands.specs.Said.{Says, WritesUnread, WritesAnswer, WritesFront};
+ghost use Rattle.aj_commands.specs.Reading.{IsQuiet};
+ghost use Rattle.aj_commands.specs.Said.{Says, WritesUnread, WritesTooLarge, WritesAnswer, WritesAnswerToBytes, WritesFront};
 ghost use Rattle.aj_commands.specs.Commands.{row_of, status_of};
 ghost use Rattle.aj_commands.specs.Headline.{Headline, call_of};
 ghost use Rattle.aj_commands.specs.Books.{Books};
@@ -119,18 +120,28 @@ pub fn run<F: Folder, K: Sink>(alloc: Global, words: &[String], folder: &mut F, 
     ensures usage { IsNoRow (map string_bytes words.now) → Says result 9 usage_line (K.written sink.old) (K.written sink.new) (K.faults sink.old) (K.faults sink.new) }
     ensures usage_only { result ≡ 9 → IsNoRow (map string_bytes words.now) }
 
-    // A file that can't be read, a sink that fails, want of memory.
+    // Files are read in the order of the words, and the first refusal is the answer: this is the first that can't be read, or the
+    // first that is over its limit, and else none failed.
     ensures cannot_read { (row : Row) → IsRow (map string_bytes words.now) row → result ≡ 6 →
-        WritesUnread row (F.faults folder.old) (F.faults folder.new) (K.written sink.old) (K.written sink.new) }
+        WritesUnread row (F.told folder.old) (F.faults folder.old) (F.faults folder.new) (K.written sink.old) (K.written sink.new) }
+    ensures too_large { (row : Row) → IsRow (map string_bytes words.now) row → result ≡ 10 →
+        WritesTooLarge row (F.told folder.old) (F.faults folder.old) (F.faults folder.new) (K.written sink.old) (K.written sink.new) }
+    ensures quiet { Yields result ⊎ IsQuiet (F.faults folder.old) (F.faults folder.new) }
+
+    // A sink that fails, want of memory.
     ensures cannot_write { result ≡ 7 → Rose (K.faults sink.old) (K.faults sink.new) }
     ensures no_memory { result ≡ 8 → Keeps (K.written sink.old) (K.written sink.new) }
+
+    // Whether or not the folder tells the files: they have bytes to which status and text are the answer.
+    ensures bytes { (row : Row) → IsRow (map string_bytes words.now) row →
+        Yields result ⊎ WritesAnswerToBytes row (F.told folder.old) result (K.written sink.old) (K.written sink.new) }
 
     // The files are told: each status comes exactly where its fact holds, and the text is the one that belongs to it.
     ensures exact { (row : Row) (files : List (List ℕ)) → IsAsked (map string_bytes words.now) (F.told folder.old) row files → IsExact row files result }
     ensures text { (row : Row) (files : List (List ℕ)) → IsAsked (map string_bytes words.now) (F.told folder.old) row files →
         Yields result ⊎ WritesAnswer row files result (K.written sink.old) (K.written sink.new) }
     ensures front { (row : Row) (files : List (List ℕ)) → IsAsked (map string_bytes words.now) (F.told folder.old) row files → result ≡ 7 →
-        WritesFront row files (F.faults folder.old) (F.faults folder.new) (K.written sink.old) (K.written sink.new) }
+        WritesFront row files (F.told folder.old) (F.faults folder.old) (F.faults folder.new) (K.written sink.old) (K.written sink.new) }
 
     // No count rose or stands at its last value: the answer, or want of memory.
     ensures complete { (row : Row) (files : List (List ℕ)) → IsAsked (map string_bytes words.now) (F.told folder.old) row files →

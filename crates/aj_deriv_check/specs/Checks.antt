@@ -4,13 +4,13 @@ use Rattle.aj_paths.specs.Paths.{PathData}
 use Rattle.aj_core.specs.Core.{Program}
 use Rattle.aj_core.specs.Typed.{IsTyped}
 use Rattle.aj_rules.specs.Near.{MethodPaths, AreRelevant, AreFew}
-use Rattle.aj_rules.specs.Rules.{IsAccepted}
+use Rattle.aj_rules.specs.Rules.{IsAdmissible, IsAccepted}
 use Rattle.aj_book_grammar.specs.Books.{Book}
 use Rattle.aj_book_grammar.specs.Texts.{IsTextOf}
 use Rattle.aj_book_grammar.specs.Faults.{first_fault}
 use Rattle.aj_deriv_check.specs.declared.wrong.TextWrong.{TextWrong}
 use Rattle.aj_deriv_check.specs.declared.wrong.TextWrong.TheVariants as text
-use Rattle.aj_deriv_check.specs.Good.{IsGoodBook}
+use Rattle.aj_deriv_check.specs.Good.{book_assignment, IsGoodBook}
 use Rattle.aj_deriv_check.specs.Faults.{IsWrong}
 
 -- a typed program with its relevant sets, which is accepted
@@ -25,3 +25,9 @@ abbrev pub IsJudged : Program → (ℕ → List PathData) → List ℕ → Resul
 IsJudged P rel bytes (Ok u) = (book : Book) × IsTextOf bytes book × IsGoodBook P rel book
 IsJudged P rel bytes (Err (text.Book fault)) = first_fault bytes ≡ Some fault
 IsJudged P rel bytes (Err (text.Wrong fault)) = (book : Book) × IsTextOf bytes book × IsWrong P rel book fault
+
+-- the bytes are the text of a book, and the trees of its method lines are an admissible assignment
+pub record HasAdmissible (P : Program) (rel : ℕ → List PathData) (bytes : List ℕ) : Type 0 where
+  pub book : Book
+  pub text : IsTextOf bytes book
+  pub admissible : IsAdmissible P rel (book_assignment book)

@@ -7,12 +7,13 @@ ghost use Rattle.aj_book_grammar.specs.Books.{Book, AreTrees};
 ghost use Rattle.aj_deriv.specs.Memory.{book_of};
 ghost use Rattle.aj_book_text.specs.Views.{IsCursorAt};
 ghost use Rattle.aj_rules.specs.Near.{AreRelevant, rel_of};
+ghost use Rattle.aj_rules.specs.Rules.{IsAdmissible};
 ghost use Rattle.aj_book_grammar.specs.Faults.{first_fault};
 ghost use Rattle.aj_book_grammar.specs.Texts.{IsTextOf};
 ghost use Rattle.aj_book_grammar.specs.declared.stop.BookFault.{BookFault};
-ghost use Rattle.aj_deriv_check.specs.Checks.{IsJudged};
+ghost use Rattle.aj_deriv_check.specs.Checks.{IsJudged, HasAdmissible};
 ghost use Rattle.aj_deriv_check.specs.Faults.{IsWrong};
-ghost use Rattle.aj_deriv_check.specs.Good.{IsGoodBook};
+ghost use Rattle.aj_deriv_check.specs.Good.{book_assignment, IsGoodBook};
 ghost use Rattle.aj_deriv_check.specs.declared.wrong.Wrong.{Wrong};
 ghost use Rattle.aj_deriv_check.specs.Passes.{IsVerdict};
 
@@ -180,6 +181,7 @@ pub fn accept_text(
     // The program is checked, or the refusal hands it back with its cause.
     ensures checked { IfOk result (λ checked. checked ≡ (program, sets)) }
     ensures accepted { IfOk result (λ _. IsJudged (program_of program) (rel_of sets) bytes.now (Ok (tt {0}))) }
+    ensures admissible { IfOk result (λ _. HasAdmissible (program_of program) (rel_of sets) bytes.now) }
     ensures program_back { IfErr result (λ refused. refused.program ≡ program) }
     ensures sets_back { IfErr result (λ refused. refused.sets ≡ sets) }
     ensures refused { IfErr result (λ refused. IsJudged (program_of program) (rel_of sets) bytes.now (Err refused.why)) }
@@ -212,6 +214,7 @@ pub fn accept(
     // The program is checked, or the refusal hands it back with its cause.
     ensures checked { IfOk result (λ checked. checked ≡ (program, sets)) }
     ensures accepted { IfOk result (λ _. IsGoodBook (program_of program) (rel_of sets) (book_of book.now)) }
+    ensures admissible { IfOk result (λ _. IsAdmissible (program_of program) (rel_of sets) (book_assignment (book_of book.now))) }
     ensures program_back { IfErr result (λ refused. refused.program ≡ program) }
     ensures sets_back { IfErr result (λ refused. refused.sets ≡ sets) }
     ensures refused { IfErr result (λ refused. IsWrong (program_of program) (rel_of sets) (book_of book.now) refused.why) }

@@ -2,7 +2,7 @@
 ghost use Rattle.std.specs.Prelude.{◌≡◌, ◌≢◌, ◌++◌, ◌∷◌, [], ◌<◌, ℕ, List, OnOk, OnErr, IfOk, IfErr};
 ghost use Rattle.aj_core.specs.Views.{program_of};
 ghost use Rattle.aj_state.specs.declared.value.StepKind.TheVariants.{Bare};
-ghost use Rattle.aj_state.specs.States.{State};
+ghost use Rattle.aj_state.specs.States.{State, initial};
 ghost use Rattle.aj_compile.specs.IsCode.{IsCodeOf};
 ghost use Rattle.aj_steps.specs.Step.{outcome};
 ghost use Rattle.aj_deeds.specs.declared.deed.StepEnd.TheVariants as ends;
@@ -67,8 +67,11 @@ impl<'p> Watched<'p> {
         code: &'p CodeTable,
     ) -> Result<Watched<'p>, NoMemory>
         requires { IsCodeOf (program_of checked.now.0) code.now.code.items code.now.entry.items code.now.room.items }
+        ensures stands { IfOk result (λ w. StandsFor w.0 (initial (program_of checked.now.0))) }
         ensures program { IfOk result (λ w. program_run w.0 ≡ program_of checked.now.0) }
+        ensures code { IfOk result (λ w. w.0.code ≡ code.now) }
         ensures steps { IfOk result (λ w. w.1 ≡ []) }
+        ensures shown { IfOk result (λ w. IsGuarded w.0 w.1) }
     {
         let machine = Machine::start(alloc, checked.program(), code)?;
         Ok(Watched {
@@ -86,6 +89,7 @@ impl<'p> Watched<'p> {
         ensures kept { OnErr result (IsSame self.new.0 self.old.0) }
         ensures unlisted { OnErr result (self.new.1 ≡ self.old.1) }
         ensures program { self.new.0.program ≡ self.old.0.program }
+        ensures code { self.new.0.code ≡ self.old.0.code }
         ensures shown { IsGuarded self.new.0 self.new.1 }
     {
         let Some(kind) = self.machine.kind(thread) else {
@@ -109,9 +113,10 @@ impl<'p> Watched<'p> {
         self.steps.as_slice()
     }
 
-    /// The machine.
+    /// The machine. It stands for the state that its steps run to.
     pub fn machine(&self) -> &Machine<'p>
-        ensures { result.now ≡ self.now.0 }
+        ensures machine { result.now ≡ self.now.0 }
+        ensures shown { IsGuarded self.now.0 self.now.1 }
     {
         &self.machine
     }

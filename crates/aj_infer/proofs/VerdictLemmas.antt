@@ -82,7 +82,9 @@ module _ (P : Program) (A : Assignment) (typed : IsTyped P) (m : ℕ) (declared 
   not_accepted sets relevant few least accepted = breaks_bound ((least_accepts P sets A typed relevant few least).1 accepted m broken.method broken.is)
 
   pub broken_by_all : (sets : List MethodPaths) → AreRelevant P sets → IsLeast P (rel_of sets) A → IsBrokenByAll P (rel_of sets) m
-  broken_by_all sets relevant least B falling closed method is bound =
-      let same : broken.method ≡ method = (let e = sym broken.is ∙ is in cc) in
-      breaks_bound (subst (λ x. HoldsBound A m x) (sym same)
-      (least_bound P (rel_of sets) (λ k x at. required_in_rel P sets relevant typed k x at) A least B falling closed m method is bound))
+  broken_by_all sets relevant least = record {
+    method = broken.method;
+    is = broken.is;
+    breaks = λ B falling closed bound.
+        breaks_bound (least_bound P (rel_of sets) (λ k x at. required_in_rel P sets relevant typed k x at) A least B falling closed m broken.method broken.is bound);
+  }

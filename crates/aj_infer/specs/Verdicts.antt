@@ -35,6 +35,8 @@ pub record IsFirstBroken (P : Program) (A : Assignment) (m : ℕ) (declared foun
 abbrev pub HoldBounds : Program → Assignment → Type 0
 HoldBounds P A = (m : ℕ) (method : Method) → slice_get P.methods m ≡ Some method → HoldsBound A m method
 
--- whatever falling and closed assignment there is, the method breaks its bound
-abbrev pub IsBrokenByAll : Program → (rel : ℕ → List PathData) → ℕ → Type 0
-IsBrokenByAll P rel m = (B : Assignment) → IsFalling rel B → IsClosed P rel B → (method : Method) → slice_get P.methods m ≡ Some method → HoldsBound B m method → ⊥
+-- the program has this method, and whatever falling and closed assignment there is breaks the method's bound
+pub record IsBrokenByAll (P : Program) (rel : ℕ → List PathData) (m : ℕ) : Type 0 where
+  pub method : Method
+  pub is : slice_get P.methods m ≡ Some method
+  pub breaks : (B : Assignment) → IsFalling rel B → IsClosed P rel B → HoldsBound B m method → ⊥

@@ -81,6 +81,7 @@ impl<'p> Machine<'p> {
         requires { IsCodeOf (program_of program.now) code.now.code.items code.now.entry.items code.now.room.items }
         ensures stands { IfOk result (λ m. StandsFor m (initial (program_of program.now))) }
         ensures program { IfOk result (λ m. m.program ≡ program.now) }
+        ensures code { IfOk result (λ m. m.code ≡ code.now) }
         ensures made { IfOk result (λ m. m.made ≡ 0) }
     {
         let mut heap = Heap::new(alloc);

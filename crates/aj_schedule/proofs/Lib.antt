@@ -5,4 +5,5 @@ mod ReadLemmas
 pub mod UniqueLemmas
 mod FormLemmas
 pub mod WrittenLemmas
+mod KeptTexts
 mod CommentLemmas

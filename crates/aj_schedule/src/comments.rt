@@ -1,12 +1,14 @@
 //! Comments behind a schedule.
-ghost use Rattle.std.specs.Prelude.{◌≡◌, ◌++◌, [], codes, if◌then◌else◌, OnOk};
-ghost use Rattle.aj_schedule.specs.Comments.{commented};
+ghost use Rattle.std.specs.Prelude.{◌≡◌, ◌++◌, [], codes, if◌then◌else◌, OnOk, OnErr};
+ghost use Rattle.aj_schedule.specs.Comments.{commented, KeepsText};
 
 use std::alloc::AllocError as NoMemory;
 
 /// Adds each line of a comment behind `# ` to a text.
+#[tactic(auto, using(crate::proofs::KeptTexts::kept_itself, crate::proofs::KeptTexts::kept_more))]
 pub fn add_comments(text: &mut Vec<u8>, comment: &[u8]) -> Result<(), NoMemory>
-    ensures { OnOk result (text.new.items ≡ text.old.items ++ commented comment.now) }
+    ensures added { OnOk result (text.new.items ≡ text.old.items ++ commented comment.now) }
+    ensures kept { OnErr result (KeepsText text.old.items text.new.items) }
 {
     let mut begins = true;
     for byte in comment {
@@ -19,7 +21,8 @@ pub fn add_comments(text: &mut Vec<u8>, comment: &[u8]) -> Result<(), NoMemory>
 
 /// Adds `# ` where a line begins.
 fn begin_line(text: &mut Vec<u8>, begins: bool) -> Result<(), NoMemory>
-    ensures { OnOk result (text.new.items ≡ text.old.items ++ (if begins then codes "# " else [])) }
+    ensures added { OnOk result (text.new.items ≡ text.old.items ++ (if begins then codes "# " else [])) }
+    ensures kept { OnErr result (text.new.items ≡ text.old.items) }
 {
     if begins {
         return text.extend_from_slice(b"# ");

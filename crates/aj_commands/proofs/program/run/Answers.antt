@@ -5,7 +5,7 @@ use Rattle.aj_commands.proofs.Headlines.{headline_of}
 use Rattle.aj_commands.proofs.Certified.{books_of}
 use Rattle.aj_commands.proofs.OpenCalled.{open_calls_of}
 use Rattle.aj_commands.proofs.Endings.{exact_yield}
-use Rattle.aj_commands.proofs.Runs.{IsDone, exact, answered, front, unreadable, complete}
+use Rattle.aj_commands.proofs.Runs.{IsDone, exact, answered, front, unreadable, over_limit, quiet, to_bytes, complete}
 use Rattle.aj_commands.proofs.program.run.Given.{Over}
 use Rattle.aj_commands.proofs.program.run.Goals as goal
 
@@ -38,6 +38,15 @@ returns-in-Ok-clause-front g c = λ row files asked. front _ _ _ _ _ _ _ _ _ (th
 
 pub returns-in-Ok-clause-cannot_read : goal.returns-in-Ok-clause-cannot_read
 returns-in-Ok-clause-cannot_read g c = λ row is six. unreadable _ _ _ _ _ _ _ _ _ (the_row g c) row is six
+
+pub returns-in-Ok-clause-too_large : goal.returns-in-Ok-clause-too_large
+returns-in-Ok-clause-too_large g c = λ row is ten. over_limit _ _ _ _ _ _ _ _ _ (the_row g c) row is ten
+
+pub returns-in-Ok-clause-quiet : goal.returns-in-Ok-clause-quiet
+returns-in-Ok-clause-quiet g c = quiet _ _ _ _ _ _ _ _ _ (the_row g c)
+
+pub returns-in-Ok-clause-bytes : goal.returns-in-Ok-clause-bytes
+returns-in-Ok-clause-bytes g c = λ row is. to_bytes _ _ _ _ _ _ _ _ _ (the_row g c) row is
 
 pub returns-in-Ok-clause-complete : goal.returns-in-Ok-clause-complete
 returns-in-Ok-clause-complete g c = λ row files asked calm sink_calm. complete _ _ _ _ _ _ _ _ _ (the_row g c) row files asked calm sink_calm

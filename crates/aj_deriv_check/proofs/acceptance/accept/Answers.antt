@@ -2,7 +2,7 @@
 use Rattle.aj_core.specs.Views.{program_of}
 use Rattle.aj_deriv.specs.Memory.{book_of}
 use Rattle.aj_rules.specs.Near.{rel_of}
-use Rattle.aj_deriv_check.proofs.Admissible.{book_accepts}
+use Rattle.aj_deriv_check.proofs.Admissible.{book_accepts, book_admissible}
 use Rattle.aj_deriv_check.proofs.TextVerdict.{taken_no_wrong, refused_wrong, refused_good}
 use Rattle.aj_deriv_check.proofs.acceptance.accept.Goals as goal
 
@@ -13,6 +13,9 @@ invariant_of-result c = record {
   few = c.few.ensures;
   accepted = book_accepts (program_of c.args.program) c.args.sets (book_of c.args.book.now) c.requires.relevant c.few.ensures c.in-Ok.ensures;
 }
+
+pub returns-in-Ok-clause-admissible : goal.returns-in-Ok-clause-admissible
+returns-in-Ok-clause-admissible c = book_admissible (program_of c.args.program) (rel_of c.args.sets) (book_of c.args.book.now) c.in-Ok.ensures
 
 pub returns-in-Ok-clause-only_wrong : goal.returns-in-Ok-clause-only_wrong
 returns-in-Ok-clause-only_wrong c = λ fault some bad. taken_no_wrong (program_of c.args.program) (rel_of c.args.sets) (book_of c.args.book.now) fault c.in-Ok.ensures some bad

@@ -1,7 +1,7 @@
 -- A program with a good book is accepted.
 use Rattle.aj_core.specs.Views.{program_of}
 use Rattle.aj_rules.specs.Near.{rel_of}
-use Rattle.aj_deriv_check.proofs.Admissible.{book_accepts}
+use Rattle.aj_deriv_check.proofs.Admissible.{book_accepts, book_admissible}
 use Rattle.aj_deriv_check.proofs.TextVerdict.{ok_no_fault, ok_no_wrong, err_fault, err_wrong, err_good}
 use Rattle.aj_deriv_check.proofs.acceptance.accept_text.Goals as goal
 
@@ -14,6 +14,11 @@ invariant_of-result c =
       few = c.few.ensures;
       accepted = book_accepts (program_of c.args.program) c.args.sets judged.0 c.requires.relevant c.few.ensures judged.2;
     }
+
+pub returns-in-Ok-clause-admissible : goal.returns-in-Ok-clause-admissible
+returns-in-Ok-clause-admissible c =
+    let judged = c.in-Ok.ensures in
+    record { book = judged.0; text = judged.1; admissible = book_admissible (program_of c.args.program) (rel_of c.args.sets) judged.0 judged.2 }
 
 pub returns-in-Ok-clause-only_fault : goal.returns-in-Ok-clause-only_fault
 returns-in-Ok-clause-only_fault c = λ fault e. ok_no_fault (program_of c.args.program) (rel_of c.args.sets) c.args.bytes.now (tt {0}) fault c.in-Ok.ensures e

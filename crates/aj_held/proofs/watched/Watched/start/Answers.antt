@@ -2,7 +2,7 @@ use Rattle.std.proofs.Common.{sym, ap, subst}
 use Rattle.aj_core.specs.Typed.{IsTyped}
 use Rattle.aj_rules.specs.Rules.{IsAccepted}
 use Rattle.aj_core.specs.Views.{program_of}
-use Rattle.aj_held.proofs.WatchedSteps.{at_start}
+use Rattle.aj_held.proofs.WatchedSteps.{at_start, guarded}
 use Rattle.aj_held.proofs.watched.Watched.start.Goals as goal
 
 pub invariant_of-result : goal.invariant_of-result
@@ -11,3 +11,11 @@ invariant_of-result c =
     let same = sym (ap program_of c.program.ensures.program) in
     at_start c.in_ok-machine.machine P c.new.result.items (ap program_of c.in_ok-machine.ensures.program) c.in_ok-machine.ensures.stands c.in_ok-machine.ensures.made c.new.ensures.items
     (subst IsTyped same c.program.ensures.checked.typed) (subst IsAccepted same c.program.ensures.checked.accepted)
+
+pub returns-clause-shown : goal.returns-clause-shown
+returns-clause-shown c =
+    let P = program_of c.program.result.now in
+    let same = sym (ap program_of c.program.ensures.program) in
+    guarded c.in_ok-machine.machine c.new.result.items
+    (at_start c.in_ok-machine.machine P c.new.result.items (ap program_of c.in_ok-machine.ensures.program) c.in_ok-machine.ensures.stands c.in_ok-machine.ensures.made c.new.ensures.items
+    (subst IsTyped same c.program.ensures.checked.typed) (subst IsAccepted same c.program.ensures.checked.accepted))
