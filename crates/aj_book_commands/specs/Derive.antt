@@ -12,7 +12,7 @@ use Rattle.aj_sources.specs.declared.refusal.Ending.{Ending}
 use Rattle.aj_sources.specs.declared.refusal.Ending.TheVariants.{Done}
 use Rattle.aj_sources.specs.Checking.{IsWellFormedSource}
 use Rattle.aj_sources.specs.Verdicts.{IsShownLeast, NoAccepted}
-use Rattle.aj_source_commands.specs.Check.{CheckFact}
+use Rattle.aj_sources.specs.Facts.{CheckFact}
 
 -- the bytes are the text of the book that is derived from the trees of the least closed assignment, and it is good for the program
 pub record IsDerivedText (P : Program) (out : List ℕ) : Type 0 where

@@ -3,13 +3,13 @@ use Rattle.std.proofs.Common.{◌≡◌, ℕ, ◌≤◌, List, Option, None, IsS
 use Rattle.aj_sources.specs.declared.refusal.Ending.{Ending}
 use Rattle.aj_sources.specs.declared.refusal.Ending.TheVariants.{Done, Refused, Inadmissible, NoSchedule, Stopped, Open, BookRefused}
 use Rattle.aj_sources.specs.Refusals.{code_of}
-use Rattle.aj_sources.specs.Facts.{RefusedAs}
+use Rattle.aj_sources.specs.Facts.{RefusedAs, CheckFact}
 use Rattle.aj_sources.proofs.Apart.{no_program_is_none, no_program_ends, no_accepted_is, accepted_or_none}
 use Rattle.aj_commands.specs.declared.command.Command.{Command}
 use Rattle.aj_commands.specs.declared.command.Command.TheVariants.{Check, Print, Run, Serialise, Derive, Verify, SerialiseOpen}
 use Rattle.aj_commands.specs.Rows.{Row}
 use Rattle.aj_commands.specs.Files.{first_too_large, file_at}
-use Rattle.aj_source_commands.specs.Check.{CheckAnswer, CheckFact, not_accepted, judged}
+use Rattle.aj_source_commands.specs.Check.{CheckAnswer, not_accepted, judged}
 use Rattle.aj_source_commands.specs.Print.{PrintAnswer, PrintFact, no_program, printed}
 use Rattle.aj_book_commands.specs.Derive.{DeriveAnswer, DeriveFact, not_accepted as not_accepted_derive, derived}
 use Rattle.aj_book_commands.proofs.BookEndings.{verify_caused, verify_apart}

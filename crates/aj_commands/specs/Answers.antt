@@ -7,7 +7,8 @@ use Rattle.aj_commands.specs.declared.command.Command.TheVariants.{Check, Print,
 use Rattle.aj_commands.specs.Lines.{too_large_line}
 use Rattle.aj_commands.specs.Rows.{Row}
 use Rattle.aj_commands.specs.Files.{first_too_large, AreWithin, file_at}
-use Rattle.aj_source_commands.specs.Check.{CheckAnswer, CheckFact}
+use Rattle.aj_source_commands.specs.Check.{CheckAnswer}
+use Rattle.aj_sources.specs.Facts.{CheckFact}
 use Rattle.aj_source_commands.specs.Print.{PrintAnswer, PrintFact}
 use Rattle.aj_schedule_commands.specs.Run.{RunAnswer, RunFact}
 use Rattle.aj_schedule_commands.specs.Serialise.{SerialiseAnswer, SerialiseFact}

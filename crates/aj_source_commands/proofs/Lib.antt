@@ -1,2 +1,2 @@
--- Refusals and answers of the commands on a source; the exit of a refusal serves all commands.
+-- Refusals and answers of the commands on a source.
 pub mod SourceRows

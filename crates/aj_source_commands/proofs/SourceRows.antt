@@ -17,16 +17,11 @@ use Rattle.aj_sources.specs.Refusals.{IsRight}
 use Rattle.aj_sources.specs.Programs.{IsProgram, NoProgram}
 use Rattle.aj_sources.specs.Checking.{NoSource, IsSourceOf}
 use Rattle.aj_sources.specs.Verdicts.{NoAccepted, no_source, IsShownLeast}
-use Rattle.aj_sources.proofs.Told.{right_of_more}
+use Rattle.aj_sources.proofs.Told.{right_of_more, more_refused}
 use Rattle.aj_sources.proofs.Verdicts.{well_formed_source, few_methods}
 use Rattle.aj_source_commands.specs.Check.{CheckAnswer, not_accepted, judged, report_from}
 use Rattle.aj_source_commands.specs.Print.{PrintAnswer, no_program, printed}
 use Rattle.aj_sources.specs.declared.refusal.Ending.{Ending}
-
--- the exit of a refusal, where what is right of it is right of more
-pub more_refused : {T : Type 0} (R S : Ending → List ℕ → Type 0) (Q : T → Type 0) (r : Result T Refusal) (e its : Refusal) → r ≡ Err e → e ≡ its
-    → ((ended : Ending) (line : List ℕ) → R ended line → S ended line) → IsRight R its → MatchResult r Q (IsRight S)
-more_refused R S Q r e its is same more right = subst (λ x. MatchResult x Q (IsRight S)) (sym is) (right_of_more R S more e (subst (IsRight R) (sym same) right))
 
 pub source_refused : (file : List ℕ) (r : Refusal) → IsRight (NoSource file) r → IsRight (CheckAnswer file) r
 source_refused file r is = right_of_more (NoSource file) (CheckAnswer file) (λ ending line i. not_accepted (no_source i)) r is
@@ -39,7 +34,7 @@ program_refused file r is = right_of_more (NoProgram file) (PrintAnswer file) (�
 
 -- the exit of a refusal of the rules
 pub judged_refusal : {T : Type 0} (file : List ℕ) (Q : T → Type 0) (r : Result T Refusal) (e its : Refusal) → r ≡ Err e → e ≡ its → IsRight (NoAccepted file) its → MatchResult r Q (IsRight (CheckAnswer file))
-judged_refusal file Q r e its is same right = subst (λ x. MatchResult x Q (IsRight (CheckAnswer file))) (sym is) (rules_refused file e (subst (IsRight (NoAccepted file)) (sym same) right))
+judged_refusal file Q r e its is same = more_refused (NoAccepted file) (CheckAnswer file) Q r e its is same (λ ending line i. not_accepted i)
 
 -- an accepted source and its trees are judged
 pub judged_text : (file : List ℕ) (source : Source) (trees : List Tree) (text : List ℕ) → IsSourceOf file source → IsShownLeast (program_of source.program) (map cond_of trees)

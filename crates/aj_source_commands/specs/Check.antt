@@ -6,10 +6,9 @@ use Rattle.aj_core.specs.Core.{Program}
 use Rattle.aj_report.specs.Verdicts.{atomicity_line}
 use Rattle.aj_syntax.specs.Trees.{ProgramTree}
 use Rattle.aj_sources.specs.declared.refusal.Ending.{Ending}
-use Rattle.aj_sources.specs.declared.refusal.Ending.TheVariants.{Done, Refused, Inadmissible}
+use Rattle.aj_sources.specs.declared.refusal.Ending.TheVariants.{Done}
 use Rattle.aj_sources.specs.Checking.{IsWellFormedSource}
 use Rattle.aj_sources.specs.Verdicts.{IsShownLeast, NoAccepted}
-use Rattle.aj_sources.specs.Facts.{IsNotWellFormed, HasNoAssignment, IsAcceptedSource}
 
 -- a line for each method, the first of which has this number
 abbrev pub report_from : TableData → ℕ → List Cond → List ℕ
@@ -20,10 +19,3 @@ report_from t m (tree ∷ trees) = atomicity_line t m tree ++ report_from t (m +
 pub data CheckAnswer (file : List ℕ) : Ending → List ℕ → Type 0 where
   not_accepted : {ending : Ending} {line : List ℕ} → NoAccepted file ending line → CheckAnswer file ending line
   judged : (tree : ProgramTree) (P : Program) (trees : List Cond) → IsWellFormedSource file tree P → IsShownLeast P trees → CheckAnswer file Done (report_from (table_of tree) 0 trees)
-
--- when `check` ends how
-abbrev pub CheckFact : List ℕ → Ending → Type 0
-CheckFact file Refused = IsNotWellFormed file
-CheckFact file Inadmissible = HasNoAssignment file
-CheckFact file Done = IsAcceptedSource file
-CheckFact file _ = ⊥

@@ -1,5 +1,5 @@
 -- Refusals that are right.
-use Rattle.std.proofs.Common.{List, ℕ, refl, sym, subst, string_bytes}
+use Rattle.std.proofs.Common.{◌≡◌, List, ℕ, Result, Err, MatchResult, refl, sym, subst, string_bytes}
 use Rattle.aj_lexer.specs.declared.faults.LexFault.{LexFault}
 use Rattle.aj_lexer.specs.declared.faults.LexFault.TheVariants as fault
 use Rattle.aj_lexer.specs.Tokens.{FirstFault}
@@ -30,6 +30,11 @@ right_refusal R ending line NoMemory is tells = tt
 pub right_of_more : (R S : Ending → List ℕ → Type 0) → ((ending : Ending) (line : List ℕ) → R ending line → S ending line) → (r : Refusal) → IsRight R r → IsRight S r
 right_of_more R S more (Line ending line) is = more ending (string_bytes line) is
 right_of_more R S more NoMemory is = tt
+
+-- the exit of a refusal, where what is right of it is right of more
+pub more_refused : {T : Type 0} (R S : Ending → List ℕ → Type 0) (Q : T → Type 0) (r : Result T Refusal) (e its : Refusal) → r ≡ Err e → e ≡ its
+    → ((ended : Ending) (line : List ℕ) → R ended line → S ended line) → IsRight R its → MatchResult r Q (IsRight S)
+more_refused R S Q r e its is same more right = subst (λ x. MatchResult x Q (IsRight S)) (sym is) (right_of_more R S more e (subst (IsRight R) (sym same) right))
 
 -- what refuses a program of the grammar refuses a well-formed source
 pub refused_source : (file : List ℕ) (r : Refusal) → IsRight (NoProgram file) r → IsRight (NoSource file) r

@@ -4,7 +4,7 @@ use Rattle.aj_core.specs.Core.{Program}
 use Rattle.aj_rules.specs.Rules.{IsAccepted}
 use Rattle.aj_syntax.specs.Trees.{ProgramTree}
 use Rattle.aj_sources.specs.declared.refusal.Ending.{Ending}
-use Rattle.aj_sources.specs.declared.refusal.Ending.TheVariants.{Refused, Inadmissible}
+use Rattle.aj_sources.specs.declared.refusal.Ending.TheVariants.{Done, Refused, Inadmissible}
 use Rattle.aj_sources.specs.Programs.{IsProgram}
 use Rattle.aj_sources.specs.Checking.{IsWellFormedSource}
 
@@ -33,3 +33,10 @@ abbrev pub RefusedAs : List ℕ → Ending → Type 0
 RefusedAs file Refused = IsNotWellFormed file
 RefusedAs file Inadmissible = HasNoAssignment file
 RefusedAs file _ = ⊥
+
+-- when a command that judges a source alone ends how
+abbrev pub CheckFact : List ℕ → Ending → Type 0
+CheckFact file Refused = IsNotWellFormed file
+CheckFact file Inadmissible = HasNoAssignment file
+CheckFact file Done = IsAcceptedSource file
+CheckFact file _ = ⊥

@@ -24,7 +24,8 @@ mod source_tests;
 #[cfg(test)]
 mod tests;
 
-use aj_commands::{Status, run};
+use aj_commands::Status;
+pub use aj_commands::run;
 use aj_edge::{FileFolder, OutSink};
 use std::alloc::AllocError as NoMemory;
 use std::env;

@@ -3,7 +3,7 @@ use Rattle.std.proofs.lemmas.Result.{err_from_is_err_and}
 use Rattle.aj_sources.specs.Checking.{NoSource}
 use Rattle.aj_book_commands.specs.Verify.{VerifyAnswer, no_source}
 use Rattle.aj_book_commands.proofs.BookRows.{verified_result, book_refusal}
-use Rattle.aj_source_commands.proofs.SourceRows.{more_refused}
+use Rattle.aj_sources.proofs.Told.{more_refused}
 use Rattle.aj_book_commands.proofs.judging.verify_book.Goals as goal
 
 pub returns-in_err-source : goal.returns-in_err-source

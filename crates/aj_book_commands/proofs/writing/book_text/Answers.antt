@@ -7,7 +7,7 @@ use Rattle.aj_deriv.specs.Memory.{book_of}
 use Rattle.aj_sources.specs.Verdicts.{NoAccepted}
 use Rattle.aj_book_commands.specs.Derive.{DeriveAnswer}
 use Rattle.aj_book_commands.proofs.BookRows.{not_accepted_derive, source_keeps, derived_text}
-use Rattle.aj_source_commands.proofs.SourceRows.{more_refused}
+use Rattle.aj_sources.proofs.Told.{more_refused}
 use Rattle.aj_book_commands.proofs.writing.book_text.Goals as goal
 
 pub returns-in_err-inferred : goal.returns-in_err-inferred

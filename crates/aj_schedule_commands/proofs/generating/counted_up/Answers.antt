@@ -6,7 +6,7 @@ use Rattle.aj_generate.specs.Sources.{generated_source}
 use Rattle.aj_sources.specs.Verdicts.{NoAccepted}
 use Rattle.aj_schedule_commands.specs.Schedules.{NoOrder}
 use Rattle.aj_schedule_commands.specs.Generate.{GenerateAnswer}
-use Rattle.aj_source_commands.proofs.SourceRows.{more_refused}
+use Rattle.aj_sources.proofs.Told.{more_refused}
 use Rattle.aj_schedule_commands.proofs.GenerateRows.{not_accepted_generated, refused_generated, generated_text, short_rounds}
 use Rattle.aj_schedule_commands.proofs.generating.counted_up.Goals as goal
 

@@ -5,6 +5,6 @@ use Rattle.aj_sources.specs.Checking.{NoSource, IsSourceOf}
 use Rattle.aj_generate.specs.Sources.{generated_source}
 use Rattle.aj_generate.specs.Rounds.{IsGenerated}
 use Rattle.aj_schedule_commands.specs.Generate.{GenerateAnswer}
-use Rattle.aj_source_commands.proofs.SourceRows.{more_refused}
+use Rattle.aj_sources.proofs.Told.{more_refused}
 use Rattle.aj_schedule_commands.proofs.GenerateRows.{no_source_generated, small_source}
 use Rattle.aj_schedule_commands.proofs.generating.generate_figures.Goals as goal

@@ -14,7 +14,7 @@ use Rattle.aj_state_report.specs.States.{state_text}
 use Rattle.aj_steps.specs.Run.{run}
 use Rattle.aj_schedule_commands.specs.Schedules.{NoSchedule, NoRun}
 use Rattle.aj_schedule_commands.specs.SerialiseOpen.{SerialiseOpenAnswer}
-use Rattle.aj_source_commands.proofs.SourceRows.{more_refused}
+use Rattle.aj_sources.proofs.Told.{more_refused}
 use Rattle.aj_schedule_commands.proofs.OpenRows.{not_accepted_open, unread_open, refused_open, opened_text}
 use Rattle.aj_schedule_commands.proofs.opening.in_order.Goals as goal
 

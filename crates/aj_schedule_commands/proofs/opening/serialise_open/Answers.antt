@@ -2,7 +2,7 @@
 use Rattle.std.proofs.lemmas.Result.{err_from_is_err_and}
 use Rattle.aj_sources.specs.Checking.{NoSource}
 use Rattle.aj_schedule_commands.specs.SerialiseOpen.{SerialiseOpenAnswer}
-use Rattle.aj_source_commands.proofs.SourceRows.{more_refused}
+use Rattle.aj_sources.proofs.Told.{more_refused}
 use Rattle.aj_schedule_commands.proofs.OpenRows.{no_source_open}
 use Rattle.aj_schedule_commands.proofs.opening.serialise_open.Goals as goal
 

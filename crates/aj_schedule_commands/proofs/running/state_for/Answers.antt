@@ -6,7 +6,7 @@ use Rattle.aj_schedule.proofs.UniqueLemmas.{short_schedule}
 use Rattle.aj_steps.specs.Run.{run}
 use Rattle.aj_schedule_commands.specs.Run.{RunAnswer}
 use Rattle.aj_schedule_commands.specs.Schedules.{NoSchedule, NoRun}
-use Rattle.aj_source_commands.proofs.SourceRows.{more_refused}
+use Rattle.aj_sources.proofs.Told.{more_refused}
 use Rattle.aj_schedule_commands.proofs.ScheduleRows.{no_schedule_run, stopped_run, ran_text}
 use Rattle.aj_schedule_commands.proofs.running.state_for.Goals as goal
 

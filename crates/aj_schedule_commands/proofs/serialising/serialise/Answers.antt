@@ -2,7 +2,7 @@
 use Rattle.std.proofs.lemmas.Result.{err_from_is_err_and}
 use Rattle.aj_sources.specs.Checking.{NoSource}
 use Rattle.aj_schedule_commands.specs.Serialise.{SerialiseAnswer}
-use Rattle.aj_source_commands.proofs.SourceRows.{more_refused}
+use Rattle.aj_sources.proofs.Told.{more_refused}
 use Rattle.aj_schedule_commands.proofs.ScheduleRows.{no_source_order}
 use Rattle.aj_schedule_commands.proofs.serialising.serialise.Goals as goal
 

@@ -14,7 +14,7 @@ use Rattle.aj_steps.specs.Run.{run}
 use Rattle.aj_schedule_commands.specs.Schedules.{NoSchedule, NoOrder}
 use Rattle.aj_serialise.specs.Rewritten.{IsRewritten}
 use Rattle.aj_schedule_commands.specs.Serialise.{SerialiseAnswer}
-use Rattle.aj_source_commands.proofs.SourceRows.{more_refused}
+use Rattle.aj_sources.proofs.Told.{more_refused}
 use Rattle.aj_schedule_commands.proofs.ScheduleRows.{not_accepted_order, unread_order, refused_order, serialised_text}
 use Rattle.aj_schedule_commands.proofs.serialising.serialised.Goals as goal
 
