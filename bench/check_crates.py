@@ -1,55 +1,205 @@
 #!/usr/bin/env python3
-"""check_crates.py: compares the table of docs/architecture.md with crates.txt and crates/.
+"""check_crates.py [--write]: compares crates.txt, the crates' files and the tables of docs/architecture.md.
 
-A crate stands where crates.txt names it, and it uses the crates of this repository that stand behind its name there.
-The exit status is 0 where the table says the same.
+Told are: a crate without a folder, a row or a heading, or at another place than in the tables; a crate that uses one that
+stands below it; a use in crates.txt that no file of the crate cites (src/, specs/ and proofs/, comments left out); a row
+whose uses aren't those of crates.txt; a name in README.md or docs/ that is no crate's. The exit status is 0 where there is
+none. The last line has the longest chain of crates.
+
+--write makes the tables and crates.txt agree first. The tables say in which order and under which heading crates stand, what
+each does and what is used of it; crates.txt says what each uses. A row whose crate crates.txt doesn't list is dropped. A
+crate without a row gets one behind the last that it uses, with the first sentence of its root file. The lines of crates.txt
+come in the order of the tables, each as it was.
 """
 import os
 import re
 import sys
 
 TOP = os.path.join(os.path.dirname(os.path.abspath(__file__)), "..")
+HEAD = "| crate | does | uses | what is used of it |\n|---|---|---|---|\n"
+
+
+def path(*names):
+    return os.path.join(TOP, *names)
 
 
 def read(*names):
-    with open(os.path.join(TOP, *names), encoding="utf-8") as file:
+    with open(path(*names), encoding="utf-8") as file:
         return file.read()
 
 
+def write(text, *names):
+    if text != read(*names):
+        with open(path(*names), "w", encoding="utf-8") as file:
+            file.write(text)
+        print(f"{os.path.join(*names)} is written anew")
+
+
 def listed():
-    """The crates of crates.txt, each with those of this repository that it uses."""
-    found = {}
+    """The lines of crates.txt: each crate's heading, its line, and what it uses, the kit's libraries too."""
+    found, heading = {}, None
     for line in read("crates.txt").splitlines():
         head, colon, uses = line.partition(":")
-        if colon and not line.startswith("#"):
-            found[head.split()[0]] = uses.split()
-    return {name: {use for use in uses if use in found} for name, uses in found.items()}
+        if line.startswith("# ") and not colon:
+            heading = line[2:]
+        elif colon and not line.startswith("#"):
+            found[head.split()[0]] = heading, line, uses.split()
+    return found
 
 
-def tabled():
-    """The crates of the table: what each uses, and whether it stands."""
-    rows = re.findall(r"^\| `(\w+)` \|(.*)\|$", read("docs", "architecture.md"), re.M)
-    for name, rest in rows:
-        cells = [cell.strip() for cell in rest.split("|")]
-        uses = {f"aj_{use}" for use in re.findall(r"\w+", cells[1])}
-        yield name, cells[1], uses, cells[-1] == "yes"
+class Table:
+    """A table of docs/architecture.md: its heading, the lines under that, and its rows, each the name and three cells."""
+
+    def __init__(self, heading, said, rows):
+        self.heading, self.said = heading, said
+        self.rows = [[cell.strip() for cell in row.strip("|").split("|")] for row in rows.splitlines()]
+        for row in self.rows:
+            row[0] = row[0].strip("`")
+
+    def __str__(self):
+        rows = (f"| `{name}` | {' | '.join(cells)} |\n".replace("|  |", "| |") for name, *cells in self.rows)
+        return f"## {self.heading}\n{self.said}{HEAD}{''.join(rows)}"
 
 
-def differences():
-    crates = listed()
-    for name, cell, uses, stands in tabled():
-        if stands != (name in crates):
-            yield f"{name}: the table says {'that it stands' if stands else 'nothing of its standing'}"
-        if name in crates and "all that it calls" not in cell and uses != crates[name]:
-            missing, more = crates[name] - uses, uses - crates[name]
-            yield f"{name}: the table lacks {sorted(missing)}, and has besides {sorted(more)}"
-    for name in sorted(set(crates) - {name for name, *_ in tabled()}):
-        yield f"{name}: the table has no row"
-    for name in sorted(crates):
-        if not os.path.isdir(os.path.join(TOP, "crates", name)):
+def tables(text):
+    """The tables, with the text between them: a list that begins and ends with a text."""
+    pattern = r"^## (\w+)\n((?:(?!#).*\n)*?)" + re.escape(HEAD) + r"((?:\|.*\n)+)"
+    parts, at = [], 0
+    for found in re.finditer(pattern, text, re.M):
+        parts += [text[at : found.start()], Table(*found.groups())]
+        at = found.end()
+    return parts + [text[at:]]
+
+
+def uses_cell(name, crates, order):
+    """The crates of the repository that a crate uses, in the order of the tables, without the `aj_` of their names."""
+    uses = [use for use in crates[name][2] if use in crates]
+    return ", ".join(use.removeprefix("aj_") for use in sorted(uses, key=lambda use: order.get(use, 0)))
+
+
+def files(name):
+    for part in ("src", "specs", "proofs"):
+        for folder, _, names in os.walk(path("crates", name, part)):
+            yield from (os.path.join(folder, file) for file in sorted(names) if file.endswith((".rt", ".antt")))
+
+
+def root(name):
+    """What the root file of a crate says of it, up to the first full stop."""
+    for file in ("lib.rt", "main.rt"):
+        if os.path.exists(path("crates", name, "src", file)):
+            said = " ".join(re.findall(r"^//! ?(.*)$", read("crates", name, "src", file), re.M))
+            first = re.split(r"\.(?: |$)", said)[0]
+            return first[:1].lower() + first[1:]
+    return ""
+
+
+def code_of(name):
+    """The words of a crate's files, comments left out."""
+    words = set()
+    for file in files(name):
+        with open(file, encoding="utf-8") as text:
+            bare = re.sub(r"--.*" if file.endswith(".antt") else r"//.*", "", text.read())
+        words |= set(re.findall(r"\w+", bare))
+    return words
+
+
+def places(parts):
+    """The place of each crate, counted through all tables, and the table that it stands in."""
+    all_rows = [(name, table) for table in parts if isinstance(table, Table) for name, *_ in table.rows]
+    return {name: k for k, (name, _) in enumerate(all_rows)}, dict(all_rows)
+
+
+def agree(parts, crates):
+    """Drops and adds rows, and writes what each crate uses."""
+    for table in parts:
+        if isinstance(table, Table):
+            for name, *_ in [row for row in table.rows if row[0] not in crates]:
+                print(f"{name}: its row is dropped")
+            table.rows = [row for row in table.rows if row[0] in crates]
+    left = [name for name in crates if name not in places(parts)[0]]
+    while left:
+        order, table_of = places(parts)
+        ready = [name for name in left if not any(use in left for use in crates[name][2])] or left
+        name = ready[0]
+        below = [use for use in crates[name][2] if use in order]
+        last = max(below, key=order.get) if below else next(iter(order))
+        rows = table_of[last].rows
+        rows.insert([row[0] for row in rows].index(last) + 1, [name, root(name), "", ""])
+        print(f"{name}: a row is added under {table_of[last].heading!r}: say what is used of it")
+        left.remove(name)
+    order, _ = places(parts)
+    for table in parts:
+        for row in table.rows if isinstance(table, Table) else []:
+            row[2] = uses_cell(row[0], crates, order)
+
+
+def listing(parts, crates):
+    """The text of crates.txt: its first comment, and the lines under their headings."""
+    first = [line for line in read("crates.txt").splitlines() if line.startswith("#") and ":" in line]
+    blocks = [f"# {table.heading}\n" + "".join(crates[row[0]][1] + "\n" for row in table.rows) for table in parts if isinstance(table, Table)]
+    return "".join(line + "\n" for line in first) + "".join(blocks)
+
+
+def longest_chain(crates):
+    """The longest list of crates in which each uses the one before it."""
+    chains = {}
+
+    def chain(name):
+        if name not in chains:
+            chains[name] = max((chain(use) for use in crates[name][2] if use in crates), key=len, default=[]) + [name]
+        return chains[name]
+
+    return max(map(chain, crates), key=len)
+
+
+def differences(parts, crates):
+    order, table_of = places(parts)
+    names = [name for name in crates if name in order]
+    if names != sorted(names, key=order.get):
+        yield "crates.txt: its lines come in another order than the rows"
+    for name, (heading, _, uses) in crates.items():
+        if not os.path.isdir(path("crates", name)):
             yield f"{name}: crates/ has no such folder"
+        if name not in order:
+            yield f"{name}: no table has a row"
+            continue
+        if heading != table_of[name].heading:
+            yield f"{name}: stands under {heading!r} in crates.txt, and under {table_of[name].heading!r} in the tables"
+        row = next(row for row in table_of[name].rows if row[0] == name)
+        if len(row) != 4 or row[2] != uses_cell(name, crates, order):
+            yield f"{name}: its row doesn't say what crates.txt says: it uses {uses_cell(name, crates, order)}"
+        above = [use for use in uses if order.get(use, -1) > order[name]]
+        if above:
+            yield f"{name}: uses what stands below it: {' '.join(above)}"
+        cited = code_of(name)
+        unused = [use for use in uses if use not in cited]
+        if unused:
+            yield f"{name}: crates.txt lists what its files never cite: {' '.join(unused)}"
+    for name in sorted(set(order) - set(crates)):
+        yield f"{name}: has a row, and no line in crates.txt"
+    for name in sorted(os.listdir(path("crates"))):
+        if name not in crates and any(files(name)):
+            yield f"{name}: has a folder, and no line in crates.txt"
+    for names in [("README.md",)] + [("docs", name) for name in sorted(os.listdir(path("docs")))]:
+        gone = sorted({name for name in re.findall(r"`(aj_\w+)", read(*names)) if name not in crates and name != "aj_"})
+        if gone:
+            yield f"{os.path.join(*names)}: names what is no crate: {' '.join(gone)}"
 
 
-found = list(differences())
-print("\n".join(found) or "the table agrees with crates.txt")
-sys.exit(1 if found else 0)
+def main():
+    if sys.argv[1:] not in ([], ["--write"]):
+        sys.exit(__doc__.strip())
+    parts, crates = tables(read("docs", "architecture.md")), listed()
+    if sys.argv[1:]:
+        agree(parts, crates)
+        write("".join(map(str, parts)), "docs", "architecture.md")
+        write(listing(parts, crates), "crates.txt")
+        parts, crates = tables(read("docs", "architecture.md")), listed()
+    found = list(differences(parts, crates))
+    print("\n".join(found) or f"{len(crates)} crates: crates.txt, their files and the tables agree")
+    chain = longest_chain(crates)
+    print(f"the longest chain has {len(chain)}: {' '.join(chain)}")
+    sys.exit(1 if found else 0)
+
+
+main()

@@ -1,10 +1,14 @@
 #!/usr/bin/env python3
-"""check_docs.py PROGRAM: runs what the documents show, and tells each line that the program doesn't write.
+"""usage: check_docs.py PROGRAM
 
-It reads the tables of docs/repairs.md (a line, and the source for it in the last cell) and of examples/README.md (a
-file, the lines, the status), and the blocks of lines in docs/tutorial.md. Where crates/atomic_cli has a test of the
-examples, it is held against examples/as_test.py. The book that `derive` writes of each accepted example has to be
-good, and changed books of it are refused with their lines. The exit status is 0 where all of them hold.
+Runs what the documents show, and tells each line that the program doesn't write. PROGRAM is the built `atomic`, proved
+(crates/atomic_cli/out/atomic_cli) or not (crates/atomic_cli/out/atomic-unproved, by bench/quick.sh).
+
+It reads the tables of docs/repairs.md and docs/tutorial.md (a line in the first cell, and the source for it in the last)
+and of examples/README.md (a file, the lines, the status), and the blocks of lines in docs/tutorial.md. Where
+crates/atomic_cli has a test of the examples, it is held against examples/as_test.py. The book that `derive` writes of
+each accepted example has to be good, and changed books of it are refused with their lines. Each file that README.md and
+the documents name has to be there. The exit status is 0 where all of them hold.
 """
 import os
 import re
@@ -67,8 +71,8 @@ class Checker:
     def __init__(self, program):
         self.program, self.wrong, self.count = program, 0, 0
 
-    def run(self, path):
-        done = subprocess.run([self.program, "check", path], capture_output=True)
+    def run(self, path, command="check"):
+        done = subprocess.run([self.program, command, path], capture_output=True)
         return done.returncode, done.stdout.decode().splitlines()
 
     def want(self, place, path, lines, status=None):
@@ -85,15 +89,36 @@ class Checker:
             self.wrong += 1
             print(f"{place}: wanted {line!r}, given {given}")
 
-    def repairs(self):
+    def tables(self, *names):
+        """Each row with a line of `check`, or the lines that `print` writes, and a source."""
         with tempfile.TemporaryDirectory() as folder:
             path = os.path.join(folder, "source")
-            for row in table_rows(read("docs", "repairs.md")):
+            for row in table_rows(read(*names)):
                 line = re.fullmatch(r"`((?:refused at|[A-Z]\w*\.\w+).*)`", row[0])
-                if line:
+                printed = row[0].startswith("`print` writes ")
+                if line or printed:
                     with open(path, "wb") as file:
                         file.write(source_of(row[-1]))
-                    self.want_line("docs/repairs.md", path, line[1])
+                if line:
+                    self.want_line(os.path.join(*names), path, line[1])
+                elif printed:
+                    self.want_printed(os.path.join(*names), path, [text for _, text in TEXT.findall(row[0])][1:])
+
+    def want_printed(self, place, path, lines):
+        given = [line.strip() for line in self.run(path, "print")[1]]
+        self.count += 1
+        if lines != given:
+            self.wrong += 1
+            print(f"{place}: wanted {lines}, given {given}")
+
+    def files(self):
+        """The files that README.md and the documents name."""
+        for names in [("README.md",)] + [("docs", name) for name in sorted(os.listdir(os.path.join(TOP, "docs"))) if name.endswith(".md")]:
+            for path in re.findall(r"`(?:crates/)?((?:aj_\w+|atomic_cli)/(?:src|specs|proofs)/[\w/]+\.\w+)`", read(*names)):
+                self.count += 1
+                if not os.path.exists(os.path.join(TOP, "crates", path)):
+                    self.wrong += 1
+                    print(f"{os.path.join(*names)}: there is no crates/{path}")
 
     def examples(self):
         files = {name for name in os.listdir(os.path.join(TOP, "examples")) if name.endswith(".java")}
@@ -119,7 +144,6 @@ class Checker:
                 block = []
             named = re.findall(r"`examples/(\w+\.java)`", line)
             name = named[-1] if named else name
-
 
     def books(self):
         """The derived book of each accepted example, and what is said of it where it is changed."""
@@ -148,8 +172,12 @@ class Checker:
 
 
 def main():
+    if len(sys.argv) != 2 or sys.argv[1].startswith("-"):
+        sys.exit(__doc__.strip())
     checker = Checker(os.path.abspath(sys.argv[1]))
-    checker.repairs()
+    checker.tables("docs", "repairs.md")
+    checker.tables("docs", "tutorial.md")
+    checker.files()
     checker.examples()
     checker.tutorial()
     checker.examples_test()

@@ -1,0 +1,141 @@
+#!/usr/bin/env python3
+"""usage: refuse_allocations.py PROGRAM [--all] [--rest] [--jobs N]
+
+Refuses each allocation of rows of every command in turn: the k-th, for k from 1 up to the first run in which none is refused.
+Each answer has to be status 8 with nothing written, or the row's. PROGRAM is the built `atomic`, proved or not; refuse.c is
+compiled by `cc` and preloaded into it. Without --all there is a row for each command and status, with it come all rows of
+rows.py. With --rest all allocations behind the k-th are refused too. The exit status is 0 where no answer is wrong.
+"""
+import argparse
+import collections
+import concurrent.futures
+import os
+import subprocess
+import sys
+import tempfile
+
+import rows
+
+HERE = os.path.dirname(os.path.abspath(__file__))
+WANTED = {"check": (0, 1, 2), "print": (0, 1), "run": (0, 3, 4), "serialise": (0, 1, 2, 3, 4, 5)}
+
+
+def example(name):
+    with open(os.path.join(HERE, "..", "examples", name), "rb") as file:
+        return file.read()
+
+
+def one_of_each(all_rows):
+    """The first rows with each wanted status of a command; a row is the command, its files and the status."""
+    seen = set()
+    for command, files, status in all_rows:
+        if status in WANTED.get(command, ()) and (command, status) not in seen:
+            seen.add((command, status))
+            yield command, files, status
+
+
+def fixed_rows():
+    """Worked rows as command, files and status; those that take the most steps are left to --all."""
+    given = [(command, [source], status) for command, source, status, _ in rows.rows(True)]
+    given += [(command, [source, schedule], status) for command, source, schedule, status, _ in rows.schedule_rows()]
+    return [(command, [text if isinstance(text, bytes) else text.encode() for text in files], status) for command, files, status in given]
+
+
+def more_rows():
+    """Rows of books and examples, and of words and files that end a call early."""
+    counter, locked, twice = example("counter.java"), example("locked.java"), example("twice.java")
+    schedule, book, wrong = example("counter.schedule"), example("locked.book"), example("locked_wrong.book")
+    yield "check", [counter], 0
+    yield "check", [example("append_locked.java")], 0
+    yield "run", [counter, schedule], 0
+    yield "serialise", [counter, schedule], 0
+    yield "serialise", [b"?", schedule], 1
+    yield "serialise", [twice, schedule], 2
+    yield "derive", [locked], 0
+    yield "derive", [example("account_both.java")], 0
+    yield "derive", [b"?"], 1
+    yield "derive", [twice], 2
+    yield "verify", [locked, book], 0
+    yield "verify", [b"?", book], 1
+    yield "verify", [locked, wrong], 11
+    yield "verify", [locked, book[:-1]], 11
+    yield "print", [example("account.java")], 0
+    yield "print", [b"a"], 1
+    yield "check", [None], 6
+    yield "run", [counter, None], 6
+    yield "check", [b" " * 262145], 10
+    yield "check", [], 9
+    yield "other", [], 9
+
+
+class Trial:
+    def __init__(self, program, folder, rest):
+        self.program, self.folder, self.rest = program, folder, rest
+        self.library = os.path.join(folder, "refuse.so")
+        subprocess.run(["cc", "-O2", "-shared", "-fPIC", "-o", self.library, os.path.join(HERE, "refuse.c")], check=True)
+
+    def answer(self, words, refused=None):
+        """Status, text, and whether an allocation was refused."""
+        if refused is None:
+            done = subprocess.run([self.program, *words], stdout=subprocess.PIPE)
+            return done.returncode, done.stdout, False
+        tells, told = os.pipe()
+        given = {"LD_PRELOAD": self.library, "REFUSE": str(refused), "REFUSE_TOLD": str(told)}
+        if self.rest:
+            given["REFUSE_REST"] = "1"
+        done = subprocess.run([self.program, *words], stdout=subprocess.PIPE, env=given, pass_fds=[told])
+        os.close(told)
+        was = os.read(tells, 1)
+        os.close(tells)
+        return done.returncode, done.stdout, was != b""
+
+    def row(self, number, command, files, status):
+        """The counts of a row, and what was wrong."""
+        names = [os.path.join(self.folder, f"{number}-{k}") for k in range(len(files))]
+        for name, data in zip(names, files):
+            if data is not None:
+                with open(name, "wb") as file:
+                    file.write(data)
+        words, counts, wrong = [command, *names], collections.Counter(rows=1), []
+        plain = self.answer(words)
+        if plain[0] != status:
+            wrong.append(f"{command} {files}: wanted {status}, given {plain[0]} with ample memory")
+        refused, k = True, 0
+        while refused:
+            k += 1
+            ended, text, refused = self.answer(words, k)
+            counts["refused"] += refused
+            is_row = (ended, text) == plain[:2]
+            if refused and not is_row:
+                counts["status 8"] += 1
+            if not is_row and not (refused and (ended, text) == (8, b"")):
+                wrong.append(f"{command} {files}: allocation {k}: {ended} {text!r}")
+        counts["the row's answer"] = counts["refused"] - counts["status 8"]
+        return command, counts, wrong
+
+
+def main():
+    asked = argparse.ArgumentParser(usage=__doc__.split("\n")[0].removeprefix("usage: "), description=__doc__.split("\n\n")[1])
+    asked.add_argument("program")
+    asked.add_argument("--all", action="store_true")
+    asked.add_argument("--rest", action="store_true")
+    asked.add_argument("--jobs", type=int, default=2)
+    given = asked.parse_args()
+    tried = fixed_rows() if given.all else list(one_of_each(fixed_rows()))
+    tried += more_rows()
+    counts, wrong = collections.defaultdict(collections.Counter), []
+    with tempfile.TemporaryDirectory() as folder:
+        trial = Trial(os.path.abspath(given.program), folder, given.rest)
+        with concurrent.futures.ThreadPoolExecutor(given.jobs) as pool:
+            for command, of_row, of_wrong in pool.map(lambda row: trial.row(row[0], *row[1]), enumerate(tried)):
+                counts[command].update(of_row)
+                wrong += of_wrong
+    for line in wrong[:20]:
+        print(line[:400])
+    for command, of_command in counts.items():
+        print(f"{command}: " + ", ".join(f"{of_command[what]} {what}" for what in ("rows", "refused", "status 8", "the row's answer")))
+    print(f"{len(wrong)} wrong")
+    sys.exit(1 if wrong else 0)
+
+
+main()
