@@ -26,7 +26,7 @@ derived_is_good file _ _ (derived tree P source does) e =
 module _ (call : Call) where
   asked : (source_name book_name file bytes : List ℕ) → IsVerifyOf call source_name book_name file bytes
       → IsAsked call.words call.told (record { command = Verify; names = source_name ∷ book_name ∷ [] }) (file ∷ bytes ∷ [])
-  asked source_name book_name file bytes is = record { is_row = record { said = is.words; files = refl }; are_told = (is.source, (is.book, tt)) }
+  asked source_name book_name file bytes is = record { is_row = record { said = is.words; within = tt; files = refl }; are_told = (is.source, (is.book, tt)) }
 
   verified_by : (source_name book_name file bytes : List ℕ) → IsVerifyOf call source_name book_name file bytes → VerifyFact file bytes ending.Done
       → (status : ℕ) (out : List ℕ) → Belongs (record { command = Verify; names = source_name ∷ book_name ∷ [] }) (file ∷ bytes ∷ []) status out → status ≡ 0

@@ -114,11 +114,11 @@ module _ (call : Call) where
   headline_of complete = record {
     serialise = λ source_name schedule_name file text said told_file told_text small short calm tree P source accepted s q schedule runs outside.
         let row : Row = record { command = Serialise; names = source_name ∷ schedule_name ∷ [] } in
-        let asked : IsAsked call.words call.told row (file ∷ text ∷ []) = record { is_row = record { said = said; files = refl }; are_told = (told_file, (told_text, tt)) } in
+        let asked : IsAsked call.words call.told row (file ∷ text ∷ []) = record { is_row = record { said = said; within = tt; files = refl }; are_told = (told_file, (told_text, tt)) } in
         serialise_by source_name schedule_name file text small short tree P source accepted s q schedule runs outside (complete row (file ∷ text ∷ []) asked calm);
     check = λ name file said told_file small calm tree P source.
         let row : Row = record { command = Check; names = name ∷ [] } in
-        let asked : IsAsked call.words call.told row (file ∷ []) = record { is_row = record { said = said; files = refl }; are_told = (told_file, tt) } in
+        let asked : IsAsked call.words call.told row (file ∷ []) = record { is_row = record { said = said; within = tt; files = refl }; are_told = (told_file, tt) } in
         check_by name file small tree P source (complete row (file ∷ []) asked calm);
   }
     where

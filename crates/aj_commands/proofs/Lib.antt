@@ -1,4 +1,5 @@
 pub mod Endings
+pub mod OneRow
 pub mod Runs
 pub mod Headlines
 pub mod OpenCalled

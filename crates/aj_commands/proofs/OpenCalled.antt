@@ -62,7 +62,7 @@ module _ (call : Call) where
   open_calls_of complete = record {
     opens = λ source_name schedule_name file text said told_file told_text small short calm tree P source accepted s q schedule runs.
         let row : Row = record { command = SerialiseOpen; names = source_name ∷ schedule_name ∷ [] } in
-        let asked : IsAsked call.words call.told row (file ∷ text ∷ []) = record { is_row = record { said = said; files = refl }; are_told = (told_file, (told_text, tt)) } in
+        let asked : IsAsked call.words call.told row (file ∷ text ∷ []) = record { is_row = record { said = said; within = tt; files = refl }; are_told = (told_file, (told_text, tt)) } in
         opens_by source_name schedule_name file text small short tree P source accepted s q schedule runs (complete row (file ∷ text ∷ []) asked calm);
   }
     where

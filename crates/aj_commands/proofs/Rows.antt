@@ -4,7 +4,7 @@ use Rattle.aj_sources.specs.declared.refusal.Ending.TheVariants.{Done}
 use Rattle.aj_sources.specs.declared.refusal.Refusal.{Refusal}
 use Rattle.aj_sources.specs.Refusals.{IsRight}
 use Rattle.aj_commands.specs.declared.command.Command.{Command}
-use Rattle.aj_commands.specs.declared.command.Command.TheVariants.{Check, Print, Run, Serialise, Derive, Verify, SerialiseOpen}
+use Rattle.aj_commands.specs.declared.command.Command.TheVariants.{Check, Print, Run, Serialise, Derive, Verify, SerialiseOpen, Generate}
 use Rattle.aj_commands.specs.Files.{AreBounded, file_at}
 use Rattle.aj_commands.specs.Answers.{Answer}
 use Rattle.aj_source_commands.specs.Check.{CheckAnswer}
@@ -12,6 +12,7 @@ use Rattle.aj_source_commands.specs.Print.{PrintAnswer}
 use Rattle.aj_schedule_commands.specs.Run.{RunAnswer}
 use Rattle.aj_schedule_commands.specs.Serialise.{SerialiseAnswer}
 use Rattle.aj_schedule_commands.specs.SerialiseOpen.{SerialiseOpenAnswer}
+use Rattle.aj_schedule_commands.specs.Generate.{GenerateAnswer}
 use Rattle.aj_book_commands.specs.Derive.{DeriveAnswer}
 use Rattle.aj_book_commands.specs.Verify.{VerifyAnswer}
 
@@ -43,6 +44,10 @@ pub serialise_open_answers : (command : Command) (files : List (List ℕ)) (file
 serialise_open_answers command files file text r e first second is = subst (λ c. MatchResult r (λ out. Answer c files Done out.items) (IsRight (Answer c files))) (sym e)
     (subst (λ b. MatchResult r (λ out. SerialiseOpenAnswer b (file_at files 1) Done out.items) (IsRight (SerialiseOpenAnswer b (file_at files 1)))) first
     (subst (λ b. MatchResult r (λ out. SerialiseOpenAnswer file b Done out.items) (IsRight (SerialiseOpenAnswer file b))) second is))
+
+pub generate_answers : (command : Command) (files : List (List ℕ)) (n : ℕ) (r : Result (Vec ℕ Global) Refusal) → command ≡ Generate n
+    → MatchResult r (λ out. GenerateAnswer n Done out.items) (IsRight (GenerateAnswer n)) → MatchResult r (λ out. Answer command files Done out.items) (IsRight (Answer command files))
+generate_answers command files n r e is = subst (λ c. MatchResult r (λ out. Answer c files Done out.items) (IsRight (Answer c files))) (sym e) is
 
 pub derive_answers : (command : Command) (files : List (List ℕ)) (bytes : List ℕ) (r : Result (Vec ℕ Global) Refusal) → command ≡ Derive → bytes ≡ file_at files 0
     → MatchResult r (λ text. DeriveAnswer bytes Done text.items) (IsRight (DeriveAnswer bytes)) → MatchResult r (λ text. Answer command files Done text.items) (IsRight (Answer command files))

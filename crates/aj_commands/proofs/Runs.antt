@@ -1,14 +1,12 @@
 -- What the clauses of the top call say, from what was done and what was said.
 use Rattle.std.proofs.Common.{◌≡◌, ℕ, List, ◌∷◌, Option, Some, None, if◌then◌else◌, codes, refl, sym, subst, ap, ◌∙◌, arith, inl, inr, ◌⊎◌, Contains}
-use Rattle.std.specs.Str.{bytes_eq}
 use Rattle.aj_edge.specs.Faults.{Rose}
 use Rattle.aj_sources.specs.declared.refusal.Ending.{Ending}
 use Rattle.aj_sources.specs.Refusals.{code_of}
-use Rattle.aj_commands.specs.declared.command.Command.{Command}
-use Rattle.aj_commands.specs.declared.command.Command.TheVariants.{Check, Print, Run, Serialise, Derive, Verify, SerialiseOpen}
 use Rattle.aj_commands.specs.declared.status.Status.{Status}
 use Rattle.aj_commands.specs.declared.status.Status.TheVariants.{Ended, CannotRead, CannotWrite, NoMemory, Usage, TooLarge}
-use Rattle.aj_commands.specs.Rows.{Row, IsRow, word_of, limits_of}
+use Rattle.aj_commands.specs.Rows.{Row, IsRow, limits_of}
+use Rattle.aj_commands.proofs.OneRow.{one_row}
 use Rattle.aj_commands.specs.Files.{IsAsked, AreBounded}
 use Rattle.aj_commands.specs.Reading.{AreTheirs, IsQuiet}
 use Rattle.aj_commands.specs.Answers.{Answer, Belongs, too_large, ended, Yields, IsExact}
@@ -17,33 +15,6 @@ use Rattle.aj_commands.specs.Commands.{status_of}
 use Rattle.aj_commands.specs.Outcomes.{IsAnswer, IsOutcome}
 use Rattle.aj_commands.proofs.Endings.{exact_answer, exact_yield, no_ending}
 use Rattle.aj_commands.proofs.FileLemmas.{bounded_within, theirs_told, over_first, over_some, unread_named}
-
--- the command that a word names
-command_of : List ℕ → Option Command
-command_of word = if bytes_eq word (codes "check") then Some Check else if bytes_eq word (codes "print") then Some Print
-    else if bytes_eq word (codes "run") then Some Run else if bytes_eq word (codes "serialise") then Some Serialise
-    else if bytes_eq word (codes "derive") then Some Derive else if bytes_eq word (codes "verify") then Some Verify
-    else if bytes_eq word (codes "serialise-open") then Some SerialiseOpen else None
-
-named : (command : Command) → command_of (word_of command) ≡ Some command
-unfolding command_of
-named Check = refl
-named Print = refl
-named Run = refl
-named Serialise = refl
-named Derive = refl
-named Verify = refl
-named SerialiseOpen = refl
-
--- words are one row at most
-one_row : (words : List (List ℕ)) (row other : Row) → IsRow words row → IsRow words other → row ≡ other
-one_row words row other a b =
-    let same : word_of row.command ∷ row.names ≡ word_of other.command ∷ other.names = sym a.said ∙ b.said in
-    let word : word_of row.command ≡ word_of other.command = cc in
-    let names : row.names ≡ other.names = cc in
-    let some : Some row.command ≡ Some other.command = sym (named row.command) ∙ ap command_of word ∙ named other.command in
-    let command : row.command ≡ other.command = cc in
-    λ i. record { command = command i; names = names i }
 
 -- no outcome has the status of a sink that fails
 other_than_seven : (row : Row) (told : List ℕ → Option (List ℕ)) (before now : List ℕ → ℕ) (status : Status) (text : List ℕ) → IsOutcome row told before now status text → status_of status ≡ 7 → ⊥

@@ -3,7 +3,7 @@ use Rattle.std.specs.Prelude.{◌≡◌, ℕ, List, Some, IsSome, ◌⊎◌}
 use Rattle.aj_sources.specs.declared.refusal.Ending.{Ending}
 use Rattle.aj_sources.specs.Refusals.{code_of}
 use Rattle.aj_commands.specs.declared.command.Command.{Command}
-use Rattle.aj_commands.specs.declared.command.Command.TheVariants.{Check, Print, Run, Serialise, Derive, Verify, SerialiseOpen}
+use Rattle.aj_commands.specs.declared.command.Command.TheVariants.{Check, Print, Run, Serialise, Derive, Verify, SerialiseOpen, Generate}
 use Rattle.aj_commands.specs.Lines.{too_large_line}
 use Rattle.aj_commands.specs.Rows.{Row}
 use Rattle.aj_commands.specs.Files.{first_too_large, AreWithin, file_at}
@@ -13,6 +13,7 @@ use Rattle.aj_source_commands.specs.Print.{PrintAnswer, PrintFact}
 use Rattle.aj_schedule_commands.specs.Run.{RunAnswer, RunFact}
 use Rattle.aj_schedule_commands.specs.Serialise.{SerialiseAnswer, SerialiseFact}
 use Rattle.aj_schedule_commands.specs.SerialiseOpen.{SerialiseOpenAnswer, SerialiseOpenFact}
+use Rattle.aj_schedule_commands.specs.Generate.{GenerateAnswer, GenerateFact}
 use Rattle.aj_book_commands.specs.Derive.{DeriveAnswer, DeriveFact}
 use Rattle.aj_book_commands.specs.Verify.{VerifyAnswer, VerifyFact}
 
@@ -25,6 +26,7 @@ Answer Serialise files = SerialiseAnswer (file_at files 0) (file_at files 1)
 Answer Derive files = DeriveAnswer (file_at files 0)
 Answer Verify files = VerifyAnswer (file_at files 0) (file_at files 1)
 Answer SerialiseOpen files = SerialiseOpenAnswer (file_at files 0) (file_at files 1)
+Answer (Generate n) files = GenerateAnswer n
 
 -- when a command ends how
 abbrev pub Fact : Command → List (List ℕ) → Ending → Type 0
@@ -35,6 +37,7 @@ Fact Serialise files = SerialiseFact (file_at files 0) (file_at files 1)
 Fact Derive files = DeriveFact (file_at files 0)
 Fact Verify files = VerifyFact (file_at files 0) (file_at files 1)
 Fact SerialiseOpen files = SerialiseOpenFact (file_at files 0) (file_at files 1)
+Fact (Generate n) files = GenerateFact n
 
 -- the status and the text that belong to a row and the bytes of its files
 pub data Belongs (row : Row) (files : List (List ℕ)) : ℕ → List ℕ → Type 0 where

@@ -1,7 +1,7 @@
 -- The rows of words that the program knows.
-use Rattle.std.specs.Prelude.{◌≡◌, ℕ, List, [], ◌∷◌, codes, length}
+use Rattle.std.specs.Prelude.{◌≡◌, ◌<◌, ℕ, List, [], ◌∷◌, ◌++◌, codes, decimal, length}
 use Rattle.aj_commands.specs.declared.command.Command.{Command}
-use Rattle.aj_commands.specs.declared.command.Command.TheVariants.{Check, Print, Run, Serialise, Derive, Verify, SerialiseOpen}
+use Rattle.aj_commands.specs.declared.command.Command.TheVariants.{Check, Print, Run, Serialise, Derive, Verify, SerialiseOpen, Generate}
 
 -- the word that names a command
 abbrev pub word_of : Command → List ℕ
@@ -12,6 +12,29 @@ word_of Serialise = codes "serialise"
 word_of Derive = codes "derive"
 word_of Verify = codes "verify"
 word_of SerialiseOpen = codes "serialise-open"
+word_of (Generate n) = codes "generate"
+
+-- the words behind it that name no file: the number of workers, in decimal digits
+abbrev pub numbers_of : Command → List (List ℕ)
+numbers_of Check = []
+numbers_of Print = []
+numbers_of Run = []
+numbers_of Serialise = []
+numbers_of Derive = []
+numbers_of Verify = []
+numbers_of SerialiseOpen = []
+numbers_of (Generate n) = decimal n ∷ []
+
+-- the numbers are those that a command may have: fewer than 1,000 workers
+abbrev pub IsWithin : Command → Type 0
+IsWithin Check = Unit {0}
+IsWithin Print = Unit {0}
+IsWithin Run = Unit {0}
+IsWithin Serialise = Unit {0}
+IsWithin Derive = Unit {0}
+IsWithin Verify = Unit {0}
+IsWithin SerialiseOpen = Unit {0}
+IsWithin (Generate n) = n < 1000
 
 -- the most bytes that each file of a command may have, in the order of the words
 abbrev pub limits_of : Command → List ℕ
@@ -22,15 +45,17 @@ limits_of Serialise = 262144 ∷ 16777216 ∷ []
 limits_of Derive = 262144 ∷ []
 limits_of Verify = 262144 ∷ 16777216 ∷ []
 limits_of SerialiseOpen = 262144 ∷ 16777216 ∷ []
+limits_of (Generate n) = []
 
 -- a command, and the names of its files
 pub record Row : Type 0 where
   pub command : Command
   pub names : List (List ℕ)
 
--- the words are this row: the command's word, and a name for each of its files
+-- the words are this row: the command's word, its number where it has one, and a name for each of its files
 pub record IsRow (words : List (List ℕ)) (row : Row) : Type 0 where
-  pub said : words ≡ word_of row.command ∷ row.names
+  pub said : words ≡ word_of row.command ∷ (numbers_of row.command ++ row.names)
+  pub within : IsWithin row.command
   pub files : length row.names ≡ length (limits_of row.command)
 
 -- the words are no row that is built

@@ -1,8 +1,11 @@
 //! The words of the command line.
 
-ghost use Rattle.std.specs.Prelude.{◌≡◌, map, MatchOption, string_bytes};
+ghost use Rattle.std.specs.Prelude.{◌≡◌, ◌×◌, ◌<◌, ◌∷◌, ◌++◌, [], ℕ, List, decimal, map, MatchOption, string_bytes};
 ghost use Rattle.aj_commands.specs.Commands.{row_of};
-ghost use Rattle.aj_commands.specs.Rows.{IsRow, IsNoRow};
+ghost use Rattle.aj_commands.specs.Rows.{IsRow, IsNoRow, IsWithin, word_of, numbers_of};
+
+use aj_generate::MOST_WORKERS;
+use itoa::Buffer;
 
 /// The most bytes that a source may have.
 const LARGEST_SOURCE: u32 = 262_144;
@@ -30,6 +33,8 @@ pub enum Command {
     Verify,
     /// Writes a schedule of a source with each atomic call in one piece, also one that is left open.
     SerialiseOpen,
+    /// Makes a source and a schedule for so many workers, and tells the figures of its serialised form.
+    Generate(u32),
 }
 
 impl Command {
