@@ -358,7 +358,7 @@ place_in-is TooDeep place = refl
 before_by : (bytes : List ℕ) (r : Res Book) → FrontAt BookText bytes r → (kind : Kind) (place : ℕ) → fault_of (length bytes) r ≡ Some (fault_at kind place) → IsFront (take place bytes)
 before_by bytes (Ok y) s kind place e = absurd (let no : None ≡ Some (fault_at kind place) = e in cc)
 before_by bytes (Err d) s kind place e =
-    let at : length bytes - length d.1 ≡ place = sym (place_in-is d.0 (length bytes - length d.1)) ∙ ap place_in (same_Some (fault_at d.0 (length bytes - length d.1)) e) ∙ place_in-is kind place in
+    let at : length bytes - length d.1 ≡ place = sym (place_in-is d.0 (length bytes - length d.1)) ∙ ap place_in (same_Some (fault_at d.0 (length bytes - length d.1)) (fault_at kind place) e) ∙ place_in-is kind place in
     let taken : take place bytes ≡ s.0 = ap (λ n. take n bytes) (sym at) ∙ ap (λ z. take (length z - length d.1) z) s.1 ∙ front_taken s.0 d.1 in
     record { more = s.2; book = s.3; few = s.4.1; whole = ap (λ z. z ++ s.2) taken ∙ s.4.0 }
 

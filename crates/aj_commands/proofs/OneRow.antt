@@ -34,9 +34,65 @@ named Verify = refl
 named SerialiseOpen = refl
 named (Generate n) = refl
 
--- a command with the word `generate` has a number
-generates : (command : Command) → word_of command ≡ codes "generate" → (n : ℕ) × (command ≡ Generate n)
-generates command is = by command (ap (λ w. command_of w (number_in command)) (sym is) ∙ named command)
+-- a command has no number, or it is `generate` with one
+by_number : (command : Command) → ((numbers_of command ≡ []) × (number_in command ≡ 0)) ⊎ ((n : ℕ) × (command ≡ Generate n))
+unfolding number_in
+by_number Check = inl (refl, refl)
+by_number Print = inl (refl, refl)
+by_number Run = inl (refl, refl)
+by_number Serialise = inl (refl, refl)
+by_number Derive = inl (refl, refl)
+by_number Verify = inl (refl, refl)
+by_number SerialiseOpen = inl (refl, refl)
+by_number (Generate n) = inr (n, refl)
+
+-- the same, for who reads the words
+pub plain_or_generate : (command : Command) → (numbers_of command ≡ []) ⊎ ((n : ℕ) × (command ≡ Generate n))
+plain_or_generate command = by (by_number command)
   where
-    by : (command : Command) → command_of (codes "generate") (number_in command) ≡ Some command → (n : ℕ) × (command ≡ Generate n)
-    by command e = (number_in command, let some : Some (Generate (number_in command)) ≡ Some command = e in cc)
+    by : ((numbers_of command ≡ []) × (number_in command ≡ 0)) ⊎ ((n : ℕ) × (command ≡ Generate n)) → (numbers_of command ≡ []) ⊎ ((n : ℕ) × (command ≡ Generate n))
+    by (inl p) = inl p.0
+    by (inr p) = inr p
+
+-- commands of one word with the same number are one
+same_named : (one other : Command) → word_of one ≡ word_of other → number_in one ≡ number_in other → one ≡ other
+same_named one other word number =
+    let some : Some one ≡ Some other = sym (named one) ∙ (λ i. command_of (word i) (number i)) ∙ named other in cc
+
+-- the word `generate` is no command's without a number
+no_generate : (command : Command) (n : ℕ) → numbers_of command ≡ [] → number_in command ≡ 0 → word_of command ≡ codes "generate" → ⊥
+no_generate command n none zero word =
+    let same : command ≡ Generate 0 = same_named command (Generate 0) word (zero ∙ number_zero) in
+    let e : decimal 0 ∷ [] ≡ [] = sym (ap numbers_of same) ∙ none in cc
+  where
+    number_zero : 0 ≡ number_in (Generate 0)
+    unfolding number_in
+    number_zero = refl
+
+record Same (one other : Command) (names others : List (List ℕ)) : Type 0 where
+  command : one ≡ other
+  names_are : names ≡ others
+
+same_words : (one other : Command) (names others : List (List ℕ)) → IsWithin one → IsWithin other → word_of one ≡ word_of other → numbers_of one ++ names ≡ numbers_of other ++ others
+    → ((numbers_of one ≡ []) × (number_in one ≡ 0)) ⊎ ((n : ℕ) × (one ≡ Generate n)) → ((numbers_of other ≡ []) × (number_in other ≡ 0)) ⊎ ((n : ℕ) × (other ≡ Generate n)) → Same one other names others
+same_words one other names others a b word rest (inl p) (inl q) =
+    record { command = same_named one other word (p.1 ∙ sym q.1); names_are = sym (ap (λ l. l ++ names) p.0) ∙ rest ∙ ap (λ l. l ++ others) q.0 }
+same_words one other names others a b word rest (inl p) (inr q) = absurd (no_generate one 0 p.0 p.1 (word ∙ ap word_of q.1))
+same_words one other names others a b word rest (inr p) (inl q) = absurd (no_generate other 0 q.0 q.1 (sym word ∙ ap word_of p.1))
+same_words one other names others a b word rest (inr p) (inr q) =
+    let n = p.0 in
+    let m = q.0 in
+    let small : n < 1000 = subst IsWithin p.1 a in
+    let little : m < 1000 = subst IsWithin q.1 b in
+    let both : decimal n ∷ names ≡ decimal m ∷ others = sym (ap (λ c. numbers_of c ++ names) p.1) ∙ rest ∙ ap (λ c. numbers_of c ++ others) q.1 in
+    let digits : decimal n ≡ decimal m = cc in
+    let tails : names ≡ others = cc in
+    record { command = p.1 ∙ ap Generate (decimal_injective n m (omega (arith, small)) (omega (arith, little)) digits) ∙ sym q.1; names_are = tails }
+
+pub one_row : (words : List (List ℕ)) (row other : Row) → IsRow words row → IsRow words other → row ≡ other
+one_row words row other a b =
+    let both : word_of row.command ∷ (numbers_of row.command ++ row.names) ≡ word_of other.command ∷ (numbers_of other.command ++ other.names) = sym a.said ∙ b.said in
+    let word : word_of row.command ≡ word_of other.command = cc in
+    let rest : numbers_of row.command ++ row.names ≡ numbers_of other.command ++ other.names = cc in
+    let same = same_words row.command other.command row.names other.names a.within b.within word rest (by_number row.command) (by_number other.command) in
+    λ i. record { command = same.command i; names = same.names_are i }

@@ -1,6 +1,6 @@
 //! The words of the command line.
 
-ghost use Rattle.std.specs.Prelude.{◌≡◌, ◌×◌, ◌<◌, ◌∷◌, ◌++◌, [], ℕ, List, decimal, map, MatchOption, string_bytes};
+ghost use Rattle.std.specs.Prelude.{◌≡◌, ◌<◌, ◌∷◌, ◌++◌, [], ℕ, List, codes, decimal, map, MatchOption, string_bytes};
 ghost use Rattle.aj_commands.specs.Commands.{row_of};
 ghost use Rattle.aj_commands.specs.Rows.{IsRow, IsNoRow, IsWithin, word_of, numbers_of};
 
@@ -38,11 +38,12 @@ pub enum Command {
 }
 
 impl Command {
-    ghost use Rattle.aj_commands.specs.Rows.{word_of, limits_of};
+    ghost use Rattle.aj_commands.specs.Rows.{word_of, numbers_of, limits_of, IsWithin};
 
-    /// The command with this name.
+    /// The command with this name, of those that have no number.
     fn named(word: &str) -> Option<Command>
-        ensures { MatchOption result ((command : Command) → word.now ≡ word_of command → ⊥) (λ command. word.now ≡ word_of command) }
+        ensures { MatchOption result ((command : Command) → numbers_of command ≡ [] → word.now ≡ word_of command → ⊥)
+            (λ command. (numbers_of command ≡ []) × IsWithin command × (word.now ≡ word_of command)) }
     {
         match word {
             "check" => Some(Command::Check),
@@ -66,6 +67,7 @@ impl Command {
                 &[LARGEST_SOURCE, LARGEST_SCHEDULE]
             }
             Command::Verify => &[LARGEST_SOURCE, LARGEST_BOOK],
+            Command::Generate(_) => &[],
         }
     }
 }
@@ -77,12 +79,56 @@ pub struct Words<'a> {
     pub names: &'a [String],
 }
 
+/// The number of workers that a word is, in decimal digits without a leading zero.
+fn workers_in(word: &str) -> Option<u32>
+    ensures { MatchOption result ((n : ℕ) → n < 1000 → word.now ≡ decimal n → ⊥) (λ n. (n < 1000) × (word.now ≡ decimal n)) }
+{
+    let Ok(number) = word.parse::<u32>() else {
+        return None;
+    };
+    let mut digits = Buffer::new();
+    if digits.format(number) != word {
+        return None;
+    }
+    if number < MOST_WORKERS {
+        Some(number)
+    } else {
+        None
+    }
+}
+
+/// The command that makes a source, where the words are its word and a number; and the words behind these.
+fn generated<'a>(word: &str, rest: &'a [String]) -> Option<(Command, &'a [String])>
+    ensures { MatchOption result
+        ((n : ℕ) (names : List (List ℕ)) → n < 1000 → word.now ≡ codes "generate" → map string_bytes rest.now ≡ decimal n ∷ names → ⊥)
+        (λ found. IsWithin found.0 × (word.now ≡ word_of found.0) × (map string_bytes rest.now ≡ numbers_of found.0 ++ map string_bytes found.1.now)) }
+{
+    if word != "generate" {
+        return None;
+    }
+    let (number, names) = rest.split_first()?;
+    let workers = workers_in(number.as_str())?;
+    Some((Command::Generate(workers), names))
+}
+
+/// The command that the words begin with, and the words behind it and its number.
+fn command_in<'a>(word: &str, rest: &'a [String]) -> Option<(Command, &'a [String])>
+    ensures { MatchOption result
+        ((command : Command) (names : List (List ℕ)) → IsWithin command → word.now ≡ word_of command → map string_bytes rest.now ≡ numbers_of command ++ names → ⊥)
+        (λ found. IsWithin found.0 × (word.now ≡ word_of found.0) × (map string_bytes rest.now ≡ numbers_of found.0 ++ map string_bytes found.1.now)) }
+{
+    match Command::named(word) {
+        Some(command) => Some((command, rest)),
+        None => generated(word, rest),
+    }
+}
+
 /// The row that the words are, if they are one.
 pub fn words_of(words: &[String]) -> Option<Words<'_>>
     ensures { MatchOption result (IsNoRow (map string_bytes words.now)) (λ row. IsRow (map string_bytes words.now) (row_of row)) }
 {
-    let (word, names) = words.split_first()?;
-    let command = Command::named(word.as_str())?;
+    let (word, rest) = words.split_first()?;
+    let (command, names) = command_in(word.as_str(), rest)?;
     if names.len() == command.limits().len() {
         Some(Words { command, names })
     } else {

@@ -6,7 +6,7 @@ ghost use Rattle.aj_edge.specs.Faults.{Rose};
 ghost use Rattle.aj_sources.specs.Refusals.{IsRight};
 ghost use Rattle.aj_sources.specs.declared.refusal.Ending.{Ending as EndingData};
 ghost use Rattle.aj_commands.specs.Lines.{usage_line};
-ghost use Rattle.aj_commands.specs.Rows.{Row, IsRow, IsNoRow, limits_of};
+ghost use Rattle.aj_commands.specs.Rows.{Row, IsRow, IsNoRow, IsWithin, limits_of};
 ghost use Rattle.aj_commands.specs.Files.{IsAsked, AreBounded};
 ghost use Rattle.aj_commands.specs.Answers.{Answer, Yields, IsExact};
 ghost use Rattle.aj_commands.specs.Reading.{IsQuiet};
@@ -23,7 +23,7 @@ use crate::lines::{USAGE, cannot_read_line, too_large_line};
 use crate::status::Status;
 use aj_book_commands::{derive_book, verify_book};
 use aj_edge::{Fault, Folder, Sink, write_all};
-use aj_schedule_commands::{run_schedule, serialise, serialise_open};
+use aj_schedule_commands::{generate_figures, run_schedule, serialise, serialise_open};
 use aj_source_commands::{check, print};
 use aj_sources::{Ending, Refusal};
 use std::alloc::{AllocError as NoMemory, Global};
@@ -37,7 +37,8 @@ struct Outcome {
 
 /// The text of the command for the bytes of its files, or the refusal.
 fn answer(alloc: Global, command: Command, files: &[Vec<u8>]) -> Result<Vec<u8>, Refusal>
-    requires { AreBounded (limits_of command) (map (λ file. file.items) files.now) }
+    requires within { IsWithin command }
+    requires bounded { AreBounded (limits_of command) (map (λ file. file.items) files.now) }
     ensures { MatchResult result (λ text. Answer command (map (λ file. file.items) files.now) Ending.Done text.items) (IsRight (Answer command (map (λ file. file.items) files.now))) }
 {
     match command {
@@ -48,12 +49,14 @@ fn answer(alloc: Global, command: Command, files: &[Vec<u8>]) -> Result<Vec<u8>,
         Command::Derive => derive_book(alloc, file_at(files, 0)),
         Command::Verify => verify_book(alloc, file_at(files, 0), file_at(files, 1)),
         Command::SerialiseOpen => serialise_open(alloc, file_at(files, 0), file_at(files, 1)),
+        Command::Generate(workers) => generate_figures(alloc, workers),
     }
 }
 
 /// The status and the text of the command for the bytes of its files.
 fn ended(alloc: Global, command: Command, files: &[Vec<u8>]) -> Result<Outcome, NoMemory>
-    requires { AreBounded (limits_of command) (map (λ file. file.items) files.now) }
+    requires within { IsWithin command }
+    requires bounded { AreBounded (limits_of command) (map (λ file. file.items) files.now) }
     ensures { IfOk result (λ o. (ending : EndingData) × (o.status ≡ Status.Ended ending) × Answer command (map (λ file. file.items) files.now) ending o.text.items) }
 {
     match answer(alloc, command, files) {
@@ -89,7 +92,8 @@ fn unread(alloc: Global, end: Unread<'_>) -> Result<Outcome, NoMemory>
 
 /// Reads the files of the row, and does what its command says.
 fn perform<F: Folder>(alloc: Global, folder: &mut F, words: Words<'_>) -> Result<Outcome, NoMemory>
-    requires { length (row_of words).names ≡ length (limits_of words.command) }
+    requires within { IsWithin words.command }
+    requires files { length (row_of words).names ≡ length (limits_of words.command) }
     ensures { IfOk result (λ o. IsOutcome (row_of words.entry) (F.told folder.old) (F.faults folder.old) (F.faults folder.new) o.status o.text.items) }
 {
     match read_files(alloc, folder, words.command.limits(), words.names) {

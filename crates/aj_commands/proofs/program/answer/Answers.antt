@@ -1,5 +1,5 @@
 use Rattle.std.proofs.Common.{map}
-use Rattle.aj_commands.proofs.Rows.{check_answers, print_answers, run_answers, serialise_answers, serialise_open_answers, derive_answers, verify_answers}
+use Rattle.aj_commands.proofs.Rows.{check_answers, print_answers, run_answers, serialise_answers, serialise_open_answers, generate_answers, derive_answers, verify_answers}
 use Rattle.aj_commands.proofs.program.answer.Goals as goal
 
 pub returns-in-Check : goal.returns-in-Check
@@ -30,3 +30,6 @@ pub returns-in-SerialiseOpen : goal.returns-in-SerialiseOpen
 returns-in-SerialiseOpen c =
     serialise_open_answers c.args.command (map (λ file. file.items) c.args.files.now) c.file_at-in-SerialiseOpen.result.now c.file_at-in-SerialiseOpen-2.result.now c.serialise_open.result
     c.in-SerialiseOpen.is c.file_at-in-SerialiseOpen.ensures c.file_at-in-SerialiseOpen-2.ensures c.serialise_open.ensures
+
+pub returns-in-Generate : goal.returns-in-Generate
+returns-in-Generate c = generate_answers c.args.command (map (λ file. file.items) c.args.files.now) c.in-Generate.workers c.generate_figures.result c.in-Generate.is c.generate_figures.ensures
