@@ -1,9 +1,11 @@
 #!/usr/bin/env python3
-"""try_schedules.py PROGRAM [COUNT]: tries what `serialise` promises, on random accepted programs and random schedules.
+"""try_schedules.py PROGRAM [COUNT]: tries what `serialise` and `serialise-open` promise, on random accepted programs and random
+schedules.
 
-PROGRAM is `atomic` or the plain program. For each schedule that `serialise` answers with status 0: the rewritten one has
-each entry as often, `run` of both ends in the same state, the state is the one that stands behind the schedule, and
-rewriting the rewritten one changes nothing. The exit status is 0 where all of that held.
+PROGRAM is `atomic` or the plain program. For each schedule that a command answers with status 0: the rewritten one has each
+entry as often, `run` of both ends in the same state, the state is the one that stands behind the schedule, and rewriting the
+rewritten one changes nothing. Schedules for `serialise-open` may end inside calls; for those that don't, both commands write
+the same. The exit status is 0 where all of that held.
 """
 import collections
 import os
@@ -44,16 +46,30 @@ class Trial:
     def one(self):
         schedule, status, text = runnable(drawn(self.chooser), lambda s: self.answer("serialise", s), self.chooser)
         self.counts[status] += 1
-        if status != 0:
-            return
+        if status == 0:
+            self.try_order("serialise", schedule, text)
+        if self.has_open:
+            self.one_open()
+
+    def one_open(self):
+        schedule, _, _ = runnable(drawn(self.chooser), lambda s: self.answer("run", s), self.chooser)
+        status, text = self.answer("serialise-open", schedule)
+        closed = self.answer("serialise", schedule)
+        self.expect("other statuses", (status, closed[0]) in ((0, 0), (0, 5), (4, 4)))
+        self.counts["left open"] += closed[0] == 5
+        self.expect("another order", closed[0] != 0 or closed == (status, text))
+        if status == 0:
+            self.try_order("serialise-open", schedule, text)
+
+    def try_order(self, command, schedule, text):
         line, _, state = text.partition("\n")
         rewritten = read(line)
-        self.counts["moved"] += rewritten != schedule
+        self.counts[f"moved by {command}"] += rewritten != schedule
         self.expect("no rearrangement", sorted(rewritten) == sorted(schedule))
         before, after = (self.answer("run", s) for s in (schedule, rewritten))
         self.expect("another state", before == after and after[0] == 0)
         self.expect("another text", "".join(f"# {row}\n" for row in after[1].splitlines()) == state)
-        self.expect("changed again", self.answer("serialise", rewritten) == (0, text))
+        self.expect("changed again", self.answer(command, rewritten) == (0, text))
 
 
 def main():
@@ -65,6 +81,7 @@ def main():
             file.write("class A { int v write_guarded_by this; } class Main { void main() { } }")
         known = subprocess.run([program, "print", trial.path("source")], capture_output=True).returncode == 0
         words = ("guarded_by", "write_guarded_by") if known else ("guarded_by",)
+        trial.has_open = trial.answer("serialise-open", [])[0] != 9
         for _ in range(count):
             if trial.source(words):
                 trial.counts["accepted sources"] += 1

@@ -6,6 +6,10 @@ mod book_tests;
 #[cfg(test)]
 mod examples;
 #[cfg(test)]
+mod failing_tests;
+#[cfg(test)]
+mod generate_tests;
+#[cfg(test)]
 mod large_tests;
 #[cfg(test)]
 mod library_tests;

@@ -609,7 +609,7 @@ fn a_body_is_at_most_64_high(rt: HostRuntime) -> Result<(), Fail> {
     Ok(())
 }
 
-const USAGE: &str =
+pub const USAGE: &str =
     "usage: atomic check FILE | run FILE SCHEDULE | serialise FILE SCHEDULE | derive FILE | verify FILE BOOK | print FILE | generate N | serialise-open FILE SCHEDULE\n";
 
 /// Words with a status of their own, and their text.
