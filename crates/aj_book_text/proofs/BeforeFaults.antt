@@ -1,19 +1,19 @@
 -- Before the first fault of a text stands the front of some book's text.
-use Rattle.std.proofs.Common.{◌≡◌, ℕ, zero, suc, ◌==◌, ◌-◌, ◌||◌, ◌<◌, ◌≤◌, ◌^◌, Bool, true, false, not, List, [], ◌∷◌, ◌++◌, length, drop, take, nat_le, nat_lt, codes, decimal, Option, Some, None, if◌then◌else◌, Ok, Err, refl, sym, ◌∙◌, ap, subst, arith, append_assoc, append-nil}
+use Rattle.std.proofs.Common.{◌≡◌, ℕ, zero, suc, ◌==◌, ◌-◌, ◌||◌, ◌<◌, ◌≤◌, ◌^◌, Bool, true, false, not, List, [], ◌∷◌, ◌++◌, length, drop, take, nat_le, nat_lt, codes, decimal, Some, None, if◌then◌else◌, Ok, Err, refl, sym, ◌∙◌, ap, subst, arith, append_assoc, append-nil}
 use Rattle.std.proofs.lemmas.Bool.Decides.{nat_tests}
 use Rattle.std.proofs.lemmas.Option.{same_Some}
 use Rattle.std.specs.Str.Parse.{digits_value}
 use Rattle.aj_paths.specs.Paths.{PathData}
 use Rattle.aj_algebra.specs.declared.basic.Basic.TheVariants.{Const}
 use Rattle.aj_algebra.specs.Basics.{name_of}
-use Rattle.aj_cond.specs.Conditions.{Cond, LeafC, TestC}
+use Rattle.aj_cond.specs.Conditions.{Cond, LeafC}
 use Rattle.aj_cond.specs.Texts.{dotted, path_text, text_of}
 use Rattle.aj_book_grammar.specs.declared.stop.Kind.{Kind}
 use Rattle.aj_book_grammar.specs.declared.stop.Kind.TheVariants.{Form, TooDeep}
 use Rattle.aj_book_grammar.specs.declared.stop.BookFault.{BookFault}
 use Rattle.aj_book_grammar.specs.declared.stop.BookFault.TheVariants as faults
 use Rattle.aj_book_grammar.specs.declared.word.Word.TheVariants.{Lit}
-use Rattle.aj_book_grammar.specs.Derivations.{Node, node, Nodes, no_nodes, nodes_from, word_text, words}
+use Rattle.aj_book_grammar.specs.Derivations.{Node, node, no_nodes, nodes_from, word_text, words}
 use Rattle.aj_book_grammar.specs.Books.{Line, Book, is_canonical, most_height}
 use Rattle.aj_book_grammar.specs.Texts.{newline, node_text, nodes_text, line_text, lines_text, table_text, book_text}
 use Rattle.aj_book_grammar.specs.Combine.{Res, ◌>>=◌, begins, expect, further, one_of, at_most, several, exactly}
