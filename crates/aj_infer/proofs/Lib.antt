@@ -4,7 +4,7 @@ pub mod Answers
 pub mod Calls
 pub mod Locals
 pub mod Blocks
-pub mod BodyParts
+pub mod Walks
 pub mod TableParts
 pub mod CellLemmas
 pub mod Required

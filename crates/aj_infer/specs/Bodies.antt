@@ -1,11 +1,16 @@
 -- A body with what it is judged by.
-use Rattle.std.specs.Prelude.{ℕ, List, Contains}
+use Rattle.std.specs.Prelude.{◌≡◌, ℕ, List, [], ◌∷◌, ◌++◌, map, Contains}
 use Rattle.aj_paths.specs.Paths.{PathData}
 use Rattle.aj_core.specs.Core.{Program}
 use Rattle.aj_core.specs.Views.{program_of}
-use Rattle.aj_rules.specs.Mentions.{Mention}
+use Rattle.aj_algebra.specs.declared.basic.Basic.{Basic}
+use Rattle.aj_algebra.specs.HeldPaths.{Held}
+use Rattle.aj_rules.specs.Mentions.{Mention, mentions}
 use Rattle.aj_rules.specs.Near.{Mentions, rel_of}
 use Rattle.aj_rules.specs.Effect.{Assignment}
+use Rattle.aj_effects.specs.Parts.{Part, ExprP, StmtP}
+use Rattle.aj_effects.specs.Rules.{AreAllKnown}
+use Rattle.aj_effects.specs.Effects.{effects_of}
 use Rattle.aj_infer.specs.declared.walk.Walk.{Walk}
 use Rattle.aj_infer.specs.Tables.{assigned}
 use Rattle.aj_infer.specs.Names.{near_of}
@@ -29,3 +34,19 @@ assigned_at walk = assigned (rel_of walk.sets.now) walk.tables.now
 -- a part with these mentions is a part of the method's body
 abbrev pub AreOfBody : Walk → List Mention → Type 0
 AreOfBody walk xs = (x : Mention) → Contains xs x → Mentions (program_of walk.program.now) walk.method x
+
+-- what a part mentions that bears on the names of paths: nothing in an expression does
+abbrev pub part_mentions : Part → List Mention
+part_mentions (ExprP e) = []
+part_mentions (StmtP s) = mentions s
+
+abbrev pub parts_mentions : List Part → List Mention
+parts_mentions [] = []
+parts_mentions (x ∷ xs) = part_mentions x ++ parts_mentions xs
+
+-- behind these values stand known ones, whose values are the effects of these parts
+pub record AreEffects {S A : Type 0} (k : S → A → Type 0) (v : S → A → Held → Basic) (store : S) (walk : Walk) (parts : List Part) (old new : List A) : Type 0 where
+  pub more : List A
+  pub are : new ≡ old ++ more
+  pub known : AreAllKnown k store more
+  pub effects : map (v store) more ≡ effects_of (program_at walk) (rel_at walk) (assigned_at walk) parts
