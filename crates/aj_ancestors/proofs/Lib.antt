@@ -1,0 +1,2 @@
+-- Lemmas on going up.
+pub mod Going

@@ -1,0 +1,2 @@
+-- Ancestors, over any function that gives what stands above a number.
+pub mod Ancestors
