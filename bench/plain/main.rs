@@ -7,6 +7,7 @@ mod code;
 mod core;
 mod elaborate;
 mod fault;
+mod generate;
 mod lex;
 mod machine;
 mod parse;
@@ -112,6 +113,24 @@ fn serialise_open(table: &Table<'_, '_>, program: &Program, bytes: &[u8]) -> Ans
     Ok(with_state(&rewritten, &machine.text(table)))
 }
 
+/// The figures of the serialised schedule for n workers, and what the field of the shared cell says at its end.
+fn generated(n: u32) -> Answer {
+    let source = generate::source(n);
+    elaborated(source.as_bytes(), |table, program| {
+        Ok(check(table, program)?.and_then(|_| {
+            let code = code::compile(program);
+            let mut machine = Machine::start(program, &code);
+            let schedule = generate::schedule(n);
+            let ended = serialise::serialise(&mut machine, &schedule);
+            let order = ended.map_err(|(place, stop)| stopped((place, schedule[place]), stop))?;
+            let text = machine.text(table);
+            let cell = text.lines().find_map(|line| line.strip_prefix("object 0:1 Cell v="));
+            let (entries, runs) = (order.len(), generate::groups(&order));
+            Ok(format!("workers {n}\nentries {entries}\nruns {runs}\nv {}\n", cell.unwrap_or("0")))
+        }))
+    })
+}
+
 /// A schedule in a line, and the text of a state as comments.
 fn with_state(schedule: &[u32], state: &str) -> String {
     let mut out = schedule::write(schedule);
@@ -168,6 +187,10 @@ fn answer(words: &[&str]) -> Answer {
                 Ok(checked.and_then(|_| serialise_open(table, program, &schedule)))
             })
         }
+        ["generate", number] => match number.parse::<u32>() {
+            Ok(n) if n < 1000 && n.to_string() == *number => generated(n),
+            _ => Err((9, USAGE.to_string())),
+        },
         ["read-book", name] => read_book(&read(name, LARGEST_SCHEDULE)?),
         _ => Err((9, USAGE.to_string())),
     }

@@ -114,10 +114,10 @@ module _ (above : ℕ → Option ℕ) where
     repeats : (c e : ℕ) → c < count → up above count c ≡ Some e → Repeats count c
     repeats c e low is = elim (differ count c e is) [
       | inl apart ↦ absurd (
-        let few = length-le_from_distinct_below (trail count (Some c)) count apart (λ q has. trail_below count c e q low is has) in
-        let all = trail_length count c e is in
-        omega (arith, few, all)
-      )
+          let few = length-le_from_distinct_below (trail count (Some c)) count apart (λ q has. trail_below count c e q low is has) in
+          let all = trail_length count c e is in
+          omega (arith, few, all)
+          )
       | inr r ↦ r
     ]
 

@@ -24,7 +24,7 @@ number_in SerialiseOpen = 0
 number_in (Generate n) = n
 
 named : (command : Command) → command_of (word_of command) (number_in command) ≡ Some command
-unfolding command_of, number_in
+unfolding command_of number_in
 named Check = refl
 named Print = refl
 named Run = refl
@@ -46,28 +46,17 @@ by_number Verify = inl (refl, refl)
 by_number SerialiseOpen = inl (refl, refl)
 by_number (Generate n) = inr (n, refl)
 
--- the same, for who reads the words
-pub plain_or_generate : (command : Command) → (numbers_of command ≡ []) ⊎ ((n : ℕ) × (command ≡ Generate n))
-plain_or_generate command = by (by_number command)
-  where
-    by : ((numbers_of command ≡ []) × (number_in command ≡ 0)) ⊎ ((n : ℕ) × (command ≡ Generate n)) → (numbers_of command ≡ []) ⊎ ((n : ℕ) × (command ≡ Generate n))
-    by (inl p) = inl p.0
-    by (inr p) = inr p
-
 -- commands of one word with the same number are one
 same_named : (one other : Command) → word_of one ≡ word_of other → number_in one ≡ number_in other → one ≡ other
 same_named one other word number =
     let some : Some one ≡ Some other = sym (named one) ∙ (λ i. command_of (word i) (number i)) ∙ named other in cc
 
 -- the word `generate` is no command's without a number
-no_generate : (command : Command) (n : ℕ) → numbers_of command ≡ [] → number_in command ≡ 0 → word_of command ≡ codes "generate" → ⊥
-no_generate command n none zero word =
-    let same : command ≡ Generate 0 = same_named command (Generate 0) word (zero ∙ number_zero) in
+no_generate : (command : Command) → numbers_of command ≡ [] → number_in command ≡ 0 → word_of command ≡ codes "generate" → ⊥
+unfolding number_in
+no_generate command none zero word =
+    let same : command ≡ Generate 0 = same_named command (Generate 0) word zero in
     let e : decimal 0 ∷ [] ≡ [] = sym (ap numbers_of same) ∙ none in cc
-  where
-    number_zero : 0 ≡ number_in (Generate 0)
-    unfolding number_in
-    number_zero = refl
 
 record Same (one other : Command) (names others : List (List ℕ)) : Type 0 where
   command : one ≡ other
@@ -77,8 +66,8 @@ same_words : (one other : Command) (names others : List (List ℕ)) → IsWithin
     → ((numbers_of one ≡ []) × (number_in one ≡ 0)) ⊎ ((n : ℕ) × (one ≡ Generate n)) → ((numbers_of other ≡ []) × (number_in other ≡ 0)) ⊎ ((n : ℕ) × (other ≡ Generate n)) → Same one other names others
 same_words one other names others a b word rest (inl p) (inl q) =
     record { command = same_named one other word (p.1 ∙ sym q.1); names_are = sym (ap (λ l. l ++ names) p.0) ∙ rest ∙ ap (λ l. l ++ others) q.0 }
-same_words one other names others a b word rest (inl p) (inr q) = absurd (no_generate one 0 p.0 p.1 (word ∙ ap word_of q.1))
-same_words one other names others a b word rest (inr p) (inl q) = absurd (no_generate other 0 q.0 q.1 (sym word ∙ ap word_of p.1))
+same_words one other names others a b word rest (inl p) (inr q) = absurd (no_generate one p.0 p.1 (word ∙ ap word_of q.1))
+same_words one other names others a b word rest (inr p) (inl q) = absurd (no_generate other q.0 q.1 (sym word ∙ ap word_of p.1))
 same_words one other names others a b word rest (inr p) (inr q) =
     let n = p.0 in
     let m = q.0 in

@@ -24,7 +24,11 @@ repeated_length (suc n) text = omega (arith, length-append text (repeated n text
 -- how many bytes the source has
 pub source_size : (n : ℕ) → length (generated_source n) ≡ 369 + 30 * n
 source_size n =
-    omega (arith, length-append (cell_line ++ worker_line) (main_line n), length-append cell_line worker_line,
-    length-append (codes "class Main { void main() { final Cell c = new Cell();" ++ repeated n (codes " new Thread(new W(c)).start();")) (codes " } }\n"),
-    length-append (codes "class Main { void main() { final Cell c = new Cell();") (repeated n (codes " new Thread(new W(c)).start();")),
-    repeated_length n (codes " new Thread(new W(c)).start();"))
+    omega (
+      arith,
+      length-append (cell_line ++ worker_line) (main_line n),
+      length-append cell_line worker_line,
+      length-append (codes "class Main { void main() { final Cell c = new Cell();" ++ repeated n (codes " new Thread(new W(c)).start();")) (codes " } }\n"),
+      length-append (codes "class Main { void main() { final Cell c = new Cell();") (repeated n (codes " new Thread(new W(c)).start();")),
+      repeated_length n (codes " new Thread(new W(c)).start();"),
+    )

@@ -108,7 +108,7 @@ after_first : (a b c x y m l : ℕ) → Conditions a b c x y → after false (x 
 after_first a b c x y m l k =
     ap (λ g. turned g x ∷ after (holds (turned g x)) (replicate m b ++ (y ∷ replicate l c))) (first_turn a b c x y m l k)
     ∙ ap (λ r. first_now x y ∷ r) (after_resting (holds (first_now x y)) (replicate m b) (y ∷ replicate l c) (holds (first_now x y) || holds y) (held_between a b c x y l k)
-        (all_rest (holds (first_now x y) || holds y) m b k.between) ∙ ap (λ r. replicate m b ++ r) (after_second a b c x y l k))
+    (all_rest (holds (first_now x y) || holds y) m b k.between) ∙ ap (λ r. replicate m b ++ r) (after_second a b c x y l k))
 
 round_after : (f a m b l c x y : ℕ) → Conditions a b c x y → after false (standing f a m b l c x y) ≡ standing f a m b l c (first_now x y) (second_now x y)
 round_after f a m b l c x y k =
@@ -125,9 +125,9 @@ steps_first : (a b c x y m l w v : ℕ) → v ≡ w + 1 + m → Conditions a b c
 steps_first a b c x y m l w v is k =
     ap (λ g. entry g w ++ steps (holds (turned g x)) (w + 1) (replicate m b ++ (y ∷ replicate l c))) (first_turn a b c x y m l k)
     ∙ ap (λ r. entry (first_goes x y) w ++ r) (steps_resting (holds (first_now x y)) (replicate m b) (y ∷ replicate l c) (holds (first_now x y) || holds y) (w + 1) (held_between a b c x y l k)
-        (all_rest (holds (first_now x y) || holds y) m b k.between)
-      ∙ ap (λ u. steps (holds (first_now x y)) u (y ∷ replicate l c)) (omega (arith, is, length-replicate {A = ℕ} m b))
-      ∙ steps_second a b c x y l v k)
+    (all_rest (holds (first_now x y) || holds y) m b k.between)
+    ∙ ap (λ u. steps (holds (first_now x y)) u (y ∷ replicate l c)) (omega (arith, is, length-replicate {A = ℕ} m b))
+    ∙ steps_second a b c x y l v k)
 
 round_steps : (f a m b l c x y p q : ℕ) → p ≡ 1 + f → q ≡ 2 + f + m → Conditions a b c x y → steps false 1 (standing f a m b l c x y) ≡ entry (first_goes x y) p ++ entry (second_goes x y) q
 round_steps f a m b l c x y p q first second k =

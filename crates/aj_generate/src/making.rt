@@ -13,14 +13,18 @@ pub const MOST_WORKERS: u32 = 1000;
 const WORKER_STEPS: u32 = 106;
 
 /// The class that the workers share.
-const CELL: &str = "class Cell { int v guarded_by this; atomic void inc() { synchronized (this) { this.v = this.v + 1; } } }\n";
+const CELL: &str =
+    "class Cell { int v guarded_by this; atomic void inc() { synchronized (this) { this.v = this.v + 1; } } }\n";
 
 /// The class of the workers before their calls, and one call.
-const WORKER: &str = "class W implements Runnable { final Cell c; W(Cell c) { this.c = c; } public void run() {";
+const WORKER: &str =
+    "class W implements Runnable { final Cell c; W(Cell c) { this.c = c; } public void run() {";
+
 const CALL: &str = " this.c.inc();";
 
 /// The class with `main` before the workers are started, and the start of one.
 const MAIN: &str = "class Main { void main() { final Cell c = new Cell();";
+
 const START: &str = " new Thread(new W(c)).start();";
 
 /// The end of a class after its last method's statements.

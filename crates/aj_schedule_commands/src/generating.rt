@@ -1,13 +1,13 @@
 //! `generate N`.
 
 ghost use Rattle.std.specs.Prelude.{◌≡◌, ◌<◌, ◌++◌, ℕ, List, string_bytes, MatchResult, IfOk, OnOk};
+ghost use Rattle.std.specs.Option.{option_copied};
 ghost use Rattle.aj_generate.specs.Rounds.{IsGenerated};
 ghost use Rattle.aj_generate.specs.Sources.{generated_source};
 ghost use Rattle.aj_machine.specs.Standing.{StandsFor};
 ghost use Rattle.aj_sources.specs.Checking.{IsSourceOf};
 ghost use Rattle.aj_sources.specs.Refusals.{IsRight};
 ghost use Rattle.aj_state.specs.States.{State};
-ghost use Rattle.aj_state.specs.Views.{value_at};
 ghost use Rattle.aj_schedule_commands.specs.Generate.{GenerateAnswer, group_count, number_of, counted, figure_line, figures};
 
 use crate::serialising::order_of;

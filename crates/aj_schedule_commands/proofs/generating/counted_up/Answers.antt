@@ -1,5 +1,5 @@
 -- The exits of `generate`, and what is written.
-use Rattle.std.proofs.Common.{length, ap, refl, sym, subst, ◌∙◌}
+use Rattle.std.proofs.Common.{length, ap, refl, sym, subst, ◌∙◌, arith}
 use Rattle.std.proofs.lemmas.Result.{err_from_is_err_and}
 use Rattle.aj_core.specs.Views.{program_of}
 use Rattle.aj_generate.specs.Sources.{generated_source}
@@ -29,7 +29,7 @@ returns-in_err-found c =
     let P = program_of c.args.source.now.program in
     let p = err_from_is_err_and c.from_residual-in_err-found.result c.from_residual-in_err-found.ensures.1 in
     more_refused (NoOrder P c.args.schedule.now) (GenerateAnswer n) _ c.from_residual-in_err-found.result p.0 c.in_err-found.field-0.0 p.1 p.2
-    (refused_generated n c.args.source.now c.args.schedule.now c.requires.small c.requires.source (c.in_ok-accepted.ensures (generated_source n) c.requires.source).accepted c.requires.generated c.type_inv.schedule)
+    (refused_generated n c.args.source.now c.args.schedule.now c.requires.small c.requires.source (c.in_ok-accepted.ensures (generated_source n) c.requires.source).accepted c.requires.generated (λ i. omega (arith, c.type_inv.schedule i)))
     c.in_err-found.ensures.order
 
 pub returns : goal.returns
@@ -37,5 +37,5 @@ returns c =
     let n = c.args.n in
     let found = c.in_ok-found.ensures in
     generated_text n c.args.source.now c.args.schedule.now c.in_ok-found.found.order.items c.into_bytes.result.items c.requires.small c.requires.source
-    (c.in_ok-accepted.ensures (generated_source n) c.requires.source).accepted c.requires.generated c.type_inv.schedule found.order
+    (c.in_ok-accepted.ensures (generated_source n) c.requires.source).accepted c.requires.generated (λ i. omega (arith, c.type_inv.schedule i)) found.order
     (ap (λ v. v.items) c.into_bytes.ensures.value ∙ c.in_ok-text.ensures found.order.end (found.stands found.order.end found.order.ran))
