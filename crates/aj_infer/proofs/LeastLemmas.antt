@@ -28,7 +28,7 @@ use Rattle.aj_infer.specs.Verdicts.{HoldBounds}
 use Rattle.aj_rules.proofs.EffectRises.{stmt_rises}
 use Rattle.aj_infer.proofs.TableParts.{length_parts, chosen_parts, chosen_below, chosen_none, parts_below, in_first, in_second, in_either, in_filter, of_list, filter_has, bits_same, none_falls, parts_fall}
 use Rattle.aj_infer.proofs.CellLemmas.{tables_same, length_numbers, length_above, tables_fall, above_assigned, demand_is, le_test, basic_rank}
-use Rattle.aj_infer.proofs.Required.{required_in_rel}
+use Rattle.aj_rules.proofs.Required.{required_in_rel}
 
 const_least : (b : Basic) → AtMost Const b
 const_least Const = refl

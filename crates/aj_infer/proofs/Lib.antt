@@ -7,7 +7,6 @@ pub mod Blocks
 pub mod Walks
 pub mod TableParts
 pub mod CellLemmas
-pub mod Required
 pub mod EqualTables
 pub mod LeastLemmas
 pub mod RowLemmas

@@ -14,7 +14,7 @@ use Rattle.aj_infer.specs.Cells.{numbers_of, tables_in, all_const, is_met, rooms
 use Rattle.aj_infer.specs.Least.{IsLeast}
 use Rattle.aj_infer.proofs.CellLemmas.{length_numbers, length_above}
 use Rattle.aj_infer.proofs.LeastLemmas.{length_tables_in, const_tables, const_room, is_least}
-use Rattle.aj_infer.proofs.Required.{required_in_rel}
+use Rattle.aj_rules.proofs.Required.{required_in_rel}
 
 pub same_count : (xs : List CoreMethod) (methods : List Method) → map method_of xs ≡ methods → length xs ≡ length methods
 same_count xs methods all = sym (length-map xs method_of) ∙ ap length all

@@ -2,6 +2,7 @@
 use Rattle.std.proofs.Common.{◌≡◌, ◌⊎◌, inl, inr, ℕ, zero, suc, ◌+◌, ◌-◌, List, [], ◌∷◌, length, refl, sym, ap, ◌∙◌, add-one, arith}
 use Rattle.std.specs.Prelude.{Bool, true, false, ◌==◌, nat_lt, Option, Some, None, is_some, slice_get}
 use Rattle.aj_core.specs.Core.{Program, Class, Method}
+use Rattle.aj_core.specs.Dispatch.{target_of}
 use Rattle.aj_state.specs.declared.value.Address.{Address}
 use Rattle.aj_state.specs.declared.value.Value.{Value}
 use Rattle.aj_state.specs.Values.{top, under, dropped, as_truth, address_of, binary_value}
@@ -10,7 +11,7 @@ use Rattle.aj_threads.specs.Frames.{given, first_frame}
 use Rattle.aj_emit.specs.declared.stack.Instr.{Instr}
 use Rattle.aj_emit.specs.declared.stack.Instr.TheVariants as i
 use Rattle.aj_compile.specs.Rooms.{at_next, other_place, arguments_of_new, arguments_of_call, after_call}
-use Rattle.aj_steps.specs.Step.{Shared, value_at, unless_final, index_of, run_of, class_finals, most_frames}
+use Rattle.aj_steps.specs.Step.{Shared, value_at, unless_final, index_of, object_class, target_at, run_of, class_finals, most_frames}
 use Rattle.aj_deeds.specs.declared.deed.Deed.{Deed}
 use Rattle.aj_deeds.specs.declared.deed.Deed.TheVariants as deed
 use Rattle.aj_deeds.specs.CodeMachine as C
@@ -27,6 +28,10 @@ dropped_length zero ops = omega arith
 dropped_length (suc k) [] = omega (arith, dropped_length k [])
 dropped_length (suc k) (v ∷ ops) = omega (arith, dropped_length k ops)
 
+-- the method that runs for another leaves as many operands as that one
+abbrev pub SameLeft : Program → Type 0
+SameLeft P = (c m n k : ℕ) → target_of P c m ≡ Some n → after_call (slice_get P.methods n) k ≡ after_call (slice_get P.methods m) k
+
 module _ (P : Program) (entry room : List ℕ) (see : Shared) (t : ℕ) (slots ops : List Value) (locks : List Address) (depth next : ℕ) where
   -- the place is reached with so many operands by the instruction, from this frame
   abbrev pub Leads : Instr → (place k : ℕ) → Type 0
@@ -40,7 +45,7 @@ module _ (P : Program) (entry room : List ℕ) (see : Shared) (t : ℕ) (slots o
   Follows instr (deed.Writes a x index v place) = Leads instr place (length (under (under ops)))
   Follows instr (deed.Makes c n place) = Leads instr place (suc (length (dropped n ops))) × (instr_takes instr ≡ true)
   Follows instr (deed.Enters m n a place at most) =
-      Leads instr place (after_call (slice_get P.methods m) (length (under (dropped n ops)))) × (instr_takes instr ≡ true) × (slice_get entry m ≡ Some at) × (slice_get room m ≡ Some most)
+      (SameLeft P → Leads instr place (after_call (slice_get P.methods m) (length (under (dropped n ops))))) × (instr_takes instr ≡ true) × (slice_get entry m ≡ Some at) × (slice_get room m ≡ Some most)
   Follows instr (deed.Takes a again place) = Leads instr place (length (under ops)) × (instr_takes instr ≡ true)
   Follows instr (deed.Waits a holder) = Unit {0}
   Follows instr (deed.Gives a frees place) = Leads instr place (length ops)
@@ -99,31 +104,42 @@ module _ (P : Program) (entry room : List ℕ) (see : Shared) (t : ℕ) (slots o
   makes c (Some class) there =
       (inl (refl, ap (λ x. Some (length ops - arguments_of_new x + 1)) there ∙ ap Some (omega (arith, dropped_length (class_finals class) ops))), refl)
 
-  enters_at : (m : ℕ) (method : Method) (a : Address) (o p : Option ℕ) → slice_get P.methods m ≡ Some method → slice_get entry m ≡ o → slice_get room m ≡ p → Follows (i.Call m) (C.enters_at next m method a o p)
-  enters_at m method a None p there begins wants = tt
-  enters_at m method a (Some place) None there begins wants = tt
-  enters_at m method a (Some place) (Some most) there begins wants = (
-    inl (
+  module _ (m : ℕ) (method : Method) (called : slice_get P.methods m ≡ Some method) where
+    enters_at : (c n : ℕ) → target_of P c m ≡ Some n → (a : Address) (o p : Option ℕ) → slice_get entry n ≡ o → slice_get room n ≡ p → Follows (i.Call m) (C.enters_at (length method.params) next n a o p)
+    enters_at c n runs a None p begins wants = tt
+    enters_at c n runs a (Some place) None begins wants = tt
+    enters_at c n runs a (Some place) (Some most) begins wants = (
+      λ same. inl (
+        refl,
+        ap (λ k. Some (after_call (slice_get P.methods m) k))
+            (ap (λ x. length ops - arguments_of_call x - 1) called ∙ omega (arith, under_length (dropped (length method.params) ops), dropped_length (length method.params) ops))
+            ∙ ap Some (sym (same c m n (length (under (dropped (length method.params) ops))) runs)),
+      ),
       refl,
-      ap (λ k. Some (after_call (slice_get P.methods m) k))
-          (ap (λ x. length ops - arguments_of_call x - 1) there ∙ omega (arith, under_length (dropped (length method.params) ops), dropped_length (length method.params) ops)),
-    ),
-    refl,
-    begins,
-    wants,
-  )
+      begins,
+      wants,
+    )
 
-  enters : (m : ℕ) (method : Method) (a : Address) (b : Bool) → slice_get P.methods m ≡ Some method → Follows (i.Call m) (C.enters entry room next m method a b)
-  enters m method a false there = tt
-  enters m method a true there = enters_at m method a (slice_get entry m) (slice_get room m) there refl refl
+    enters : (c n : ℕ) → target_of P c m ≡ Some n → (a : Address) (b : Bool) → Follows (i.Call m) (C.enters entry room (length method.params) next n a b)
+    enters c n runs a false = tt
+    enters c n runs a true = enters_at c n runs a (slice_get entry n) (slice_get room n) refl refl
 
-  calls_on : (m : ℕ) (method : Method) (o : Option Address) → slice_get P.methods m ≡ Some method → Follows (i.Call m) (C.calls_on entry room depth next m method o)
-  calls_on m method None there = tt
-  calls_on m method (Some a) there = enters m method a (nat_lt depth most_frames) there
+    enters_some : (c n : ℕ) → target_of P c m ≡ Some n → (o : Option Method) (a : Address) → Follows (i.Call m) (C.enters_some entry room depth (length method.params) next n o a)
+    enters_some c n runs None a = tt
+    enters_some c n runs (Some running) a = enters c n runs a (nat_lt depth most_frames)
 
-  calls : (m : ℕ) (o : Option Method) → slice_get P.methods m ≡ o → Follows (i.Call m) (C.calls entry room depth next ops m o)
+    dispatches : (c o : Option ℕ) → target_at P m c ≡ o → (a : Address) → Follows (i.Call m) (C.dispatches P entry room depth (length method.params) next o a)
+    dispatches c None runs a = tt
+    dispatches None (Some n) runs a = absurd (let e : None ≡ Some n = runs in cc)
+    dispatches (Some c) (Some n) runs a = enters_some c n runs (slice_get P.methods n) a
+
+    calls_on : (o : Option Address) → Follows (i.Call m) (C.calls_on P see entry room depth (length method.params) next m o)
+    calls_on None = tt
+    calls_on (Some a) = dispatches (object_class (see.object_at a)) (target_at P m (object_class (see.object_at a))) refl a
+
+  calls : (m : ℕ) (o : Option Method) → slice_get P.methods m ≡ o → Follows (i.Call m) (C.calls P see entry room depth next ops m o)
   calls m None there = tt
-  calls m (Some method) there = calls_on m method (address_of (top (dropped (length method.params) ops))) there
+  calls m (Some method) there = calls_on m method there (address_of (top (dropped (length method.params) ops)))
 
   takes_held : (a : Address) (hold : Hold) (b : Bool) → Follows i.Acquire (C.takes_held next a hold b)
   takes_held a hold true = (inl (refl, one_less), refl)
@@ -159,7 +175,7 @@ module _ (P : Program) (entry room : List ℕ) (see : Shared) (t : ℕ) (slots o
 
   starts : (o : Option Address) → Follows i.Start (C.starts P see next o)
   starts None = tt
-  starts (Some a) = starts_run a (run_of P (see.object_at a))
+  starts (Some a) = starts_run a (run_of P (object_class (see.object_at a)))
 
   pub follows : (instr : Instr) → Follows instr (deed_of P entry room see t slots ops locks depth next instr)
   follows (i.Push v) = inl (refl, ap Some (add-one (length ops)))

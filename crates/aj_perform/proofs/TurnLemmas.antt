@@ -17,7 +17,7 @@ use Rattle.aj_threads.specs.Frames.{CellFrame, CodeFrame, code_frame, code_threa
 use Rattle.aj_emit.specs.declared.stack.Code.{Code}
 use Rattle.aj_emit.specs.declared.stack.Instr.{Instr}
 use Rattle.aj_emit.specs.declared.stack.Instr.TheVariants as i
-use Rattle.aj_steps.specs.Step.{Shared, OutcomeOf, Moves, Nothing, seen_by, value_at, unless_final, index_of, run_of, most_frames}
+use Rattle.aj_steps.specs.Step.{Shared, OutcomeOf, Moves, Nothing, seen_by, value_at, unless_final, index_of, object_class, target_at, run_of, most_frames}
 use Rattle.aj_deeds.specs.declared.deed.Deed.{Deed}
 use Rattle.aj_deeds.specs.declared.deed.Deed.TheVariants as deed
 use Rattle.aj_deeds.specs.declared.deed.Turn.{Turn}
@@ -117,22 +117,30 @@ module _ (P : Program) (see : Shared) (t : ℕ) where
     can_make next c None = tt
     can_make next c (Some class) = tt
 
-    can_enter : (entry room : List ℕ) (next m : ℕ) (method : Method) (a : Address) (b : Bool) (o p : Option ℕ) → slice_get P.methods m ≡ Some method → slice_get entry m ≡ o → slice_get room m ≡ p
-        → Can P see t slots (C.enters entry room next m method a b)
-    can_enter entry room next m method a false o p there eo ep = tt
-    can_enter entry room next m method a true None p there eo ep = subst (λ x. Can P see t slots (C.enters_at next m method a x (slice_get room m))) (sym eo) tt
-    can_enter entry room next m method a true (Some place) None there eo ep =
-        subst (λ x. Can P see t slots (C.enters_at next m method a x (slice_get room m))) (sym eo) (subst (λ x. Can P see t slots (C.enters_at next m method a (Some place) x)) (sym ep) tt)
-    can_enter entry room next m method a true (Some place) (Some most) there eo ep =
-        subst (λ x. Can P see t slots (C.enters_at next m method a x (slice_get room m))) (sym eo) (subst (λ x. Can P see t slots (C.enters_at next m method a (Some place) x)) (sym ep) (ap is_some there))
+    can_enter : (entry room : List ℕ) (arity next m : ℕ) (method : Method) (a : Address) (b : Bool) (o p : Option ℕ) → slice_get P.methods m ≡ Some method → slice_get entry m ≡ o → slice_get room m ≡ p
+        → Can P see t slots (C.enters entry room arity next m a b)
+    can_enter entry room arity next m method a false o p there eo ep = tt
+    can_enter entry room arity next m method a true None p there eo ep = subst (λ x. Can P see t slots (C.enters_at arity next m a x (slice_get room m))) (sym eo) tt
+    can_enter entry room arity next m method a true (Some place) None there eo ep =
+        subst (λ x. Can P see t slots (C.enters_at arity next m a x (slice_get room m))) (sym eo) (subst (λ x. Can P see t slots (C.enters_at arity next m a (Some place) x)) (sym ep) tt)
+    can_enter entry room arity next m method a true (Some place) (Some most) there eo ep =
+        subst (λ x. Can P see t slots (C.enters_at arity next m a x (slice_get room m))) (sym eo) (subst (λ x. Can P see t slots (C.enters_at arity next m a (Some place) x)) (sym ep) (ap is_some there))
 
-    can_call_on : (entry room : List ℕ) (depth next m : ℕ) (method : Method) (o : Option Address) → slice_get P.methods m ≡ Some method → Can P see t slots (C.calls_on entry room depth next m method o)
-    can_call_on entry room depth next m method None there = tt
-    can_call_on entry room depth next m method (Some a) there = can_enter entry room next m method a (nat_lt depth most_frames) (slice_get entry m) (slice_get room m) there refl refl
+    can_enter_some : (entry room : List ℕ) (depth arity next m : ℕ) (o : Option Method) (a : Address) → slice_get P.methods m ≡ o → Can P see t slots (C.enters_some entry room depth arity next m o a)
+    can_enter_some entry room depth arity next m None a there = tt
+    can_enter_some entry room depth arity next m (Some method) a there = can_enter entry room arity next m method a (nat_lt depth most_frames) (slice_get entry m) (slice_get room m) there refl refl
 
-    can_call : (entry room : List ℕ) (depth next : ℕ) (ops : List Value) (m : ℕ) (o : Option Method) → slice_get P.methods m ≡ o → Can P see t slots (C.calls entry room depth next ops m o)
-    can_call entry room depth next ops m None there = tt
-    can_call entry room depth next ops m (Some method) there = can_call_on entry room depth next m method (address_of (top (dropped (length method.params) ops))) there
+    can_dispatch : (entry room : List ℕ) (depth arity next : ℕ) (o : Option ℕ) (a : Address) → Can P see t slots (C.dispatches P entry room depth arity next o a)
+    can_dispatch entry room depth arity next None a = tt
+    can_dispatch entry room depth arity next (Some m) a = can_enter_some entry room depth arity next m (slice_get P.methods m) a refl
+
+    can_call_on : (entry room : List ℕ) (depth arity next m : ℕ) (o : Option Address) → Can P see t slots (C.calls_on P see entry room depth arity next m o)
+    can_call_on entry room depth arity next m None = tt
+    can_call_on entry room depth arity next m (Some a) = can_dispatch entry room depth arity next (target_at P m (object_class (see.object_at a))) a
+
+    can_call : (entry room : List ℕ) (depth next : ℕ) (ops : List Value) (m : ℕ) (o : Option Method) → Can P see t slots (C.calls P see entry room depth next ops m o)
+    can_call entry room depth next ops m None = tt
+    can_call entry room depth next ops m (Some method) = can_call_on entry room depth (length method.params) next m (address_of (top (dropped (length method.params) ops)))
 
     can_take_held : (next : ℕ) (a : Address) (hold : Hold) (b : Bool) → see.lock_at a ≡ Some hold → (hold.holder == t) ≡ b → Can P see t slots (C.takes_held next a hold b)
     can_take_held next a hold true there is = subst (IsOwned t) (sym there) (grind (arith, nat_tests))
@@ -168,7 +176,7 @@ module _ (P : Program) (see : Shared) (t : ℕ) where
 
     can_start : (next : ℕ) (o : Option Address) → Can P see t slots (C.starts P see next o)
     can_start next None = tt
-    can_start next (Some a) = can_run next a (run_of P (see.object_at a))
+    can_start next (Some a) = can_run next a (run_of P (object_class (see.object_at a)))
 
     -- wherever an instruction's deed is decided, what it needs is there
     can_of : (entry room : List ℕ) (ops : List Value) (locks : List Address) (depth next : ℕ) (instr : Instr) → Can P see t slots (deed_of P entry room see t slots ops locks depth next instr)
@@ -184,7 +192,7 @@ module _ (P : Program) (see : Shared) (t : ℕ) where
     can_of entry room ops locks depth next (i.Get x) = can_reads next x (address_of (top ops))
     can_of entry room ops locks depth next (i.Put x) = can_writes next x (top ops) (address_of (top (under ops)))
     can_of entry room ops locks depth next (i.New c) = can_make next c (slice_get P.classes c)
-    can_of entry room ops locks depth next (i.Call m) = can_call entry room depth next ops m (slice_get P.methods m) refl
+    can_of entry room ops locks depth next (i.Call m) = can_call entry room depth next ops m (slice_get P.methods m)
     can_of entry room ops locks depth next i.Acquire = can_acquire next (address_of (top ops))
     can_of entry room ops locks depth next i.Release = can_release next (first_frame locks)
     can_of entry room ops locks depth next (i.Ret result) = can_return (top ops) result

@@ -12,3 +12,4 @@ pub mod PathLists
 pub mod SearchLemmas
 pub mod LimitLemmas
 pub mod UniqueSets
+pub mod Required

@@ -15,7 +15,7 @@ use Rattle.aj_core.specs.Types.{NodeType, int_type, boolean_type, class_type, Va
 use Rattle.aj_core.specs.Typed.{IsRoot, IsLock, scope_after, declared_in, parameters_from, parameters, IsTyped, IsTypedStmt, AreTypedStmts, IsResult}
 use Rattle.aj_rules.specs.Guards.{guard_by, mutable_guard, field_guard, guard_path}
 use Rattle.aj_rules.specs.Mentions.{Mention, Accesses, Calls, Locks, Names, expr_mentions, exprs_mentions, mentions, block_mentions, paths_of}
-use Rattle.aj_rules.specs.Near.{Near, required, locked, guarded, called, named, MethodPaths, AreRelevant, rel_of}
+use Rattle.aj_rules.specs.Near.{Near, required, locked, guarded, called, overriding, named, MethodPaths, AreRelevant, rel_of}
 use Rattle.aj_rules.proofs.NearOnly.{rel_is}
 use Rattle.aj_core.specs.Core as core
 use Rattle.aj_safe.specs.Fits.{stores}
@@ -104,7 +104,7 @@ module _ (P : Program) (typed : IsTyped P) (class : ℕ) (params : List Variable
     path_good (VarE x true type.Int) T h = tt
     path_good (VarE x true type.Boolean) T h = tt
     path_good (VarE x false ty) T h = tt
-    path_good (GetE e f) T (field, is, receives, ty) = read_good params base (leads_on (slice_get P.fields f)) (extended_some (path_of P e) (f ∷ [])) (some_good params base (path_of P e) (f ∷ []) (path_good e (class_type field.class) receives))
+    path_good (GetE e f) T (field, is, (c, receives, kind), ty) = read_good params base (leads_on (slice_get P.fields f)) (extended_some (path_of P e) (f ∷ [])) (some_good params base (path_of P e) (f ∷ []) (path_good e (class_type c) receives))
     path_good (IntE n) T h = tt
     path_good (TruthE b) T h = tt
     path_good NullE T h = tt
@@ -133,10 +133,10 @@ module _ (P : Program) (typed : IsTyped P) (class : ℕ) (params : List Variable
       expr_good (BinaryE op a b) T (A, B, first, second, is) = good_append P params base (expr_mentions a) (expr_mentions b) (expr_good a A first) (expr_good b B second)
       expr_good (AndE a b) T h = good_append P params base (expr_mentions a) (expr_mentions b) (expr_good a boolean_type h.0) (expr_good b boolean_type h.1)
       expr_good (OrE a b) T h = good_append P params base (expr_mentions a) (expr_mentions b) (expr_good a boolean_type h.0) (expr_good b boolean_type h.1)
-      expr_good (GetE e f) T (field, is, receives, ty) = (path_good e (class_type field.class) receives, expr_good e (class_type field.class) receives)
-      expr_good (CallE e m args) T (method, is, receives, each, ty) = (
-        (path_good e (class_type method.class) receives, paths_good args (parameter_types method) each),
-        good_append P params base (expr_mentions e) (exprs_mentions args) (expr_good e (class_type method.class) receives) (exprs_good args (parameter_types method) each),
+      expr_good (GetE e f) T (field, is, (c, receives, kind), ty) = (path_good e (class_type c) receives, expr_good e (class_type c) receives)
+      expr_good (CallE e m args) T (method, is, (c, receives, kind), each, ty) = (
+        (path_good e (class_type c) receives, paths_good args (parameter_types method) each),
+        good_append P params base (expr_mentions e) (exprs_mentions args) (expr_good e (class_type c) receives) (exprs_good args (parameter_types method) each),
       )
       expr_good (NewE c args) T (made, is, each, ty) = exprs_good args (field_types P made.finals) each
 
@@ -184,9 +184,9 @@ module _ (P : Program) (typed : IsTyped P) (class : ℕ) (params : List Variable
       stmt_good (LocalS x true ty e) scope next (is, known, (T, has, fit)) i = (path_good scope next i e T has, expr_good scope next i e T has)
       stmt_good (LocalS x false ty e) scope next (is, known, (T, has, fit)) i = expr_good scope next i e T has
       stmt_good (SetVarS x e) scope next (ty, in_scope, (T, has, fit)) i = expr_good scope next i e T has
-      stmt_good (SetFieldS e f g) scope next (field, is, mutable, receives, (T, has, fit)) i = (
-        path_good scope next i e (class_type field.class) receives,
-        good_append P params base (expr_mentions e) (expr_mentions g) (expr_good scope next i e (class_type field.class) receives) (expr_good scope next i g T has),
+      stmt_good (SetFieldS e f g) scope next (field, is, mutable, (c, receives, kind), (T, has, fit)) i = (
+        path_good scope next i e (class_type c) receives,
+        good_append P params base (expr_mentions e) (expr_mentions g) (expr_good scope next i e (class_type c) receives) (expr_good scope next i g T has),
       )
       stmt_good (DoS e drops) scope next (T, has, call, is) i = expr_good scope next i e T has
       stmt_good (IfS c a b) scope next (has, first, second) i = good_append P params base (expr_mentions c) (mentions a ++ mentions b) (expr_good scope next i c boolean_type has)
@@ -297,6 +297,10 @@ module _ (P : Program) (typed : IsTyped P) where
   near_good m p (called e callee args q (method, is, has) near outer under) =
       let g = mention_good m method (Calls e callee args) is has in
       (method, is, extended_good method (passed (path_of P e) (paths_of P args) q.root) q.fields p under (passed_good (parameters method) (1 + length method.params) (path_of P e) (paths_of P args) q.root g.0 g.1))
+  near_good m p (overriding over o near outer (method, is, begins)) =
+      let g = near_good over p near in
+      let alike = typed.overriding over m g.0 method o g.1 is in
+      (method, is, subst (λ ps. Good (parameters_from 1 ps) (1 + length ps) p.root) alike.params g.2)
   near_good m p (named q e start near (method, is, has) path fits) =
       (method, is, extended_good method (Some start) q.fields p fits (known_good (parameters method) (1 + length method.params) (path_of P e) start path (mention_good m method (Names q.root e) is has)))
 

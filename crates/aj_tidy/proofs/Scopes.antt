@@ -7,6 +7,7 @@ use Rattle.aj_lemmas.proofs.Lists.{contains_cases}
 use Rattle.aj_core.specs.declared.types.CoreType.{CoreType}
 use Rattle.aj_core.specs.declared.types.CoreType.TheVariants as type
 use Rattle.aj_core.specs.Core.{Program, Expr, Stmt, Stmts, EmptyS, BlockS, LocalS, SetVarS, SetFieldS, DoS, IfS, WhileS, SyncS, ReturnS, PrintS, StartS, no_stmts, and_stmt}
+use Rattle.aj_core.specs.Dispatch.{is_kind_of}
 use Rattle.aj_core.specs.Locks.{is_class, leads_on}
 use Rattle.aj_core.specs.Types.{NodeType, ValueT, int_type, boolean_type, class_type, Variable, HasType, HasFit}
 use Rattle.aj_core.specs.Typed.{IsRoot, LeadsOn, gives_value, scope_after, declared_in, declared_in_each, IsTyped, IsTypedStmt, AreTypedStmts, IsResult}
@@ -163,7 +164,7 @@ module _ (P : Program) (typed : IsTyped P) (class : ℕ) (result : Option CoreTy
   )
 
   fit_valued : (scope : List Variable) (e : Expr) (t : CoreType) → HasFit P class scope e t → (valued P e ≡ true) × TidyE P e
-  fit_valued scope e t (T, has, fit) = (valued_is P typed class scope e T has (fits_gives T (ValueT t) fit).0, typed_tidy P typed class scope e T has)
+  fit_valued scope e t (T, has, fit) = (valued_is P typed class scope e T has (fits_gives (is_kind_of P) T (ValueT t) fit).0, typed_tidy P typed class scope e T has)
 
   is_valued : (scope : List Variable) (e : Expr) (T : NodeType) → HasType P class scope e T → gives_value T ≡ true → (valued P e ≡ true) × TidyE P e
   is_valued scope e T has gives = (valued_is P typed class scope e T has gives, typed_tidy P typed class scope e T has)
@@ -196,8 +197,8 @@ module _ (P : Program) (typed : IsTyped P) (class : ℕ) (result : Option CoreTy
     stmt_tidy (BlockS ss) scope next t s = block_tidy ss scope next t s
     stmt_tidy (LocalS x is_final ty e) scope next t s = fit_valued scope e ty t.2
     stmt_tidy (SetVarS x e) scope next (ty, has, fit) s = fit_valued scope e ty fit
-    stmt_tidy (SetFieldS e f g) scope next (field, is, mutable, receives, fit) s =
-        let r = is_valued scope e (class_type field.class) receives refl in
+    stmt_tidy (SetFieldS e f g) scope next (field, is, mutable, (c, receives, kind), fit) s =
+        let r = is_valued scope e (class_type c) receives refl in
         let v = fit_valued scope g field.ty fit in
         (r.0, r.1, v.0, v.1)
     stmt_tidy (DoS e drops) scope next (T, has, call, is) s = (is ∙ gives_is P typed class scope e T has, typed_tidy P typed class scope e T has)

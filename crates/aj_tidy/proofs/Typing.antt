@@ -11,6 +11,7 @@ use Rattle.aj_core.specs.declared.types.CoreType.{CoreType}
 use Rattle.aj_core.specs.declared.types.CoreType.TheVariants as type
 use Rattle.aj_core.specs.Core as core
 use Rattle.aj_core.specs.Core.{Program, Expr, Exprs, IntE, TruthE, NullE, ThisE, VarE, NotE, NegE, BinaryE, AndE, OrE, GetE, CallE, NewE, no_exprs, and_expr}
+use Rattle.aj_core.specs.Dispatch.{is_kind_of}
 use Rattle.aj_core.specs.Locks.{is_class, leads_on, path_of}
 use Rattle.aj_core.specs.Types.{NodeType, ValueT, NullT, VoidT, int_type, boolean_type, class_type, result_type, fits, of_ints, of_equals, binary_type, Variable, field_type, field_types, parameter_types, HasType, FitEach}
 use Rattle.aj_core.specs.Typed.{gives_value, is_final_at, IsTyped}
@@ -34,40 +35,40 @@ equal_true : (b : Bool) (T : NodeType) → of_equals b ≡ Some T → (b ≡ tru
 equal_true true T e = (refl, same_Some _ _ e)
 equal_true false T e = absurd (let k : None ≡ Some T = e in cc)
 
-pub fits_gives : (A B : NodeType) → fits A B ≡ true → (gives_value A ≡ true) × (gives_value B ≡ true)
-fits_gives (ValueT t) (ValueT u) e = (refl, refl)
-fits_gives (ValueT t) NullT e = absurd (let k : false ≡ true = e in cc)
-fits_gives (ValueT t) VoidT e = absurd (let k : false ≡ true = e in cc)
-fits_gives NullT (ValueT u) e = (refl, refl)
-fits_gives NullT NullT e = (refl, refl)
-fits_gives NullT VoidT e = absurd (let k : false ≡ true = e in cc)
-fits_gives VoidT (ValueT u) e = absurd (let k : false ≡ true = e in cc)
-fits_gives VoidT NullT e = absurd (let k : false ≡ true = e in cc)
-fits_gives VoidT VoidT e = absurd (let k : false ≡ true = e in cc)
+pub fits_gives : (kind : ℕ → ℕ → Bool) (A B : NodeType) → fits kind A B ≡ true → (gives_value A ≡ true) × (gives_value B ≡ true)
+fits_gives kind (ValueT t) (ValueT u) e = (refl, refl)
+fits_gives kind (ValueT t) NullT e = absurd (let k : false ≡ true = e in cc)
+fits_gives kind (ValueT t) VoidT e = absurd (let k : false ≡ true = e in cc)
+fits_gives kind NullT (ValueT u) e = (refl, refl)
+fits_gives kind NullT NullT e = (refl, refl)
+fits_gives kind NullT VoidT e = absurd (let k : false ≡ true = e in cc)
+fits_gives kind VoidT (ValueT u) e = absurd (let k : false ≡ true = e in cc)
+fits_gives kind VoidT NullT e = absurd (let k : false ≡ true = e in cc)
+fits_gives kind VoidT VoidT e = absurd (let k : false ≡ true = e in cc)
 
-either_gives : (A B : NodeType) (x y : Bool) → fits A B ≡ x → fits B A ≡ y → (x || y) ≡ true → (gives_value A ≡ true) × (gives_value B ≡ true)
-either_gives A B true y first second e = fits_gives A B first
-either_gives A B false true first second e = let r = fits_gives B A second in (r.1, r.0)
-either_gives A B false false first second e = absurd (let k : false ≡ true = e in cc)
+either_gives : (kind : ℕ → ℕ → Bool) (A B : NodeType) (x y : Bool) → fits kind A B ≡ x → fits kind B A ≡ y → (x || y) ≡ true → (gives_value A ≡ true) × (gives_value B ≡ true)
+either_gives kind A B true y first second e = fits_gives kind A B first
+either_gives kind A B false true first second e = let r = fits_gives kind B A second in (r.1, r.0)
+either_gives kind A B false false first second e = absurd (let k : false ≡ true = e in cc)
 
-equals_give : (A B T : NodeType) → of_equals (fits A B || fits B A) ≡ Some T → (gives_value A ≡ true) × (gives_value B ≡ true) × (boolean_type ≡ T)
-equals_give A B T e =
-    let t = equal_true (fits A B || fits B A) T e in
-    let g = either_gives A B (fits A B) (fits B A) refl refl t.0 in
+equals_give : (kind : ℕ → ℕ → Bool) (A B T : NodeType) → of_equals (fits kind A B || fits kind B A) ≡ Some T → (gives_value A ≡ true) × (gives_value B ≡ true) × (boolean_type ≡ T)
+equals_give kind A B T e =
+    let t = equal_true (fits kind A B || fits kind B A) T e in
+    let g = either_gives kind A B (fits kind A B) (fits kind B A) refl refl t.0 in
     (g.0, g.1, t.1)
 
-binary_gives : (op : CoreOp) (A B T : NodeType) → binary_type op A B ≡ Some T → (gives_value A ≡ true) × (gives_value B ≡ true) × (gives_value T ≡ true)
-binary_gives Add A B T e = let r = ints_give int_type A B T e in (r.0, r.1, ap gives_value (sym r.2))
-binary_gives Sub A B T e = let r = ints_give int_type A B T e in (r.0, r.1, ap gives_value (sym r.2))
-binary_gives Mul A B T e = let r = ints_give int_type A B T e in (r.0, r.1, ap gives_value (sym r.2))
-binary_gives Div A B T e = let r = ints_give int_type A B T e in (r.0, r.1, ap gives_value (sym r.2))
-binary_gives Rem A B T e = let r = ints_give int_type A B T e in (r.0, r.1, ap gives_value (sym r.2))
-binary_gives Lt A B T e = let r = ints_give boolean_type A B T e in (r.0, r.1, ap gives_value (sym r.2))
-binary_gives Le A B T e = let r = ints_give boolean_type A B T e in (r.0, r.1, ap gives_value (sym r.2))
-binary_gives Gt A B T e = let r = ints_give boolean_type A B T e in (r.0, r.1, ap gives_value (sym r.2))
-binary_gives Ge A B T e = let r = ints_give boolean_type A B T e in (r.0, r.1, ap gives_value (sym r.2))
-binary_gives Eq A B T e = let r = equals_give A B T e in (r.0, r.1, ap gives_value (sym r.2))
-binary_gives Ne A B T e = let r = equals_give A B T e in (r.0, r.1, ap gives_value (sym r.2))
+binary_gives : (kind : ℕ → ℕ → Bool) (op : CoreOp) (A B T : NodeType) → binary_type kind op A B ≡ Some T → (gives_value A ≡ true) × (gives_value B ≡ true) × (gives_value T ≡ true)
+binary_gives kind Add A B T e = let r = ints_give int_type A B T e in (r.0, r.1, ap gives_value (sym r.2))
+binary_gives kind Sub A B T e = let r = ints_give int_type A B T e in (r.0, r.1, ap gives_value (sym r.2))
+binary_gives kind Mul A B T e = let r = ints_give int_type A B T e in (r.0, r.1, ap gives_value (sym r.2))
+binary_gives kind Div A B T e = let r = ints_give int_type A B T e in (r.0, r.1, ap gives_value (sym r.2))
+binary_gives kind Rem A B T e = let r = ints_give int_type A B T e in (r.0, r.1, ap gives_value (sym r.2))
+binary_gives kind Lt A B T e = let r = ints_give boolean_type A B T e in (r.0, r.1, ap gives_value (sym r.2))
+binary_gives kind Le A B T e = let r = ints_give boolean_type A B T e in (r.0, r.1, ap gives_value (sym r.2))
+binary_gives kind Gt A B T e = let r = ints_give boolean_type A B T e in (r.0, r.1, ap gives_value (sym r.2))
+binary_gives kind Ge A B T e = let r = ints_give boolean_type A B T e in (r.0, r.1, ap gives_value (sym r.2))
+binary_gives kind Eq A B T e = let r = equals_give kind A B T e in (r.0, r.1, ap gives_value (sym r.2))
+binary_gives kind Ne A B T e = let r = equals_give kind A B T e in (r.0, r.1, ap gives_value (sym r.2))
 
 result_gives : (r : Option CoreType) → gives_value (result_type r) ≡ is_some r
 result_gives None = refl
@@ -120,7 +121,7 @@ module _ (P : Program) (typed : IsTyped P) (class : ℕ) (scope : List Variable)
   gives_is (VarE x is_final ty) T h = ap gives_value h.1
   gives_is (NotE e) T h = ap gives_value h.1
   gives_is (NegE e) T h = ap gives_value h.1
-  gives_is (BinaryE op a b) T (A, B, first, second, is) = (binary_gives op A B T is).2
+  gives_is (BinaryE op a b) T (A, B, first, second, is) = (binary_gives (is_kind_of P) op A B T is).2
   gives_is (AndE a b) T h = ap gives_value h.2
   gives_is (OrE a b) T h = ap gives_value h.2
   gives_is (GetE e f) T (field, is, receives, ty) = ap gives_value ty
@@ -184,14 +185,14 @@ module _ (P : Program) (typed : IsTyped P) (class : ℕ) (scope : List Variable)
     typed_tidy (NotE e) T h = (valued_is e boolean_type h.0 refl, typed_tidy e boolean_type h.0)
     typed_tidy (NegE e) T h = (valued_is e int_type h.0 refl, typed_tidy e int_type h.0)
     typed_tidy (BinaryE op a b) T (A, B, first, second, is) =
-        let g = binary_gives op A B T is in
+        let g = binary_gives (is_kind_of P) op A B T is in
         (valued_is a A first g.0, typed_tidy a A first, valued_is b B second g.1, typed_tidy b B second)
     typed_tidy (AndE a b) T h = (valued_is a boolean_type h.0 refl, typed_tidy a boolean_type h.0, valued_is b boolean_type h.1 refl, typed_tidy b boolean_type h.1, no_path b h.1)
     typed_tidy (OrE a b) T h = (valued_is a boolean_type h.0 refl, typed_tidy a boolean_type h.0, valued_is b boolean_type h.1 refl, typed_tidy b boolean_type h.1, no_path b h.1)
-    typed_tidy (GetE e f) T (field, is, receives, ty) = (valued_is e (class_type field.class) receives refl, typed_tidy e (class_type field.class) receives)
-    typed_tidy (CallE e m args) T (method, is, receives, each, result) = (
-      valued_is e (class_type method.class) receives refl,
-      typed_tidy e (class_type method.class) receives,
+    typed_tidy (GetE e f) T (field, is, (c, receives, kind), ty) = (valued_is e (class_type c) receives refl, typed_tidy e (class_type c) receives)
+    typed_tidy (CallE e m args) T (method, is, (c, receives, kind), each, result) = (
+      valued_is e (class_type c) receives refl,
+      typed_tidy e (class_type c) receives,
       each_tidy args (parameter_types method) each,
       ap arity_of is ∙ sym (length-map method.params (λ p. p.1)) ∙ fit_count args (parameter_types method) each,
     )
@@ -204,4 +205,4 @@ module _ (P : Program) (typed : IsTyped P) (class : ℕ) (scope : List Variable)
     each_tidy : (es : Exprs) (ts : List CoreType) → FitEach P class scope es ts → TidyEach P es
     each_tidy no_exprs ts h = tt
     each_tidy (and_expr e es) [] h = absurd h
-    each_tidy (and_expr e es) (t ∷ ts) ((T, has, fit), rest) = (valued_is e T has (fits_gives T (ValueT t) fit).0, typed_tidy e T has, each_tidy es ts rest)
+    each_tidy (and_expr e es) (t ∷ ts) ((T, has, fit), rest) = (valued_is e T has (fits_gives (is_kind_of P) T (ValueT t) fit).0, typed_tidy e T has, each_tidy es ts rest)

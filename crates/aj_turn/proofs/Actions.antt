@@ -26,7 +26,7 @@ use Rattle.aj_state.specs.Memory.{Object, Hold, field_value}
 use Rattle.aj_state.specs.Work as W
 use Rattle.aj_state.specs.Work.{Item, Ex, St}
 use Rattle.aj_state.specs.States.{Frame}
-use Rattle.aj_steps.specs.Step.{Change, Nothing, FieldIs, ObjectIs, Prints, Starts, Shared, run_of, run_of_class, unless_final, holds, value_at, access_kind, faults, goes_on, load, store, binary, and_then, or_else, choose, loop, get, get_value, put, put_value, new, new_address, start, start_run}
+use Rattle.aj_steps.specs.Step.{Change, Nothing, FieldIs, ObjectIs, Prints, Starts, Shared, object_class, run_of, run_of_class, unless_final, holds, value_at, access_kind, faults, goes_on, load, store, binary, and_then, or_else, choose, loop, get, get_value, put, put_value, new, new_address, start, start_run}
 use Rattle.aj_safe.specs.Phases.{Phase, Passes, phase_of, allowed, stepped, Falls}
 use Rattle.aj_safe.specs.Leads.{Env, env_of, with_slot, memory_of, Grows, next_value, lead, Paths, LeadsTo, MayLeadTo, top_path, under_path, dropped_paths}
 use Rattle.aj_safe.specs.Fits.{At, Agrees, Fresh, TidyE, valued, stores, has_release, count_release, awaited, finals_of, FitsAct, Fits}
@@ -332,15 +332,15 @@ module _ (P : Program) (rel : ℕ → List PathData) (A : Assignment) (see : Sha
         class_run c None m is e = absurd (let k : None ≡ Some m = e in cc)
         class_run c (Some class) m is e = accepted.run c class m is e
 
-        object_run : (o : Option Object) (m : ℕ) → run_of P o ≡ Some m → IsFree P m
+        object_run : (o : Option ℕ) (m : ℕ) → run_of P o ≡ Some m → IsFree P m
         object_run None m e = absurd (let k : None ≡ Some m = e in cc)
-        object_run (Some o) m e = class_run o.class (slice_get P.classes o.class) m refl e
+        object_run (Some c) m e = class_run c (slice_get P.classes c) m refl e
 
-        start_run_fine : (a : Address) → Passes now Atomic (λ next. List_fits rest slots next (under_path os)) → (o : Option ℕ) → run_of P (see.object_at a) ≡ o → Fine P rel A see t stands flag (start_run P see t f below rest a o)
+        start_run_fine : (a : Address) → Passes now Atomic (λ next. List_fits rest slots next (under_path os)) → (o : Option ℕ) → run_of P (object_class (see.object_at a)) ≡ o → Fine P rel A see t stands flag (start_run P see t f below rest a o)
         start_run_fine a r None is = fault_fine fault.Null
         start_run_fine a r (Some m) is = go_with Other (under f.operands) rest (under_path os) (Starts a m) (atomic_allows _ now r) once_under (atomic_stays _ now r) (λ b. refl)
-            (grows_itself P (memory_of P see.object_at)) (λ b. refl) (object_run (see.object_at a) m is)
+            (grows_itself P (memory_of P see.object_at)) (λ b. refl) (object_run (object_class (see.object_at a)) m is)
 
         pub start_fine : Passes now Atomic (λ next. List_fits rest slots next (under_path os)) → (o : Option Address) → Fine P rel A see t stands flag (start P see t f below rest o)
         start_fine r None = fault_fine fault.Null
-        start_fine r (Some a) = start_run_fine a r (run_of P (see.object_at a)) refl
+        start_fine r (Some a) = start_run_fine a r (run_of P (object_class (see.object_at a))) refl

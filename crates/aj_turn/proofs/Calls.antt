@@ -2,7 +2,7 @@
 use Rattle.std.proofs.Common.{◌≡◌, ℕ, zero, suc, ◌+◌, Bool, true, false, ◌||◌, ◌&&◌, List, [], ◌∷◌, ◌++◌, Some, None, refl, sym, ap, subst, ◌∙◌, arith}
 use Rattle.std.specs.Prelude.{Option, slice_get, unwrap_or, nat_lt, length, replicate, ◌-◌, if◌then◌else◌}
 use Rattle.std.specs.List.{list_all}
-use Rattle.std.proofs.lemmas.Bool.{and_parts}
+use Rattle.std.proofs.lemmas.Bool.{and_parts, and_from}
 use Rattle.aj_lemmas.proofs.Lists.{at_left}
 use Rattle.aj_paths.specs.Paths.{PathData, path_eq, extended, extended_some}
 use Rattle.aj_paths.specs.Renamings.{argument_at, passed, under_call}
@@ -11,8 +11,9 @@ use Rattle.aj_algebra.specs.declared.basic.Basic.{Basic}
 use Rattle.aj_algebra.specs.declared.basic.Basic.TheVariants.{Const, Mover, Atomic, Cmpd, Error}
 use Rattle.aj_algebra.specs.HeldPaths.{Held, has_path, holds_at}
 use Rattle.aj_core.specs.Core.{Program, Method}
+use Rattle.aj_core.specs.Dispatch.{target_of}
 use Rattle.aj_rules.specs.Effect.{Assignment, required_paths, held_under, call_of, effect}
-use Rattle.aj_rules.specs.Rules.{IsPart, AtMost, declared_bound}
+use Rattle.aj_rules.specs.Rules.{IsPart, AtMost, held_in, declared_bound}
 use Rattle.aj_rules.proofs.BasicLemmas.{below_chain}
 use Rattle.aj_state.specs.declared.value.Address.{Address}
 use Rattle.aj_state.specs.declared.value.Value.{Value}
@@ -23,7 +24,7 @@ use Rattle.aj_state.specs.Work as W
 use Rattle.aj_state.specs.Work.{Item}
 use Rattle.aj_state.specs.States.{Frame, new_frame, new_slots}
 use Rattle.aj_steps.specs.Run.{is_annotated}
-use Rattle.aj_steps.specs.Step.{Shared, most_frames, call, call_on, enter, enter_first}
+use Rattle.aj_steps.specs.Step.{Shared, most_frames, has_result, object_class, target_at, call, call_on, dispatch, enter_some, enter, enter_first}
 use Rattle.aj_safe.specs.Phases.{Phase, Free, Opened, Committed, Passes, phase_of, Falls}
 use Rattle.aj_safe.specs.Leads.{Env, env_of, Memory, memory_of, lead_from, lead, Sound, Paths, LeadsTo, top_path, under_path, taken_paths, dropped_paths}
 use Rattle.aj_safe.specs.Fits.{has_release, count_release, arity_of, awaited, FitsAct, Fits}
@@ -31,7 +32,7 @@ use Rattle.aj_safe.specs.Safe.{LeadEach, FramesFit, Owns, IsFree, frames_inside,
 use Rattle.aj_safe.proofs.PhaseLemmas.{passes_falls, no_error, both_allowed}
 use Rattle.aj_safe.proofs.LeadLemmas.{grows_itself, each_top, each_under, each_dropped, aligned_taken, aligned_at, leads_from}
 use Rattle.aj_safe.proofs.SetLemmas.{extended_is, holds_some}
-use Rattle.aj_turn.specs.Turn.{Accepted, Fine}
+use Rattle.aj_turn.specs.Turn.{RunsFor, Accepted, Fine}
 use Rattle.aj_turn.proofs.Actions.{fault_fine, list_falls, address_is}
 
 held_here : (H : Held) (p q : PathData) (b later : Bool) → path_eq p q ≡ b → H p ≡ true → (later ≡ true → H q ≡ true) → (b || later) ≡ true → H q ≡ true
@@ -169,47 +170,82 @@ module _ (P : Program) (rel : ℕ → List PathData) (A : Assignment) (accepted 
     no_count : (k : ℕ) → k ≡ 0 + k
     no_count k = omega arith
 
-    entered : IsPart (has_path method.requires_) set → Passes now (A m set) G → Fine P rel A see t stands flag (enter P see t f below rest m method a true)
-    entered required r = record {
-      kind = both_allowed now;
-      thread = (
-        subst (λ b. FramesFit P rel A (memory_of P see.object_at) (new_frame m method (value.Ref a) values ∷ caller ∷ below) [] (phase_of (b || stands) ((stands && flag) || false))) (ap is_annotated (sym is))
-            (record {
-              paths = [];
-              lead = tt;
-              fits = record {
-                set = set;
-                sound = entry_sound P (memory_of P see.object_at) (env_of f.slots) method (value.Ref a) receiver args values receiver_known
-                    (aligned_taken P (memory_of P see.object_at) (env_of f.slots) n os [] f.operands [] known tt) (rel m) H (λ b. has_release b rest || held_by below b) sound;
-                rest = (
-                  record { at = λ q has. accepted.rooted m method is q (set_part q has) },
-                  accepted.tidy m method is,
-                  Rattle.aj_safe.proofs.PhaseLemmas.passes_map (λ q. G (if stands then q else Free)) _ (phase_of (method.annotated || stands) ((stands && flag) || false)) (effect P rel A method.body set)
-                      (λ q g later agrees. caller_fits q g)
-                      (enters method.annotated stands flag (effect P rel A method.body set) (A m set) G G_falls (accepted.closed m method is set set_part required)
-                      (λ annotated. below_chain (effect P rel A method.body set) (A m set) Atomic (accepted.closed m method is set set_part required) (accepted.bound m method is annotated set set_part required)) r),
-                );
-              };
-            }),
-        λ b. own_rest b ∙ no_count (count_release b rest + count_frames b below),
-      );
-      grows = grows_itself P (memory_of P see.object_at);
-      others = λ u other b. refl;
-      started = tt;
-    }
+    module _ (c k : ℕ) (running : Method) (there : slice_get P.methods k ≡ Some running) (runs : target_of P c m ≡ Some k) where
+     facts : RunsFor P rel A m method k running
+     facts = accepted.runs c m k method running runs is there
 
-    by_required : (b : Bool) → list_all set (required_paths (slice_get P.methods m)) ≡ b → Passes now (if b then A m set else Error) G → (room : Bool) → Fine P rel A see t stands flag (enter P see t f below rest m method a room)
-    by_required b req r false = fault_fine P rel A see t f below rest flag own_frame fault.Depth
-    by_required true req r true = entered (all_held method.requires_ set (ap (λ o. list_all set (required_paths o)) (sym is) ∙ req)) r
-    by_required false req r true = absurd (no_error G now r)
+     -- what the method that runs knows of the set
+     abbrev inner : Held
+     inner = held_in (rel k) set
+
+     inner_part : IsPart inner (has_path (rel k))
+     inner_part q has = (and_parts (has_path (rel k) q) (set q) has).0
+
+     inner_sound : (slots : Env) (held : Address → Bool) → Sound P (memory_of P see.object_at) slots set held → Sound P (memory_of P see.object_at) slots inner held
+     inner_sound slots held sound = record { at = λ q has. sound.at q (and_parts (has_path (rel k) q) (set q) has).1 }
+
+     inner_required : IsPart (has_path method.requires_) set → IsPart (has_path running.requires_) inner
+     inner_required required q has = and_from (has_path (rel k) q) (set q) (accepted.known k running there q has) (required q (ap (λ ps. has_path ps q) (sym facts.locks) ∙ has))
+
+     awaited_same : awaited P k ≡ awaited P m
+     awaited_same = ap (λ o. if has_result o then None ∷ [] else []) there ∙ ap (λ b. if b then None ∷ [] else []) facts.result ∙ sym (ap (λ o. if has_result o then None ∷ [] else []) is)
+
+     entered : IsPart (has_path method.requires_) set → Passes now (A m set) G → Fine P rel A see t stands flag (enter P see t f below rest n k running a true)
+     entered required r =
+         let below_body = accepted.closed k running there inner inner_part (inner_required required) in
+         record {
+           kind = both_allowed now;
+           thread = (
+             subst (λ b. FramesFit P rel A (memory_of P see.object_at) (new_frame k running (value.Ref a) values ∷ caller ∷ below) [] (phase_of (b || stands) ((stands && flag) || false))) (ap is_annotated (sym there))
+                 (record {
+                   paths = [];
+                   lead = tt;
+                   fits = record {
+                     set = inner;
+                     sound = inner_sound (env_of (new_slots running (value.Ref a) values)) (λ b. has_release b rest || held_by below b)
+                         (entry_sound P (memory_of P see.object_at) (env_of f.slots) running (value.Ref a) receiver args values receiver_known
+                         (aligned_taken P (memory_of P see.object_at) (env_of f.slots) n os [] f.operands [] known tt) (rel m) H (λ b. has_release b rest || held_by below b) sound);
+                     rest = (
+                       record { at = λ q has. accepted.rooted k running there q (inner_part q has) },
+                       accepted.tidy k running there,
+                       Rattle.aj_safe.proofs.PhaseLemmas.passes_map (λ q. G (if stands then q else Free)) _ (phase_of (running.annotated || stands) ((stands && flag) || false)) (effect P rel A running.body inner)
+                           (λ q g later agrees. subst (λ w. FramesFit P rel A (memory_of P see.object_at) (caller ∷ below) w (outer_phase P (caller ∷ below) q)) (sym awaited_same) (caller_fits q g))
+                           (enters running.annotated stands flag (effect P rel A running.body inner) (A m set) G G_falls
+                           (below_chain (effect P rel A running.body inner) (A k inner) (A m set) below_body (facts.below set set_part required))
+                           (λ annotated. below_chain (effect P rel A running.body inner) (A k inner) Atomic below_body (accepted.bound k running there annotated inner inner_part (inner_required required))) r),
+                     );
+                   };
+                 }),
+             λ b. own_rest b ∙ no_count (count_release b rest + count_frames b below),
+           );
+           grows = grows_itself P (memory_of P see.object_at);
+           others = λ u other b. refl;
+           started = tt;
+         }
+
+     by_required : (b : Bool) → list_all set (required_paths (slice_get P.methods m)) ≡ b → Passes now (if b then A m set else Error) G → (room : Bool) → Fine P rel A see t stands flag (enter P see t f below rest n k running a room)
+     by_required b req r false = fault_fine P rel A see t f below rest flag own_frame fault.Depth
+     by_required true req r true = entered (all_held method.requires_ set (ap (λ o. list_all set (required_paths o)) (sym is) ∙ req)) r
+     by_required false req r true = absurd (no_error G now r)
+
+  module _ (m : ℕ) (method : Method) (is : slice_get P.methods m ≡ Some method) (at : FitsAct P rel A (memory_of P see.object_at) (held_by below) K (W.Call m) rest (List_fits rest) (env_of f.slots) now os)
+      (a : Address) (receives : address_of (top (dropped (length method.params) f.operands)) ≡ Some a) where
+    enter_fine_some : (c k : ℕ) → target_of P c m ≡ Some k → (o : Option Method) → slice_get P.methods k ≡ o → Fine P rel A see t stands flag (enter_some P see t f below rest (length method.params) k o a)
+    enter_fine_some c k runs None there = fault_fine P rel A see t f below rest flag own_frame fault.Null
+    enter_fine_some c k runs (Some running) there =
+        by_required m method is a receives at.set at.sound c k running there runs (list_all (held_under (rel m) (top_path (dropped_paths (length method.params) os)) (taken_paths (length method.params) [] os) at.set) (required_paths (slice_get P.methods m))) refl
+        (subst (λ k. Passes now (call_of P rel A m (top_path (dropped_paths k os)) (taken_paths k [] os) at.set) (λ q. List_fits rest (env_of f.slots) q (awaited P m ++ under_path (dropped_paths k os)))) (ap arity_of is) at.rest)
+        (nat_lt (length (f ∷ below)) most_frames)
+
+    dispatch_fine : (c : Option ℕ) → (o : Option ℕ) → target_at P m c ≡ o → Fine P rel A see t stands flag (dispatch P see t f below rest (length method.params) o a)
+    dispatch_fine c None runs = fault_fine P rel A see t f below rest flag own_frame fault.Null
+    dispatch_fine None (Some k) runs = absurd (let e : None ≡ Some k = runs in cc)
+    dispatch_fine (Some c) (Some k) runs = enter_fine_some c k runs (slice_get P.methods k) refl
 
   call_on_fine : (m : ℕ) (method : Method) → slice_get P.methods m ≡ Some method → FitsAct P rel A (memory_of P see.object_at) (held_by below) K (W.Call m) rest (List_fits rest) (env_of f.slots) now os
-      → (o : Option Address) → address_of (top (dropped (length method.params) f.operands)) ≡ o → Fine P rel A see t stands flag (call_on P see t f below rest m method o)
+      → (o : Option Address) → address_of (top (dropped (length method.params) f.operands)) ≡ o → Fine P rel A see t stands flag (call_on P see t f below rest (length method.params) m o)
   call_on_fine m method is at None receives = fault_fine P rel A see t f below rest flag own_frame fault.Null
-  call_on_fine m method is at (Some a) receives =
-      by_required m method is a receives at.set at.sound (list_all (held_under (rel m) (top_path (dropped_paths (length method.params) os)) (taken_paths (length method.params) [] os) at.set) (required_paths (slice_get P.methods m))) refl
-      (subst (λ k. Passes now (call_of P rel A m (top_path (dropped_paths k os)) (taken_paths k [] os) at.set) (λ q. List_fits rest (env_of f.slots) q (awaited P m ++ under_path (dropped_paths k os)))) (ap arity_of is) at.rest)
-      (nat_lt (length (f ∷ below)) most_frames)
+  call_on_fine m method is at (Some a) receives = dispatch_fine m method is at a receives (object_class (see.object_at a)) (target_at P m (object_class (see.object_at a))) refl
 
   pub call_fine : (m : ℕ) → FitsAct P rel A (memory_of P see.object_at) (held_by below) K (W.Call m) rest (List_fits rest) (env_of f.slots) now os → (o : Option Method) → slice_get P.methods m ≡ o
       → Fine P rel A see t stands flag (call P see t f below rest m o)

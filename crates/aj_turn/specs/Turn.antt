@@ -1,11 +1,12 @@
 -- What a thread's turn keeps, and what is asked of the program for it.
-use Rattle.std.specs.Prelude.{◌≡◌, ℕ, Bool, true, false, ◌&&◌, ◌||◌, ◌==◌, List, [], Some, slice_get}
+use Rattle.std.specs.Prelude.{◌≡◌, ℕ, Bool, true, false, ◌&&◌, ◌||◌, ◌==◌, List, [], Some, is_some, slice_get}
 use Rattle.aj_paths.specs.Paths.{PathData}
 use Rattle.aj_algebra.specs.declared.basic.Basic.TheVariants.{Atomic}
 use Rattle.aj_algebra.specs.HeldPaths.{Held, has_path}
 use Rattle.aj_core.specs.Core.{Program, Class, Method}
+use Rattle.aj_core.specs.Dispatch.{target_of}
 use Rattle.aj_rules.specs.Effect.{Assignment}
-use Rattle.aj_rules.specs.Rules.{IsPart, AtMost, IsClosed, declared_bound}
+use Rattle.aj_rules.specs.Rules.{IsPart, AtMost, AreBodiesBelow, held_in, declared_bound}
 use Rattle.aj_state.specs.declared.value.Address.{Address}
 use Rattle.aj_steps.specs.Step.{Change, Starts, Shared, Move, Outcome, Moves, Absent, IsDone, HadFaulted, Waits}
 use Rattle.aj_steps.specs.Changes.{objects_after, locks_after}
@@ -15,9 +16,18 @@ use Rattle.aj_safe.specs.Leads.{memory_of, Grows}
 use Rattle.aj_safe.specs.Fits.{TidyS, stores}
 use Rattle.aj_safe.specs.Safe.{held_count, IsFree, IsSafeThread}
 
+-- the method that runs for another leaves a result where that one does, requires the same locks, and is assigned no more at what it knows of the other's set
+pub record RunsFor (P : Program) (rel : ℕ → List PathData) (A : Assignment) (m : ℕ) (method : Method) (n : ℕ) (running : Method) : Type 0 where
+  pub result : is_some running.result ≡ is_some method.result
+  pub locks : running.requires_ ≡ method.requires_
+  pub below : (H : Held) → IsPart H (has_path (rel m)) → IsPart (has_path method.requires_) H → AtMost (A n (held_in (rel n) H)) (A m H)
+
 -- what the proof uses of an accepted program
 pub record Accepted (P : Program) (rel : ℕ → List PathData) (A : Assignment) : Type 0 where
-  pub closed : IsClosed P rel A
+  pub closed : AreBodiesBelow P rel A
+  pub runs : (c m n : ℕ) (method running : Method) → target_of P c m ≡ Some n → slice_get P.methods m ≡ Some method → slice_get P.methods n ≡ Some running → RunsFor P rel A m method n running
+  -- the required paths of a method are relevant
+  pub known : (m : ℕ) (method : Method) → slice_get P.methods m ≡ Some method → IsPart (has_path method.requires_) (has_path (rel m))
   -- an annotated method is at most atomic at each set that it may be called with
   pub bound : (m : ℕ) (method : Method) → slice_get P.methods m ≡ Some method → method.annotated ≡ true → (H : Held) →
       IsPart H (has_path (rel m)) → IsPart (has_path method.requires_) H → AtMost (A m H) Atomic
