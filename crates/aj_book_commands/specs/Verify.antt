@@ -1,7 +1,7 @@
 -- `verify FILE BOOK`: judges the source, without the rules of atomicity, and then the book, whoever wrote it.
 use Rattle.std.specs.Prelude.{◌≡◌, ◌≢◌, ℕ, List, [], ◌∷◌, ◌++◌, Some, None, codes}
-use Rattle.aj_book_report.specs.Books.{form_line, too_deep_line, wrong_line}
-use Rattle.aj_book_report.specs.declared.books.WrongKind.TheVariants as kinds
+use Rattle.aj_book_commands.specs.Books.{form_line, too_deep_line, wrong_line}
+use Rattle.aj_book_commands.specs.declared.books.WrongKind.TheVariants as kinds
 use Rattle.aj_core.specs.Core.{Program}
 use Rattle.aj_book_grammar.specs.Books.{Book}
 use Rattle.aj_book_grammar.specs.Faults.{first_fault}

@@ -1,7 +1,7 @@
 //! `verify FILE BOOK`.
 
 ghost use Rattle.std.specs.Prelude.{◌≡◌, ◌≢◌, ◌≤◌, List, length, IfOk, MatchResult, string_bytes};
-ghost use Rattle.aj_book_report.specs.Books.{book_fault_line};
+ghost use Rattle.aj_book_commands.specs.Books.{book_fault_line};
 ghost use Rattle.aj_core.specs.Views.{program_of};
 ghost use Rattle.aj_rules.specs.Rules.{IsAccepted};
 ghost use Rattle.aj_sources.specs.Refusals.{IsRight};
@@ -9,7 +9,7 @@ ghost use Rattle.aj_book_commands.specs.Refused.{IsLineFor, Refuses};
 ghost use Rattle.aj_book_commands.specs.Verify.{VerifyAnswer, verified_line, told_line};
 
 use aj_book_grammar::BookFault;
-use aj_book_report::{WrongKind, book_fault_text, wrong_text};
+use crate::books::{WrongKind, book_fault_text, wrong_text};
 use aj_deriv_check::{Checked, TextWrong, Wrong, accept_text};
 use aj_sources::{Ending, Refusal, Source, read_source};
 use std::alloc::{AllocError as NoMemory, Global};

@@ -10,11 +10,11 @@ use Rattle.aj_core.specs.Core.{Stmt, Stmts, EmptyS, BlockS, LocalS, SetVarS, Set
 use Rattle.aj_core.specs.Dispatch.{is_kind_of}
 use Rattle.aj_core.specs.Types.{NodeType, ValueT, NullT, VoidT, boolean_type, int_type, class_type, result_type, fits, of_ints, of_equals, binary_type, Variable, field_types, parameter_types, HasType, FitEach, HasFit}
 use Rattle.aj_core.specs.Typed.{IsTyped, IsTypedStmt, AreTypedStmts, IsResult, gives_value, is_final_at}
-use Rattle.aj_emit.specs.declared.stack.Instr.{Instr}
-use Rattle.aj_emit.specs.declared.stack.Instr.TheVariants as i
-use Rattle.aj_emit.specs.declared.stack.Code.{Code}
+use Rattle.aj_compile.specs.declared.stack.Instr.{Instr}
+use Rattle.aj_compile.specs.declared.stack.Instr.TheVariants as i
+use Rattle.aj_compile.specs.declared.stack.Code.{Code}
 use Rattle.aj_compile.specs.Rooms.{arguments_of_new, arguments_of_call, after_call, with_result_of, at_next, other_place, Reached, at_start, goes_on, turns, expr_room, exprs_room, stmt_room, stmts_room}
-use Rattle.aj_emit.specs.Emission.{line, weight, weights, expr_entry, exprs_entry, gets_entry, emitted, emitted_args, emitted_gets, stmt_weight, stmts_weight, stmt_entry, stmts_entry, emitted_stmt, emitted_stmts, emitted_method, method_entry}
+use Rattle.aj_compile.specs.Emission.{line, weight, weights, expr_entry, exprs_entry, gets_entry, emitted, emitted_args, emitted_gets, stmt_weight, stmts_weight, stmt_entry, stmts_entry, emitted_stmt, emitted_stmts, emitted_method, method_entry}
 use Rattle.aj_compile.proofs.Lengths.{HasAt, split, length_emitted, length_args, length_gets, length_stmt, length_stmts}
 
 -- how many operands stand after an expression of a type

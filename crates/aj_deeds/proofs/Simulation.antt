@@ -17,7 +17,7 @@ use Rattle.aj_state.specs.States.{Frame, ThreadOf, Thread, Running, Done, Faulte
 use Rattle.aj_threads.specs.Frames.{CodeFrame, rest_of, first_frame}
 use Rattle.aj_state.specs.Stored as S
 use Rattle.aj_state.specs.Stored.{taken_by}
-use Rattle.aj_emit.specs.declared.stack.Code.{Code}
+use Rattle.aj_compile.specs.declared.stack.Code.{Code}
 use Rattle.aj_compile.specs.Standing.{Agree, Stands}
 use Rattle.aj_compile.specs.IsCode.{IsCodeOf}
 use Rattle.aj_compile.proofs.Depth.{stands_once}

@@ -12,9 +12,9 @@ use Rattle.aj_state.specs.Memory.{Hold}
 use Rattle.aj_state.specs.States.{ThreadOf, Ready, Running, Done, Faulted, StateOf, new_slots, new_object, initial, main_address}
 use Rattle.aj_threads.specs.Frames.{CodeFrame, given, rest_of, first_frame}
 use Rattle.aj_state.specs.Stored.{taken_by, given_back}
-use Rattle.aj_emit.specs.declared.stack.Instr.{Instr}
-use Rattle.aj_emit.specs.declared.stack.Instr.TheVariants as i
-use Rattle.aj_emit.specs.declared.stack.Code.{Code}
+use Rattle.aj_compile.specs.declared.stack.Instr.{Instr}
+use Rattle.aj_compile.specs.declared.stack.Instr.TheVariants as i
+use Rattle.aj_compile.specs.declared.stack.Code.{Code}
 use Rattle.aj_steps.specs.Step.{Shared, Change, Nothing, FieldIs, ObjectIs, LockIs, Prints, Starts, OutcomeOf, Moves, Absent, IsDone, HadFaulted, Waits, value_at, access_kind, unless_final, index_of, object_class, target_at, run_of, class_finals, most_frames, seen_by, state_after}
 use Rattle.aj_deeds.specs.declared.deed.Deed.{Deed}
 use Rattle.aj_deeds.specs.declared.deed.Deed.TheVariants as deed

@@ -13,7 +13,7 @@ use crate::deed::Deed;
 use crate::operators::{address_of, as_int, as_truth, binary_value, operand, unary_value};
 use crate::seen::Seen;
 use aj_core::CoreProgram;
-use aj_emit::{Code, Instr};
+use aj_compile::{Code, Instr};
 use aj_paths::{ClassId, FieldId, MethodId};
 use aj_state::{Address, Fault, Value};
 use aj_threads::ThreadCell;

@@ -14,8 +14,7 @@ use crate::asked::Steps;
 use crate::walk::{End, walk_node};
 use crate::wrong::Wrong;
 use aj_algebra::{Algebra, Basic};
-use aj_book_grammar::Word;
-use aj_book_text::Nodes;
+use aj_book_grammar::{Nodes, Word};
 use aj_cond::{Tree, Trees};
 use aj_core::CoreMethod;
 use aj_deriv_rules::{

@@ -21,7 +21,7 @@ use Rattle.aj_class_rules.specs.Faults as class_fault
 use Rattle.aj_class_rules.specs.declared.fault.ClassFault.TheVariants.{Twice, NoRun, NoMain, TooMany}
 use Rattle.aj_classes.specs.Table.{TableData, ClassData, FieldData, MethodData, type_of, class_number, field_in, field_number, method_in, method_number, table_of}
 use Rattle.aj_type_rules.specs.Rulings.{gain}
-use Rattle.aj_statement_rules.specs.Locks.{lock_rule}
+use Rattle.aj_type_rules.specs.Locks.{lock_rule}
 use Rattle.aj_type_rules.specs.Rules.{field_named, numbered_field, method_named, numbered_method, parameter_types, final_types, fields_in}
 use Rattle.aj_elaborate.specs.Programs.{all_there, field_node, ascending, guard_path, method_scope, run_of}
 use Rattle.aj_elaborate.proofs.Complete.{front_empty, back_empty}

@@ -19,8 +19,8 @@ use Rattle.aj_class_rules.specs.Members.{is_empty, is_bare, is_entry}
 use Rattle.aj_classes.specs.Seen.{FieldData}
 use Rattle.aj_classes.specs.Table.{TableData, type_of, param_of, table_of}
 use Rattle.aj_type_rules.specs.Rulings.{gain, both}
-use Rattle.aj_statement_rules.specs.Locks.{lock_rule}
-use Rattle.aj_statement_rules.specs.Stmts.{block_core}
+use Rattle.aj_type_rules.specs.Locks.{lock_rule}
+use Rattle.aj_type_rules.specs.Stmts.{block_core}
 use Rattle.aj_elaborate.specs.Programs.{all_there, guard_path, field_node, method_scope, method_result, method_node, all_fields, all_methods, own_targets, all_classes, run_of, main_class, main_method, program_node, core_of}
 use Rattle.aj_elaborate.proofs.Inversions.{both_of, map_of}
 use Rattle.aj_elaborate.proofs.Parts.{Each, nothing_at, mapped_at, before_mapped, any_position, there_are}

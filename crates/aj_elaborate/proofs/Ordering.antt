@@ -12,8 +12,8 @@ use Rattle.aj_classes.specs.Table.{TableData}
 use Rattle.aj_elaborate.specs.Order.{AscendBy, Ascends, MethodsAscend}
 use Rattle.aj_elaborate.specs.Programs.{all_there, field_node, guard_path, fields_core, all_fields, method_scope, method_result, method_node, methods_core, all_methods, own_targets, all_classes, run_of}
 use Rattle.aj_type_rules.specs.Rulings.{both, gain}
-use Rattle.aj_statement_rules.specs.Locks.{lock_rule}
-use Rattle.aj_statement_rules.specs.Stmts.{block_core}
+use Rattle.aj_type_rules.specs.Locks.{lock_rule}
+use Rattle.aj_type_rules.specs.Stmts.{block_core}
 use Rattle.std.proofs.lemmas.Option.{same_Some}
 
 differs : (a b : ℕ) → a < b → (b == a) ≡ false

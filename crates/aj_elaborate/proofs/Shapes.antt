@@ -18,7 +18,7 @@ use Rattle.aj_classes.specs.Table.{TableData, FieldData, MethodData}
 use Rattle.aj_type_rules.specs.declared.fault.TypeFault.TheVariants.{UnknownName, NoRule}
 use Rattle.aj_type_rules.specs.Rulings.{both, demand}
 use Rattle.aj_type_rules.specs.Scopes.{Scope, variable}
-use Rattle.aj_statement_rules.specs.Completion.{is_true_literal}
+use Rattle.aj_type_rules.specs.Completion.{is_true_literal}
 use Rattle.aj_type_rules.specs.Rules.{TypedData, TypedList, typed, with_argument, is_int, is_boolean, same_class, number_rule, variable_typed, not_rule, neg_rule, operator_rule, logical_rule, binary_rule, field_rule, method_rule, get_rule, call_rule, class_rule, new_rule, fit_each, final_types, parameter_types}
 use Rattle.aj_type_rules.specs.Exprs.{elaborated, elaborated_each, variable_rule}
 use Rattle.aj_elaborate.proofs.Inversions.{same_ok, gain_of, given_of, both_of, demand_of, then_of, ok_or_of, map_of}

@@ -19,7 +19,7 @@ use Rattle.aj_type_rules.specs.declared.fault.TypeFault.TheVariants.{UnknownName
 use Rattle.aj_type_rules.specs.Rulings.{demand, then_rule}
 use Rattle.aj_type_rules.specs.Scopes.{Scope, variable, this_variable}
 use Rattle.aj_type_rules.specs.Rules.{class_in, field_named}
-use Rattle.aj_statement_rules.specs.Locks.{Reach, reach_of, through, lock_field, along, lock_end, root_rule, lock_rule}
+use Rattle.aj_type_rules.specs.Locks.{Reach, reach_of, through, lock_field, along, lock_end, root_rule, lock_rule}
 use Rattle.aj_elaborate.proofs.Inversions.{same_ok, demand_of, then_of, ok_or_of}
 use Rattle.aj_elaborate.proofs.TypedExprs.{IsFieldOf, Agrees, Seen, class_in_of}
 

@@ -23,8 +23,8 @@ use Rattle.aj_class_rules.specs.Faults.{twice_faults}
 use Rattle.aj_class_rules.specs.Faults as class_fault
 use Rattle.aj_classes.specs.Table.{TableData, type_of, class_number, method_number, table_of}
 use Rattle.aj_type_rules.specs.Rulings.{gain, both}
-use Rattle.aj_statement_rules.specs.Locks.{lock_rule}
-use Rattle.aj_statement_rules.specs.Stmts.{block_core}
+use Rattle.aj_type_rules.specs.Locks.{lock_rule}
+use Rattle.aj_type_rules.specs.Stmts.{block_core}
 use Rattle.aj_elaborate.specs.Programs.{all_there, ascending, guard_path, method_scope, method_result, method_node, run_of}
 use Rattle.aj_elaborate.proofs.Complete.{front_empty, back_empty}
 use Rattle.aj_elaborate.proofs.Inversions.{both_of, map_of}
@@ -46,8 +46,8 @@ use Rattle.aj_class_rules.specs.declared.fault.ClassFault.TheVariants.{UnknownCl
 use Rattle.aj_type_rules.specs.declared.fault.TypeFault.TheVariants.{MissingReturn}
 use Rattle.aj_type_rules.specs.Rulings.{loss}
 use Rattle.aj_type_rules.specs.Scopes.{Binding, Scope, variable, parameters_from}
-use Rattle.aj_statement_rules.specs.Completion.{completes_each}
-use Rattle.aj_statement_rules.specs.Stmts.{block_faults}
+use Rattle.aj_type_rules.specs.Completion.{completes_each}
+use Rattle.aj_type_rules.specs.Stmts.{block_faults}
 use Rattle.aj_elaborate.specs.Programs.{member_faults, method_faults, missing_return, faults_from, IsCoreOf}
 use Rattle.aj_elaborate.proofs.Inversions.{gain_of}
 use Rattle.aj_elaborate.proofs.TypedExprs.{Seen}

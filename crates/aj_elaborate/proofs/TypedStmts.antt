@@ -28,10 +28,10 @@ use Rattle.aj_type_rules.specs.declared.fault.TypeFault.TheVariants.{UnknownName
 use Rattle.aj_type_rules.specs.Rulings.{gain, given, both, demand, then_rule}
 use Rattle.aj_type_rules.specs.Scopes.{Binding, Scope, variable}
 use Rattle.aj_type_rules.specs.Rules.{TypedData, is_int, is_boolean, same_class, receiver_class, type_rule, field_rule, fit_rule}
-use Rattle.aj_statement_rules.specs.Locks.{lock_rule}
+use Rattle.aj_type_rules.specs.Locks.{lock_rule}
 use Rattle.aj_type_rules.specs.Exprs.{elaborated}
-use Rattle.aj_statement_rules.specs.Completion.{completes, completes_each, is_true_literal, locals_in, locals_in_each}
-use Rattle.aj_statement_rules.specs.Stmts.{local_rule, target_rule, set_rule, field_target, put_rule, do_rule, condition_rule, return_rule, value_rule, print_rule, says_runnable, is_runnable, start_rule, declared, if_node, scope_after, stmt_core, block_core}
+use Rattle.aj_type_rules.specs.Completion.{completes, completes_each, is_true_literal, locals_in, locals_in_each}
+use Rattle.aj_type_rules.specs.Stmts.{local_rule, target_rule, set_rule, field_target, put_rule, do_rule, condition_rule, return_rule, value_rule, print_rule, says_runnable, is_runnable, start_rule, declared, if_node, scope_after, stmt_core, block_core}
 use Rattle.aj_elaborate.proofs.Inversions.{same_ok, gain_of, given_of, none_of, both_of, demand_of, then_of, ok_or_of, map_of}
 use Rattle.aj_elaborate.proofs.TypedExprs.{Agrees, Seen, wider, is_int_of, is_boolean_of, receiver_of, field_of, expr_holds}
 use Rattle.aj_elaborate.proofs.TypedLocks.{lock_holds}

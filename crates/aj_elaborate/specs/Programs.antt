@@ -6,7 +6,7 @@ use Rattle.aj_paths.specs.Paths.{PathData, path_order}
 use Rattle.aj_core.specs.declared.types.CoreType.{CoreType}
 use Rattle.aj_core.specs.Core.{Program, Class, Field, Method, Stmts, BlockS}
 use Rattle.aj_core.specs.Typed.{fields_from, is_final_at}
-use Rattle.aj_faults.specs.First.{IsFirst}
+use Rattle.aj_class_rules.specs.First.{IsFirst}
 use Rattle.aj_syntax.specs.Trees.{LockTree, MethodTree, FieldTree, MemberTree, FieldM, CtorM, MethodM, ClassTree, ProgramTree}
 use Rattle.aj_classes.specs.Table.{TableData, type_of, class_number, method_number, table_of}
 use Rattle.aj_type_rules.specs.declared.fault.TypeFault.{TypeFault}
@@ -14,9 +14,9 @@ use Rattle.aj_type_rules.specs.declared.fault.TypeFault.TheVariants.{MissingRetu
 use Rattle.aj_type_rules.specs.Faults.{place_of}
 use Rattle.aj_type_rules.specs.Rulings.{gain, loss, both}
 use Rattle.aj_type_rules.specs.Scopes.{Scope, parameters_from}
-use Rattle.aj_statement_rules.specs.Locks.{lock_rule}
-use Rattle.aj_statement_rules.specs.Completion.{completes_each, locals_in_each}
-use Rattle.aj_statement_rules.specs.Stmts.{block_core, block_faults}
+use Rattle.aj_type_rules.specs.Locks.{lock_rule}
+use Rattle.aj_type_rules.specs.Completion.{completes_each, locals_in_each}
+use Rattle.aj_type_rules.specs.Stmts.{block_core, block_faults}
 
 -- all of a list, where none is missing
 abbrev pub all_there : {A : Type 0} → List (Option A) → Option (List A)

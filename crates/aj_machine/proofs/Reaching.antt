@@ -15,8 +15,8 @@ use Rattle.aj_state.specs.Work as W
 use Rattle.aj_state.specs.Work.{Action, Item}
 use Rattle.aj_state.specs.States.{Frame, Thread, ThreadOf, Ready, Running, Done, Faulted, StateOf, State}
 use Rattle.aj_threads.specs.Frames.{CellFrame, CodeFrame, code_frame, code_thread, frames_in, given, rest_of, HasSpare}
-use Rattle.aj_emit.specs.declared.stack.Code.{Code}
-use Rattle.aj_emit.specs.declared.stack.Instr.TheVariants as i
+use Rattle.aj_compile.specs.declared.stack.Code.{Code}
+use Rattle.aj_compile.specs.declared.stack.Instr.TheVariants as i
 use Rattle.aj_compile.specs.IsCode.{IsCodeOf}
 use Rattle.aj_compile.specs.Standing.{Relation, Agree, Stands}
 use Rattle.aj_compile.specs.Rooms.{Reached, at_start, goes_on, turns, after_call, with_result_of}
@@ -26,16 +26,16 @@ use Rattle.aj_deeds.specs.declared.deed.StepEnd.{StepEnd}
 use Rattle.aj_deeds.specs.declared.deed.Deed.{Deed}
 use Rattle.aj_deeds.specs.declared.deed.Deed.TheVariants as deed
 use Rattle.aj_deeds.specs.CodeMachine.{code_frame_at, entered, thread_after, returned_to, deed_at, done, enter_first, code_turn, code_outcome}
-use Rattle.aj_perform.specs.Deeds.{seen_of}
-use Rattle.aj_perform.specs.Lean.{takes_memory, next_takes, step_takes, instr_takes}
+use Rattle.aj_machine.specs.Deeds.{seen_of}
+use Rattle.aj_machine.specs.Lean.{takes_memory, next_takes, step_takes, instr_takes}
 use Rattle.aj_deeds.specs.Likeness.{with_work, IsLeft, FramesStand, no_frames, more_frames, ThreadStands, ready_stands, running_stands, done_stands, faulted_stands, ThreadsStand, no_threads, more_threads, StateStands}
-use Rattle.aj_perform.specs.MachineValue.{code_state}
+use Rattle.aj_machine.specs.MachineValue.{code_state}
 use Rattle.aj_machine.specs.Reaching.{HasReached, BelowReached, AreReached, AllReached, IsKept}
-use Rattle.aj_perform.specs.Rooms.{IsRoomy, AreRoomy, AllRoomy, FitsIn, TurnFits}
+use Rattle.aj_machine.specs.Rooms.{IsRoomy, AreRoomy, AllRoomy, FitsIn, TurnFits}
 use Rattle.aj_deeds.specs.Turns.{line_deed, deed_turn, next_turn}
-use Rattle.aj_perform.specs.Taken.{IsTaken}
-use Rattle.aj_perform.proofs.Following.{Leads, Follows, follows}
-use Rattle.aj_perform.proofs.RoomLemmas.{one_roomy}
+use Rattle.aj_machine.specs.Taken.{IsTaken}
+use Rattle.aj_machine.proofs.Following.{Leads, Follows, follows}
+use Rattle.aj_machine.proofs.RoomLemmas.{one_roomy}
 use Rattle.aj_deeds.proofs.Runs.{moved_stands, outcome_like}
 use Rattle.aj_deeds.proofs.Simulation.{same_place, OutcomeStands, both_move, both_absent, both_done, both_faulted, both_wait}
 

@@ -6,11 +6,11 @@ use Rattle.aj_core.specs.Core.{Program}
 use Rattle.aj_state.specs.Memory.{Heap, Locks}
 use Rattle.aj_state.specs.States.{ThreadOf, Ready, initial, main_address}
 use Rattle.aj_threads.specs.Frames.{CellFrame, code_thread}
-use Rattle.aj_emit.specs.declared.stack.Code.{Code}
+use Rattle.aj_compile.specs.declared.stack.Code.{Code}
 use Rattle.aj_deeds.specs.Likeness.{StateStands, ThreadsStand, no_threads, more_threads, ready_stands}
 use Rattle.aj_machine.specs.Reaching.{AllReached, IsKept}
-use Rattle.aj_perform.specs.Rooms.{AllRoomy}
-use Rattle.aj_perform.specs.Taken.{state_in}
+use Rattle.aj_machine.specs.Rooms.{AllRoomy}
+use Rattle.aj_machine.specs.Taken.{state_in}
 
 module _ (P : Program) (code : List Code) (heap : Heap) (locks : Locks) (threads : List (ThreadOf CellFrame)) (output : List ℤ)
     (heap_is : heap ≡ (initial P).heap) (locks_is : locks ≡ finite.empty) (threads_is : threads ≡ Ready main_address P.main ∷ []) (output_is : output ≡ []) where

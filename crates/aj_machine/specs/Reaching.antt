@@ -4,11 +4,11 @@ use Rattle.std.specs.Prelude.{◌≡◌, ℕ, List, [], ◌∷◌, length, map, 
 use Rattle.aj_core.specs.Core.{Program, Method}
 use Rattle.aj_state.specs.States.{ThreadOf, StateOf, State}
 use Rattle.aj_threads.specs.Frames.{CellFrame, CodeFrame, code_thread, frames_in}
-use Rattle.aj_emit.specs.declared.stack.Code.{Code}
+use Rattle.aj_compile.specs.declared.stack.Code.{Code}
 use Rattle.aj_compile.specs.Rooms.{Reached, after_call}
 use Rattle.aj_deeds.specs.Likeness.{StateStands}
-use Rattle.aj_perform.specs.MachineValue.{code_state}
-use Rattle.aj_perform.specs.Rooms.{AllRoomy}
+use Rattle.aj_machine.specs.MachineValue.{code_state}
+use Rattle.aj_machine.specs.Rooms.{AllRoomy}
 
 module _ (P : Program) (code : List Code) (entry room : List ℕ) where
   -- the frame's place is reached from the entry of its method with so many operands

@@ -9,15 +9,16 @@ ghost use Rattle.aj_compile.specs.IsCode.{IsCodeOf};
 ghost use Rattle.aj_steps.specs.Step.{outcome, kind_of};
 ghost use Rattle.aj_steps.specs.Run.{is_inside, open_thread};
 ghost use Rattle.aj_deeds.specs.declared.deed.StepEnd.TheVariants as ends;
-ghost use Rattle.aj_perform.specs.Lean.{step_takes};
+ghost use Rattle.aj_machine.specs.Lean.{step_takes};
 ghost use Rattle.aj_machine.specs.Standing.{program_run, StandsFor, IsTurn, IsKindTurn, IsSame, HasRun, HasStopped};
-ghost use Rattle.aj_perform.specs.Taken.{turn_of};
+ghost use Rattle.aj_machine.specs.Taken.{turn_of};
 
 use crate::inside::{first_inside, stands_inside};
 use aj_core::CoreProgram;
 use aj_deeds::{Seen, StepEnd, Turn, cell_kind, next_turn, turn_kind};
-use aj_emit::CodeTable;
-use aj_perform::{object_values, take_turn};
+use aj_compile::CodeTable;
+use crate::act::object_values;
+use crate::turn::take_turn;
 use aj_state::{Address, Heap, Locks, StepKind};
 use aj_threads::ThreadCell;
 use std::alloc::{AllocError as NoMemory, Global};
@@ -49,9 +50,9 @@ impl<'p> Model for Machine<'p> {
     ghost use Rattle.aj_core.specs.contracts.tree.CoreStmt as statement;
     ghost use Rattle.std.specs.Coded.{codes};
     ghost use Rattle.aj_compile.specs.IsCode.{IsCodeOf};
-    ghost use Rattle.aj_perform.specs.MachineValue.{MachineValue, state_code};
+    ghost use Rattle.aj_machine.specs.MachineValue.{MachineValue, state_code};
     ghost use Rattle.aj_machine.specs.Reaching.{IsKept};
-    ghost use Rattle.aj_perform.specs.Counts.{IsCounted};
+    ghost use Rattle.aj_machine.specs.Counts.{IsCounted};
 
     ghost Value = { MachineValue };
 

@@ -9,7 +9,7 @@ ghost use Rattle.aj_machine.specs.Standing.{program_run, StandsFor};
 ghost use Rattle.aj_swap.specs.Seen.{IsSeen};
 
 use aj_core::CoreProgram;
-use aj_emit::CodeTable;
+use aj_compile::CodeTable;
 use aj_machine::Machine;
 use aj_state::StepKind;
 use std::alloc::{AllocError as NoMemory, Global};

@@ -14,7 +14,7 @@ ghost use Rattle.aj_swap.specs.Exchanged.{exchanged, AreNeighbours, IsStartOf, A
 
 use crate::steps::{Steps, reached, steps_of};
 use aj_core::CoreProgram;
-use aj_emit::CodeTable;
+use aj_compile::CodeTable;
 use aj_state::StepKind;
 use std::alloc::{AllocError as NoMemory, Global};
 
