@@ -8,12 +8,12 @@ ghost use Rattle.aj_class_rules.specs.Members.{class_names, is_entry, is_main};
 ghost use Rattle.aj_class_rules.specs.Faults.{twice_faults, missing_run, class_faults, missing_main, faults_of};
 ghost use Rattle.aj_class_rules.specs.Noted.{noted};
 
-use crate::members::{field_at, note_excess, note_fields, note_members, note_methods, see};
-use crate::names::NameSet;
 use crate::constructors::{has_finals, note_constructors, note_missing_constructor};
 use crate::fault::ClassFault;
-use crate::limits::MOST_FIELDS;
 use crate::first::first_of;
+use crate::limits::MOST_FIELDS;
+use crate::members::{field_at, note_excess, note_fields, note_members, note_methods, see};
+use crate::names::NameSet;
 use aj_syntax::{Class, Member, Program};
 use std::alloc::{AllocError as NoMemory, Global};
 

@@ -8,10 +8,10 @@ ghost use Rattle.aj_class_rules.specs.Members.{field_names, method_names, param_
 ghost use Rattle.aj_class_rules.specs.Faults.{twice_faults, too_many_faults, type_faults, result_faults, params_faults, member_faults};
 ghost use Rattle.aj_class_rules.specs.Noted.{noted};
 
-use crate::names::NameSet;
 use crate::fault::ClassFault;
-use crate::limits::MOST_PARAMS;
 use crate::first::first_of;
+use crate::limits::MOST_PARAMS;
+use crate::names::NameSet;
 use aj_syntax::{Member, Name, Param, TypeName};
 use std::alloc::{AllocError as NoMemory, Global};
 

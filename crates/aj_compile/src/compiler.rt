@@ -5,10 +5,10 @@ ghost use Rattle.aj_compile.specs.IsCode.{IsCodeOf};
 ghost use Rattle.aj_compile.specs.Rooms.{stmt_room, method_rooms};
 ghost use Rattle.aj_compile.specs.Emission.{emitted_method, method_weight, method_entry, emitted_methods, method_entries};
 
-use crate::rooms::stmt_room;
-use aj_core::{CoreMethod, CoreProgram};
 use crate::emit::{emit_stmt, put};
+use crate::rooms::stmt_room;
 use crate::stack::{Code, CodeTable, Instr};
+use aj_core::{CoreMethod, CoreProgram};
 use std::alloc::{AllocError as NoMemory, Global};
 
 /// The code of a program, in which each method's entry stands for its body and a return. Want of memory also where a

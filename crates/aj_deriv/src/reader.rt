@@ -10,7 +10,10 @@ ghost use Rattle.aj_book_grammar.specs.declared.stop.BookFault.{BookFault};
 
 use crate::books::DerivBook;
 use crate::derivation::Derivation;
-use aj_book_grammar::{BookCursor, BookFault, MOST_HEIGHT, NUMBERS_END, Unbuilt, begins, count, end, expect, expect_byte, first_word, number, table_lines, trees};
+use aj_book_grammar::{
+    BookCursor, BookFault, MOST_HEIGHT, NUMBERS_END, Unbuilt, begins, count, end, expect,
+    expect_byte, first_word, number, table_lines, trees,
+};
 use aj_cond::Tree;
 use aj_paths::MethodId;
 use std::alloc::Global;

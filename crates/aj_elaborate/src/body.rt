@@ -13,8 +13,8 @@ use crate::exprs::boxed_expr;
 use aj_classes::ClassTable;
 use aj_core::{CoreExpr, CoreType};
 use aj_paths::ClassId;
-use aj_type_rules::{Bound, BoxedExpr, FirstFault, condition_rule};
 use aj_syntax::Expr;
+use aj_type_rules::{Bound, BoxedExpr, FirstFault, condition_rule};
 use std::alloc::{AllocError as NoMemory, Global};
 
 /// What is fixed for a body: where its nodes are made, the class table, and the method's class, its result and the slot of

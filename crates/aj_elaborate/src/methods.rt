@@ -24,8 +24,8 @@ use crate::stmts::block;
 use aj_classes::ClassTable;
 use aj_core::{CoreMethod, CoreType};
 use aj_paths::{ClassId, Path};
-use aj_type_rules::{Bound, FirstFault, lock_path, note_missing_return};
 use aj_syntax::{Lock, Member, Param, Stmt, TypeName};
+use aj_type_rules::{Bound, FirstFault, lock_path, note_missing_return};
 use std::alloc::{AllocError as NoMemory, Global};
 use std::collections::BTreeSet;
 

@@ -22,8 +22,12 @@ use crate::nodes::{
     StmtPart, block_of, boxed_part, if_alone, if_part, sync_part, total, while_part,
 };
 use aj_core::{CoreStmt, CoreType};
-use aj_type_rules::{Bound, FirstFault, MOST_LOCALS, TypeFault, do_rule, field_target, local_node, local_value, lock_path, note_declaration, print_rule, put_rule, return_rule, set_rule, start_rule, target_rule, type_rule, value_rule};
 use aj_syntax::{Expr, Lock, Name, Stmt, TypeName};
+use aj_type_rules::{
+    Bound, FirstFault, MOST_LOCALS, TypeFault, do_rule, field_target, local_node, local_value,
+    lock_path, note_declaration, print_rule, put_rule, return_rule, set_rule, start_rule,
+    target_rule, type_rule, value_rule,
+};
 use std::alloc::{AllocError as NoMemory, Global};
 
 /// A statement that declares nothing and can complete.

@@ -11,9 +11,9 @@ ghost use Rattle.aj_expressions.specs.Combine.{item_step, several};
 ghost use Rattle.aj_expressions.specs.Words.{field_name as field_name_at, lock as lock_at, type_name as type_name_at};
 ghost use Rattle.aj_expressions.specs.Statements.{assigned as assigned_at, call_end as call_end_at, condition as condition_at, expression as expression_at, expression_statement as expression_statement_at, finish as finish_at, finish_from as finish_from_at, local_rest as local_rest_at, local_statement as local_statement_at, name_statement as name_statement_at, new_statement as new_statement_at, plain_statement as plain_statement_at, print_statement as print_statement_at, return_statement as return_statement_at, start_rest as start_rest_at, target as target_at};
 
-use crate::starts::{begins_declaration, begins_second_name};
 use crate::expression::{LEVELS, Parsed, chain, dots, field_name, new_rest, primary};
 use crate::lexeme::Lexeme;
+use crate::starts::{begins_declaration, begins_second_name};
 use crate::stop::{Fault, Stop};
 use crate::tokens::{accept, begins, begins_name, name, take};
 use aj_syntax::{Expr, Lock, Name, Stmt, Terminal, TypeName};

@@ -13,12 +13,12 @@ ghost use Rattle.aj_machine.specs.Lean.{step_takes};
 ghost use Rattle.aj_machine.specs.Standing.{program_run, StandsFor, IsTurn, IsKindTurn, IsSame, HasRun, HasStopped};
 ghost use Rattle.aj_machine.specs.Taken.{turn_of};
 
+use crate::act::object_values;
 use crate::inside::{first_inside, stands_inside};
+use crate::turn::take_turn;
+use aj_compile::CodeTable;
 use aj_core::CoreProgram;
 use aj_deeds::{Seen, StepEnd, Turn, cell_kind, next_turn, turn_kind};
-use aj_compile::CodeTable;
-use crate::act::object_values;
-use crate::turn::take_turn;
 use aj_state::{Address, Heap, Locks, StepKind};
 use aj_threads::ThreadCell;
 use std::alloc::{AllocError as NoMemory, Global};

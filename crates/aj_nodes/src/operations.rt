@@ -8,10 +8,10 @@ ghost use Rattle.aj_nodes.specs.Nodes.{tree_at, Grows, Stands};
 ghost use Rattle.aj_nodes.specs.Calls.{single_of, pair_of, AreRenamed};
 
 use crate::calls::{Call, Pair, Single, call_one, call_two, renamed_by};
-use crate::table::NodeTable;
-use aj_algebra::Basic;
 use crate::halves::Split;
 use crate::rows::Item;
+use crate::table::NodeTable;
+use aj_algebra::Basic;
 use aj_paths::{Path, order};
 use indexmap::IndexMap;
 use std::alloc::{AllocError as NoMemory, Global};

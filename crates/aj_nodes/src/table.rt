@@ -10,10 +10,10 @@ ghost use Rattle.aj_nodes.specs.declared.calls.Call.TheVariants.{Both};
 ghost use Rattle.aj_nodes.specs.Calls.{call_tree, IsResult, IsRenamed, AreRenamed, IsCombined};
 
 use crate::calls::{Call, Pair, Renamed, hint_of, hint_of_both};
-use aj_algebra::Basic;
-use aj_cond::Tree;
 use crate::halves::Split;
 use crate::rows::{HINTS, Item, Rows};
+use aj_algebra::Basic;
+use aj_cond::Tree;
 use aj_paths::Path;
 use indexmap::IndexMap;
 use std::alloc::{AllocError as NoMemory, Global};

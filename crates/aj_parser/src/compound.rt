@@ -10,7 +10,10 @@ ghost use Rattle.aj_expressions.specs.Combine.{item_step, several};
 ghost use Rattle.aj_expressions.specs.Statements.{goes_on as may_go_on};
 ghost use Rattle.aj_parser.specs.Blocks.{block_at, braces, else_part as else_part_at, if_statement as if_statement_at, statement_at, statement_with, sync_statement as sync_statement_at, while_statement as while_statement_at};
 
-use aj_expressions::{Fault, Lexeme, Stop, accept, begins, begins_statement, condition, goes_on, lock, plain_statement, take};
+use aj_expressions::{
+    Fault, Lexeme, Stop, accept, begins, begins_statement, condition, goes_on, lock,
+    plain_statement, take,
+};
 use aj_syntax::{Expr, Lock, Stmt, Terminal};
 use std::alloc::Global;
 

@@ -11,7 +11,10 @@ ghost use Rattle.aj_expressions.specs.Statements.{goes_on as may_go_on};
 ghost use Rattle.aj_parser.specs.Members.{bare_member as bare_member_at, class_at, ctor_rest as ctor_rest_at, field_rest as field_rest_at, final_field as final_field_at, guard as guard_at, member as member_at, method_rest as method_rest_at, named_member as named_member_at, param as param_at, param_list as param_list_at, params as params_at, plain_method as plain_method_at, program as program_at, required as required_at, result_type as result_type_at, runnable as runnable_at, set as set_at, typed_rest as typed_rest_at};
 
 use crate::compound::{Braces, block};
-use aj_expressions::{Lexeme, Stop, accept, begins, begins_name, field_name, flag, goes_on, lock, name, take, type_name};
+use aj_expressions::{
+    Lexeme, Stop, accept, begins, begins_name, field_name, flag, goes_on, lock, name, take,
+    type_name,
+};
 use aj_syntax::{Class, Lock, MOST_HEIGHT, Member, Name, Param, Terminal, TypeName};
 use std::alloc::Global;
 

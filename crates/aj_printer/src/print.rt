@@ -14,8 +14,8 @@ ghost use Rattle.aj_syntax.specs.Tokens.{guard_word as word_of};
 ghost use Rattle.aj_syntax.specs.declared.terminal.Terminal.TheVariants as terminals;
 ghost use Rattle.aj_syntax.specs.Views.{class_of, expr_of, exprs_from, lock_of, member_of, program_of, stmt_of, stmts_from};
 
-use aj_lexer::GREATEST_LITERAL;
 use crate::page::Printer;
+use aj_lexer::GREATEST_LITERAL;
 use aj_syntax::{Class, Expr, Lock, Member, Name, Op, Param, Program, Stmt, Terminal, TypeName};
 use std::alloc::{AllocError as NoMemory, Global};
 

@@ -171,62 +171,62 @@ module _ (P : Program) (rel : ℕ → List PathData) (A : Assignment) (accepted 
     no_count k = omega arith
 
     module _ (c k : ℕ) (running : Method) (there : slice_get P.methods k ≡ Some running) (runs : target_of P c m ≡ Some k) where
-     facts : RunsFor P rel A m method k running
-     facts = accepted.runs c m k method running runs is there
+      facts : RunsFor P rel A m method k running
+      facts = accepted.runs c m k method running runs is there
 
-     -- what the method that runs knows of the set
-     abbrev inner : Held
-     inner = held_in (rel k) set
+      -- what the method that runs knows of the set
+      abbrev inner : Held
+      inner = held_in (rel k) set
 
-     inner_part : IsPart inner (has_path (rel k))
-     inner_part q has = (and_parts (has_path (rel k) q) (set q) has).0
+      inner_part : IsPart inner (has_path (rel k))
+      inner_part q has = (and_parts (has_path (rel k) q) (set q) has).0
 
-     inner_sound : (slots : Env) (held : Address → Bool) → Sound P (memory_of P see.object_at) slots set held → Sound P (memory_of P see.object_at) slots inner held
-     inner_sound slots held sound = record { at = λ q has. sound.at q (and_parts (has_path (rel k) q) (set q) has).1 }
+      inner_sound : (slots : Env) (held : Address → Bool) → Sound P (memory_of P see.object_at) slots set held → Sound P (memory_of P see.object_at) slots inner held
+      inner_sound slots held sound = record { at = λ q has. sound.at q (and_parts (has_path (rel k) q) (set q) has).1 }
 
-     inner_required : IsPart (has_path method.requires_) set → IsPart (has_path running.requires_) inner
-     inner_required required q has = and_from (has_path (rel k) q) (set q) (accepted.known k running there q has) (required q (ap (λ ps. has_path ps q) (sym facts.locks) ∙ has))
+      inner_required : IsPart (has_path method.requires_) set → IsPart (has_path running.requires_) inner
+      inner_required required q has = and_from (has_path (rel k) q) (set q) (accepted.known k running there q has) (required q (ap (λ ps. has_path ps q) (sym facts.locks) ∙ has))
 
-     awaited_same : awaited P k ≡ awaited P m
-     awaited_same = ap (λ o. if has_result o then None ∷ [] else []) there ∙ ap (λ b. if b then None ∷ [] else []) facts.result ∙ sym (ap (λ o. if has_result o then None ∷ [] else []) is)
+      awaited_same : awaited P k ≡ awaited P m
+      awaited_same = ap (λ o. if has_result o then None ∷ [] else []) there ∙ ap (λ b. if b then None ∷ [] else []) facts.result ∙ sym (ap (λ o. if has_result o then None ∷ [] else []) is)
 
-     entered : IsPart (has_path method.requires_) set → Passes now (A m set) G → Fine P rel A see t stands flag (enter P see t f below rest n k running a true)
-     entered required r =
-         let below_body = accepted.closed k running there inner inner_part (inner_required required) in
-         record {
-           kind = both_allowed now;
-           thread = (
-             subst (λ b. FramesFit P rel A (memory_of P see.object_at) (new_frame k running (value.Ref a) values ∷ caller ∷ below) [] (phase_of (b || stands) ((stands && flag) || false))) (ap is_annotated (sym there))
-                 (record {
-                   paths = [];
-                   lead = tt;
-                   fits = record {
-                     set = inner;
-                     sound = inner_sound (env_of (new_slots running (value.Ref a) values)) (λ b. has_release b rest || held_by below b)
-                         (entry_sound P (memory_of P see.object_at) (env_of f.slots) running (value.Ref a) receiver args values receiver_known
-                         (aligned_taken P (memory_of P see.object_at) (env_of f.slots) n os [] f.operands [] known tt) (rel m) H (λ b. has_release b rest || held_by below b) sound);
-                     rest = (
-                       record { at = λ q has. accepted.rooted k running there q (inner_part q has) },
-                       accepted.tidy k running there,
-                       Rattle.aj_safe.proofs.PhaseLemmas.passes_map (λ q. G (if stands then q else Free)) _ (phase_of (running.annotated || stands) ((stands && flag) || false)) (effect P rel A running.body inner)
-                           (λ q g later agrees. subst (λ w. FramesFit P rel A (memory_of P see.object_at) (caller ∷ below) w (outer_phase P (caller ∷ below) q)) (sym awaited_same) (caller_fits q g))
-                           (enters running.annotated stands flag (effect P rel A running.body inner) (A m set) G G_falls
-                           (below_chain (effect P rel A running.body inner) (A k inner) (A m set) below_body (facts.below set set_part required))
-                           (λ annotated. below_chain (effect P rel A running.body inner) (A k inner) Atomic below_body (accepted.bound k running there annotated inner inner_part (inner_required required))) r),
-                     );
-                   };
-                 }),
-             λ b. own_rest b ∙ no_count (count_release b rest + count_frames b below),
-           );
-           grows = grows_itself P (memory_of P see.object_at);
-           others = λ u other b. refl;
-           started = tt;
-         }
+      entered : IsPart (has_path method.requires_) set → Passes now (A m set) G → Fine P rel A see t stands flag (enter P see t f below rest n k running a true)
+      entered required r =
+          let below_body = accepted.closed k running there inner inner_part (inner_required required) in
+          record {
+            kind = both_allowed now;
+            thread = (
+              subst (λ b. FramesFit P rel A (memory_of P see.object_at) (new_frame k running (value.Ref a) values ∷ caller ∷ below) [] (phase_of (b || stands) ((stands && flag) || false))) (ap is_annotated (sym there))
+                  (record {
+                    paths = [];
+                    lead = tt;
+                    fits = record {
+                      set = inner;
+                      sound = inner_sound (env_of (new_slots running (value.Ref a) values)) (λ b. has_release b rest || held_by below b)
+                          (entry_sound P (memory_of P see.object_at) (env_of f.slots) running (value.Ref a) receiver args values receiver_known
+                          (aligned_taken P (memory_of P see.object_at) (env_of f.slots) n os [] f.operands [] known tt) (rel m) H (λ b. has_release b rest || held_by below b) sound);
+                      rest = (
+                        record { at = λ q has. accepted.rooted k running there q (inner_part q has) },
+                        accepted.tidy k running there,
+                        Rattle.aj_safe.proofs.PhaseLemmas.passes_map (λ q. G (if stands then q else Free)) _ (phase_of (running.annotated || stands) ((stands && flag) || false)) (effect P rel A running.body inner)
+                            (λ q g later agrees. subst (λ w. FramesFit P rel A (memory_of P see.object_at) (caller ∷ below) w (outer_phase P (caller ∷ below) q)) (sym awaited_same) (caller_fits q g))
+                            (enters running.annotated stands flag (effect P rel A running.body inner) (A m set) G G_falls
+                            (below_chain (effect P rel A running.body inner) (A k inner) (A m set) below_body (facts.below set set_part required))
+                            (λ annotated. below_chain (effect P rel A running.body inner) (A k inner) Atomic below_body (accepted.bound k running there annotated inner inner_part (inner_required required))) r),
+                      );
+                    };
+                  }),
+              λ b. own_rest b ∙ no_count (count_release b rest + count_frames b below),
+            );
+            grows = grows_itself P (memory_of P see.object_at);
+            others = λ u other b. refl;
+            started = tt;
+          }
 
-     by_required : (b : Bool) → list_all set (required_paths (slice_get P.methods m)) ≡ b → Passes now (if b then A m set else Error) G → (room : Bool) → Fine P rel A see t stands flag (enter P see t f below rest n k running a room)
-     by_required b req r false = fault_fine P rel A see t f below rest flag own_frame fault.Depth
-     by_required true req r true = entered (all_held method.requires_ set (ap (λ o. list_all set (required_paths o)) (sym is) ∙ req)) r
-     by_required false req r true = absurd (no_error G now r)
+      by_required : (b : Bool) → list_all set (required_paths (slice_get P.methods m)) ≡ b → Passes now (if b then A m set else Error) G → (room : Bool) → Fine P rel A see t stands flag (enter P see t f below rest n k running a room)
+      by_required b req r false = fault_fine P rel A see t f below rest flag own_frame fault.Depth
+      by_required true req r true = entered (all_held method.requires_ set (ap (λ o. list_all set (required_paths o)) (sym is) ∙ req)) r
+      by_required false req r true = absurd (no_error G now r)
 
   module _ (m : ℕ) (method : Method) (is : slice_get P.methods m ≡ Some method) (at : FitsAct P rel A (memory_of P see.object_at) (held_by below) K (W.Call m) rest (List_fits rest) (env_of f.slots) now os)
       (a : Address) (receives : address_of (top (dropped (length method.params) f.operands)) ≡ Some a) where

@@ -11,15 +11,15 @@ ghost use Rattle.aj_type_rules.specs.Names.{variable_of};
 ghost use Rattle.aj_type_rules.specs.Views.{field_found};
 ghost use Rattle.aj_type_rules.specs.StmtViews.{reach_data};
 
-use aj_classes::{ClassTable, FieldEntry};
-use aj_core::CoreType;
-use aj_paths::{ClassId, FieldId, Path, extend};
-use aj_syntax::{Lock, Name};
 use crate::fault::TypeFault;
 use crate::first::FirstFault;
 use crate::lookup::field_named;
 use crate::scope::{Bound, Slot, find};
 use crate::types::class_in;
+use aj_classes::{ClassTable, FieldEntry};
+use aj_core::CoreType;
+use aj_paths::{ClassId, FieldId, Path, extend};
+use aj_syntax::{Lock, Name};
 
 /// How far a lock expression leads: its path, none past two fields; whether its root and its fields are final; its type.
 #[derive(Drop)]

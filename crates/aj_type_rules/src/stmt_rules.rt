@@ -12,15 +12,15 @@ ghost use Rattle.aj_type_rules.specs.Rules.{type_rule, fit_rule};
 ghost use Rattle.aj_type_rules.specs.Stmts.{local_rule, target_rule, set_rule, field_target, put_rule, do_rule, condition_rule, return_rule, value_rule, print_rule, is_runnable, start_rule, too_many, redeclared, return_faults};
 ghost use Rattle.aj_type_rules.specs.Views.{boxed_data, boxed_expr, type_data, target_data};
 
-use aj_classes::{ClassTable, FieldEntry};
-use aj_core::{CoreExpr, CoreStmt, CoreType};
-use aj_paths::{ClassId, FieldId};
-use aj_syntax::{Name, TypeName};
 use crate::fault::TypeFault;
 use crate::first::FirstFault;
 use crate::rules::field_rule;
 use crate::scope::{Bound, Slot, find};
 use crate::types::{BoxedExpr, ExprType};
+use aj_classes::{ClassTable, FieldEntry};
+use aj_core::{CoreExpr, CoreStmt, CoreType};
+use aj_paths::{ClassId, FieldId};
+use aj_syntax::{Name, TypeName};
 
 /// How many locals a method may declare.
 pub const MOST_LOCALS: usize = 64;
