@@ -44,7 +44,7 @@ static NUMBERED: [(&str, &str, &str, u32, &str, u8, &str); 4] = [
         64,
         "} }",
         0,
-        "Main.main const\n",
+        "Main.main mover\n",
     ),
 ];
 
