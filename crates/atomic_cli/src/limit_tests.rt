@@ -194,20 +194,13 @@ fn filled(alloc: Global, text: &str, len: usize) -> Result<Vec<u8>, Fail> {
 
 /// Commands with a source and the front of a second file of 16,777,216 bytes, and what they answer to it. One more byte is too
 /// large for each.
-static LARGEST: [(&str, &str, &str, u8, &str); 3] = [
+static LARGEST: [(&str, &str, &str, u8, &str); 2] = [
     (
         "run",
         ENDLESS,
         "0",
         0,
         "object 0:0 Main\nthread 0 running Main.main 1\n",
-    ),
-    (
-        "serialise",
-        ENDLESS,
-        "0",
-        0,
-        "0\n# object 0:0 Main\n# thread 0 running Main.main 1\n",
     ),
     ("verify", LOCKED, "", 11, "book refused at byte 0: form\n"),
 ];
