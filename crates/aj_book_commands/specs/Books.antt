@@ -29,6 +29,7 @@ names_node kinds.Shape = true
 names_node kinds.Step = true
 names_node kinds.Table = false
 names_node kinds.Bound = false
+names_node kinds.Override = false
 
 -- ` node K`, where a node is named
 abbrev pub at_node : Option ℕ → List ℕ
@@ -40,6 +41,7 @@ kind_text kinds.Shape = codes "shape"
 kind_text kinds.Step = codes "step"
 kind_text kinds.Table = codes "table"
 kind_text kinds.Bound = codes "bound"
+kind_text kinds.Override = codes "override"
 
 -- `book refused: method M node K: KIND`, or without the node
 abbrev pub wrong_line : ℕ → Option ℕ → WrongKind → List ℕ

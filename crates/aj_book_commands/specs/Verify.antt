@@ -37,6 +37,7 @@ told_line (wrong.Shape method node) = wrong_line method (Some node) kinds.Shape
 told_line (wrong.Step method node) = wrong_line method (Some node) kinds.Step
 told_line (wrong.Table method) = wrong_line method None kinds.Table
 told_line (wrong.Bound method) = wrong_line method None kinds.Bound
+told_line (wrong.Override method) = wrong_line method None kinds.Override
 told_line wrong.Memory = codes ""
 
 -- the line that refuses bytes for a program: the first fault of a text that is no book's, or what is wrong with its book first

@@ -18,6 +18,8 @@ pub enum WrongKind {
     Table,
     /// The method's tree breaks the method's bound.
     Bound,
+    /// The tree of a method that overrides it is greater than the method's tree.
+    Override,
 }
 
 /// Writes a number.
@@ -74,6 +76,7 @@ fn kind_word(kind: WrongKind) -> &'static str
         WrongKind::Step => "step",
         WrongKind::Table => "table",
         WrongKind::Bound => "bound",
+        WrongKind::Override => "override",
     }
 }
 

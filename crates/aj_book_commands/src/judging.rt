@@ -38,6 +38,7 @@ fn wrong_line(alloc: Global, wrong: Wrong) -> Result<String, NoMemory>
         Wrong::Step { method, node } => wrong_text(alloc, method, Some(node), WrongKind::Step),
         Wrong::Table { method } => wrong_text(alloc, method, None, WrongKind::Table),
         Wrong::Bound { method } => wrong_text(alloc, method, None, WrongKind::Bound),
+        Wrong::Override { method } => wrong_text(alloc, method, None, WrongKind::Override),
         Wrong::Memory => Err(NoMemory),
     }
 }

@@ -21,6 +21,7 @@ memory_or : (w : Wrong) → (w ≡ wrong.Memory) ⊎ (w ≢ wrong.Memory)
 memory_or (wrong.Shape m n) = inr (λ e. absurd (cc))
 memory_or (wrong.Table m) = inr (λ e. absurd (cc))
 memory_or (wrong.Step m n) = inr (λ e. absurd (cc))
+memory_or (wrong.Override m) = inr (λ e. absurd (cc))
 memory_or (wrong.Bound m) = inr (λ e. absurd (cc))
 memory_or wrong.Memory = inl refl
 

@@ -25,7 +25,7 @@ use aj_cond::Tree;
 use aj_core::CoreProgram;
 use aj_deriv::{DerivBook, Lines, LinesInMemory, read_book};
 use aj_deriv_rules::Judge;
-use aj_rules::RelevantSets;
+use aj_rules::{RelevantSets, overriders};
 use std::alloc::Global;
 use std::mem::forget;
 
@@ -67,7 +67,8 @@ fn judged_book<L: Lines>(
         table,
         lines: numbers.as_slice(),
     };
-    lines(alloc, &judge, from)
+    let over = overriders(alloc, program)?;
+    lines(alloc, &judge, &over, from)
 }
 
 /// The judgement of a book in memory.

@@ -6,6 +6,7 @@ pub mod Locals
 pub mod Blocks
 pub mod Walks
 pub mod TableParts
+pub mod RunLemmas
 pub mod CellLemmas
 pub mod EqualTables
 pub mod LeastLemmas

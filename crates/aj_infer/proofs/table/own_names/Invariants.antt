@@ -1,5 +1,5 @@
 use Rattle.std.proofs.Common.{◌≡◌, map, take, Some}
-use Rattle.aj_infer.proofs.inference.own_names.Given as goal
+use Rattle.aj_infer.proofs.table.own_names.Given as goal
 
 -- the paths so far, each under its own name
 abbrev pub invariant-loop-path : goal.invariant-loop-path

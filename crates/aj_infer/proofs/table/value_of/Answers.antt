@@ -3,7 +3,7 @@ use Rattle.aj_infer.specs.Names.{held_partners}
 use Rattle.aj_infer.specs.Tables.{chosen}
 use Rattle.aj_infer.proofs.Answers.{value_same}
 use Rattle.aj_infer.proofs.ValueLemmas.{own_names}
-use Rattle.aj_infer.proofs.inference.value_of.Goals as goal
+use Rattle.aj_infer.proofs.table.value_of.Goals as goal
 
 pub returns-clause-value : goal.returns-clause-value
 returns-clause-value g c = value_same g.G.Algebra.value c.pick.new.algebra c.pick.result _ _
