@@ -210,7 +210,15 @@ pub(crate) fn line_verdict<F: Nodes>(
     if let End::Bad(node) = walk_node(alloc, &steps, body, word, number, premises, 0)? {
         return Ok(Some(Wrong::Step { method: m.0, node }));
     }
-    if !are_under_in(alloc, work, judge, judge.sets.rel(m), required, over.of(m), own)? {
+    if !are_under_in(
+        alloc,
+        work,
+        judge,
+        judge.sets.rel(m),
+        required,
+        over.of(m),
+        own,
+    )? {
         return Ok(Some(Wrong::Override { method: m.0 }));
     }
     if !is_bounded(&tree, method) {

@@ -81,7 +81,6 @@ abbrev mutual
   block_callees no_stmts = []
   block_callees (and_stmt s ss) = stmt_callees s ++ block_callees ss
 
-
 -- a row that may be missing
 abbrev pub row_of : Option (List ℕ) → List ℕ
 row_of None = []

@@ -14,7 +14,7 @@ ghost use Rattle.aj_infer.specs.Cells.{AreCells, numbers_of, greatest_of, run_ef
 use crate::callers::Row;
 use crate::judged::Judged;
 use crate::rows::{are_below, joined, put_parts};
-use crate::table::{Table, value_of, table_at};
+use crate::table::{Table, table_at, value_of};
 use crate::walk::{Walk, stmt_value};
 use aj_algebra::{Algebra, Basic};
 use aj_core::CoreMethod;
@@ -180,7 +180,14 @@ impl<'a, 'b, G: Algebra> Rising for Cells<'a, 'b, G> {
     fn raise(&mut self, alloc: Global, cell: usize) -> Result<bool, NoMemory> {
         let method = MethodId(cell as u32);
         let tables = self.tables.as_slice();
-        let demands = demands(alloc, &self.judged, &self.over, tables, self.algebra, method)?;
+        let demands = demands(
+            alloc,
+            &self.judged,
+            &self.over,
+            tables,
+            self.algebra,
+            method,
+        )?;
         let own = table_at(tables, method);
         let row = demands.as_slice();
         if are_below(row, own) {
