@@ -123,7 +123,7 @@ fn lists(program: &CoreProgram, class: ClassId, index: u16, field: FieldId) -> b
 }
 
 /// The value of a field of an object of this class with these values.
-fn listed_value(
+pub fn listed_value(
     program: &CoreProgram,
     class: ClassId,
     values: &[Value],
@@ -419,7 +419,7 @@ fn run_of(seen: &Seen<'_>, class: Option<ClassId>) -> Option<MethodId>
 }
 
 /// The method `run` of a class.
-fn run_of_class(program: &CoreProgram, class: ClassId) -> Option<MethodId>
+pub fn run_of_class(program: &CoreProgram, class: ClassId) -> Option<MethodId>
     ensures { result ≡ run_of_class (slice_get (program_of program.now).classes class) }
 {
     match program.classes.get(class.0 as usize) {

@@ -11,4 +11,5 @@ mod turn;
 
 pub use act::object_values;
 pub use machine::{Machine, Stopped};
+pub use make::slots_of;
 pub use turn::take_turn;

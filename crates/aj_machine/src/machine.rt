@@ -4,6 +4,7 @@ ghost use Rattle.std.specs.Option.{option_map};
 ghost use Rattle.aj_core.specs.Views.{program_of};
 ghost use Rattle.aj_core.specs.Typed.{IsTyped};
 ghost use Rattle.aj_state.specs.declared.value.StepKind.{StepKind};
+ghost use Rattle.aj_state.specs.Memory.{IsNumbered};
 ghost use Rattle.aj_state.specs.States.{State, initial};
 ghost use Rattle.aj_compile.specs.IsCode.{IsCodeOf};
 ghost use Rattle.aj_steps.specs.Step.{outcome, kind_of};
@@ -112,9 +113,10 @@ impl<'p> Machine<'p> {
         self.program
     }
 
-    /// The objects.
+    /// The objects. Those of each thread are numbered from 0.
     pub fn heap(&self) -> &Heap
-        ensures { result.now ≡ self.now.state.heap }
+        ensures objects { result.now ≡ self.now.state.heap }
+        ensures numbered { IsNumbered result.now }
     {
         &self.heap
     }

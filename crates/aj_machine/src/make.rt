@@ -37,7 +37,7 @@ fn fill(into: &mut Vec<Value>, length: usize) -> Result<(), NoMemory>
 }
 
 /// The slots of a new frame of a method that has so many: `this`, the arguments, and 0 in each other slot.
-pub(crate) fn slots_of(
+pub fn slots_of(
     alloc: Global,
     slots: u16,
     this: Value,
