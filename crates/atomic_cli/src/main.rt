@@ -22,6 +22,8 @@ mod nodes_tests;
 #[cfg(test)]
 mod open_tests;
 #[cfg(test)]
+mod part_tests;
+#[cfg(test)]
 mod schedule_tests;
 #[cfg(test)]
 mod schedule_text_tests;
