@@ -1,5 +1,5 @@
 -- The trees of a good book's method lines are an admissible assignment.
-use Rattle.std.proofs.Common.{◌≡◌, ℕ, ◌<◌, ◌&&◌, true, List, length, Option, Some, None, slice_get, get_or, ◌≤◌, ◌⊎◌, inl, inr, refl, sym, ◌∙◌, ap, subst, arith}
+use Rattle.std.proofs.Common.{if◌then◌else◌, ◌≡◌, ℕ, ◌<◌, ◌&&◌, true, List, length, Option, Some, None, slice_get, get_or, ◌≤◌, ◌⊎◌, inl, inr, refl, sym, ◌∙◌, ap, subst, arith}
 use Rattle.std.proofs.lemmas.Option.{slice_get_within, slice_get_cases}
 use Rattle.aj_paths.specs.Paths.{PathData}
 use Rattle.aj_algebra.specs.HeldPaths.{Held, has_path}
@@ -32,7 +32,7 @@ line_of lines methods m method count is = found (slice_get_cases lines m).1
 pub assigned_line : (book : Book) (m : ℕ) (line : Line) → slice_get book.lines m ≡ Some line → (H : Held) → book_assignment book m H ≡ table_value book.table line.number H
 assigned_line book m line is H = ap (λ o. line_value book.table o H) is
 
-cond_is : (o : Option Cond) (H : Held) → tree_value o H ≡ value_of (cond_at o) H
+pub cond_is : (o : Option Cond) (H : Held) → tree_value o H ≡ value_of (cond_at o) H
 cond_is None H = refl
 cond_is (Some t) H = refl
 

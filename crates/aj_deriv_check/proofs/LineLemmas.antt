@@ -10,6 +10,12 @@ use Rattle.aj_paths.proofs.PathOrder.{eq_is, eq_itself}
 use Rattle.aj_algebra.specs.declared.basic.Basic.{Basic}
 use Rattle.aj_algebra.specs.declared.basic.Basic.TheVariants.{Error}
 use Rattle.aj_algebra.specs.HeldPaths.{Held, has_path}
+use Rattle.aj_core.specs.Core.{Program}
+use Rattle.aj_core.specs.Dispatch.{Overrides}
+use Rattle.aj_rules.specs.Effect.{Assignment}
+use Rattle.aj_rules.specs.Overriding.{AreOverriders}
+use Rattle.aj_rules.specs.Search.{row_at}
+use Rattle.aj_deriv_rules.specs.Rules.{Value}
 use Rattle.aj_cond.specs.Conditions.{Cond, LeafC, TestC, value_of, IsCanonical}
 use Rattle.aj_cond.proofs.PathLemmas.{put}
 use Rattle.aj_cond.proofs.NodeLemmas.{parts-test, parts-high, parts-low}
@@ -151,6 +157,15 @@ each_more G ns i n below is before here m has = elim (Contains-push_cases (take 
 -- all of them
 pub each_all : (G : ℕ → Type 0) (ns : List ℕ) (i : ℕ) → length ns ≤ i → ((m : ℕ) → Contains (take i ns) m → G m) → (m : ℕ) → Contains ns m → G m
 each_all G ns i past all m has = all m (subst (λ xs. Contains xs m) (sym (take_all i ns past)) has)
+
+-- of the methods of its row, or of those that override it
+pub overs_below : (P : Program) (rows : List (List ℕ)) → AreOverriders P rows → (m : ℕ) (overs : List ℕ) (rel rel_read required required_read : List PathData) (A : Assignment) (own : Value) →
+    overs ≡ row_at rows m → rel_read ≡ rel → required_read ≡ required →
+    ((n : ℕ) → Contains overs n → IsUnderIn rel_read required_read (A n) own) ↔ ((n : ℕ) → Overrides P n m → IsUnderIn rel required (A n) own)
+overs_below P rows overriders m overs rel rel_read required required_read A own is same_rel same_required = (
+  (λ all n o. subst (λ r. IsUnderIn rel r (A n) own) same_required (subst (λ r. IsUnderIn r required_read (A n) own) same_rel (all n (subst (λ ns. Contains ns n) (sym is) ((overriders m n).1 o))))),
+  (λ below n has. subst (λ r. IsUnderIn rel_read r (A n) own) (sym same_required) (subst (λ r. IsUnderIn r required (A n) own) (sym same_rel) (below n ((overriders m n).0 (subst (λ ns. Contains ns n) is has))))),
+)
 
 -- a test, in other words
 pub ok_iff : {E : Type 0} (r : Result Bool E) (A B : Type 0) → A ↔ B → IfOk r (λ b. (b ≡ true) ↔ A) → IfOk r (λ b. (b ≡ true) ↔ B)

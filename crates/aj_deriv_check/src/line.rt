@@ -207,8 +207,9 @@ pub(crate) fn line_verdict<F: Nodes>(
     }
     let body = BodyPart::Stmt(&method.body);
     let steps = Steps { judge, work };
-    if let End::Bad(node) = walk_node(alloc, &steps, body, word, number, premises, 0)? {
-        return Ok(Some(Wrong::Step { method: m.0, node }));
+    match walk_node(alloc, &steps, body, word, number, premises, 0)? {
+        End::Good(_) => (),
+        End::Bad(node) => return Ok(Some(Wrong::Step { method: m.0, node })),
     }
     if !are_under_in(
         alloc,
