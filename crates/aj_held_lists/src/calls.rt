@@ -38,7 +38,7 @@ fn held_pairs(alloc: Global, renaming: &Renaming, held: &[Path]) -> Result<Vec<P
     ensures { IfOk result (λ known. known.items ≡ held_pairs renaming.now held.now) }
 {
     let mut known = Vec::new(alloc);
-    for (path, name) in renaming.pairs.as_slice() {
+    'pairs: for (path, name) in renaming.pairs.as_slice() {
         if holds_at(name, held) {
             known.push(path.copy())?;
         }

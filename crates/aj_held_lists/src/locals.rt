@@ -7,7 +7,6 @@ ghost use Rattle.aj_held_lists.specs.HeldLists.{local_name, local_names, other_r
 
 use aj_core::{CoreProgram, CoreStmt, path_of};
 use aj_paths::{Path, extend};
-use arrayvec::ArrayVec;
 use std::alloc::{AllocError as NoMemory, Global};
 
 /// The set after a statement of a block.
@@ -85,10 +84,9 @@ fn local_name(slot: u16, start: &Path, path: &Path) -> Option<Path>
 {
     let after = path.fields.as_slice().get(start.fields.len()..)?;
     let whole = extend(start, after)?;
-    if !whole.same(path) {
-        return None;
+    if whole.same(path) {
+        extend(&Path::of_root(slot), after)
+    } else {
+        None
     }
-    let mut fields = ArrayVec::new();
-    fields.try_extend_from_slice(after).ok()?;
-    Some(Path { root: slot, fields })
 }
