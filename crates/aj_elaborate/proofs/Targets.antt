@@ -10,8 +10,8 @@ use Rattle.std.proofs.lemmas.Bool.{eqb-true, eq-eqb}
 use Rattle.std.proofs.lemmas.Option.{none-some, same_Some, slice_get_within}
 use Rattle.std.proofs.lemmas.List.Elements.{All-cons}
 use Rattle.aj_core.specs.Core.{Program, Class, Method}
-use Rattle.aj_core.specs.Dispatch.{above_in, above_of, partner, inherited_target, IsOwn}
-use Rattle.aj_core.specs.Typed.{IsTarget, own, AreTargets}
+use Rattle.aj_core.specs.Dispatch.{above_in, above_of, partner, inherited_target}
+use Rattle.aj_core.specs.Typed.{own, AreTargets}
 use Rattle.aj_syntax.specs.Trees.{ClassTree, ProgramTree}
 use Rattle.aj_elaborate.specs.Programs.{own_targets}
 use Rattle.aj_elaborate.proofs.Parts.{get_below}

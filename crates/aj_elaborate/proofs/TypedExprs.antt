@@ -1,5 +1,5 @@
 -- The core node of an expression has its type.
-use Rattle.std.proofs.Common.{◌≡◌, ℕ, ◌<◌, true, false, List, [], ◌∷◌, Some, Ok, refl, ap, sym, ◌∙◌, subst, ◌&&◌, Contains, slice_get, option_map}
+use Rattle.std.proofs.Common.{◌≡◌, ℕ, ◌<◌, true, false, List, [], ◌∷◌, Some, Ok, refl, ap, sym, subst, ◌&&◌, Contains, slice_get, option_map}
 use Rattle.std.specs.Prelude.{ok_or}
 use Rattle.std.proofs.lemmas.Option.{same_Some}
 use Rattle.std.proofs.lemmas.Bool.{and_parts, eqb-true}

@@ -16,7 +16,7 @@ use Rattle.aj_core.specs.declared.types.CoreType.{CoreType}
 use Rattle.aj_core.specs.declared.types.CoreType.TheVariants as type
 use Rattle.aj_core.specs.Core as core
 use Rattle.aj_core.specs.Core.{Program, Expr, Stmt, Stmts}
-use Rattle.aj_core.specs.Types.{ValueT, boolean_type, class_type, fits, Variable, HasType, HasFit}
+use Rattle.aj_core.specs.Types.{ValueT, boolean_type, fits, Variable, HasType, HasFit}
 use Rattle.aj_core.specs.Sizes.{height_of}
 use Rattle.aj_core.specs.Sizes as sizes
 use Rattle.aj_core.specs.Typed as typing

@@ -1,5 +1,5 @@
 -- What each step did.
-use Rattle.std.proofs.Common.{◌≡◌, ℕ, ◌==◌, Bool, true, false, List, [], ◌∷◌, refl, sym, ap, subst, ◌∙◌, Some, None, arith}
+use Rattle.std.proofs.Common.{◌≡◌, ℕ, ◌==◌, Bool, true, false, length, List, [], ◌∷◌, refl, sym, ap, subst, ◌∙◌, Some, None, arith}
 use Rattle.std.proofs.lemmas.Bool.Decides.{nat_tests}
 use Rattle.std.specs.Prelude.{Option, slice_get, if◌then◌else◌}
 use Rattle.aj_core.specs.Core.{Program, Class, Field, Method, Expr, Stmt}

@@ -110,7 +110,7 @@ module _ (heap : Heap) where
   taken_refer zero found vs g h = g
   taken_refer (suc n) found vs g h = taken_refer n (top vs ∷ found) (under vs) (top_refers vs h, g) (under_refer vs h)
 
-  dropped_refer : (n : ℕ) (vs : List Value) → AllRefer heap vs → AllRefer heap (dropped n vs)
+  pub dropped_refer : (n : ℕ) (vs : List Value) → AllRefer heap vs → AllRefer heap (dropped n vs)
   dropped_refer zero vs h = h
   dropped_refer (suc n) vs h = dropped_refer n (under vs) (under_refer vs h)
 

@@ -1,8 +1,13 @@
 -- What a deed leaves, for the instruction by which it was decided.
-use Rattle.std.proofs.Common.{◌≡◌, ◌⊎◌, inl, inr, ℕ, zero, suc, ◌+◌, ◌-◌, List, [], ◌∷◌, length, refl, sym, ap, ◌∙◌, add-one, arith}
-use Rattle.std.specs.Prelude.{Bool, true, false, ◌==◌, nat_lt, Option, Some, None, is_some, slice_get}
+use Rattle.std.proofs.Common.{◌≡◌, ◌⊎◌, inl, inr, ℕ, zero, suc, ◌+◌, ◌-◌, List, [], ◌∷◌, length, refl, sym, ap, subst, ◌∙◌, add-one, arith}
+use Rattle.std.specs.Prelude.{Bool, true, false, ◌==◌, ◌<◌, nat_lt, Option, Some, None, is_some, slice_get, if◌then◌else◌, All, get_or}
+use Rattle.std.proofs.lemmas.Bool.{eqb-true}
+use Rattle.std.proofs.lemmas.Option.{none-some, slice_get-get_or}
+use Rattle.std.proofs.lemmas.List.Elements.{All-head, All-tail}
 use Rattle.aj_core.specs.Core.{Program, Class, Method}
-use Rattle.aj_core.specs.Dispatch.{target_of}
+use Rattle.aj_core.specs.Dispatch.{partner, targets_in, target_of, Overrides}
+use Rattle.aj_core.specs.Typed.{IsTyped}
+use Rattle.aj_core.proofs.Running.{itself_or_over}
 use Rattle.aj_state.specs.declared.value.Address.{Address}
 use Rattle.aj_state.specs.declared.value.Value.{Value}
 use Rattle.aj_state.specs.Values.{top, under, dropped, as_truth, address_of, binary_value}
@@ -10,7 +15,7 @@ use Rattle.aj_state.specs.Memory.{Hold}
 use Rattle.aj_threads.specs.Frames.{given, first_frame}
 use Rattle.aj_compile.specs.declared.stack.Instr.{Instr}
 use Rattle.aj_compile.specs.declared.stack.Instr.TheVariants as i
-use Rattle.aj_compile.specs.Rooms.{at_next, other_place, arguments_of_new, arguments_of_call, after_call}
+use Rattle.aj_compile.specs.Rooms.{at_next, other_place, arguments_of_new, arguments_of_call, after_call, with_result_of}
 use Rattle.aj_steps.specs.Step.{Shared, value_at, unless_final, index_of, object_class, target_at, run_of, class_finals, most_frames}
 use Rattle.aj_deeds.specs.declared.deed.Deed.{Deed}
 use Rattle.aj_deeds.specs.declared.deed.Deed.TheVariants as deed
@@ -31,6 +36,35 @@ dropped_length (suc k) (v ∷ ops) = omega (arith, dropped_length k ops)
 -- the method that runs for another leaves as many operands as that one
 abbrev pub SameLeft : Program → Type 0
 SameLeft P = (c m n k : ℕ) → target_of P c m ≡ Some n → after_call (slice_get P.methods n) k ≡ after_call (slice_get P.methods m) k
+
+-- a method that has a partner is there
+partner_there : (count : ℕ) (ps : List (ℕ × ℕ)) (m k : ℕ) → All (λ p. (p.0 < count) × (p.1 < count)) ps → partner ps m ≡ Some k → m < count
+partner_there count [] m k all is = absurd (none-some k is)
+partner_there count (p ∷ ps) m k all is = by_first (p.0 == m) refl (partner_there count ps m k (All-tail (λ p. (p.0 < count) × (p.1 < count)) p ps all))
+  where
+    by_first : (b : Bool) → (p.0 == m) ≡ b → (partner ps m ≡ Some k → m < count) → m < count
+    by_first true same later = subst (λ x. x < count) (eqb-true p.0 m same) (All-head (λ p. (p.0 < count) × (p.1 < count)) p ps all).0
+    by_first false other later = later (sym (ap (λ b. if b then Some p.1 else partner ps m) other) ∙ is)
+
+module _ (P : Program) (typed : IsTyped P) where
+  target_there : (c m n : ℕ) → target_of P c m ≡ Some n → m < length P.methods
+  target_there c m n runs = in_class (slice_get P.classes c) refl
+    where
+      in_class : (o : Option Class) → slice_get P.classes c ≡ o → m < length P.methods
+      in_class None none = absurd (none-some n (sym (ap (λ x. partner (targets_in x) m) none) ∙ runs))
+      in_class (Some class) there = partner_there (length P.methods) class.targets m n (typed.classes c class there).targets.ids (sym (ap (λ x. partner (targets_in x) m) there) ∙ runs)
+
+  -- what runs for a method is that method or overrides it, and then has its result
+  pub same_left : SameLeft P
+  same_left c m n k runs = elim (itself_or_over P typed c m n runs) [
+    | inl same ↦ ap (λ x. after_call (slice_get P.methods x) k) same
+    | inr over ↦ by_method over (slice_get P.methods m) refl
+  ]
+    where
+      by_method : Overrides P n m → (o : Option Method) → slice_get P.methods m ≡ o → after_call (slice_get P.methods n) k ≡ after_call (slice_get P.methods m) k
+      by_method over None none = absurd (none-some (get_or P.methods m over.method) (sym none ∙ slice_get-get_or P.methods m over.method (target_there c m n runs)))
+      by_method over (Some method) there =
+          ap (λ o. after_call o k) over.is ∙ ap (λ r. with_result_of r k) (typed.overriding n m over.method method over over.is there).result ∙ sym (ap (λ o. after_call o k) there)
 
 module _ (P : Program) (entry room : List ℕ) (see : Shared) (t : ℕ) (slots ops : List Value) (locks : List Address) (depth next : ℕ) where
   -- the place is reached with so many operands by the instruction, from this frame

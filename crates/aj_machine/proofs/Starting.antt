@@ -25,7 +25,7 @@ module _ (P : Program) (code : List Code) (heap : Heap) (locks : Locks) (threads
 
   pub start_kept : (entry room : List ℕ) → IsKept P code entry room (record { heap = heap; locks = locks; threads = threads; output = output })
   start_kept entry room = record {
-    reached = subst (λ ts. AllReached P code entry room (map code_thread ts)) (sym threads_is) (tt, tt);
+    reached = λ typed. subst (λ ts. AllReached P code entry room (map code_thread ts)) (sym threads_is) (tt, tt);
     roomy = subst (AllRoomy room) (sym threads_is) (tt, tt);
     stood = initial P;
     stands = started;

@@ -143,7 +143,7 @@ method_of : (o : Option Method) (c : ℕ) → class_of o ≡ Some c → (method 
 method_of None c e = absurd (none-some c e)
 method_of (Some method) c e = (method, refl, same_Some method.class c e)
 
-overrides_of : (P : Program) (c : ℕ) (p : ℕ × ℕ) → is_over P c p ≡ true → Overrides P p.1 p.0
+pub overrides_of : (P : Program) (c : ℕ) (p : ℕ × ℕ) → is_over P c p ≡ true → Overrides P p.1 p.0
 overrides_of P c p e =
     let first = and_parts (not (p.1 == p.0)) (is_number (class_of (slice_get P.methods p.1)) c && is_number (target_of P c p.0) p.1) e in
     let second = and_parts (is_number (class_of (slice_get P.methods p.1)) c) (is_number (target_of P c p.0) p.1) first.1 in
@@ -270,7 +270,7 @@ start_of (Some start) fields p is = (start, refl, is)
 
 -- an overriding method's clause is among those of its class
 
-partner_in : (ps : List (ℕ × ℕ)) (m n : ℕ) → partner ps m ≡ Some n → Contains ps (m, n)
+pub partner_in : (ps : List (ℕ × ℕ)) (m n : ℕ) → partner ps m ≡ Some n → Contains ps (m, n)
 partner_in [] m n e = absurd (none-some n e)
 partner_in (p ∷ ps) m n e = by_first (p.0 == m) refl (partner_in ps m n) e
   where
@@ -299,12 +299,12 @@ in_classes P c (first ∷ classes) (suc k) class x at has =
     let e1 : c + suc k ≡ c + 1 + k = omega arith in
     Contains-append_right (pairs_clauses P c first.targets) (over_clauses P (c + 1) classes) x (in_classes P (c + 1) classes k class x at (subst (λ n. Contains (pairs_clauses P n class.targets) x) e1 has))
 
-class_with : (o : Option Class) (m n : ℕ) → partner (targets_in o) m ≡ Some n → (class : Class) × (o ≡ Some class) × (partner class.targets m ≡ Some n)
+pub class_with : (o : Option Class) (m n : ℕ) → partner (targets_in o) m ≡ Some n → (class : Class) × (o ≡ Some class) × (partner class.targets m ≡ Some n)
 class_with None m n e = absurd (none-some n e)
 class_with (Some class) m n e = (class, refl, e)
 
 module _ (P : Program) (over m : ℕ) (o : Overrides P over m) where
-  over_true : is_over P o.method.class (m, over) ≡ true
+  pub over_true : is_over P o.method.class (m, over) ≡ true
   over_true =
       and_from (not (over == m)) (is_number (class_of (slice_get P.methods over)) o.method.class && is_number (target_of P o.method.class m) over)
       (not_from_false (over == m) (ne_eqb over m o.differs))

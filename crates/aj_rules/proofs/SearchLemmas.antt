@@ -366,12 +366,12 @@ module _ (rows grown : List (Vec PathData Global)) (had row : Vec PathData Globa
   put_known is_new fresh old = grows_known (rows_of rows) (rows_of (set grown i row)) queue queue place agree ascends_now paths_now others_now
       (ap (λ l. has_path l place.path) (sym (had_is rows grown had i place.method is long same at)) ∙ not-false (has_path had.items place.path) (sym fresh ∙ old)) refl
 
-pub links_row : (rows grown : List (Vec Link Global)) (had row : Vec Link Global) (i from : ℕ) (link : Link) → i ≡ from → i + 1 ≤ length grown → ((n : ℕ) → row_at (rows_of grown) n ≡ row_at (rows_of rows) n) → had ≡ get_or grown i had → row.items ≡ had.items ++ link ∷ [] → (m : ℕ) → row_at (rows_of (set grown i row)) m ≡ (if m == from then row_at (rows_of rows) m ++ link ∷ [] else row_at (rows_of rows) m)
-links_row rows grown had row i from link is long same at pushed m = elim (m == from) as (λ b. (m == from) ≡ b → row_at (rows_of (set grown i row)) m ≡ (if b then row_at (rows_of rows) m ++ link ∷ [] else row_at (rows_of rows) m)) [
+pub item_row : {A : Type 0} (rows grown : List (Vec A Global)) (had row : Vec A Global) (i from : ℕ) (item : A) → i ≡ from → i + 1 ≤ length grown → ((n : ℕ) → row_at (rows_of grown) n ≡ row_at (rows_of rows) n) → had ≡ get_or grown i had → row.items ≡ had.items ++ item ∷ [] → (m : ℕ) → row_at (rows_of (set grown i row)) m ≡ (if m == from then row_at (rows_of rows) m ++ item ∷ [] else row_at (rows_of rows) m)
+item_row rows grown had row i from item is long same at pushed m = elim (m == from) as (λ b. (m == from) ≡ b → row_at (rows_of (set grown i row)) m ≡ (if b then row_at (rows_of rows) m ++ item ∷ [] else row_at (rows_of rows) m)) [
   | true ↦ λ e.
       let k : i ≡ m = is ∙ sym (grind (arith, nat_tests)) in
-      subst (λ n. row_at (rows_of (set grown i row)) n ≡ row_at (rows_of rows) n ++ link ∷ []) k
-      (row_set_same grown i row (omega arith) ∙ pushed ∙ ap (λ l. l ++ link ∷ []) (ap (λ v. v.items) at ∙ sym (row_is grown i had (omega arith)) ∙ same i))
+      subst (λ n. row_at (rows_of (set grown i row)) n ≡ row_at (rows_of rows) n ++ item ∷ []) k
+      (row_set_same grown i row (omega arith) ∙ pushed ∙ ap (λ l. l ++ item ∷ []) (ap (λ v. v.items) at ∙ sym (row_is grown i had (omega arith)) ∙ same i))
   | false ↦ λ e. row_set_other grown i m row (λ k. grind (arith, nat_tests)) ∙ same m
 ] refl
 

@@ -123,7 +123,7 @@ fn add_overriding(program: &CoreProgram, clauses: &mut Vec<Clause>) -> Result<()
 }
 
 /// The number after this one. There is no memory for more classes than numbers.
-fn next_class(number: u32) -> Result<u32, NoMemory>
+pub(crate) fn next_class(number: u32) -> Result<u32, NoMemory>
     ensures { IfOk result (λ n. n ≡ number + 1) }
 {
     match number.checked_add(1) {
@@ -166,7 +166,12 @@ fn add_pair(
 }
 
 /// Whether the pair has a method of the class itself, which overrides the other.
-fn is_over(program: &CoreProgram, class: ClassId, method: MethodId, over: MethodId) -> bool
+pub(crate) fn is_over(
+    program: &CoreProgram,
+    class: ClassId,
+    method: MethodId,
+    over: MethodId,
+) -> bool
     ensures { result ≡ is_over (program_of program.now) class (method, over) }
 {
     over != method && is_of_class(program, over, class) && is_target(program, class, method, over)

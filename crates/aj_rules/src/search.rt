@@ -1,8 +1,8 @@
 //! The search for the near paths of all methods: from the facts along the links, each place once.
-ghost use Rattle.std.specs.Prelude.{Some, None, ◌≡◌, ◌≤◌, ◌<◌, ◌^◌, ◌∷◌, ◌++◌, ◌==◌, ◌||◌, ◌&&◌, nat_le, [], ℕ, Bool, length, not, map, IfOk, OnOk, if◌then◌else◌};
+ghost use Rattle.std.specs.Prelude.{Some, None, ◌≡◌, ◌≤◌, ◌<◌, ◌^◌, ◌∷◌, ◌++◌, ◌==◌, ◌||◌, ◌&&◌, nat_le, [], ℕ, Bool, length, not, map, slice_get, IfOk, OnOk, if◌then◌else◌};
 ghost use Rattle.std.specs.List.Sorted.{IsStrictlySortedBy};
 ghost use Rattle.aj_paths.specs.Paths.{PathData, path_order, path_eq, extended};
-ghost use Rattle.aj_core.specs.Dispatch.{has_field};
+ghost use Rattle.aj_core.specs.Dispatch.{has_field, fields_in};
 ghost use Rattle.aj_core.specs.Views.{program_of};
 ghost use Rattle.aj_rules.specs.Clauses.{led_by};
 ghost use Rattle.aj_rules.specs.Near.{begins_in};
@@ -63,17 +63,23 @@ fn add_link(alloc: Global, links: &mut Vec<Vec<Link>>, clause: &Clause) -> Resul
 {
     match clause {
         Clause::Fact(_) => Ok(()),
-        Clause::Leads(link) => push_link(alloc, links, link.copy()),
+        Clause::Leads(link) => push_at(alloc, links, link.from, link.copy()),
     }
 }
 
-fn push_link(alloc: Global, links: &mut Vec<Vec<Link>>, link: Link) -> Result<(), NoMemory>
-    ensures { OnOk result ((m : ℕ) → row_at (rows_of links.new.items) m ≡
-        (if m == link.from then row_at (rows_of links.old.items) m ++ link ∷ [] else row_at (rows_of links.old.items) m)) }
+/// Puts an item at the end of a method's list.
+pub(crate) fn push_at<T: Drop>(
+    alloc: Global,
+    rows: &mut Vec<Vec<T>>,
+    method: MethodId,
+    item: T,
+) -> Result<(), NoMemory>
+    ensures { OnOk result ((m : ℕ) → row_at (rows_of rows.new.items) m ≡
+        (if m == method then row_at (rows_of rows.old.items) m ++ item ∷ [] else row_at (rows_of rows.old.items) m)) }
 {
-    let from = number(link.from);
-    grow(alloc, links, from + 1)?;
-    links[from].push(link)?;
+    let place = number(method);
+    grow(alloc, rows, place + 1)?;
+    rows[place].push(item)?;
     Ok(())
 }
 
@@ -144,9 +150,18 @@ fn begins_in(program: &CoreProgram, class: ClassId, path: &Path) -> bool
 fn has_field(program: &CoreProgram, class: ClassId, field: FieldId) -> bool
     ensures { result ≡ has_field (program_of program.now) class field }
 {
+    fields_of(program, class)
+        .iter()
+        .any(|other| *other == field)
+}
+
+/// The fields of a class, its own and those from above; none where it isn't there.
+fn fields_of(program: &CoreProgram, class: ClassId) -> &[FieldId]
+    ensures { result.now ≡ fields_in (slice_get (program_of program.now).classes class) }
+{
     match program.classes().get(class.0 as usize) {
-        Some(class) => class.fields.iter().any(|other| *other == field),
-        None => false,
+        Some(class) => class.fields.as_slice(),
+        None => &[],
     }
 }
 

@@ -14,6 +14,8 @@ mod large_tests;
 #[cfg(test)]
 mod library_tests;
 #[cfg(test)]
+mod limit_tests;
+#[cfg(test)]
 mod machine_tests;
 #[cfg(test)]
 mod nodes_tests;
