@@ -1,6 +1,6 @@
 -- Lists of held paths as sets: a part by a test, the set that a callee begins with, and the sets after declarations of locals.
 use Rattle.std.proofs.Common.{◌≡◌, ℕ, zero, suc, ◌+◌, Bool, true, false, ◌&&◌, ◌||◌, ◌==◌, not, List, [], ◌∷◌, ◌++◌, Some, None, length, drop, refl, sym, ap, subst, ◌∙◌, arith, length-append, append-nil, ◌≤◌}
-use Rattle.std.specs.Prelude.{Option, map, filter, filter_map, cond, nat_le, nat_eq, if◌then◌else◌}
+use Rattle.std.specs.Prelude.{Result, Ok, Err, IfOk, Option, map, filter, filter_map, cond, nat_le, nat_eq, if◌then◌else◌}
 use Rattle.std.specs.List.{list_any, cons_option}
 use Rattle.std.specs.Cmp.{both_ways}
 use Rattle.std.proofs.lemmas.Bool.Decides.{nat_tests}
@@ -59,6 +59,12 @@ pairs_are name held (p ∷ ps) =
 pub known_are : (receiver : Option PathData) (args : List (Option PathData)) (rel held : List PathData) → has_path (held_pairs (map (λ q. (q, under_call receiver args q)) rel) held) ≡ held_under rel receiver args (has_path held)
 known_are receiver args rel held = λ i q.
     (ap (λ ps. has_path ps q) (pairs_are (under_call receiver args) held rel) ∙ part_is (λ q. holds_at (under_call receiver args q) (has_path held)) rel q) i
+
+-- the same of a call's answer
+pub known_from : {V E : Type 0} (items : V → List PathData) (r : Result V E) (receiver : Option PathData) (args : List (Option PathData)) (rel held : List PathData) (pairs : List (PathData × Option PathData))
+    → IfOk r (λ v. items v ≡ held_pairs pairs held) → pairs ≡ map (λ q. (q, under_call receiver args q)) rel → IfOk r (λ v. has_path (items v) ≡ held_under rel receiver args (has_path held))
+known_from items (Ok v) receiver args rel held pairs is names = ap has_path is ∙ ap (λ z. has_path (held_pairs z held)) names ∙ known_are receiver args rel held
+known_from items (Err e) receiver args rel held pairs is names = tt
 
 -- Locals.
 
