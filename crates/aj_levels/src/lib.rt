@@ -3,4 +3,4 @@
 
 mod laws;
 
-pub use laws::level_laws;
+pub use laws::{answer_laws, level_laws};
