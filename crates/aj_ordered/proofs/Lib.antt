@@ -1,0 +1,2 @@
+-- Lemmas on what walks tell.
+pub mod ToldLemmas
