@@ -1,2 +1,4 @@
--- Lemmas on what walks tell.
+-- Lemmas on what walks tell, and on settled numbers.
 pub mod ToldLemmas
+pub mod Callees
+pub mod Settled

@@ -2,12 +2,14 @@
 #![tactic(auto)]
 
 mod expressions;
+mod laws;
 mod slots;
 mod statements;
 mod told;
 mod walk;
 
 pub use expressions::walk_expr;
+pub use laws::settled_laws;
 pub use slots::slot_types;
 pub use statements::walk_body;
 pub use told::Seen;

@@ -21,7 +21,7 @@ walk_expr-returns-in-New t c =
 pub walk_expr-returns-in_ok-walk_exprs-in-Call : goal.walk_expr-returns-in_ok-walk_exprs-in-Call
 walk_expr-returns-in_ok-walk_exprs-in-Call t c =
     let is = ap (λ x. expr_visits (program_of c.args.walk.now.program.now) (rel_of c.args.walk.now.sets.now) (expr_of x) (has_path c.args.held.now) c.args.under) c.in-Call.is
-        ∙ ap (λ x. expr_visits (program_of c.args.walk.now.program.now) (rel_of c.args.walk.now.sets.now) x (has_path c.args.held.now) c.args.under) (expr_of-Call c.in-Call.receiver c.in-Call.callee c.in-Call.args) in
+    ∙ ap (λ x. expr_visits (program_of c.args.walk.now.program.now) (rel_of c.args.walk.now.sets.now) x (has_path c.args.held.now) c.args.under) (expr_of-Call c.in-Call.receiver c.in-Call.callee c.in-Call.args) in
     call_told c.args.walk.now _ (has_path c.args.held.now) c.args.under _ c.in-Call.receiver.value c.deref-in-Call.result.now c.deref-in-Call-2.result.now c.in-Call.callee c.in-Call.args.items c.as_slice.result.now c.as_slice-in-Call.result.now _ _ _ _ is
     c.deref-in-Call.ensures c.deref-in-Call-2.ensures c.as_slice.ensures.value c.as_slice-in-Call.ensures.value c.in_ok-walk_expr-in-Call.ensures c.in_ok-walk_exprs-in-Call.ensures c.add_call.ensures
 
