@@ -1,16 +1,14 @@
 -- Settled numbers tell greatest levels, so that they decide whether a program is ordered.
-use Rattle.std.proofs.Common.{◌≡◌, ◌⊎◌, inl, inr, ◌≤◌, ◌<◌, ℕ, zero, suc, ◌+◌, Bool, true, false, ◌&&◌, ◌||◌, List, [], ◌∷◌, ◌++◌, length, map, Some, None, refl, sym, ap, subst, ◌∙◌, arith}
+use Rattle.std.proofs.Common.{◌≡◌, ◌⊎◌, inl, inr, ◌≤◌, ◌<◌, ℕ, zero, suc, ◌+◌, Bool, true, false, ◌&&◌, List, [], ◌∷◌, ◌++◌, length, map, Some, None, refl, sym, ap, subst, ◌∙◌, arith}
 use Rattle.std.specs.Prelude.{Option, Contains, IfSome, slice_get, filter, cond, nat_lt, max, if◌then◌else◌}
-use Rattle.std.specs.Cmp.{both_ways}
 use Rattle.std.proofs.lemmas.Bool.{and_parts, and_from}
 use Rattle.std.proofs.lemmas.Option.{same_Some, slice_get_within}
 use Rattle.std.proofs.lemmas.List.Elements.{Contains-append_cases}
 use Rattle.aj_lemmas.proofs.Lists.{at_left, get_right, contains_cases}
 use Rattle.aj_paths.specs.Paths.{PathData}
-use Rattle.aj_algebra.specs.HeldPaths.{Held, has_path, with_path, holds_at}
-use Rattle.aj_core.specs.Core.{Program, Class, Method, Expr, Exprs, IntE, TruthE, NullE, ThisE, VarE, NotE, NegE, BinaryE, AndE, OrE, GetE, CallE, NewE, no_exprs, and_expr}
+use Rattle.aj_algebra.specs.HeldPaths.{Held, has_path, with_path}
+use Rattle.aj_core.specs.Core.{Program, Method, Expr, Exprs, IntE, TruthE, NullE, ThisE, VarE, NotE, NegE, BinaryE, AndE, OrE, GetE, CallE, NewE, no_exprs, and_expr}
 use Rattle.aj_core.specs.Core.{Stmt, Stmts, EmptyS, BlockS, LocalS, SetVarS, SetFieldS, DoS, IfS, WhileS, SyncS, ReturnS, PrintS, StartS, no_stmts, and_stmt}
-use Rattle.aj_core.specs.Dispatch.{Overrides}
 use Rattle.aj_core.specs.Locks.{path_of}
 use Rattle.aj_core.specs.Typed.{IsEntry, IsTyped}
 use Rattle.aj_core.specs.declared.types.CoreType.{CoreType}
@@ -19,10 +17,10 @@ use Rattle.aj_rules.specs.Effect.{after_stmt}
 use Rattle.aj_typed_runs.specs.SlotTypes.{slot_types}
 use Rattle.aj_held_lists.proofs.ListedSets.{part_is}
 use Rattle.aj_levels.specs.Walks.{Visit, Comes, Bad, lock_class, syncs_in, call_visits, expr_visits, exprs_visits, sync_visits, visits, block_visits, body_visits}
-use Rattle.aj_levels.specs.Contexts.{MayRun, RunsFirst, Context, IsBadAt, IsOrdered, IsFirstBad}
+use Rattle.aj_levels.specs.Contexts.{MayRun, IsOrdered, IsFirstBad}
 use Rattle.aj_levels.proofs.GreatestLevels.{AreGreatest, told_bad, told_ordered}
 use Rattle.aj_ordered.proofs.Callees.{nothing_there}
-use Rattle.aj_ordered.specs.Cells.{Cell, parts_of, cells_at, cells_from, cells_of, number, IsAt, AreSettled, IsToldBad}
+use Rattle.aj_ordered.specs.Cells.{parts_of, cells_at, cells_from, cells_of, number, IsAt, AreSettled, IsToldBad}
 
 -- What a call knows is relevant.
 

@@ -6,7 +6,7 @@ use Rattle.aj_paths.specs.Paths.{PathData}
 use Rattle.aj_algebra.specs.HeldPaths.{Held, with_path}
 use Rattle.aj_core.specs.declared.tree.CoreExpr.{CoreExpr}
 use Rattle.aj_core.specs.declared.tree.CoreStmt.{CoreStmt}
-use Rattle.aj_core.specs.Core.{Expr, Stmt, SyncS}
+use Rattle.aj_core.specs.Core.{Stmt, SyncS}
 use Rattle.aj_core.specs.Locks.{path_of}
 use Rattle.aj_rules.specs.Mentions.{paths_of}
 use Rattle.aj_core.specs.Views.{program_of, expr_of, exprs_from, stmt_of, stmts_from}

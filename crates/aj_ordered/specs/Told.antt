@@ -1,5 +1,5 @@
 -- What a walk in code tells: for each call the methods that may run there, each with the paths that it knows.
-use Rattle.std.specs.Prelude.{ℕ, List, [], ◌∷◌, ◌++◌, map, Option, Some, None, slice_get, unwrap_or, nat_lt, if◌then◌else◌}
+use Rattle.std.specs.Prelude.{ℕ, List, [], ◌∷◌, ◌++◌, map, slice_get, unwrap_or, nat_lt, if◌then◌else◌}
 use Rattle.aj_algebra.specs.HeldPaths.{Held, has_path}
 use Rattle.aj_core.specs.Views.{program_of}
 use Rattle.aj_core.specs.Core.{Expr, Exprs, Stmt, Stmts}
