@@ -1,10 +1,9 @@
 -- Lists of held paths as sets: a part by a test, the set that a callee begins with, and the sets after declarations of locals.
-use Rattle.std.proofs.Common.{◌≡◌, ℕ, zero, suc, ◌+◌, Bool, true, false, ◌&&◌, ◌||◌, ◌==◌, not, List, [], ◌∷◌, ◌++◌, Some, None, length, drop, refl, sym, ap, subst, ◌∙◌, arith, length-append, append-nil, ◌≤◌}
-use Rattle.std.specs.Prelude.{Result, Ok, Err, IfOk, Option, map, filter, filter_map, cond, nat_le, nat_eq, if◌then◌else◌}
-use Rattle.std.specs.List.{list_any, cons_option}
+use Rattle.std.proofs.Common.{◌≡◌, ℕ, Bool, true, false, ◌&&◌, ◌||◌, ◌==◌, not, List, [], ◌∷◌, ◌++◌, Some, None, length, drop, refl, sym, ap, ◌∙◌, append-nil, ◌≤◌}
+use Rattle.std.specs.Prelude.{Result, Ok, Err, IfOk, Option, map, filter, cond, nat_le, if◌then◌else◌}
+use Rattle.std.specs.List.{cons_option}
 use Rattle.std.specs.Cmp.{both_ways}
-use Rattle.std.proofs.lemmas.Bool.Decides.{nat_tests}
-use Rattle.std.proofs.lemmas.Bool.{and_parts, or_right, eqb-true, eq-eqb, false_from_ne_true}
+use Rattle.std.proofs.lemmas.Bool.{eqb-true, eq-eqb, false_from_ne_true}
 use Rattle.std.proofs.lemmas.Option.{none-some, same_Some}
 use Rattle.std.proofs.lemmas.List.{drop_all}
 use Rattle.std.proofs.lemmas.List.Folds.{list_any-append}
@@ -87,17 +86,6 @@ if_chosen false x y e = absurd (none-some y e)
 dropped_all : {A : Type 0} (xs ys : List A) → drop (length xs) (xs ++ ys) ≡ ys
 dropped_all [] ys = refl
 dropped_all (x ∷ xs) ys = dropped_all xs ys
-
--- what extends a path extends a slot alone
-pub short_after : (x : ℕ) (start whole : PathData) (fields : List ℕ) → extended start fields ≡ Some whole → extended (record { root = x; fields = [] }) fields ≡ Some (record { root = x; fields = fields })
-short_after x start whole fields is =
-    ap (λ b. if b then Some (record { root = x; fields = fields }) else None) (short start.fields fields ((if_chosen (nat_le (length (start.fields ++ fields)) most_fields) (record { root = start.root; fields = start.fields ++ fields }) whole is).0))
-  where
-    within : (l m n : ℕ) → l ≡ m + n → nat_le l 2 ≡ true → nat_le n 2 ≡ true
-    within l m n sum le = grind (arith, nat_tests)
-
-    short : (xs ys : List ℕ) → nat_le (length (xs ++ ys)) most_fields ≡ true → nat_le (length ys) most_fields ≡ true
-    short xs ys le = within (length (xs ++ ys)) (length xs) (length ys) (length-append xs ys) le
 
 -- whether a path is this one, if there is one
 abbrev names_it : PathData → Option PathData → Bool
