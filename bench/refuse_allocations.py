@@ -26,7 +26,7 @@ def example(name):
 
 
 def one_of_each(all_rows):
-    """The first rows with each wanted status of a command; a row is the command, its files and the status."""
+    """The first rows with each wanted status of a command; a row is the command's words, its files and the status."""
     seen = set()
     for command, files, status in all_rows:
         if status in WANTED.get(command, ()) and (command, status) not in seen:
@@ -42,7 +42,7 @@ def fixed_rows():
 
 
 def more_rows():
-    """Rows of books and examples, and of words and files that end a call early."""
+    """Rows of books and examples, of `serialise-open` and `generate`, and of words and files that end a call early."""
     counter, locked, twice = example("counter.java"), example("locked.java"), example("twice.java")
     schedule, book, wrong = example("counter.schedule"), example("locked.book"), example("locked_wrong.book")
     yield "check", [counter], 0
@@ -51,6 +51,16 @@ def more_rows():
     yield "serialise", [counter, schedule], 0
     yield "serialise", [b"?", schedule], 1
     yield "serialise", [twice, schedule], 2
+    yield "serialise-open", [counter, schedule], 0
+    yield "serialise-open", [counter, b"0*10 1*6"], 0
+    yield "serialise-open", [counter, b"0*10 1 x"], 3
+    yield "serialise-open", [counter, b"0*3 5"], 4
+    yield "serialise-open", [twice, schedule], 2
+    yield "serialise-open", [b"?", schedule], 1
+    yield "generate 0", [], 0
+    yield "generate 2", [], 0
+    yield "generate 20", [], 0
+    yield "generate 1000", [], 9
     yield "derive", [locked], 0
     yield "derive", [example("account_both.java")], 0
     yield "derive", [b"?"], 1
@@ -96,7 +106,7 @@ class Trial:
             if data is not None:
                 with open(name, "wb") as file:
                     file.write(data)
-        words, counts, wrong = [command, *names], collections.Counter(rows=1), []
+        words, counts, wrong = [*command.split(), *names], collections.Counter(rows=1), []
         plain = self.answer(words)
         if plain[0] != status:
             wrong.append(f"{command} {files}: wanted {status}, given {plain[0]} with ample memory")
@@ -111,7 +121,7 @@ class Trial:
             if not is_row and not (refused and (ended, text) == (8, b"")):
                 wrong.append(f"{command} {files}: allocation {k}: {ended} {text!r}")
         counts["the row's answer"] = counts["refused"] - counts["status 8"]
-        return command, counts, wrong
+        return command.split()[0], counts, wrong
 
 
 def main():

@@ -24,7 +24,7 @@ use Rattle.aj_derive_rules.specs.Bases.{trees_assign}
 use Rattle.aj_infer.proofs.LeastLemmas.{least_accepts}
 use Rattle.aj_rules.specs.Effect.{effect}
 use Rattle.aj_rules.specs.Near.{MethodPaths, AreRelevant, rel_of}
-use Rattle.aj_rules.specs.Rules.{IsPart, AtMost, IsAccepted, declared_bound}
+use Rattle.aj_rules.specs.Rules.{IsPart, AtMost, IsAccepted, declared_bound, held_in}
 use Rattle.aj_rules.proofs.BasicLemmas.{each, below_itself, below_chain}
 use Rattle.aj_rules.proofs.EffectRises.{stmt_rises}
 use Rattle.aj_rules.proofs.UniqueSets.{unique_sets}
@@ -86,11 +86,19 @@ module _ (P : Program) (trees : List Cond) (is : IsShownLeast P trees) (typed : 
   keeps_rules : KeepsRules P (rel_of is.sets) (trees_assign trees)
   keeps_rules = record {
     falling = λ m H K within part. falls m (slice_get trees m) refl H K within part;
-    closed = λ m method at H within required.
-        let t = tree_of m method at in
-        below_chain (effect P (rel_of is.sets) (trees_assign trees) method.body H) (effect P (rel_of is.sets) is.assignment method.body H) (trees_assign trees m H)
-        (stmt_rises P (rel_of is.sets) (trees_assign trees) is.assignment (λ k K part. below k (slice_get trees k) refl K) method.body H)
-        (subst (λ z. AtMost (effect P (rel_of is.sets) is.assignment method.body H) z) (sym (value m t.0 t.1 H)) (is.least.least.closed m method at H within required));
+    closed = record {
+      bodies = λ m method at H within required.
+          let t = tree_of m method at in
+          below_chain (effect P (rel_of is.sets) (trees_assign trees) method.body H) (effect P (rel_of is.sets) is.assignment method.body H) (trees_assign trees m H)
+          (stmt_rises P (rel_of is.sets) (trees_assign trees) is.assignment (λ k K part. below k (slice_get trees k) refl K) method.body H)
+          (subst (λ z. AtMost (effect P (rel_of is.sets) is.assignment method.body H) z) (sym (value m t.0 t.1 H)) (is.least.least.closed.bodies m method at H within required));
+      overrides = λ m over method at overrides H within required.
+          let t = tree_of m method at in
+          let K = held_in (rel_of is.sets over) H in
+          below_chain (trees_assign trees over K) (is.assignment over K) (trees_assign trees m H)
+          (below over (slice_get trees over) refl K)
+          (subst (λ z. AtMost (is.assignment over K) z) (sym (value m t.0 t.1 H)) (is.least.least.closed.overrides m over method at overrides H within required));
+    };
     relevant = λ m H. counts m (slice_get trees m) refl H;
     bounds = λ m method at.
         let t = tree_of m method at in

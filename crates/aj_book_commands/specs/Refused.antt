@@ -1,6 +1,6 @@
 -- The line for what is wrong with the text of a book.
 use Rattle.std.specs.Prelude.{◌≡◌, ◌≢◌, ℕ, List}
-use Rattle.aj_book_report.specs.Books.{book_fault_line}
+use Rattle.aj_book_commands.specs.Books.{book_fault_line}
 use Rattle.aj_book_grammar.specs.declared.stop.BookFault.TheVariants as faults
 use Rattle.aj_deriv_check.specs.declared.wrong.TextWrong.{TextWrong}
 use Rattle.aj_deriv_check.specs.declared.wrong.TextWrong.TheVariants as text

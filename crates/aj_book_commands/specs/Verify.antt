@@ -1,7 +1,7 @@
 -- `verify FILE BOOK`: judges the source, without the rules of atomicity, and then the book, whoever wrote it.
 use Rattle.std.specs.Prelude.{◌≡◌, ◌≢◌, ℕ, List, [], ◌∷◌, ◌++◌, Some, None, codes}
-use Rattle.aj_book_report.specs.Books.{form_line, too_deep_line, wrong_line}
-use Rattle.aj_book_report.specs.declared.books.WrongKind.TheVariants as kinds
+use Rattle.aj_book_commands.specs.Books.{form_line, too_deep_line, wrong_line}
+use Rattle.aj_book_commands.specs.declared.books.WrongKind.TheVariants as kinds
 use Rattle.aj_core.specs.Core.{Program}
 use Rattle.aj_book_grammar.specs.Books.{Book}
 use Rattle.aj_book_grammar.specs.Faults.{first_fault}
@@ -37,6 +37,7 @@ told_line (wrong.Shape method node) = wrong_line method (Some node) kinds.Shape
 told_line (wrong.Step method node) = wrong_line method (Some node) kinds.Step
 told_line (wrong.Table method) = wrong_line method None kinds.Table
 told_line (wrong.Bound method) = wrong_line method None kinds.Bound
+told_line (wrong.Override method) = wrong_line method None kinds.Override
 told_line wrong.Memory = codes ""
 
 -- the line that refuses bytes for a program: the first fault of a text that is no book's, or what is wrong with its book first

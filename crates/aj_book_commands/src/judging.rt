@@ -1,15 +1,15 @@
 //! `verify FILE BOOK`.
 
 ghost use Rattle.std.specs.Prelude.{◌≡◌, ◌≢◌, ◌≤◌, List, length, IfOk, MatchResult, string_bytes};
-ghost use Rattle.aj_book_report.specs.Books.{book_fault_line};
+ghost use Rattle.aj_book_commands.specs.Books.{book_fault_line};
 ghost use Rattle.aj_core.specs.Views.{program_of};
 ghost use Rattle.aj_rules.specs.Rules.{IsAccepted};
 ghost use Rattle.aj_sources.specs.Refusals.{IsRight};
 ghost use Rattle.aj_book_commands.specs.Refused.{IsLineFor, Refuses};
 ghost use Rattle.aj_book_commands.specs.Verify.{VerifyAnswer, verified_line, told_line};
 
+use crate::books::{WrongKind, book_fault_text, wrong_text};
 use aj_book_grammar::BookFault;
-use aj_book_report::{WrongKind, book_fault_text, wrong_text};
 use aj_deriv_check::{Checked, TextWrong, Wrong, accept_text};
 use aj_sources::{Ending, Refusal, Source, read_source};
 use std::alloc::{AllocError as NoMemory, Global};
@@ -38,6 +38,7 @@ fn wrong_line(alloc: Global, wrong: Wrong) -> Result<String, NoMemory>
         Wrong::Step { method, node } => wrong_text(alloc, method, Some(node), WrongKind::Step),
         Wrong::Table { method } => wrong_text(alloc, method, None, WrongKind::Table),
         Wrong::Bound { method } => wrong_text(alloc, method, None, WrongKind::Bound),
+        Wrong::Override { method } => wrong_text(alloc, method, None, WrongKind::Override),
         Wrong::Memory => Err(NoMemory),
     }
 }

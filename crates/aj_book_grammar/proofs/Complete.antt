@@ -87,7 +87,7 @@ complete_number end n more below small stop =
     some (d ∷ ds) e = refl
 
 -- fields with their points, before a byte that is neither a digit nor a point
-complete_fields : (fields : List ℕ) (more : List ℕ) → list_all (λ f. nat_lt f (2 ^ 32)) fields ≡ true → stops more ≡ true → begins 46 more ≡ false →
+pub complete_fields : (fields : List ℕ) (more : List ℕ) → list_all (λ f. nat_lt f (2 ^ 32)) fields ≡ true → stops more ≡ true → begins 46 more ≡ false →
     (most : ℕ) → length fields ≤ most → fields_at most (dotted fields ++ more) ≡ Ok (fields, more)
 complete_fields [] more fit stop next zero few = refl
 complete_fields [] more fit stop next (suc most) few = rw next refl

@@ -1,5 +1,10 @@
--- What is read of a text is its text (Sound, SoundTrees), and of each part's text the part is read (Complete); lemmas on digits, on words and
--- names at the front of a text, and on items side by side.
+-- What is read of a text is its text (Sound, SoundTrees), and of each part's text the part is read (Complete); lemmas on digits, on
+-- words and names at the front of a text, and on items side by side; books read in place, and their laws.
+pub mod PassBooks
+pub mod BookLaws
+pub mod CursorLaws
+pub mod TableLaws
+mod BeforeFaults
 mod Digits
 mod Fronts
 pub mod Sound

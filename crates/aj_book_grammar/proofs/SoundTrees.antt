@@ -66,7 +66,7 @@ sound_path ts =
 abbrev pub ReadsTree : ℕ → List ℕ → Cond → Type 0
 ReadsTree room front t = (front ≡ text_of t) × HasPaths t × (tests_high t ≤ room)
 
-sound_leaf : (ts : List ℕ) → SoundAt (Spells name_of) ts (leaf_at ts)
+pub sound_leaf : (ts : List ℕ) → SoundAt (Spells name_of) ts (leaf_at ts)
 unfolding leaf_at
 sound_leaf ts = sound_one_of name_of basics ts
 

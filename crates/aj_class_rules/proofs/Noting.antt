@@ -1,7 +1,7 @@
 -- How the first fault is found, part by part.
 use Rattle.std.proofs.Common.{◌≡◌, ℕ, ◌+◌, ◌<◌, suc, List, ◌∷◌, ◌++◌, Option, length, map, flat_map, drop, get_or, ap, sym, ◌∙◌, arith}
 use Rattle.std.proofs.Math.Seq.{drop-cons}
-use Rattle.aj_faults.proofs.FirstFaults as faults
+use Rattle.aj_class_rules.proofs.FirstFaults as faults
 use Rattle.aj_class_rules.specs.declared.fault.ClassFault.{ClassFault}
 use Rattle.aj_class_rules.specs.Faults.{place_of}
 use Rattle.aj_class_rules.specs.Noted.{noted}

@@ -6,8 +6,8 @@ use Rattle.aj_syntax.specs.declared.tree.Param.{Param}
 use Rattle.aj_syntax.specs.declared.tree.TypeName.{TypeName}
 use Rattle.aj_syntax.specs.declared.tree.TypeName.TheVariants as Y
 use Rattle.aj_syntax.specs.Trees.{MemberTree, FieldM, CtorM, MethodM, ClassTree, ProgramTree}
-use Rattle.aj_faults.specs.declared.first.Place.{Place}
-use Rattle.aj_faults.specs.First.{IsFirst}
+use Rattle.aj_class_rules.specs.declared.first.Place.{Place}
+use Rattle.aj_class_rules.specs.First.{IsFirst}
 use Rattle.aj_class_rules.specs.declared.fault.ClassFault.{ClassFault}
 use Rattle.aj_class_rules.specs.declared.fault.ClassFault.TheVariants.{Twice, UnknownClass, BadConstructor, NoMain, NoRun, TooMany, NoMemory}
 use Rattle.aj_class_rules.specs.Limits.{most_fields, most_parameters}

@@ -1,5 +1,7 @@
 -- For a reader of the contract, in this order: the names and members of a class (Names, Members), its faults (Faults) with the
--- limits (Limits). Noted and Finals serve the code.
+-- limits (Limits), and which fault is the first (First). Noted, Finals and Shows serve the code.
+pub mod Shows
+pub mod First
 pub mod Limits
 pub mod Names
 pub mod Members

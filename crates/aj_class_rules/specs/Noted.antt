@@ -1,6 +1,6 @@
 -- The first of the faults that are found one after the other.
 use Rattle.std.specs.Prelude.{List, Option}
-use Rattle.aj_faults.specs.First as faults
+use Rattle.aj_class_rules.specs.First as faults
 use Rattle.aj_class_rules.specs.declared.fault.ClassFault.{ClassFault}
 use Rattle.aj_class_rules.specs.Faults.{place_of}
 

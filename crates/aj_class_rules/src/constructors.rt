@@ -9,7 +9,7 @@ ghost use Rattle.aj_class_rules.specs.Noted.{noted};
 ghost use Rattle.aj_class_rules.specs.Finals.{final_of};
 
 use crate::fault::ClassFault;
-use aj_faults::first_of;
+use crate::first::first_of;
 use aj_syntax::{Member, Name, Param, TypeName};
 use std::alloc::{AllocError as NoMemory, Global};
 

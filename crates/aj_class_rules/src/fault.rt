@@ -4,7 +4,7 @@ ghost use Rattle.std.specs.Prelude.{◌≡◌};
 ghost use Rattle.aj_class_rules.specs.declared.fault.ClassFault.TheVariants.{NoMemory as OutOfMemory};
 ghost use Rattle.aj_class_rules.specs.Faults.{offset_of, rank_of, place_of};
 
-use aj_faults::{Fault, Place};
+use crate::first::{Fault, Place};
 use std::alloc::{AllocError, AllocFailed};
 
 /// A fault of a program's classes, with the offset in bytes, from 0, at which it stands.

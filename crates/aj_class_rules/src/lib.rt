@@ -1,10 +1,18 @@
-//! What classes and members owe each other: the faults of a program, and the rule of constructors.
+//! What classes and members owe each other: the faults of a program, the rule of constructors, and which of several faults
+//! is the first.
 #![tactic(auto)]
 
+mod check;
 mod constructors;
 mod fault;
+mod first;
 mod limits;
+mod members;
+mod names;
 
+pub use check::first_fault;
 pub use constructors::{has_finals, note_constructors, note_missing_constructor};
 pub use fault::ClassFault;
+pub use first::{Fault, Place, first_of};
 pub use limits::{MOST_FIELDS, MOST_PARAMS};
+pub use names::NameSet;

@@ -9,7 +9,7 @@ ghost use Rattle.aj_classes.specs.Views.{class_data, method_data};
 ghost use Rattle.aj_classes.specs.Building.{parts_data, class_at, with_class, with_classes, no_parts};
 
 use crate::entries::{ClassEntry, FieldEntry, MethodEntry, ParamEntry};
-use aj_class_faults::NameSet;
+use aj_class_rules::NameSet;
 use aj_core::CoreType;
 use aj_paths::ClassId;
 use aj_syntax::{Class, Member, Name, Param, TypeName};

@@ -3,7 +3,7 @@
 ghost use Rattle.std.specs.Prelude.{◌+◌, ◌^◌, ◌<◌, length, nat_lt, IsTrue};
 ghost use Rattle.std.specs.List.{list_all};
 
-use aj_class_faults::NameSet;
+use aj_class_rules::NameSet;
 use aj_core::CoreType;
 use aj_paths::ClassId;
 use std::marker::Model;

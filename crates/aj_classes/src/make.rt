@@ -13,8 +13,7 @@ ghost use Rattle.std.specs.Prelude.{IfOk};
 
 use crate::build::{Parts, number, parts_of};
 use crate::entries::ClassTable;
-use aj_class_faults::{NameSet, first_fault};
-use aj_class_rules::ClassFault;
+use aj_class_rules::{ClassFault, NameSet, first_fault};
 use aj_syntax::Program;
 use std::alloc::{AllocError as NoMemory, Global};
 

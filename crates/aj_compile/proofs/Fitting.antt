@@ -1,19 +1,20 @@
 -- In the code of a typed program the operands fit into the room.
 use Rattle.std.proofs.Common.{◌≡◌, ℕ, zero, suc, ◌+◌, ◌-◌, ◌≤◌, List, [], ◌∷◌, ◌++◌, length, refl, sym, ap, subst, ◌∙◌, arith}
-use Rattle.std.specs.Prelude.{true, false, ◌||◌, map, filter, Option, Some, None, slice_get}
+use Rattle.std.specs.Prelude.{Bool, true, false, ◌||◌, map, filter, Option, Some, None, slice_get}
 use Rattle.aj_core.specs.declared.types.CoreOp.{CoreOp}
 use Rattle.aj_core.specs.declared.types.CoreOp.TheVariants.{Eq, Ne, Lt, Le, Gt, Ge, Add, Sub, Mul, Div, Rem}
 use Rattle.aj_core.specs.declared.types.CoreType.{CoreType}
 use Rattle.aj_core.specs.declared.types.CoreType.TheVariants as type
 use Rattle.aj_core.specs.Core.{Program, Method, Class, Field, Expr, Exprs, IntE, TruthE, NullE, ThisE, VarE, NotE, NegE, BinaryE, AndE, OrE, GetE, CallE, NewE, no_exprs, and_expr}
 use Rattle.aj_core.specs.Core.{Stmt, Stmts, EmptyS, BlockS, LocalS, SetVarS, SetFieldS, DoS, IfS, WhileS, SyncS, ReturnS, PrintS, StartS, no_stmts, and_stmt}
+use Rattle.aj_core.specs.Dispatch.{is_kind_of}
 use Rattle.aj_core.specs.Types.{NodeType, ValueT, NullT, VoidT, boolean_type, int_type, class_type, result_type, fits, of_ints, of_equals, binary_type, Variable, field_types, parameter_types, HasType, FitEach, HasFit}
 use Rattle.aj_core.specs.Typed.{IsTyped, IsTypedStmt, AreTypedStmts, IsResult, gives_value, is_final_at}
-use Rattle.aj_emit.specs.declared.stack.Instr.{Instr}
-use Rattle.aj_emit.specs.declared.stack.Instr.TheVariants as i
-use Rattle.aj_emit.specs.declared.stack.Code.{Code}
+use Rattle.aj_compile.specs.declared.stack.Instr.{Instr}
+use Rattle.aj_compile.specs.declared.stack.Instr.TheVariants as i
+use Rattle.aj_compile.specs.declared.stack.Code.{Code}
 use Rattle.aj_compile.specs.Rooms.{arguments_of_new, arguments_of_call, after_call, with_result_of, at_next, other_place, Reached, at_start, goes_on, turns, expr_room, exprs_room, stmt_room, stmts_room}
-use Rattle.aj_emit.specs.Emission.{line, weight, weights, expr_entry, exprs_entry, gets_entry, emitted, emitted_args, emitted_gets, stmt_weight, stmts_weight, stmt_entry, stmts_entry, emitted_stmt, emitted_stmts, emitted_method, method_entry}
+use Rattle.aj_compile.specs.Emission.{line, weight, weights, expr_entry, exprs_entry, gets_entry, emitted, emitted_args, emitted_gets, stmt_weight, stmts_weight, stmt_entry, stmts_entry, emitted_stmt, emitted_stmts, emitted_method, method_entry}
 use Rattle.aj_compile.proofs.Lengths.{HasAt, split, length_emitted, length_args, length_gets, length_stmt, length_stmts}
 
 -- how many operands stand after an expression of a type
@@ -39,29 +40,29 @@ some_room (CallE e m args) = let p = some_room e in omega arith
 some_room (NewE c args) = omega arith
 
 -- a type that fits a value's is that of a value
-fits_value : (T : NodeType) (t : CoreType) (n : ℕ) → fits T (ValueT t) ≡ true → after T n ≡ n + 1
-fits_value (ValueT u) t n h = refl
-fits_value NullT t n h = refl
-fits_value VoidT t n h = absurd (let no : false ≡ true = h in cc)
+fits_value : (kind : ℕ → ℕ → Bool) (T : NodeType) (t : CoreType) (n : ℕ) → fits kind T (ValueT t) ≡ true → after T n ≡ n + 1
+fits_value kind (ValueT u) t n h = refl
+fits_value kind NullT t n h = refl
+fits_value kind VoidT t n h = absurd (let no : false ≡ true = h in cc)
 
 ints_values : (r A B T : NodeType) (n : ℕ) → of_ints r A B ≡ Some T → (after A n ≡ n + 1) × (after B n ≡ n + 1) × (r ≡ T)
 ints_values r (ValueT type.Int) (ValueT type.Int) T n h = (refl, refl, cc)
 ints_values r _ _ T n h = absurd (let no : None ≡ Some T = h in cc)
 
-equals_values : (A B T : NodeType) (n : ℕ) → of_equals (fits A B || fits B A) ≡ Some T → (after A n ≡ n + 1) × (after B n ≡ n + 1) × (boolean_type ≡ T)
-equals_values A B T n h = elim (fits A B || fits B A) as (λ b. fits A B || fits B A ≡ b → of_equals b ≡ Some T → (after A n ≡ n + 1) × (after B n ≡ n + 1) × (boolean_type ≡ T)) [
+equals_values : (kind : ℕ → ℕ → Bool) (A B T : NodeType) (n : ℕ) → of_equals (fits kind A B || fits kind B A) ≡ Some T → (after A n ≡ n + 1) × (after B n ≡ n + 1) × (boolean_type ≡ T)
+equals_values kind A B T n h = elim (fits kind A B || fits kind B A) as (λ b. fits kind A B || fits kind B A ≡ b → of_equals b ≡ Some T → (after A n ≡ n + 1) × (after B n ≡ n + 1) × (boolean_type ≡ T)) [
   | true ↦ λ e g. (first A B e, second A B e, cc)
   | false ↦ λ e g. absurd (let no : None ≡ Some T = g in cc)
 ] refl h
   where
-    first : (A B : NodeType) → fits A B || fits B A ≡ true → after A n ≡ n + 1
+    first : (A B : NodeType) → fits kind A B || fits kind B A ≡ true → after A n ≡ n + 1
     first (ValueT u) B e = refl
     first NullT B e = refl
     first VoidT (ValueT u) e = absurd (let no : false ≡ true = e in cc)
     first VoidT NullT e = absurd (let no : false ≡ true = e in cc)
     first VoidT VoidT e = absurd (let no : false ≡ true = e in cc)
 
-    second : (A B : NodeType) → fits A B || fits B A ≡ true → after B n ≡ n + 1
+    second : (A B : NodeType) → fits kind A B || fits kind B A ≡ true → after B n ≡ n + 1
     second A (ValueT u) e = refl
     second A NullT e = refl
     second (ValueT type.Int) VoidT e = absurd (let no : false ≡ true = e in cc)
@@ -71,8 +72,8 @@ equals_values A B T n h = elim (fits A B || fits B A) as (λ b. fits A B || fits
     second VoidT VoidT e = absurd (let no : false ≡ true = e in cc)
 
 -- both parts of an operator and its result are values
-binary_values : (op : CoreOp) (A B T : NodeType) (n : ℕ) → binary_type op A B ≡ Some T → (after A n ≡ n + 1) × (after B (n + 1) ≡ n + 1 + 1) × (after T n ≡ n + 1)
-binary_values op A B T n h = let p = parts op n h in let q = parts op (n + 1) h in (p.0, q.1, p.2)
+binary_values : (kind : ℕ → ℕ → Bool) (op : CoreOp) (A B T : NodeType) (n : ℕ) → binary_type kind op A B ≡ Some T → (after A n ≡ n + 1) × (after B (n + 1) ≡ n + 1 + 1) × (after T n ≡ n + 1)
+binary_values kind op A B T n h = let p = parts op n h in let q = parts op (n + 1) h in (p.0, q.1, p.2)
   where
     of_int : (n : ℕ) → of_ints int_type A B ≡ Some T → (after A n ≡ n + 1) × (after B n ≡ n + 1) × (after T n ≡ n + 1)
     of_int n h = let p = ints_values int_type A B T n h in (p.0, p.1, subst (λ t. after t n ≡ n + 1) p.2 refl)
@@ -80,10 +81,10 @@ binary_values op A B T n h = let p = parts op n h in let q = parts op (n + 1) h 
     of_truth : (n : ℕ) → of_ints boolean_type A B ≡ Some T → (after A n ≡ n + 1) × (after B n ≡ n + 1) × (after T n ≡ n + 1)
     of_truth n h = let p = ints_values boolean_type A B T n h in (p.0, p.1, subst (λ t. after t n ≡ n + 1) p.2 refl)
 
-    of_equal : (n : ℕ) → of_equals (fits A B || fits B A) ≡ Some T → (after A n ≡ n + 1) × (after B n ≡ n + 1) × (after T n ≡ n + 1)
-    of_equal n h = let p = equals_values A B T n h in (p.0, p.1, subst (λ t. after t n ≡ n + 1) p.2 refl)
+    of_equal : (n : ℕ) → of_equals (fits kind A B || fits kind B A) ≡ Some T → (after A n ≡ n + 1) × (after B n ≡ n + 1) × (after T n ≡ n + 1)
+    of_equal n h = let p = equals_values kind A B T n h in (p.0, p.1, subst (λ t. after t n ≡ n + 1) p.2 refl)
 
-    parts : (op : CoreOp) (n : ℕ) → binary_type op A B ≡ Some T → (after A n ≡ n + 1) × (after B n ≡ n + 1) × (after T n ≡ n + 1)
+    parts : (op : CoreOp) (n : ℕ) → binary_type kind op A B ≡ Some T → (after A n ≡ n + 1) × (after B n ≡ n + 1) × (after T n ≡ n + 1)
     parts Eq n h = of_equal n h
     parts Ne n h = of_equal n h
     parts Lt n h = of_truth n h
@@ -193,7 +194,7 @@ module _ (P : Program) (code : List Code) (limit : ℕ) where
             let length_b = length_emitted b (at + 1) at in
             let parts = split code (at + 1) (at + 1 + weight b) (emitted b (at + 1) at) (emitted a (at + 1 + weight b) (expr_entry b (at + 1) at)) (omega arith) h.1 in
             let some = some_room b in
-            let is = binary_values op ty.0 ty.1 T n ty.4 in
+            let is = binary_values (is_kind_of P) op ty.0 ty.1 T n ty.4 in
             let le_a : n + expr_room a ≤ limit = omega arith in
             let le_b : n + 1 + expr_room b ≤ limit = omega arith in
             expr_fits a ty.0 k (at + 1 + weight b) (expr_entry b (at + 1) at) n ty.2 parts.1 le_a
@@ -225,7 +226,7 @@ module _ (P : Program) (code : List Code) (limit : ℕ) where
         expr_fits (GetE e f) T k at next n ty h le g =
             let some = some_room e in
             let is : after T n ≡ n + 1 = ap (λ t. after t n) ty.3 in
-            expr_fits e (class_type ty.0.class) k (at + 1) at n ty.2 h.1 le (plain k at (n + 1) (n + 1 - 1 + 1) (after T n) next _ h.0 (omega arith) refl refl (omega arith) g)
+            expr_fits e (class_type ty.2.0) k (at + 1) at n ty.2.1 h.1 le (plain k at (n + 1) (n + 1 - 1 + 1) (after T n) next _ h.0 (omega arith) refl refl (omega arith) g)
         expr_fits (CallE e m args) T k at next n ty h le g =
             let method = ty.0 in
             let ts = parameter_types method in
@@ -240,7 +241,7 @@ module _ (P : Program) (code : List Code) (limit : ℕ) where
             ap (λ o. Some (after_call o (n + 1 + length ts - arguments_of_call o - 1))) ty.1 in
             let result_is : after_call (Some method) (n + 1 + length ts - arguments_of_call (Some method) - 1) ≡ after T n =
             ap (with_result_of method.result) leaves ∙ after_result method.result n ∙ sym (ap (λ t. after t n) ty.4) in
-            expr_fits e (class_type method.class) k (at + 1 + weights args) (exprs_entry args (at + 1) at) n ty.2 parts.1 le_e
+            expr_fits e (class_type ty.2.0) k (at + 1 + weights args) (exprs_entry args (at + 1) at) n ty.2.1 parts.1 le_e
             (args_fit args ts k (at + 1) at (n + 1) ty.3 parts.0 le_args
             (plain k at (n + 1 + length ts) _ (after T n) next (i.Call m) h.0 (omega arith) next_is refl result_is g))
         expr_fits (NewE c args) T k at next n ty h le g =
@@ -267,7 +268,7 @@ module _ (P : Program) (code : List Code) (limit : ℕ) where
             let le_es : n + 1 + exprs_room es ≤ limit = omega arith in
             let counts : n + length (t ∷ ts) ≡ n + 1 + length ts = omega arith in
             expr_fits e ty.0.0 k (at + weights es) (exprs_entry es at next) n ty.0.1 parts.1 le_e
-            (subst (λ x. FitsTo k (exprs_entry es at next) x) (sym (fits_value ty.0.0 t n ty.0.2))
+            (subst (λ x. FitsTo k (exprs_entry es at next) x) (sym (fits_value (is_kind_of P) ty.0.0 t n ty.0.2))
             (args_fit es ts k at next (n + 1) ty.1 parts.0 le_es (subst (λ x. FitsTo k next x) counts g)))
 
     -- the reads of the fields of a lock keep one operand
@@ -300,7 +301,7 @@ module _ (P : Program) (code : List Code) (limit : ℕ) where
       -- an expression as a statement's only value
       value_fits : (scope : List Variable) (e : Expr) (t : CoreType) (k at next n : ℕ) → HasFit P class scope e t → HasAt code at (emitted e at next) → n + expr_room e ≤ limit
           → FitsTo k next (n + 1) → FitsTo k (expr_entry e at next) n
-      value_fits scope e t k at next n ty h le g = expr_fits class scope e ty.0 k at next n ty.1 h le (subst (λ x. FitsTo k next x) (sym (fits_value ty.0 t n ty.2)) g)
+      value_fits scope e t k at next n ty h le g = expr_fits class scope e ty.0 k at next n ty.1 h le (subst (λ x. FitsTo k next x) (sym (fits_value (is_kind_of P) ty.0 t n ty.2)) g)
 
       -- a dropped result is one
       kept : (T : NodeType) → true ≡ gives_value T → after T 0 ≡ 1
@@ -334,7 +335,7 @@ module _ (P : Program) (code : List Code) (limit : ℕ) where
             let length_b = length_emitted b (at + 1) at in
             let parts = split code (at + 1) (at + 1 + weight b) (emitted b (at + 1) at) (emitted a (at + 1 + weight b) (expr_entry b (at + 1) at)) (omega arith) h.1 in
             let some = some_room b in
-            expr_fits class scope a (class_type ty.0.class) k (at + 1 + weight b) (expr_entry b (at + 1) at) 0 ty.3 parts.1 (omega arith)
+            expr_fits class scope a (class_type ty.3.0) k (at + 1 + weight b) (expr_entry b (at + 1) at) 0 ty.3.1 parts.1 (omega arith)
             (value_fits scope b ty.0.ty k (at + 1) at 1 ty.4 parts.0 (omega arith)
             (plain k at 2 0 0 next (i.Put f) h.0 (omega arith) refl refl refl g))
         stmt_fits (DoS e true) scope slot k at next ret ty h le g r =

@@ -3,8 +3,8 @@ use Rattle.std.proofs.Common.{◌≡◌, ℕ, ◌+◌, List, [], ◌∷◌, ◌+
 use Rattle.std.specs.Prelude.{true, false, Some, None, slice_get}
 use Rattle.aj_core.specs.Core.{Method, Expr, Exprs, IntE, TruthE, NullE, ThisE, VarE, NotE, NegE, BinaryE, AndE, OrE, GetE, CallE, NewE, no_exprs, and_expr}
 use Rattle.aj_core.specs.Core.{Stmt, Stmts, EmptyS, BlockS, LocalS, SetVarS, SetFieldS, DoS, IfS, WhileS, SyncS, ReturnS, PrintS, StartS, no_stmts, and_stmt}
-use Rattle.aj_emit.specs.declared.stack.Code.{Code}
-use Rattle.aj_emit.specs.Emission.{weight, weights, expr_entry, exprs_entry, emitted, emitted_args, emitted_gets, stmt_weight, stmts_weight, stmts_entry, emitted_stmt, emitted_stmts, method_weight, emitted_method}
+use Rattle.aj_compile.specs.declared.stack.Code.{Code}
+use Rattle.aj_compile.specs.Emission.{weight, weights, expr_entry, exprs_entry, emitted, emitted_args, emitted_gets, stmt_weight, stmts_weight, stmts_entry, emitted_stmt, emitted_stmts, method_weight, emitted_method}
 
 mutual
   pub length_emitted : (e : Expr) (at next : ℕ) → length (emitted e at next) ≡ weight e

@@ -1,3 +1,7 @@
+-- Lemmas on lines that are put down, the measures by which walks over expressions and statements end, and rooms of operands.
+pub mod Measures
+mod Blocks
+mod Emitting
 pub mod Depth
 mod Lengths
 mod Standings

@@ -4,12 +4,12 @@ use Rattle.std.specs.Prelude.{Result, Ok, Err, IfOk, Some, slice_get, is_some}
 use Rattle.std.specs.declared.alloc.AllocError.{AllocError}
 use Rattle.aj_core.specs.Core.{Program, Method}
 use Rattle.aj_state.specs.Work.{St, Act, Ret}
-use Rattle.aj_emit.specs.declared.stack.Code.{Code}
-use Rattle.aj_emit.specs.declared.stack.CodeTable.{CodeTable}
+use Rattle.aj_compile.specs.declared.stack.Code.{Code}
+use Rattle.aj_compile.specs.declared.stack.CodeTable.{CodeTable}
 use Rattle.aj_compile.specs.Standing.{Stands}
 use Rattle.aj_compile.specs.Rooms.{Reached, stmt_room, method_rooms}
 use Rattle.aj_compile.specs.IsCode.{IsCodeOf}
-use Rattle.aj_emit.specs.Emission.{emitted_method, method_weight, method_entry, emitted_methods, method_entries}
+use Rattle.aj_compile.specs.Emission.{emitted_method, method_weight, method_entry, emitted_methods, method_entries}
 use Rattle.aj_compile.proofs.Lengths.{HasAt, split, length_method, all_at}
 use Rattle.aj_compile.proofs.Standings.{method_stands}
 use Rattle.aj_compile.proofs.Fitting.{reached_fits, method_fits}

@@ -8,10 +8,10 @@ use Rattle.aj_core.specs.declared.types.UnaryOp.TheVariants as unary
 use Rattle.aj_state.specs.declared.value.Value.TheVariants as value
 use Rattle.aj_state.specs.Work as W
 use Rattle.aj_state.specs.Work.{Item, Ex, St, Act, unfolded, opened, open_stmt, open_block, settled_some, exprs_items, stmts_items, gets, first_release}
-use Rattle.aj_emit.specs.declared.stack.Instr.TheVariants as i
-use Rattle.aj_emit.specs.declared.stack.Code.{Code}
+use Rattle.aj_compile.specs.declared.stack.Instr.TheVariants as i
+use Rattle.aj_compile.specs.declared.stack.Code.{Code}
 use Rattle.aj_compile.specs.Standing.{StandsTo, Stands}
-use Rattle.aj_emit.specs.Emission.{line, weight, weights, expr_entry, exprs_entry, gets_entry, emitted, emitted_args, emitted_gets, stmt_weight, stmts_weight, stmt_entry, stmts_entry, emitted_stmt, emitted_stmts, emitted_method, method_entry}
+use Rattle.aj_compile.specs.Emission.{line, weight, weights, expr_entry, exprs_entry, gets_entry, emitted, emitted_args, emitted_gets, stmt_weight, stmts_weight, stmt_entry, stmts_entry, emitted_stmt, emitted_stmts, emitted_method, method_entry}
 use Rattle.aj_compile.proofs.Depth.{fewer, same_work, at_line, return_with}
 use Rattle.aj_compile.proofs.Lengths.{HasAt, split, length_emitted, length_args, length_gets, length_stmt, length_stmts}
 

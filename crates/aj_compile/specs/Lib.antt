@@ -1,5 +1,6 @@
--- What the contracts of the compiler cite. A reader of `compile` needs Standing, Rooms and IsCode, in this order; Emission of aj_emit has
--- what its private functions say.
+-- What the contracts of the compiler cite. A reader of `compile` needs Standing, Rooms and IsCode, in this order; Emission has the lines
+-- of each expression and statement.
+pub mod Emission
 pub mod Standing
 pub mod Rooms
 pub mod IsCode

@@ -4,9 +4,9 @@ use Rattle.aj_core.specs.declared.types.CoreType.{CoreType}
 use Rattle.aj_core.specs.Core.{Program, Class, Method}
 use Rattle.aj_core.specs.Core.{Expr, Exprs, NotE, NegE, BinaryE, AndE, OrE, GetE, CallE, NewE, no_exprs, and_expr}
 use Rattle.aj_core.specs.Core.{Stmt, Stmts, EmptyS, BlockS, LocalS, SetVarS, SetFieldS, DoS, IfS, WhileS, SyncS, ReturnS, PrintS, StartS, no_stmts, and_stmt}
-use Rattle.aj_emit.specs.declared.stack.Instr.{Instr}
-use Rattle.aj_emit.specs.declared.stack.Instr.TheVariants as i
-use Rattle.aj_emit.specs.declared.stack.Code.{Code}
+use Rattle.aj_compile.specs.declared.stack.Instr.{Instr}
+use Rattle.aj_compile.specs.declared.stack.Instr.TheVariants as i
+use Rattle.aj_compile.specs.declared.stack.Code.{Code}
 
 -- The code's side: how an instruction changes the number of operands.
 

@@ -4,8 +4,8 @@ use Rattle.aj_state.specs.declared.value.Address.{Address}
 use Rattle.aj_state.specs.Work as W
 use Rattle.aj_state.specs.Work.{Action, Item, Ex, St, Act, unfolded}
 use Rattle.aj_core.specs.Core.{WhileS}
-use Rattle.aj_emit.specs.declared.stack.Instr.TheVariants as i
-use Rattle.aj_emit.specs.declared.stack.Code.{Code}
+use Rattle.aj_compile.specs.declared.stack.Instr.TheVariants as i
+use Rattle.aj_compile.specs.declared.stack.Code.{Code}
 
 -- a relation between a place with a frame's taken locks, the last one first, and a work list
 abbrev pub Relation : Type 1

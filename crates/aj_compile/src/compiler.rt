@@ -3,11 +3,12 @@ ghost use Rattle.std.specs.Prelude.{◌≡◌, ◌++◌, IfOk, [], map, vec_len,
 ghost use Rattle.aj_core.specs.Views.{program_of, method_of};
 ghost use Rattle.aj_compile.specs.IsCode.{IsCodeOf};
 ghost use Rattle.aj_compile.specs.Rooms.{stmt_room, method_rooms};
-ghost use Rattle.aj_emit.specs.Emission.{emitted_method, method_weight, method_entry, emitted_methods, method_entries};
+ghost use Rattle.aj_compile.specs.Emission.{emitted_method, method_weight, method_entry, emitted_methods, method_entries};
 
+use crate::emit::{emit_stmt, put};
 use crate::rooms::stmt_room;
+use crate::stack::{Code, CodeTable, Instr};
 use aj_core::{CoreMethod, CoreProgram};
-use aj_emit::{Code, CodeTable, Instr, emit_stmt, put};
 use std::alloc::{AllocError as NoMemory, Global};
 
 /// The code of a program, in which each method's entry stands for its body and a return. Want of memory also where a

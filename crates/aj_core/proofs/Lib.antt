@@ -2,3 +2,5 @@
 pub mod ViewLemmas
 pub mod ExampleProofs
 pub mod LockLemmas
+pub mod DispatchLemmas
+pub mod Running

@@ -7,6 +7,7 @@ use Rattle.aj_core.specs.declared.types.CoreType.{CoreType}
 use Rattle.aj_core.specs.declared.types.CoreType.TheVariants as type
 use Rattle.aj_core.specs.Core as core
 use Rattle.aj_core.specs.Core.{Program, Expr, IntE, TruthE, NullE, ThisE, VarE, NotE, NegE, BinaryE, AndE, OrE, GetE, CallE, NewE}
+use Rattle.aj_core.specs.Dispatch.{is_kind_of}
 use Rattle.aj_core.specs.Locks.{is_class, leads_on, path_of}
 use Rattle.aj_core.specs.Types.{NodeType, ValueT, class_type, Variable, HasType}
 use Rattle.aj_core.specs.Typed.{IsRoot, LeadsOn, IsLock}
@@ -32,10 +33,10 @@ module _ (P : Program) (class : ℕ) (scope : List Variable) (above : (v : Varia
   -- from a class these fields lead to another
   abbrev EndsAt : ℕ → List ℕ → ℕ → Type 0
   EndsAt c [] d = c ≡ d
-  EndsAt c (f ∷ fs) d = (field : core.Field) × (e : ℕ) × (slice_get P.fields f ≡ Some field) × (field.class ≡ c) × (field.is_final ≡ true) × (field.ty ≡ type.Class e) × EndsAt e fs d
+  EndsAt c (f ∷ fs) d = (field : core.Field) × (e : ℕ) × (slice_get P.fields f ≡ Some field) × (is_kind_of P c field.class ≡ true) × (field.is_final ≡ true) × (field.ty ≡ type.Class e) × EndsAt e fs d
 
-  one_more : (c : ℕ) (fs : List ℕ) (d f : ℕ) (field : core.Field) (e : ℕ) → EndsAt c fs d → slice_get P.fields f ≡ Some field → field.class ≡ d → field.is_final ≡ true → field.ty ≡ type.Class e → EndsAt c (fs ++ f ∷ []) e
-  one_more c [] d f field e ends is of_class final ty = (field, e, is, of_class ∙ sym ends, final, ty, refl)
+  one_more : (c : ℕ) (fs : List ℕ) (d f : ℕ) (field : core.Field) (e : ℕ) → EndsAt c fs d → slice_get P.fields f ≡ Some field → is_kind_of P d field.class ≡ true → field.is_final ≡ true → field.ty ≡ type.Class e → EndsAt c (fs ++ f ∷ []) e
+  one_more c [] d f field e ends is of_class final ty = (field, e, is, subst (λ x. is_kind_of P x field.class ≡ true) (sym ends) of_class, final, ty, refl)
   one_more c (g ∷ fs) d f field e (first, mid, at, of_first, final_first, ty_first, rest) is of_class final ty = (first, mid, at, of_first, final_first, ty_first, one_more mid fs d f field e rest is of_class final ty)
 
   leads : (c : ℕ) (fs : List ℕ) (d : ℕ) → EndsAt c fs d → LeadsOn P c fs
@@ -77,15 +78,15 @@ module _ (P : Program) (class : ℕ) (scope : List Variable) (above : (v : Varia
   path_reaches (VarE x true type.Int) c p h is = absurd (let k : None ≡ Some p = is in cc)
   path_reaches (VarE x true type.Boolean) c p h is = absurd (let k : None ≡ Some p = is in cc)
   path_reaches (VarE x false ty) c p h is = absurd (let k : None ≡ Some p = is in cc)
-  path_reaches (GetE e f) c p (field, at, receives, ty) is =
+  path_reaches (GetE e f) c p (field, at, (d, receives, kind), ty) is =
       let parts = if_some (leads_on (slice_get P.fields f)) (extended_some (path_of P e) (f ∷ [])) p is in
       let tests = both_parts field.is_final (is_class field.ty) (ap leads_on (sym at) ∙ parts.0) in
       let r = extended_parts (path_of P e) (f ∷ []) p parts.1 in
-      let before = path_reaches e field.class r.0 receives r.1 in
+      let before = path_reaches e d r.0 receives r.1 in
       subst (λ q. Reaches q c) r.2 (record {
         root_class = before.root_class;
         root = before.root;
-        ends = one_more before.root_class (r.0).fields field.class f field c before.ends at refl tests.0 (class_same c field.ty ty);
+        ends = one_more before.root_class (r.0).fields d f field c before.ends at kind tests.0 (class_same c field.ty ty);
         short = r.3;
       })
   path_reaches (IntE n) c p h is = absurd (let k : None ≡ Some p = is in cc)

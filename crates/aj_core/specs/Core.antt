@@ -47,13 +47,16 @@ mutual
     no_stmts : Stmts
     and_stmt : Stmt → Stmts → Stmts
 
--- a class: its fields in order, the final ones, and `run` where it says `implements Runnable`
+-- a class: its fields in order, those of the classes above it first; the final ones among them; the method that runs for `run`, where it counts as
+-- `implements Runnable`; the class that it extends; and each method that it has, its own or from above, with the one that runs for it
 pub record Class : Type 0 where
   pub fields : List ℕ
   pub finals : List ℕ
   pub run : Option ℕ
+  pub above : Option ℕ
+  pub targets : List (ℕ × ℕ)
 
--- a field: its class, its place there, whether it is final, its type, its guard, and whether that guards writes only
+-- a field: its class, its place there and in every class that has it, whether it is final, its type, its guard, and whether that guards writes only
 pub record Field : Type 0 where
   pub class : ℕ
   pub index : ℕ

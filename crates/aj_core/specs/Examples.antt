@@ -1,9 +1,9 @@
 -- Example programs, as elaboration gives them.
-use Rattle.std.specs.Prelude.{ℕ, pos, Bool, true, false, [], ◌∷◌, Some, None}
+use Rattle.std.specs.Prelude.{ℕ, pos, Bool, true, false, List, Option, [], ◌∷◌, Some, None}
 use Rattle.aj_paths.specs.Paths.{PathData}
 use Rattle.aj_core.specs.declared.types.CoreOp.TheVariants.{Add, Div}
 use Rattle.aj_core.specs.declared.types.CoreType.TheVariants as type
-use Rattle.aj_core.specs.Core.{Program, Method, IntE, ThisE, VarE, BinaryE, GetE, CallE, NewE, no_exprs, and_expr}
+use Rattle.aj_core.specs.Core.{Program, Class, Method, IntE, ThisE, VarE, BinaryE, GetE, CallE, NewE, no_exprs, and_expr}
 use Rattle.aj_core.specs.Core.{Stmt, BlockS, LocalS, SetFieldS, DoS, SyncS, ReturnS, PrintS, StartS, no_stmts, and_stmt}
 use Rattle.aj_core.specs.Locks.{slot_path}
 
@@ -14,6 +14,10 @@ this_path = slot_path 0
 -- a block of one statement
 abbrev pub block_of : Stmt → Stmt
 block_of s = BlockS (and_stmt s no_stmts)
+
+-- a class that extends none, with these fields, these final ones among them, this `run`, and this one method
+abbrev pub plain_class : (fields finals : List ℕ) (run : Option ℕ) (m : ℕ) → Class
+plain_class fields finals run m = record { fields = fields; finals = finals; run = run; above = None; targets = (m, m) ∷ [] }
 
 -- a method without parameters, result, required locks and locals
 abbrev pub plain_method : (class place_at : ℕ) (annotated : Bool) → Stmt → Method
@@ -56,7 +60,7 @@ main_body = BlockS (and_stmt (LocalS 1 true (type.Class 0) (NewE 0 no_exprs)) (a
 -- the program
 abbrev pub counter : Program
 counter = record {
-  classes = record { fields = 0 ∷ []; finals = []; run = None } ∷ record { fields = 1 ∷ []; finals = 1 ∷ []; run = Some 1 } ∷ record { fields = []; finals = []; run = None } ∷ [];
+  classes = plain_class (0 ∷ []) [] None 0 ∷ plain_class (1 ∷ []) (1 ∷ []) (Some 1) 1 ∷ plain_class [] [] None 2 ∷ [];
   fields = record { class = 0; index = 0; is_final = false; ty = type.Int; guard = Some this_path; writes_only = false } ∷ record { class = 1; index = 0; is_final = true; ty = type.Class 0; guard = None; writes_only = false } ∷ [];
   methods = plain_method 0 48 true inc_body ∷ plain_method 1 187 false run_body ∷ record (plain_method 2 231 false main_body) { slots = 2 } ∷ [];
   main_class = 2;
@@ -68,7 +72,7 @@ counter = record {
 --     class Main { int v write_guarded_by this; void main() { .. } }
 abbrev pub guarded_main : (writes_only : Bool) (place_at : ℕ) (annotated : Bool) → Stmt → Program
 guarded_main writes_only place_at annotated body = record {
-  classes = record { fields = 0 ∷ []; finals = []; run = None } ∷ [];
+  classes = plain_class (0 ∷ []) [] None 0 ∷ [];
   fields = record { class = 0; index = 0; is_final = false; ty = type.Int; guard = Some this_path; writes_only = writes_only } ∷ [];
   methods = plain_method 0 place_at annotated body ∷ [];
   main_class = 0;

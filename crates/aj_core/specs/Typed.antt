@@ -1,11 +1,14 @@
 -- Typed core programs: what elaboration gives, said of the core program's own parts.
-use Rattle.std.specs.Prelude.{◌≡◌, ℕ, zero, suc, ◌+◌, ◌<◌, ◌≤◌, Bool, true, false, not, ◌&&◌, ◌||◌, ◌==◌, List, [], ◌∷◌, length, filter, Option, Some, None, IfSome, IsSome, All, Contains, slice_get, sum_by, if◌then◌else◌}
+use Rattle.std.specs.Prelude.{◌≡◌, ℕ, zero, suc, ◌+◌, ◌<◌, ◌≤◌, Bool, true, false, not, ◌&&◌, ◌||◌, ◌==◌, List, [], ◌∷◌, ◌++◌, map, length, filter, Option, Some, None, IfSome, IsSome, All, Contains, slice_get, sum_by, if◌then◌else◌}
+use Rattle.std.specs.Ordering.{nat_cmp}
 use Rattle.std.specs.List.Sorted.{IsStrictlySortedBy}
 use Rattle.aj_paths.specs.Paths.{PathData, path_order, most_fields}
 use Rattle.aj_core.specs.declared.types.CoreType.{CoreType}
 use Rattle.aj_core.specs.declared.types.CoreType.TheVariants as type
 use Rattle.aj_core.specs.Core.{Program, Class, Field, Method, Expr, TruthE, CallE, NewE}
 use Rattle.aj_core.specs.Core.{Stmt, Stmts, EmptyS, BlockS, LocalS, SetVarS, SetFieldS, DoS, IfS, WhileS, SyncS, ReturnS, PrintS, StartS, no_stmts, and_stmt}
+use Rattle.aj_ancestors.specs.Ancestors.{IsAncestor}
+use Rattle.aj_core.specs.Dispatch.{above_of, is_kind_of, inherited_fields, partner, inherited_target, IsOwn, Overrides}
 use Rattle.aj_core.specs.Sizes.{stmt_height, stmt_nodes}
 use Rattle.aj_core.specs.Types.{NodeType, VoidT, int_type, boolean_type, class_type, Variable, HasType, HasFit}
 
@@ -43,10 +46,10 @@ abbrev pub IsRoot : ℕ → List Variable → ℕ → ℕ → Type 0
 IsRoot class scope zero c = c ≡ class
 IsRoot class scope (suc x) c = Contains scope (record { slot = suc x; is_final = true; ty = type.Class c })
 
--- from an object of this class each field is there, is final, and leads to an object again
+-- from an object of this class each field is there, is the class's own or from above, is final, and leads to an object again
 abbrev pub LeadsOn : Program → ℕ → List ℕ → Type 0
 LeadsOn P c [] = Unit {0}
-LeadsOn P c (f ∷ fs) = (field : Field) × (d : ℕ) × (slice_get P.fields f ≡ Some field) × (field.class ≡ c) × (field.is_final ≡ true) × (field.ty ≡ type.Class d) × LeadsOn P d fs
+LeadsOn P c (f ∷ fs) = (field : Field) × (d : ℕ) × (slice_get P.fields f ≡ Some field) × (is_kind_of P c field.class ≡ true) × (field.is_final ≡ true) × (field.ty ≡ type.Class d) × LeadsOn P d fs
 
 -- the path is one of a lock expression, for the class of `this` and the variables in scope
 pub record IsLock (P : Program) (class : ℕ) (scope : List Variable) (p : PathData) : Type 0 where
@@ -98,9 +101,13 @@ abbrev pub gives_value : NodeType → Bool
 gives_value VoidT = false
 gives_value _ = true
 
--- the class says `implements Runnable`
+-- the class counts as `implements Runnable`: it has a method that runs for `run`
 abbrev pub IsRunnable : Program → ℕ → Type 0
 IsRunnable P c = (class : Class) × (slice_get P.classes c ≡ Some class) × IsSome class.run
+
+-- an expression is typed, and what it gives is an object of this class or of one below it
+abbrev pub IsOf : Program → ℕ → List Variable → Expr → ℕ → Type 0
+IsOf P class scope e d = (c : ℕ) × HasType P class scope e (class_type c) × (is_kind_of P c d ≡ true)
 
 -- in a method of this class and with this result or none
 module _ (P : Program) (class : ℕ) (result : Option CoreType) where
@@ -118,7 +125,7 @@ module _ (P : Program) (class : ℕ) (result : Option CoreType) where
     IsTypedStmt (BlockS ss) scope next = AreTypedStmts ss scope next
     IsTypedStmt (LocalS x is_final ty e) scope next = (x ≡ next) × IsType P ty × HasFit P class scope e ty
     IsTypedStmt (SetVarS x e) scope next = (ty : CoreType) × Contains scope (record { slot = x; is_final = false; ty = ty }) × HasFit P class scope e ty
-    IsTypedStmt (SetFieldS e f g) scope next = (field : Field) × (slice_get P.fields f ≡ Some field) × (field.is_final ≡ false) × HasType P class scope e (class_type field.class) × HasFit P class scope g field.ty
+    IsTypedStmt (SetFieldS e f g) scope next = (field : Field) × (slice_get P.fields f ≡ Some field) × (field.is_final ≡ false) × IsOf P class scope e field.class × HasFit P class scope g field.ty
     IsTypedStmt (DoS e drops) scope next = (T : NodeType) × HasType P class scope e T × (is_call_or_new e ≡ true) × (drops ≡ gives_value T)
     IsTypedStmt (IfS c s t) scope next = HasType P class scope c boolean_type × IsTypedStmt s scope next × IsTypedStmt t scope (next + declared_in s)
     IsTypedStmt (WhileS c s) scope next = HasType P class scope c boolean_type × IsTypedStmt s scope next
@@ -169,20 +176,46 @@ abbrev pub is_final_at : Option Field → Bool
 is_final_at None = false
 is_final_at (Some f) = f.is_final
 
--- a method of the class, without parameters, result and required locks
+-- a method that the class has, its own or from above, without parameters, result and required locks
 pub record IsEntry (P : Program) (class m : ℕ) : Type 0 where
   pub method : Method
   pub is : slice_get P.methods m ≡ Some method
-  pub of_class : method.class ≡ class
+  pub of_class : is_kind_of P class method.class ≡ true
   pub no_parameters : method.params ≡ []
   pub no_result : method.result ≡ None
   pub no_locks : method.requires_ ≡ []
 
--- a class: its fields are those of the class in order, its final fields are the final ones among them, and `run` is an entry of it
+-- what a class pairs a method with: its own with itself, one from above with one of its own or with what the class above pairs it with
+pub data IsTarget (P : Program) (c : ℕ) (above : Option ℕ) (m n : ℕ) : Type 0 where
+  own : IsOwn P c m → n ≡ m → IsTarget P c above m n
+  overridden : IsSome (inherited_target P above m) → IsOwn P c n → IsTarget P c above m n
+  inherited : inherited_target P above m ≡ Some n → IsTarget P c above m n
+
+-- the pairs of a class: they ascend, each is such a pair of two methods that are there, and each method that the class has stands in one
+pub record AreTargets (P : Program) (c : ℕ) (class : Class) : Type 0 where
+  pub ascend : IsStrictlySortedBy nat_cmp (map (λ p. p.0) class.targets)
+  pub each : (m n : ℕ) → partner class.targets m ≡ Some n → IsTarget P c class.above m n
+  pub all_own : (m : ℕ) → IsOwn P c m → IsSome (partner class.targets m)
+  pub all_inherited : (m : ℕ) → IsSome (inherited_target P class.above m) → IsSome (partner class.targets m)
+  pub ids : All (λ p. (p.0 < length P.methods) × (p.1 < length P.methods)) class.targets
+
+-- two methods with equal parameter types and finalities, results, annotations and required locks
+pub record AreAlike (first second : Method) : Type 0 where
+  pub params : first.params ≡ second.params
+  pub result : first.result ≡ second.result
+  pub annotated : first.annotated ≡ second.annotated
+  pub requires_ : first.requires_ ≡ second.requires_
+
+-- a class: the class above is there, no class is its own ancestor, the fields are those from above and then its own in order, the final fields are
+-- the final ones among them, its pairs are those of its methods, `run` is an entry of it and is there where the class above has one
 pub record IsTypedClass (P : Program) (c : ℕ) (class : Class) : Type 0 where
-  pub fields : class.fields ≡ fields_from c 0 P.fields
+  pub above : IfSome class.above (λ d. d < length P.classes)
+  pub apart : IsAncestor (above_of P) c c → ⊥
+  pub fields : class.fields ≡ inherited_fields P class.above ++ fields_from c 0 P.fields
   pub finals : class.finals ≡ filter (λ f. is_final_at (slice_get P.fields f)) class.fields
+  pub targets : AreTargets P c class
   pub run : IfSome class.run (IsEntry P c)
+  pub runs : (d : ℕ) → class.above ≡ Some d → IsRunnable P d → IsSome class.run
   pub few : length class.fields ≤ most_class_fields
 
 -- a field: it stands in its class at its index, its guard is rooted at `this`, a final field has none, and only a guard guards writes alone
@@ -209,11 +242,12 @@ pub record IsTypedMethod (P : Program) (method : Method) : Type 0 where
   pub few_params : length method.params ≤ most_parameters
   pub few_locals : declared_in method.body ≤ most_locals
 
--- a typed core program
+-- a typed core program; an overriding method is like the one that it overrides
 pub record IsTyped (P : Program) : Type 0 where
   pub classes : (c : ℕ) (class : Class) → slice_get P.classes c ≡ Some class → IsTypedClass P c class
   pub fields : (f : ℕ) (field : Field) → slice_get P.fields f ≡ Some field → IsTypedField P f field
   pub methods : (m : ℕ) (method : Method) → slice_get P.methods m ≡ Some method → IsTypedMethod P method
+  pub overriding : (over m : ℕ) (first second : Method) → Overrides P over m → slice_get P.methods over ≡ Some first → slice_get P.methods m ≡ Some second → AreAlike first second
   pub main : IsEntry P P.main_class P.main
   pub no_finals : (class : Class) → slice_get P.classes P.main_class ≡ Some class → class.finals ≡ []
   pub size : size_of P ≤ most_nodes

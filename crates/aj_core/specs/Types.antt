@@ -1,5 +1,5 @@
 -- Types of expressions: the rule of each node, read on the core program.
-use Rattle.std.specs.Prelude.{◌≡◌, ℕ, Bool, true, false, ◌||◌, ◌==◌, List, [], ◌∷◌, map, Option, Some, None, slice_get, Contains}
+use Rattle.std.specs.Prelude.{◌≡◌, ℕ, Bool, true, false, ◌||◌, List, [], ◌∷◌, map, Option, Some, None, slice_get, Contains}
 use Rattle.std.specs.List.{filter_map}
 use Rattle.aj_core.specs.declared.types.CoreOp.{CoreOp}
 use Rattle.aj_core.specs.declared.types.CoreOp.TheVariants.{Eq, Ne, Lt, Le, Gt, Ge, Add, Sub, Mul, Div, Rem}
@@ -7,6 +7,7 @@ use Rattle.aj_core.specs.declared.types.CoreType.{CoreType}
 use Rattle.aj_core.specs.declared.types.CoreType.TheVariants as type
 use Rattle.aj_core.specs.Core.{Program, Class, Field, Method, Expr, Exprs, IntE, TruthE, NullE, ThisE, VarE, NotE, NegE, BinaryE, AndE, OrE, GetE, CallE, NewE, no_exprs, and_expr}
 use Rattle.aj_core.specs.Locks.{is_class}
+use Rattle.aj_core.specs.Dispatch.{is_kind_of}
 
 -- the type of a node: that of a value, that of `null`, or none for a call without a result
 pub data NodeType : Type 0 where
@@ -31,43 +32,43 @@ abbrev pub result_type : Option CoreType → NodeType
 result_type None = VoidT
 result_type (Some t) = ValueT t
 
--- whether two types are the same
-abbrev pub type_eq : CoreType → CoreType → Bool
-type_eq type.Int type.Int = true
-type_eq type.Boolean type.Boolean = true
-type_eq (type.Class c) (type.Class d) = c == d
-type_eq _ _ = false
+-- whether a value's type fits another: they are the same, or the first is a class of the kind of the second, as this test says
+abbrev pub type_fits : (ℕ → ℕ → Bool) → CoreType → CoreType → Bool
+type_fits kind type.Int type.Int = true
+type_fits kind type.Boolean type.Boolean = true
+type_fits kind (type.Class c) (type.Class d) = kind c d
+type_fits kind _ _ = false
 
--- whether a type fits another: they are the same and not void, or it is that of `null` and the other a class
-abbrev pub fits : NodeType → NodeType → Bool
-fits (ValueT t) (ValueT u) = type_eq t u
-fits NullT NullT = true
-fits NullT (ValueT u) = is_class u
-fits _ _ = false
+-- whether a node's type fits another: those of values, or it is that of `null` and the other a class; void fits nothing
+abbrev pub fits : (ℕ → ℕ → Bool) → NodeType → NodeType → Bool
+fits kind (ValueT t) (ValueT u) = type_fits kind t u
+fits kind NullT NullT = true
+fits kind NullT (ValueT u) = is_class u
+fits kind _ _ = false
 
 -- the type of an operator on two ints, or none where they aren't
 abbrev pub of_ints : NodeType → NodeType → NodeType → Option NodeType
 of_ints result (ValueT type.Int) (ValueT type.Int) = Some result
 of_ints result _ _ = None
 
--- the type of a comparison, where one part's type fits the other's
+-- the type of a comparison of two values, where one part's type fits the other's
 abbrev pub of_equals : Bool → Option NodeType
 of_equals true = Some boolean_type
 of_equals false = None
 
 -- the type that an operator gives for the types of its parts, where there is a rule
-abbrev pub binary_type : CoreOp → NodeType → NodeType → Option NodeType
-binary_type Add = of_ints int_type
-binary_type Sub = of_ints int_type
-binary_type Mul = of_ints int_type
-binary_type Div = of_ints int_type
-binary_type Rem = of_ints int_type
-binary_type Lt = of_ints boolean_type
-binary_type Le = of_ints boolean_type
-binary_type Gt = of_ints boolean_type
-binary_type Ge = of_ints boolean_type
-binary_type Eq = λ a b. of_equals (fits a b || fits b a)
-binary_type Ne = λ a b. of_equals (fits a b || fits b a)
+abbrev pub binary_type : (ℕ → ℕ → Bool) → CoreOp → NodeType → NodeType → Option NodeType
+binary_type kind Add = of_ints int_type
+binary_type kind Sub = of_ints int_type
+binary_type kind Mul = of_ints int_type
+binary_type kind Div = of_ints int_type
+binary_type kind Rem = of_ints int_type
+binary_type kind Lt = of_ints boolean_type
+binary_type kind Le = of_ints boolean_type
+binary_type kind Gt = of_ints boolean_type
+binary_type kind Ge = of_ints boolean_type
+binary_type kind Eq = λ a b. of_equals (fits kind a b || fits kind b a)
+binary_type kind Ne = λ a b. of_equals (fits kind a b || fits kind b a)
 
 -- a parameter or local that is in scope: its slot, whether it is final, and its type
 pub record Variable : Type 0 where
@@ -100,11 +101,11 @@ module _ (P : Program) (class : ℕ) (scope : List Variable) where
     HasType (VarE x is_final ty) T = Contains scope (record { slot = x; is_final = is_final; ty = ty }) × (T ≡ ValueT ty)
     HasType (NotE e) T = HasType e boolean_type × (T ≡ boolean_type)
     HasType (NegE e) T = HasType e int_type × (T ≡ int_type)
-    HasType (BinaryE op a b) T = (A : NodeType) × (B : NodeType) × HasType a A × HasType b B × (binary_type op A B ≡ Some T)
+    HasType (BinaryE op a b) T = (A : NodeType) × (B : NodeType) × HasType a A × HasType b B × (binary_type (is_kind_of P) op A B ≡ Some T)
     HasType (AndE a b) T = HasType a boolean_type × HasType b boolean_type × (T ≡ boolean_type)
     HasType (OrE a b) T = HasType a boolean_type × HasType b boolean_type × (T ≡ boolean_type)
-    HasType (GetE e f) T = (field : Field) × (slice_get P.fields f ≡ Some field) × HasType e (class_type field.class) × (T ≡ ValueT field.ty)
-    HasType (CallE e m args) T = (method : Method) × (slice_get P.methods m ≡ Some method) × HasType e (class_type method.class) × FitEach args (parameter_types method) × (T ≡ result_type method.result)
+    HasType (GetE e f) T = (field : Field) × (slice_get P.fields f ≡ Some field) × ((c : ℕ) × HasType e (class_type c) × (is_kind_of P c field.class ≡ true)) × (T ≡ ValueT field.ty)
+    HasType (CallE e m args) T = (method : Method) × (slice_get P.methods m ≡ Some method) × ((c : ℕ) × HasType e (class_type c) × (is_kind_of P c method.class ≡ true)) × FitEach args (parameter_types method) × (T ≡ result_type method.result)
     HasType (NewE c args) T = (made : Class) × (slice_get P.classes c ≡ Some made) × FitEach args (field_types P made.finals) × (T ≡ class_type c)
 
     -- as many arguments as types, each of which fits its type
@@ -112,8 +113,8 @@ module _ (P : Program) (class : ℕ) (scope : List Variable) where
     FitEach no_exprs [] = Unit {0}
     FitEach no_exprs (t ∷ ts) = ⊥
     FitEach (and_expr e es) [] = ⊥
-    FitEach (and_expr e es) (t ∷ ts) = ((T : NodeType) × HasType e T × (fits T (ValueT t) ≡ true)) × FitEach es ts
+    FitEach (and_expr e es) (t ∷ ts) = ((T : NodeType) × HasType e T × (fits (is_kind_of P) T (ValueT t) ≡ true)) × FitEach es ts
 
   -- an expression is typed, and its type fits this one
   abbrev pub HasFit : Expr → CoreType → Type 0
-  HasFit e t = (T : NodeType) × HasType e T × (fits T (ValueT t) ≡ true)
+  HasFit e t = (T : NodeType) × HasType e T × (fits (is_kind_of P) T (ValueT t) ≡ true)

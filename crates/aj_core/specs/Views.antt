@@ -58,7 +58,7 @@ abbrev mutual
 
 -- a class as plain data
 abbrev pub class_of : CoreClass → Class
-class_of c = record { fields = c.fields.items; finals = c.finals.items; run = c.run }
+class_of c = record { fields = c.fields.items; finals = c.finals.items; run = c.run; above = c.above; targets = c.targets.items }
 
 -- a field as plain data
 abbrev pub field_of : CoreField → Field

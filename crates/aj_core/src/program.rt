@@ -1,5 +1,6 @@
 //! Programs, classes, fields and methods, with the calls that lend their parts.
 ghost use Rattle.std.specs.Prelude.{◌≡◌, map};
+ghost use Rattle.aj_core.specs.Dispatch.{partner, target_of};
 ghost use Rattle.aj_core.specs.Views.{program_of, class_of, field_of, method_of};
 
 use crate::tree::CoreStmt;
@@ -17,16 +18,19 @@ pub struct CoreProgram {
     pub main: MethodId,
 }
 
-/// A class: its fields in order, the final ones among them, and the method `run` where the class says
-/// `implements Runnable`.
+/// A class: its fields in order, those of the classes above it first, the final ones among them, the method that
+/// runs for `run` where the class counts as `implements Runnable`, the class that it extends, and each method that
+/// it has, its own or from above, with the one that runs for it, ascending by the first.
 #[derive(Drop)]
 pub struct CoreClass {
     pub fields: Vec<FieldId>,
     pub finals: Vec<FieldId>,
     pub run: Option<MethodId>,
+    pub above: Option<ClassId>,
+    pub targets: Vec<(MethodId, MethodId)>,
 }
 
-/// A field. `index` is its place among the fields of its class; a guard's path has the root 0. Where
+/// A field. `index` is its place among the fields of each class that has it; a guard's path has the root 0. Where
 /// `writes_only` is set, the guard guards writes alone.
 #[derive(Drop)]
 pub struct CoreField {
@@ -73,4 +77,24 @@ impl CoreProgram {
     {
         self.methods.as_slice()
     }
+
+    /// The method that runs for a method and an object of a class; `None` exactly where the class has no pair of that method.
+    pub fn target(&self, class: ClassId, method: MethodId) -> Option<MethodId>
+        ensures { result ≡ target_of (program_of self.now) class method }
+    {
+        let class = self.classes.get(class.0 as usize)?;
+        partner(class.targets.as_slice(), method)
+    }
+}
+
+/// The partner of a method in these pairs.
+fn partner(pairs: &[(MethodId, MethodId)], method: MethodId) -> Option<MethodId>
+    ensures { result ≡ partner pairs.now method }
+{
+    for pair in pairs {
+        if pair.0 == method {
+            return Some(pair.1);
+        }
+    }
+    None
 }

@@ -7,7 +7,7 @@ use Rattle.aj_state.specs.declared.value.StepKind.{StepKind}
 use Rattle.aj_state.specs.declared.value.StepKind.TheVariants.{Both}
 use Rattle.aj_state.specs.States.{ThreadOf, Ready, Running, Done, Faulted}
 use Rattle.aj_threads.specs.Frames.{CellFrame, CodeFrame, code_frame, code_thread, status_of}
-use Rattle.aj_emit.specs.declared.stack.Code.{Code}
+use Rattle.aj_compile.specs.declared.stack.Code.{Code}
 use Rattle.aj_steps.specs.Step.{Shared, kind_in}
 use Rattle.aj_deeds.specs.declared.deed.Deed.{Deed}
 use Rattle.aj_deeds.specs.declared.deed.Deed.TheVariants as deed

@@ -6,7 +6,7 @@ use Rattle.aj_core.specs.Core.{Program}
 use Rattle.aj_state.specs.Memory.{made_by, with_field, with_lock}
 use Rattle.aj_state.specs.States.{Frame, ThreadOf, Thread, Ready, StateOf, State, initial, main_address}
 use Rattle.aj_threads.specs.Frames.{CodeFrame}
-use Rattle.aj_emit.specs.declared.stack.Code.{Code}
+use Rattle.aj_compile.specs.declared.stack.Code.{Code}
 use Rattle.aj_compile.specs.IsCode.{IsCodeOf}
 use Rattle.aj_steps.specs.Step.{Shared, Change, Nothing, FieldIs, ObjectIs, LockIs, Prints, Starts, MoveOf, OutcomeOf, Outcome, seen_by, turn, changed, moved, outcome, step, state_after, kind_in, kind_of}
 use Rattle.aj_deeds.specs.CodeMachine.{code_turn, code_outcome, code_step, code_initial}

@@ -17,12 +17,12 @@ use Rattle.aj_state.specs.States.{Frame, ThreadOf, Thread, Running, Done, Faulte
 use Rattle.aj_threads.specs.Frames.{CodeFrame, rest_of, first_frame}
 use Rattle.aj_state.specs.Stored as S
 use Rattle.aj_state.specs.Stored.{taken_by}
-use Rattle.aj_emit.specs.declared.stack.Code.{Code}
+use Rattle.aj_compile.specs.declared.stack.Code.{Code}
 use Rattle.aj_compile.specs.Standing.{Agree, Stands}
 use Rattle.aj_compile.specs.IsCode.{IsCodeOf}
 use Rattle.aj_compile.proofs.Depth.{stands_once}
 use Rattle.aj_steps.specs.Step as D
-use Rattle.aj_steps.specs.Step.{Shared, Change, Nothing, FieldIs, LockIs, Prints, Starts, OutcomeOf, Outcome, Moves, Absent, IsDone, HadFaulted, Waits, value_at, access_kind, unless_final, index_of, run_of, has_result, most_frames, with_result, release_kind, act, act_next, turn}
+use Rattle.aj_steps.specs.Step.{Shared, Change, Nothing, FieldIs, LockIs, Prints, Starts, OutcomeOf, Outcome, Moves, Absent, IsDone, HadFaulted, Waits, value_at, access_kind, unless_final, index_of, object_class, target_at, run_of, has_result, most_frames, with_result, release_kind, act, act_next, turn}
 use Rattle.aj_deeds.specs.declared.deed.Deed.{Deed}
 use Rattle.aj_deeds.specs.declared.deed.Deed.TheVariants as deed
 use Rattle.aj_deeds.specs.CodeMachine as C
@@ -130,41 +130,50 @@ module _ (P : Program) (code : List Code) (entry room : List ℕ) (is_code : IsC
       new_like c (Some class) k = goes Both f.slots _ next f.taken rest _ k
 
       -- the caller goes on, below a new frame
-      enter_like : (m : ℕ) (method : Method) (a : Address) (place most : ℕ) → slice_get P.methods m ≡ Some method → slice_get entry m ≡ Some place → Stands R code next f.taken rest
-          → Like (deed.Enters m (length method.params) a next place most) (D.enter P see t g gs rest m method a true)
-      enter_like m method a place most there at k =
-          let n = length method.params in
-          let caller = record f { operands = under (dropped n f.operands); place = next } in
-          let callee = code_frame_at m method (value.Ref a) (taken n [] f.operands) place in
+      enter_like : (arity m : ℕ) (method : Method) (a : Address) (place most : ℕ) → slice_get P.methods m ≡ Some method → slice_get entry m ≡ Some place → Stands R code next f.taken rest
+          → Like (deed.Enters m arity a next place most) (D.enter P see t g gs rest arity m method a true)
+      enter_like arity m method a place most there at k =
+          let caller = record f { operands = under (dropped arity f.operands); place = next } in
+          let callee = code_frame_at m method (value.Ref a) (taken arity [] f.operands) place in
           let begins = subst (λ b. Stands b code place [] (St method.body ∷ Act W.Ret ∷ [])) (sym (ap has_result there)) (is_code.stands m place method there at) in
           let frames = more_frames callee (St method.body ∷ Act W.Ret ∷ []) (caller ∷ fs) (with_work caller rest ∷ gs) begins (more_frames caller rest fs gs k stand) in
           subst (λ o. OutcomeStands P code
-          (Moves (record { kind = Both; thread = C.entered m o (value.Ref a) (taken n [] f.operands) place (caller ∷ fs); change = Nothing }))
-          (D.enter P see t g gs rest m method a true)) (sym there)
-          (both_move Both (Running (callee ∷ caller ∷ fs)) (Running (new_frame m method (value.Ref a) (taken n [] f.operands) ∷ with_work caller rest ∷ gs)) Nothing (running_stands _ _ frames))
+          (Moves (record { kind = Both; thread = C.entered m o (value.Ref a) (taken arity [] f.operands) place (caller ∷ fs); change = Nothing }))
+          (D.enter P see t g gs rest arity m method a true)) (sym there)
+          (both_move Both (Running (callee ∷ caller ∷ fs)) (Running (new_frame m method (value.Ref a) (taken arity [] f.operands) ∷ with_work caller rest ∷ gs)) Nothing (running_stands _ _ frames))
 
-      depth_like : (m : ℕ) (method : Method) (a : Address) (b : Bool) → slice_get P.methods m ≡ Some method → Stands R code next f.taken rest
-          → Like (C.enters entry room next m method a b) (D.enter P see t g gs rest m method a b)
-      depth_like m method a false there k = faults_like fault.Depth
-      depth_like m method a true there k =
+      depth_like : (arity m : ℕ) (method : Method) (a : Address) (b : Bool) → slice_get P.methods m ≡ Some method → Stands R code next f.taken rest
+          → Like (C.enters entry room arity next m a b) (D.enter P see t g gs rest arity m method a b)
+      depth_like arity m method a false there k = faults_like fault.Depth
+      depth_like arity m method a true there k =
           let e = same_place P.methods entry m method is_code.entries there in
           let r = same_place P.methods room m method is_code.rooms there in
-          subst (λ o. Like (C.enters_at next m method a o (slice_get room m)) (D.enter P see t g gs rest m method a true)) (sym e.1)
-          (subst (λ o. Like (C.enters_at next m method a (Some e.0) o) (D.enter P see t g gs rest m method a true)) (sym r.1)
-          (enter_like m method a e.0 r.0 there e.1 k))
+          subst (λ o. Like (C.enters_at arity next m a o (slice_get room m)) (D.enter P see t g gs rest arity m method a true)) (sym e.1)
+          (subst (λ o. Like (C.enters_at arity next m a (Some e.0) o) (D.enter P see t g gs rest arity m method a true)) (sym r.1)
+          (enter_like arity m method a e.0 r.0 there e.1 k))
 
-      call_on_like : (m : ℕ) (method : Method) (o : Option Address) → slice_get P.methods m ≡ Some method → Stands R code next f.taken rest
-          → Like (C.calls_on entry room (length (f ∷ fs)) next m method o) (D.call_on P see t g gs rest m method o)
-      call_on_like m method None there k = faults_like fault.Null
-      call_on_like m method (Some a) there k =
-          subst (λ n. Like (C.enters entry room next m method a (nat_lt (suc n) most_frames)) (D.enter P see t g gs rest m method a (nat_lt (length (g ∷ gs)) most_frames)))
+      enter_some_like : (arity m : ℕ) (o : Option Method) (a : Address) → slice_get P.methods m ≡ o → Stands R code next f.taken rest
+          → Like (C.enters_some entry room (length (f ∷ fs)) arity next m o a) (D.enter_some P see t g gs rest arity m o a)
+      enter_some_like arity m None a there k = faults_like fault.Null
+      enter_some_like arity m (Some method) a there k =
+          subst (λ n. Like (C.enters entry room arity next m a (nat_lt (suc n) most_frames)) (D.enter P see t g gs rest arity m method a (nat_lt (length (g ∷ gs)) most_frames)))
           (sym (as_high P code fs gs stand))
-          (depth_like m method a (nat_lt (length (g ∷ gs)) most_frames) there k)
+          (depth_like arity m method a (nat_lt (length (g ∷ gs)) most_frames) there k)
 
-      call_like : (m : ℕ) (o : Option Method) → slice_get P.methods m ≡ o → Stands R code next f.taken rest
-          → Like (C.calls entry room (length (f ∷ fs)) next f.operands m o) (D.call P see t g gs rest m o)
-      call_like m None there k = faults_like fault.Null
-      call_like m (Some method) there k = call_on_like m method (address_of (top (dropped (length method.params) f.operands))) there k
+      dispatch_like : (arity : ℕ) (o : Option ℕ) (a : Address) → Stands R code next f.taken rest
+          → Like (C.dispatches P entry room (length (f ∷ fs)) arity next o a) (D.dispatch P see t g gs rest arity o a)
+      dispatch_like arity None a k = faults_like fault.Null
+      dispatch_like arity (Some m) a k = enter_some_like arity m (slice_get P.methods m) a refl k
+
+      call_on_like : (arity m : ℕ) (o : Option Address) → Stands R code next f.taken rest
+          → Like (C.calls_on P see entry room (length (f ∷ fs)) arity next m o) (D.call_on P see t g gs rest arity m o)
+      call_on_like arity m None k = faults_like fault.Null
+      call_on_like arity m (Some a) k = dispatch_like arity (target_at P m (object_class (see.object_at a))) a k
+
+      call_like : (m : ℕ) (o : Option Method) → Stands R code next f.taken rest
+          → Like (C.calls P see entry room (length (f ∷ fs)) next f.operands m o) (D.call P see t g gs rest m o)
+      call_like m None k = faults_like fault.Null
+      call_like m (Some method) k = call_on_like (length method.params) m (address_of (top (dropped (length method.params) f.operands))) k
 
       -- a lock that is taken
       takes_like : (kind : StepKind) (s : Stmt) (a : Address) (again : Bool) (o : Option Hold) (hold : Hold) → see.lock_at a ≡ o → taken_by t o ≡ hold
@@ -224,7 +233,7 @@ module _ (P : Program) (code : List Code) (entry room : List ℕ) (is_code : IsC
 
       start_like : (o : Option Address) → Stands R code next f.taken rest → Like (C.starts P see next o) (D.start P see t g gs rest o)
       start_like None k = faults_like fault.Null
-      start_like (Some a) k = start_run_like a (run_of P (see.object_at a)) k
+      start_like (Some a) k = start_run_like a (run_of P (object_class (see.object_at a))) k
 
     -- a return to the frame below
     abbrev definition_returns : Bool → List Frame → Outcome
@@ -262,7 +271,7 @@ module _ (P : Program) (code : List Code) (entry room : List ℕ) (is_code : IsC
     act_like (W.Get x) rest c h = subst (λ y. Like (deed_of P entry room see t f.slots f.operands f.taken (length (f ∷ fs)) c.next y) (act P see t g gs rest (W.Get x))) (sym h.0) (get_like rest c.next x (address_of (top f.operands)) h.1)
     act_like (W.Put x) rest c h = subst (λ y. Like (deed_of P entry room see t f.slots f.operands f.taken (length (f ∷ fs)) c.next y) (act P see t g gs rest (W.Put x))) (sym h.0) (put_like rest c.next x (address_of (top (under f.operands))) h.1)
     act_like (W.New x) rest c h = subst (λ y. Like (deed_of P entry room see t f.slots f.operands f.taken (length (f ∷ fs)) c.next y) (act P see t g gs rest (W.New x))) (sym h.0) (new_like rest c.next x (slice_get P.classes x) h.1)
-    act_like (W.Call m) rest c h = subst (λ y. Like (deed_of P entry room see t f.slots f.operands f.taken (length (f ∷ fs)) c.next y) (act P see t g gs rest (W.Call m))) (sym h.0) (call_like rest c.next m (slice_get P.methods m) refl h.1)
+    act_like (W.Call m) rest c h = subst (λ y. Like (deed_of P entry room see t f.slots f.operands f.taken (length (f ∷ fs)) c.next y) (act P see t g gs rest (W.Call m))) (sym h.0) (call_like rest c.next m (slice_get P.methods m) h.1)
     act_like (W.Acquire s) rest c h = subst (λ y. Like (deed_of P entry room see t f.slots f.operands f.taken (length (f ∷ fs)) c.next y) (act P see t g gs rest (W.Acquire s))) (sym h.0) (acquire_like rest c.next s (address_of (top f.operands)) h.1)
     act_like (W.Release a) rest c h = subst (λ y. Like (deed_of P entry room see t f.slots f.operands f.taken (length (f ∷ fs)) c.next y) (act P see t g gs rest (W.Release a))) (sym h.1)
         (subst (λ l. Like (C.releases see t c.next (first_frame l)) (act P see t g gs rest (W.Release a))) (sym h.2)

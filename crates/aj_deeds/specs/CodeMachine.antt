@@ -12,10 +12,10 @@ use Rattle.aj_state.specs.Memory.{Hold}
 use Rattle.aj_state.specs.States.{ThreadOf, Ready, Running, Done, Faulted, StateOf, new_slots, new_object, initial, main_address}
 use Rattle.aj_threads.specs.Frames.{CodeFrame, given, rest_of, first_frame}
 use Rattle.aj_state.specs.Stored.{taken_by, given_back}
-use Rattle.aj_emit.specs.declared.stack.Instr.{Instr}
-use Rattle.aj_emit.specs.declared.stack.Instr.TheVariants as i
-use Rattle.aj_emit.specs.declared.stack.Code.{Code}
-use Rattle.aj_steps.specs.Step.{Shared, Change, Nothing, FieldIs, ObjectIs, LockIs, Prints, Starts, OutcomeOf, Moves, Absent, IsDone, HadFaulted, Waits, value_at, access_kind, unless_final, index_of, run_of, class_finals, most_frames, seen_by, state_after}
+use Rattle.aj_compile.specs.declared.stack.Instr.{Instr}
+use Rattle.aj_compile.specs.declared.stack.Instr.TheVariants as i
+use Rattle.aj_compile.specs.declared.stack.Code.{Code}
+use Rattle.aj_steps.specs.Step.{Shared, Change, Nothing, FieldIs, ObjectIs, LockIs, Prints, Starts, OutcomeOf, Moves, Absent, IsDone, HadFaulted, Waits, value_at, access_kind, unless_final, index_of, object_class, target_at, run_of, class_finals, most_frames, seen_by, state_after}
 use Rattle.aj_deeds.specs.declared.deed.Deed.{Deed}
 use Rattle.aj_deeds.specs.declared.deed.Deed.TheVariants as deed
 
@@ -77,22 +77,30 @@ abbrev pub makes : (next c : ℕ) → Option Class → Deed
 makes next c None = deed.Fails fault.Null
 makes next c (Some class) = deed.Makes c (class_finals class) next
 
-abbrev pub enters_at : (next m : ℕ) → Method → Address → Option ℕ → Option ℕ → Deed
-enters_at next m method a None most = deed.Fails fault.Null
-enters_at next m method a (Some place) None = deed.Fails fault.Null
-enters_at next m method a (Some place) (Some most) = deed.Enters m (length method.params) a next place most
+abbrev pub enters_at : (arity next m : ℕ) → Address → Option ℕ → Option ℕ → Deed
+enters_at arity next m a None most = deed.Fails fault.Null
+enters_at arity next m a (Some place) None = deed.Fails fault.Null
+enters_at arity next m a (Some place) (Some most) = deed.Enters m arity a next place most
 
-abbrev pub enters : (entry room : List ℕ) → (next m : ℕ) → Method → Address → Bool → Deed
-enters entry room next m method a false = deed.Fails fault.Depth
-enters entry room next m method a true = enters_at next m method a (slice_get entry m) (slice_get room m)
+abbrev pub enters : (entry room : List ℕ) → (arity next m : ℕ) → Address → Bool → Deed
+enters entry room arity next m a false = deed.Fails fault.Depth
+enters entry room arity next m a true = enters_at arity next m a (slice_get entry m) (slice_get room m)
 
-abbrev pub calls_on : (entry room : List ℕ) → (depth next m : ℕ) → Method → Option Address → Deed
-calls_on entry room depth next m method None = deed.Fails fault.Null
-calls_on entry room depth next m method (Some a) = enters entry room next m method a (nat_lt depth most_frames)
+abbrev pub enters_some : (entry room : List ℕ) → (depth arity next m : ℕ) → Option Method → Address → Deed
+enters_some entry room depth arity next m None a = deed.Fails fault.Null
+enters_some entry room depth arity next m (Some method) a = enters entry room arity next m a (nat_lt depth most_frames)
 
-abbrev pub calls : (entry room : List ℕ) → (depth next : ℕ) → List Value → ℕ → Option Method → Deed
-calls entry room depth next operands m None = deed.Fails fault.Null
-calls entry room depth next operands m (Some method) = calls_on entry room depth next m method (address_of (top (dropped (length method.params) operands)))
+abbrev pub dispatches : Program → (entry room : List ℕ) → (depth arity next : ℕ) → Option ℕ → Address → Deed
+dispatches P entry room depth arity next None a = deed.Fails fault.Null
+dispatches P entry room depth arity next (Some m) a = enters_some entry room depth arity next m (slice_get P.methods m) a
+
+abbrev pub calls_on : Program → Shared → (entry room : List ℕ) → (depth arity next m : ℕ) → Option Address → Deed
+calls_on P see entry room depth arity next m None = deed.Fails fault.Null
+calls_on P see entry room depth arity next m (Some a) = dispatches P entry room depth arity next (target_at P m (object_class (see.object_at a))) a
+
+abbrev pub calls : Program → Shared → (entry room : List ℕ) → (depth next : ℕ) → List Value → ℕ → Option Method → Deed
+calls P see entry room depth next operands m None = deed.Fails fault.Null
+calls P see entry room depth next operands m (Some method) = calls_on P see entry room depth (length method.params) next m (address_of (top (dropped (length method.params) operands)))
 
 abbrev pub takes_held : (next : ℕ) → Address → Hold → Bool → Deed
 takes_held next a hold true = deed.Takes a true next
@@ -128,7 +136,7 @@ starts_run next a (Some m) = deed.Starts a m next
 
 abbrev pub starts : Program → Shared → (next : ℕ) → Option Address → Deed
 starts P see next None = deed.Fails fault.Null
-starts P see next (Some a) = starts_run next a (run_of P (see.object_at a))
+starts P see next (Some a) = starts_run next a (run_of P (object_class (see.object_at a)))
 
 -- a program with the entries and rooms of its methods, what a thread may see, and its number
 module _ (P : Program) (entry room : List ℕ) (see : Shared) (t : ℕ) where
@@ -146,7 +154,7 @@ module _ (P : Program) (entry room : List ℕ) (see : Shared) (t : ℕ) where
   deed_of slots operands locks depth next (i.Get x) = reads P see t next x (address_of (top operands))
   deed_of slots operands locks depth next (i.Put x) = writes P see t next (top operands) x (address_of (top (under operands)))
   deed_of slots operands locks depth next (i.New c) = makes next c (slice_get P.classes c)
-  deed_of slots operands locks depth next (i.Call m) = calls entry room depth next operands m (slice_get P.methods m)
+  deed_of slots operands locks depth next (i.Call m) = calls P see entry room depth next operands m (slice_get P.methods m)
   deed_of slots operands locks depth next i.Acquire = acquires see t next (address_of (top operands))
   deed_of slots operands locks depth next i.Release = releases see t next (first_frame locks)
   deed_of slots operands locks depth next (i.Ret result) = returns (top operands) result

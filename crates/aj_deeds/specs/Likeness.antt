@@ -6,7 +6,7 @@ use Rattle.aj_state.specs.declared.value.Fault.{Fault}
 use Rattle.aj_state.specs.Work.{Item}
 use Rattle.aj_state.specs.States.{Frame, ThreadOf, Ready, Running, Done, Faulted, StateOf}
 use Rattle.aj_threads.specs.Frames.{CodeFrame}
-use Rattle.aj_emit.specs.declared.stack.Code.{Code}
+use Rattle.aj_compile.specs.declared.stack.Code.{Code}
 use Rattle.aj_compile.specs.Standing.{Stands}
 use Rattle.aj_steps.specs.Step.{has_result}
 

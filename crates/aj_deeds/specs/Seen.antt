@@ -4,7 +4,7 @@ use Rattle.std.specs.FinMap as map
 use Rattle.aj_core.specs.Core.{Program}
 use Rattle.aj_core.specs.Views.{program_of}
 use Rattle.aj_state.specs.Memory.{made_by}
-use Rattle.aj_emit.specs.declared.stack.Code.{Code}
+use Rattle.aj_compile.specs.declared.stack.Code.{Code}
 use Rattle.aj_steps.specs.Step.{Shared}
 use Rattle.aj_deeds.specs.declared.seen.Seen.{Seen}
 

@@ -5,7 +5,7 @@ use Rattle.aj_core.specs.Core.{Program, Method}
 use Rattle.aj_state.specs.declared.value.Fault.TheVariants as fault
 use Rattle.aj_state.specs.States.{ThreadOf, Ready, Running, Done, Faulted}
 use Rattle.aj_threads.specs.Frames.{CellFrame, top_frame, frames_in, slots_of, operands_of, taken_of}
-use Rattle.aj_emit.specs.declared.stack.Code.{Code}
+use Rattle.aj_compile.specs.declared.stack.Code.{Code}
 use Rattle.aj_steps.specs.Step.{Shared}
 use Rattle.aj_deeds.specs.declared.deed.Deed.{Deed}
 use Rattle.aj_deeds.specs.declared.deed.Deed.TheVariants as deed

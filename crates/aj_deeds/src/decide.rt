@@ -4,16 +4,16 @@ ghost use Rattle.aj_core.specs.Core.{Method};
 ghost use Rattle.std.specs.Option.{option_map};
 ghost use Rattle.aj_core.specs.Views.{program_of};
 ghost use Rattle.aj_state.specs.Memory.{lists, field_value};
-ghost use Rattle.aj_steps.specs.Step.{value_at, unless_final, index_of, run_of_class, run_of, most_frames};
-ghost use Rattle.aj_deeds.specs.CodeMachine.{pushes, stores, combines, and_then, or_else, branches, reads, writes, makes, enters, calls_on, calls, acquires, releases, returns, starts, deed_of};
+ghost use Rattle.aj_steps.specs.Step.{value_at, unless_final, index_of, run_of_class, run_of, target_at, object_class, most_frames};
+ghost use Rattle.aj_deeds.specs.CodeMachine.{pushes, stores, combines, and_then, or_else, branches, reads, writes, makes, enters, enters_some, dispatches, calls_on, calls, acquires, releases, returns, starts, deed_of};
 ghost use Rattle.aj_deeds.specs.Seen.{program_in, lines_in, entry_in, room_in, shared_in};
 ghost use Rattle.aj_deeds.specs.Turns.{cell_deed, line_deed};
 
 use crate::deed::Deed;
 use crate::operators::{address_of, as_int, as_truth, binary_value, operand, unary_value};
 use crate::seen::Seen;
+use aj_compile::{Code, Instr};
 use aj_core::CoreProgram;
-use aj_emit::{Code, Instr};
 use aj_paths::{ClassId, FieldId, MethodId};
 use aj_state::{Address, Fault, Value};
 use aj_threads::ThreadCell;
@@ -123,7 +123,7 @@ fn lists(program: &CoreProgram, class: ClassId, index: u16, field: FieldId) -> b
 }
 
 /// The value of a field of an object of this class with these values.
-fn listed_value(
+pub fn listed_value(
     program: &CoreProgram,
     class: ClassId,
     values: &[Value],
@@ -231,17 +231,16 @@ fn may_deepen(depth: usize) -> bool
     depth < MOST_FRAMES
 }
 
-/// Enters a method on the object at an address, where there may be one frame more.
+/// Enters a method with this many arguments on the object at an address, where one more frame may stand.
 fn enters(
     seen: &Seen<'_>,
+    arguments: usize,
     next: u32,
     method: MethodId,
-    arguments: usize,
     address: Address,
     may: bool,
 ) -> Deed
-    ensures { (m : Method) → length m.params ≡ arguments →
-        result ≡ enters (entry_in seen.now) (room_in seen.now) next method m address may }
+    ensures { result ≡ enters (entry_in seen.now) (room_in seen.now) arguments next method address may }
 {
     if !may {
         return Deed::Fails(Fault::Depth);
@@ -262,33 +261,89 @@ fn enters(
     }
 }
 
-/// Calls a method with this many parameters on what the receiver refers to.
+/// Enters a method, where it is there.
+fn enters_some(
+    seen: &Seen<'_>,
+    depth: usize,
+    arguments: usize,
+    next: u32,
+    method: MethodId,
+    address: Address,
+) -> Deed
+    ensures { result ≡ enters_some (entry_in seen.now) (room_in seen.now) depth arguments next method (slice_get (program_in seen.now).methods method) address }
+{
+    match seen.program.methods.get(method.0 as usize) {
+        Some(_) => enters(seen, arguments, next, method, address, may_deepen(depth)),
+        None => Deed::Fails(Fault::Null),
+    }
+}
+
+/// Enters the method that runs, where there is one.
+fn dispatches(
+    seen: &Seen<'_>,
+    depth: usize,
+    arguments: usize,
+    next: u32,
+    target: Option<MethodId>,
+    address: Address,
+) -> Deed
+    ensures { result ≡ dispatches (program_in seen.now) (entry_in seen.now) (room_in seen.now) depth arguments next target address }
+{
+    match target {
+        Some(method) => enters_some(seen, depth, arguments, next, method, address),
+        None => Deed::Fails(Fault::Null),
+    }
+}
+
+/// Calls a method with this many parameters on what the receiver refers to: the object's class chooses the one that runs.
 fn calls_on(
     seen: &Seen<'_>,
     depth: usize,
+    arguments: usize,
     next: u32,
     method: MethodId,
-    arguments: usize,
     receiver: Option<Address>,
 ) -> Deed
-    ensures { (m : Method) → length m.params ≡ arguments →
-        result ≡ calls_on (entry_in seen.now) (room_in seen.now) depth next method m receiver }
+    ensures { result ≡ calls_on (program_in seen.now) (shared_in seen.now) (entry_in seen.now) (room_in seen.now) depth arguments next method receiver }
 {
     match receiver {
-        Some(address) => enters(seen, next, method, arguments, address, may_deepen(depth)),
+        Some(address) => {
+            let target = target_at(seen, method, class_at(seen, address));
+            dispatches(seen, depth, arguments, next, target, address)
+        }
         None => Deed::Fails(Fault::Null),
+    }
+}
+
+/// The class of the object at an address, where it is there.
+fn class_at(seen: &Seen<'_>, address: Address) -> Option<ClassId>
+    ensures { result ≡ object_class ((shared_in seen.now).object_at address) }
+{
+    match seen.heap.find(address) {
+        Some((class, _)) => Some(class),
+        None => None,
+    }
+}
+
+/// The method that runs for a method and an object's class, where both are there.
+fn target_at(seen: &Seen<'_>, method: MethodId, class: Option<ClassId>) -> Option<MethodId>
+    ensures { result ≡ target_at (program_in seen.now) method class }
+{
+    match class {
+        Some(class) => seen.program.target(class, method),
+        None => None,
     }
 }
 
 /// Calls a method.
 fn calls(seen: &Seen<'_>, depth: usize, next: u32, operands: &[Value], method: MethodId) -> Deed
-    ensures { result ≡ calls (entry_in seen.now) (room_in seen.now) depth next (reverse operands.now) method (slice_get (program_in seen.now).methods method) }
+    ensures { result ≡ calls (program_in seen.now) (shared_in seen.now) (entry_in seen.now) (room_in seen.now) depth next (reverse operands.now) method (slice_get (program_in seen.now).methods method) }
 {
     match seen.program.methods.get(method.0 as usize) {
         Some(found) => {
             let arguments = found.params.len();
             let receiver = address_of(operand(operands, arguments));
-            calls_on(seen, depth, next, method, arguments, receiver)
+            calls_on(seen, depth, arguments, next, method, receiver)
         }
         None => Deed::Fails(Fault::Null),
     }
@@ -353,18 +408,18 @@ fn returns(value: Value, with: bool) -> Deed
     }
 }
 
-/// The method `run` of the class of the object at an address.
-fn run_of(seen: &Seen<'_>, address: Address) -> Option<MethodId>
-    ensures { result ≡ run_of (program_in seen.now) ((shared_in seen.now).object_at address) }
+/// The method that runs for `run` and an object's class, where both are there.
+fn run_of(seen: &Seen<'_>, class: Option<ClassId>) -> Option<MethodId>
+    ensures { result ≡ run_of (program_in seen.now) class }
 {
-    match seen.heap.find(address) {
-        Some((class, _)) => run_of_class(seen.program, class),
+    match class {
+        Some(class) => run_of_class(seen.program, class),
         None => None,
     }
 }
 
 /// The method `run` of a class.
-fn run_of_class(program: &CoreProgram, class: ClassId) -> Option<MethodId>
+pub fn run_of_class(program: &CoreProgram, class: ClassId) -> Option<MethodId>
     ensures { result ≡ run_of_class (slice_get (program_of program.now).classes class) }
 {
     match program.classes.get(class.0 as usize) {
@@ -380,7 +435,7 @@ fn starts(seen: &Seen<'_>, next: u32, operand: Option<Address>) -> Deed
     let Some(address) = operand else {
         return Deed::Fails(Fault::Null);
     };
-    match run_of(seen, address) {
+    match run_of(seen, class_at(seen, address)) {
         Some(method) => Deed::Starts {
             address,
             method,

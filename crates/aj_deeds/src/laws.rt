@@ -3,7 +3,7 @@ ghost use Rattle.std.specs.Prelude.{◌≡◌, ℕ, List};
 ghost use Rattle.aj_core.specs.Core.{Program};
 ghost use Rattle.aj_state.specs.States.{State, StateOf, initial};
 ghost use Rattle.aj_threads.specs.Frames.{CodeFrame};
-ghost use Rattle.aj_emit.specs.declared.stack.Code.{Code};
+ghost use Rattle.aj_compile.specs.declared.stack.Code.{Code};
 ghost use Rattle.aj_compile.specs.IsCode.{IsCodeOf};
 ghost use Rattle.aj_steps.specs.Step.{step, kind_in, kind_of};
 ghost use Rattle.aj_deeds.specs.CodeMachine.{code_outcome, code_step, code_initial};

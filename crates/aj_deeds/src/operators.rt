@@ -7,7 +7,7 @@ use aj_core::{CoreOp, UnaryOp};
 use aj_state::{Address, Value};
 
 /// An int; another value reads as 0.
-pub(crate) fn as_int(v: Value) -> i32
+pub fn as_int(v: Value) -> i32
     ensures { result ≡ as_int v }
 {
     match v {
@@ -17,7 +17,7 @@ pub(crate) fn as_int(v: Value) -> i32
 }
 
 /// A boolean; another value reads as false.
-pub(crate) fn as_truth(v: Value) -> bool
+pub fn as_truth(v: Value) -> bool
     ensures { result ≡ as_truth v }
 {
     match v {
@@ -27,7 +27,7 @@ pub(crate) fn as_truth(v: Value) -> bool
 }
 
 /// The address that a value refers to.
-pub(crate) fn address_of(v: Value) -> Option<Address>
+pub fn address_of(v: Value) -> Option<Address>
     ensures { result ≡ address_of v }
 {
     match v {
@@ -50,7 +50,7 @@ fn value_eq(a: Value, b: Value) -> bool
 }
 
 /// What an operator gives of one value.
-pub(crate) fn unary_value(op: UnaryOp, v: Value) -> Value
+pub fn unary_value(op: UnaryOp, v: Value) -> Value
     ensures { result ≡ unary_value op v }
 {
     match op {
@@ -82,7 +82,7 @@ fn remainder(x: i32, y: i32) -> Option<Value>
 }
 
 /// What an operator gives of two values; none for a zero divisor.
-pub(crate) fn binary_value(op: CoreOp, a: Value, b: Value) -> Option<Value>
+pub fn binary_value(op: CoreOp, a: Value, b: Value) -> Option<Value>
     ensures { result ≡ binary_value op a b }
 {
     match op {

@@ -1,6 +1,6 @@
 //! What a thread may see.
+use aj_compile::CodeTable;
 use aj_core::CoreProgram;
-use aj_emit::CodeTable;
 use aj_state::{Heap, Locks};
 
 /// A program with its code, the heap, the held locks, and the number of the thread that looks.

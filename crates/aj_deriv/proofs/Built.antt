@@ -12,13 +12,13 @@ use Rattle.aj_book_grammar.specs.Combine.{Res, begins, exactly, several}
 use Rattle.aj_deriv.specs.Memory.{book_of, line_of, node_of, nodes_at}
 use Rattle.aj_book_grammar.specs.Passing.{pass_table}
 use Rattle.aj_book_grammar.specs.Reading.{count_at, line_at, lines_at, node_at, premise_with, table_line}
-use Rattle.aj_book_text.specs.Views.{after_those, plain_line, IsReadAs}
-use Rattle.aj_book_text.proofs.BookLaws.{book_by, found_text, pass_table-is, Found}
-use Rattle.aj_book_text.proofs.CursorLaws.{lines_end}
-use Rattle.aj_book_text.proofs.PassBooks.{line_shorter}
+use Rattle.aj_book_grammar.specs.Views.{after_those, plain_line, IsReadAs}
+use Rattle.aj_book_grammar.proofs.BookLaws.{book_by, found_text, pass_table-is, Found}
+use Rattle.aj_book_grammar.proofs.CursorLaws.{lines_end}
+use Rattle.aj_book_grammar.proofs.PassBooks.{line_shorter}
 use Rattle.aj_book_grammar.proofs.PassLemmas.{premise_takes}
 use Rattle.aj_book_grammar.proofs.Several.{Takes, several_done, several_more, unseen}
-use Rattle.aj_book_text.proofs.TableLaws.{exactly_plain, moved, read_same}
+use Rattle.aj_book_grammar.proofs.TableLaws.{exactly_plain, moved, read_same}
 
 -- one item more
 item_pushed : {T A : Type 0} (f : T → A) (byte : ℕ) (item : List ℕ → Res A) → Takes item → (old new : List T) (t : T) (rest behind : List ℕ) →

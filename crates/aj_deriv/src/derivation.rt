@@ -3,8 +3,7 @@ ghost use Rattle.std.specs.Prelude.{◌≡◌};
 ghost use Rattle.aj_book_grammar.specs.Derivations.{node};
 ghost use Rattle.aj_deriv.specs.Memory.{node_of, nodes_at};
 
-use aj_book_grammar::Word;
-use aj_book_text::{First, Nodes};
+use aj_book_grammar::{First, Nodes, Word};
 
 /// A node of a derivation, by its word: the number of its conclusion in the table of its book, and its premises.
 #[derive(Drop)]

@@ -2,11 +2,10 @@
 ghost use Rattle.std.specs.Prelude.{◌≡◌, ◌∷◌, [], map, IfNone, IfSome};
 ghost use Rattle.aj_book_grammar.specs.Derivations.{node};
 ghost use Rattle.aj_deriv.specs.Memory.{line_of, nodes_at};
-ghost use Rattle.aj_book_text.specs.Views.{lines_in, IsAtSome};
+ghost use Rattle.aj_book_grammar.specs.Views.{lines_in, IsAtSome};
 
 use crate::derivation::{Derivation, InMemory};
-use aj_book_grammar::Word;
-use aj_book_text::{BookCursor, Nodes, Premises};
+use aj_book_grammar::{BookCursor, Nodes, Premises, Word};
 use aj_paths::MethodId;
 
 /// The first of some method lines: the method, the number of its tree, and the word, the number and the premises of its body's

@@ -11,9 +11,9 @@ ghost use Rattle.aj_book_grammar.specs.declared.stop.BookFault.{BookFault};
 use crate::books::DerivBook;
 use crate::derivation::Derivation;
 use aj_book_grammar::{
-    BookFault, NUMBERS_END, Unbuilt, begins, expect, expect_byte, first_word, number,
+    BookCursor, BookFault, MOST_HEIGHT, NUMBERS_END, Unbuilt, begins, count, end, expect,
+    expect_byte, first_word, number, table_lines, trees,
 };
-use aj_book_text::{BookCursor, MOST_HEIGHT, count, end, table_lines, trees};
 use aj_cond::Tree;
 use aj_paths::MethodId;
 use std::alloc::Global;

@@ -112,6 +112,7 @@ module _ (judge : Judge) (book : Book) (table : judge_table judge ≡ book.table
   wrong_line (wrong.Table k) shaped w = subst (λ m. IsFirstWrong (judge_program judge) (judge_rel judge) book m (wrong.Table k)) (sym w.verdict.0) (first_wrong (wrong.Table k) shaped w)
   wrong_line (wrong.Step k node) shaped w = subst (λ m. IsFirstWrong (judge_program judge) (judge_rel judge) book m (wrong.Step k node)) (sym w.verdict.0) (first_wrong (wrong.Step k node) shaped w)
   wrong_line (wrong.Bound k) shaped w = subst (λ m. IsFirstWrong (judge_program judge) (judge_rel judge) book m (wrong.Bound k)) (sym w.verdict.0) (first_wrong (wrong.Bound k) shaped w)
+  wrong_line (wrong.Override k) shaped w = subst (λ m. IsFirstWrong (judge_program judge) (judge_rel judge) book m (wrong.Override k)) (sym w.verdict.0) (first_wrong (wrong.Override k) shaped w)
   wrong_line wrong.Memory shaped w = tt
 
   pub judged_is : length book.lines ≡ length (judge_program judge).methods → AreShaped (judge_program judge) (judge_rel judge) book → (r : Result (Unit {0}) Wrong) → AreLinesJudged judge book r →

@@ -1,5 +1,8 @@
 -- What a method line's tree is tested for.
-use Rattle.std.proofs.Common.{◌≡◌, ◌&&◌, ◌||◌, ◌↔◌, Bool, true, false, List, [], ◌∷◌, Result, Ok, Err, IfOk, if◌then◌else◌, refl, sym, ◌∙◌, ap, subst}
+use Rattle.std.proofs.Common.{◌≡◌, ◌&&◌, ◌||◌, ◌↔◌, ℕ, ◌+◌, ◌<◌, ◌≤◌, Bool, true, false, List, [], ◌∷◌, length, take, get_or, Result, Ok, Err, IfOk, if◌then◌else◌, refl, sym, ◌∙◌, ap, subst, inl, inr}
+use Rattle.std.specs.Prelude.{Contains}
+use Rattle.std.proofs.lemmas.List.{take_more, take_all}
+use Rattle.std.proofs.lemmas.List.Elements.{Contains-push_cases}
 use Rattle.std.proofs.lemmas.Bool.{and_from, and_parts}
 use Rattle.std.specs.List.{list_all}
 use Rattle.aj_paths.specs.Paths.{PathData, path_eq}
@@ -7,12 +10,18 @@ use Rattle.aj_paths.proofs.PathOrder.{eq_is, eq_itself}
 use Rattle.aj_algebra.specs.declared.basic.Basic.{Basic}
 use Rattle.aj_algebra.specs.declared.basic.Basic.TheVariants.{Error}
 use Rattle.aj_algebra.specs.HeldPaths.{Held, has_path}
+use Rattle.aj_core.specs.Core.{Program}
+use Rattle.aj_core.specs.Dispatch.{Overrides}
+use Rattle.aj_rules.specs.Effect.{Assignment}
+use Rattle.aj_rules.specs.Overriding.{AreOverriders}
+use Rattle.aj_rules.specs.Search.{row_at}
+use Rattle.aj_deriv_rules.specs.Rules.{Value}
 use Rattle.aj_cond.specs.Conditions.{Cond, LeafC, TestC, value_of, IsCanonical}
 use Rattle.aj_cond.proofs.PathLemmas.{put}
 use Rattle.aj_cond.proofs.NodeLemmas.{parts-test, parts-high, parts-low}
-use Rattle.aj_rules.specs.Rules.{IsPart, AtMost}
+use Rattle.aj_rules.specs.Rules.{IsPart, AtMost, held_in}
 use Rattle.aj_rules.proofs.BasicLemmas.{below_itself, below_chain, below_error}
-use Rattle.aj_deriv_check.specs.Good.{Falls, IsUnder, IsTabled, tests_only}
+use Rattle.aj_deriv_check.specs.Good.{Falls, IsUnder, IsUnderIn, IsTabled, tests_only}
 
 pub falls_leaf : (b : Basic) → Falls (value_of (LeafC b))
 falls_leaf b = λ H K part. below_itself b
@@ -104,11 +113,58 @@ under_is required x y z w u body own same = (
       (under_if (list_all H required) (w H) (z H) (λ e. subst (λ v. AtMost (w H) v) (sym (same H)) (under H (held_all H required e)))))),
 )
 
+-- the set itself, where it has no others
+held_whole : (rel : List PathData) (H : Held) → IsPart H (has_path rel) → held_in rel H ≡ H
+held_whole rel H part = λ i q. whole (has_path rel q) (H q) (part q) i
+  where
+    whole : (r h : Bool) → (h ≡ true → r ≡ true) → (r && h) ≡ h
+    whole true h there = refl
+    whole false true there = absurd (let none : false ≡ true = there refl in cc)
+    whole false false there = refl
+
+-- at or below a value at each part of some paths, where it is an error if a required path isn't held
+pub under_in_is : (rel required : List PathData) (x y z w u : Held → Basic) → ((H : Held) → x H ≡ w (held_in rel H)) → ((H : Held) → y H ≡ (if list_all (held_in rel H) required then z (held_in rel H) else Error)) → ((H : Held) → z H ≡ u H) →
+    ((H : Held) → AtMost (x H) (y H)) ↔ IsUnderIn rel required w u
+under_in_is rel required x y z w u over own same = (
+  (λ all H part has.
+      let K = held_in rel H in
+      let all_there = all_held K required (λ q e. and_from (has_path rel q) (H q) (part q (has q e)) (has q e)) in
+      subst (λ L. AtMost (w L) (u L)) (held_whole rel H part)
+      (subst (λ v. AtMost (w K) v) (own H ∙ ap (λ b. if b then z K else Error) all_there ∙ same K) (subst (λ v. AtMost v (y H)) (over H) (all H)))),
+  (λ under H.
+      let K = held_in rel H in
+      subst (λ v. AtMost v (y H)) (sym (over H)) (subst (λ v. AtMost (w K) v) (sym (own H))
+      (under_if (list_all K required) (w K) (z K) (λ e. subst (λ v. AtMost (w K) v) (sym (same K))
+      (under K (λ q has. (and_parts (has_path rel q) (H q) has).0) (held_all K required e)))))),
+)
+
 pub tabled_is : (rel : List PathData) (t : Cond) (relevant falls : Bool) → relevant ≡ tests_only rel t → (falls ≡ true) ↔ Falls (value_of t) →
     ((relevant && falls) ≡ true) ↔ IsTabled rel t
 tabled_is rel t relevant falls is test = (
   (λ e. let both = and_parts relevant falls e in record { relevant = sym is ∙ both.0; falls = test.0 both.1 }),
   (λ tabled. and_from relevant falls (is ∙ tabled.relevant) (test.1 tabled.falls)),
+)
+
+-- Of what holds of each of some methods.
+
+-- one method more
+pub each_more : (G : ℕ → Type 0) (ns : List ℕ) (i n : ℕ) → i < length ns → n ≡ get_or ns i n → ((m : ℕ) → Contains (take i ns) m → G m) → G n → (m : ℕ) → Contains (take (i + 1) ns) m → G m
+each_more G ns i n below is before here m has = elim (Contains-push_cases (take i ns) (get_or ns i n) m (subst (λ xs. Contains xs m) (take_more ns i n below) has)) as (λ _. G m) [
+  | inl earlier ↦ before m earlier
+  | inr same ↦ subst G (is ∙ same) here
+]
+
+-- all of them
+pub each_all : (G : ℕ → Type 0) (ns : List ℕ) (i : ℕ) → length ns ≤ i → ((m : ℕ) → Contains (take i ns) m → G m) → (m : ℕ) → Contains ns m → G m
+each_all G ns i past all m has = all m (subst (λ xs. Contains xs m) (sym (take_all i ns past)) has)
+
+-- of the methods of its row, or of those that override it
+pub overs_below : (P : Program) (rows : List (List ℕ)) → AreOverriders P rows → (m : ℕ) (overs : List ℕ) (rel rel_read required required_read : List PathData) (A : Assignment) (own : Value) →
+    overs ≡ row_at rows m → rel_read ≡ rel → required_read ≡ required →
+    ((n : ℕ) → Contains overs n → IsUnderIn rel_read required_read (A n) own) ↔ ((n : ℕ) → Overrides P n m → IsUnderIn rel required (A n) own)
+overs_below P rows overriders m overs rel rel_read required required_read A own is same_rel same_required = (
+  (λ all n o. subst (λ r. IsUnderIn rel r (A n) own) same_required (subst (λ r. IsUnderIn r required_read (A n) own) same_rel (all n (subst (λ ns. Contains ns n) (sym is) ((overriders m n).1 o))))),
+  (λ below n has. subst (λ r. IsUnderIn rel_read r (A n) own) (sym same_required) (subst (λ r. IsUnderIn r required (A n) own) (sym same_rel) (below n ((overriders m n).0 (subst (λ ns. Contains ns n) is has))))),
 )
 
 -- a test, in other words

@@ -50,7 +50,8 @@ module _ (P : Program) (rel : ℕ → List PathData) where
   good_no_verdict table A m method line (wrong.Shape k n) good v = v
   good_no_verdict table A m method line (wrong.Table k) good v = v.1 good.tabled
   good_no_verdict table A m method line (wrong.Step k n) good v = stepped_no_fault table A method line n good.stepped v.2
-  good_no_verdict table A m method line (wrong.Bound k) good v = v.3 good.bounded
+  good_no_verdict table A m method line (wrong.Override k) good v = v.3 good.overrides
+  good_no_verdict table A m method line (wrong.Bound k) good v = v.4 good.bounded
   good_no_verdict table A m method line wrong.Memory good v = v
 
   one_verdict : (table : List Cond) (A : Assignment) (m : ℕ) (method : Method) (line : Line) (w v : Wrong) → IsLineVerdict P rel table A m method line (Some w) →
@@ -61,17 +62,26 @@ module _ (P : Program) (rel : ℕ → List PathData) where
   one_verdict table A m method line (wrong.Table k) wrong.Memory a b = absurd b
   one_verdict table A m method line (wrong.Table k) (wrong.Table j) a b = ap (λ z. wrong.Table z) (a.0 ∙ sym b.0)
   one_verdict table A m method line (wrong.Table k) (wrong.Step j i) a b = absurd (a.1 b.1)
+  one_verdict table A m method line (wrong.Table k) (wrong.Override j) a b = absurd (a.1 b.1)
   one_verdict table A m method line (wrong.Table k) (wrong.Bound j) a b = absurd (a.1 b.1)
   one_verdict table A m method line (wrong.Step k n) (wrong.Shape j i) a b = absurd b
   one_verdict table A m method line (wrong.Step k n) wrong.Memory a b = absurd b
   one_verdict table A m method line (wrong.Step k n) (wrong.Table j) a b = absurd (b.1 a.1)
   one_verdict table A m method line (wrong.Step k n) (wrong.Step j i) a b =
       let position = a.0 ∙ sym b.0 in let node = one_step_fault table A method line n i a.2 b.2 in λ x. wrong.Step (position x) (node x)
+  one_verdict table A m method line (wrong.Step k n) (wrong.Override j) a b = absurd (stepped_no_fault table A method line n b.2 a.2)
   one_verdict table A m method line (wrong.Step k n) (wrong.Bound j) a b = absurd (stepped_no_fault table A method line n b.2 a.2)
+  one_verdict table A m method line (wrong.Override k) (wrong.Shape j i) a b = absurd b
+  one_verdict table A m method line (wrong.Override k) wrong.Memory a b = absurd b
+  one_verdict table A m method line (wrong.Override k) (wrong.Table j) a b = absurd (b.1 a.1)
+  one_verdict table A m method line (wrong.Override k) (wrong.Step j i) a b = absurd (stepped_no_fault table A method line i a.2 b.2)
+  one_verdict table A m method line (wrong.Override k) (wrong.Override j) a b = ap (λ z. wrong.Override z) (a.0 ∙ sym b.0)
+  one_verdict table A m method line (wrong.Override k) (wrong.Bound j) a b = absurd (a.3 b.3)
   one_verdict table A m method line (wrong.Bound k) (wrong.Shape j i) a b = absurd b
   one_verdict table A m method line (wrong.Bound k) wrong.Memory a b = absurd b
   one_verdict table A m method line (wrong.Bound k) (wrong.Table j) a b = absurd (b.1 a.1)
   one_verdict table A m method line (wrong.Bound k) (wrong.Step j i) a b = absurd (stepped_no_fault table A method line i a.2 b.2)
+  one_verdict table A m method line (wrong.Bound k) (wrong.Override j) a b = absurd (b.3 a.3)
   one_verdict table A m method line (wrong.Bound k) (wrong.Bound j) a b = ap (λ z. wrong.Bound z) (a.0 ∙ sym b.0)
 
   module _ (book : Book) where
@@ -103,21 +113,31 @@ module _ (P : Program) (rel : ℕ → List PathData) where
     one_wrong (wrong.Shape m n) (wrong.Shape j i) some other a b = one_misshaped m n j i a b
     one_wrong (wrong.Shape m n) (wrong.Table j) some other a b = absurd (shapes_exclude m n b.shaped a)
     one_wrong (wrong.Shape m n) (wrong.Step j i) some other a b = absurd (shapes_exclude m n b.shaped a)
+    one_wrong (wrong.Shape m n) (wrong.Override j) some other a b = absurd (shapes_exclude m n b.shaped a)
     one_wrong (wrong.Shape m n) (wrong.Bound j) some other a b = absurd (shapes_exclude m n b.shaped a)
     one_wrong (wrong.Table m) wrong.Memory some other a b = absurd (other refl)
     one_wrong (wrong.Table m) (wrong.Shape j i) some other a b = absurd (shapes_exclude j i a.shaped b)
     one_wrong (wrong.Table m) (wrong.Table j) some other a b = one_first m j (wrong.Table m) (wrong.Table j) a b
     one_wrong (wrong.Table m) (wrong.Step j i) some other a b = one_first m j (wrong.Table m) (wrong.Step j i) a b
+    one_wrong (wrong.Table m) (wrong.Override j) some other a b = one_first m j (wrong.Table m) (wrong.Override j) a b
     one_wrong (wrong.Table m) (wrong.Bound j) some other a b = one_first m j (wrong.Table m) (wrong.Bound j) a b
     one_wrong (wrong.Step m n) wrong.Memory some other a b = absurd (other refl)
     one_wrong (wrong.Step m n) (wrong.Shape j i) some other a b = absurd (shapes_exclude j i a.shaped b)
     one_wrong (wrong.Step m n) (wrong.Table j) some other a b = one_first m j (wrong.Step m n) (wrong.Table j) a b
     one_wrong (wrong.Step m n) (wrong.Step j i) some other a b = one_first m j (wrong.Step m n) (wrong.Step j i) a b
+    one_wrong (wrong.Step m n) (wrong.Override j) some other a b = one_first m j (wrong.Step m n) (wrong.Override j) a b
     one_wrong (wrong.Step m n) (wrong.Bound j) some other a b = one_first m j (wrong.Step m n) (wrong.Bound j) a b
+    one_wrong (wrong.Override m) wrong.Memory some other a b = absurd (other refl)
+    one_wrong (wrong.Override m) (wrong.Shape j i) some other a b = absurd (shapes_exclude j i a.shaped b)
+    one_wrong (wrong.Override m) (wrong.Table j) some other a b = one_first m j (wrong.Override m) (wrong.Table j) a b
+    one_wrong (wrong.Override m) (wrong.Step j i) some other a b = one_first m j (wrong.Override m) (wrong.Step j i) a b
+    one_wrong (wrong.Override m) (wrong.Override j) some other a b = one_first m j (wrong.Override m) (wrong.Override j) a b
+    one_wrong (wrong.Override m) (wrong.Bound j) some other a b = one_first m j (wrong.Override m) (wrong.Bound j) a b
     one_wrong (wrong.Bound m) wrong.Memory some other a b = absurd (other refl)
     one_wrong (wrong.Bound m) (wrong.Shape j i) some other a b = absurd (shapes_exclude j i a.shaped b)
     one_wrong (wrong.Bound m) (wrong.Table j) some other a b = one_first m j (wrong.Bound m) (wrong.Table j) a b
     one_wrong (wrong.Bound m) (wrong.Step j i) some other a b = one_first m j (wrong.Bound m) (wrong.Step j i) a b
+    one_wrong (wrong.Bound m) (wrong.Override j) some other a b = one_first m j (wrong.Bound m) (wrong.Override j) a b
     one_wrong (wrong.Bound m) (wrong.Bound j) some other a b = one_first m j (wrong.Bound m) (wrong.Bound j) a b
 
     good_shaped : IsGoodBook P rel book → AreShaped P rel book
@@ -139,5 +159,6 @@ module _ (P : Program) (rel : ℕ → List PathData) where
     good_no_wrong (wrong.Shape m n) some good w = shapes_exclude m n (good_shaped good) w
     good_no_wrong (wrong.Table m) some good w = good_first m (wrong.Table m) good w
     good_no_wrong (wrong.Step m n) some good w = good_first m (wrong.Step m n) good w
+    good_no_wrong (wrong.Override m) some good w = good_first m (wrong.Override m) good w
     good_no_wrong (wrong.Bound m) some good w = good_first m (wrong.Bound m) good w
     good_no_wrong wrong.Memory some good w = some refl

@@ -106,6 +106,7 @@ fault_here P rel book m method line (wrong.Shape k node) is at before f =
 fault_here P rel book m method line wrong.Memory is at before f = tt
 fault_here P rel book m method line (wrong.Table k) is at before f = absurd f
 fault_here P rel book m method line (wrong.Step k node) is at before f = absurd f
+fault_here P rel book m method line (wrong.Override k) is at before f = absurd f
 fault_here P rel book m method line (wrong.Bound k) is at before f = absurd f
 
 pub shape_wrong : {S : Type 0} (view : S → List Line) (P : Program) (rel : ℕ → List PathData) (book : Book) (m : ℕ) (numbers : List ℕ) (method : Method) (rest : List Line) (fault : Wrong) →

@@ -6,8 +6,8 @@ use Rattle.aj_book_grammar.specs.Books.{Book}
 use Rattle.aj_book_grammar.specs.Texts.{IsTextOf}
 use Rattle.aj_book_grammar.specs.Faults.{first_fault}
 use Rattle.aj_book_grammar.specs.declared.stop.BookFault.{BookFault}
-use Rattle.aj_book_text.proofs.BookLaws.{complete_book}
-use Rattle.aj_book_text.proofs.CursorLaws.{one_book, no_fault, same_fault}
+use Rattle.aj_book_grammar.proofs.BookLaws.{complete_book}
+use Rattle.aj_book_grammar.proofs.CursorLaws.{one_book, no_fault, same_fault}
 use Rattle.aj_deriv_check.specs.declared.wrong.Wrong.{Wrong}
 use Rattle.aj_deriv_check.specs.declared.wrong.Wrong.TheVariants as wrong
 use Rattle.aj_deriv_check.specs.declared.wrong.TextWrong.{TextWrong}
@@ -21,6 +21,7 @@ memory_or : (w : Wrong) → (w ≡ wrong.Memory) ⊎ (w ≢ wrong.Memory)
 memory_or (wrong.Shape m n) = inr (λ e. absurd (cc))
 memory_or (wrong.Table m) = inr (λ e. absurd (cc))
 memory_or (wrong.Step m n) = inr (λ e. absurd (cc))
+memory_or (wrong.Override m) = inr (λ e. absurd (cc))
 memory_or (wrong.Bound m) = inr (λ e. absurd (cc))
 memory_or wrong.Memory = inl refl
 

@@ -1,5 +1,5 @@
 -- What is wrong with a book, in the order of judgement: the shape of every method line first, and then, method by method, its tree,
--- its steps and its bound.
+-- its steps, the trees of the methods that override it, and its bound.
 use Rattle.std.specs.Prelude.{◌≡◌, ◌≢◌, ◌⊎◌, ℕ, ◌<◌, List, Option, Some, None, slice_get}
 use Rattle.aj_paths.specs.Paths.{PathData}
 use Rattle.aj_core.specs.Core.{Program, Method}
@@ -8,7 +8,7 @@ use Rattle.aj_deriv_check.specs.declared.wrong.Wrong.{Wrong}
 use Rattle.aj_deriv_check.specs.declared.wrong.Wrong.TheVariants as wrong
 use Rattle.aj_deriv_rules.specs.Parts.{StmtP, places, Fits, IsLeastBad}
 use Rattle.aj_deriv_rules.specs.Conclusions.{table_value}
-use Rattle.aj_deriv_check.specs.Good.{book_assignment, cond_at, IsStep, IsUnderOwn, IsShaped, IsTabled, IsStepped, IsBounded, IsGoodLine}
+use Rattle.aj_deriv_check.specs.Good.{book_assignment, cond_at, IsStep, IsUnderOwn, IsShaped, IsTabled, IsStepped, IsOverBelow, IsBounded, IsGoodLine}
 use Rattle.aj_rules.specs.Effect.{Assignment}
 use Rattle.aj_cond.specs.Conditions.{Cond}
 
@@ -39,8 +39,11 @@ IsLineVerdict P rel table A m method line None = IsGoodLine P rel table A m meth
 IsLineVerdict P rel table A m method line (Some (wrong.Table k)) = (k ≡ m) × (IsTabled (rel m) (cond_at (slice_get table line.number)) → ⊥)
 IsLineVerdict P rel table A m method line (Some (wrong.Step k node)) =
     (k ≡ m) × IsTabled (rel m) (cond_at (slice_get table line.number)) × HasStepFault P rel table A method line node
+IsLineVerdict P rel table A m method line (Some (wrong.Override k)) =
+    (k ≡ m) × IsTabled (rel m) (cond_at (slice_get table line.number)) × IsStepped P rel table A method line × (IsOverBelow P rel table A m method line → ⊥)
 IsLineVerdict P rel table A m method line (Some (wrong.Bound k)) =
-    (k ≡ m) × IsTabled (rel m) (cond_at (slice_get table line.number)) × IsStepped P rel table A method line × (IsBounded P rel table A method line → ⊥)
+    (k ≡ m) × IsTabled (rel m) (cond_at (slice_get table line.number)) × IsStepped P rel table A method line × IsOverBelow P rel table A m method line
+    × (IsBounded P rel table A method line → ⊥)
 IsLineVerdict P rel table A m method line (Some (wrong.Shape k node)) = ⊥
 IsLineVerdict P rel table A m method line (Some wrong.Memory) = ⊥
 
@@ -74,5 +77,6 @@ module _ (P : Program) (rel : ℕ → List PathData) (book : Book) where
   IsWrong (wrong.Shape m node) = IsFirstMisshaped m node
   IsWrong (wrong.Table m) = IsFirstWrong m (wrong.Table m)
   IsWrong (wrong.Step m node) = IsFirstWrong m (wrong.Step m node)
+  IsWrong (wrong.Override m) = IsFirstWrong m (wrong.Override m)
   IsWrong (wrong.Bound m) = IsFirstWrong m (wrong.Bound m)
   IsWrong wrong.Memory = Unit {0}

@@ -4,6 +4,7 @@ use Rattle.aj_paths.specs.Paths.{PathData}
 use Rattle.aj_algebra.specs.declared.basic.Basic.TheVariants.{Const}
 use Rattle.aj_algebra.specs.HeldPaths.{Held, has_path}
 use Rattle.aj_core.specs.Core.{Program, Method}
+use Rattle.aj_core.specs.Dispatch.{Overrides}
 use Rattle.aj_cond.specs.Conditions.{Cond, LeafC, TestC, value_of}
 use Rattle.aj_rules.specs.Effect.{Assignment}
 use Rattle.aj_rules.specs.Rules.{IsPart, AtMost, declared_bound}
@@ -34,6 +35,10 @@ tests_only paths (TestC p a b) = has_path paths p && (tests_only paths a && test
 -- the first value is at most the second at every set that has the required paths
 abbrev pub IsUnder : List PathData → Value → Value → Type 0
 IsUnder required body own = (H : Held) → IsPart (has_path required) H → AtMost (body H) (own H)
+
+-- the first value is at most the second at every part of these paths that has the required ones
+abbrev pub IsUnderIn : (rel required : List PathData) → Value → Value → Type 0
+IsUnderIn rel required over own = (H : Held) → IsPart H (has_path rel) → IsPart (has_path required) H → AtMost (over H) (own H)
 
 -- the value that the rule gives to a node, from what a table and method lines say
 abbrev pub rule_at : Program → (ℕ → List PathData) → (ℕ → Value) → Assignment → Place → Value
@@ -73,6 +78,10 @@ module _ (P : Program) (rel : ℕ → List PathData) (table : List Cond) (A : As
     pub under : IsUnderOwn method line
     pub steps : Each (IsStep P rel (table_value table) A) (places (StmtP method.body) line.body)
 
+  -- what is assigned to each method that overrides this one is at or below the method's tree, wherever a call of it may begin
+  abbrev pub IsOverBelow : ℕ → Method → Line → Type 0
+  IsOverBelow m method line = (over : ℕ) → Overrides P over m → IsUnderIn (rel m) method.requires_ (A over) (table_value table line.number)
+
   -- the tree at the required paths keeps the method's bound
   abbrev pub IsBounded : Method → Line → Type 0
   IsBounded method line = AtMost (table_value table line.number (has_path method.requires_)) (declared_bound method.annotated)
@@ -81,6 +90,7 @@ module _ (P : Program) (rel : ℕ → List PathData) (table : List Cond) (A : As
   pub record IsGoodLine (m : ℕ) (method : Method) (line : Line) : Type 0 where
     pub tabled : IsTabled (rel m) (cond_at (slice_get table line.number))
     pub stepped : IsStepped method line
+    pub overrides : IsOverBelow m method line
     pub bounded : IsBounded method line
 
 -- a book is good for a program: for each method it has a line of the method's shape, which is good

@@ -17,6 +17,7 @@ IsShapeFault m method line (wrong.Shape k node) = (k ≡ m) × HasShapeFault m m
 IsShapeFault m method line wrong.Memory = Unit {0}
 IsShapeFault m method line (wrong.Table k) = ⊥
 IsShapeFault m method line (wrong.Step k node) = ⊥
+IsShapeFault m method line (wrong.Override k) = ⊥
 IsShapeFault m method line (wrong.Bound k) = ⊥
 
 -- the shape of the first of some method lines, seen by view: the number of its tree, and the lines that are then still to come

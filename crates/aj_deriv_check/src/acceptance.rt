@@ -5,7 +5,7 @@ ghost use Rattle.aj_core.specs.Views.{program_of};
 ghost use Rattle.aj_cond.specs.Conditions.{cond_of};
 ghost use Rattle.aj_book_grammar.specs.Books.{Book, AreTrees};
 ghost use Rattle.aj_deriv.specs.Memory.{book_of};
-ghost use Rattle.aj_book_text.specs.Views.{IsCursorAt};
+ghost use Rattle.aj_book_grammar.specs.Views.{IsCursorAt};
 ghost use Rattle.aj_rules.specs.Near.{AreRelevant, rel_of};
 ghost use Rattle.aj_rules.specs.Rules.{IsAdmissible};
 ghost use Rattle.aj_book_grammar.specs.Faults.{first_fault};
@@ -20,13 +20,12 @@ ghost use Rattle.aj_deriv_check.specs.Passes.{IsVerdict};
 use crate::checked::Checked;
 use crate::passes::{lines, shapes};
 use crate::wrong::{TextWrong, Wrong};
-use aj_book_grammar::BookFault;
-use aj_book_text::BookCursor;
+use aj_book_grammar::{BookCursor, BookFault};
 use aj_cond::Tree;
 use aj_core::CoreProgram;
 use aj_deriv::{DerivBook, Lines, LinesInMemory, read_book};
 use aj_deriv_rules::Judge;
-use aj_rules::RelevantSets;
+use aj_rules::{RelevantSets, overriders};
 use std::alloc::Global;
 use std::mem::forget;
 
@@ -68,7 +67,8 @@ fn judged_book<L: Lines>(
         table,
         lines: numbers.as_slice(),
     };
-    lines(alloc, &judge, from)
+    let over = overriders(alloc, program)?;
+    lines(alloc, &judge, &over, from)
 }
 
 /// The judgement of a book in memory.

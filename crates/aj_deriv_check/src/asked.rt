@@ -7,8 +7,7 @@ ghost use Rattle.aj_deriv_rules.specs.Parts.{Fits};
 ghost use Rattle.aj_deriv_check.specs.Good.{IsStep};
 
 use crate::walk::Asked;
-use aj_book_grammar::Word;
-use aj_book_text::Nodes;
+use aj_book_grammar::{Nodes, Word};
 use aj_deriv_rules::{BodyPart, Judge, Work, inner_parts, part_word, same_length};
 use aj_deriv_steps::is_step;
 use std::alloc::{AllocError as NoMemory, Global};

@@ -1,28 +1,29 @@
 //! The judgement of one method line beside its method.
-ghost use Rattle.std.specs.Prelude.{◌≡◌, ◌↔◌, ◌&&◌, ℕ, true, slice_get, IfOk};
+ghost use Rattle.std.specs.Prelude.{◌≡◌, ◌↔◌, ◌&&◌, ℕ, true, slice_get, Contains, IfOk};
 ghost use Rattle.aj_algebra.specs.Basics.{below_of};
 ghost use Rattle.aj_algebra.specs.HeldPaths.{has_path};
 ghost use Rattle.aj_cond.specs.Conditions.{cond_of, value_of, IsCanonical};
 ghost use Rattle.aj_core.specs.Views.{method_of};
 ghost use Rattle.aj_book_grammar.specs.Derivations.{node};
 ghost use Rattle.aj_rules.specs.Rules.{declared_bound};
+ghost use Rattle.aj_rules.specs.Overriding.{AreOverriders};
 ghost use Rattle.aj_deriv_check.specs.Faults.{IsLineVerdict};
-ghost use Rattle.aj_deriv_check.specs.Good.{cond_at, tests_only as tests_only_of, Falls, IsTabled, IsUnder};
+ghost use Rattle.aj_deriv_check.specs.Good.{cond_at, tests_only as tests_only_of, Falls, IsTabled, IsUnder, IsUnderIn};
 ghost use Rattle.aj_deriv_rules.specs.Judges.{judge_assignment, judge_program, judge_rel, judge_table, judge_value, AreCanonical};
 
 use crate::asked::Steps;
 use crate::walk::{End, walk_node};
 use crate::wrong::Wrong;
 use aj_algebra::{Algebra, Basic};
-use aj_book_grammar::Word;
-use aj_book_text::Nodes;
+use aj_book_grammar::{Nodes, Word};
 use aj_cond::{Tree, Trees};
 use aj_core::CoreMethod;
 use aj_deriv_rules::{
-    BodyPart, Judge, Work, below, conclusion, holds, same_copy, tree_at, where_held,
+    BodyPart, Judge, Work, assigned, below, conclusion, holds, same_copy, tree_at, where_held,
+    within,
 };
 use aj_paths::{MethodId, Path};
-use aj_rules::RelevantSets;
+use aj_rules::{OverridingMethods, RelevantSets};
 use std::alloc::{AllocError as NoMemory, Global};
 use std::cell::Cell;
 
@@ -91,6 +92,49 @@ fn is_under(
     below(work, &body, &wherever)
 }
 
+/// Whether the tree of a method is at or below this one, at each part of these paths that has the required ones.
+fn is_under_in(
+    alloc: Global,
+    work: Work<'_>,
+    judge: &Judge<'_>,
+    rel: &[Path],
+    required: &[Path],
+    over: MethodId,
+    own: u32,
+) -> Result<bool, NoMemory>
+    requires { AreCanonical (judge_table judge.now) }
+    ensures { IfOk result (λ b. (b ≡ true) ↔ IsUnderIn rel.now required.now (judge_assignment judge.now over) (judge_value judge.now own)) }
+{
+    let tree = assigned(alloc, work, judge, over)?;
+    let there = within(alloc, work, rel, &tree)?;
+    let own = conclusion(alloc, work, judge, own)?;
+    let wherever = where_held(alloc, work, required, own)?;
+    let here = within(alloc, work, rel, &wherever)?;
+    below(work, &there, &here)
+}
+
+/// Whether the trees of these methods are.
+fn are_under_in(
+    alloc: Global,
+    work: Work<'_>,
+    judge: &Judge<'_>,
+    rel: &[Path],
+    required: &[Path],
+    overs: &[MethodId],
+    own: u32,
+) -> Result<bool, NoMemory>
+    requires { AreCanonical (judge_table judge.now) }
+    ensures { IfOk result (λ b. (b ≡ true) ↔ ((over : ℕ) → Contains overs.now over →
+        IsUnderIn rel.now required.now (judge_assignment judge.now over) (judge_value judge.now own))) }
+{
+    for over in overs {
+        if !is_under_in(alloc, work, judge, rel, required, *over, own)? {
+            return Ok(false);
+        }
+    }
+    Ok(true)
+}
+
 /// The greatest basic that a method may have at its required locks.
 fn bound(annotated: bool) -> Basic
     ensures { result ≡ declared_bound annotated }
@@ -129,11 +173,13 @@ fn work_for<'a>(sets: &RelevantSets, m: MethodId, left: &'a Cell<u32>) -> Work<'
     Work::new(near.min(16) as u32, left)
 }
 
-/// What is wrong with a method line beside its method first, if anything is: its tree, then its steps, then its bound.
+/// What is wrong with a method line beside its method first, if anything is: its tree, then its steps, then the trees of the
+/// methods that override it, then its bound.
 pub(crate) fn line_verdict<F: Nodes>(
     alloc: Global,
     left: &Cell<u32>,
     judge: &Judge<'_>,
+    over: &OverridingMethods,
     m: MethodId,
     method: &CoreMethod,
     own: u32,
@@ -143,6 +189,7 @@ pub(crate) fn line_verdict<F: Nodes>(
 ) -> Result<Option<Wrong>, NoMemory>
     requires kept { F.AreKept premises }
     requires canonical { AreCanonical (judge_table judge.now) }
+    requires overriders { AreOverriders (judge_program judge.now) over.now }
     ensures { (id : ℕ) → IfOk result (IsLineVerdict (judge_program judge.now) (judge_rel judge.now) (judge_table judge.now) (judge_assignment judge.now) m
         (method_of method.now) (record { id = id; number = own; body = node word number (F.nodes premises) })) }
 {
@@ -151,7 +198,8 @@ pub(crate) fn line_verdict<F: Nodes>(
     if !is_tabled(work, judge.sets.rel(m), &tree)? {
         return Ok(Some(Wrong::Table { method: m.0 }));
     }
-    if !is_under(alloc, work, judge, method.requires_.as_slice(), number, own)? {
+    let required = method.requires_.as_slice();
+    if !is_under(alloc, work, judge, required, number, own)? {
         return Ok(Some(Wrong::Step {
             method: m.0,
             node: 0,
@@ -159,8 +207,20 @@ pub(crate) fn line_verdict<F: Nodes>(
     }
     let body = BodyPart::Stmt(&method.body);
     let steps = Steps { judge, work };
-    if let End::Bad(node) = walk_node(alloc, &steps, body, word, number, premises, 0)? {
-        return Ok(Some(Wrong::Step { method: m.0, node }));
+    match walk_node(alloc, &steps, body, word, number, premises, 0)? {
+        End::Good(_) => (),
+        End::Bad(node) => return Ok(Some(Wrong::Step { method: m.0, node })),
+    }
+    if !are_under_in(
+        alloc,
+        work,
+        judge,
+        judge.sets.rel(m),
+        required,
+        over.of(m),
+        own,
+    )? {
+        return Ok(Some(Wrong::Override { method: m.0 }));
     }
     if !is_bounded(&tree, method) {
         return Ok(Some(Wrong::Bound { method: m.0 }));

@@ -1,9 +1,11 @@
-//! The two passes over the method lines of a book: their shapes, and then method by method their trees, steps and bounds.
+//! The two passes over the method lines of a book: their shapes, and then method by method their trees, steps, overriding methods
+//! and bounds.
 ghost use Rattle.std.specs.Prelude.{◌≡◌, ◌↔◌, ◌+◌, ℕ, List, true, IfOk};
 ghost use Rattle.aj_core.specs.Views.{method_of, program_of};
 ghost use Rattle.aj_cond.specs.Conditions.{Cond};
 ghost use Rattle.aj_paths.specs.Paths.{PathData};
-ghost use Rattle.aj_deriv_rules.specs.Judges.{judge_table, AreCanonical};
+ghost use Rattle.aj_rules.specs.Overriding.{AreOverriders};
+ghost use Rattle.aj_deriv_rules.specs.Judges.{judge_program, judge_table, AreCanonical};
 ghost use Rattle.aj_deriv_check.specs.Passes.{AreAllShaped, AreLinesJudged, IsLineStep, IsShapeStep};
 
 use crate::asked::Shapes;
@@ -14,6 +16,7 @@ use aj_core::{CoreMethod, CoreProgram};
 use aj_deriv::Lines;
 use aj_deriv_rules::{BodyPart, Judge};
 use aj_paths::MethodId;
+use aj_rules::OverridingMethods;
 use std::alloc::{AllocError as NoMemory, Global};
 use std::cell::Cell;
 
@@ -92,10 +95,16 @@ pub(crate) fn shapes<L: Lines>(
     }
 }
 
-/// The second pass: method by method the tree, the steps and the bound of its line.
-pub(crate) fn lines<L: Lines>(alloc: Global, judge: &Judge<'_>, from: L) -> Result<(), Wrong>
+/// The second pass: method by method the tree, the steps, the overriding methods' trees and the bound of its line.
+pub(crate) fn lines<L: Lines>(
+    alloc: Global,
+    judge: &Judge<'_>,
+    over: &OverridingMethods,
+    from: L,
+) -> Result<(), Wrong>
     requires kept { L.AreLinesKept from }
     requires canonical { AreCanonical (judge_table judge.now) }
+    requires overriders { AreOverriders (judge_program judge.now) over.now }
     ensures { (table : List Cond) → AreLinesJudged judge.now (record { table = table; lines = L.lines from }) result }
 {
     let left = Cell::new(MOST_WORK);
@@ -103,7 +112,7 @@ pub(crate) fn lines<L: Lines>(alloc: Global, judge: &Judge<'_>, from: L) -> Resu
     let mut rest = judge.program.methods();
     let mut m = 0;
     'methods: while let Some((method, others)) = rest.split_first() {
-        match next_verdict(alloc, &left, judge, m, method, ahead) {
+        match next_verdict(alloc, &left, judge, over, m, method, ahead) {
             Ok(behind) => ahead = behind,
             Err(wrong) => return Err(wrong),
         }
@@ -118,12 +127,14 @@ fn next_verdict<L: Lines>(
     alloc: Global,
     left: &Cell<u32>,
     judge: &Judge<'_>,
+    over: &OverridingMethods,
     m: u32,
     method: &CoreMethod,
     from: L,
 ) -> Result<L, Wrong>
     requires kept { L.AreLinesKept from }
     requires canonical { AreCanonical (judge_table judge.now) }
+    requires overriders { AreOverriders (judge_program judge.now) over.now }
     ensures step { IsLineStep L.lines judge.now m (method_of method.now) (L.lines from) result }
     ensures kept { IfOk result L.AreLinesKept }
 {
@@ -134,6 +145,7 @@ fn next_verdict<L: Lines>(
         alloc,
         left,
         judge,
+        over,
         MethodId(m),
         method,
         line.number,

@@ -5,8 +5,7 @@ ghost use Rattle.aj_deriv_rules.specs.Parts.{places, places_of};
 ghost use Rattle.aj_deriv_rules.specs.Bodies.{list_of, part_of};
 ghost use Rattle.aj_deriv_check.specs.Walks.{IsEnd};
 
-use aj_book_grammar::Word;
-use aj_book_text::Nodes;
+use aj_book_grammar::{Nodes, Word};
 use aj_deriv_rules::{BodyPart, Parts, inner_parts};
 use std::alloc::{AllocError as NoMemory, Global};
 

@@ -19,6 +19,9 @@ pub enum Wrong {
     Bound { method: u32 },
     /// There was no memory for the judgement.
     Memory,
+    /// The tree of a method that overrides this one isn't at or below its tree, at some part of its relevant paths that has its
+    /// required ones.
+    Override { method: u32 },
 }
 
 /// What is wrong with a text: it is no book's, or its book is wrong for the program.

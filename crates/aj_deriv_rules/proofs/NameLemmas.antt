@@ -9,7 +9,8 @@ use Rattle.aj_algebra.specs.declared.basic.Basic.TheVariants.{Error}
 use Rattle.aj_cond.specs.Conditions.{Cond, LeafC, TestC, cond_of, value_of}
 use Rattle.aj_cond.specs.declared.tree.Tree.{Tree}
 use Rattle.aj_rules.specs.Effect.{after_local, held_under}
-use Rattle.aj_deriv_rules.specs.Judges.{named_set, local_name, call_name}
+use Rattle.aj_rules.specs.Rules.{held_in}
+use Rattle.aj_deriv_rules.specs.Judges.{named_set, local_name, call_name, own_name}
 
 -- a tree has one value at two sets with the same paths
 pub value_same : (t : Cond) (H K : Held) → ((q : PathData) → H q ≡ K q) → value_of t H ≡ value_of t K
@@ -28,6 +29,13 @@ named_local false x (Some p) q H e = rw e refl
 
 pub local_value : (t : Cond) (x : ℕ) (o : Option PathData) (H : Held) → value_of t (named_set (local_name x o) H) ≡ value_of t (after_local H x o)
 local_value t x o H = value_same t (named_set (local_name x o) H) (after_local H x o) (λ q. named_local (q.root == x) x o q H refl)
+
+named_own : (b : Bool) (q : PathData) (H : Held) → holds_at (if b then Some q else None) H ≡ (b && H q)
+named_own true q H = refl
+named_own false q H = refl
+
+pub own_value : (t : Cond) (paths : List PathData) (H : Held) → value_of t (named_set (own_name paths) H) ≡ value_of t (held_in paths H)
+own_value t paths H = value_same t (named_set (own_name paths) H) (held_in paths H) (λ q. named_own (has_path paths q) q H)
 
 named_call : (b : Bool) (o : Option PathData) (H : Held) → holds_at (if b then o else None) H ≡ (b && holds_at o H)
 named_call true o H = refl

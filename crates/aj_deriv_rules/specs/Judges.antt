@@ -50,6 +50,10 @@ named_set name H q = holds_at (name q) H
 abbrev pub local_name : ℕ → Option PathData → PathData → Option PathData
 local_name x value q = if q.root == x then extended_some value q.fields else Some q
 
+-- a path under its own name, where it is among these
+abbrev pub own_name : List PathData → PathData → Option PathData
+own_name paths q = if has_path paths q then Some q else None
+
 -- what a callee's path is called here, where it is relevant
 abbrev pub call_name : List PathData → Option PathData → List (Option PathData) → PathData → Option PathData
 call_name rel receiver args q = if has_path rel q then under_call receiver args q else None

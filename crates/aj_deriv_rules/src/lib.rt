@@ -13,8 +13,8 @@ mod work;
 
 pub use accesses::{Branching, access, access_value};
 pub use judge::Judge;
-pub use lookups::{conclusion, line_number, required, tree_at};
-pub use names::{call_name, holds, where_held};
+pub use lookups::{assigned, conclusion, line_number, required, tree_at};
+pub use names::{call_name, holds, where_held, within};
 pub use parts::{BodyPart, Parts, inner_parts, part_word, same_length};
 pub use rules::{call, keeps_paths, paths, rule, rule_within};
 pub use values::{below, leaf, same_copy};

@@ -48,7 +48,7 @@ pub fn conclusion(
 }
 
 /// The tree of a method's line; const where there is none.
-pub(crate) fn assigned(
+pub fn assigned(
     alloc: Global,
     work: Work<'_>,
     judge: &Judge<'_>,

@@ -7,7 +7,8 @@ ghost use Rattle.aj_algebra.specs.HeldPaths.{Held, has_path};
 ghost use Rattle.aj_cond.specs.Conditions.{cond_of, value_of, IsCanonical};
 ghost use Rattle.aj_core.specs.Views.{program_of, stmt_of};
 ghost use Rattle.aj_rules.specs.Effect.{after_stmt, held_under};
-ghost use Rattle.aj_deriv_rules.specs.Judges.{call_name as call_name_of, local_name as local_name_of, named_set};
+ghost use Rattle.aj_rules.specs.Rules.{held_in};
+ghost use Rattle.aj_deriv_rules.specs.Judges.{call_name as call_name_of, local_name as local_name_of, named_set, own_name as own_name_of};
 
 use crate::values::{held_or, leaf};
 use crate::work::Work;
@@ -83,6 +84,43 @@ pub fn holds(paths: &[Path], path: &Path) -> bool
     ensures { result ≡ has_path paths.now path.now }
 {
     paths.iter().any(|other| other.same(path))
+}
+
+/// A path under its own name, where it is among these.
+fn own_name(paths: &[Path], path: &Path) -> Option<Path>
+    ensures { result ≡ own_name_of paths.now path.now }
+{
+    if holds(paths, path) {
+        Some(path.copy())
+    } else {
+        None
+    }
+}
+
+/// The value of a tree where no path counts as held but these.
+fn among(alloc: Global, work: Work<'_>, paths: &[Path], t: &Tree) -> Result<Tree, NoMemory>
+    ensures known { IfOk result (λ r. IsCanonical (cond_of r)) }
+    ensures value { IfOk result (λ r. (H : Held) →
+        value_of (cond_of r) H ≡ value_of (cond_of t.now) (named_set (own_name_of paths.now) H)) }
+{
+    match t {
+        Tree::Leaf(basic) => Ok(leaf(*basic)),
+        Tree::Test(path, a, b) => {
+            let held = among(alloc, work, paths, a)?;
+            let free = among(alloc, work, paths, b)?;
+            let name = own_name(paths, path);
+            held_or(alloc, work, name.as_ref(), &held, &free)
+        }
+    }
+}
+
+/// The value of a tree at those of the held paths that are among these.
+#[tactic(auto, using(crate::proofs::NameLemmas::own_value))]
+pub fn within(alloc: Global, work: Work<'_>, paths: &[Path], t: &Tree) -> Result<Tree, NoMemory>
+    ensures known { IfOk result (λ r. IsCanonical (cond_of r)) }
+    ensures value { IfOk result (λ r. (H : Held) → value_of (cond_of r) H ≡ value_of (cond_of t.now) (held_in paths.now H)) }
+{
+    among(alloc, work, paths, t)
 }
 
 /// What a callee's path is called here, where it is relevant.

@@ -5,8 +5,7 @@ ghost use Rattle.aj_core.specs.Views.{expr_of, stmt_of};
 ghost use Rattle.aj_deriv_rules.specs.Parts.{ExprP, StmtP, parts_of, word_of};
 ghost use Rattle.aj_deriv_rules.specs.Bodies.{list_of, part_of};
 
-use aj_book_grammar::Word;
-use aj_book_text::Nodes;
+use aj_book_grammar::{Nodes, Word};
 use aj_core::{CoreExpr, CoreStmt};
 
 /// A part of a body.

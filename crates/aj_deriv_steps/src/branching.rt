@@ -16,7 +16,7 @@ ghost use Rattle.aj_deriv_rules.specs.Bodies.{part_of};
 
 use crate::pairs::{both, branches, leaf_of};
 use aj_algebra::Basic;
-use aj_book_text::Nodes;
+use aj_book_grammar::Nodes;
 use aj_cond::Tree;
 use aj_core::{CoreExpr, CoreProgram, CoreStmt};
 use aj_deriv_rules::{BodyPart, Branching, access_value, tree_at};

@@ -12,7 +12,7 @@ ghost use Rattle.aj_deriv_rules.specs.Rules.{block_value, rule_of, stmt_rule as 
 use crate::branching::plain_step;
 use crate::chain::is_step_at_end;
 use crate::sequences::{block_below, expr_below, stmt_below};
-use aj_book_text::Nodes;
+use aj_book_grammar::Nodes;
 use aj_cond::Tree;
 use aj_core::CoreStmt;
 use aj_deriv_rules::{BodyPart, Judge, Work, below, rule_within, tree_at};

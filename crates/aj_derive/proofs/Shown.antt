@@ -8,7 +8,7 @@ use Rattle.aj_algebra.specs.HeldPaths.{Held, has_path}
 use Rattle.aj_core.specs.Core.{Program, Method}
 use Rattle.aj_cond.specs.Conditions.{Cond, value_of}
 use Rattle.aj_rules.specs.Effect.{Assignment, effect}
-use Rattle.aj_rules.specs.Rules.{IsPart, AtMost, declared_bound}
+use Rattle.aj_rules.specs.Rules.{IsPart, AtMost, held_in, declared_bound}
 use Rattle.aj_rules.proofs.BasicLemmas.{below_itself, below_chain}
 use Rattle.aj_rules.proofs.EffectRises.{stmt_rises}
 use Rattle.aj_infer.specs.Least.{IsLeast}
@@ -57,11 +57,18 @@ module _ (P : Program) (rel : ℕ → List PathData) (A : Assignment) (trees : L
   pub keeps_rules : KeepsRules P rel (trees_assign trees)
   keeps_rules = record {
     falling = λ m H K within part. falls m H K within part (slice_get_cases trees m).1;
-    closed = λ m method is H within required.
-        let t = tree_of m method is in
-        below_chain (effect P rel (trees_assign trees) method.body H) (effect P rel A method.body H) (trees_assign trees m H)
-        (stmt_rises P rel (trees_assign trees) A (λ k K part. below k K (slice_get_cases trees k).1) method.body H)
-        (subst (λ z. AtMost (effect P rel A method.body H) z) (sym (shows m t.0 t.1 H)) (least.closed m method is H within required));
+    closed = record {
+      bodies = λ m method is H within required.
+          let t = tree_of m method is in
+          below_chain (effect P rel (trees_assign trees) method.body H) (effect P rel A method.body H) (trees_assign trees m H)
+          (stmt_rises P rel (trees_assign trees) A (λ k K part. below k K (slice_get_cases trees k).1) method.body H)
+          (subst (λ z. AtMost (effect P rel A method.body H) z) (sym (shows m t.0 t.1 H)) (least.closed.bodies m method is H within required));
+      overrides = λ m over method is o H within required.
+          let t = tree_of m method is in
+          below_chain (trees_assign trees over (held_in (rel over) H)) (A over (held_in (rel over) H)) (trees_assign trees m H)
+          (below over (held_in (rel over) H) (slice_get_cases trees over).1)
+          (subst (λ z. AtMost (A over (held_in (rel over) H)) z) (sym (shows m t.0 t.1 H)) (least.closed.overrides m over method is o H within required));
+    };
     relevant = λ m H. looks m H (slice_get_cases trees m).1;
     bounds = λ m method is.
         let t = tree_of m method is in

@@ -191,6 +191,8 @@ module _ (P : Program) (rel : ℕ → List PathData) (trees table : List Cond) (
             steps = λ k x there. λ H. let e = each_exact P rel (trees_assign trees) table (StmtP method.body) line.body l.concludes k x there H in
                 subst (λ z. AtMost z (table_value table (number_of x.at) H)) e (below_itself (table_value table (number_of x.at) H));
           };
+          overrides = λ over o H inside p. subst (λ z. AtMost (trees_assign trees over H) z) (sym (own H))
+              (subst (λ z. AtMost z (trees_assign trees m H)) (sym (keeps.relevant over H)) (keeps.closed.overrides m over method is o H inside p));
           bounded = subst (λ z. AtMost z (declared_bound method.annotated)) (sym (own (has_path method.requires_))) (keeps.bounds m method is);
         }
 

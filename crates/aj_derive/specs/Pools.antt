@@ -1,7 +1,7 @@
 -- Trees, each once.
 use Rattle.std.specs.Prelude.{◌≡◌, ◌⊎◌, ℕ, ◌^◌, ◌<◌, List, [], ◌∷◌, ◌++◌, map, length, Some, slice_get}
 use Rattle.aj_cond.specs.Conditions.{Cond, cond_of}
-use Rattle.aj_node_rows.specs.Nodes.{Items}
+use Rattle.aj_nodes.specs.Nodes.{Items}
 use Rattle.aj_nodes.specs.Shown.{AreThere, trees_at}
 use Rattle.aj_book_grammar.specs.Books.{AreTrees, HasPaths, tests_high}
 use Rattle.aj_derive.specs.declared.pool.Pool.{Pool}

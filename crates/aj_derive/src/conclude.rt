@@ -7,7 +7,7 @@ ghost use Rattle.aj_deriv_rules.specs.Conclusions.{conclusions, table_value};
 ghost use Rattle.aj_deriv_rules.specs.Rules.{rule_of};
 ghost use Rattle.aj_deriv_rules.specs.Bodies.{list_of, part_of};
 ghost use Rattle.aj_rules.specs.Near.{rel_of};
-ghost use Rattle.aj_node_rows.specs.Nodes.{Grows, IsTable};
+ghost use Rattle.aj_nodes.specs.Nodes.{Grows, IsTable};
 ghost use Rattle.aj_nodes.specs.Shown.{IsThere, AreThere, node_value, trees_at};
 ghost use Rattle.aj_derive_rules.specs.Bases.{own_trees, trees_assign};
 ghost use Rattle.aj_derive.specs.Concluded.{BeginsWith, ConcludesOn, ConcludeAllOn};

@@ -10,7 +10,7 @@ ghost use Rattle.aj_derive_rules.specs.Bases.{own_trees, trees_assign};
 ghost use Rattle.aj_derive.specs.Derived.{IsDerived, KeepsRules};
 ghost use Rattle.aj_derive.specs.Lines.{AreLinesOf, IsLineMade};
 ghost use Rattle.aj_derive.specs.Pools.{pool_table, ArePooled, IsPool};
-ghost use Rattle.aj_node_rows.specs.Nodes.{Items, Grows};
+ghost use Rattle.aj_nodes.specs.Nodes.{Items, Grows};
 ghost use Rattle.aj_nodes.specs.Shown.{IsThere, node_tree};
 ghost use Rattle.aj_rules.specs.Near.{AreRelevant, rel_of};
 

@@ -10,7 +10,7 @@ use Rattle.aj_core.specs.Core.{Program}
 use Rattle.aj_cond.specs.Conditions.{Cond, value_of}
 use Rattle.aj_rules.specs.Effect.{after_local, held_under, call_of, required_paths}
 use Rattle.aj_nodes.specs.declared.table.Node.{Node}
-use Rattle.aj_node_rows.specs.Nodes.{Items}
+use Rattle.aj_nodes.specs.Nodes.{Items}
 use Rattle.aj_nodes.specs.Shown.{IsThere, AreThere, node_value}
 use Rattle.aj_deriv_rules.specs.Conclusions.{tree_value}
 use Rattle.aj_deriv_rules.specs.Judges.{named_set, local_name, call_name}

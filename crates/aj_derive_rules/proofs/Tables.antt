@@ -6,7 +6,7 @@ use Rattle.aj_algebra.specs.HeldPaths.{Held}
 use Rattle.aj_cond.specs.Conditions.{Cond, value_of, IsCanonical}
 use Rattle.aj_cond.proofs.SameValues.{unique}
 use Rattle.aj_nodes.specs.declared.table.Node.{Node}
-use Rattle.aj_node_rows.specs.Nodes.{Items, tree_at, IsTable, Grows}
+use Rattle.aj_nodes.specs.Nodes.{Items, tree_at, IsTable, Grows}
 use Rattle.aj_nodes.specs.Shown.{IsThere, AreThere, node_tree, node_value, trees_at}
 use Rattle.aj_derive_rules.specs.Named.{Keeping}
 

@@ -3,7 +3,7 @@ use Rattle.std.specs.Prelude.{length, Option, Some}
 use Rattle.std.specs.Option.{option_copied}
 use Rattle.aj_paths.specs.Paths.{PathData}
 use Rattle.aj_algebra.specs.Values.{Keeps}
-use Rattle.aj_node_rows.specs.Nodes.{Items}
+use Rattle.aj_nodes.specs.Nodes.{Items}
 use Rattle.aj_nodes.specs.Shown.{IsThere, node_value}
 use Rattle.aj_deriv_rules.specs.Judges.{local_name, call_name}
 use Rattle.aj_derive_rules.specs.declared.names.Names.{Names}

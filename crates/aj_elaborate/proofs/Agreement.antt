@@ -7,6 +7,7 @@ use Rattle.std.proofs.lemmas.List.{map-append, length-map}
 use Rattle.std.proofs.lemmas.List.Quantifiers.{position-Some}
 use Rattle.aj_core.specs.declared.types.CoreType.{CoreType}
 use Rattle.aj_core.specs.Core.{Program}
+use Rattle.aj_core.proofs.DispatchLemmas.{kind_same}
 use Rattle.aj_core.specs.Types as typing
 use Rattle.aj_core.specs.Types.{field_type, field_types}
 use Rattle.aj_core.specs.Typed.{fields_from, is_final_at, IsEntry, IsRunnable}
@@ -20,7 +21,7 @@ use Rattle.aj_class_rules.specs.Faults as class_fault
 use Rattle.aj_class_rules.specs.declared.fault.ClassFault.TheVariants.{Twice, NoRun, NoMain, TooMany}
 use Rattle.aj_classes.specs.Table.{TableData, ClassData, FieldData, MethodData, type_of, class_number, field_in, field_number, method_in, method_number, table_of}
 use Rattle.aj_type_rules.specs.Rulings.{gain}
-use Rattle.aj_statement_rules.specs.Locks.{lock_rule}
+use Rattle.aj_type_rules.specs.Locks.{lock_rule}
 use Rattle.aj_type_rules.specs.Rules.{field_named, numbered_field, method_named, numbered_method, parameter_types, final_types, fields_in}
 use Rattle.aj_elaborate.specs.Programs.{all_there, field_node, ascending, guard_path, method_scope, run_of}
 use Rattle.aj_elaborate.proofs.Complete.{front_empty, back_empty}
@@ -113,11 +114,11 @@ module _ (tree : ProgramTree) (P : Program) (b : IsBuilt tree P) where
       let r = result_at (core_method the_table) (methods_at 0 tree) P.methods b.methods n d at in
       method_is the_table P n d r.0 r.1 r.2
 
-  pub class_there : (c : ℕ) (C : ClassTree) → slice_get tree c ≡ Some C → slice_get P.classes c ≡ Some (class_node the_table P.fields c C)
-  class_there c C at = ap (λ z. slice_get z c) b.classes ∙ class_at the_table P.fields 0 tree c c C (omega arith) at
+  pub class_there : (c : ℕ) (C : ClassTree) → slice_get tree c ≡ Some C → slice_get P.classes c ≡ Some (class_node the_table P.fields P.methods c C)
+  class_there c C at = ap (λ z. slice_get z c) b.classes ∙ class_at the_table P.fields P.methods 0 tree c c C (omega arith) at
 
   pub classes_many : length P.classes ≡ length tree
-  classes_many = ap length b.classes ∙ classes_long the_table P.fields 0 tree
+  classes_many = ap length b.classes ∙ classes_long the_table P.fields P.methods 0 tree
 
   -- ---- a class and its members
 
@@ -174,7 +175,7 @@ module _ (tree : ProgramTree) (P : Program) (b : IsBuilt tree P) where
     own_reads = reads the_table P (length place.fields_before) own (λ i n d number is. own_there i n d number is)
 
     -- the types of its final fields
-    pub finals_are : field_types P (class_node the_table P.fields c C).finals ≡ final_types the_table c
+    pub finals_are : field_types P (class_node the_table P.fields P.methods c C).finals ≡ final_types the_table c
     finals_are =
         let names = the_table.names in
         let kept : ℕ → Bool = λ f. is_final_at (slice_get P.fields f) in
@@ -224,7 +225,7 @@ module _ (tree : ProgramTree) (P : Program) (b : IsBuilt tree P) where
           record {
             method = is.method;
             is = is.is;
-            of_class = ap (λ z. z.class) (sym is.node) ∙ each_at (λ d. d.class ≡ c) (own_methods c C.members) e.0 d (own_method_class c C.members) e.2;
+            of_class = kind_same P c is.method.class (sym (ap (λ z. z.class) (sym is.node) ∙ each_at (λ d. d.class ≡ c) (own_methods c C.members) e.0 d (own_method_class c C.members) e.2));
             no_parameters = ap (λ z. z.params) (sym is.node) ∙ ap (map (λ q. (q.is_final, type_of the_table.names q.ty))) no_params;
             no_result = ap (λ z. z.result) (sym is.node) ∙ ap (option_map (type_of the_table.names)) no_result;
             no_locks = ap (λ z. z.requires_) (sym is.node) ∙ ap ascending (sym paths_none);
@@ -271,7 +272,7 @@ module _ (tree : ProgramTree) (P : Program) (b : IsBuilt tree P) where
       subst (IsFieldOf P c) d.2 (record {
         field = is.field;
         is = is.is;
-        of_class = is.class ∙ each_at (λ d. d.class ≡ c) (own c C.0 C.1) i.0 x.0 (own_class c 0 C.0.members) x.1;
+        of_class = kind_same P c is.field.class (sym (is.class ∙ each_at (λ d. d.class ≡ c) (own c C.0 C.1) i.0 x.0 (own_class c 0 C.0.members) x.1));
         finality = is.finality ∙ ap (λ z. z.is_final) data_is;
         ty = is.ty ∙ ap (λ z. z.ty) data_is;
       })
@@ -300,7 +301,7 @@ module _ (tree : ProgramTree) (P : Program) (b : IsBuilt tree P) where
       subst (IsMethodOf P c) d.2 (record {
         method = is.method;
         is = is.is;
-        of_class = ap (λ z. z.class) (sym is.node) ∙ each_at (λ d. d.class ≡ c) mine i.0 x.0 (own_method_class c C.0.members) x.1;
+        of_class = kind_same P c is.method.class (sym (ap (λ z. z.class) (sym is.node) ∙ each_at (λ d. d.class ≡ c) mine i.0 x.0 (own_method_class c C.0.members) x.1));
         params = ap typing.parameter_types (sym is.node) ∙ params_alike the_table.names x.0.method.params ∙ ap parameter_types data_is;
         result = ap (λ z. z.result) (sym is.node) ∙ ap (λ z. z.returns) data_is;
       })
@@ -310,7 +311,7 @@ module _ (tree : ProgramTree) (P : Program) (b : IsBuilt tree P) where
       let within : c < length the_table.names = (position-Some (bytes_eq name) the_table.names c [] h).0 in
       let many : length the_table.names ≡ length tree = length-map (class_names tree) (λ n. n.text) ∙ length-map tree (λ c. c.name) in
       let C = get_below tree c (omega (arith, within, many)) in
-      record { class = class_node the_table P.fields c C.0; is = class_there c C.0 C.1; finals = finals_are c C.0 C.1 }
+      record { class = class_node the_table P.fields P.methods c C.0; is = class_there c C.0 C.1; finals = finals_are c C.0 C.1 }
 
   module _ (s : AreSound tree) where
     runs_agree : (c : ℕ) (d : ClassData) → slice_get the_table.classes c ≡ Some d → d.runnable ≡ true → IsRunnable P c
@@ -318,7 +319,7 @@ module _ (tree : ProgramTree) (P : Program) (b : IsBuilt tree P) where
         let C = class_known c d at in
         let entry_is = same_entry c d C.0 C.1 at in
         let r = run_there c C.0 C.1 (each_at (IsSound (known_in tree)) tree c C.0 s.classes C.1) (ap (λ z. z.runnable) entry_is ∙ says) in
-        (class_node the_table P.fields c C.0, class_there c C.0 C.1, ap is_some r.1)
+        (class_node the_table P.fields P.methods c C.0, class_there c C.0 C.1, ap is_some r.1)
 
     -- the table and the core program agree
     pub agrees : Agrees the_table P

@@ -9,8 +9,8 @@ use Rattle.aj_type_rules.specs.declared.fault.TypeFault.TheVariants.{NoMemory as
 use Rattle.aj_type_rules.specs.Noted.{noted}
 use Rattle.aj_elaborate.specs.Programs.{IsFirstFault, IsCoreOf, faults_of, faults_from, program_node, all_there, all_fields, all_methods}
 use Rattle.aj_type_rules.specs.Rulings.{both}
-use Rattle.aj_elaborate.specs.Order.{Ascends}
-use Rattle.aj_elaborate.proofs.Ordering.{fields_ascend}
+use Rattle.aj_elaborate.specs.Order.{Ascends, MethodsAscend}
+use Rattle.aj_elaborate.proofs.Ordering.{fields_ascend, methods_ascend}
 use Rattle.aj_elaborate.proofs.Complete.{one_core, program_there}
 use Rattle.aj_elaborate.proofs.FirstFaults.{first_is, none_is, no_first, one_first}
 
@@ -68,6 +68,10 @@ fault_told view (Err e) tree (inr told) f first = inl (one_first tree e f told f
 -- the fields of a program are in the order of their classes
 pub fields_ordered : (classes : ProgramTree) (t : TableData) (fields : List Field) (all : Option (List Field)) → all ≡ Some fields → all ≡ all_there (all_fields t 0 classes) → Ascends 0 fields
 fields_ordered classes t fields all some is = fields_ascend t classes fields (sym is ∙ some)
+
+-- so are the methods
+pub methods_ordered : (classes : ProgramTree) (t : TableData) (methods : List Method) (all : Option (List Method)) → all ≡ Some methods → all ≡ all_there (all_methods t 0 classes) → MethodsAscend 0 methods
+methods_ordered classes t methods all some is = methods_ascend t classes methods (sym is ∙ some)
 
 -- ---- no part is missing
 

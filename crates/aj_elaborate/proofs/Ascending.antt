@@ -5,7 +5,7 @@ use Rattle.std.specs.declared.cmp.Ordering.TheVariants.{Less, Equal, Greater}
 use Rattle.std.specs.Ordering.{match_ordering}
 use Rattle.std.specs.BTreeSet.{insert_key}
 use Rattle.aj_paths.specs.Paths.{PathData, path_order}
-use Rattle.aj_elaborate.specs.Programs.{by_order, inserted, ascending}
+use Rattle.aj_elaborate.specs.Programs.{by_order, inserted}
 
 same_choice : {A : Type 0} (r : Ordering) (a b c : A) → match_ordering r a b c ≡ by_order r a b c
 same_choice Less a b c = refl

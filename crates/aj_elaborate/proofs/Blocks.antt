@@ -15,13 +15,13 @@ use Rattle.aj_syntax.specs.Trees as tree
 use Rattle.aj_syntax.specs.Views.{stmt_of, stmts_from}
 use Rattle.aj_classes.specs.Table.{TableData}
 use Rattle.aj_type_rules.specs.declared.fault.TypeFault.{TypeFault}
-use Rattle.aj_statement_rules.specs.Completion.{completes, completes_each, locals_in, locals_in_each}
+use Rattle.aj_type_rules.specs.Completion.{completes, completes_each, locals_in, locals_in_each}
 use Rattle.aj_elaborate.specs.Gathered.{one_more}
 use Rattle.aj_type_rules.specs.Noted.{noted}
-use Rattle.aj_statement_rules.specs.Locks.{lock_rule}
+use Rattle.aj_type_rules.specs.Locks.{lock_rule}
 use Rattle.aj_type_rules.specs.Rulings.{gain, loss, both}
 use Rattle.aj_type_rules.specs.Scopes.{Scope}
-use Rattle.aj_statement_rules.specs.Stmts.{if_node, scope_after, stmt_core, block_core, stmt_faults, block_faults, unreachable}
+use Rattle.aj_type_rules.specs.Stmts.{if_node, scope_after, stmt_core, block_core, stmt_faults, block_faults, unreachable}
 use Rattle.aj_elaborate.proofs.Gathering.{so_far, so_far_more, before_rest, linked}
 use Rattle.aj_type_rules.proofs.Noting.{noted_append}
 

@@ -7,15 +7,15 @@ use Rattle.aj_syntax.specs.Trees.{MethodTree}
 use Rattle.aj_syntax.specs.declared.tree.Param.{Param}
 use Rattle.aj_classes.specs.Table.{TableData, type_of}
 use Rattle.aj_type_rules.specs.declared.fault.TypeFault.{TypeFault}
-use Rattle.aj_statement_rules.specs.Completion.{completes_each, locals_in_each}
-use Rattle.aj_statement_rules.specs.Stmts.{return_faults}
-use Rattle.aj_statement_rules.specs.Locks.{lock_rule}
+use Rattle.aj_type_rules.specs.Completion.{completes_each, locals_in_each}
+use Rattle.aj_type_rules.specs.Stmts.{return_faults}
+use Rattle.aj_type_rules.specs.Locks.{lock_rule}
 use Rattle.aj_elaborate.specs.Making.{method_from, types_in}
 use Rattle.aj_type_rules.specs.Noted.{noted}
 use Rattle.aj_elaborate.specs.Programs.{all_there, method_scope, method_result, method_faults, method_core, method_node, missing_return}
 use Rattle.aj_type_rules.specs.Rulings.{gain, loss, both}
 use Rattle.aj_type_rules.specs.Scopes.{Scope, parameters_from}
-use Rattle.aj_statement_rules.specs.Stmts.{block_core, block_faults}
+use Rattle.aj_type_rules.specs.Stmts.{block_core, block_faults}
 use Rattle.aj_type_rules.proofs.Noting.{noted_append}
 
 -- a fact, whatever was answered

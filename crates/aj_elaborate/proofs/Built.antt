@@ -1,5 +1,5 @@
 -- What a program's class table tells holds of its core program.
-use Rattle.std.proofs.Common.{◌≡◌, ℕ, ◌+◌, zero, suc, Bool, true, false, cond, ◌||◌, List, [], ◌∷◌, ◌++◌, map, length, get_or, filter, Option, Some, refl, ap, ap₂, sym, ◌∙◌, subst, slice_get, position, bytes_eq, arith, if◌then◌else◌}
+use Rattle.std.proofs.Common.{◌≡◌, ℕ, ◌+◌, zero, suc, Bool, true, false, cond, ◌||◌, List, [], ◌∷◌, ◌++◌, map, length, get_or, filter, Option, Some, None, refl, ap, ap₂, sym, ◌∙◌, subst, slice_get, position, bytes_eq, arith, if◌then◌else◌}
 use Rattle.std.specs.List.{list_any, filter_map, cons_option}
 use Rattle.std.proofs.lemmas.List.Quantifiers.{position-Some}
 use Rattle.std.proofs.lemmas.List.Folds.{list_any-append}
@@ -19,26 +19,28 @@ use Rattle.aj_class_rules.specs.Members.{is_empty, is_bare, is_entry}
 use Rattle.aj_classes.specs.Seen.{FieldData}
 use Rattle.aj_classes.specs.Table.{TableData, type_of, param_of, table_of}
 use Rattle.aj_type_rules.specs.Rulings.{gain, both}
-use Rattle.aj_statement_rules.specs.Locks.{lock_rule}
-use Rattle.aj_statement_rules.specs.Stmts.{block_core}
-use Rattle.aj_elaborate.specs.Programs.{all_there, guard_path, field_node, method_scope, method_result, method_node, all_fields, all_methods, all_classes, run_of, main_class, main_method, program_node, core_of}
+use Rattle.aj_type_rules.specs.Locks.{lock_rule}
+use Rattle.aj_type_rules.specs.Stmts.{block_core}
+use Rattle.aj_elaborate.specs.Programs.{all_there, guard_path, field_node, method_scope, method_result, method_node, all_fields, all_methods, own_targets, all_classes, run_of, main_class, main_method, program_node, core_of}
 use Rattle.aj_elaborate.proofs.Inversions.{both_of, map_of}
 use Rattle.aj_elaborate.proofs.Parts.{Each, nothing_at, mapped_at, before_mapped, any_position, there_are}
 use Rattle.aj_elaborate.proofs.Places.{FieldAt, MethodAt, own_methods, fields_at, methods_at, field_entry, core_field, core_method, field_cores, method_cores, count_up}
 
 -- ---- the parts of a core program
 
-abbrev pub class_node : TableData → List Field → ℕ → ClassTree → Class
-class_node t fs k c = record {
+abbrev pub class_node : TableData → List Field → List Method → ℕ → ClassTree → Class
+class_node t fs ms k c = record {
   fields = fields_from k 0 fs;
   finals = filter (λ f. is_final_at (slice_get fs f)) (fields_from k 0 fs);
   run = run_of t k c;
+  above = None;
+  targets = own_targets k 0 ms;
 }
 
 pub record IsBuilt (tree : ProgramTree) (P : Program) : Type 0 where
   pub fields : map (core_field (table_of tree)) (fields_at 0 tree) ≡ map Some P.fields
   pub methods : map (core_method (table_of tree)) (methods_at 0 tree) ≡ map Some P.methods
-  pub classes : P.classes ≡ all_classes (table_of tree) P.fields 0 tree
+  pub classes : P.classes ≡ all_classes (table_of tree) P.fields P.methods 0 tree
   pub main_class_is : P.main_class ≡ main_class (table_of tree)
   pub main_is : P.main ≡ main_method (table_of tree)
 
@@ -55,17 +57,17 @@ built tree P h =
       main_is = refl;
     })
 
-pub class_at : (t : TableData) (fs : List Field) (k : ℕ) (cs : ProgramTree) (c j : ℕ) (C : ClassTree) → j ≡ k + c → slice_get cs c ≡ Some C
-    → slice_get (all_classes t fs k cs) c ≡ Some (class_node t fs j C)
-class_at t fs k [] c j C number h = absurd (nothing_at c C h)
-class_at t fs k (D ∷ cs) zero j C number h =
+pub class_at : (t : TableData) (fs : List Field) (ms : List Method) (k : ℕ) (cs : ProgramTree) (c j : ℕ) (C : ClassTree) → j ≡ k + c → slice_get cs c ≡ Some C
+    → slice_get (all_classes t fs ms k cs) c ≡ Some (class_node t fs ms j C)
+class_at t fs ms k [] c j C number h = absurd (nothing_at c C h)
+class_at t fs ms k (D ∷ cs) zero j C number h =
     let same : k ≡ j = omega (arith, number) in
-    ap₂ (λ i D. Some (class_node t fs i D)) same (same_Some D C h)
-class_at t fs k (D ∷ cs) (suc c) j C number h = class_at t fs (k + 1) cs c j C (omega (arith, number)) h
+    ap₂ (λ i D. Some (class_node t fs ms i D)) same (same_Some D C h)
+class_at t fs ms k (D ∷ cs) (suc c) j C number h = class_at t fs ms (k + 1) cs c j C (omega (arith, number)) h
 
-pub classes_long : (t : TableData) (fs : List Field) (k : ℕ) (cs : ProgramTree) → length (all_classes t fs k cs) ≡ length cs
-classes_long t fs k [] = refl
-classes_long t fs k (C ∷ cs) = ap suc (classes_long t fs (k + 1) cs)
+pub classes_long : (t : TableData) (fs : List Field) (ms : List Method) (k : ℕ) (cs : ProgramTree) → length (all_classes t fs ms k cs) ≡ length cs
+classes_long t fs ms k [] = refl
+classes_long t fs ms k (C ∷ cs) = ap suc (classes_long t fs ms (k + 1) cs)
 
 -- ---- a field of the core program, by what is written
 

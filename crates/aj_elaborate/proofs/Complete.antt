@@ -13,9 +13,9 @@ use Rattle.aj_core.specs.Typed.{most_locals}
 use Rattle.aj_classes.specs.Table.{TableData, table_of}
 use Rattle.aj_type_rules.specs.declared.fault.TypeFault.TheVariants.{TooManyLocals}
 use Rattle.aj_type_rules.specs.Rules.{type_rule}
-use Rattle.aj_statement_rules.specs.Locks.{lock_rule}
-use Rattle.aj_statement_rules.specs.Completion.{completes, locals_in}
-use Rattle.aj_statement_rules.specs.Stmts.{condition_rule, local_rule, too_many, set_rule, target_rule, put_rule, field_target, do_rule, if_node, return_rule, value_rule, print_rule, start_rule, unreachable, scope_after, stmt_core, block_core, stmt_faults, block_faults}
+use Rattle.aj_type_rules.specs.Locks.{lock_rule}
+use Rattle.aj_type_rules.specs.Completion.{completes, locals_in}
+use Rattle.aj_type_rules.specs.Stmts.{condition_rule, local_rule, too_many, set_rule, target_rule, put_rule, field_target, do_rule, if_node, return_rule, value_rule, print_rule, start_rule, unreachable, scope_after, stmt_core, block_core, stmt_faults, block_faults}
 use Rattle.aj_elaborate.specs.Programs.{all_there, method_scope, method_result, method_faults, method_node, method_core, guard_faults, guard_path, member_faults, faults_from, fields_core, methods_core, all_fields, all_methods, program_node, faults_of, core_of, IsCoreOf}
 use Rattle.aj_type_rules.specs.declared.fault.TypeFault.{TypeFault}
 use Rattle.aj_type_rules.specs.Rulings.{gain, loss, given, broken, both}

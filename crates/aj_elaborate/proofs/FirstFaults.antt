@@ -1,7 +1,7 @@
 -- The first of a program's type faults, by the laws of first faults.
 use Rattle.std.proofs.Common.{◌≡◌, [], Some, None, refl, ◌==◌, if◌then◌else◌}
-use Rattle.aj_faults.specs.declared.first.Place.{Place}
-use Rattle.aj_faults.proofs.FirstFaults as first
+use Rattle.aj_class_rules.specs.declared.first.Place.{Place}
+use Rattle.aj_class_rules.proofs.FirstFaults as first
 use Rattle.aj_syntax.specs.Trees.{ProgramTree}
 use Rattle.aj_type_rules.specs.declared.fault.TypeFault.{TypeFault}
 use Rattle.aj_type_rules.specs.declared.fault.TypeFault.TheVariants as kind

@@ -12,6 +12,7 @@ pub mod PathsInOrder
 pub mod Places
 pub mod Built
 pub mod Agreement
+pub mod Targets
 pub mod TypedPrograms
 pub mod Gathering
 pub mod Blocks

@@ -18,8 +18,8 @@ use Rattle.aj_classes.specs.Table.{TableData, FieldData, MethodData}
 use Rattle.aj_type_rules.specs.declared.fault.TypeFault.TheVariants.{UnknownName, NoRule}
 use Rattle.aj_type_rules.specs.Rulings.{both, demand}
 use Rattle.aj_type_rules.specs.Scopes.{Scope, variable}
-use Rattle.aj_statement_rules.specs.Completion.{is_true_literal}
-use Rattle.aj_type_rules.specs.Rules.{TypedData, TypedList, typed, with_argument, is_int, is_boolean, number_rule, variable_typed, not_rule, neg_rule, operator_rule, logical_rule, binary_rule, field_rule, method_rule, get_rule, call_rule, class_rule, new_rule, fit_each, final_types, parameter_types}
+use Rattle.aj_type_rules.specs.Completion.{is_true_literal}
+use Rattle.aj_type_rules.specs.Rules.{TypedData, TypedList, typed, with_argument, is_int, is_boolean, same_class, number_rule, variable_typed, not_rule, neg_rule, operator_rule, logical_rule, binary_rule, field_rule, method_rule, get_rule, call_rule, class_rule, new_rule, fit_each, final_types, parameter_types}
 use Rattle.aj_type_rules.specs.Exprs.{elaborated, elaborated_each, variable_rule}
 use Rattle.aj_elaborate.proofs.Inversions.{same_ok, gain_of, given_of, both_of, demand_of, then_of, ok_or_of, map_of}
 
@@ -58,7 +58,7 @@ module _ (t : TableData) (class : ℕ) (scope : Scope) where
       → IsShape h n b p.0.node → IsShape k m c p.1.node → operator_rule op at p ≡ Ok d → IsShape (1 + max h k) (1 + (n + m)) false d.node
   operator_shape h k n m b c op at p d x y is =
       let make : NodeType → TypedData = λ ty. typed ty (core.BinaryE op p.0.node p.1.node) in
-      let o = map_of make (binary_type op p.0.ty p.1.ty) d (ok_or_of (option_map make (binary_type op p.0.ty p.1.ty)) (NoRule at) d is) in
+      let o = map_of make (binary_type same_class op p.0.ty p.1.ty) d (ok_or_of (option_map make (binary_type same_class op p.0.ty p.1.ty)) (NoRule at) d is) in
       subst (λ z. IsShape (1 + max h k) (1 + (n + m)) false z.node) o.2 (record {
         height = omega (arith, max_mono (height_of p.0.node) (height_of p.1.node) h k x.height y.height);
         nodes = omega (arith, x.nodes, y.nodes);

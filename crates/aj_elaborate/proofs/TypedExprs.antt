@@ -1,8 +1,8 @@
 -- The core node of an expression has its type.
-use Rattle.std.proofs.Common.{◌≡◌, ℕ, ◌<◌, true, false, List, [], ◌∷◌, Some, Ok, refl, ap, sym, ◌∙◌, subst, ◌&&◌, Contains, slice_get, option_map}
+use Rattle.std.proofs.Common.{◌≡◌, ℕ, ◌<◌, true, false, List, [], ◌∷◌, Some, Ok, refl, ap, sym, subst, ◌&&◌, Contains, slice_get, option_map}
 use Rattle.std.specs.Prelude.{ok_or}
 use Rattle.std.proofs.lemmas.Option.{same_Some}
-use Rattle.std.proofs.lemmas.Bool.{and_parts}
+use Rattle.std.proofs.lemmas.Bool.{and_parts, eqb-true}
 use Rattle.aj_syntax.specs.declared.tree.Name.{Name}
 use Rattle.aj_syntax.specs.declared.tree.Op.{Op}
 use Rattle.aj_syntax.specs.declared.tree.Op.TheVariants as O
@@ -14,6 +14,8 @@ use Rattle.aj_core.specs.declared.types.CoreType.{CoreType}
 use Rattle.aj_core.specs.declared.types.CoreType.TheVariants as type
 use Rattle.aj_core.specs.Core as core
 use Rattle.aj_core.specs.Core.{Program, Class, Field, Method, Exprs}
+use Rattle.aj_core.specs.Dispatch.{is_kind_of}
+use Rattle.aj_core.proofs.DispatchLemmas.{kind_same, fits_more, binary_more}
 use Rattle.aj_core.specs.Types as typing
 use Rattle.aj_core.specs.Types.{NodeType, ValueT, NullT, VoidT, int_type, boolean_type, class_type, result_type, fits, binary_type, Variable, field_types, HasType, FitEach}
 use Rattle.aj_core.specs.Typed.{IsRunnable}
@@ -21,17 +23,17 @@ use Rattle.aj_classes.specs.Table.{TableData, ClassData, FieldData, MethodData, 
 use Rattle.aj_type_rules.specs.declared.fault.TypeFault.TheVariants.{UnknownName, NoRule}
 use Rattle.aj_type_rules.specs.Rulings.{both, demand}
 use Rattle.aj_type_rules.specs.Scopes.{Scope, variable}
-use Rattle.aj_type_rules.specs.Rules.{TypedData, TypedList, typed, with_argument, is_int, is_boolean, class_in, receiver_class, number_rule, variable_typed, not_rule, neg_rule, operator_rule, logical_rule, binary_rule, field_named, method_named, field_rule, method_rule, get_rule, call_rule, class_rule, new_rule, fit_each, final_types, parameter_types}
+use Rattle.aj_type_rules.specs.Rules.{TypedData, TypedList, typed, with_argument, is_int, is_boolean, same_class, class_in, receiver_class, number_rule, variable_typed, not_rule, neg_rule, operator_rule, logical_rule, binary_rule, field_named, method_named, field_rule, method_rule, get_rule, call_rule, class_rule, new_rule, fit_each, final_types, parameter_types}
 use Rattle.aj_type_rules.specs.Exprs.{elaborated, elaborated_each, variable_rule}
 use Rattle.aj_elaborate.proofs.Inversions.{same_ok, gain_of, given_of, both_of, demand_of, then_of, ok_or_of, map_of}
 
 -- ---- what a table tells of a core program
 
--- the field of this number and entry is there in the core program, in this class
+-- the field of this number and entry is there in the core program, in this class or above it
 pub record IsFieldOf (P : Program) (c : ℕ) (f : ℕ × FieldData) : Type 0 where
   pub field : Field
   pub is : slice_get P.fields f.0 ≡ Some field
-  pub of_class : field.class ≡ c
+  pub of_class : is_kind_of P c field.class ≡ true
   pub finality : field.is_final ≡ f.1.is_final
   pub ty : field.ty ≡ f.1.ty
 
@@ -39,7 +41,7 @@ pub record IsFieldOf (P : Program) (c : ℕ) (f : ℕ × FieldData) : Type 0 whe
 pub record IsMethodOf (P : Program) (c : ℕ) (m : ℕ × MethodData) : Type 0 where
   pub method : Method
   pub is : slice_get P.methods m.0 ≡ Some method
-  pub of_class : method.class ≡ c
+  pub of_class : is_kind_of P c method.class ≡ true
   pub params : typing.parameter_types method ≡ parameter_types m.1
   pub result : method.result ≡ m.1.returns
 
@@ -118,6 +120,10 @@ module _ (t : TableData) (P : Program) (agrees : Agrees t P) where
     HoldEach (core.and_expr e es) [] = ⊥
     HoldEach (core.and_expr e es) (T ∷ Ts) = HasType P class vars e T × HoldEach es Ts
 
+    -- a class is of its own kind
+    pub wider : (c d : ℕ) → same_class c d ≡ true → is_kind_of P c d ≡ true
+    wider c d same = kind_same P c d (eqb-true c d same)
+
     -- arguments that hold and fit
     fit_of : (es : Exprs) (Ts : List NodeType) (us : List CoreType) → HoldEach es Ts → fit_each Ts us ≡ true → FitEach P class vars es us
     fit_of core.no_exprs [] [] h k = tt
@@ -126,8 +132,8 @@ module _ (t : TableData) (P : Program) (agrees : Agrees t P) where
     fit_of (core.and_expr e es) [] us h k = absurd h
     fit_of (core.and_expr e es) (T ∷ Ts) [] h k = absurd (let e : false ≡ true = k in cc)
     fit_of (core.and_expr e es) (T ∷ Ts) (u ∷ us) h k =
-        let a = and_parts (fits T (ValueT u)) (fit_each Ts us) k in
-        ((T, h.0, a.0), fit_of es Ts us h.1 a.1)
+        let a = and_parts (fits same_class T (ValueT u)) (fit_each Ts us) k in
+        ((T, h.0, fits_more same_class (is_kind_of P) wider T (ValueT u) a.0), fit_of es Ts us h.1 a.1)
 
     -- ---- the rules
 
@@ -147,8 +153,8 @@ module _ (t : TableData) (P : Program) (agrees : Agrees t P) where
     operator_holds : (op : CoreOp) (at : ℕ) (p : TypedData × TypedData) (d : TypedData) → Holds p.0 → Holds p.1 → operator_rule op at p ≡ Ok d → Holds d
     operator_holds op at p d h k is =
         let make : NodeType → TypedData = λ ty. typed ty (core.BinaryE op p.0.node p.1.node) in
-        let o = map_of make (binary_type op p.0.ty p.1.ty) d (ok_or_of (option_map make (binary_type op p.0.ty p.1.ty)) (NoRule at) d is) in
-        subst Holds o.2 (p.0.ty, p.1.ty, h, k, o.1)
+        let o = map_of make (binary_type same_class op p.0.ty p.1.ty) d (ok_or_of (option_map make (binary_type same_class op p.0.ty p.1.ty)) (NoRule at) d is) in
+        subst Holds o.2 (p.0.ty, p.1.ty, h, k, binary_more same_class (is_kind_of P) wider op p.0.ty p.1.ty o.0 o.1)
 
     and_holds : (at : ℕ) (p : TypedData × TypedData) (d : TypedData) → Holds p.0 → Holds p.1 → logical_rule core.AndE at p ≡ Ok d → Holds d
     and_holds at p d h k is =
@@ -186,7 +192,7 @@ module _ (t : TableData) (P : Program) (agrees : Agrees t P) where
         let k = field_of n a.ty f.0 f.1 in
         let g = k.2 in
         subst Holds (same_ok (make f.0) d f.2)
-        (g.field, g.is, subst (HasType P class vars a.node) (k.1 ∙ ap class_type (sym g.of_class)) h, ap ValueT (sym g.ty))
+        (g.field, g.is, (k.0, subst (HasType P class vars a.node) k.1 h, g.of_class), ap ValueT (sym g.ty))
 
     call_holds : (n : Name) (p : TypedData × TypedList) (d : TypedData) → Holds p.0 → HoldEach p.1.nodes p.1.types → call_rule t n p ≡ Ok d → Holds d
     call_holds n p d h k is =
@@ -198,7 +204,7 @@ module _ (t : TableData) (P : Program) (agrees : Agrees t P) where
         subst Holds q.1 (
           g.method,
           g.is,
-          subst (HasType P class vars p.0.node) (r.1 ∙ ap class_type (sym g.of_class)) h,
+          (r.0, subst (HasType P class vars p.0.node) r.1 h, g.of_class),
           subst (FitEach P class vars p.1.nodes) (sym g.params) (fit_of p.1.nodes p.1.types (parameter_types m.0.1) k q.0),
           ap result_type (sym g.result),
         )

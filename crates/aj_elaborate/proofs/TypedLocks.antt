@@ -10,6 +10,7 @@ use Rattle.aj_syntax.specs.Trees.{LockTree}
 use Rattle.aj_core.specs.declared.types.CoreType.{CoreType}
 use Rattle.aj_core.specs.declared.types.CoreType.TheVariants as type
 use Rattle.aj_core.specs.Core.{Program, Field}
+use Rattle.aj_core.specs.Dispatch.{is_kind_of}
 use Rattle.aj_core.specs.Locks.{slot_path, is_class}
 use Rattle.aj_core.specs.Types.{Variable}
 use Rattle.aj_core.specs.Typed.{IsRoot, LeadsOn, IsLock}
@@ -18,7 +19,7 @@ use Rattle.aj_type_rules.specs.declared.fault.TypeFault.TheVariants.{UnknownName
 use Rattle.aj_type_rules.specs.Rulings.{demand, then_rule}
 use Rattle.aj_type_rules.specs.Scopes.{Scope, variable, this_variable}
 use Rattle.aj_type_rules.specs.Rules.{class_in, field_named}
-use Rattle.aj_statement_rules.specs.Locks.{Reach, reach_of, through, lock_field, along, lock_end, root_rule, lock_rule}
+use Rattle.aj_type_rules.specs.Locks.{Reach, reach_of, through, lock_field, along, lock_end, root_rule, lock_rule}
 use Rattle.aj_elaborate.proofs.Inversions.{same_ok, demand_of, then_of, ok_or_of}
 use Rattle.aj_elaborate.proofs.TypedExprs.{IsFieldOf, Agrees, Seen, class_in_of}
 
@@ -26,15 +27,15 @@ use Rattle.aj_elaborate.proofs.TypedExprs.{IsFieldOf, Agrees, Seen, class_in_of}
 abbrev LeadsTo : Program → ℕ → List ℕ → ℕ → Type 0
 LeadsTo P c [] d = c ≡ d
 LeadsTo P c (f ∷ fs) d =
-    (field : Field) × (e : ℕ) × (slice_get P.fields f ≡ Some field) × (field.class ≡ c) × (field.is_final ≡ true) × (field.ty ≡ type.Class e) × LeadsTo P e fs d
+    (field : Field) × (e : ℕ) × (slice_get P.fields f ≡ Some field) × (is_kind_of P c field.class ≡ true) × (field.is_final ≡ true) × (field.ty ≡ type.Class e) × LeadsTo P e fs d
 
 leads_on : (P : Program) (c : ℕ) (fs : List ℕ) (d : ℕ) → LeadsTo P c fs d → LeadsOn P c fs
 leads_on P c [] d h = tt
 leads_on P c (f ∷ fs) d (field, e, is, of_class, final_is, ty, rest) = (field, e, is, of_class, final_is, ty, leads_on P e fs d rest)
 
 leads_more : (P : Program) (c : ℕ) (fs : List ℕ) (d f : ℕ) (field : Field) (e : ℕ) → LeadsTo P c fs d → slice_get P.fields f ≡ Some field
-    → field.class ≡ d → field.is_final ≡ true → field.ty ≡ type.Class e → LeadsTo P c (fs ++ f ∷ []) e
-leads_more P c [] d f field e h is of_class final_is ty = (field, e, is, of_class ∙ sym h, final_is, ty, refl)
+    → is_kind_of P d field.class ≡ true → field.is_final ≡ true → field.ty ≡ type.Class e → LeadsTo P c (fs ++ f ∷ []) e
+leads_more P c [] d f field e h is of_class final_is ty = (field, e, is, subst (λ x. is_kind_of P x field.class ≡ true) (sym h) of_class, final_is, ty, refl)
 leads_more P c (g ∷ fs) d f field e (other, b, is_other, of_other, final_other, ty_other, rest) is of_class final_is ty =
     (other, b, is_other, of_other, final_other, ty_other, leads_more P b fs d f field e rest is of_class final_is ty)
 

@@ -4,7 +4,9 @@ use Rattle.std.specs.Prelude.{codes}
 use Rattle.std.specs.List.{list_any}
 use Rattle.std.proofs.lemmas.List.{length-map}
 use Rattle.std.proofs.lemmas.List.Quantifiers.{position-Some}
-use Rattle.std.proofs.lemmas.Option.{slice_get_within, same_Some}
+use Rattle.std.proofs.lemmas.Option.{slice_get_within, same_Some, none-some}
+use Rattle.aj_core.proofs.DispatchLemmas.{none_overrides, none_above}
+use Rattle.aj_elaborate.proofs.Targets.{own_are_targets, nothing_above, own_alone}
 use Rattle.std.proofs.lemmas.Slice.Eq.{bytes_eq-Decides}
 use Rattle.aj_paths.specs.Paths.{PathData}
 use Rattle.aj_core.specs.declared.types.CoreType.{CoreType}
@@ -21,8 +23,8 @@ use Rattle.aj_class_rules.specs.Faults.{twice_faults}
 use Rattle.aj_class_rules.specs.Faults as class_fault
 use Rattle.aj_classes.specs.Table.{TableData, type_of, class_number, method_number, table_of}
 use Rattle.aj_type_rules.specs.Rulings.{gain, both}
-use Rattle.aj_statement_rules.specs.Locks.{lock_rule}
-use Rattle.aj_statement_rules.specs.Stmts.{block_core}
+use Rattle.aj_type_rules.specs.Locks.{lock_rule}
+use Rattle.aj_type_rules.specs.Stmts.{block_core}
 use Rattle.aj_elaborate.specs.Programs.{all_there, ascending, guard_path, method_scope, method_result, method_node, run_of}
 use Rattle.aj_elaborate.proofs.Complete.{front_empty, back_empty}
 use Rattle.aj_elaborate.proofs.Inversions.{both_of, map_of}
@@ -44,8 +46,8 @@ use Rattle.aj_class_rules.specs.declared.fault.ClassFault.TheVariants.{UnknownCl
 use Rattle.aj_type_rules.specs.declared.fault.TypeFault.TheVariants.{MissingReturn}
 use Rattle.aj_type_rules.specs.Rulings.{loss}
 use Rattle.aj_type_rules.specs.Scopes.{Binding, Scope, variable, parameters_from}
-use Rattle.aj_statement_rules.specs.Completion.{completes_each}
-use Rattle.aj_statement_rules.specs.Stmts.{block_faults}
+use Rattle.aj_type_rules.specs.Completion.{completes_each}
+use Rattle.aj_type_rules.specs.Stmts.{block_faults}
 use Rattle.aj_elaborate.specs.Programs.{member_faults, method_faults, missing_return, faults_from, IsCoreOf}
 use Rattle.aj_elaborate.proofs.Inversions.{gain_of}
 use Rattle.aj_elaborate.proofs.TypedExprs.{Seen}
@@ -347,7 +349,7 @@ module _ (tree : ProgramTree) (P : Program) (b : IsBuilt tree P) (s : AreSound t
         let within = (each_at (λ d. (0 ≤ d.class) × (d.class < 0 + length tree)) (fields_at 0 tree) f d (classes_between 0 tree) r.1).1 in
         let C = get_below tree d.class (omega (arith, within)) in
         record {
-          class = class_node t P.fields d.class C.0;
+          class = class_node t P.fields P.methods d.class C.0;
           of_class = ap (slice_get P.classes) is.class ∙ class_there tree P b d.class C.0 C.1;
           index = ap (slice_get (fields_from d.class 0 P.fields)) is.index ∙ index_is d.class C.0 C.1 f d refl r.1;
           ty = subst (IsType P) (sym is.ty) (type_known d.field.ty (each_at (IsKnownField (known_in tree)) (fields_at 0 tree) f d (all_known (known_in tree) 0 tree s.classes) r.1));
@@ -376,9 +378,13 @@ module _ (tree : ProgramTree) (P : Program) (b : IsBuilt tree P) (s : AreSound t
       let C = get_below tree c (omega (arith, within, classes_many tree P b)) in
       let p = place tree P b c C.0 C.1 in
       let sound_is = each_at (IsSound (known_in tree)) tree c C.0 s.classes C.1 in
-      subst (IsTypedClass P c) (same_Some (class_node t P.fields c C.0) class (sym (class_there tree P b c C.0 C.1) ∙ at)) (record {
+      subst (IsTypedClass P c) (same_Some (class_node t P.fields P.methods c C.0) class (sym (class_there tree P b c C.0 C.1) ∙ at)) (record {
+        above = tt;
+        apart = none_above P (nothing_above tree P b) c c;
         fields = refl;
         finals = refl;
+        targets = own_are_targets P c (class_node t P.fields P.methods c C.0) refl refl;
+        runs = λ d is. absurd (none-some d is);
         run = run_is_entry c C.0 C.1 C.0.runnable refl;
         few = omega (
           arith,
@@ -422,7 +428,7 @@ module _ (tree : ProgramTree) (P : Program) (b : IsBuilt tree P) (s : AreSound t
   no_finals class at =
       let m = main_is_there in
       let p = place tree P b P.main_class m.class m.at in
-      let class_is = same_Some (class_node t P.fields P.main_class m.class) class (sym (class_there tree P b P.main_class m.class m.at) ∙ at) in
+      let class_is = same_Some (class_node t P.fields P.methods P.main_class m.class) class (sym (class_there tree P b P.main_class m.class m.at) ∙ at) in
       ap (λ z. z.finals) (sym class_is)
       ∙ ap (filter (λ f. is_final_at (slice_get P.fields f))) (numbers tree P b P.main_class m.class m.at)
       ∙ none_final (λ f. is_final_at (slice_get P.fields f)) (λ f. field_type (slice_get P.fields f)) t.names (length p.fields_before) (own_fields P.main_class 0 m.class.members)
@@ -521,6 +527,7 @@ core_is_typed tree P ts sound_tree core grammar few =
     let s = all_sound tree sound_tree in
     record {
       classes = class_typed tree P b s;
+      overriding = λ over m first second o. absurd (none_overrides P (own_alone tree P b) over m o);
       fields = field_typed tree P b s (all_guarded 0 tree ts grammar.0);
       methods = method_typed tree P b s (all_low 0 tree grammar.1) (all_faultless (table_of tree) 0 tree core.faultless);
       main = (main_is_there tree P b s).entry;

@@ -16,22 +16,24 @@ use Rattle.aj_core.specs.declared.types.CoreType.{CoreType}
 use Rattle.aj_core.specs.declared.types.CoreType.TheVariants as type
 use Rattle.aj_core.specs.Core as core
 use Rattle.aj_core.specs.Core.{Program, Expr, Stmt, Stmts}
-use Rattle.aj_core.specs.Types.{ValueT, boolean_type, class_type, fits, Variable, HasType, HasFit}
+use Rattle.aj_core.specs.Types.{ValueT, boolean_type, fits, Variable, HasType, HasFit}
 use Rattle.aj_core.specs.Sizes.{height_of}
 use Rattle.aj_core.specs.Sizes as sizes
 use Rattle.aj_core.specs.Typed as typing
-use Rattle.aj_core.specs.Typed.{IsType, IsRunnable, is_call_or_new, gives_value, most_locals, IsTypedStmt, AreTypedStmts, declared_in, declared_in_each}
+use Rattle.aj_core.specs.Dispatch.{is_kind_of}
+use Rattle.aj_core.proofs.DispatchLemmas.{fits_more}
+use Rattle.aj_core.specs.Typed.{IsType, IsOf, IsRunnable, is_call_or_new, gives_value, most_locals, IsTypedStmt, AreTypedStmts, declared_in, declared_in_each}
 use Rattle.aj_classes.specs.Table.{TableData, ClassData, class_number}
 use Rattle.aj_type_rules.specs.declared.fault.TypeFault.TheVariants.{UnknownName, NoRule, FinalAssigned}
 use Rattle.aj_type_rules.specs.Rulings.{gain, given, both, demand, then_rule}
 use Rattle.aj_type_rules.specs.Scopes.{Binding, Scope, variable}
-use Rattle.aj_type_rules.specs.Rules.{TypedData, is_int, is_boolean, receiver_class, type_rule, field_rule, fit_rule}
-use Rattle.aj_statement_rules.specs.Locks.{lock_rule}
+use Rattle.aj_type_rules.specs.Rules.{TypedData, is_int, is_boolean, same_class, receiver_class, type_rule, field_rule, fit_rule}
+use Rattle.aj_type_rules.specs.Locks.{lock_rule}
 use Rattle.aj_type_rules.specs.Exprs.{elaborated}
-use Rattle.aj_statement_rules.specs.Completion.{completes, completes_each, is_true_literal, locals_in, locals_in_each}
-use Rattle.aj_statement_rules.specs.Stmts.{local_rule, target_rule, set_rule, field_target, put_rule, do_rule, condition_rule, return_rule, value_rule, print_rule, says_runnable, is_runnable, start_rule, declared, if_node, scope_after, stmt_core, block_core}
+use Rattle.aj_type_rules.specs.Completion.{completes, completes_each, is_true_literal, locals_in, locals_in_each}
+use Rattle.aj_type_rules.specs.Stmts.{local_rule, target_rule, set_rule, field_target, put_rule, do_rule, condition_rule, return_rule, value_rule, print_rule, says_runnable, is_runnable, start_rule, declared, if_node, scope_after, stmt_core, block_core}
 use Rattle.aj_elaborate.proofs.Inversions.{same_ok, gain_of, given_of, none_of, both_of, demand_of, then_of, ok_or_of, map_of}
-use Rattle.aj_elaborate.proofs.TypedExprs.{Agrees, Seen, is_int_of, is_boolean_of, receiver_of, field_of, expr_holds}
+use Rattle.aj_elaborate.proofs.TypedExprs.{Agrees, Seen, wider, is_int_of, is_boolean_of, receiver_of, field_of, expr_holds}
 use Rattle.aj_elaborate.proofs.TypedLocks.{lock_holds}
 use Rattle.aj_elaborate.proofs.Shapes.{max_mono, size, IsShape, expr_shape}
 
@@ -173,9 +175,9 @@ module _ (t : TableData) (P : Program) (agrees : Agrees t P) (class : ℕ) (retu
 
     value_fine : (e : ExprTree) (at : ℕ) (ty : CoreType) (d : TypedData) (v : Expr) → elaborated t class scope e ≡ Some d → fit_rule at ty d ≡ Ok v → IsValue e ty v
     value_fine e at ty d v is h =
-        let q = demand_of (fits d.ty (ValueT ty)) (NoRule at) d.node v h in
+        let q = demand_of (fits same_class d.ty (ValueT ty)) (NoRule at) d.node v h in
         record {
-          fit = subst (λ z. HasFit P class vars z ty) q.1 (d.ty, expr_holds t P agrees class vars scope seen e d is, q.0);
+          fit = subst (λ z. HasFit P class vars z ty) q.1 (d.ty, expr_holds t P agrees class vars scope seen e d is, fits_more same_class (is_kind_of P) (wider t P agrees class vars) d.ty (ValueT ty) q.0);
           shape = subst (IsShape (tree_height.height e) (size e) (is_true_literal e)) q.1 (expr_shape t class scope e d is);
         }
 
@@ -239,15 +241,15 @@ module _ (t : TableData) (P : Program) (agrees : Agrees t P) (class : ℕ) (retu
         let v = then_of (fit_rule at g.0.0.1.1.ty g.0.1) (λ v. Ok (core.SetFieldS g.0.0.0 g.0.0.1.0 v)) s g.2 in
         let k = value_fine value at g.0.0.1.1.ty g.0.1 v.0 p.1 v.1 in
         let shape = expr_shape t class scope e a.0 a.1 in
-        let typed_field : (field : core.Field) × (slice_get P.fields f.0.0 ≡ Some field) × (field.is_final ≡ false) × HasType P class vars a.0.node (class_type field.class) × (field.ty ≡ f.0.1.ty) = (
+        let typed_field : (field : core.Field) × (slice_get P.fields f.0.0 ≡ Some field) × (field.is_final ≡ false) × IsOf P class vars a.0.node field.class × (field.ty ≡ f.0.1.ty) = (
           is.field,
           is.is,
           is.finality ∙ not-true f.0.1.is_final q.0,
-          subst (HasType P class vars a.0.node) (known.1 ∙ ap class_type (sym is.of_class)) (expr_holds t P agrees class vars scope seen e a.0 a.1),
+          (known.0, subst (HasType P class vars a.0.node) known.1 (expr_holds t P agrees class vars scope seen e a.0 a.1), is.of_class),
           is.ty,
         ) in
-        let target_typed : (field : core.Field) × (slice_get P.fields g.0.0.1.0 ≡ Some field) × (field.is_final ≡ false) × HasType P class vars g.0.0.0 (class_type field.class) × (field.ty ≡ g.0.0.1.1.ty) =
-        subst (λ z. (field : core.Field) × (slice_get P.fields z.1.0 ≡ Some field) × (field.is_final ≡ false) × HasType P class vars z.0 (class_type field.class) × (field.ty ≡ z.1.1.ty)) q.1 typed_field in
+        let target_typed : (field : core.Field) × (slice_get P.fields g.0.0.1.0 ≡ Some field) × (field.is_final ≡ false) × IsOf P class vars g.0.0.0 field.class × (field.ty ≡ g.0.0.1.1.ty) =
+        subst (λ z. (field : core.Field) × (slice_get P.fields z.1.0 ≡ Some field) × (field.is_final ≡ false) × IsOf P class vars z.0 field.class × (field.ty ≡ z.1.1.ty)) q.1 typed_field in
         let target_shape : IsShape (tree_height.height e) (size e) (is_true_literal e) g.0.0.0 =
         subst (λ z. IsShape (tree_height.height e) (size e) (is_true_literal e) z.0) q.1 shape in
         subst (IsFine scope vars before (tree.SetFieldS e n value at)) (same_ok (core.SetFieldS g.0.0.0 g.0.0.1.0 v.0) s v.2) (record {

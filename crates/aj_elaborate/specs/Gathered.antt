@@ -1,5 +1,5 @@
 -- Parts that are gathered one after the other.
-use Rattle.std.specs.Prelude.{ℕ, ◌+◌, Bool, List, [], ◌∷◌, ◌++◌, Option, Some, None, option_map, if◌then◌else◌}
+use Rattle.std.specs.Prelude.{ℕ, ◌+◌, List, [], ◌∷◌, ◌++◌, Option, Some, None, option_map, if◌then◌else◌}
 use Rattle.aj_core.specs.Core.{Field, Method}
 use Rattle.aj_syntax.specs.Trees.{MemberTree, FieldM, CtorM, MethodM}
 use Rattle.aj_classes.specs.Table.{TableData}

@@ -8,7 +8,7 @@ use Rattle.aj_type_rules.specs.declared.fault.TypeFault.{TypeFault}
 use Rattle.aj_type_rules.specs.Exprs.{elaborated, expr_faults}
 use Rattle.aj_type_rules.specs.Rules.{TypedData}
 use Rattle.aj_type_rules.specs.Scopes.{Scope}
-use Rattle.aj_statement_rules.specs.Stmts.{scope_after, stmt_core, block_core, stmt_faults, block_faults}
+use Rattle.aj_type_rules.specs.Stmts.{scope_after, stmt_core, block_core, stmt_faults, block_faults}
 
 -- the type and core node of an expression
 abbrev pub typed_in : Body → Scope → ExprTree → Option TypedData

@@ -1,4 +1,4 @@
--- For a reader of the contract: Programs, which goes on from the rules of `aj_statement_rules`. The others serve the code.
+-- For a reader of the contract: Programs, which goes on from the rules of `aj_type_rules`. The others serve the code.
 pub mod Inside
 pub mod Programs
 pub mod Gathered

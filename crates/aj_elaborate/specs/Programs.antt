@@ -1,12 +1,12 @@
 -- Programs: all type faults of a program, the first of them, and the core program of one without faults.
-use Rattle.std.specs.Prelude.{◌≡◌, ℕ, ◌+◌, true, ◌&&◌, List, [], ◌∷◌, ◌++◌, Option, Some, None, map, flat_map, filter, length, option_map, unwrap_or, is_some, slice_get, codes, if◌then◌else◌}
+use Rattle.std.specs.Prelude.{◌≡◌, ℕ, ◌+◌, true, ◌&&◌, ◌==◌, List, [], ◌∷◌, ◌++◌, Option, Some, None, map, flat_map, filter, length, option_map, unwrap_or, is_some, slice_get, codes, if◌then◌else◌}
 use Rattle.std.specs.declared.cmp.Ordering.{Ordering}
 use Rattle.std.specs.declared.cmp.Ordering.TheVariants.{Less, Equal, Greater}
 use Rattle.aj_paths.specs.Paths.{PathData, path_order}
 use Rattle.aj_core.specs.declared.types.CoreType.{CoreType}
 use Rattle.aj_core.specs.Core.{Program, Class, Field, Method, Stmts, BlockS}
 use Rattle.aj_core.specs.Typed.{fields_from, is_final_at}
-use Rattle.aj_faults.specs.First.{IsFirst}
+use Rattle.aj_class_rules.specs.First.{IsFirst}
 use Rattle.aj_syntax.specs.Trees.{LockTree, MethodTree, FieldTree, MemberTree, FieldM, CtorM, MethodM, ClassTree, ProgramTree}
 use Rattle.aj_classes.specs.Table.{TableData, type_of, class_number, method_number, table_of}
 use Rattle.aj_type_rules.specs.declared.fault.TypeFault.{TypeFault}
@@ -14,9 +14,9 @@ use Rattle.aj_type_rules.specs.declared.fault.TypeFault.TheVariants.{MissingRetu
 use Rattle.aj_type_rules.specs.Faults.{place_of}
 use Rattle.aj_type_rules.specs.Rulings.{gain, loss, both}
 use Rattle.aj_type_rules.specs.Scopes.{Scope, parameters_from}
-use Rattle.aj_statement_rules.specs.Locks.{lock_rule}
-use Rattle.aj_statement_rules.specs.Completion.{completes_each, locals_in_each}
-use Rattle.aj_statement_rules.specs.Stmts.{block_core, block_faults}
+use Rattle.aj_type_rules.specs.Locks.{lock_rule}
+use Rattle.aj_type_rules.specs.Completion.{completes_each, locals_in_each}
+use Rattle.aj_type_rules.specs.Stmts.{block_core, block_faults}
 
 -- all of a list, where none is missing
 abbrev pub all_there : {A : Type 0} → List (Option A) → Option (List A)
@@ -38,6 +38,11 @@ inserted p (q ∷ qs) = by_order (path_order p q) (p ∷ q ∷ qs) (q ∷ qs) (q
 abbrev pub ascending : List PathData → List PathData
 ascending [] = []
 ascending (p ∷ ps) = inserted p (ascending ps)
+
+-- each method of the class with number k, where the first of the methods has the number n, with itself
+abbrev pub own_targets : ℕ → ℕ → List Method → List (ℕ × ℕ)
+own_targets k n [] = []
+own_targets k n (m ∷ ms) = if m.class == k then (n, n) ∷ own_targets k (n + 1) ms else own_targets k (n + 1) ms
 
 module _ (t : TableData) where
   -- ---- methods
@@ -145,16 +150,18 @@ module _ (t : TableData) where
   abbrev pub run_of : ℕ → ClassTree → Option ℕ
   run_of k c = if c.runnable then method_number t k (codes "run") else None
 
-  -- the core classes, the first of which has the number k, in a program with these fields
-  abbrev pub all_classes : List Field → ℕ → ProgramTree → List Class
-  all_classes fields k [] = []
-  all_classes fields k (c ∷ cs) =
+  -- the core classes, the first of which has the number k, in a program with these fields and methods; none extends another
+  abbrev pub all_classes : List Field → List Method → ℕ → ProgramTree → List Class
+  all_classes fields methods k [] = []
+  all_classes fields methods k (c ∷ cs) =
       record {
         fields = fields_from k 0 fields;
         finals = filter (λ f. is_final_at (slice_get fields f)) (fields_from k 0 fields);
         run = run_of k c;
+        above = None;
+        targets = own_targets k 0 methods;
       }
-      ∷ all_classes fields (k + 1) cs
+      ∷ all_classes fields methods (k + 1) cs
 
   -- the class `Main`
   abbrev pub main_class : ℕ
@@ -166,7 +173,7 @@ module _ (t : TableData) where
 
   abbrev pub program_node : ProgramTree → List Field × List Method → Program
   program_node tree p = record {
-    classes = all_classes p.0 0 tree;
+    classes = all_classes p.0 p.1 0 tree;
     fields = p.0;
     methods = p.1;
     main_class = main_class;

@@ -6,16 +6,15 @@ ghost use Rattle.aj_syntax.specs.Views.{expr_of};
 ghost use Rattle.aj_elaborate.specs.Inside.{expr_faults_in, typed_in};
 ghost use Rattle.aj_type_rules.specs.Noted.{noted};
 ghost use Rattle.aj_type_rules.specs.Rulings.{broken, given};
-ghost use Rattle.aj_statement_rules.specs.Stmts.{condition_rule};
+ghost use Rattle.aj_type_rules.specs.Stmts.{condition_rule};
 ghost use Rattle.aj_type_rules.specs.Views.{boxed_data, boxed_expr as boxed_node};
 
 use crate::exprs::boxed_expr;
 use aj_classes::ClassTable;
 use aj_core::{CoreExpr, CoreType};
 use aj_paths::ClassId;
-use aj_statement_rules::condition_rule;
 use aj_syntax::Expr;
-use aj_type_rules::{Bound, BoxedExpr, FirstFault};
+use aj_type_rules::{Bound, BoxedExpr, FirstFault, condition_rule};
 use std::alloc::{AllocError as NoMemory, Global};
 
 /// What is fixed for a body: where its nodes are made, the class table, and the method's class, its result and the slot of

@@ -5,12 +5,12 @@ ghost use Rattle.aj_classes.specs.Views.{table_data};
 ghost use Rattle.aj_core.specs.Typed.{fields_from, is_final_at};
 ghost use Rattle.aj_core.specs.Views as core;
 ghost use Rattle.aj_syntax.specs.Views.{class_of};
-ghost use Rattle.aj_elaborate.specs.Order.{Ascends};
-ghost use Rattle.aj_elaborate.specs.Programs.{run_of, all_classes};
+ghost use Rattle.aj_elaborate.specs.Order.{Ascends, MethodsAscend};
+ghost use Rattle.aj_elaborate.specs.Programs.{own_targets, run_of, all_classes};
 
 use crate::members::next_number;
 use aj_classes::ClassTable;
-use aj_core::{CoreClass, CoreField};
+use aj_core::{CoreClass, CoreField, CoreMethod};
 use aj_paths::{ClassId, FieldId, MethodId};
 use aj_syntax::Class;
 use std::alloc::{AllocError as NoMemory, Global};
@@ -49,6 +49,40 @@ fn own_fields<'f>(
     Ok(OwnFields { ids, next, rest })
 }
 
+/// Each of a class's methods with itself, and the methods of later classes with the id of the first of them.
+#[derive(Drop)]
+struct OwnTargets<'m> {
+    pairs: Vec<(MethodId, MethodId)>,
+    next: u32,
+    rest: &'m [CoreMethod],
+}
+
+/// The methods of a class, each with itself, where the methods ascend by class from this one on, and the first has this id.
+fn own_targets<'m>(
+    alloc: Global,
+    class: ClassId,
+    start: u32,
+    methods: &'m [CoreMethod],
+) -> Result<OwnTargets<'m>, NoMemory>
+    requires ascends { MethodsAscend class (map core.method_of methods.now) }
+    ensures pairs { IfOk result (λ own. own.pairs.items ++ own_targets class own.next (map core.method_of own.rest.now) ≡ own_targets class start (map core.method_of methods.now)) }
+    ensures rest { IfOk result (λ own. MethodsAscend (class + 1) (map core.method_of own.rest.now)) }
+    ensures later { IfOk result (λ own. (c : ℕ) → class < c → own_targets c own.next (map core.method_of own.rest.now) ≡ own_targets c start (map core.method_of methods.now)) }
+{
+    let mut pairs = Vec::new(alloc);
+    let mut next = start;
+    let mut rest = methods;
+    while let Some((method, later)) = rest.split_first() {
+        if method.class != class {
+            return Ok(OwnTargets { pairs, next, rest });
+        }
+        pairs.push((MethodId(next), MethodId(next)))?;
+        next = next_number(next)?;
+        rest = later;
+    }
+    Ok(OwnTargets { pairs, next, rest })
+}
+
 fn is_final(fields: &[CoreField], id: FieldId) -> bool
     ensures { result ≡ is_final_at (slice_get (map core.field_of fields.now) id) }
 {
@@ -80,30 +114,39 @@ fn run_of(table: &ClassTable, id: ClassId, class: &Class) -> Option<MethodId>
     }
 }
 
-/// The core classes of a program with these fields, which ascend by class.
+/// The core classes of a program with these fields and methods, which ascend by class.
 pub(crate) fn core_classes(
     alloc: Global,
     table: &ClassTable,
     classes: &[Class],
     fields: &[CoreField],
+    methods: &[CoreMethod],
 ) -> Result<Vec<CoreClass>, NoMemory>
     requires ascends { Ascends 0 (map core.field_of fields.now) }
-    ensures { IfOk result (λ all. map core.class_of all.items ≡ all_classes (table_data table.now) (map core.field_of fields.now) 0 (map class_of classes.now)) }
+    requires methods_ascend { MethodsAscend 0 (map core.method_of methods.now) }
+    ensures { IfOk result (λ all. map core.class_of all.items ≡ all_classes (table_data table.now) (map core.field_of fields.now) (map core.method_of methods.now) 0 (map class_of classes.now)) }
 {
     let mut all = Vec::new(alloc);
     let mut rest = fields;
+    let mut rest_methods = methods;
     let mut number = 0;
     let mut next = 0;
+    let mut next_method = 0;
     for class in classes {
         let id = ClassId(number);
         let own = own_fields(alloc, id, next, rest)?;
         next = own.next;
         rest = own.rest;
         let finals = final_ids(alloc, fields, own.ids.as_slice())?;
+        let paired = own_targets(alloc, id, next_method, rest_methods)?;
+        next_method = paired.next;
+        rest_methods = paired.rest;
         all.push(CoreClass {
             fields: own.ids,
             finals,
             run: run_of(table, id, class),
+            above: None,
+            targets: paired.pairs,
         })?;
         number = next_number(number)?;
     }

@@ -2,7 +2,7 @@
 
 ghost use Rattle.std.specs.Prelude.{◌≡◌};
 ghost use Rattle.aj_syntax.specs.Views.{expr_of};
-ghost use Rattle.aj_statement_rules.specs.Completion.{is_true_literal};
+ghost use Rattle.aj_type_rules.specs.Completion.{is_true_literal};
 
 use aj_syntax::Expr;
 

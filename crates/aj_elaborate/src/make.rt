@@ -13,7 +13,7 @@ ghost use Rattle.aj_syntax.specs.Limits.{most_tokens};
 ghost use Rattle.aj_syntax.specs.Views.{class_of, program_of};
 ghost use Rattle.aj_type_rules.specs.declared.fault.TypeFault.{TypeFault};
 ghost use Rattle.aj_type_rules.specs.declared.fault.TypeFault.TheVariants.{NoMemory as OutOfMemory};
-ghost use Rattle.aj_elaborate.specs.Order.{Ascends};
+ghost use Rattle.aj_elaborate.specs.Order.{Ascends, MethodsAscend};
 ghost use Rattle.aj_elaborate.specs.Programs.{IsFirstFault, IsCoreOf, main_class, main_method, program_node, all_there, all_fields, all_methods};
 ghost use Rattle.aj_type_rules.specs.Rulings.{both};
 ghost use Rattle.aj_elaborate.specs.Views.{fields_data, methods_data};
@@ -39,7 +39,7 @@ fn main_method(table: &ClassTable, class: ClassId) -> MethodId
     table.method_named(class, "main").unwrap_or(MethodId(0))
 }
 
-/// The core program with these fields, which ascend by class, and these methods.
+/// The core program with these fields and methods, which ascend by class.
 fn core_program(
     alloc: Global,
     table: &ClassTable,
@@ -48,9 +48,10 @@ fn core_program(
     methods: Vec<CoreMethod>,
 ) -> Result<CoreProgram, NoMemory>
     requires ascends { Ascends 0 (map core.field_of fields.items) }
+    requires methods_ascend { MethodsAscend 0 (map core.method_of methods.items) }
     ensures { IfOk result (λ p. core.program_of p ≡ program_node (table_data table.now) (map class_of classes.now) (map core.field_of fields.items, map core.method_of methods.items)) }
 {
-    let classes = core_classes(alloc, table, classes, fields.as_slice())?;
+    let classes = core_classes(alloc, table, classes, fields.as_slice(), methods.as_slice())?;
     let main_class = main_class(table);
     let main = main_method(table, main_class);
     Ok(CoreProgram {
@@ -70,6 +71,7 @@ fn assembled(
     parts: Parts,
 ) -> Result<CoreProgram, NoMemory>
     requires fields { fields_data parts ≡ all_there (all_fields (table_data table.now) 0 (map class_of classes.now)) }
+    requires methods { methods_data parts ≡ all_there (all_methods (table_data table.now) 0 (map class_of classes.now)) }
     requires whole { (P : CoreData) × (option_map (program_node (table_data table.now) (map class_of classes.now)) (both (fields_data parts) (methods_data parts)) ≡ Some P) }
     ensures { IfOk result (λ p. Some (core.program_of p) ≡ option_map (program_node (table_data table.now) (map class_of classes.now)) (both (fields_data parts) (methods_data parts))) }
 {

@@ -17,9 +17,8 @@ use crate::methods::{core_type, method};
 use aj_classes::ClassTable;
 use aj_core::{CoreField, CoreMethod};
 use aj_paths::{ClassId, Path};
-use aj_statement_rules::lock_path;
 use aj_syntax::{Class, Lock, Member, TypeName};
-use aj_type_rules::FirstFault;
+use aj_type_rules::{FirstFault, lock_path};
 use std::alloc::{AllocError as NoMemory, Global};
 
 /// The core fields and methods so far.

@@ -5,7 +5,7 @@ ghost use Rattle.aj_core.specs.Core.{BlockS, EmptyS, IfS, WhileS, SyncS};
 ghost use Rattle.aj_core.specs.Views.{stmt_of, stmts_from};
 ghost use Rattle.aj_elaborate.specs.Gathered.{gathered};
 ghost use Rattle.aj_type_rules.specs.Rulings.{both};
-ghost use Rattle.aj_statement_rules.specs.Stmts.{if_node};
+ghost use Rattle.aj_type_rules.specs.Stmts.{if_node};
 ghost use Rattle.aj_type_rules.specs.Views.{boxed_expr};
 ghost use Rattle.aj_elaborate.specs.Views.{boxed_stmt};
 

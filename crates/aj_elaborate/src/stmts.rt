@@ -7,12 +7,12 @@ ghost use Rattle.aj_core.specs.Core.{BlockS};
 ghost use Rattle.aj_core.specs.Views as core;
 ghost use Rattle.aj_syntax.specs.Trees as tree;
 ghost use Rattle.aj_syntax.specs.Views.{expr_of, lock_of, stmt_of, stmts_from};
-ghost use Rattle.aj_statement_rules.specs.Completion.{completes, completes_each, is_true_literal as literal_true, locals_in, locals_in_each};
+ghost use Rattle.aj_type_rules.specs.Completion.{completes, completes_each, is_true_literal as literal_true, locals_in, locals_in_each};
 ghost use Rattle.aj_elaborate.specs.Inside.{block_faults_in, block_in, core_in, faults_in, scope_in};
 ghost use Rattle.aj_type_rules.specs.Noted.{noted};
 ghost use Rattle.aj_type_rules.specs.Rulings.{gain};
 ghost use Rattle.aj_type_rules.specs.Rules.{type_rule};
-ghost use Rattle.aj_statement_rules.specs.Stmts.{declared_type, unreachable};
+ghost use Rattle.aj_type_rules.specs.Stmts.{declared_type, unreachable};
 ghost use Rattle.aj_type_rules.specs.declared.scope.Bound.{Bound};
 
 use crate::body::{Body, condition, typed};
@@ -22,12 +22,12 @@ use crate::nodes::{
     StmtPart, block_of, boxed_part, if_alone, if_part, sync_part, total, while_part,
 };
 use aj_core::{CoreStmt, CoreType};
-use aj_statement_rules::{
-    MOST_LOCALS, do_rule, field_target, local_node, local_value, lock_path, note_declaration,
-    print_rule, put_rule, return_rule, set_rule, start_rule, target_rule, type_rule, value_rule,
-};
 use aj_syntax::{Expr, Lock, Name, Stmt, TypeName};
-use aj_type_rules::{Bound, FirstFault, TypeFault};
+use aj_type_rules::{
+    Bound, FirstFault, MOST_LOCALS, TypeFault, do_rule, field_target, local_node, local_value,
+    lock_path, note_declaration, print_rule, put_rule, return_rule, set_rule, start_rule,
+    target_rule, type_rule, value_rule,
+};
 use std::alloc::{AllocError as NoMemory, Global};
 
 /// A statement that declares nothing and can complete.

@@ -1,5 +1,5 @@
 -- What each step did.
-use Rattle.std.proofs.Common.{◌≡◌, ℕ, ◌==◌, Bool, true, false, List, [], ◌∷◌, refl, sym, ap, subst, ◌∙◌, Some, None, arith}
+use Rattle.std.proofs.Common.{◌≡◌, ℕ, ◌==◌, Bool, true, false, length, List, [], ◌∷◌, refl, sym, ap, subst, ◌∙◌, Some, None, arith}
 use Rattle.std.proofs.lemmas.Bool.Decides.{nat_tests}
 use Rattle.std.specs.Prelude.{Option, slice_get, if◌then◌else◌}
 use Rattle.aj_core.specs.Core.{Program, Class, Field, Method, Expr, Stmt}
@@ -10,8 +10,8 @@ use Rattle.aj_state.specs.Memory.{Object, Hold, field_value}
 use Rattle.aj_state.specs.Work as W
 use Rattle.aj_state.specs.Work.{Action, Item, Next}
 use Rattle.aj_state.specs.States.{Frame, Thread, Ready, Running, Done, Faulted}
-use Rattle.aj_steps.specs.Step.{Shared, Move, Outcome, Moves, Absent, IsDone, HadFaulted, Waits, unless_final, value_at, load, store, binary, and_then, or_else, choose, loop, get, get_value, put, put_value, new, call, call_on, enter, acquire, take, take_held, release, release_held, return_to, start, start_run, act, act_next, enter_first, turn}
-use Rattle.aj_steps.specs.Asks.{Ask, Alone, Reads, Writes, Counts, Takes, Gives, Runs, asks_at, act_asks, next_asks, asks}
+use Rattle.aj_steps.specs.Step.{Shared, Move, Outcome, Moves, Absent, IsDone, HadFaulted, Waits, unless_final, value_at, load, store, binary, and_then, or_else, choose, loop, get, get_value, put, put_value, new, call, call_on, enter, enter_some, dispatch, acquire, take, take_held, release, release_held, return_to, start, start_run, act, act_next, enter_first, turn}
+use Rattle.aj_steps.specs.Asks.{Ask, Alone, Reads, Writes, Counts, Takes, Gives, Runs, asks_at, call_asks, act_asks, next_asks, asks}
 use Rattle.aj_exchange.specs.Changes.{Did, quiet, was_read, was_written, was_made, was_taken, taken_more, was_given, was_started, was_printed}
 
 module _ (P : Program) (see : Shared) (t : ℕ) where
@@ -85,17 +85,25 @@ module _ (P : Program) (see : Shared) (t : ℕ) where
     new_did c None = quiet Counts tt
     new_did c (Some class) = was_made _
 
-    enter_did : (m : ℕ) (method : Method) (a : Address) (b : Bool) → OutDid Alone (enter P see t f below rest m method a b)
-    enter_did m method a false = quiet Alone tt
-    enter_did m method a true = quiet Alone tt
+    enter_did : (arity m : ℕ) (method : Method) (b : Bool) (a : Address) → OutDid (Runs a) (enter P see t f below rest arity m method a b)
+    enter_did arity m method false a = quiet (Runs a) tt
+    enter_did arity m method true a = quiet (Runs a) tt
 
-    call_on_did : (m : ℕ) (method : Method) (o : Option Address) → OutDid Alone (call_on P see t f below rest m method o)
-    call_on_did m method None = quiet Alone tt
-    call_on_did m method (Some a) = enter_did m method a _
+    enter_some_did : (arity m : ℕ) (o : Option Method) (a : Address) → OutDid (Runs a) (enter_some P see t f below rest arity m o a)
+    enter_some_did arity m None a = quiet (Runs a) tt
+    enter_some_did arity m (Some method) a = enter_did arity m method _ a
 
-    call_did : (m : ℕ) (o : Option Method) → OutDid Alone (call P see t f below rest m o)
+    dispatch_did : (arity : ℕ) (o : Option ℕ) (a : Address) → OutDid (Runs a) (dispatch P see t f below rest arity o a)
+    dispatch_did arity None a = quiet (Runs a) tt
+    dispatch_did arity (Some m) a = enter_some_did arity m (slice_get P.methods m) a
+
+    call_on_did : (arity m : ℕ) (o : Option Address) → OutDid (asks_at Runs o) (call_on P see t f below rest arity m o)
+    call_on_did arity m None = quiet Alone tt
+    call_on_did arity m (Some a) = dispatch_did arity _ a
+
+    call_did : (m : ℕ) (o : Option Method) → OutDid (call_asks f.operands o) (call P see t f below rest m o)
     call_did m None = quiet Alone tt
-    call_did m (Some method) = call_on_did m method _
+    call_did m (Some method) = call_on_did (length method.params) m _
 
     take_held_did : (s : Stmt) (a : Address) (hold : Hold) → see.lock_at a ≡ Some hold → (b : Bool) → (hold.holder == t) ≡ b → OutDid (Takes a) (take_held P see t f below rest s a hold b)
     take_held_did s a hold e true by = taken_more hold e (same_number hold.holder t by)
@@ -129,7 +137,7 @@ module _ (P : Program) (see : Shared) (t : ℕ) where
     start_did None = quiet Alone tt
     start_did (Some a) = start_run_did a _
 
-    act_did : (a : Action) → OutDid (act_asks f.operands a) (act P see t f below rest a)
+    act_did : (a : Action) → OutDid (act_asks P f.operands a) (act P see t f below rest a)
     act_did (W.Push v) = quiet Alone tt
     act_did (W.Load x) = load_did _
     act_did (W.Store x) = store_did x _
@@ -150,7 +158,7 @@ module _ (P : Program) (see : Shared) (t : ℕ) where
     act_did W.Print = was_printed _
     act_did W.Start = start_did _
 
-  next_did : (f : Frame) (below : List Frame) (o : Option Next) → OutDid (next_asks f.operands o) (act_next P see t f below o)
+  next_did : (f : Frame) (below : List Frame) (o : Option Next) → OutDid (next_asks P f.operands o) (act_next P see t f below o)
   next_did f below None = quiet Alone tt
   next_did f below (Some next) = act_did f below next.1 next.0
 
@@ -158,7 +166,7 @@ module _ (P : Program) (see : Shared) (t : ℕ) where
   first_did a m None = quiet Alone tt
   first_did a m (Some method) = quiet Alone tt
 
-  turn_did : (o : Option Thread) → OutDid (asks o) (turn P see t o)
+  turn_did : (o : Option Thread) → OutDid (asks P o) (turn P see t o)
   turn_did None = tt
   turn_did (Some Done) = tt
   turn_did (Some (Faulted kind frames)) = tt
@@ -166,5 +174,5 @@ module _ (P : Program) (see : Shared) (t : ℕ) where
   turn_did (Some (Running [])) = quiet Alone tt
   turn_did (Some (Running (f ∷ below))) = next_did f below _
 
-  pub moves_did : (o : Option Thread) (m : Move) → turn P see t o ≡ Moves m → Did P see t (asks o) m.kind m.change
-  moves_did o m e = subst (OutDid (asks o)) e (turn_did o)
+  pub moves_did : (o : Option Thread) (m : Move) → turn P see t o ≡ Moves m → Did P see t (asks P o) m.kind m.change
+  moves_did o m e = subst (OutDid (asks P o)) e (turn_did o)

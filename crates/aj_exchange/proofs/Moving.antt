@@ -16,7 +16,7 @@ use Rattle.aj_exchange.proofs.Swap.{swapped}
 
 pub exchange : (P : Program) → IsTyped P → (q : State) → IsSound q → (t u : ℕ) → t ≢ u → (m n : Move) → outcome P q t ≡ Moves m → outcome P (moved t m q) u ≡ Moves n → MayPass m.kind n.kind
     → started (length q.threads) m.change ≢ Some u → Swapped P q t m u n
-exchange P typed q sound t u other m n first second p fresh = swapped P (final_guards P typed) q (sound_orderly q sound) t u (λ e. absurd (other e)) m n first second p (λ e. absurd (fresh e))
+exchange P typed q sound t u other m n first second p fresh = swapped P (final_guards P typed) q (sound_orderly P q sound) t u (λ e. absurd (other e)) m n first second p (λ e. absurd (fresh e))
 
 -- what moves isn't Bare
 right_not_bare : (k : StepKind) → moves_right k ≡ true → k ≢ Bare

@@ -1,14 +1,14 @@
 -- Every state of every run is sound, and a sound state is orderly.
 use Rattle.std.proofs.Common.{◌≡◌, ℕ, zero, suc, Bool, true, false, List, [], ◌∷◌, ◌++◌, refl, sym, ap, subst, ◌∙◌, Some, None, IfSome}
-use Rattle.std.specs.Prelude.{Option, is_some, slice_get, slice_set, cond, option_map, option_and_then}
+use Rattle.std.specs.Prelude.{Option, length, is_some, slice_get, slice_set, cond, option_map, option_and_then}
 use Rattle.std.specs.FinMap as M
 use Rattle.std.specs.FinMap.{get-empty}
 use Rattle.std.specs.Ordering.{eq_by_cmp}
-use Rattle.aj_core.specs.Core.{Program}
+use Rattle.aj_core.specs.Core.{Program, Method}
 use Rattle.aj_core.specs.Typed.{IsTyped, LeadsOn, IsLock}
 use Rattle.aj_state.specs.declared.value.Address.{Address}
 use Rattle.aj_state.specs.declared.value.Value.{Value}
-use Rattle.aj_state.specs.Values.{top, under, address_of}
+use Rattle.aj_state.specs.Values.{top, under, dropped, address_of}
 use Rattle.aj_state.specs.Memory.{Object, Heap, address_cmp, with_value}
 use Rattle.aj_state.specs.Work as W
 use Rattle.aj_state.specs.Work.{Action, Next, unfolded}
@@ -18,13 +18,13 @@ use Rattle.aj_state.proofs.Addresses.{address_total}
 use Rattle.aj_steps.specs.Step.{Change, Nothing, FieldIs, ObjectIs, LockIs, Prints, Starts, Move, Outcome, Moves, Absent, IsDone, HadFaulted, Waits, outcome, step, moved, state_after}
 use Rattle.aj_steps.specs.Run.{run_from, run}
 use Rattle.aj_steps.proofs.RunLemmas.{step_numbered, initial_numbered}
-use Rattle.aj_steps.specs.Asks.{Ask, Reads, Writes, Takes, Runs, asks_at, act_asks, next_asks, asks}
+use Rattle.aj_steps.specs.Asks.{Ask, Reads, Writes, Takes, Runs, asks_at, call_asks, act_asks, next_asks, asks}
 use Rattle.aj_exchange.specs.Guards.{AreFinal, HasFinalGuards}
 use Rattle.aj_exchange.specs.Orderly.{IsThere, Refers, IsClosed, IsFit, IsOrderly}
 use Rattle.aj_exchange.specs.Sound.{AllRefer, IsSoundFrame, IsSoundThread, IsSound}
 use Rattle.aj_exchange.specs.Parts.{on_heap, on_threads}
 use Rattle.aj_exchange.proofs.Commute.{moved_is, get_heap}
-use Rattle.aj_exchange.proofs.SoundSteps.{step_out, IsSoundChange, refers_stays, all_stay, thread_stays, refers_at, all_refer, address_there, values_new}
+use Rattle.aj_exchange.proofs.SoundSteps.{dropped_refer, step_out, IsSoundChange, refers_stays, all_stay, thread_stays, refers_at, all_refer, address_there, values_new}
 
 -- Guards of a typed program lead through final fields.
 leads_final : (P : Program) (c : ℕ) (xs : List ℕ) → LeadsOn P c xs → AreFinal P xs
@@ -151,7 +151,7 @@ module _ (P : Program) where
   sound_run s q e = sound_from s (initial P) q sound_initial e
 
 -- What is asked in a sound state is there.
-module _ (heap : Heap) where
+module _ (P : Program) (heap : Heap) where
   fit_at : (make : Address → Ask) → ((a : Address) → IsThere heap a → IsFit heap (make a)) → (v : Value) → Refers heap v → (o : Option Address) → address_of v ≡ o → IsFit heap (asks_at make o)
   fit_at make fit v r None e = tt
   fit_at make fit v r (Some a) e = fit a (address_there heap v a r e)
@@ -164,7 +164,11 @@ module _ (heap : Heap) where
   under_refer [] h = tt
   under_refer (v ∷ vs) h = h.1
 
-  ask_fit : (f : Frame) → IsSoundFrame heap f → (a : Action) → IsFit heap (act_asks f.operands a)
+  call_fit : (f : Frame) → IsSoundFrame heap f → (o : Option Method) → IsFit heap (call_asks f.operands o)
+  call_fit f s None = tt
+  call_fit f s (Some method) = fit_at Runs (λ a h. h) (top (dropped (length method.params) f.operands)) (top_refers (dropped (length method.params) f.operands) (dropped_refer heap (length method.params) f.operands s.operands)) _ refl
+
+  ask_fit : (f : Frame) → IsSoundFrame heap f → (a : Action) → IsFit heap (act_asks P f.operands a)
   ask_fit f s (W.Push v) = tt
   ask_fit f s (W.Load x) = tt
   ask_fit f s (W.Store x) = tt
@@ -178,18 +182,18 @@ module _ (heap : Heap) where
   ask_fit f s (W.Get x) = fit_at (λ a. Reads a x) (λ a h. h) (top f.operands) (top_refers f.operands s.operands) _ refl
   ask_fit f s (W.Put x) = fit_at (λ a. Writes a x) (λ a h. h) (top (under f.operands)) (top_refers (under f.operands) (under_refer f.operands s.operands)) _ refl
   ask_fit f s (W.New c) = tt
-  ask_fit f s (W.Call m) = tt
+  ask_fit f s (W.Call m) = call_fit f s (slice_get P.methods m)
   ask_fit f s (W.Acquire u) = fit_at Takes (λ a h. tt) (top f.operands) (top_refers f.operands s.operands) _ refl
   ask_fit f s (W.Release a) = tt
   ask_fit f s W.Ret = tt
   ask_fit f s W.Print = tt
   ask_fit f s W.Start = fit_at Runs (λ a h. h) (top f.operands) (top_refers f.operands s.operands) _ refl
 
-  next_fit : (f : Frame) → IsSoundFrame heap f → (o : Option Next) → IsFit heap (next_asks f.operands o)
+  next_fit : (f : Frame) → IsSoundFrame heap f → (o : Option Next) → IsFit heap (next_asks P f.operands o)
   next_fit f s None = tt
   next_fit f s (Some next) = ask_fit f s next.0
 
-  asks_fit : (o : Option Thread) → ((x : Thread) → o ≡ Some x → IsSoundThread heap x) → IsFit heap (asks o)
+  asks_fit : (o : Option Thread) → ((x : Thread) → o ≡ Some x → IsSoundThread heap x) → IsFit heap (asks P o)
   asks_fit None h = tt
   asks_fit (Some (Ready a m)) h = tt
   asks_fit (Some (Running [])) h = tt
@@ -197,5 +201,5 @@ module _ (heap : Heap) where
   asks_fit (Some Done) h = tt
   asks_fit (Some (Faulted kind frames)) h = tt
 
-pub sound_orderly : (q : State) → IsSound q → IsOrderly q
-sound_orderly q s = record { numbered = s.numbered; closed = s.closed; fit = λ t. asks_fit q.heap (slice_get q.threads t) (s.threads t) }
+pub sound_orderly : (P : Program) (q : State) → IsSound q → IsOrderly P q
+sound_orderly P q s = record { numbered = s.numbered; closed = s.closed; fit = λ t. asks_fit P q.heap (slice_get q.threads t) (s.threads t) }

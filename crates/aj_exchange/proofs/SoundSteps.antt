@@ -20,7 +20,7 @@ use Rattle.aj_state.specs.Work as W
 use Rattle.aj_state.specs.Work.{Action, Item, Ex, St, Act, Next, unfolded}
 use Rattle.aj_state.specs.States.{Frame, Thread, Ready, Running, Done, Faulted, new_frame, new_slots, new_object, fields_of}
 use Rattle.aj_state.proofs.MemoryLemmas.{get-insert_same}
-use Rattle.aj_steps.specs.Step.{Change, Nothing, FieldIs, ObjectIs, LockIs, Prints, Starts, Move, Outcome, Moves, Absent, IsDone, HadFaulted, Waits, index_of, with_result, has_result, class_finals, goes_on, load, store, binary, and_then, or_else, choose, loop, get, get_value, put, put_value, new, call, call_on, enter, acquire, take, take_held, release, release_held, return_to, start, start_run, act, act_next, enter_first, turn}
+use Rattle.aj_steps.specs.Step.{Change, Nothing, FieldIs, ObjectIs, LockIs, Prints, Starts, Move, Outcome, Moves, Absent, IsDone, HadFaulted, Waits, index_of, with_result, has_result, class_finals, goes_on, load, store, binary, and_then, or_else, choose, loop, get, get_value, put, put_value, new, call, call_on, enter, enter_some, dispatch, acquire, take, take_held, release, release_held, return_to, start, start_run, act, act_next, enter_first, turn}
 use Rattle.aj_exchange.specs.Orderly.{see_in, IsThere, Refers, IsClosed}
 use Rattle.aj_exchange.specs.Sound.{AllRefer, IsSoundAction, AreSoundItems, IsSoundFrame, AreSoundFrames, IsSoundThread}
 use Rattle.aj_exchange.specs.Parts.{on_heap}
@@ -110,7 +110,7 @@ module _ (heap : Heap) where
   taken_refer zero found vs g h = g
   taken_refer (suc n) found vs g h = taken_refer n (top vs ∷ found) (under vs) (top_refers vs h, g) (under_refer vs h)
 
-  dropped_refer : (n : ℕ) (vs : List Value) → AllRefer heap vs → AllRefer heap (dropped n vs)
+  pub dropped_refer : (n : ℕ) (vs : List Value) → AllRefer heap vs → AllRefer heap (dropped n vs)
   dropped_refer zero vs h = h
   dropped_refer (suc n) vs h = dropped_refer n (under vs) (under_refer vs h)
 
@@ -289,23 +289,31 @@ module _ (P : Program) (t : ℕ) (heap : Heap) (locks : Locks) (closed : IsClose
           values_new (M.insert heap (next_address t heap) made) P (fields_of (slice_get P.classes c)) (taken (class_finals class) [] f.operands) (all_stay change heap _ (taken_refer heap (class_finals class) [] f.operands tt sf.operands)),
         )
 
-    enter_out : (m : ℕ) (method : Method) (a : Address) → IsThere heap a → (b : Bool) → SoundOut (enter P (see_in t heap locks) t f below rest m method a b)
-    enter_out m method a there false = (tt, tt)
-    enter_out m method a there true = (
+    enter_out : (arity m : ℕ) (method : Method) (a : Address) → IsThere heap a → (b : Bool) → SoundOut (enter P (see_in t heap locks) t f below rest arity m method a b)
+    enter_out arity m method a there false = (tt, tt)
+    enter_out arity m method a there true = (
       (
-        frame_sound heap m method (value.Ref a) _ there (taken_refer heap (length method.params) [] f.operands tt sf.operands),
-        (record { slots = sf.slots; operands = under_refer heap _ (dropped_refer heap (length method.params) f.operands sf.operands); work = sr }, sb),
+        frame_sound heap m method (value.Ref a) _ there (taken_refer heap arity [] f.operands tt sf.operands),
+        (record { slots = sf.slots; operands = under_refer heap _ (dropped_refer heap arity f.operands sf.operands); work = sr }, sb),
       ),
       tt,
     )
 
-    call_on_out : (m : ℕ) (method : Method) (v : Value) → Refers heap v → (o : Option Address) → address_of v ≡ o → SoundOut (call_on P (see_in t heap locks) t f below rest m method o)
-    call_on_out m method v r None e = (tt, tt)
-    call_on_out m method v r (Some a) e = enter_out m method a (address_there heap v a r e) _
+    enter_some_out : (arity m : ℕ) (o : Option Method) (a : Address) → IsThere heap a → SoundOut (enter_some P (see_in t heap locks) t f below rest arity m o a)
+    enter_some_out arity m None a there = (tt, tt)
+    enter_some_out arity m (Some method) a there = enter_out arity m method a there _
+
+    dispatch_out : (arity : ℕ) (o : Option ℕ) (a : Address) → IsThere heap a → SoundOut (dispatch P (see_in t heap locks) t f below rest arity o a)
+    dispatch_out arity None a there = (tt, tt)
+    dispatch_out arity (Some m) a there = enter_some_out arity m (slice_get P.methods m) a there
+
+    call_on_out : (arity m : ℕ) (v : Value) → Refers heap v → (o : Option Address) → address_of v ≡ o → SoundOut (call_on P (see_in t heap locks) t f below rest arity m o)
+    call_on_out arity m v r None e = (tt, tt)
+    call_on_out arity m v r (Some a) e = dispatch_out arity _ a (address_there heap v a r e)
 
     call_out : (m : ℕ) (o : Option Method) → SoundOut (call P (see_in t heap locks) t f below rest m o)
     call_out m None = (tt, tt)
-    call_out m (Some method) = call_on_out m method (top (dropped (length method.params) f.operands)) (top_refers heap _ (dropped_refer heap (length method.params) f.operands sf.operands)) _ refl
+    call_out m (Some method) = call_on_out (length method.params) m (top (dropped (length method.params) f.operands)) (top_refers heap _ (dropped_refer heap (length method.params) f.operands sf.operands)) _ refl
 
     take_held_out : (s : Stmt) (a : Address) (hold : Hold) (b : Bool) → SoundOut (take_held P (see_in t heap locks) t f below rest s a hold b)
     take_held_out s a hold true = (going _ (St s ∷ Act (W.Release a) ∷ rest) one (tt, (tt, sr)), tt)

@@ -13,7 +13,7 @@ use Rattle.aj_state.specs.Memory.{Object, Hold, Heap, Locks, address_cmp, made_b
 use Rattle.aj_state.proofs.Addresses.{tied, apart}
 use Rattle.aj_state.proofs.MemoryLemmas.{get-insert_other, value_in-insert_other}
 use Rattle.aj_state.proofs.Numbering.{next_free, numbered_new, numbered_written}
-use Rattle.aj_steps.specs.Step.{Change, FieldIs, LockIs, index_of, holds, run_of, next_at, access_kind, taken_again, given_back}
+use Rattle.aj_steps.specs.Step.{Change, FieldIs, LockIs, index_of, holds, object_class, next_at, access_kind, taken_again, given_back}
 use Rattle.aj_steps.specs.Asks.{Ask, Alone, Reads, Writes, Counts, Takes, Gives, Runs, mine, LooksSame}
 use Rattle.aj_exchange.specs.Changes.{IsApart, Did, quiet, was_read, was_written, was_made, was_taken, taken_more, was_given, was_started, was_printed}
 use Rattle.aj_exchange.specs.Guards.{HasFinalGuards}
@@ -30,10 +30,10 @@ below_same a b same = let p = same a in let q = same b in grind (arith, nat_test
 made_same : (h k : Heap) (u : ℕ) → IsNumbered h → IsNumbered k → ((n : ℕ) → is_some (M.get h (record { thread = u; count = n })) ≡ is_some (M.get k (record { thread = u; count = n }))) → made_by u h ≡ made_by u k
 made_same h k u nh nk same = below_same _ _ (λ n. sym (nh u n) ∙ same n ∙ nk u n)
 
-class_kept : (P : Program) (i : ℕ) (v : Value) (b : Bool) (o : Option Object) → run_of P o ≡ run_of P (cond b (option_map (with_value i v) o) o)
-class_kept P i v false o = refl
-class_kept P i v true None = refl
-class_kept P i v true (Some o) = refl
+class_kept : (i : ℕ) (v : Value) (b : Bool) (o : Option Object) → object_class o ≡ object_class (cond b (option_map (with_value i v) o) o)
+class_kept i v false o = refl
+class_kept i v true None = refl
+class_kept i v true (Some o) = refl
 
 there_kept : (i : ℕ) (v : Value) (b : Bool) (o : Option Object) → is_some o ≡ is_some (cond b (option_map (with_value i v) o) o)
 there_kept i v false o = refl
@@ -95,7 +95,7 @@ module _ (P : Program) (guards : HasFinalGuards P) (u : ℕ) (heap : Heap) (lock
     written_look Counts free = made_same heap (with_field a f.index v heap) u numbered (numbered_written heap a f.index v numbered) (λ n. there_kept f.index v _ _ ∙ sym (ap is_some (get_written heap a (record { thread = u; count = n }) f.index v)))
     written_look (Takes b) free = refl
     written_look (Gives b) free = refl
-    written_look (Runs b) free = class_kept P f.index v _ (M.get heap b) ∙ sym (ap (run_of P) (get_written heap a b f.index v))
+    written_look (Runs b) free = class_kept f.index v _ (M.get heap b) ∙ sym (ap object_class (get_written heap a b f.index v))
 
   -- an object was made by another thread
   module _ (numbered : IsNumbered heap) (closed : IsClosed heap) (t : ℕ) (other : t ≡ u → ⊥) (o : Object) where
@@ -139,7 +139,7 @@ module _ (P : Program) (guards : HasFinalGuards P) (u : ℕ) (heap : Heap) (lock
     made_look Counts fit = made_same heap (M.insert heap (next_address t heap) o) u numbered (numbered_new heap t o numbered) (λ n. sym (ap is_some (get-insert_other heap (next_address t heap) (record { thread = u; count = n }) o (λ e. absurd (other (sym (ap (λ (k : Address). k.thread) e)))))))
     made_look (Takes b) fit = refl
     made_look (Gives b) fit = refl
-    made_look (Runs b) fit = ap (run_of P) (sym (get-insert_other heap (next_address t heap) b o (not_new b fit)))
+    made_look (Runs b) fit = ap object_class (sym (get-insert_other heap (next_address t heap) b o (not_new b fit)))
 
   -- a lock was taken or given back by another thread
   module _ (a : Address) (hold : Option Hold) (before : mine u (M.get locks a) ≡ None) (after : mine u hold ≡ None) where

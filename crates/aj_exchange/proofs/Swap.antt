@@ -286,7 +286,7 @@ not_started (Prints k) n t lt e = absurd cc
 not_started (Starts a m) n t lt e = let same : n ≡ t = same_Some n t e in omega (arith, lt, same)
 
 -- two neighbouring steps that may pass each other change places
-pub swapped : (P : Program) → HasFinalGuards P → (q : State) → IsOrderly q → (t u : ℕ) → (t ≡ u → ⊥) → (m n : Move) → outcome P q t ≡ Moves m → outcome P (moved t m q) u ≡ Moves n → MayPass m.kind n.kind
+pub swapped : (P : Program) → HasFinalGuards P → (q : State) → IsOrderly P q → (t u : ℕ) → (t ≡ u → ⊥) → (m n : Move) → outcome P q t ≡ Moves m → outcome P (moved t m q) u ≡ Moves n → MayPass m.kind n.kind
     → (started (length q.threads) m.change ≡ Some u → ⊥) → Swapped P q t m u n
 swapped P guards q orderly t u other m n first second p fresh =
     let xt = slice_get q.threads t in
@@ -295,13 +295,13 @@ swapped P guards q orderly t u other m n first second p fresh =
     let after : turn P (see_in u (on_heap m.change q.heap) (on_locks m.change q.locks)) u xu ≡ Moves n =
     sym (ap (λ (s : State). turn P (seen_by u s) u xu) (moved_is t m q)) ∙ sym (ap (turn P (seen_by u (moved t m q)) u) (thread_kept q t u m other fresh)) ∙ second in
     let did_after = moves_did P (see_in u (on_heap m.change q.heap) (on_locks m.change q.locks)) u xu n after in
-    let free = first_apart P guards q.heap q.locks orderly.numbered t u other (asks xt) m.kind m.change did_t (asks xu) n.kind n.change did_after p in
-    let look = stable P guards u q.heap q.locks t other orderly.numbered orderly.closed (asks xt) m.kind m.change did_t (asks xu) (orderly.fit u) free in
+    let free = first_apart P guards q.heap q.locks orderly.numbered t u other (asks P xt) m.kind m.change did_t (asks P xu) n.kind n.change did_after p in
+    let look = stable P guards u q.heap q.locks t other orderly.numbered orderly.closed (asks P xt) m.kind m.change did_t (asks P xu) (orderly.fit u) free in
     let before : outcome P q u ≡ Moves n = turn_same P u (see_in u q.heap q.locks) (see_in u (on_heap m.change q.heap) (on_locks m.change q.locks)) xu look ∙ after in
     let did_u = moves_did P (see_in u q.heap q.locks) u xu n before in
-    let back = second_apart P q.heap q.locks orderly.numbered t u other (asks xt) m.kind m.change did_t (asks xu) n.kind n.change did_u p free in
+    let back = second_apart P q.heap q.locks orderly.numbered t u other (asks P xt) m.kind m.change did_t (asks P xu) n.kind n.change did_u p free in
     let turned : u ≡ t → ⊥ = λ e. other (sym e) in
-    let look_back = stable P guards t q.heap q.locks u turned orderly.numbered orderly.closed (asks xu) n.kind n.change did_u (asks xt) (orderly.fit t) back.0 in
+    let look_back = stable P guards t q.heap q.locks u turned orderly.numbered orderly.closed (asks P xu) n.kind n.change did_u (asks P xt) (orderly.fit t) back.0 in
     let there = stepper P q t m first in
     let later : outcome P (moved u n q) t ≡ Moves m =
     ap (turn P (seen_by t (moved u n q)) t) (thread_kept q u t n turned (not_started n.change (length q.threads) t there))

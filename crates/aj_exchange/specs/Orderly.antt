@@ -1,6 +1,7 @@
 -- States in which steps exchange: what is asked is there, and nothing dangles.
 use Rattle.std.specs.Prelude.{◌≡◌, ℕ, true, Some, is_some, slice_get}
 use Rattle.std.specs.FinMap as map
+use Rattle.aj_core.specs.Core.{Program}
 use Rattle.aj_state.specs.declared.value.Address.{Address}
 use Rattle.aj_state.specs.declared.value.Value.{Value}
 use Rattle.aj_state.specs.declared.value.Value.TheVariants as value
@@ -35,7 +36,8 @@ IsFit heap (Writes a x) = IsThere heap a
 IsFit heap (Runs a) = IsThere heap a
 IsFit heap _ = Unit {0}
 
-pub record IsOrderly (q : State) : Type 0 where
+-- whatever a thread's turn asks about an object, of this program, is asked about one that is there; no address dangles
+pub record IsOrderly (P : Program) (q : State) : Type 0 where
   pub numbered : IsNumbered q.heap
   pub closed : IsClosed q.heap
-  pub fit : (t : ℕ) → IsFit q.heap (asks (slice_get q.threads t))
+  pub fit : (t : ℕ) → IsFit q.heap (asks P (slice_get q.threads t))

@@ -19,7 +19,7 @@ pub fn soundness_laws()
     ensures initial { (P : Program) → IsSound (initial P) }
     ensures step { (P : Program) (q : State) (t : ℕ) (m : Move) → IsSound q → outcome P q t ≡ Moves m → IsSound (moved t m q) }
     ensures run { (P : Program) (s : List ℕ) (q : State) → run P s ≡ Some q → IsSound q }
-    ensures orderly { (q : State) → IsSound q → IsOrderly q }
+    ensures orderly { (P : Program) (q : State) → IsSound q → IsOrderly P q }
 {}
 
 /// Two neighbouring steps of different threads change places where their kinds let them pass and the first doesn't start the

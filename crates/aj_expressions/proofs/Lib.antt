@@ -1,3 +1,4 @@
+pub mod Fields
 pub mod Complete
 pub mod Expressions
 pub mod LoopLaw

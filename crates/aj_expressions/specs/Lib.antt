@@ -1,5 +1,6 @@
 -- For a reader of the parser, in this order: reading from the front of a list (Combine), names and types (Words), expressions
--- (Expressions), what the functions answer (Answer). Lexemes serves the code.
+-- (Expressions), plain statements (Statements), what the functions answer (Answer). Lexemes serves the code.
+pub mod Statements
 pub mod Answer
 pub mod Lexemes
 pub mod Combine

@@ -15,7 +15,7 @@ use Rattle.aj_steps.specs.Words.{IsReducible}
 use Rattle.aj_steps.proofs.RunLemmas.{step_numbered, initial_numbered}
 use Rattle.aj_safe.specs.Phases.{Phase, phase_of, allowed}
 use Rattle.aj_safe.specs.Safe.{IsFree, IsSafe, flags_after}
-use Rattle.aj_turn.specs.Turn.{Accepted}
+use Rattle.aj_safe.specs.Turn.{Accepted}
 use Rattle.aj_state.proofs.MemoryLemmas.{set_other}
 use Rattle.std.specs.Prelude.{slice_set}
 use Rattle.std.proofs.lemmas.Bool.{eqb-false, eq-eqb}

@@ -20,9 +20,9 @@ use Rattle.aj_safe.specs.Leads.{Memory, memory_of, Grows}
 use Rattle.aj_safe.specs.Safe.{Owns, IsFree, IsSafeThread, IsSafe, frames_inside, held_count, flags_after}
 use Rattle.aj_safe.proofs.PhaseLemmas.{le_itself}
 use Rattle.aj_safe.proofs.Frames.{frames_move}
-use Rattle.aj_turn.specs.Turn.{Accepted, StepFine, Fine, StartFine}
+use Rattle.aj_safe.specs.Turn.{Accepted, StepFine, Fine, StartFine}
 use Rattle.aj_steps.specs.Changes.{objects_after, locks_after}
-use Rattle.aj_turn.proofs.ThreadTurn.{turn_fine}
+use Rattle.aj_safe.proofs.ThreadTurn.{turn_fine}
 use Rattle.aj_steps.proofs.Changed.{heap_after, locks_are, ThreadAfter, kept, begun, thread_after}
 
 module _ (P : Program) (rel : ℕ → List PathData) (A : Assignment) where

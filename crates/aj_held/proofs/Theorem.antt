@@ -14,7 +14,7 @@ use Rattle.aj_steps.specs.Run.{run}
 use Rattle.aj_steps.specs.Units.{Entry, entries, units, word_of}
 use Rattle.aj_steps.specs.Words.{IsReducible}
 use Rattle.aj_safe.specs.Safe.{IsSafe, flags_after}
-use Rattle.aj_tidy.proofs.Admissible.{accepted, main_free}
+use Rattle.aj_safe.proofs.Admissible.{accepted, main_free}
 use Rattle.aj_held.proofs.SafeSteps.{initial_safe, step_safe}
 use Rattle.aj_held.proofs.SafeRuns.{never_bare, run_words}
 

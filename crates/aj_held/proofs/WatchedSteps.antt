@@ -15,7 +15,7 @@ use Rattle.aj_steps.proofs.RunLemmas.{run_from-append}
 use Rattle.aj_deeds.specs.declared.deed.StepEnd.{StepEnd}
 use Rattle.aj_deeds.specs.declared.deed.StepEnd.TheVariants as ends
 use Rattle.aj_deeds.specs.Likeness.{StateStands}
-use Rattle.aj_perform.specs.MachineValue.{MachineValue}
+use Rattle.aj_machine.specs.MachineValue.{MachineValue}
 use Rattle.aj_machine.specs.Standing.{program_run, StandsFor, IsTurn, IsSame}
 use Rattle.aj_machine.proofs.Schedules.{turned}
 use Rattle.aj_held.specs.Watching.{IsWatched, IsGuarded, IsWatchedTurn}

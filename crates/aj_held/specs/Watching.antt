@@ -12,7 +12,7 @@ use Rattle.aj_steps.specs.Units.{entries, units}
 use Rattle.aj_steps.specs.Words.{HasWords}
 use Rattle.aj_deeds.specs.declared.deed.StepEnd.{StepEnd}
 use Rattle.aj_deeds.specs.declared.deed.StepEnd.TheVariants as ends
-use Rattle.aj_perform.specs.MachineValue.{MachineValue}
+use Rattle.aj_machine.specs.MachineValue.{MachineValue}
 use Rattle.aj_machine.specs.Standing.{program_run, StandsFor}
 
 -- the machine, and the threads whose steps it made, in order

@@ -9,9 +9,9 @@ ghost use Rattle.aj_deeds.specs.declared.deed.StepEnd.TheVariants as ends;
 ghost use Rattle.aj_machine.specs.Standing.{program_run, StandsFor, IsSame};
 ghost use Rattle.aj_held.specs.Watching.{IsGuarded, IsWatchedTurn};
 
+use aj_compile::CodeTable;
 use aj_deeds::StepEnd;
 use aj_deriv_check::Checked;
-use aj_emit::CodeTable;
 use aj_machine::Machine;
 use aj_state::StepKind;
 use std::alloc::{AllocError as NoMemory, Global};
@@ -47,7 +47,7 @@ pub struct Watched<'p> {
 impl<'p> Model for Watched<'p> {
     ghost use Rattle.aj_core.specs.contracts.tree.CoreStmt as statement;
     ghost use Rattle.std.specs.Coded.{codes};
-    ghost use Rattle.aj_perform.specs.MachineValue.{state_code};
+    ghost use Rattle.aj_machine.specs.MachineValue.{state_code};
     ghost use Rattle.aj_held.specs.Watching.{WatchedValue, IsWatched};
 
     ghost Value = { WatchedValue };

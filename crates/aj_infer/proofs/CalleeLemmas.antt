@@ -4,7 +4,7 @@ use Rattle.std.specs.Prelude.{Option, Result, Ok, Err, OnOk, Contains}
 use Rattle.std.proofs.lemmas.Grind.{common_steps}
 use Rattle.std.proofs.lemmas.List.{take_more, length-set}
 use Rattle.std.proofs.lemmas.Option.{slice_get_within, slice_get-get_or}
-use Rattle.std.proofs.lemmas.List.Elements.{Contains-push, Contains-push_cases, Contains-append_left, Contains-append_right}
+use Rattle.std.proofs.lemmas.List.Elements.{Contains-push, Contains-push_cases, Contains-append_left, Contains-append_right, Contains-append_cases}
 use Rattle.std.proofs.lemmas.Bool.{eqb-true, or_right, or_left, eq-eqb}
 use Rattle.aj_core.specs.Core.{Program, Method, Expr, Exprs, IntE, TruthE, NullE, ThisE, VarE, NotE, NegE, BinaryE, AndE, OrE, GetE, CallE, NewE, no_exprs, and_expr}
 use Rattle.aj_core.specs.Core.{Stmt, Stmts, EmptyS, BlockS, LocalS, SetVarS, SetFieldS, DoS, IfS, WhileS, SyncS, ReturnS, PrintS, StartS, no_stmts, and_stmt}
@@ -12,7 +12,7 @@ use Rattle.aj_core.specs.declared.program.CoreMethod.{CoreMethod}
 use Rattle.aj_core.specs.Views.{method_of, stmt_of}
 use Rattle.aj_infer.proofs.Lookups.{found_method}
 use Rattle.aj_fix.proofs.NoteLemmas.{contains_none, contains_cases, set_here, set_at}
-use Rattle.aj_infer.specs.Called.{expr_calls, exprs_call, stmt_calls, block_calls, expr_callees, exprs_callees, stmt_callees, block_callees, method_calls, calls, row_of, row_at, HasCaller, HasCallers, has_caller, AreCallers}
+use Rattle.aj_infer.specs.Called.{expr_calls, exprs_call, stmt_calls, block_calls, expr_callees, exprs_callees, stmt_callees, block_callees, method_calls, calls, row_of, row_at, HasCaller, HasCallers, has_method, AreCallers}
 
 or_has : (callee : ℕ) (a b : Bool) (xs ys : List ℕ) → (a || b) ≡ true → (a ≡ true → Contains xs callee) → (b ≡ true → Contains ys callee) → Contains (xs ++ ys) callee
 or_has callee true b xs ys e f g = Contains-append_left xs ys callee (f refl)
@@ -101,20 +101,51 @@ callers_more rows between now callees place callee caller below is before one = 
   still = λ m k h. one.still m k (before.still m k h);
 }
 
+-- the same of two lists, one after the other
+callers_both : (rows between now : List (List ℕ)) (xs ys : List ℕ) (caller : ℕ) → HasCallers rows between xs caller → HasCallers between now ys caller → HasCallers rows now (xs ++ ys) caller
+callers_both rows between now xs ys caller one two = record {
+  size = two.size ∙ one.size;
+  each = λ m h within. elim (Contains-append_cases xs ys m h) as (λ _. Contains (row_at now m) caller) [
+    | inl earlier ↦ two.still m caller (one.each m earlier within)
+    | inr later ↦ two.each m later (subst (λ n. m < n) (sym one.size) within)
+  ];
+  still = λ m k h. two.still m k (one.still m k h);
+}
+
+-- whether a row has a caller
+
+pub contained : (row : List ℕ) (caller : ℕ) → Contains row caller → has_method row caller ≡ true
+contained [] caller has = absurd (contains_none caller has)
+contained (c ∷ row) caller has = elim (contains_cases c row caller has) as (λ _. has_method (c ∷ row) caller ≡ true) [
+  | inl same ↦ or_left (c == caller) (has_method row caller) (eq-eqb c caller same)
+  | inr later ↦ or_right (c == caller) (has_method row caller) (contained row caller later)
+]
+
+pub containing : (row : List ℕ) (caller : ℕ) → has_method row caller ≡ true → Contains row caller
+containing [] caller has = absurd (cc)
+containing (c ∷ row) caller has = or_has caller (c == caller) (has_method row caller) (c ∷ []) row has (one_has caller c) (containing row caller)
+
 -- the callers before a place are in the rows
-pub record SoFar (P : Program) (rows : List (List ℕ)) (count : ℕ) : Type 0 where
-  pub callers : (callee caller : ℕ) → caller < count → callee < length rows → calls P caller callee ≡ true → Contains (row_at rows callee) caller
+pub record SoFar (P : Program) (overs : ℕ → List ℕ) (rows : List (List ℕ)) (count : ℕ) : Type 0 where
+  pub callers : (callee caller : ℕ) → caller < count → callee < length rows → calls P overs caller callee ≡ true → Contains (row_at rows callee) caller
 
 -- the callees of one method more
-pub methods_more : (P : Program) (rows now : List (List ℕ)) (count : ℕ) (method : Method) → slice_get P.methods count ≡ Some method → SoFar P rows count → HasCallers rows now (stmt_callees method.body) count → SoFar P now (count + 1)
-methods_more P rows now count method is before added = record {
+pub methods_more : (P : Program) (overs : ℕ → List ℕ) (rows between now : List (List ℕ)) (count : ℕ) (method : Method) → slice_get P.methods count ≡ Some method → SoFar P overs rows count
+    → HasCallers rows between (stmt_callees method.body) count → HasCallers between now (overs count) count → SoFar P overs now (count + 1)
+methods_more P overs rows between now count method is before by_body by_over = record {
   callers = λ callee caller below within called. elim (last_or caller count below) as (λ _. Contains (row_at now callee) caller) [
     | inl earlier ↦ added.still callee caller (before.callers callee caller earlier (subst (λ n. callee < n) added.size within) called)
     | inr same ↦ subst (Contains (row_at now callee)) (sym same)
-        (added.each callee (stmt_has callee method.body (ap (λ o. method_calls o callee) (sym is) ∙ ap (λ k. calls P k callee) (sym same) ∙ called)) (subst (λ n. callee < n) added.size within))
+        (added.each callee (called_by callee (ap (λ o. method_calls o (overs count) callee) (sym is) ∙ ap (λ k. calls P overs k callee) (sym same) ∙ called)) (subst (λ n. callee < n) added.size within))
   ];
 }
   where
+    added : HasCallers rows now (stmt_callees method.body ++ overs count) count
+    added = callers_both rows between now (stmt_callees method.body) (overs count) count by_body by_over
+
+    called_by : (callee : ℕ) → (stmt_calls (λ m. m == callee) method.body || has_method (overs count) callee) ≡ true → Contains (stmt_callees method.body ++ overs count) callee
+    called_by callee e = or_has callee (stmt_calls (λ m. m == callee) method.body) (has_method (overs count) callee) (stmt_callees method.body) (overs count) e (stmt_has callee method.body) (containing (overs count) callee)
+
     last_or : (c count : ℕ) → c < count + 1 → (c < count) ⊎ (c ≡ count)
     last_or zero zero below = inr refl
     last_or zero (suc count) below = inl (omega arith)
@@ -124,22 +155,11 @@ methods_more P rows now count method is before added = record {
       | inr same ↦ inr (ap suc same)
     ]
 
-pub contained : (row : List ℕ) (caller : ℕ) → Contains row caller → has_caller row caller ≡ true
-contained [] caller has = absurd (contains_none caller has)
-contained (c ∷ row) caller has = elim (contains_cases c row caller has) as (λ _. has_caller (c ∷ row) caller ≡ true) [
-  | inl same ↦ or_left (c == caller) (has_caller row caller) (eq-eqb c caller same)
-  | inr later ↦ or_right (c == caller) (has_caller row caller) (contained row caller later)
-]
-
-pub containing : (row : List ℕ) (caller : ℕ) → has_caller row caller ≡ true → Contains row caller
-containing [] caller has = absurd (cc)
-containing (c ∷ row) caller has = or_has caller (c == caller) (has_caller row caller) (c ∷ []) row has (one_has caller c) (containing row caller)
-
 -- all methods were looked at
-pub methods_all : (P : Program) (rows : List (List ℕ)) (count : ℕ) → length P.methods ≤ count → SoFar P rows count → AreCallers P rows
-methods_all P rows count all so_far = λ callee caller within called. contained (row_at rows callee) caller (so_far.callers callee caller (there callee caller (slice_get P.methods caller) refl called) within called)
+pub methods_all : (P : Program) (overs : ℕ → List ℕ) (rows : List (List ℕ)) (count : ℕ) → length P.methods ≤ count → SoFar P overs rows count → AreCallers P overs rows
+methods_all P overs rows count all so_far = λ callee caller within called. contained (row_at rows callee) caller (so_far.callers callee caller (there callee caller (slice_get P.methods caller) refl called) within called)
   where
-    there : (callee caller : ℕ) (o : Option Method) → slice_get P.methods caller ≡ o → method_calls o callee ≡ true → caller < count
+    there : (callee caller : ℕ) (o : Option Method) → slice_get P.methods caller ≡ o → method_calls o (overs caller) callee ≡ true → caller < count
     there callee caller None is called = absurd (cc)
     there callee caller (Some method) is called = let below = slice_get_within P.methods caller method is in omega (arith, below, all)
 
@@ -156,8 +176,8 @@ put_call (Ok a) old first second new m xs ys zs all one two same is put =
     put ∙ ap (λ l. second ++ l) same ∙ ap (λ l. l ++ zs) (two ∙ ap (λ l. l ++ xs) one) ∙ grind (arith, common_steps) ∙ ap (λ l. old ++ l) (sym is)
 
 -- where it begins, no method was looked at
-pub none_so_far : (P : Program) (rows : List (List ℕ)) → SoFar P rows 0
-none_so_far P rows = record { callers = λ callee caller below within called. absurd (omega (arith, below)) }
+pub none_so_far : (P : Program) (overs : ℕ → List ℕ) (rows : List (List ℕ)) → SoFar P overs rows 0
+none_so_far P overs rows = record { callers = λ callee caller below within called. absurd (omega (arith, below)) }
 
 -- the callees of a method, put into an empty list
 pub method_callees : (xs : List CoreMethod) (methods : List Method) (place : ℕ) (x : CoreMethod) (none callees lent : List ℕ) → map method_of xs ≡ methods → place < length xs → x ≡ get_or xs place x
@@ -165,8 +185,8 @@ pub method_callees : (xs : List CoreMethod) (methods : List Method) (place : ℕ
 method_callees xs methods place x none callees lent all below is empty put same = (found_method xs methods place x all below is, same ∙ put ∙ ap (λ l. l ++ stmt_callees (stmt_of x.body)) empty)
 
 -- the row that was read has each caller
-pub reading : (P : Program) (rows lent : List (List ℕ)) (callee : ℕ) (row read : List ℕ) → AreCallers P rows → lent ≡ rows → callee < length lent → row ≡ get_or lent callee row → read ≡ row
-    → (caller : ℕ) → calls P caller callee ≡ true → Contains read caller
-reading P rows lent callee row read callers same below is read_is caller called =
+pub reading : (P : Program) (overs : ℕ → List ℕ) (rows lent : List (List ℕ)) (callee : ℕ) (row read : List ℕ) → AreCallers P overs rows → lent ≡ rows → callee < length lent → row ≡ get_or lent callee row → read ≡ row
+    → (caller : ℕ) → calls P overs caller callee ≡ true → Contains read caller
+reading P overs rows lent callee row read callers same below is read_is caller called =
     let at : slice_get rows callee ≡ Some row = ap (λ l. slice_get l callee) (sym same) ∙ slice_get-get_or lent callee row below ∙ ap Some (sym is) in
     subst (λ l. Contains l caller) (ap row_of at ∙ sym read_is) (containing (row_at rows callee) caller (callers callee caller (subst (λ l. callee < length l) same below) called))

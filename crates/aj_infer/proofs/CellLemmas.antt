@@ -12,13 +12,12 @@ use Rattle.aj_algebra.specs.HeldPaths.{Held, has_path}
 use Rattle.aj_core.specs.Core.{Program, Method}
 use Rattle.aj_fix.specs.Assignments.{AreAtLeast, IsAbove}
 use Rattle.aj_fix.proofs.NoteLemmas.{set_at}
-use Rattle.aj_rules.specs.Effect.{Assignment, effect}
+use Rattle.aj_rules.specs.Effect.{Assignment}
 use Rattle.aj_rules.specs.Rules.{IsPart, AtMost, IsFalling}
 use Rattle.aj_rules.proofs.SetLemmas.{first, second}
-use Rattle.aj_rules.proofs.Falling.{stmt_falls}
 use Rattle.aj_infer.specs.Tables.{chosen, table_of, assigned}
-use Rattle.aj_infer.specs.Cells.{basic_of, numbers_of, tables_of, count_of_parts, demands_of, demands_at, are_below, joined, table_falls, is_met, room_of, rooms_of, AreTables}
-use Rattle.aj_rules.proofs.EffectRises.{stmt_rises}
+use Rattle.aj_infer.specs.Cells.{basic_of, numbers_of, tables_of, count_of_parts, run_effect, demands_of, demands_at, are_below, joined, table_falls, is_met, room_of, rooms_of, AreTables}
+use Rattle.aj_infer.proofs.RunLemmas.{run_falls, run_rises}
 use Rattle.aj_infer.proofs.TableParts.{length_parts, chosen_parts, chosen_below, chosen_none, length_joined, parts_below, below_lists, falls_chosen, none_falls, parts_fall, joined_falls}
 
 -- Basics and numbers.
@@ -235,24 +234,24 @@ rooms_fall (t ∷ tables) (suc m) old table is less =
     let r = rooms_fall tables m old table is less in
     omega (arith, sum_by-cons room_of t (slice_set tables m table), sum_by-cons room_of t tables, r)
 
--- What a body demands.
+-- What calls demand.
 
 -- the entry of a method's demands at a set
-pub demand_is : (P : Program) (rel : ℕ → List PathData) (A : Assignment) (m : ℕ) (method : Method) (H : Held)
-    → chosen (map H (rel m)) (demands_of P rel A m (Some method)) ≡ effect P rel A method.body (has_path (method.requires_ ++ filter H (rel m)))
-demand_is P rel A m method H = chosen_parts (λ held. effect P rel A method.body (has_path held)) H method.requires_ (rel m)
+pub demand_is : (P : Program) (overs : ℕ → List ℕ) (rel : ℕ → List PathData) (A : Assignment) (m : ℕ) (method : Method) (H : Held)
+    → chosen (map H (rel m)) (demands_of P overs rel A m (Some method)) ≡ run_effect P rel A (overs m) method (has_path (method.requires_ ++ filter H (rel m)))
+demand_is P overs rel A m method H = chosen_parts (λ held. run_effect P rel A (overs m) method (has_path held)) H method.requires_ (rel m)
 
 -- a greater assignment demands no less
-demands_rise : (P : Program) (rel : ℕ → List PathData) (A B : Assignment) → ((m : ℕ) (H : Held) → IsPart H (has_path (rel m)) → AtMost (A m H) (B m H))
-    → (m : ℕ) (method : Method) → are_below (demands_of P rel A m (Some method)) (demands_of P rel B m (Some method)) ≡ true
-demands_rise P rel A B above m method =
-    parts_below (λ held. effect P rel A method.body (has_path held)) (λ held. effect P rel B method.body (has_path held)) method.requires_ method.requires_ (rel m)
-    (λ qs part. stmt_rises P rel A B above method.body (has_path (method.requires_ ++ qs)))
+demands_rise : (P : Program) (overs : ℕ → List ℕ) (rel : ℕ → List PathData) (A B : Assignment) → ((m : ℕ) (H : Held) → IsPart H (has_path (rel m)) → AtMost (A m H) (B m H))
+    → (m : ℕ) (method : Method) → are_below (demands_of P overs rel A m (Some method)) (demands_of P overs rel B m (Some method)) ≡ true
+demands_rise P overs rel A B above m method =
+    parts_below (λ held. run_effect P rel A (overs m) method (has_path held)) (λ held. run_effect P rel B (overs m) method (has_path held)) method.requires_ method.requires_ (rel m)
+    (λ qs part. run_rises P rel (overs m) method A B above (has_path (method.requires_ ++ qs)))
 
 -- what is demanded under a falling assignment falls
-demands_fall : (P : Program) (rel : ℕ → List PathData) (A : Assignment) → IsFalling rel A → (m : ℕ) (method : Method) → table_falls (rel m) (demands_of P rel A m (Some method)) ≡ true
-demands_fall P rel A falling m method = parts_fall (λ held. effect P rel A method.body (has_path held)) (λ q. true)
-    (λ xs ys within part. stmt_falls P rel A falling method.body (has_path xs) (has_path ys) part) method.requires_ (rel m) (λ q e. refl)
+demands_fall : (P : Program) (overs : ℕ → List ℕ) (rel : ℕ → List PathData) (A : Assignment) → IsFalling rel A → (m : ℕ) (method : Method) → table_falls (rel m) (demands_of P overs rel A m (Some method)) ≡ true
+demands_fall P overs rel A falling m method = parts_fall (λ held. run_effect P rel A (overs m) method (has_path held)) (λ q. true)
+    (λ xs ys within part. run_falls P rel (overs m) method A falling (has_path xs) (has_path ys) part) method.requires_ (rel m) (λ q e. refl)
 
 -- falling tables make a falling assignment
 fall_at : (P : Program) (rel : ℕ → List PathData) (tables : List (List Basic)) → AreTables P rel tables → (m : ℕ) (o : Option (List Basic)) → slice_get tables m ≡ o
@@ -274,19 +273,19 @@ each_falls P rel tables each m = falls_at P rel tables each m (slice_get tables 
 
 -- One rise.
 
-module _ (P : Program) (rel : ℕ → List PathData) (tables : List (List Basic)) (m : ℕ) (method : Method) (old : List Basic) (is : slice_get P.methods m ≡ Some method) (is_old : slice_get tables m ≡ Some old) (each : AreTables P rel tables) where
-  -- what the body demands, and the table with it
+module _ (P : Program) (overs : ℕ → List ℕ) (rel : ℕ → List PathData) (tables : List (List Basic)) (m : ℕ) (method : Method) (old : List Basic) (is : slice_get P.methods m ≡ Some method) (is_old : slice_get tables m ≡ Some old) (each : AreTables P rel tables) where
+  -- what calls of the method demand, and the table with it
   abbrev pub demanded : List Basic
-  demanded = demands_of P rel (assigned rel tables) m (Some method)
+  demanded = demands_of P overs rel (assigned rel tables) m (Some method)
 
   abbrev pub risen : List Basic
   risen = joined demanded old
 
   pub demanded_length : length demanded ≡ length old
-  demanded_length = length_parts (λ held. effect P rel (assigned rel tables) method.body (has_path held)) method.requires_ (rel m) ∙ sym (each.size m old is_old)
+  demanded_length = length_parts (λ held. run_effect P rel (assigned rel tables) (overs m) method (has_path held)) method.requires_ (rel m) ∙ sym (each.size m old is_old)
 
   risen_falls : table_falls (rel m) risen ≡ true
-  risen_falls = joined_falls (rel m) demanded old demanded_length (demands_fall P rel (assigned rel tables) (tables_fall P rel tables each) m method) (each.falls m old is_old)
+  risen_falls = joined_falls (rel m) demanded old demanded_length (demands_fall P overs rel (assigned rel tables) (tables_fall P rel tables each) m method) (each.falls m old is_old)
 
   risen_size : (k : ℕ) (table : List Basic) → slice_get (slice_set tables m risen) k ≡ Some table → length table ≡ count_of_parts (rel k)
   risen_size k table at = elim (set_at tables m risen k) as (λ _. length table ≡ count_of_parts (rel k)) [
@@ -315,17 +314,17 @@ module _ (P : Program) (rel : ℕ → List PathData) (tables : List (List Basic)
   risen_room up = rooms_fall tables m old risen is_old (room_falls demanded old demanded_length up)
 
   -- numbers that are above and meet the demand of the method stay above
-  pub risen_under : (x : List (List ℕ)) → IsTrue (is_met P rel x m) → IsAbove x (numbers_of tables) → IsAbove x (numbers_of (slice_set tables m risen))
+  pub risen_under : (x : List (List ℕ)) → IsTrue (is_met P overs rel x m) → IsAbove x (numbers_of tables) → IsAbove x (numbers_of (slice_set tables m risen))
   risen_under x met up =
       let row = subst (λ o. AreAtLeast (row_of (slice_get x m)) (map rank_of (table_of o))) is_old (row_above x tables up m) in
-      let rise = demands_rise P rel (assigned rel tables) (assigned rel (tables_of x)) (λ k H within. above_assigned rel x tables up k H) m method in
-      let met_there : are_below (demands_of P rel (assigned rel (tables_of x)) m (Some method)) (table_of (slice_get (tables_of x) m)) ≡ true
-      = subst (λ o. are_below (demands_of P rel (assigned rel (tables_of x)) m o) (table_of (slice_get (tables_of x) m)) ≡ true) is
-      (second (table_falls (rel m) (table_of (slice_get (tables_of x) m))) (are_below (demands_at P rel (assigned rel (tables_of x)) m) (table_of (slice_get (tables_of x) m))) met) in
-      let met_row : are_below (demands_of P rel (assigned rel (tables_of x)) m (Some method)) (map basic_of (row_of (slice_get x m))) ≡ true
-      = subst (λ t. are_below (demands_of P rel (assigned rel (tables_of x)) m (Some method)) t ≡ true) (table_of_row x m) met_there in
-      let same = length_parts (λ held. effect P rel (assigned rel (tables_of x)) method.body (has_path held)) method.requires_ (rel m)
+      let rise = demands_rise P overs rel (assigned rel tables) (assigned rel (tables_of x)) (λ k H within. above_assigned rel x tables up k H) m method in
+      let met_there : are_below (demands_of P overs rel (assigned rel (tables_of x)) m (Some method)) (table_of (slice_get (tables_of x) m)) ≡ true
+      = subst (λ o. are_below (demands_of P overs rel (assigned rel (tables_of x)) m o) (table_of (slice_get (tables_of x) m)) ≡ true) is
+      (second (table_falls (rel m) (table_of (slice_get (tables_of x) m))) (are_below (demands_at P overs rel (assigned rel (tables_of x)) m) (table_of (slice_get (tables_of x) m))) met) in
+      let met_row : are_below (demands_of P overs rel (assigned rel (tables_of x)) m (Some method)) (map basic_of (row_of (slice_get x m))) ≡ true
+      = subst (λ t. are_below (demands_of P overs rel (assigned rel (tables_of x)) m (Some method)) t ≡ true) (table_of_row x m) met_there in
+      let same = length_parts (λ held. run_effect P rel (assigned rel (tables_of x)) (overs m) method (has_path held)) method.requires_ (rel m)
       ∙ sym (each.size m old is_old) ∙ row_length (row_of (slice_get x m)) old row in
       above_set x tables m risen up
       (joined_least (row_of (slice_get x m)) demanded old demanded_length
-      (below_lists demanded (demands_of P rel (assigned rel (tables_of x)) m (Some method)) (map basic_of (row_of (slice_get x m))) same rise met_row) row)
+      (below_lists demanded (demands_of P overs rel (assigned rel (tables_of x)) m (Some method)) (map basic_of (row_of (slice_get x m))) same rise met_row) row)

@@ -1,6 +1,6 @@
 -- Tables whose demands are met make the least closed assignment.
 use Rattle.std.proofs.Common.{◌≡◌, ◌↔◌, ℕ, zero, suc, ◌+◌, ◌-◌, ◌*◌, ◌^◌, ◌<◌, ◌≤◌, true, IsTrue, ◌&&◌, List, [], ◌∷◌, ◌++◌, length, filter, map, slice_get, Some, None, refl, sym, ap, subst, ◌∙◌, arith, ◌⊎◌, inl, inr}
-use Rattle.std.specs.Prelude.{Option}
+use Rattle.std.specs.Prelude.{Option, Contains}
 use Rattle.std.proofs.lemmas.List.Sums.{sum_by-cons}
 use Rattle.std.proofs.lemmas.Nat.{pow_pos}
 use Rattle.std.proofs.Math.Nat.{pow-succ'}
@@ -14,21 +14,23 @@ use Rattle.aj_algebra.specs.HeldPaths.{Held, has_path}
 use Rattle.aj_core.specs.Core.{Program, Method}
 use Rattle.aj_core.specs.Typed.{IsTyped}
 use Rattle.aj_fix.specs.Assignments as fix
+use Rattle.aj_core.specs.Dispatch.{Overrides}
 use Rattle.aj_rules.specs.Near.{MethodPaths, AreRelevant, AreFew, rel_of}
+use Rattle.aj_rules.specs.Search.{row_at as overs_at}
+use Rattle.aj_rules.specs.Overriding.{AreOverriders}
 use Rattle.aj_rules.specs.Effect.{Assignment, effect}
-use Rattle.aj_rules.specs.Rules.{IsPart, AtMost, IsFalling, IsClosed, HoldsBound, IsAdmissible, IsAccepted}
+use Rattle.aj_rules.specs.Rules.{IsPart, AtMost, IsFalling, IsClosed, held_in, HoldsBound, IsAdmissible, IsAccepted}
 use Rattle.aj_rules.proofs.BasicLemmas.{below_chain}
 use Rattle.aj_rules.proofs.SetLemmas.{first, second}
-use Rattle.aj_rules.proofs.Falling.{stmt_falls}
 use Rattle.aj_rules.proofs.UniqueSets.{unique_sets}
 use Rattle.aj_infer.specs.Tables.{chosen, table_of, assigned}
-use Rattle.aj_infer.specs.Cells.{basic_of, numbers_of, table_in, tables_in, all_const, count_of_parts, demands_of, demands_at, are_below, table_falls, is_met_by, is_met, room_of, rooms_of, AreTables}
+use Rattle.aj_infer.specs.Cells.{basic_of, numbers_of, table_in, tables_in, all_const, count_of_parts, greatest_of, run_effect, demands_of, demands_at, are_below, table_falls, is_met_by, is_met, room_of, rooms_of, AreTables}
 use Rattle.aj_infer.specs.Least.{IsLeast}
 use Rattle.aj_infer.specs.Verdicts.{HoldBounds}
-use Rattle.aj_rules.proofs.EffectRises.{stmt_rises}
+use Rattle.aj_infer.proofs.RunLemmas.{greatest_first, greatest_of_each, greatest_least, run_falls, run_rises}
 use Rattle.aj_infer.proofs.TableParts.{length_parts, chosen_parts, chosen_below, chosen_none, parts_below, in_first, in_second, in_either, in_filter, of_list, filter_has, bits_same, none_falls, parts_fall}
 use Rattle.aj_infer.proofs.CellLemmas.{tables_same, length_numbers, length_above, tables_fall, above_assigned, demand_is, le_test, basic_rank}
-use Rattle.aj_infer.proofs.Required.{required_in_rel}
+use Rattle.aj_rules.proofs.Required.{required_in_rel}
 
 const_least : (b : Basic) → AtMost Const b
 const_least Const = refl
@@ -46,13 +48,13 @@ with_required requires_ rel H has q e = elim (in_either requires_ (filter H rel)
   | inr after ↦ in_filter H rel q after
 ]
 
-module _ (P : Program) (rel : ℕ → List PathData) (tables : List (List Basic)) (each_table : AreTables P rel tables) (met : (m : ℕ) → m < length tables → IsTrue (is_met P rel (numbers_of tables) m)) where
-  met_tables : (m : ℕ) (method : Method) → slice_get P.methods m ≡ Some method → are_below (demands_of P rel (assigned rel tables) m (Some method)) (table_of (slice_get tables m)) ≡ true
+module _ (P : Program) (overs : ℕ → List ℕ) (rel : ℕ → List PathData) (tables : List (List Basic)) (each_table : AreTables P rel tables) (met : (m : ℕ) → m < length tables → IsTrue (is_met P overs rel (numbers_of tables) m)) where
+  met_tables : (m : ℕ) (method : Method) → slice_get P.methods m ≡ Some method → are_below (demands_of P overs rel (assigned rel tables) m (Some method)) (table_of (slice_get tables m)) ≡ true
   met_tables m method is =
       let within = slice_get_within P.methods m method is in
-      subst (λ o. are_below (demands_of P rel (assigned rel tables) m o) (table_of (slice_get tables m)) ≡ true) is
-      (second (table_falls (rel m) (table_of (slice_get tables m))) (are_below (demands_at P rel (assigned rel tables) m) (table_of (slice_get tables m)))
-      (subst (λ ts. is_met_by P rel ts m ≡ true) (tables_same tables) (met m (omega (arith, within, each_table.count)))))
+      subst (λ o. are_below (demands_of P overs rel (assigned rel tables) m o) (table_of (slice_get tables m)) ≡ true) is
+      (second (table_falls (rel m) (table_of (slice_get tables m))) (are_below (demands_at P overs rel (assigned rel tables) m) (table_of (slice_get tables m)))
+      (subst (λ ts. is_met_by P overs rel ts m ≡ true) (tables_same tables) (met m (omega (arith, within, each_table.count)))))
 
   table_size : (m : ℕ) → m < length tables → length (table_of (slice_get tables m)) ≡ count_of_parts (rel m)
   table_size m within = size_at (slice_get tables m) refl
@@ -66,14 +68,24 @@ module _ (P : Program) (rel : ℕ → List PathData) (tables : List (List Basic)
       size_at None e = absurd (some_at tables m within e)
       size_at (Some table) e = each_table.size m table e
 
-  pub met_closed : IsClosed P rel (assigned rel tables)
-  met_closed m method is H part has =
+  -- what a call may come to is below the table, at every set that has the required paths
+  run_below : (m : ℕ) (method : Method) → slice_get P.methods m ≡ Some method → (H : Held) → IsPart (has_path method.requires_) H → AtMost (run_effect P rel (assigned rel tables) (overs m) method H) (assigned rel tables m H)
+  run_below m method is H has =
       let within = slice_get_within P.methods m method is in
-      let same = length_parts (λ held. effect P rel (assigned rel tables) method.body (has_path held)) method.requires_ (rel m) ∙ sym (table_size m (omega (arith, within, each_table.count))) in
-      let low = chosen_below (map H (rel m)) (demands_of P rel (assigned rel tables) m (Some method)) (table_of (slice_get tables m)) same (met_tables m method is) in
+      let same = length_parts (λ held. run_effect P rel (assigned rel tables) (overs m) method (has_path held)) method.requires_ (rel m) ∙ sym (table_size m (omega (arith, within, each_table.count))) in
+      let low = chosen_below (map H (rel m)) (demands_of P overs rel (assigned rel tables) m (Some method)) (table_of (slice_get tables m)) same (met_tables m method is) in
       below_chain _ _ _
-      (stmt_falls P rel (assigned rel tables) (tables_fall P rel tables each_table) method.body (has_path (method.requires_ ++ filter H (rel m))) H (with_required method.requires_ (rel m) H has))
-      (subst (λ b. AtMost b (assigned rel tables m H)) (demand_is P rel (assigned rel tables) m method H) low)
+      (run_falls P rel (overs m) method (assigned rel tables) (tables_fall P rel tables each_table) (has_path (method.requires_ ++ filter H (rel m))) H (with_required method.requires_ (rel m) H has))
+      (subst (λ b. AtMost b (assigned rel tables m H)) (demand_is P overs rel (assigned rel tables) m method H) low)
+
+  pub met_closed : ((m over : ℕ) → Overrides P over m → Contains (overs m) over) → IsClosed P rel (assigned rel tables)
+  met_closed listed = record {
+    bodies = λ m method is H part has. below_chain (effect P rel (assigned rel tables) method.body H) (run_effect P rel (assigned rel tables) (overs m) method H) (assigned rel tables m H)
+        (greatest_first rel (assigned rel tables) (effect P rel (assigned rel tables) method.body H) (overs m) H) (run_below m method is H has);
+    overrides = λ m over method is o H part has.
+        below_chain (assigned rel tables over (held_in (rel over) H)) (run_effect P rel (assigned rel tables) (overs m) method H) (assigned rel tables m H)
+        (greatest_of_each rel (assigned rel tables) (effect P rel (assigned rel tables) method.body H) (overs m) over H (listed m over o)) (run_below m method is H has);
+  }
 
 -- paths of both lists are in the set
 append_in : (xs ys : List PathData) (K : Held) → IsPart (has_path xs) K → IsPart (has_path ys) K → IsPart (has_path (xs ++ ys)) K
@@ -155,9 +167,9 @@ table_above (u ∷ x) [] up m = absurd up
 table_above (u ∷ x) (t ∷ start) up zero = length_ranks u t up.0
 table_above (u ∷ x) (t ∷ start) up (suc m) = table_above x start up.1 m
 
-met_are_tables : (P : Program) (rel : ℕ → List PathData) (tables : List (List Basic)) → fix.IsClosed (is_met P rel) (numbers_of tables)
+met_are_tables : (P : Program) (overs : ℕ → List ℕ) (rel : ℕ → List PathData) (tables : List (List Basic)) → fix.IsClosed (is_met P overs rel) (numbers_of tables)
     → fix.IsAbove (numbers_of tables) (numbers_of (tables_in rel all_const 0 (length P.methods))) → AreTables P rel tables
-met_are_tables P rel tables closed up =
+met_are_tables P overs rel tables closed up =
     let start = tables_in rel all_const 0 (length P.methods) in
     let count : length tables ≡ length P.methods = sym (length_numbers tables) ∙ length_above (numbers_of tables) (numbers_of start) up ∙ length_numbers start ∙ length_tables_in rel all_const 0 (length P.methods) in
     record {
@@ -170,11 +182,14 @@ met_are_tables P rel tables closed up =
       falls = λ m table is.
           let within : m < length (numbers_of tables) = subst (λ n. m < n) (sym (length_numbers tables)) (slice_get_within tables m table is) in
           subst (λ o. table_falls (rel m) (table_of o) ≡ true) is
-          (first (table_falls (rel m) (table_of (slice_get tables m))) (are_below (demands_at P rel (assigned rel tables) m) (table_of (slice_get tables m)))
-          (subst (λ ts. is_met_by P rel ts m ≡ true) (tables_same tables) (closed m within)));
+          (first (table_falls (rel m) (table_of (slice_get tables m))) (are_below (demands_at P overs rel (assigned rel tables) m) (table_of (slice_get tables m)))
+          (subst (λ ts. is_met_by P overs rel ts m ≡ true) (tables_same tables) (closed m within)));
     }
 
-module _ (P : Program) (rel : ℕ → List PathData) (needs : (m : ℕ) (method : Method) → slice_get P.methods m ≡ Some method → IsPart (has_path method.requires_) (has_path (rel m))) where
+module _ (P : Program) (rows : List (List ℕ)) (overriders : AreOverriders P rows) (rel : ℕ → List PathData) (needs : (m : ℕ) (method : Method) → slice_get P.methods m ≡ Some method → IsPart (has_path method.requires_) (has_path (rel m))) where
+  abbrev overs : ℕ → List ℕ
+  overs = overs_at rows
+
   module _ (B : Assignment) (falling : IsFalling rel B) (closed : IsClosed P rel B) where
     -- its tables are nowhere above it
     tables_under : (m : ℕ) (H : Held) → IsPart H (has_path (rel m)) → AtMost (assigned rel (tables_in rel B 0 (length P.methods)) m H) (B m H)
@@ -186,22 +201,24 @@ module _ (P : Program) (rel : ℕ → List PathData) (needs : (m : ℕ) (method 
           (subst (λ b. AtMost b (B m H)) (sym (chosen_none (map H (rel m)))) (const_least (B m H)))
     ]
 
-    demand_met : (m : ℕ) (method : Method) → slice_get P.methods m ≡ Some method → are_below (demands_of P rel (assigned rel (tables_in rel B 0 (length P.methods))) m (Some method)) (table_in rel B m) ≡ true
+    demand_met : (m : ℕ) (method : Method) → slice_get P.methods m ≡ Some method → are_below (demands_of P overs rel (assigned rel (tables_in rel B 0 (length P.methods))) m (Some method)) (table_in rel B m) ≡ true
     demand_met m method is =
         let T = assigned rel (tables_in rel B 0 (length P.methods)) in
-        parts_below (λ held. effect P rel T method.body (has_path held)) (λ held. B m (has_path held)) method.requires_ [] (rel m) (λ qs part.
+        parts_below (λ held. run_effect P rel T (overs m) method (has_path held)) (λ held. B m (has_path held)) method.requires_ [] (rel m) (λ qs part.
         let K = has_path (method.requires_ ++ qs) in
         let within : IsPart K (has_path (rel m)) = λ q e. append_in method.requires_ qs (has_path (rel m)) (needs m method is) part q e in
-        below_chain _ _ _ (stmt_rises P rel T B tables_under method.body K)
-        (below_chain _ _ _ (closed m method is K within (λ q e. in_first method.requires_ qs q e))
+        let has : IsPart (has_path method.requires_) K = λ q e. in_first method.requires_ qs q e in
+        below_chain _ _ _ (run_rises P rel (overs m) method T B tables_under K)
+        (below_chain _ _ _
+        (greatest_least rel B (effect P rel B method.body K) (B m K) (overs m) K (closed.bodies m method is K within has) (λ n listed. closed.overrides m n method is ((overriders m n).0 listed) K within has))
         (falling m (has_path qs) K within (λ q e. in_second method.requires_ qs q e))))
 
-    met_at : (m : ℕ) (o : Option Method) → slice_get P.methods m ≡ o → are_below (demands_of P rel (assigned rel (tables_in rel B 0 (length P.methods))) m o) (table_of (slice_get (tables_in rel B 0 (length P.methods)) m)) ≡ true
+    met_at : (m : ℕ) (o : Option Method) → slice_get P.methods m ≡ o → are_below (demands_of P overs rel (assigned rel (tables_in rel B 0 (length P.methods))) m o) (table_of (slice_get (tables_in rel B 0 (length P.methods)) m)) ≡ true
     met_at m None is = refl
     met_at m (Some method) is =
         let e : 0 + m ≡ m = omega arith in
         let there = tables_in_at rel B 0 (length P.methods) m (slice_get_within P.methods m method is) ∙ ap (λ i. Some (table_in rel B i)) e in
-        subst (λ o. are_below (demands_of P rel (assigned rel (tables_in rel B 0 (length P.methods))) m (Some method)) (table_of o) ≡ true) (sym there) (demand_met m method is)
+        subst (λ o. are_below (demands_of P overs rel (assigned rel (tables_in rel B 0 (length P.methods))) m (Some method)) (table_of o) ≡ true) (sym there) (demand_met m method is)
 
     -- its tables fall
     table_in_falls : (m : ℕ) → table_falls (rel m) (table_of (slice_get (tables_in rel B 0 (length P.methods)) m)) ≡ true
@@ -212,18 +229,18 @@ module _ (P : Program) (rel : ℕ → List PathData) (needs : (m : ℕ) (method 
     ]
 
     -- its tables meet every demand
-    pub tables_met : fix.IsClosed (is_met P rel) (numbers_of (tables_in rel B 0 (length P.methods)))
+    pub tables_met : fix.IsClosed (is_met P overs rel) (numbers_of (tables_in rel B 0 (length P.methods)))
     tables_met m within =
-        subst (λ ts. is_met_by P rel ts m ≡ true) (sym (tables_same (tables_in rel B 0 (length P.methods))))
+        subst (λ ts. is_met_by P overs rel ts m ≡ true) (sym (tables_same (tables_in rel B 0 (length P.methods))))
         (and_from (table_falls (rel m) (table_of (slice_get (tables_in rel B 0 (length P.methods)) m))) _ (table_in_falls m) (met_at m (slice_get P.methods m) refl))
 
   -- the least numbers that meet every demand, from const on, are the least closed assignment
-  pub is_least : (tables : List (List Basic)) → fix.IsClosed (is_met P rel) (numbers_of tables)
-      → fix.IsBetween (is_met P rel) (numbers_of (tables_in rel all_const 0 (length P.methods))) (numbers_of tables) → IsLeast P rel (assigned rel tables)
+  pub is_least : (tables : List (List Basic)) → fix.IsClosed (is_met P overs rel) (numbers_of tables)
+      → fix.IsBetween (is_met P overs rel) (numbers_of (tables_in rel all_const 0 (length P.methods))) (numbers_of tables) → IsLeast P rel (assigned rel tables)
   is_least tables closed between =
-      let each_table = met_are_tables P rel tables closed between.above in record {
+      let each_table = met_are_tables P overs rel tables closed between.above in record {
         falling = tables_fall P rel tables each_table;
-        closed = met_closed P rel tables each_table (λ m within. closed m (subst (λ n. m < n) (sym (length_numbers tables)) within));
+        closed = met_closed P overs rel tables each_table (λ m within. closed m (subst (λ n. m < n) (sym (length_numbers tables)) within)) (λ m over o. (overriders m over).1 o);
         below = λ B falls closed_there m H part.
             let up = between.below (numbers_of (tables_in rel B 0 (length P.methods))) (tables_met B falls closed_there) (above_const rel B 0 (length P.methods)) in
             below_chain _ _ _
@@ -232,6 +249,7 @@ module _ (P : Program) (rel : ℕ → List PathData) (needs : (m : ℕ) (method 
         relevant = λ m H. ap (λ bits. chosen bits (table_of (slice_get tables m))) (bits_same H (rel m));
       }
 
+module _ (P : Program) (rel : ℕ → List PathData) (needs : (m : ℕ) (method : Method) → slice_get P.methods m ≡ Some method → IsPart (has_path method.requires_) (has_path (rel m))) where
   -- a bound that the least assignment breaks is broken by every closed one
   pub least_bound : (A : Assignment) → IsLeast P rel A → (B : Assignment) → IsFalling rel B → IsClosed P rel B → (m : ℕ) (method : Method) → slice_get P.methods m ≡ Some method → HoldsBound B m method → HoldsBound A m method
   least_bound A least B falling closed m method is bound = below_chain _ _ _ (least.below B falling closed m (has_path method.requires_) (needs m method is)) bound

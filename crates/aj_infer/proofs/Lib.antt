@@ -6,8 +6,8 @@ pub mod Locals
 pub mod Blocks
 pub mod Walks
 pub mod TableParts
+pub mod RunLemmas
 pub mod CellLemmas
-pub mod Required
 pub mod EqualTables
 pub mod LeastLemmas
 pub mod RowLemmas

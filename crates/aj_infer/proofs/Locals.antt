@@ -10,7 +10,7 @@ use Rattle.aj_core.specs.declared.types.CoreType.{CoreType}
 use Rattle.aj_core.specs.Core.{Program, Method, Expr, Stmt, Stmts, EmptyS, BlockS, LocalS, SetVarS, SetFieldS, DoS, IfS, WhileS, SyncS, ReturnS, PrintS, StartS}
 use Rattle.aj_core.specs.Locks.{path_of}
 use Rattle.aj_rules.specs.Mentions.{Mention, Names, block_mentions}
-use Rattle.aj_rules.specs.Near.{Mentions, Near, required, locked, guarded, called, named, MethodPaths, AreRelevant, rel_of, loc_of, rel_paths, loc_paths}
+use Rattle.aj_rules.specs.Near.{Mentions, Near, required, locked, guarded, called, overriding, named, MethodPaths, AreRelevant, rel_of, loc_of, rel_paths, loc_paths}
 use Rattle.aj_rules.specs.Effect.{Assignment, after_local, after_stmt, block_effect}
 use Rattle.aj_rules.proofs.NearOnly.{Covers, block_same, rel_is}
 use Rattle.aj_infer.specs.Names.{local_names, near_of, left_by}
@@ -102,6 +102,7 @@ module _ (P : Program) (sets : List MethodPaths) (relevant : AreRelevant P sets)
   near_method m p (locked (method, is, has)) = (method, is)
   near_method m p (guarded e f (method, is, has) guard) = (method, is)
   near_method m p (called e callee args q (method, is, has) near outer under) = (method, is)
+  near_method m p (overriding over o near outer (method, is, begins)) = (method, is)
   near_method m p (named q e start near (method, is, has) path fits) = (method, is)
 
   has_near : (m : ℕ) (method : Method) (q : PathData) → slice_get P.methods m ≡ Some method → Near P m q → (o : Option MethodPaths) → slice_get sets m ≡ o → has_path (rel_paths o ++ loc_paths o) q ≡ true

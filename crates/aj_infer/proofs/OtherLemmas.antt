@@ -1,4 +1,4 @@
--- After a rise the demands of the methods that don't call the risen one are met as they were, and its own is met.
+-- After a rise the demands of the methods that don't call the risen one, and which it doesn't override, are met as they were, and its own is met.
 use Rattle.std.proofs.Common.{◌≡◌, ℕ, zero, suc, ◌<◌, Bool, true, false, ◌==◌, List, [], ◌∷◌, length, map, slice_get, slice_set, Some, None, refl, sym, ap, subst, ◌∙◌, arith, inl, inr, ◌⊎◌}
 use Rattle.std.specs.Prelude.{Option}
 use Rattle.std.proofs.lemmas.Bool.{and_from, eq-eqb}
@@ -13,7 +13,7 @@ use Rattle.aj_fix.proofs.NoteLemmas.{set_at, set_here}
 use Rattle.aj_infer.specs.Called.{method_calls, calls}
 use Rattle.aj_infer.specs.Tables.{chosen, table_of, assigned}
 use Rattle.aj_infer.specs.Cells.{at_parts, demands_of, demands_at, are_below, joined, table_falls, is_met_by, AreTables}
-use Rattle.aj_infer.proofs.CallsSame.{stmt_same}
+use Rattle.aj_infer.proofs.RunLemmas.{run_same}
 use Rattle.aj_infer.proofs.CellLemmas.{each_falls}
 
 not_true : (b : Bool) → b ≡ true → b ≡ false → ⊥
@@ -61,7 +61,7 @@ joined_covers [] ys same = refl
 joined_covers (x ∷ xs) [] same = absurd (omega (arith, same))
 joined_covers (x ∷ xs) (y ∷ ys) same = and_from (below_of x (join_of x y)) (are_below xs (joined xs ys)) (under_join x y) (joined_covers xs ys (omega (arith, same)))
 
-module _ (P : Program) (rel : ℕ → List PathData) (tables : List (List Basic)) (m : ℕ) (risen : List Basic) (within : m < length tables) where
+module _ (P : Program) (overs : ℕ → List ℕ) (rel : ℕ → List PathData) (tables : List (List Basic)) (m : ℕ) (risen : List Basic) (within : m < length tables) where
   abbrev pub tables_now : List (List Basic)
   tables_now = slice_set tables m risen
 
@@ -75,30 +75,30 @@ module _ (P : Program) (rel : ℕ → List PathData) (tables : List (List Basic)
   assigned_same k differs H = ap (λ o. chosen (map H (rel k)) (table_of o)) (sym (table_same k (λ e. not_true (k == m) (subst (λ n. (k == n) ≡ true) e (eq-eqb k k refl)) differs)))
 
   -- what a method demands that doesn't call the risen one
-  demands_same : (k : ℕ) (o : Option Method) → method_calls o m ≡ false → demands_of P rel (assigned rel tables) k o ≡ demands_of P rel (assigned rel tables_now) k o
+  demands_same : (k : ℕ) (o : Option Method) → method_calls o (overs k) m ≡ false → demands_of P overs rel (assigned rel tables) k o ≡ demands_of P overs rel (assigned rel tables_now) k o
   demands_same k None quiet = refl
-  demands_same k (Some method) quiet = λ i. at_parts (λ held. stmt_same P rel (assigned rel tables) (assigned rel tables_now) (λ j. j == m) assigned_same method.body (has_path held) quiet i) method.requires_ (rel k)
+  demands_same k (Some method) quiet = λ i. at_parts (λ held. run_same P rel (overs k) method (assigned rel tables) (assigned rel tables_now) m assigned_same quiet (has_path held) i) method.requires_ (rel k)
 
-  met_other : (k : ℕ) → calls P k m ≡ false → (k ≡ m → ⊥) → are_below (demands_at P rel (assigned rel tables) k) (table_of (slice_get tables k)) ≡ true
-      → are_below (demands_at P rel (assigned rel tables_now) k) (table_of (slice_get tables_now k)) ≡ true
+  met_other : (k : ℕ) → calls P overs k m ≡ false → (k ≡ m → ⊥) → are_below (demands_at P overs rel (assigned rel tables) k) (table_of (slice_get tables k)) ≡ true
+      → are_below (demands_at P overs rel (assigned rel tables_now) k) (table_of (slice_get tables_now k)) ≡ true
   met_other k quiet differs met =
-      subst (λ o. are_below (demands_at P rel (assigned rel tables_now) k) (table_of o) ≡ true) (sym (table_same k differs))
+      subst (λ o. are_below (demands_at P overs rel (assigned rel tables_now) k) (table_of o) ≡ true) (sym (table_same k differs))
       (subst (λ d. are_below d (table_of (slice_get tables k)) ≡ true) (demands_same k (slice_get P.methods k) quiet) met)
 
-  met_itself : calls P m m ≡ false → are_below (demands_at P rel (assigned rel tables) m) risen ≡ true
-      → are_below (demands_at P rel (assigned rel tables_now) m) (table_of (slice_get tables_now m)) ≡ true
+  met_itself : calls P overs m m ≡ false → are_below (demands_at P overs rel (assigned rel tables) m) risen ≡ true
+      → are_below (demands_at P overs rel (assigned rel tables_now) m) (table_of (slice_get tables_now m)) ≡ true
   met_itself quiet met =
-      subst (λ o. are_below (demands_at P rel (assigned rel tables_now) m) (table_of o) ≡ true) (sym (set_here tables m risen within))
+      subst (λ o. are_below (demands_at P overs rel (assigned rel tables_now) m) (table_of o) ≡ true) (sym (set_here tables m risen within))
       (subst (λ d. are_below d risen ≡ true) (demands_same m (slice_get P.methods m) quiet) met)
 
-  pub others_met : AreTables P rel tables_now → are_below (demands_at P rel (assigned rel tables) m) risen ≡ true → (k : ℕ) → calls P k m ≡ false
-      → ((k ≡ m → ⊥) → is_met_by P rel tables k ≡ true) → is_met_by P rel tables_now k ≡ true
+  pub others_met : AreTables P rel tables_now → are_below (demands_at P overs rel (assigned rel tables) m) risen ≡ true → (k : ℕ) → calls P overs k m ≡ false
+      → ((k ≡ m → ⊥) → is_met_by P overs rel tables k ≡ true) → is_met_by P overs rel tables_now k ≡ true
   others_met each covered k quiet before =
-      and_from (table_falls (rel k) (table_of (slice_get tables_now k))) (are_below (demands_at P rel (assigned rel tables_now) k) (table_of (slice_get tables_now k)))
+      and_from (table_falls (rel k) (table_of (slice_get tables_now k))) (are_below (demands_at P overs rel (assigned rel tables_now) k) (table_of (slice_get tables_now k)))
       (each_falls P rel tables_now each k)
-      (elim (same_or k m) as (λ _. are_below (demands_at P rel (assigned rel tables_now) k) (table_of (slice_get tables_now k)) ≡ true) [
-        | inl same ↦ subst (λ n. are_below (demands_at P rel (assigned rel tables_now) n) (table_of (slice_get tables_now n)) ≡ true) (sym same)
-            (met_itself (subst (λ n. calls P n m ≡ false) same quiet) covered)
+      (elim (same_or k m) as (λ _. are_below (demands_at P overs rel (assigned rel tables_now) k) (table_of (slice_get tables_now k)) ≡ true) [
+        | inl same ↦ subst (λ n. are_below (demands_at P overs rel (assigned rel tables_now) n) (table_of (slice_get tables_now n)) ≡ true) (sym same)
+            (met_itself (subst (λ n. calls P overs n m ≡ false) same quiet) covered)
         | inr differs ↦ met_other k quiet differs
-            (second (table_falls (rel k) (table_of (slice_get tables k))) (are_below (demands_at P rel (assigned rel tables) k) (table_of (slice_get tables k))) (before differs))
+            (second (table_falls (rel k) (table_of (slice_get tables k))) (are_below (demands_at P overs rel (assigned rel tables) k) (table_of (slice_get tables k))) (before differs))
       ])

@@ -12,56 +12,56 @@ use Rattle.aj_infer.proofs.OtherLemmas.{joined_covers, others_met}
 use Rattle.aj_infer.proofs.CellLemmas.{tables_same, length_numbers, length_above, each_falls, risen_tables, risen_above, risen_room, risen_under, demanded_length}
 
 -- the same of tables and of their numbers
-pub numbers_met : (P : Program) (rel : ℕ → List PathData) (tables : List (List Basic)) (m : ℕ) → is_met_by P rel tables m ≡ is_met P rel (numbers_of tables) m
-numbers_met P rel tables m = ap (λ ts. is_met_by P rel ts m) (sym (tables_same tables))
+pub numbers_met : (P : Program) (overs : ℕ → List ℕ) (rel : ℕ → List PathData) (tables : List (List Basic)) (m : ℕ) → is_met_by P overs rel tables m ≡ is_met P overs rel (numbers_of tables) m
+numbers_met P overs rel tables m = ap (λ ts. is_met_by P overs rel ts m) (sym (tables_same tables))
 
-module _ (P : Program) (rel : ℕ → List PathData) (tables : List (List Basic)) (m : ℕ) (ds own : List Basic) (ds_are : ds ≡ demands_at P rel (assigned rel tables) m) (own_is : own ≡ table_of (slice_get tables m)) where
+module _ (P : Program) (overs : ℕ → List ℕ) (rel : ℕ → List PathData) (tables : List (List Basic)) (m : ℕ) (ds own : List Basic) (ds_are : ds ≡ demands_at P overs rel (assigned rel tables) m) (own_is : own ≡ table_of (slice_get tables m)) where
   -- the test is whether the demand is met
-  pub test_by : AreTables P rel tables → (b : Bool) → b ≡ are_below ds own → b ≡ is_met_by P rel tables m
+  pub test_by : AreTables P rel tables → (b : Bool) → b ≡ are_below ds own → b ≡ is_met_by P overs rel tables m
   test_by each b is = is ∙ (λ i. are_below (ds_are i) (own_is i))
-      ∙ ap (λ t. t && are_below (demands_at P rel (assigned rel tables) m) (table_of (slice_get tables m))) (sym (each_falls P rel tables each m))
+      ∙ ap (λ t. t && are_below (demands_at P overs rel (assigned rel tables) m) (table_of (slice_get tables m))) (sym (each_falls P rel tables each m))
 
   -- what a rise keeps and gives
   pub record Rises (risen : List Basic) (room : ℕ) (rows : List (List ℕ)) : Type 0 where
-    pub cells : AreCells P rel (slice_set tables m risen) (room - 1) rows
+    pub cells : AreCells P overs rel (slice_set tables m risen) (room - 1) rows
     pub some : 1 ≤ room
     pub rises : IsAbove (numbers_of (slice_set tables m risen)) (numbers_of tables)
-    pub under : (x : List (List ℕ)) → IsClosed (is_met P rel) x → IsAbove x (numbers_of tables) → IsAbove x (numbers_of (slice_set tables m risen))
-    pub others : (k : ℕ) → calls P k m ≡ false → ((k ≡ m → ⊥) → IsTrue (is_met P rel (numbers_of tables) k)) → IsTrue (is_met P rel (numbers_of (slice_set tables m risen)) k)
+    pub under : (x : List (List ℕ)) → IsClosed (is_met P overs rel) x → IsAbove x (numbers_of tables) → IsAbove x (numbers_of (slice_set tables m risen))
+    pub others : (k : ℕ) → calls P overs k m ≡ false → ((k ≡ m → ⊥) → IsTrue (is_met P overs rel (numbers_of tables) k)) → IsTrue (is_met P overs rel (numbers_of (slice_set tables m risen)) k)
 
-  risen_cells : (room : ℕ) (rows : List (List ℕ)) → AreCells P rel tables room rows → (risen : List Basic) → AreTables P rel (slice_set tables m risen) → rooms_of (slice_set tables m risen) < rooms_of tables
-      → AreCells P rel (slice_set tables m risen) (room - 1) rows
+  risen_cells : (room : ℕ) (rows : List (List ℕ)) → AreCells P overs rel tables room rows → (risen : List Basic) → AreTables P rel (slice_set tables m risen) → rooms_of (slice_set tables m risen) < rooms_of tables
+      → AreCells P overs rel (slice_set tables m risen) (room - 1) rows
   risen_cells room rows cells risen each falls =
       let enough = cells.enough in
       record { few = cells.few; each = each; enough = omega arith; callers = cells.callers }
 
-  rises_at : (room : ℕ) (rows : List (List ℕ)) → AreCells P rel tables room rows → m < length (numbers_of tables) → (method : Method) → slice_get P.methods m ≡ Some method → (old : List Basic) → slice_get tables m ≡ Some old
-      → are_below ds own ≡ false → Rises (joined (demands_of P rel (assigned rel tables) m (Some method)) old) room rows
+  rises_at : (room : ℕ) (rows : List (List ℕ)) → AreCells P overs rel tables room rows → m < length (numbers_of tables) → (method : Method) → slice_get P.methods m ≡ Some method → (old : List Basic) → slice_get tables m ≡ Some old
+      → are_below ds own ≡ false → Rises (joined (demands_of P overs rel (assigned rel tables) m (Some method)) old) room rows
   rises_at room rows cells within method is old is_old unmet =
-      let ds_is : ds ≡ demands_of P rel (assigned rel tables) m (Some method) = ds_are ∙ ap (demands_of P rel (assigned rel tables) m) is in
+      let ds_is : ds ≡ demands_of P overs rel (assigned rel tables) m (Some method) = ds_are ∙ ap (demands_of P overs rel (assigned rel tables) m) is in
       let own_old : own ≡ old = own_is ∙ ap table_of is_old in
-      let unmet_there : are_below (demands_of P rel (assigned rel tables) m (Some method)) old ≡ false = (λ i. are_below (sym ds_is i) (sym own_old i)) ∙ unmet in
-      let falls = risen_room P rel tables m method old is is_old cells.each unmet_there in
+      let unmet_there : are_below (demands_of P overs rel (assigned rel tables) m (Some method)) old ≡ false = (λ i. are_below (sym ds_is i) (sym own_old i)) ∙ unmet in
+      let falls = risen_room P overs rel tables m method old is is_old cells.each unmet_there in
       let inside : m < length tables = subst (λ n. m < n) (length_numbers tables) within in
-      let risen = joined (demands_of P rel (assigned rel tables) m (Some method)) old in
-      let each = risen_tables P rel tables m method old is is_old cells.each in
-      let covered : are_below (demands_at P rel (assigned rel tables) m) risen ≡ true =
-      subst (λ o. are_below (demands_of P rel (assigned rel tables) m o) risen ≡ true) (sym is)
-      (joined_covers (demands_of P rel (assigned rel tables) m (Some method)) old (demanded_length P rel tables m method old is is_old cells.each)) in
+      let risen = joined (demands_of P overs rel (assigned rel tables) m (Some method)) old in
+      let each = risen_tables P overs rel tables m method old is is_old cells.each in
+      let covered : are_below (demands_at P overs rel (assigned rel tables) m) risen ≡ true =
+      subst (λ o. are_below (demands_of P overs rel (assigned rel tables) m o) risen ≡ true) (sym is)
+      (joined_covers (demands_of P overs rel (assigned rel tables) m (Some method)) old (demanded_length P overs rel tables m method old is is_old cells.each)) in
       record {
         cells = risen_cells room rows cells risen each falls;
         some = (let e = cells.enough in omega arith);
-        rises = risen_above P rel tables m method old is is_old cells.each;
-        under = λ x closed up. risen_under P rel tables m method old is is_old cells.each x
+        rises = risen_above P overs rel tables m method old is is_old cells.each;
+        under = λ x closed up. risen_under P overs rel tables m method old is is_old cells.each x
             (closed m (subst (λ n. m < n) (sym (length_above x (numbers_of tables) up)) within)) up;
-        others = λ k quiet before. sym (numbers_met P rel (slice_set tables m risen) k) ∙ others_met P rel tables m risen inside each covered k quiet (λ differs. numbers_met P rel tables k ∙ before differs);
+        others = λ k quiet before. sym (numbers_met P overs rel (slice_set tables m risen) k) ∙ others_met P overs rel tables m risen inside each covered k quiet (λ differs. numbers_met P overs rel tables k ∙ before differs);
       }
 
-  pub rises_now : (risen : List Basic) (room : ℕ) (rows : List (List ℕ)) → AreCells P rel tables room rows → m < length (numbers_of tables) → are_below ds own ≡ false → risen ≡ joined ds own → Rises risen room rows
+  pub rises_now : (risen : List Basic) (room : ℕ) (rows : List (List ℕ)) → AreCells P overs rel tables room rows → m < length (numbers_of tables) → are_below ds own ≡ false → risen ≡ joined ds own → Rises risen room rows
   rises_now risen room rows cells within unmet is =
       let inside : m < length tables = subst (λ n. m < n) (length_numbers tables) within in
       let table = get_below tables m inside in
       let method = get_below P.methods m (subst (λ n. m < n) cells.each.count inside) in
-      let same : risen ≡ joined (demands_of P rel (assigned rel tables) m (Some method.0)) table.0
-      = is ∙ (λ i. joined ((ds_are ∙ ap (demands_of P rel (assigned rel tables) m) method.1) i) ((own_is ∙ ap table_of table.1) i)) in
+      let same : risen ≡ joined (demands_of P overs rel (assigned rel tables) m (Some method.0)) table.0
+      = is ∙ (λ i. joined ((ds_are ∙ ap (demands_of P overs rel (assigned rel tables) m) method.1) i) ((own_is ∙ ap table_of table.1) i)) in
       subst (λ r. Rises r room rows) (sym same) (rises_at room rows cells within method.0 method.1 table.0 table.1 unmet)

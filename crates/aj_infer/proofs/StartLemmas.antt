@@ -8,13 +8,15 @@ use Rattle.aj_core.specs.Typed.{IsTyped}
 use Rattle.aj_core.specs.Views.{method_of}
 use Rattle.aj_fix.specs.Assignments as fix
 use Rattle.aj_rules.specs.Near.{MethodPaths, AreRelevant, AreFew, rel_of}
+use Rattle.aj_rules.specs.Search.{row_at as overs_at}
+use Rattle.aj_rules.specs.Overriding.{AreOverriders}
 use Rattle.aj_infer.specs.Called.{AreCallers}
 use Rattle.aj_infer.specs.Tables.{assigned}
 use Rattle.aj_infer.specs.Cells.{numbers_of, tables_in, all_const, is_met, rooms_of, AreTables, AreCells}
 use Rattle.aj_infer.specs.Least.{IsLeast}
 use Rattle.aj_infer.proofs.CellLemmas.{length_numbers, length_above}
 use Rattle.aj_infer.proofs.LeastLemmas.{length_tables_in, const_tables, const_room, is_least}
-use Rattle.aj_infer.proofs.Required.{required_in_rel}
+use Rattle.aj_rules.proofs.Required.{required_in_rel}
 
 pub same_count : (xs : List CoreMethod) (methods : List Method) → map method_of xs ≡ methods → length xs ≡ length methods
 same_count xs methods all = sym (length-map xs method_of) ∙ ap length all
@@ -26,8 +28,8 @@ module _ (P : Program) (sets : List MethodPaths) (start : List (List Basic)) (co
   pub start_length : length start ≡ length P.methods
   start_length = ap length start_at ∙ length_tables_in (rel_of sets) all_const 0 (length P.methods)
 
-  pub start_cells : length P.methods ≤ 2 ^ 32 → AreFew sets → (len room : ℕ) (rows : List (List ℕ)) → len ≡ length start → room ≡ 1024 * len → AreCallers P rows → AreCells P (rel_of sets) start room rows
-  start_cells below few len room rows is room_is callers = record {
+  pub start_cells : (overs : List (List ℕ)) → length P.methods ≤ 2 ^ 32 → AreFew sets → (len room : ℕ) (rows : List (List ℕ)) → len ≡ length start → room ≡ 1024 * len → AreCallers P (overs_at overs) rows → AreCells P (overs_at overs) (rel_of sets) start room rows
+  start_cells overs below few len room rows is room_is callers = record {
     few = below;
     each = subst (AreTables P (rel_of sets)) (sym start_at) (const_tables P (rel_of sets));
     enough = subst (λ n. rooms_of start ≤ n) (sym room_is) (subst (λ n. rooms_of start ≤ 1024 * n) (sym is)
@@ -39,7 +41,7 @@ module _ (P : Program) (sets : List MethodPaths) (start : List (List Basic)) (co
   pub least_count : (tables : List (List Basic)) → fix.IsAbove (numbers_of tables) (numbers_of start) → length tables ≡ length P.methods
   least_count tables up = sym (length_numbers tables) ∙ length_above (numbers_of tables) (numbers_of start) up ∙ length_numbers start ∙ start_length
 
-  pub least_is : IsTyped P → AreRelevant P sets → (tables : List (List Basic)) → fix.IsClosed (is_met P (rel_of sets)) (numbers_of tables)
-      → fix.IsBetween (is_met P (rel_of sets)) (numbers_of start) (numbers_of tables) → IsLeast P (rel_of sets) (assigned (rel_of sets) tables)
-  least_is typed relevant tables closed between = is_least P (rel_of sets) (λ m method is. required_in_rel P sets relevant typed m method is) tables closed
-      (subst (λ ts. fix.IsBetween (is_met P (rel_of sets)) (numbers_of ts) (numbers_of tables)) start_at between)
+  pub least_is : (overs : List (List ℕ)) → IsTyped P → AreRelevant P sets → AreOverriders P overs → (tables : List (List Basic)) → fix.IsClosed (is_met P (overs_at overs) (rel_of sets)) (numbers_of tables)
+      → fix.IsBetween (is_met P (overs_at overs) (rel_of sets)) (numbers_of start) (numbers_of tables) → IsLeast P (rel_of sets) (assigned (rel_of sets) tables)
+  least_is overs typed relevant overriders tables closed between = is_least P overs overriders (rel_of sets) (λ m method is. required_in_rel P sets relevant typed m method is) tables closed
+      (subst (λ ts. fix.IsBetween (is_met P (overs_at overs) (rel_of sets)) (numbers_of ts) (numbers_of tables)) start_at between)

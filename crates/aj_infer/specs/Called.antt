@@ -1,4 +1,5 @@
--- Which methods a body calls, by a test of them and as a list; and the callers of each method.
+-- Which methods a body calls, by a test of them and as a list; and the callers of each method. A method counts as a caller of those that override it.
+-- So a method's callers are the methods whose demands look at its table.
 use Rattle.std.specs.Prelude.{◌≡◌, ℕ, ◌<◌, ◌==◌, Bool, true, false, ◌||◌, List, [], ◌∷◌, ◌++◌, length, Contains, Option, Some, None, slice_get}
 use Rattle.aj_core.specs.Core.{Program, Method, Expr, Exprs, NotE, NegE, BinaryE, AndE, OrE, GetE, CallE, NewE, no_exprs, and_expr}
 use Rattle.aj_core.specs.Core.{Stmt, Stmts, EmptyS, BlockS, LocalS, SetVarS, SetFieldS, DoS, IfS, WhileS, SyncS, ReturnS, PrintS, StartS, no_stmts, and_stmt}
@@ -80,14 +81,6 @@ abbrev mutual
   block_callees no_stmts = []
   block_callees (and_stmt s ss) = stmt_callees s ++ block_callees ss
 
--- whether a method's body calls a method
-abbrev pub method_calls : Option Method → ℕ → Bool
-method_calls None callee = false
-method_calls (Some method) callee = stmt_calls (λ m. m == callee) method.body
-
-abbrev pub calls : Program → (caller callee : ℕ) → Bool
-calls P caller callee = method_calls (slice_get P.methods caller) callee
-
 -- a row that may be missing
 abbrev pub row_of : Option (List ℕ) → List ℕ
 row_of None = []
@@ -112,11 +105,19 @@ pub record HasCallers (rows now : List (List ℕ)) (callees : List ℕ) (caller 
   pub each : (callee : ℕ) → Contains callees callee → callee < length rows → Contains (row_at now callee) caller
   pub still : HaveStill rows now
 
--- whether a row has a caller
-abbrev pub has_caller : List ℕ → ℕ → Bool
-has_caller [] caller = false
-has_caller (c ∷ row) caller = c == caller || has_caller row caller
+-- whether a row has a method
+abbrev pub has_method : List ℕ → ℕ → Bool
+has_method [] m = false
+has_method (n ∷ row) m = n == m || has_method row m
 
--- the row of each method has all the methods whose bodies call it
-abbrev pub AreCallers : Program → List (List ℕ) → Type 0
-AreCallers P rows = (callee caller : ℕ) → callee < length rows → calls P caller callee ≡ true → has_caller (row_at rows callee) caller ≡ true
+-- whether a method's body calls a method, or that is one of those that override it
+abbrev pub method_calls : Option Method → (overs : List ℕ) → ℕ → Bool
+method_calls None overs callee = false
+method_calls (Some method) overs callee = stmt_calls (λ m. m == callee) method.body || has_method overs callee
+
+abbrev pub calls : Program → (overs : ℕ → List ℕ) → (caller callee : ℕ) → Bool
+calls P overs caller callee = method_calls (slice_get P.methods caller) (overs caller) callee
+
+-- the row of each method has all its callers
+abbrev pub AreCallers : Program → (overs : ℕ → List ℕ) → List (List ℕ) → Type 0
+AreCallers P overs rows = (callee caller : ℕ) → callee < length rows → calls P overs caller callee ≡ true → has_method (row_at rows callee) caller ≡ true

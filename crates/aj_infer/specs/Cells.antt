@@ -1,12 +1,13 @@
--- Tables as the cells of a least fixpoint: the basics of each method as numbers, and what its body demands of them.
+-- Tables as the cells of a least fixpoint: the basics of each method as numbers, and what its calls demand of them.
 use Rattle.std.specs.Prelude.{◌≡◌, ℕ, zero, suc, ◌+◌, ◌-◌, ◌^◌, ◌≤◌, Bool, true, false, ◌&&◌, List, [], ◌∷◌, ◌++◌, map, length, sum_by, Option, Some, None, slice_get}
 use Rattle.aj_paths.specs.Paths.{PathData}
 use Rattle.aj_algebra.specs.declared.basic.Basic.{Basic}
 use Rattle.aj_algebra.specs.declared.basic.Basic.TheVariants.{Const, Mover, Atomic, Cmpd, Error}
 use Rattle.aj_algebra.specs.Basics.{rank_of, below_of, join_of}
-use Rattle.aj_algebra.specs.HeldPaths.{has_path}
+use Rattle.aj_algebra.specs.HeldPaths.{Held, has_path}
 use Rattle.aj_core.specs.Core.{Program, Method}
 use Rattle.aj_rules.specs.Effect.{Assignment, effect}
+use Rattle.aj_rules.specs.Rules.{held_in}
 use Rattle.aj_infer.specs.Called.{AreCallers}
 use Rattle.aj_infer.specs.Tables.{half, table_of, assigned}
 
@@ -48,13 +49,22 @@ abbrev pub count_of_parts : List PathData → ℕ
 count_of_parts [] = 1
 count_of_parts (p ∷ ps) = count_of_parts ps + count_of_parts ps
 
--- the effect of a body at the required paths with each part of the relevant ones
-abbrev pub demands_of : Program → (ℕ → List PathData) → Assignment → ℕ → Option Method → List Basic
-demands_of P rel A m None = []
-demands_of P rel A m (Some method) = at_parts (λ held. effect P rel A method.body (has_path held)) method.requires_ (rel m)
+-- the greatest of a basic and what is assigned to some methods, to each at those of the held paths that are relevant to it
+abbrev pub greatest_of : (ℕ → List PathData) → Assignment → Basic → List ℕ → Held → Basic
+greatest_of rel A b [] H = b
+greatest_of rel A b (n ∷ ns) H = greatest_of rel A (join_of b (A n (held_in (rel n) H))) ns H
 
-abbrev pub demands_at : Program → (ℕ → List PathData) → Assignment → ℕ → List Basic
-demands_at P rel A m = demands_of P rel A m (slice_get P.methods m)
+-- what a call of a method may come to, where these methods override it: the effect of its body, or what is assigned to one of them
+abbrev pub run_effect : Program → (ℕ → List PathData) → Assignment → (overs : List ℕ) → Method → Held → Basic
+run_effect P rel A overs method H = greatest_of rel A (effect P rel A method.body H) overs H
+
+-- that at the required paths with each part of the relevant ones
+abbrev pub demands_of : Program → (overs : ℕ → List ℕ) → (ℕ → List PathData) → Assignment → ℕ → Option Method → List Basic
+demands_of P overs rel A m None = []
+demands_of P overs rel A m (Some method) = at_parts (λ held. run_effect P rel A (overs m) method (has_path held)) method.requires_ (rel m)
+
+abbrev pub demands_at : Program → (overs : ℕ → List ℕ) → (ℕ → List PathData) → Assignment → ℕ → List Basic
+demands_at P overs rel A m = demands_of P overs rel A m (slice_get P.methods m)
 
 -- whether a basic is at most another; not where the other is missing
 abbrev pub below_some : Basic → Option Basic → Bool
@@ -83,13 +93,13 @@ abbrev pub table_falls : List PathData → List Basic → Bool
 table_falls [] table = true
 table_falls (p ∷ ps) table = are_below (half true table) (half false table) && (table_falls ps (half false table) && table_falls ps (half true table))
 
--- the table of a method falls, and is no less than its body demands
-abbrev pub is_met_by : Program → (ℕ → List PathData) → List (List Basic) → ℕ → Bool
-is_met_by P rel tables m = table_falls (rel m) (table_of (slice_get tables m)) && are_below (demands_at P rel (assigned rel tables) m) (table_of (slice_get tables m))
+-- the table of a method falls, and is no less than its calls demand
+abbrev pub is_met_by : Program → (overs : ℕ → List ℕ) → (ℕ → List PathData) → List (List Basic) → ℕ → Bool
+is_met_by P overs rel tables m = table_falls (rel m) (table_of (slice_get tables m)) && are_below (demands_at P overs rel (assigned rel tables) m) (table_of (slice_get tables m))
 
 -- the same of numbers
-abbrev pub is_met : Program → (ℕ → List PathData) → List (List ℕ) → ℕ → Bool
-is_met P rel x m = is_met_by P rel (tables_of x) m
+abbrev pub is_met : Program → (overs : ℕ → List ℕ) → (ℕ → List PathData) → List (List ℕ) → ℕ → Bool
+is_met P overs rel x m = is_met_by P overs rel (tables_of x) m
 
 -- how often a table can rise, at most
 abbrev pub room_of : List Basic → ℕ
@@ -105,8 +115,8 @@ pub record AreTables (P : Program) (rel : ℕ → List PathData) (tables : List 
   pub falls : (m : ℕ) (table : List Basic) → slice_get tables m ≡ Some table → table_falls (rel m) table ≡ true
 
 -- the cells of a program: its tables, with room for every rise, and the callers of each method
-pub record AreCells (P : Program) (rel : ℕ → List PathData) (tables : List (List Basic)) (room : ℕ) (rows : List (List ℕ)) : Type 0 where
+pub record AreCells (P : Program) (overs : ℕ → List ℕ) (rel : ℕ → List PathData) (tables : List (List Basic)) (room : ℕ) (rows : List (List ℕ)) : Type 0 where
   pub few : length P.methods ≤ 2 ^ 32
   pub each : AreTables P rel tables
   pub enough : rooms_of tables ≤ room
-  pub callers : AreCallers P rows
+  pub callers : AreCallers P overs rows

@@ -1,10 +1,12 @@
-//! Which methods call a method.
-ghost use Rattle.std.specs.Prelude.{◌≡◌, ◌++◌, ◌∷◌, ℕ, ◌<◌, List, Contains, length, IfOk, OnOk};
+//! Which methods call a method. A method counts as a caller of those that override it.
+ghost use Rattle.std.specs.Prelude.{◌≡◌, ◌++◌, ◌∷◌, ℕ, ◌<◌, ◌≤◌, ◌^◌, List, Contains, length, IfOk, OnOk};
 ghost use Rattle.aj_core.specs.Views.{program_of, expr_of, exprs_from, stmt_of, stmts_from};
+ghost use Rattle.aj_rules.specs.Search.{row_at as overs_at};
 ghost use Rattle.aj_infer.specs.Called.{expr_callees, exprs_callees, stmt_callees, block_callees, row_at, HasCaller, HasCallers, AreCallers};
 
 use aj_core::{CoreExpr, CoreProgram, CoreStmt};
 use aj_paths::MethodId;
+use aj_rules::OverridingMethods;
 use std::alloc::{AllocError as NoMemory, Global};
 use std::marker::Model;
 
@@ -142,24 +144,36 @@ fn no_callers(alloc: Global, count: usize) -> Result<Vec<Row>, NoMemory>
     Ok(rows)
 }
 
-/// Adds each method to the callers of those that its body calls.
-fn add_methods(alloc: Global, program: &CoreProgram, rows: &mut [Row]) -> Result<(), NoMemory>
+/// Adds each method to the callers of those that its body calls and of those that override it.
+fn add_methods(
+    alloc: Global,
+    program: &CoreProgram,
+    over: &OverridingMethods,
+    rows: &mut [Row],
+) -> Result<(), NoMemory>
+    requires { length (program_of program.now).methods ≤ 2 ^ 32 }
     ensures size { length rows.new ≡ length rows.old }
-    ensures callers { OnOk result (AreCallers (program_of program.now) rows.new) }
+    ensures callers { OnOk result (AreCallers (program_of program.now) (overs_at over.now) rows.new) }
 {
     for (caller, method) in program.methods().iter().enumerate() {
         let mut callees = Vec::new(alloc);
         put_stmt(&method.body, &mut callees)?;
         add_callers(rows, callees.as_slice(), caller)?;
+        add_callers(rows, over.of(MethodId(caller as u32)), caller)?;
     }
     Ok(())
 }
 
 /// The callers of each method of a program.
-pub(crate) fn callers_of(alloc: Global, program: &CoreProgram) -> Result<Vec<Row>, NoMemory>
-    ensures { IfOk result (λ rows. AreCallers (program_of program.now) rows.items) }
+pub(crate) fn callers_of(
+    alloc: Global,
+    program: &CoreProgram,
+    over: &OverridingMethods,
+) -> Result<Vec<Row>, NoMemory>
+    requires { length (program_of program.now).methods ≤ 2 ^ 32 }
+    ensures { IfOk result (λ rows. AreCallers (program_of program.now) (overs_at over.now) rows.items) }
 {
     let mut rows = no_callers(alloc, program.methods().len())?;
-    add_methods(alloc, program, &mut rows)?;
+    add_methods(alloc, program, over, &mut rows)?;
     Ok(rows)
 }

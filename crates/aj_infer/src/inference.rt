@@ -1,8 +1,7 @@
 //! The least closed assignment, as values of an algebra.
-ghost use Rattle.std.specs.Prelude.{◌≡◌, ◌++◌, ◌≤◌, ◌^◌, List, [], map, length, Some, IfOk, OnOk};
+ghost use Rattle.std.specs.Prelude.{◌≡◌, ◌++◌, ◌≤◌, ◌^◌, List, [], length, IfOk, OnOk};
 ghost use Rattle.aj_paths.specs.Paths.{PathData};
 ghost use Rattle.aj_algebra.specs.declared.basic.Basic.TheVariants.{Const};
-ghost use Rattle.aj_algebra.specs.HeldPaths.{Held};
 ghost use Rattle.aj_algebra.specs.Values.{Keeps};
 ghost use Rattle.aj_core.specs.Typed.{IsTyped};
 ghost use Rattle.aj_core.specs.Views.{program_of};
@@ -17,11 +16,11 @@ use crate::callers::callers_of;
 use crate::cells::{Cells, settle};
 use crate::judged::Judged;
 use crate::rows::repeat_from;
-use crate::table::{Table, pick, table_at};
+use crate::table::{Table, value_of};
 use aj_algebra::{Algebra, Basic};
 use aj_core::CoreProgram;
 use aj_paths::{MethodId, Path};
-use aj_rules::RelevantSets;
+use aj_rules::{RelevantSets, overriders};
 use std::alloc::{AllocError as NoMemory, Global};
 
 /// How often the table of a method can rise: four times at each part of eight relevant paths.
@@ -49,8 +48,8 @@ pub fn infer<G: Algebra>(
     Ok(Inferred { methods })
 }
 
-/// The tables of the least closed assignment. Each begins with const everywhere, and rises while its method's body
-/// demands more of it.
+/// The tables of the least closed assignment. Each begins with const everywhere, and rises while calls of its method
+/// demand more of it.
 fn least_tables<'a, G: Algebra>(
     alloc: Global,
     program: &'a CoreProgram,
@@ -68,12 +67,14 @@ fn least_tables<'a, G: Algebra>(
     let tables = const_tables(alloc, sets, program.methods().len())?;
     let count = tables.len();
     let room = MOST_RISES * count as u64;
-    let callers = callers_of(alloc, program)?;
+    let over = overriders(alloc, program)?;
+    let callers = callers_of(alloc, program, &over)?;
     let mut cells = Cells {
         judged: Judged { program, sets },
         algebra,
         tables,
         room,
+        over,
         callers,
     };
     let done = settle(alloc, &mut cells);
@@ -81,6 +82,7 @@ fn least_tables<'a, G: Algebra>(
         judged: _judged,
         algebra,
         tables,
+        over: _over,
         callers: _callers,
         ..
     } = cells;
@@ -141,31 +143,4 @@ fn values_of<G: Algebra>(
         values.push(value_of(alloc, sets, tables, algebra, MethodId(method as u32))?)?;
     }
     Ok(values)
-}
-
-/// The value of the table of a method: its entry for the relevant paths that are held.
-fn value_of<G: Algebra>(
-    alloc: Global,
-    sets: &RelevantSets,
-    tables: &[Table],
-    algebra: &mut G,
-    method: MethodId,
-) -> Result<G::A, NoMemory>
-    ensures known { IfOk result (λ value. G.IsKnown algebra.new value) }
-    ensures value { IfOk result (λ value. (H : Held) → G.value algebra.new value H ≡ assigned (rel_of sets.now) tables.now method H) }
-    ensures keeps { Keeps G.IsKnown G.value algebra.old algebra.new }
-{
-    let pairs = own_names(alloc, sets.rel(method))?;
-    pick(alloc, algebra, pairs.as_slice(), table_at(tables, method))
-}
-
-/// Each path under its own name.
-fn own_names(alloc: Global, paths: &[Path]) -> Result<Vec<(Path, Option<Path>)>, NoMemory>
-    ensures { IfOk result (λ pairs. pairs.items ≡ map (λ q. (q, Some q)) paths.now) }
-{
-    let mut pairs = Vec::new(alloc);
-    for path in paths {
-        pairs.push((path.copy(), Some(path.copy())))?;
-    }
-    Ok(pairs)
 }

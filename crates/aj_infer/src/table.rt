@@ -1,12 +1,14 @@
 //! The tables of methods, and the value of one under the names that its paths have elsewhere.
-ghost use Rattle.std.specs.Prelude.{◌≡◌, true, IfOk, slice_get};
+ghost use Rattle.std.specs.Prelude.{◌≡◌, true, map, Some, IfOk, slice_get};
 ghost use Rattle.aj_algebra.specs.Values.{Keeps};
 ghost use Rattle.aj_algebra.specs.HeldPaths.{Held};
-ghost use Rattle.aj_infer.specs.Tables.{front, half, chosen, table_of};
+ghost use Rattle.aj_rules.specs.Near.{rel_of};
+ghost use Rattle.aj_infer.specs.Tables.{front, half, chosen, table_of, assigned};
 ghost use Rattle.aj_infer.specs.Names.{held_partners};
 
 use aj_algebra::{Algebra, Basic};
 use aj_paths::{MethodId, Path};
+use aj_rules::RelevantSets;
 use std::alloc::{AllocError as NoMemory, Global};
 use std::marker::Model;
 
@@ -85,4 +87,31 @@ pub(crate) fn pick<G: Algebra>(
     }
     let with = pick(alloc, algebra, rest, half(table, true))?;
     algebra.held_or(alloc, path, &with, &without)
+}
+
+/// The value of the table of a method: its entry for the relevant paths that are held.
+pub(crate) fn value_of<G: Algebra>(
+    alloc: Global,
+    sets: &RelevantSets,
+    tables: &[Table],
+    algebra: &mut G,
+    method: MethodId,
+) -> Result<G::A, NoMemory>
+    ensures known { IfOk result (λ value. G.IsKnown algebra.new value) }
+    ensures value { IfOk result (λ value. (H : Held) → G.value algebra.new value H ≡ assigned (rel_of sets.now) tables.now method H) }
+    ensures keeps { Keeps G.IsKnown G.value algebra.old algebra.new }
+{
+    let pairs = own_names(alloc, sets.rel(method))?;
+    pick(alloc, algebra, pairs.as_slice(), table_at(tables, method))
+}
+
+/// Each path under its own name.
+fn own_names(alloc: Global, paths: &[Path]) -> Result<Vec<(Path, Option<Path>)>, NoMemory>
+    ensures { IfOk result (λ pairs. pairs.items ≡ map (λ q. (q, Some q)) paths.now) }
+{
+    let mut pairs = Vec::new(alloc);
+    for path in paths {
+        pairs.push((path.copy(), Some(path.copy())))?;
+    }
+    Ok(pairs)
 }

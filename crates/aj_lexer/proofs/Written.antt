@@ -13,7 +13,7 @@ use Rattle.aj_lexer.specs.declared.tokens.Token.{Token}
 use Rattle.aj_lexer.specs.declared.tokens.TokenKind.{TokenKind}
 use Rattle.aj_lexer.specs.declared.tokens.TokenKind.TheVariants as token
 use Rattle.aj_lexer.specs.declared.faults.LexFault.TheVariants as fault
-use Rattle.aj_reserved.specs.Reserved.{is_reserved}
+use Rattle.aj_lexer.specs.Reserved.{is_reserved}
 use Rattle.std.specs.Str.Parse.{digits_value}
 use Rattle.std.proofs.lemmas.List.Elements.{All-cons}
 use Rattle.aj_lexer.specs.Tokens.{Longest, meaning, word_kind, TokensFrom, at_end, a_gap, a_token, IsOfKind}

@@ -10,7 +10,7 @@ use Rattle.aj_lexer.specs.declared.faults.LexFault.{LexFault}
 use Rattle.aj_lexer.specs.declared.faults.LexFault.TheVariants as fault
 use Rattle.aj_lexer.specs.Limits.{greatest_literal, longest_word}
 use Rattle.aj_lexer.specs.Pieces.{is_piece, is_word, is_number, is_sign}
-use Rattle.aj_reserved.specs.Reserved.{is_reserved}
+use Rattle.aj_lexer.specs.Reserved.{is_reserved}
 
 -- the text is the piece and then the rest, and no longer piece begins the text
 pub record Longest (text bytes rest : List ℕ) (kind : Piece) : Type 0 where

@@ -12,7 +12,7 @@ ghost use Rattle.aj_lexer.specs.Reading.{front as find, IsCut, tokens_of};
 use crate::faults::LexFault;
 use crate::pieces::{Front, Piece, find_front};
 use crate::tokens::{Token, TokenKind};
-use aj_reserved::is_reserved;
+use crate::words::is_reserved;
 use std::alloc::{AllocError as NoMemory, Global};
 
 /// How many bytes a source may have. Whoever reads a source sees to it.

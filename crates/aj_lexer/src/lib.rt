@@ -1,4 +1,4 @@
-//! The tokens of a source, cut from the left by longest match.
+//! The tokens of a source, cut from the left by longest match, and the words that are no names.
 #![tactic(auto)]
 
 mod faults;
@@ -8,6 +8,7 @@ mod pieces;
 mod places;
 mod tokens;
 mod utf8;
+mod words;
 
 pub use faults::LexFault;
 pub use laws::{token_laws, writing_laws};
@@ -15,3 +16,4 @@ pub use lexer::{GREATEST_LITERAL, LONGEST_SOURCE, lex};
 pub use places::{Place, place_of};
 pub use tokens::{Token, TokenKind};
 pub use utf8::{NotText, utf8_text};
+pub use words::is_reserved;

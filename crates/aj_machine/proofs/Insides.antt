@@ -9,11 +9,11 @@ use Rattle.std.proofs.lemmas.Option.{slice_get-map}
 use Rattle.aj_core.specs.Core.{Program}
 use Rattle.aj_state.specs.States.{Frame, Thread, ThreadOf, Ready, Running, Done, Faulted, StateOf, State}
 use Rattle.aj_threads.specs.Frames.{CellFrame, code_frame, code_thread}
-use Rattle.aj_emit.specs.declared.stack.Code.{Code}
+use Rattle.aj_compile.specs.declared.stack.Code.{Code}
 use Rattle.aj_steps.specs.Run.{is_annotated, is_inside, open_thread}
 use Rattle.aj_machine.specs.Inside.{frame_inside, method_inside, cell_inside}
 use Rattle.aj_deeds.specs.Likeness.{FramesStand, no_frames, more_frames, ThreadStands, ready_stands, running_stands, done_stands, faulted_stands, ThreadsStand, no_threads, more_threads, StateStands}
-use Rattle.aj_perform.specs.MachineValue.{code_state}
+use Rattle.aj_machine.specs.MachineValue.{code_state}
 
 or_same : (a b : Bool) → (a || b) ≡ (b || a)
 or_same true true = refl

@@ -7,12 +7,12 @@ use Rattle.aj_core.specs.Core.{Program}
 use Rattle.aj_state.specs.declared.value.StepKind.{StepKind}
 use Rattle.aj_state.specs.States.{ThreadOf, StateOf, State}
 use Rattle.aj_threads.specs.Frames.{CellFrame, code_thread}
-use Rattle.aj_emit.specs.declared.stack.Code.{Code}
+use Rattle.aj_compile.specs.declared.stack.Code.{Code}
 use Rattle.aj_compile.specs.IsCode.{IsCodeOf}
 use Rattle.aj_steps.specs.Step.{seen_by, kind_in, kind_of}
 use Rattle.aj_deeds.specs.CodeMachine.{code_turn}
 use Rattle.aj_deeds.specs.Likeness.{StateStands}
-use Rattle.aj_perform.specs.MachineValue.{code_state}
+use Rattle.aj_machine.specs.MachineValue.{code_state}
 use Rattle.aj_deeds.specs.declared.deed.Turn.{Turn}
 use Rattle.aj_deeds.specs.Turns.{cell_kind, next_turn, turn_kind}
 use Rattle.aj_deeds.proofs.KindLemmas as lemmas

@@ -5,7 +5,7 @@ use Rattle.aj_state.specs.declared.value.StepKind.{StepKind}
 use Rattle.aj_state.specs.States.{State}
 use Rattle.aj_steps.specs.Step.{Outcome, Moves, Absent, IsDone, HadFaulted, Waits, kind_in}
 use Rattle.aj_deeds.specs.declared.deed.StepEnd.{StepEnd}
-use Rattle.aj_perform.specs.MachineValue.{MachineValue}
+use Rattle.aj_machine.specs.MachineValue.{MachineValue}
 use Rattle.aj_machine.specs.Standing.{IsTurn, IsKindTurn}
 
 pub kind_told : (t : ℕ) (m : MachineValue) (q : State) (k : StepKind) (o : Outcome) → ((j : StepKind) → kind_in o ≡ Some j → k ≡ j) → IsTurn t (Ok tt) m q o → IsKindTurn t (Ok k) m q o

@@ -1,3 +1,13 @@
+-- Lemmas on what is done: frames, operands and rooms after it, and numbers that stay at most the number of steps; then on
+-- the machine along a schedule.
+mod Lists
+mod Threads
+mod TurnLemmas
+mod Taking
+mod Cells
+pub mod RoomLemmas
+pub mod Following
+pub mod Counting
 mod KindOf
 mod KindTurns
 mod Turned

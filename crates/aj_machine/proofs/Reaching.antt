@@ -15,8 +15,8 @@ use Rattle.aj_state.specs.Work as W
 use Rattle.aj_state.specs.Work.{Action, Item}
 use Rattle.aj_state.specs.States.{Frame, Thread, ThreadOf, Ready, Running, Done, Faulted, StateOf, State}
 use Rattle.aj_threads.specs.Frames.{CellFrame, CodeFrame, code_frame, code_thread, frames_in, given, rest_of, HasSpare}
-use Rattle.aj_emit.specs.declared.stack.Code.{Code}
-use Rattle.aj_emit.specs.declared.stack.Instr.TheVariants as i
+use Rattle.aj_compile.specs.declared.stack.Code.{Code}
+use Rattle.aj_compile.specs.declared.stack.Instr.TheVariants as i
 use Rattle.aj_compile.specs.IsCode.{IsCodeOf}
 use Rattle.aj_compile.specs.Standing.{Relation, Agree, Stands}
 use Rattle.aj_compile.specs.Rooms.{Reached, at_start, goes_on, turns, after_call, with_result_of}
@@ -26,16 +26,16 @@ use Rattle.aj_deeds.specs.declared.deed.StepEnd.{StepEnd}
 use Rattle.aj_deeds.specs.declared.deed.Deed.{Deed}
 use Rattle.aj_deeds.specs.declared.deed.Deed.TheVariants as deed
 use Rattle.aj_deeds.specs.CodeMachine.{code_frame_at, entered, thread_after, returned_to, deed_at, done, enter_first, code_turn, code_outcome}
-use Rattle.aj_perform.specs.Deeds.{seen_of}
-use Rattle.aj_perform.specs.Lean.{takes_memory, next_takes, step_takes, instr_takes}
+use Rattle.aj_machine.specs.Deeds.{seen_of}
+use Rattle.aj_machine.specs.Lean.{takes_memory, next_takes, step_takes, instr_takes}
 use Rattle.aj_deeds.specs.Likeness.{with_work, IsLeft, FramesStand, no_frames, more_frames, ThreadStands, ready_stands, running_stands, done_stands, faulted_stands, ThreadsStand, no_threads, more_threads, StateStands}
-use Rattle.aj_perform.specs.MachineValue.{code_state}
+use Rattle.aj_machine.specs.MachineValue.{code_state}
 use Rattle.aj_machine.specs.Reaching.{HasReached, BelowReached, AreReached, AllReached, IsKept}
-use Rattle.aj_perform.specs.Rooms.{IsRoomy, AreRoomy, AllRoomy, FitsIn, TurnFits}
+use Rattle.aj_machine.specs.Rooms.{IsRoomy, AreRoomy, AllRoomy, FitsIn, TurnFits}
 use Rattle.aj_deeds.specs.Turns.{line_deed, deed_turn, next_turn}
-use Rattle.aj_perform.specs.Taken.{IsTaken}
-use Rattle.aj_perform.proofs.Following.{Leads, Follows, follows}
-use Rattle.aj_perform.proofs.RoomLemmas.{one_roomy}
+use Rattle.aj_machine.specs.Taken.{IsTaken}
+use Rattle.aj_machine.proofs.Following.{SameLeft, same_left, Leads, Follows, follows}
+use Rattle.aj_machine.proofs.RoomLemmas.{one_roomy}
 use Rattle.aj_deeds.proofs.Runs.{moved_stands, outcome_like}
 use Rattle.aj_deeds.proofs.Simulation.{same_place, OutcomeStands, both_move, both_absent, both_done, both_faulted, both_wait}
 
@@ -149,7 +149,7 @@ module _ (P : Program) (code : List Code) (entry room : List ℕ) where
     reached = subst (λ p. Reached P code h.start p k) (sym place) (subst (Reached P code h.start f.place) count h.reached);
   }
 
-  module _ (see : Shared) (t : ℕ) (f : CodeFrame) (below : List CodeFrame) (c : Code) (there : slice_get code f.place ≡ Some c) (depth : ℕ) where
+  module _ (same : SameLeft P) (see : Shared) (t : ℕ) (f : CodeFrame) (below : List CodeFrame) (c : Code) (there : slice_get code f.place ≡ Some c) (depth : ℕ) where
     leads_on : (g : CodeFrame) (k : ℕ) → g.method ≡ f.method → Frame_at f (length f.operands) → Leads P entry room see t f.slots f.operands f.taken depth c.next c.instr g.place k → Frame_at g k
     leads_on g k method h (inl is) = record {
       start = h.start;
@@ -186,7 +186,7 @@ module _ (P : Program) (code : List Code) (entry room : List ℕ) where
         (leads_on (record f { operands = value.Ref (record { thread = t; count = see.made }) ∷ dropped n f.operands; place = place }) (suc (length (dropped n f.operands))) refl h.0 is.0, h.1)
     deed_reached flag (deed.Enters m n a place at most) is h =
         entered_reached m n at most place (value.Ref a) (slice_get P.methods m) refl is.2 is.3
-        (leads_on (record f { operands = under (dropped n f.operands); place = place }) (after_call (slice_get P.methods m) (length (under (dropped n f.operands)))) refl h.0 is.0) h.1
+        (leads_on (record f { operands = under (dropped n f.operands); place = place }) (after_call (slice_get P.methods m) (length (under (dropped n f.operands)))) refl h.0 (is.0 same)) h.1
     deed_reached flag (deed.Takes a again place) is h = (leads_on (record f { operands = under f.operands; place = place; taken = a ∷ f.taken }) (length (under f.operands)) refl h.0 is.0, h.1)
     deed_reached flag (deed.Waits a holder) is h = h
     deed_reached flag (deed.Gives a frees place) is h = (leads_on (record f { place = place; taken = rest_of f.taken }) (length f.operands) refl h.0 is, h.1)
@@ -216,7 +216,7 @@ module _ (P : Program) (code : List Code) (entry room : List ℕ) where
   one_reached (d ∷ ds) zero c there all = let same : d ≡ c = cc in subst (λ x. AreReached P code entry room (frames_in x)) same all.0
   one_reached (d ∷ ds) (suc t) c there all = one_reached ds t c there all.1
 
-  module _ (is_code : IsCodeOf P code entry room) (t : ℕ) (old new : StateOf CodeFrame) (all : AllReached P code entry room old.threads) where
+  module _ (same : SameLeft P) (is_code : IsCodeOf P code entry room) (t : ℕ) (old new : StateOf CodeFrame) (all : AllReached P code entry room old.threads) where
     done_reached : (f : CodeFrame) (below : List CodeFrame) (d : Deed) → AreReached P code entry room (frames_in (thread_after P (seen_by t old) t f below d)) → IsTaken t (Ok tt) new old (done P (seen_by t old) t f below d)
         → AllReached P code entry room new.threads
     done_reached f below (deed.Fails kind) one is = subst (λ s. AllReached P code entry room s.threads) (sym is) (set_reached old.threads t (thread_after P (seen_by t old) t f below (deed.Fails kind)) all one)
@@ -248,7 +248,7 @@ module _ (P : Program) (code : List Code) (entry room : List ℕ) where
         → AreReached P code entry room (f ∷ below) → AreReached P code entry room (frames_in (thread_after P (seen_by t old) t f below (deed_at P entry room (seen_by t old) t f (length (f ∷ below)) o)))
     line_reached f below None there flag h = h
     line_reached f below (Some c) there flag h =
-        deed_reached (seen_by t old) t f below c there (length (f ∷ below)) (flag c there) (deed_at P entry room (seen_by t old) t f (length (f ∷ below)) (Some c))
+        deed_reached same (seen_by t old) t f below c there (length (f ∷ below)) (flag c there) (deed_at P entry room (seen_by t old) t f (length (f ∷ below)) (Some c))
         (follows P entry room (seen_by t old) t f.slots f.operands f.taken (length (f ∷ below)) c.next c.instr) h
 
     turn_reached : (q : State) → StateStands P code old q → (c : Option (ThreadOf CodeFrame)) → slice_get old.threads t ≡ c → IsTaken t (Ok tt) new old (code_turn P code entry room (seen_by t old) t c) → AllReached P code entry room new.threads
@@ -285,7 +285,7 @@ module _ (P : Program) (code : List Code) (entry room : List ℕ) where
   kept_on is_code t r old new h is roomy =
       let after = stood_after t (code_state old) (code_state new) r h.stood (code_outcome P code entry room (code_state old) t) (outcome P h.stood t)
       (outcome_like P code entry room is_code (code_state old) h.stood t h.stands) h.stands is in
-      record { reached = taken_reached is_code t (code_state old) (code_state new) h.reached r h.stood h.stands is; roomy = roomy; stood = after.0; stands = after.1 }
+      record { reached = λ typed. taken_reached (same_left P typed) is_code t (code_state old) (code_state new) (h.reached typed) r h.stood h.stands is; roomy = roomy; stood = after.0; stands = after.1 }
 
   -- what a deed leaves fits into the frames, where the program is typed and the instruction takes no memory
   module _ (is_code : IsCodeOf P code entry room) (typed : IsTyped P) where
@@ -360,7 +360,7 @@ module _ (P : Program) (code : List Code) (entry room : List ℕ) where
       let is = follows P entry room see t f.slots f.operands f.taken (length (f ∷ below)) c.next c.instr in
       fitting f below d (fits is_code typed see t f below c (length (f ∷ below)) (sym (takes_is P code (code_frame f) (map code_frame below) u left c line) ∙ lean)
       (one_roomy room s.threads t (Running (f ∷ below)) there kept.roomy) d is
-      (deed_reached see t (code_frame f) (map code_frame below) c line (length (f ∷ below)) (flag_is P code (code_frame f) (map code_frame below) u left c line) d is reached))
+      (deed_reached (same_left P typed) see t (code_frame f) (map code_frame below) c line (length (f ∷ below)) (flag_is P code (code_frame f) (map code_frame below) u left c line) d is reached))
 
   -- a turn whose step takes no memory fits
   pub turn_fits : IsCodeOf P code entry room → IsTyped P → (t : ℕ) (s : StateOf CellFrame) → IsKept P code entry room s → (q : State) → StateStands P code (code_state s) q → step_takes (slice_get q.threads t) ≡ false
@@ -375,5 +375,5 @@ module _ (P : Program) (code : List Code) (entry room : List ℕ) where
   turn_fits is_code typed t s kept q stands lean (Some (Running (f ∷ below))) there =
       let code_there = slice_get-map code_thread s.threads t ∙ ap (option_map code_thread) there in
       let left = left_at P code (code_frame f) (map code_frame below) t (map code_thread s.threads) q.threads stands.threads code_there in
-      let reached = one_reached (map code_thread s.threads) t (Running (code_frame f ∷ map code_frame below)) code_there kept.reached in
+      let reached = one_reached (map code_thread s.threads) t (Running (code_frame f ∷ map code_frame below)) code_there (kept.reached typed) in
       line_fits is_code typed t s kept f below there left.0 left.2 (sym (ap step_takes left.1) ∙ lean) reached (slice_get code f.place) refl

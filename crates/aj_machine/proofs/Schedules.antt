@@ -12,8 +12,8 @@ use Rattle.aj_steps.proofs.RunLemmas.{run_from-append}
 use Rattle.aj_deeds.specs.declared.deed.StepEnd.{StepEnd}
 use Rattle.aj_deeds.specs.declared.deed.StepEnd.TheVariants as ends
 use Rattle.aj_deeds.specs.Likeness.{StateStands}
-use Rattle.aj_perform.specs.MachineValue.{MachineValue}
-use Rattle.aj_perform.specs.Reasons.{IsReason}
+use Rattle.aj_machine.specs.MachineValue.{MachineValue}
+use Rattle.aj_machine.specs.Reasons.{IsReason}
 use Rattle.aj_machine.specs.Standing.{program_run, StandsFor, IsTurn, IsSame, HasRun, HasStopped}
 
 -- after a step the machine stands for the next state

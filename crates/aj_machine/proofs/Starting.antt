@@ -6,11 +6,11 @@ use Rattle.aj_core.specs.Core.{Program}
 use Rattle.aj_state.specs.Memory.{Heap, Locks}
 use Rattle.aj_state.specs.States.{ThreadOf, Ready, initial, main_address}
 use Rattle.aj_threads.specs.Frames.{CellFrame, code_thread}
-use Rattle.aj_emit.specs.declared.stack.Code.{Code}
+use Rattle.aj_compile.specs.declared.stack.Code.{Code}
 use Rattle.aj_deeds.specs.Likeness.{StateStands, ThreadsStand, no_threads, more_threads, ready_stands}
 use Rattle.aj_machine.specs.Reaching.{AllReached, IsKept}
-use Rattle.aj_perform.specs.Rooms.{AllRoomy}
-use Rattle.aj_perform.specs.Taken.{state_in}
+use Rattle.aj_machine.specs.Rooms.{AllRoomy}
+use Rattle.aj_machine.specs.Taken.{state_in}
 
 module _ (P : Program) (code : List Code) (heap : Heap) (locks : Locks) (threads : List (ThreadOf CellFrame)) (output : List ℤ)
     (heap_is : heap ≡ (initial P).heap) (locks_is : locks ≡ finite.empty) (threads_is : threads ≡ Ready main_address P.main ∷ []) (output_is : output ≡ []) where
@@ -25,7 +25,7 @@ module _ (P : Program) (code : List Code) (heap : Heap) (locks : Locks) (threads
 
   pub start_kept : (entry room : List ℕ) → IsKept P code entry room (record { heap = heap; locks = locks; threads = threads; output = output })
   start_kept entry room = record {
-    reached = subst (λ ts. AllReached P code entry room (map code_thread ts)) (sym threads_is) (tt, tt);
+    reached = λ typed. subst (λ ts. AllReached P code entry room (map code_thread ts)) (sym threads_is) (tt, tt);
     roomy = subst (AllRoomy room) (sym threads_is) (tt, tt);
     stood = initial P;
     stands = started;

@@ -4,7 +4,7 @@ use Rattle.std.specs.Prelude.{Result, Ok, Err, OnErr, map, slice_set}
 use Rattle.std.proofs.lemmas.List.{length-map, length-append, length-set}
 use Rattle.aj_core.specs.Views.{program_of}
 use Rattle.aj_core.specs.declared.program.CoreProgram.{CoreProgram}
-use Rattle.aj_emit.specs.declared.stack.CodeTable.{CodeTable}
+use Rattle.aj_compile.specs.declared.stack.CodeTable.{CodeTable}
 use Rattle.aj_compile.specs.IsCode.{IsCodeOf}
 use Rattle.aj_state.specs.Memory.{Heap, Locks}
 use Rattle.aj_deeds.specs.CodeMachine.{code_outcome}
@@ -13,8 +13,8 @@ use Rattle.aj_threads.specs.Frames.{CellFrame, CodeFrame, code_thread}
 use Rattle.aj_steps.specs.Step.{Change, Nothing, FieldIs, ObjectIs, LockIs, Prints, Starts, OutcomeOf, Outcome, Moves, Absent, IsDone, HadFaulted, Waits, changed, moved, outcome}
 use Rattle.aj_deeds.specs.declared.deed.StepEnd.{StepEnd}
 use Rattle.aj_deeds.specs.Likeness.{StateStands}
-use Rattle.aj_perform.specs.MachineValue.{MachineValue, code_state}
-use Rattle.aj_perform.specs.Taken.{state_in, IsTaken}
+use Rattle.aj_machine.specs.MachineValue.{MachineValue, code_state}
+use Rattle.aj_machine.specs.Taken.{state_in, IsTaken}
 use Rattle.aj_machine.specs.Standing.{program_run, StandsFor, IsTurn}
 use Rattle.aj_deeds.proofs.Simulation.{OutcomeStands, both_move, both_absent, both_done, both_faulted, both_wait}
 use Rattle.aj_deeds.proofs.Runs.{moved_stands, outcome_like}

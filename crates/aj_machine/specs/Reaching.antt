@@ -1,14 +1,15 @@
--- What holds of the machine's state along every run: the operands of each frame are those with which its place is reached,
--- there is room for those of its method, and the state stands for one of the definition.
+-- What holds of the machine's state along every run: where the program is typed, the operands of each frame are those with
+-- which its place is reached; there is room for those of its method, and the state stands for one of the definition.
 use Rattle.std.specs.Prelude.{◌≡◌, ℕ, List, [], ◌∷◌, length, map, Option, Some, slice_get}
 use Rattle.aj_core.specs.Core.{Program, Method}
+use Rattle.aj_core.specs.Typed.{IsTyped}
 use Rattle.aj_state.specs.States.{ThreadOf, StateOf, State}
 use Rattle.aj_threads.specs.Frames.{CellFrame, CodeFrame, code_thread, frames_in}
-use Rattle.aj_emit.specs.declared.stack.Code.{Code}
+use Rattle.aj_compile.specs.declared.stack.Code.{Code}
 use Rattle.aj_compile.specs.Rooms.{Reached, after_call}
 use Rattle.aj_deeds.specs.Likeness.{StateStands}
-use Rattle.aj_perform.specs.MachineValue.{code_state}
-use Rattle.aj_perform.specs.Rooms.{AllRoomy}
+use Rattle.aj_machine.specs.MachineValue.{code_state}
+use Rattle.aj_machine.specs.Rooms.{AllRoomy}
 
 module _ (P : Program) (code : List Code) (entry room : List ℕ) where
   -- the frame's place is reached from the entry of its method with so many operands
@@ -34,7 +35,7 @@ module _ (P : Program) (code : List Code) (entry room : List ℕ) where
   AllReached (c ∷ cs) = AreReached (frames_in c) × AllReached cs
 
   pub record IsKept (s : StateOf CellFrame) : Type 0 where
-    pub reached : AllReached (map code_thread s.threads)
+    pub reached : IsTyped P → AllReached (map code_thread s.threads)
     pub roomy : AllRoomy room s.threads
     pub stood : State
     pub stands : StateStands P code (code_state s) stood

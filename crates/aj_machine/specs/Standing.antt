@@ -9,9 +9,9 @@ use Rattle.aj_steps.specs.Run.{run_from}
 use Rattle.aj_deeds.specs.declared.deed.StepEnd.{StepEnd}
 use Rattle.aj_machine.specs.declared.machine.Stopped.{Stopped}
 use Rattle.aj_deeds.specs.declared.deed.StepEnd.TheVariants as ends
-use Rattle.aj_perform.specs.MachineValue.{MachineValue, code_state}
+use Rattle.aj_machine.specs.MachineValue.{MachineValue, code_state}
 use Rattle.aj_deeds.specs.Likeness.{StateStands}
-use Rattle.aj_perform.specs.Reasons.{IsReason}
+use Rattle.aj_machine.specs.Reasons.{IsReason}
 
 -- the program that a machine runs
 abbrev pub program_run : MachineValue → Program

@@ -4,20 +4,22 @@ ghost use Rattle.std.specs.Option.{option_map};
 ghost use Rattle.aj_core.specs.Views.{program_of};
 ghost use Rattle.aj_core.specs.Typed.{IsTyped};
 ghost use Rattle.aj_state.specs.declared.value.StepKind.{StepKind};
+ghost use Rattle.aj_state.specs.Memory.{IsNumbered};
 ghost use Rattle.aj_state.specs.States.{State, initial};
 ghost use Rattle.aj_compile.specs.IsCode.{IsCodeOf};
 ghost use Rattle.aj_steps.specs.Step.{outcome, kind_of};
 ghost use Rattle.aj_steps.specs.Run.{is_inside, open_thread};
 ghost use Rattle.aj_deeds.specs.declared.deed.StepEnd.TheVariants as ends;
-ghost use Rattle.aj_perform.specs.Lean.{step_takes};
+ghost use Rattle.aj_machine.specs.Lean.{step_takes};
 ghost use Rattle.aj_machine.specs.Standing.{program_run, StandsFor, IsTurn, IsKindTurn, IsSame, HasRun, HasStopped};
-ghost use Rattle.aj_perform.specs.Taken.{turn_of};
+ghost use Rattle.aj_machine.specs.Taken.{turn_of};
 
+use crate::act::object_values;
 use crate::inside::{first_inside, stands_inside};
+use crate::turn::take_turn;
+use aj_compile::CodeTable;
 use aj_core::CoreProgram;
 use aj_deeds::{Seen, StepEnd, Turn, cell_kind, next_turn, turn_kind};
-use aj_emit::CodeTable;
-use aj_perform::{object_values, take_turn};
 use aj_state::{Address, Heap, Locks, StepKind};
 use aj_threads::ThreadCell;
 use std::alloc::{AllocError as NoMemory, Global};
@@ -49,9 +51,9 @@ impl<'p> Model for Machine<'p> {
     ghost use Rattle.aj_core.specs.contracts.tree.CoreStmt as statement;
     ghost use Rattle.std.specs.Coded.{codes};
     ghost use Rattle.aj_compile.specs.IsCode.{IsCodeOf};
-    ghost use Rattle.aj_perform.specs.MachineValue.{MachineValue, state_code};
+    ghost use Rattle.aj_machine.specs.MachineValue.{MachineValue, state_code};
     ghost use Rattle.aj_machine.specs.Reaching.{IsKept};
-    ghost use Rattle.aj_perform.specs.Counts.{IsCounted};
+    ghost use Rattle.aj_machine.specs.Counts.{IsCounted};
 
     ghost Value = { MachineValue };
 
@@ -111,9 +113,10 @@ impl<'p> Machine<'p> {
         self.program
     }
 
-    /// The objects.
+    /// The objects. Those of each thread are numbered from 0.
     pub fn heap(&self) -> &Heap
-        ensures { result.now ≡ self.now.state.heap }
+        ensures objects { result.now ≡ self.now.state.heap }
+        ensures numbered { IsNumbered result.now }
     {
         &self.heap
     }

@@ -1,4 +1,7 @@
--- Lemmas on shared nodes.
+-- Lemmas on numbered and shared nodes.
+pub mod Tables
+mod Decisions
+mod Apart
 mod Memo
 mod Renaming
 mod Steps

@@ -8,7 +8,7 @@ use Rattle.aj_paths.specs.Paths.{path_eq}
 use Rattle.aj_paths.proofs.PathOrder.{eq_is}
 use Rattle.aj_cond.specs.Conditions.{Cond}
 use Rattle.aj_cond.specs.Operations.{each_leaf, both_leaves, sync_tree, hold}
-use Rattle.aj_node_rows.specs.declared.rows.Item.{Item}
+use Rattle.aj_nodes.specs.declared.rows.Item.{Item}
 use Rattle.aj_nodes.specs.declared.calls.Single.{Single}
 use Rattle.aj_nodes.specs.declared.calls.Single.TheVariants.{Star, Lift}
 use Rattle.aj_nodes.specs.declared.calls.Pair.{Pair}
@@ -18,7 +18,7 @@ use Rattle.aj_nodes.specs.declared.calls.Call.TheVariants.{Each, Both, HeldOr, S
 use Rattle.aj_nodes.specs.contracts.calls.SinglePartialEq.TheImpl as singles
 use Rattle.aj_nodes.specs.contracts.calls.PairPartialEq.TheImpl as pairs
 use Rattle.aj_nodes.specs.contracts.calls.CallPartialEq.TheImpl as calls
-use Rattle.aj_node_rows.specs.Nodes.{Grows, Stands}
+use Rattle.aj_nodes.specs.Nodes.{Grows, Stands}
 use Rattle.aj_nodes.specs.Calls.{single_of, pair_of, call_tree, AreThere, IsResult, AreKept, AreResults}
 
 abbrev pub same : Call → Call → Bool

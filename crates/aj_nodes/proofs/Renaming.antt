@@ -10,10 +10,10 @@ use Rattle.aj_paths.proofs.PathOrder.{eq_is}
 use Rattle.aj_cond.specs.Operations.{rename_tree}
 use Rattle.aj_cond.proofs.RenameLemmas.{rename-is}
 use Rattle.aj_cond.proofs.SameValues.{unique}
-use Rattle.aj_node_rows.specs.declared.rows.Item.{Item}
+use Rattle.aj_nodes.specs.declared.rows.Item.{Item}
 use Rattle.aj_nodes.specs.declared.calls.Renamed.{Renamed}
 use Rattle.aj_nodes.specs.contracts.calls.RenamedPartialEq.TheImpl as keys
-use Rattle.aj_node_rows.specs.Nodes.{tree_at, IsTable, Grows, Stands}
+use Rattle.aj_nodes.specs.Nodes.{tree_at, IsTable, Grows, Stands}
 use Rattle.aj_nodes.specs.Calls.{IsRenamed, AreRenamed, AreRenamings}
 use Rattle.aj_nodes.proofs.Memo.{kept_on, kept_put, kept_found, stands_on}
 

@@ -2,7 +2,7 @@
 use Rattle.std.proofs.Common.{length}
 use Rattle.aj_cond.specs.Conditions.{IsCanonical}
 use Rattle.aj_nodes.specs.declared.table.Node.{Node}
-use Rattle.aj_node_rows.specs.Nodes.{Items, IsTable}
+use Rattle.aj_nodes.specs.Nodes.{Items, IsTable}
 use Rattle.aj_nodes.specs.Shown.{IsThere, node_tree}
 
 -- a node that is there stands for a canonical tree

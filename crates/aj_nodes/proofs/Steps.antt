@@ -7,8 +7,8 @@ use Rattle.aj_algebra.specs.Basics.{lift_of}
 use Rattle.aj_cond.specs.Conditions.{Cond, LeafC, TestC, cond_eq, IsCanonical}
 use Rattle.aj_cond.specs.Operations.{node, each_leaf, both_leaves, sync_tree, hold, by_order}
 use Rattle.aj_cond.proofs.CondLemmas.{cond_eq-is}
-use Rattle.aj_node_rows.specs.declared.rows.Item.{Item}
-use Rattle.aj_node_rows.specs.declared.rows.Item.TheVariants.{Test}
+use Rattle.aj_nodes.specs.declared.rows.Item.{Item}
+use Rattle.aj_nodes.specs.declared.rows.Item.TheVariants.{Test}
 use Rattle.std.specs.declared.cmp.Ordering.{Ordering}
 use Rattle.std.specs.declared.cmp.Ordering.TheVariants.{Less, Equal, Greater}
 use Rattle.aj_cond.proofs.LeafLemmas.{each-is, both-is}
@@ -19,10 +19,10 @@ use Rattle.aj_nodes.specs.declared.calls.Pair.{Pair}
 use Rattle.aj_nodes.specs.declared.calls.Pair.TheVariants.{Seq, Join}
 use Rattle.aj_nodes.specs.declared.calls.Call.{Call}
 use Rattle.aj_nodes.specs.declared.calls.Call.TheVariants.{Each, Both, HeldOr, Sync}
-use Rattle.aj_node_rows.specs.Nodes.{tree_at, item_tree, AreBefore, IsTable, Grows, Stands}
-use Rattle.aj_node_rows.specs.Halving.{Halves, halves_of, AreHalves}
+use Rattle.aj_nodes.specs.Nodes.{tree_at, item_tree, AreBefore, IsTable, Grows, Stands}
+use Rattle.aj_nodes.specs.Halving.{Halves, halves_of, AreHalves}
 use Rattle.aj_nodes.specs.Calls.{single_of, pair_of, call_tree, AreThere, IsCombined}
-use Rattle.aj_node_rows.proofs.Tables.{grows_chain}
+use Rattle.aj_nodes.proofs.Tables.{grows_chain}
 use Rattle.aj_nodes.proofs.Memo.{call_on, there_on, stands_on}
 
 -- a call from its two parts, which were found one after the other

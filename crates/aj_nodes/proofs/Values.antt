@@ -5,9 +5,9 @@ use Rattle.aj_algebra.specs.HeldPaths.{Held}
 use Rattle.aj_cond.specs.Conditions.{Cond, value_of}
 use Rattle.aj_cond.proofs.SameValues.{unique}
 use Rattle.aj_cond.proofs.NodeLemmas.{Is}
-use Rattle.aj_node_rows.specs.declared.rows.Item.{Item}
+use Rattle.aj_nodes.specs.declared.rows.Item.{Item}
 use Rattle.aj_nodes.specs.declared.table.Node.{Node}
-use Rattle.aj_node_rows.specs.Nodes.{tree_at, IsTable, Stands}
+use Rattle.aj_nodes.specs.Nodes.{tree_at, IsTable, Stands}
 
 pub same_number : (is : List Item) (m n : ℕ) (test : Bool) → IsTable is → m < length is → n < length is → test ≡ (m == n)
     → (test ≡ true) ↔ ((H : Held) → value_of (tree_at is m) H ≡ value_of (tree_at is n) H)

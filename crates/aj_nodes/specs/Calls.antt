@@ -5,7 +5,7 @@ use Rattle.aj_algebra.specs.declared.basic.Basic.{Basic}
 use Rattle.aj_algebra.specs.Basics.{seq_of, join_of, star_of, lift_of}
 use Rattle.aj_cond.specs.Conditions.{Cond, IsCanonical}
 use Rattle.aj_cond.specs.Operations.{node, each_leaf, both_leaves, sync_tree, hold, rename_tree}
-use Rattle.aj_node_rows.specs.declared.rows.Item.{Item}
+use Rattle.aj_nodes.specs.declared.rows.Item.{Item}
 use Rattle.aj_nodes.specs.declared.calls.Single.{Single}
 use Rattle.aj_nodes.specs.declared.calls.Single.TheVariants.{Star, Lift}
 use Rattle.aj_nodes.specs.declared.calls.Pair.{Pair}
@@ -13,7 +13,7 @@ use Rattle.aj_nodes.specs.declared.calls.Pair.TheVariants.{Seq, Join}
 use Rattle.aj_nodes.specs.declared.calls.Call.{Call}
 use Rattle.aj_nodes.specs.declared.calls.Call.TheVariants.{Each, Both, HeldOr, Sync}
 use Rattle.aj_nodes.specs.declared.calls.Renamed.{Renamed}
-use Rattle.aj_node_rows.specs.Nodes.{tree_at, Stands}
+use Rattle.aj_nodes.specs.Nodes.{tree_at, Stands}
 
 -- what a call of one basic gives
 abbrev pub single_of : Single → Basic → Basic

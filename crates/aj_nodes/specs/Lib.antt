@@ -1,4 +1,6 @@
--- What the contracts of shared nodes cite, over Nodes of aj_node_rows. Of proofs/ the file ShownLemmas is public: crates above cite its
--- lemma.
+-- What the contracts of shared nodes cite: the tree that each number stands for (Nodes), two trees by the smaller of the paths at their
+-- roots (Halving), the calls that a table keeps (Calls), and the value of each node (Shown).
+pub mod Nodes
+pub mod Halving
 pub mod Calls
 pub mod Shown

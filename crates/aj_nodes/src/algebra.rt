@@ -1,7 +1,7 @@
 //! Shared nodes as an algebra.
 ghost use Rattle.std.specs.Prelude.{◌<◌, length};
 ghost use Rattle.aj_cond.specs.Conditions.{value_of};
-ghost use Rattle.aj_node_rows.specs.Nodes.{tree_at};
+ghost use Rattle.aj_nodes.specs.Nodes.{tree_at};
 
 use crate::calls::{Pair, Single};
 use crate::table::{Node, NodeTable};

@@ -2,8 +2,8 @@
 ghost use Rattle.std.specs.Prelude.{◌≡◌, ◌<◌, IfOk};
 ghost use Rattle.aj_nodes.specs.Calls.{single_of, pair_of};
 
+use crate::rows::{hint_at, hint_of_path};
 use aj_algebra::Basic;
-use aj_node_rows::{hint_at, hint_of_path};
 use aj_paths::Path;
 use std::alloc::{AllocError as NoMemory, Global};
 

@@ -4,13 +4,14 @@ ghost use Rattle.aj_algebra.specs.Basics.{lift_of};
 ghost use Rattle.aj_algebra.specs.HeldPaths.{is_named};
 ghost use Rattle.aj_cond.specs.Conditions.{IsCanonical};
 ghost use Rattle.aj_cond.specs.Operations.{node, each_leaf, both_leaves, sync_tree, hold, hold_partners, renamed_test, rename_tree};
-ghost use Rattle.aj_node_rows.specs.Nodes.{tree_at, Grows, Stands};
+ghost use Rattle.aj_nodes.specs.Nodes.{tree_at, Grows, Stands};
 ghost use Rattle.aj_nodes.specs.Calls.{single_of, pair_of, AreRenamed};
 
 use crate::calls::{Call, Pair, Single, call_one, call_two, renamed_by};
+use crate::halves::Split;
+use crate::rows::Item;
 use crate::table::NodeTable;
 use aj_algebra::Basic;
-use aj_node_rows::{Item, Split};
 use aj_paths::{Path, order};
 use indexmap::IndexMap;
 use std::alloc::{AllocError as NoMemory, Global};

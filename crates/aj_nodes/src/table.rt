@@ -3,16 +3,17 @@ ghost use Rattle.std.specs.Prelude.{◌≡◌, ◌<◌, ◌↔◌, [], true, len
 ghost use Rattle.aj_algebra.specs.HeldPaths.{Held, has_path};
 ghost use Rattle.aj_cond.specs.Conditions.{LeafC, cond_of, value_of, IsCanonical};
 ghost use Rattle.aj_cond.specs.Operations.{node, below_tree, rename_tree};
-ghost use Rattle.aj_node_rows.specs.Nodes.{items_of, tree_at, item_tree, AreBefore, IsTable, Grows, Stands};
-ghost use Rattle.aj_node_rows.specs.Halving.{IsSplit};
+ghost use Rattle.aj_nodes.specs.Nodes.{items_of, tree_at, item_tree, AreBefore, IsTable, Grows, Stands};
+ghost use Rattle.aj_nodes.specs.Halving.{IsSplit};
 ghost use Rattle.aj_nodes.specs.Shown.{IsThere, AreThere, node_value, trees_at};
 ghost use Rattle.aj_nodes.specs.declared.calls.Call.TheVariants.{Both};
 ghost use Rattle.aj_nodes.specs.Calls.{call_tree, IsResult, IsRenamed, AreRenamed, IsCombined};
 
 use crate::calls::{Call, Pair, Renamed, hint_of, hint_of_both};
+use crate::halves::Split;
+use crate::rows::{HINTS, Item, Rows};
 use aj_algebra::Basic;
 use aj_cond::Tree;
-use aj_node_rows::{HINTS, Item, Rows, Split};
 use aj_paths::Path;
 use indexmap::IndexMap;
 use std::alloc::{AllocError as NoMemory, Global};
@@ -34,7 +35,7 @@ pub struct NodeTable {
 
 impl Model for NodeTable {
     ghost use Rattle.std.specs.Prelude.{List};
-    ghost use Rattle.aj_node_rows.specs.declared.rows.Item.{Item};
+    ghost use Rattle.aj_nodes.specs.declared.rows.Item.{Item};
     ghost use Rattle.aj_nodes.specs.Calls.{AreResults, AreRenamings};
 
     ghost Value = { List Item };

@@ -14,7 +14,7 @@ use Rattle.aj_state.specs.Work.{Action, Item, Next}
 use Rattle.aj_state.specs.States.{Frame, Thread, Ready, Running, Done, Faulted, State}
 use Rattle.aj_state.proofs.MemoryLemmas.{set_other}
 use Rattle.aj_steps.specs.Run.{is_annotated, is_inside_some, inside}
-use Rattle.aj_steps.specs.Step.{Shared, Change, Nothing, FieldIs, ObjectIs, LockIs, Prints, Starts, Move, Outcome, Moves, Absent, IsDone, HadFaulted, Waits, load, store, binary, and_then, or_else, choose, loop, get, get_value, put, put_value, new, call, call_on, enter, acquire, take, take_held, release, release_held, return_to, start, start_run, act, act_next, enter_first, turn, seen_by, outcome, moved, changed}
+use Rattle.aj_steps.specs.Step.{Shared, Change, Nothing, FieldIs, ObjectIs, LockIs, Prints, Starts, Move, Outcome, Moves, Absent, IsDone, HadFaulted, Waits, load, store, binary, and_then, or_else, choose, loop, get, get_value, put, put_value, new, call, call_on, enter, enter_some, dispatch, acquire, take, take_held, release, release_held, return_to, start, start_run, act, act_next, enter_first, turn, seen_by, outcome, moved, changed}
 use Rattle.aj_rewrite.proofs.Slides.{own_after}
 use Rattle.aj_noted.specs.Calls.{methods_of, methods_at, with_call, without_call, atomic_calls, calls_of, AreCalls, frames_seen, calls_after}
 use Rattle.aj_units.specs.Tables.{put_at}
@@ -78,17 +78,25 @@ module _ (P : Program) (see : Shared) (t : ℕ) (f : Frame) (below : List Frame)
   new_case c None = stays _ _ _ refl
   new_case c (Some class) = stays _ _ _ refl
 
-  enter_case : (m : ℕ) (method : Method) (a : Address) (b : Bool) → Reframed (f.method ∷ map (λ g. g.method) below) (enter P see t f below rest m method a b)
-  enter_case m method a false = stays _ _ _ refl
-  enter_case m method a true = enters _ _ _ m refl
+  enter_case : (arity m : ℕ) (method : Method) (a : Address) (b : Bool) → Reframed (f.method ∷ map (λ g. g.method) below) (enter P see t f below rest arity m method a b)
+  enter_case arity m method a false = stays _ _ _ refl
+  enter_case arity m method a true = enters _ _ _ m refl
 
-  call_on_case : (m : ℕ) (method : Method) (o : Option Address) → Reframed (f.method ∷ map (λ g. g.method) below) (call_on P see t f below rest m method o)
-  call_on_case m method None = stays _ _ _ refl
-  call_on_case m method (Some a) = enter_case m method a _
+  enter_some_case : (arity m : ℕ) (o : Option Method) (a : Address) → Reframed (f.method ∷ map (λ g. g.method) below) (enter_some P see t f below rest arity m o a)
+  enter_some_case arity m None a = stays _ _ _ refl
+  enter_some_case arity m (Some method) a = enter_case arity m method a _
+
+  dispatch_case : (arity : ℕ) (o : Option ℕ) (a : Address) → Reframed (f.method ∷ map (λ g. g.method) below) (dispatch P see t f below rest arity o a)
+  dispatch_case arity None a = stays _ _ _ refl
+  dispatch_case arity (Some m) a = enter_some_case arity m (slice_get P.methods m) a
+
+  call_on_case : (arity m : ℕ) (o : Option Address) → Reframed (f.method ∷ map (λ g. g.method) below) (call_on P see t f below rest arity m o)
+  call_on_case arity m None = stays _ _ _ refl
+  call_on_case arity m (Some a) = dispatch_case arity _ a
 
   call_case : (m : ℕ) (o : Option Method) → Reframed (f.method ∷ map (λ g. g.method) below) (call P see t f below rest m o)
   call_case m None = stays _ _ _ refl
-  call_case m (Some method) = call_on_case m method _
+  call_case m (Some method) = call_on_case (length method.params) m _
 
   release_held_case : (a : Address) (hold : Hold) (b : Bool) → Reframed (f.method ∷ map (λ g. g.method) below) (release_held P see t f below rest a hold b)
   release_held_case a hold false = stays _ _ _ refl

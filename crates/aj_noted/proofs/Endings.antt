@@ -9,7 +9,7 @@ use Rattle.aj_steps.specs.Step.{Outcome, Moves, Absent, IsDone, HadFaulted, Wait
 use Rattle.aj_deeds.specs.declared.deed.StepEnd.{StepEnd}
 use Rattle.aj_deeds.specs.declared.deed.StepEnd.TheVariants as ends
 use Rattle.aj_machine.specs.declared.machine.Stopped.{Stopped}
-use Rattle.aj_perform.specs.Reasons.{IsReason}
+use Rattle.aj_machine.specs.Reasons.{IsReason}
 use Rattle.aj_machine.specs.Standing.{IsStopped}
 use Rattle.aj_machine.proofs.Schedules.{no_step}
 

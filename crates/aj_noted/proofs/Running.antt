@@ -14,8 +14,8 @@ use Rattle.aj_steps.proofs.RunLemmas.{run_from-append}
 use Rattle.aj_steps.proofs.MoreEntries.{more_entries}
 use Rattle.aj_deeds.specs.declared.deed.StepEnd.{StepEnd}
 use Rattle.aj_deeds.specs.declared.deed.StepEnd.TheVariants as step
-use Rattle.aj_perform.specs.MachineValue.{MachineValue}
-use Rattle.aj_perform.specs.Reasons.{IsReason}
+use Rattle.aj_machine.specs.MachineValue.{MachineValue}
+use Rattle.aj_machine.specs.Reasons.{IsReason}
 use Rattle.aj_machine.specs.Standing.{program_run, StandsFor, IsKindTurn, IsStop}
 use Rattle.aj_noted.specs.declared.calls.Frames.{Frames}
 use Rattle.aj_noted.specs.Calls.{AreCalls, calls_after, frames_seen, methods_at}

@@ -4,7 +4,7 @@ use Rattle.std.specs.Prelude.{Option, map, slice_get}
 use Rattle.aj_core.specs.Core.{Program}
 use Rattle.aj_threads.specs.Frames.{CellFrame, code_frame, code_thread, frames_in}
 use Rattle.aj_state.specs.States.{Frame, Thread, ThreadOf, Ready, Running, Done, Faulted}
-use Rattle.aj_emit.specs.declared.stack.Code.{Code}
+use Rattle.aj_compile.specs.declared.stack.Code.{Code}
 use Rattle.aj_deeds.specs.Likeness.{FramesStand, no_frames, more_frames, ThreadStands, ready_stands, running_stands, done_stands, faulted_stands, ThreadsStand, no_threads, more_threads}
 use Rattle.aj_noted.specs.Calls.{methods_of, methods_at}
 

@@ -5,7 +5,7 @@ use Rattle.aj_state.specs.States.{State}
 use Rattle.aj_steps.specs.Run.{run, inside}
 use Rattle.aj_steps.specs.Step.{Outcome, Moves, moved}
 use Rattle.aj_steps.specs.Units.{entries}
-use Rattle.aj_perform.specs.MachineValue.{MachineValue}
+use Rattle.aj_machine.specs.MachineValue.{MachineValue}
 use Rattle.aj_machine.specs.Standing.{program_run, StandsFor}
 use Rattle.aj_units.specs.declared.step.Step.{Step}
 use Rattle.aj_noted.specs.Calls.{AreCalls}

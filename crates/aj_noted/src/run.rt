@@ -2,7 +2,7 @@
 ghost use Rattle.std.specs.Prelude.{◌≡◌, ◌+◌, ◌<◌, ◌≤◌, ℕ, nat_lt, length, slice_get, IfOk, IfErr, OnOk, OnErr};
 ghost use Rattle.aj_state.specs.States.{State, initial};
 ghost use Rattle.aj_steps.specs.Step.{outcome};
-ghost use Rattle.aj_perform.specs.Reasons.{IsReason};
+ghost use Rattle.aj_machine.specs.Reasons.{IsReason};
 ghost use Rattle.aj_machine.specs.Standing.{program_run, StandsFor};
 ghost use Rattle.aj_noted.specs.Calls.{AreCalls, calls_after, frames_seen, methods_at};
 ghost use Rattle.aj_noted.specs.Made.{IsMade, HaveRun};

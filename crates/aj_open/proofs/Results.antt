@@ -9,7 +9,7 @@ use Rattle.aj_steps.specs.Run.{run}
 use Rattle.aj_steps.specs.Units.{entries, units, schedule_of}
 use Rattle.aj_held.proofs.Theorem.{words}
 use Rattle.aj_machine.specs.declared.machine.Stopped.{Stopped}
-use Rattle.aj_perform.specs.MachineValue.{MachineValue}
+use Rattle.aj_machine.specs.MachineValue.{MachineValue}
 use Rattle.aj_machine.specs.Standing.{program_run, IsStopped}
 use Rattle.aj_units.specs.declared.step.Step.{Step}
 use Rattle.aj_units.specs.Entries.{entries_of}

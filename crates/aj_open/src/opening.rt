@@ -14,9 +14,9 @@ ghost use Rattle.aj_open.specs.Opened.{IsOpened, IsRefused};
 
 use crate::open_end::{OpenEnd, end_of};
 use crate::spreading::in_open_order;
+use aj_compile::CodeTable;
 use aj_core::CoreProgram;
 use aj_deriv_check::Checked;
-use aj_emit::CodeTable;
 use aj_machine::Machine;
 use aj_noted::run_noted;
 use aj_units::Step;

@@ -24,8 +24,8 @@ use Rattle.aj_parser.proofs.MemberLoops.{param_takes, lock_takes, set_takes, mem
 use Rattle.aj_parser.proofs.Members.{ParamL, class_long}
 use Rattle.aj_expressions.specs.Combine.{Res, ◌>>=◌, starts, first, take_one, flag, flagged, loop, several, separated, item_step, comma_step}
 use Rattle.aj_expressions.specs.Words.{a_name, field_name, lock, type_name}
-use Rattle.aj_statements.specs.Statements.{goes_on}
-use Rattle.aj_blocks.specs.Blocks.{block_at}
+use Rattle.aj_expressions.specs.Statements.{goes_on}
+use Rattle.aj_parser.specs.Blocks.{block_at}
 use Rattle.aj_parser.specs.Members.{param, param_list, params, required, method_rest, set, ctor_rest, guard, field_rest, typed_rest, final_field, result_type, plain_method, named_member, bare_member, member, runnable, class_at, program}
 
 -- terminals that may stand

@@ -17,15 +17,15 @@ use Rattle.aj_expressions.proofs.Complete.{starts_append, Same, same, deep, same
 use Rattle.aj_expressions.proofs.Expressions.{spelled_long}
 use Rattle.aj_expressions.proofs.Lists.{shift}
 use Rattle.aj_expressions.proofs.Loops.{member_done}
-use Rattle.aj_statements.proofs.Fields.{field_more, field_done}
-use Rattle.aj_blocks.proofs.StatementLoops.{statement_more, statement_done, statement_zero, statement_positive, block_zero, block_positive}
-use Rattle.aj_blocks.proofs.Statements.{first_is}
+use Rattle.aj_expressions.proofs.Fields.{field_more, field_done}
+use Rattle.aj_parser.proofs.StatementLoops.{statement_more, statement_done, statement_zero, statement_positive, block_zero, block_positive}
+use Rattle.aj_parser.proofs.Statements.{first_is}
 use Rattle.aj_expressions.specs.Combine.{Res, ◌>>=◌, starts, when, take_one, loop, item_step}
 use Rattle.aj_expressions.specs.Words.{is_name, field_name, lock, type_name}
 use Rattle.aj_syntax.specs.Offsets.{first_at}
 use Rattle.aj_expressions.specs.Expressions.{leaf, below, dots, primary, new_rest, postfix}
-use Rattle.aj_statements.specs.Statements.{begins_local, begins_statement, goes_on, condition, return_statement, print_statement, start_rest, assign, assigned, local_rest, local_statement, call_end, target, finish, finish_from, new_statement, name_statement, expression_statement, plain_statement}
-use Rattle.aj_blocks.specs.Blocks.{braces, else_part, if_statement, while_statement, sync_statement, block_statement, statement_with, statement_at, block_at}
+use Rattle.aj_expressions.specs.Statements.{begins_local, begins_statement, goes_on, condition, return_statement, print_statement, start_rest, assign, assigned, local_rest, local_statement, call_end, target, finish, finish_from, new_statement, name_statement, expression_statement, plain_statement}
+use Rattle.aj_parser.specs.Blocks.{braces, else_part, if_statement, while_statement, sync_statement, block_statement, statement_with, statement_at, block_at}
 
 -- locks
 

@@ -1,3 +1,5 @@
+pub mod Statements
+pub mod StatementLoops
 pub mod CompleteStatements
 pub mod CompleteMembers
 pub mod MemberLoops

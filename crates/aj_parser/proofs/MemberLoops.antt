@@ -12,10 +12,10 @@ use Rattle.aj_expressions.proofs.LoopLaw.{loop_done, loop_more, Takes}
 use Rattle.aj_expressions.proofs.Loops.{right_shorter}
 use Rattle.aj_parser.proofs.Members.{ParamL, param_long, param_example, right_param, lock_long, right_set, set_example, set_long, right_member, member_example, member_long, LowMember, right_class, class_example, class_long, LowClass}
 use Rattle.aj_expressions.proofs.Right.{Any}
-use Rattle.aj_blocks.proofs.Statements.{right_lock, this_lock, this_lock_is}
+use Rattle.aj_parser.proofs.Statements.{right_lock, this_lock, this_lock_is}
 use Rattle.aj_expressions.specs.Combine.{◌>>=◌, starts, loop, comma_step, item_step}
 use Rattle.aj_expressions.specs.Words.{lock}
-use Rattle.aj_statements.specs.Statements.{goes_on}
+use Rattle.aj_expressions.specs.Statements.{goes_on}
 use Rattle.aj_parser.specs.Members.{param, set, member, class_at}
 
 pub param_takes : (of_ctor : Bool) → Takes (is T.Comma) (comma_step (param of_ctor))

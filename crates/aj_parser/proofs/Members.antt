@@ -19,10 +19,10 @@ use Rattle.aj_expressions.proofs.Expressions.{along_length, append_left, right_f
 use Rattle.aj_expressions.proofs.Lists.{right_several, right_separated}
 use Rattle.aj_expressions.proofs.Parts.{One, right_one, right_tok, right_name, right_done, right_if, right_flag, x_name}
 use Rattle.aj_expressions.proofs.Right.{Right, Any, Some_of, right_seq, right_weaker}
-use Rattle.aj_blocks.proofs.Statements.{right_type, right_lock, this_lock, this_lock_is as this_is, BlockL, right_block}
+use Rattle.aj_parser.proofs.Statements.{right_type, right_lock, this_lock, this_lock_is as this_is, BlockL, right_block}
 use Rattle.aj_expressions.specs.Combine.{Res, ◌>>=◌, starts, several}
 use Rattle.aj_expressions.specs.Words.{lock}
-use Rattle.aj_statements.specs.Statements.{goes_on}
+use Rattle.aj_expressions.specs.Statements.{goes_on}
 use Rattle.aj_parser.specs.Members.{param, param_list, params, required, method_rest, set, ctor_rest, guard, field_rest, typed_rest, final_field, result_type, plain_method, named_member, bare_member, member, runnable, class_at, program}
 
 -- a terminal that may stand, and then

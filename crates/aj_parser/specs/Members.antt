@@ -12,8 +12,8 @@ use Rattle.aj_syntax.specs.Trees.{LockTree, MemberTree, FieldM, CtorM, MethodM, 
 use Rattle.aj_syntax.specs.Views.{stmts_from}
 use Rattle.aj_expressions.specs.Combine.{Res, ◌>>=◌, starts, first, take_one, flag, several, separated}
 use Rattle.aj_expressions.specs.Words.{a_name, is_name, field_name, lock, type_name}
-use Rattle.aj_statements.specs.Statements.{goes_on}
-use Rattle.aj_blocks.specs.Blocks.{block_at}
+use Rattle.aj_expressions.specs.Statements.{goes_on}
+use Rattle.aj_parser.specs.Blocks.{block_at}
 
 unfoldable pub param : Bool → List Token → Res Param
 param of_ctor ts =

@@ -7,12 +7,14 @@ ghost use Rattle.aj_syntax.specs.Views.{class_of, lock_of, member_of};
 ghost use Rattle.aj_expressions.specs.Answer.{Gives};
 ghost use Rattle.aj_expressions.specs.Combine.{comma_step, item_step, several, starts};
 ghost use Rattle.aj_expressions.specs.Words.{lock as lock_at};
-ghost use Rattle.aj_statements.specs.Statements.{goes_on as may_go_on};
+ghost use Rattle.aj_expressions.specs.Statements.{goes_on as may_go_on};
 ghost use Rattle.aj_parser.specs.Members.{bare_member as bare_member_at, class_at, ctor_rest as ctor_rest_at, field_rest as field_rest_at, final_field as final_field_at, guard as guard_at, member as member_at, method_rest as method_rest_at, named_member as named_member_at, param as param_at, param_list as param_list_at, params as params_at, plain_method as plain_method_at, program as program_at, required as required_at, result_type as result_type_at, runnable as runnable_at, set as set_at, typed_rest as typed_rest_at};
 
-use aj_blocks::{Braces, block};
-use aj_expressions::{Lexeme, Stop, accept, begins, begins_name, field_name, flag, name, take};
-use aj_statements::{goes_on, lock, type_name};
+use crate::compound::{Braces, block};
+use aj_expressions::{
+    Lexeme, Stop, accept, begins, begins_name, field_name, flag, goes_on, lock, name, take,
+    type_name,
+};
 use aj_syntax::{Class, Lock, MOST_HEIGHT, Member, Name, Param, Terminal, TypeName};
 use std::alloc::Global;
 

@@ -9,13 +9,13 @@ use Rattle.aj_lexer.specs.Pieces.{is_blank, is_word, is_number, is_letter, is_di
 use Rattle.aj_lexer.specs.Tokens.{IsOfKind, TokensFrom, at_end}
 use Rattle.aj_lexer.specs.Written.{stops, may_follow}
 use Rattle.aj_lexer.proofs.Written.{written_token, written_gap}
-use Rattle.aj_page.specs.declared.page.Lead.{Lead}
-use Rattle.aj_page.specs.declared.page.Lead.TheVariants as L
-use Rattle.aj_page.specs.declared.page.Place.{Place}
-use Rattle.aj_page.specs.declared.page.Place.TheVariants as P
+use Rattle.aj_printer.specs.declared.page.Lead.{Lead}
+use Rattle.aj_printer.specs.declared.page.Lead.TheVariants as L
+use Rattle.aj_printer.specs.declared.page.Place.{Place}
+use Rattle.aj_printer.specs.declared.page.Place.TheVariants as P
 use Rattle.aj_syntax.specs.declared.terminal.Terminal.{Terminal}
 use Rattle.aj_syntax.specs.declared.terminal.Terminal.TheVariants as T
-use Rattle.aj_page.specs.Layout.{Lexeme, Fixed, Named, Numeral, gap, indent, layout, lead_of, place_after, depth_after, lexeme_text, line_end, token_at}
+use Rattle.aj_printer.specs.Layout.{Lexeme, Fixed, Named, Numeral, gap, indent, layout, lead_of, place_after, depth_after, lexeme_text, line_end, token_at}
 use Rattle.aj_printer.specs.Reprinted.{lexeme_kind, AreLexemes, Parted, is_bang, begins_with_assign, AreTokensOf}
 use Rattle.aj_syntax.specs.Tokens.{kind_of, spelling}
 

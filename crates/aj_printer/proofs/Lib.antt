@@ -1,3 +1,4 @@
+mod Indents
 mod Cutting
 mod Moving
 mod MovingExprs

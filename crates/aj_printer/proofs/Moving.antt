@@ -7,7 +7,7 @@ use Rattle.aj_syntax.specs.declared.tree.Name.{Name}
 use Rattle.aj_syntax.specs.declared.tree.Param.{Param}
 use Rattle.aj_syntax.specs.declared.tree.TypeName.{TypeName}
 use Rattle.aj_syntax.specs.Grammar.{SpellsLock, Repeats, Follows, Separates, SpellsParam, SpellsCtorParam, SpellsSet, SpellsGuard, SpellsFinalField, SpellsMutableField, SpellsRequires, SpellsBare, SpellsMember, SpellsRunnable, SpellsClass, Wide}
-use Rattle.aj_page.specs.Layout.{Lexeme, Fixed, token_at}
+use Rattle.aj_printer.specs.Layout.{Lexeme, Fixed, token_at}
 use Rattle.aj_printer.specs.Printing.{all_lexemes, further_lexemes, listed_lexemes, flag_lexemes, name_lexeme, type_lexeme, result_lexeme, lock_lexemes, stmts_lexemes, param_lexemes, set_lexemes, guard_lexemes, requires_lexemes, member_lexemes, runnable_lexemes, class_lexemes, program_lexemes}
 use Rattle.aj_printer.specs.Reprinted.{AreLexemes}
 use Rattle.aj_syntax.specs.Tokens.{token, name_token, guard_word}

@@ -10,7 +10,7 @@ use Rattle.aj_syntax.specs.declared.tree.Name.{Name}
 use Rattle.aj_syntax.specs.declared.tree.TypeName.{TypeName}
 use Rattle.aj_syntax.specs.declared.tree.TypeName.TheVariants as Y
 use Rattle.aj_syntax.specs.Grammar.{sign_of, level, loose, is_postfix, is_call, IsFlag, IsType, IsResultType, SpellsFields, SpellsRoot, SpellsLock, Spells, SpellsArgs, SpellsMoreArgs}
-use Rattle.aj_page.specs.Layout.{Lexeme, Fixed, lexeme_text, token_at}
+use Rattle.aj_printer.specs.Layout.{Lexeme, Fixed, lexeme_text, token_at}
 use Rattle.aj_printer.specs.Printing.{all_lexemes, flag_lexemes, name_lexeme, type_lexeme, result_lexeme, dotted_lexemes, root_lexeme, lock_lexemes, expr_lexemes, args_lexemes, more_args_lexemes}
 use Rattle.aj_printer.specs.Reprinted.{AreLexemes, lexeme_kind}
 use Rattle.aj_syntax.specs.Tokens.{token, name_token}

@@ -3,7 +3,7 @@ use Rattle.std.proofs.Common.{◌≡◌, suc, false, List, [], ◌∷◌, ◌++�
 use Rattle.aj_lexer.specs.declared.tokens.Token.{Token}
 use Rattle.aj_syntax.specs.declared.terminal.Terminal.TheVariants as T
 use Rattle.aj_syntax.specs.Grammar.{is_local, open_if, offset, SpellsStmt, SpellsStmts}
-use Rattle.aj_page.specs.Layout.{Lexeme, Fixed, token_at}
+use Rattle.aj_printer.specs.Layout.{Lexeme, Fixed, token_at}
 use Rattle.aj_printer.specs.Printing.{flag_lexemes, name_lexeme, type_lexeme, lock_lexemes, expr_lexemes, stmt_lexemes, stmts_lexemes}
 use Rattle.aj_syntax.specs.Tokens.{token, name_token}
 use Rattle.aj_syntax.specs.Trees.{StmtTree, StmtTrees, EmptyS, BlockS, LocalS, SetVarS, SetFieldS, DoS, IfS, IfElseS, WhileS, SyncS, ReturnS, PrintS, StartS, no_stmts, more_stmts}

@@ -6,7 +6,7 @@ use Rattle.aj_syntax.specs.declared.tree.Param.{Param}
 use Rattle.aj_syntax.specs.declared.tree.TypeName.{TypeName}
 use Rattle.aj_syntax.specs.declared.tree.TypeName.TheVariants as Y
 use Rattle.aj_syntax.specs.Grammar.{sign_of}
-use Rattle.aj_page.specs.Layout.{Lexeme, Fixed}
+use Rattle.aj_printer.specs.Layout.{Lexeme, Fixed}
 use Rattle.aj_printer.specs.Printing.{all_lexemes, further_lexemes, listed_lexemes, flag_lexemes, name_lexeme, type_lexeme, result_lexeme, dotted_lexemes, root_lexeme, lock_lexemes, expr_lexemes, args_lexemes, more_args_lexemes, stmt_lexemes, stmts_lexemes, param_lexemes, set_lexemes, guard_lexemes, requires_lexemes, member_lexemes, runnable_lexemes, class_lexemes, program_lexemes}
 use Rattle.aj_printer.specs.Reprinted.{Parted, is_bang}
 use Rattle.aj_syntax.specs.Trees.{LockTree, ExprTree, ExprTrees, NumberE, LeastE, TruthE, NullE, ThisE, VarE, ParenE, NotE, NegE, BinaryE, GetE, CallE, NewE, no_exprs, more_exprs, StmtTree, StmtTrees, EmptyS, BlockS, LocalS, SetVarS, SetFieldS, DoS, IfS, IfElseS, WhileS, SyncS, ReturnS, PrintS, StartS, no_stmts, more_stmts, MemberTree, FieldM, CtorM, MethodM, ClassTree, ProgramTree}

@@ -14,7 +14,7 @@ use Rattle.aj_lexer.specs.Tokens.{IsOfKind}
 use Rattle.aj_syntax.specs.declared.terminal.Terminal.{Terminal}
 use Rattle.aj_syntax.specs.declared.terminal.Terminal.TheVariants as T
 use Rattle.aj_syntax.specs.declared.tree.Name.{Name}
-use Rattle.aj_page.specs.Layout.{Lexeme, token_at}
+use Rattle.aj_printer.specs.Layout.{Lexeme, token_at}
 use Rattle.aj_printer.specs.Reprinted.{AreLexemes}
 use Rattle.aj_syntax.specs.Tokens.{kind_of, spelling}
 

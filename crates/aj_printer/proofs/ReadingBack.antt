@@ -3,10 +3,10 @@ use Rattle.std.proofs.Common.{◌≡◌, ℕ, zero, suc, ◌+◌, ◌≤◌, max
 use Rattle.aj_lexer.specs.declared.tokens.Token.{Token}
 use Rattle.aj_lexer.specs.Tokens.{Tokens}
 use Rattle.aj_lexer.proofs.Written.{kinds_from}
-use Rattle.aj_page.specs.declared.page.Place.TheVariants as P
+use Rattle.aj_printer.specs.declared.page.Place.TheVariants as P
 use Rattle.aj_syntax.specs.Grammar.{Wide, Grammar}
 use Rattle.aj_syntax.specs.Heights.{height, heights, stmt_height, stmt_heights, body_height, highest_member, highest_body}
-use Rattle.aj_page.specs.Layout.{Lexeme, token_at}
+use Rattle.aj_printer.specs.Layout.{Lexeme, token_at}
 use Rattle.aj_syntax.specs.Limits.{most_height}
 use Rattle.aj_printer.specs.Printing.{canonical, program_lexemes}
 use Rattle.aj_printer.specs.Reprinted.{AreTokensOf, ReadsBack}

@@ -1,7 +1,7 @@
 -- Tokens written one after another.
 use Rattle.std.proofs.Common.{◌≡◌, ℕ, zero, suc, ◌+◌, ◌-◌, ◌<◌, ◌≤◌, length, drop, get_or, List, [], ◌∷◌, ◌++◌, refl, ap, sym, arith, append_assoc, append-nil, subst, Result, OnOk, drop-cons, ◌∙◌, add-one}
-use Rattle.aj_page.specs.Layout.{Lexeme, Page, put, writes, layout, gap, lead_of, place_after, depth_after, lexeme_text, line_end}
-use Rattle.aj_page.specs.declared.page.Place.TheVariants as P
+use Rattle.aj_printer.specs.Layout.{Lexeme, Page, put, writes, layout, gap, lead_of, place_after, depth_after, lexeme_text, line_end}
+use Rattle.aj_printer.specs.declared.page.Place.TheVariants as P
 use Rattle.aj_printer.specs.Printing.{canonical, program_lexemes}
 use Rattle.aj_syntax.specs.Trees.{ProgramTree}
 

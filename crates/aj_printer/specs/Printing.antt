@@ -8,7 +8,7 @@ use Rattle.aj_syntax.specs.declared.tree.Param.{Param}
 use Rattle.aj_syntax.specs.declared.tree.TypeName.{TypeName}
 use Rattle.aj_syntax.specs.declared.tree.TypeName.TheVariants as Y
 use Rattle.aj_syntax.specs.Grammar.{sign_of}
-use Rattle.aj_page.specs.Layout.{Lexeme, Fixed, Named, Numeral, laid_out}
+use Rattle.aj_printer.specs.Layout.{Lexeme, Fixed, Named, Numeral, laid_out}
 use Rattle.aj_syntax.specs.Tokens.{guard_word}
 use Rattle.aj_syntax.specs.Trees.{LockTree, ExprTree, ExprTrees, NumberE, LeastE, TruthE, NullE, ThisE, VarE, ParenE, NotE, NegE, BinaryE, GetE, CallE, NewE, no_exprs, more_exprs, StmtTree, StmtTrees, EmptyS, BlockS, LocalS, SetVarS, SetFieldS, DoS, IfS, IfElseS, WhileS, SyncS, ReturnS, PrintS, StartS, no_stmts, more_stmts, FieldTree, MemberTree, FieldM, CtorM, MethodM, ClassTree, ProgramTree}
 

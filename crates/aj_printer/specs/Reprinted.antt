@@ -6,7 +6,7 @@ use Rattle.aj_lexer.specs.declared.tokens.TokenKind.TheVariants as K
 use Rattle.aj_lexer.specs.Tokens.{IsOfKind, Tokens}
 use Rattle.aj_syntax.specs.declared.terminal.Terminal.TheVariants as T
 use Rattle.aj_syntax.specs.Grammar.{Grammar}
-use Rattle.aj_page.specs.Layout.{Lexeme, Fixed, Named, Numeral, lexeme_text, token_at}
+use Rattle.aj_printer.specs.Layout.{Lexeme, Fixed, Named, Numeral, lexeme_text, token_at}
 use Rattle.aj_syntax.specs.Tokens.{kind_of}
 use Rattle.aj_syntax.specs.Trees.{ProgramTree}
 use Rattle.aj_printer.specs.Unplaced.{without_offsets}

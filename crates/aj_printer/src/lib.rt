@@ -1,8 +1,10 @@
-//! The canonical text of a tree, which reads back as that tree.
+//! The canonical text of a tree, which reads back as that tree, over pages of tokens: lines, blanks and indents.
 #![tactic(auto)]
 
 mod laws;
+mod page;
 mod print;
 
 pub use laws::printing_laws;
+pub use page::{Lead, Place, Printer};
 pub use print::print_program;

@@ -7,15 +7,15 @@ ghost use Rattle.aj_lexer.specs.declared.tokens.Token.{Token};
 ghost use Rattle.aj_lexer.specs.Tokens.{Tokens};
 ghost use Rattle.aj_syntax.specs.Grammar.{Grammar, sign_of};
 ghost use Rattle.aj_printer.specs.Reprinted.{ReadsBack};
-ghost use Rattle.aj_page.specs.Layout.{Fixed, put, writes};
+ghost use Rattle.aj_printer.specs.Layout.{Fixed, put, writes};
 ghost use Rattle.aj_printer.specs.Printing.{all_lexemes, args_lexemes, canonical, class_lexemes, dotted_lexemes, expr_lexemes, field_lexemes, flag_lexemes, further_lexemes, guard_lexemes, listed_lexemes, lock_lexemes, member_lexemes, method_lexemes, name_lexeme, param_lexemes, requires_lexemes, result_lexeme, root_lexeme, runnable_lexemes, set_lexemes, stmt_lexemes, stmts_lexemes, type_lexeme};
 ghost use Rattle.aj_syntax.specs.Trees.{BlockS, CtorM, LocalS, NewE, ParenE, PrintS, ReturnS, SetFieldS, SetVarS, StartS};
 ghost use Rattle.aj_syntax.specs.Tokens.{guard_word as word_of};
 ghost use Rattle.aj_syntax.specs.declared.terminal.Terminal.TheVariants as terminals;
 ghost use Rattle.aj_syntax.specs.Views.{class_of, expr_of, exprs_from, lock_of, member_of, program_of, stmt_of, stmts_from};
 
+use crate::page::Printer;
 use aj_lexer::GREATEST_LITERAL;
-use aj_page::Printer;
 use aj_syntax::{Class, Expr, Lock, Member, Name, Op, Param, Program, Stmt, Terminal, TypeName};
 use std::alloc::{AllocError as NoMemory, Global};
 

@@ -165,7 +165,7 @@ module _ (P : Program) (typed : IsTyped P) where
       )
     where
       not_started : (e.kind ≡ Other → ⊥) ⊎ (f.thread < length q.threads) → started (length q.threads) fe.move.change ≢ Some f.thread
-      not_started (inl other) is = absurd (other (sym fe.kind ∙ start_kind P (seen_by e.thread q) e.thread (asks (slice_get q.threads e.thread)) fe.move.kind fe.move.change (moves_did P (seen_by e.thread q) e.thread (slice_get q.threads e.thread) fe.move fe.steps) (length q.threads) f.thread is))
+      not_started (inl other) is = absurd (other (sym fe.kind ∙ start_kind P (seen_by e.thread q) e.thread (asks P (slice_get q.threads e.thread)) fe.move.kind fe.move.change (moves_did P (seen_by e.thread q) e.thread (slice_get q.threads e.thread) fe.move fe.steps) (length q.threads) f.thread is))
       not_started (inr lt) is = absurd (let e = start_number (length q.threads) f.thread fe.move.change is in omega (arith, e, lt))
 
       both : (k : ℕ) (x : Bool) → (e.thread == k) ≡ x → (y : Bool) → (f.thread == k) ≡ y

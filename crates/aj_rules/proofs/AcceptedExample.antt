@@ -10,12 +10,12 @@ use Rattle.aj_algebra.specs.declared.basic.Basic.TheVariants.{Mover, Atomic}
 use Rattle.aj_core.specs.Core.{Method, Expr, Exprs, ThisE, no_exprs}
 use Rattle.aj_core.specs.Locks.{path_of}
 use Rattle.aj_core.specs.Examples.{counter, this_path, inc_body, run_body, main_body}
-use Rattle.aj_core.proofs.ExampleProofs.{EachFrom, each}
+use Rattle.aj_core.proofs.ExampleProofs.{EachFrom, each, counter_alone}
 use Rattle.aj_rules.specs.Guards.{guard_of, guard_path}
 use Rattle.aj_rules.specs.Mentions.{Mention, Accesses, Calls, Locks, Names, mentions, paths_of}
-use Rattle.aj_rules.specs.Near.{Mentions, Requires, Near, required, locked, guarded, called, named, IsRel, IsLoc, ArePathsOf, rel_of, loc_of}
+use Rattle.aj_rules.specs.Near.{Mentions, Requires, Near, required, locked, guarded, called, overriding, named, IsRel, IsLoc, ArePathsOf, rel_of, loc_of}
 use Rattle.aj_rules.specs.Effect.{effect}
-use Rattle.aj_rules.specs.Rules.{AtMost, IsFalling, IsClosed, HoldsBound, IsAccepted}
+use Rattle.aj_rules.specs.Rules.{AtMost, IsFalling, AreBodiesBelow, HoldsBound, IsAccepted}
 use Rattle.aj_rules.specs.Examples.{counter_paths, counter_levels, cell_path}
 use Rattle.aj_rules.proofs.BasicLemmas.{below_itself}
 use Rattle.aj_rules.proofs.EffectExamples.{inc_at, run_at}
@@ -101,6 +101,7 @@ near_allowed m p (called e callee args q has near outer under) = on_mentions Cal
     ((λ a c b r s is h k. absurd cc), ((λ a c b r s is h k. absurd cc), ((λ a c b r s is h k. absurd cc), tt)))
     (run_call, ((λ a c b r s is h k. absurd cc), tt))
     ((λ a c b r s is h k. absurd cc), tt) m _ has e callee args q p refl (near_allowed callee q near) under
+near_allowed m p (overriding over o near outer known) = absurd (counter_alone over m o)
 near_allowed m p (named q e start near has path fits) = on_mentions NamesAllowed
     ((λ y a r s is h. absurd cc), ((λ y a r s is h. absurd cc), ((λ y a r s is h. absurd cc), tt)))
     ((λ y a r s is h. absurd cc), ((λ y a r s is h. absurd cc), tt))
@@ -193,7 +194,7 @@ levels_fall zero H K within part = level_falls (H this_path) (K this_path) (part
 levels_fall (suc zero) H K within part = level_falls (H cell_path) (K cell_path) (part cell_path)
 levels_fall (suc (suc m)) H K within part = refl
 
-levels_close : IsClosed counter (rel_of counter_paths) counter_levels
+levels_close : AreBodiesBelow counter (rel_of counter_paths) counter_levels
 levels_close m method is H within locks =
     each (λ n (method : Method). AtMost (effect counter (rel_of counter_paths) counter_levels method.body H) (counter_levels n H)) counter.methods (
       subst (λ b. AtMost b (counter_levels 0 H)) (sym (inc_at (H this_path))) (below_itself _),
@@ -207,5 +208,5 @@ counter_accepted = record {
   relevant = record { count = refl; each = each (ArePathsOf counter) counter_paths counter_paths_are };
   few = record { rel = few_rel; loc = few_loc };
   assignment = counter_levels;
-  admissible = record { falling = levels_fall; closed = levels_close; bounds = each (HoldsBound counter_levels) counter.methods (refl, (refl, (refl, tt))) };
+  admissible = record { falling = levels_fall; closed = record { bodies = levels_close; overrides = λ m over method is o. absurd (counter_alone over m o) }; bounds = each (HoldsBound counter_levels) counter.methods (refl, (refl, (refl, tt))) };
 }

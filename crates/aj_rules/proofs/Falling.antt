@@ -95,4 +95,4 @@ module _ (P : Program) (rel : ℕ → List PathData) (A : Assignment) (falling :
 pub closed_above : (P : Program) (rel : ℕ → List PathData) (A : Assignment) → IsFalling rel A → IsClosed P rel A → (m : ℕ) (method : Method) → slice_get P.methods m ≡ Some method → (H K : Held)
     → IsPart H (has_path (rel m)) → IsPart (has_path method.requires_) H → IsPart H K → AtMost (effect P rel A method.body K) (A m H)
 closed_above P rel A falling closed m method is H K part required larger =
-    below_chain (effect P rel A method.body K) (effect P rel A method.body H) (A m H) (stmt_falls P rel A falling method.body H K larger) (closed m method is H part required)
+    below_chain (effect P rel A method.body K) (effect P rel A method.body H) (A m H) (stmt_falls P rel A falling method.body H K larger) (closed.bodies m method is H part required)

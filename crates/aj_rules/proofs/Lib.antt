@@ -10,5 +10,7 @@ pub mod ClauseLemmas
 pub mod Reaching
 pub mod PathLists
 pub mod SearchLemmas
+pub mod OverridingLemmas
 pub mod LimitLemmas
 pub mod UniqueSets
+pub mod Required

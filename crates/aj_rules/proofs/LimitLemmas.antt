@@ -16,7 +16,7 @@ use Rattle.aj_paths.proofs.PathOrder.{equal_is, eq_is, eq_itself, greater_turned
 use Rattle.aj_algebra.specs.HeldPaths.{has_path}
 use Rattle.aj_core.specs.Core.{Program, Method}
 use Rattle.aj_rules.specs.Near.{Near, IsOuter, IsInner, IsRel, IsLoc, MethodPaths, ArePathsOf, AreRelevant, AreFew, IsWellFormed, rel_of, loc_of, rel_paths, loc_paths, most_locks}
-use Rattle.aj_rules.specs.Clauses.{clauses_from}
+use Rattle.aj_rules.specs.Clauses.{program_clauses}
 use Rattle.aj_rules.specs.Search.{row_at, IsLeastFamily}
 use Rattle.aj_rules.specs.Limits.{AreMany, IsCrowded, HasFew, IsFirstCrowded, is_crowded, parted, parted_from}
 use Rattle.aj_core.specs.declared.program.CoreMethod.{CoreMethod}
@@ -77,7 +77,7 @@ parted_at near m (method ∷ methods) (suc k) paths at =
     let h = parted_at near (m + 1) methods k paths at in
     (h.0, h.1, h.2 ∙ ap (λ n. parted (length h.0.params) (row_at near n)) e)
 
-module _ (P : Program) (near : List (List PathData)) (least : IsLeastFamily (clauses_from P 0 P.methods) near) where
+module _ (P : Program) (near : List (List PathData)) (least : IsLeastFamily P (program_clauses P) near) where
   near_is : (m : ℕ) (p : PathData) → (has_path (row_at near m) p ≡ true) ↔ Near P m p
   near_is m p = (λ h. near_from_reached P m p ((least.exact m p).0 h), λ n. (least.exact m p).1 (reached_from_near P m p n))
 
@@ -231,8 +231,8 @@ first_is P m n first second = elim (nat_lt m n) as (λ b. nat_lt m n ≡ b → m
 
 -- In memory.
 
-pub sets_ok : {E : Type 0} (r : Result (List MethodPaths) E) (P : Program) (clauses read : List Clause) (near seen : List (List PathData)) → read ≡ clauses → clauses ≡ clauses_from P 0 P.methods → IsLeastFamily read near → seen ≡ near → IfOk r (λ sets. sets ≡ parted_from seen 0 P.methods) → IfOk r (λ sets. AreRelevant P sets)
-sets_ok (Ok sets) P clauses read near seen same is least also h = relevant_sets P near (subst (λ cs. IsLeastFamily cs near) (same ∙ is) least) sets (h ∙ ap (λ n. parted_from n 0 P.methods) also)
+pub sets_ok : {E : Type 0} (r : Result (List MethodPaths) E) (P : Program) (clauses read : List Clause) (near seen : List (List PathData)) → read ≡ clauses → clauses ≡ program_clauses P → IsLeastFamily P read near → seen ≡ near → IfOk r (λ sets. sets ≡ parted_from seen 0 P.methods) → IfOk r (λ sets. AreRelevant P sets)
+sets_ok (Ok sets) P clauses read near seen same is least also h = relevant_sets P near (subst (λ cs. IsLeastFamily P cs near) (same ∙ is) least) sets (h ∙ ap (λ n. parted_from n 0 P.methods) also)
 sets_ok (Err e) P clauses read near seen same is least also h = tt
 
 abbrev view_of : PathsOfMethod → MethodPaths

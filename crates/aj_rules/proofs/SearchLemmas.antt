@@ -5,15 +5,16 @@ use Rattle.std.proofs.lemmas.Bool.Decides.{nat_tests}
 use Rattle.std.specs.List.Sorted.{IsStrictlySortedBy}
 use Rattle.std.proofs.lemmas.List.Elements.{Contains-append_left, Contains-append_right, Contains-append_cases}
 use Rattle.std.proofs.lemmas.Option.{slice_get-get_or, same_Some}
-use Rattle.aj_paths.specs.Paths.{PathData, path_order, path_eq, extended}
+use Rattle.aj_paths.specs.Paths.{PathData, path_order, path_eq}
+use Rattle.aj_core.specs.Core.{Program}
 use Rattle.aj_paths.proofs.PathOrder.{eq_is, eq_itself}
 use Rattle.aj_algebra.specs.HeldPaths.{has_path}
 use Rattle.aj_rules.specs.declared.clauses.Place.{Place}
 use Rattle.aj_rules.specs.declared.clauses.Link.{Link}
 use Rattle.aj_rules.specs.declared.clauses.Clause.{Clause}
 use Rattle.aj_rules.specs.declared.clauses.Clause.TheVariants as clause
-use Rattle.aj_rules.specs.Clauses.{Reached, given, led}
-use Rattle.aj_rules.specs.Search.{row_at, rows_of, with_link, LeadsTo, led_path, IsLed, AreLinks, Agree, Grows, HasFacts, HasDone, IsLeastFamily}
+use Rattle.aj_rules.specs.Clauses.{led_by, Reached, given, led}
+use Rattle.aj_rules.specs.Search.{row_at, rows_of, with_link, LeadsTo, IsLed, AreLinks, Agree, Grows, HasFacts, HasDone, IsLeastFamily}
 use Rattle.aj_rules.proofs.Reaching.{contains_none, contains_one, contains_here}
 use Rattle.aj_rules.proofs.PathLists.{row_is, row_set_same, row_set_other}
 use Rattle.aj_rules.proofs.ClauseLemmas.{on_ok}
@@ -124,13 +125,13 @@ grows_two near new queue longer longest N M L left right split g h = record {
 }
 
 -- the links before a place and the one there
-pub led_more : (near new : List (List PathData)) (queue longer longest : List Place) (links front : List Link) (link : Link) (place : Place) → front ≡ links ++ link ∷ [] → Grows queue (IsLed links place) near longer → Grows longer (LeadsTo link place) new longest → Grows queue (IsLed front place) new longest
-led_more near new queue longer longest links front link place is g h = grows_two near new queue longer longest (IsLed links place) (LeadsTo link place) (IsLed front place)
+pub led_more : (P : Program) (near new : List (List PathData)) (queue longer longest : List Place) (links front : List Link) (link : Link) (place : Place) → front ≡ links ++ link ∷ [] → Grows queue (IsLed P links place) near longer → Grows longer (LeadsTo P link place) new longest → Grows queue (IsLed P front place) new longest
+led_more P near new queue longer longest links front link place is g h = grows_two near new queue longer longest (IsLed P links place) (LeadsTo P link place) (IsLed P front place)
     (λ x n. (n.0, subst (λ l. Contains l n.0) (sym is) (Contains-append_left links (link ∷ []) n.0 n.1), n.2))
     (λ x m. (link, subst (λ l. Contains l link) (sym is) (Contains-append_right links (link ∷ []) link (contains_here link [])), m))
-    (λ x l. elim (Contains-append_cases links (link ∷ []) l.0 (subst (λ c. Contains c l.0) is l.1)) as (λ _. IsLed links place x ⊎ LeadsTo link place x) [
+    (λ x l. elim (Contains-append_cases links (link ∷ []) l.0 (subst (λ c. Contains c l.0) is l.1)) as (λ _. IsLed P links place x ⊎ LeadsTo P link place x) [
       | inl old ↦ inl (l.0, old, l.2)
-      | inr one ↦ inr (subst (λ k. LeadsTo k place x) (sym (contains_one link l.0 one)) l.2)
+      | inr one ↦ inr (subst (λ k. LeadsTo P k place x) (sym (contains_one link l.0 one)) l.2)
     ])
     g h
 
@@ -271,36 +272,36 @@ get_append [] ys k x below is = absurd (omega arith)
 get_append (y ∷ xs) ys zero x below is = is
 get_append (y ∷ xs) ys (suc k) x below is = get_append xs ys k x (omega arith) is
 
-pub done_none : (cs : List Clause) (links : List (List Link)) (near : List (List PathData)) (queue : List Place) → HasFacts cs near queue → HasDone cs links 0 near queue
-done_none cs links near queue f = record {
+pub done_none : (P : Program) (cs : List Clause) (links : List (List Link)) (near : List (List PathData)) (queue : List Place) → HasFacts cs near queue → HasDone P cs links 0 near queue
+done_none P cs links near queue f = record {
   agree = f.agree;
   starts = λ x h. (f.facts x).1 h;
   sound = λ x h. given ((f.facts x).0 h);
   done = λ k x y below at leads. absurd (omega arith);
 }
 
-module _ (cs : List Clause) (links : List (List Link)) (next : ℕ) (near new : List (List PathData)) (queue longer : List Place) (place : Place) (a : AreLinks cs links) (d : HasDone cs links next near queue) (below : next < length queue) (at : slice_get queue next ≡ Some place) (g : Grows queue (IsLed (row_at links place.method) place) new longer) where
+module _ (P : Program) (cs : List Clause) (links : List (List Link)) (next : ℕ) (near new : List (List PathData)) (queue longer : List Place) (place : Place) (a : AreLinks cs links) (d : HasDone P cs links next near queue) (below : next < length queue) (at : slice_get queue next ≡ Some place) (g : Grows queue (IsLed P (row_at links place.method) place) new longer) where
   still : (x : Place) → Contains queue x → Contains longer x
   still x h = subst (λ q. Contains q x) (sym g.is) (Contains-append_left queue g.added x h)
 
-  reach : (x : Place) → IsLed (row_at links place.method) place x → Reached cs x.method x.path
+  reach : (x : Place) → IsLed P (row_at links place.method) place x → Reached P cs x.method x.path
   reach x l =
       let k = (a.exact place.method l.0).0 l.1 in
-      subst (λ m. Reached cs m x.path) (sym l.2.method)
-      (led l.0 place.path (subst (λ m. Reached cs m place.path) (sym k.1) (d.sound place (get_in queue next place at))) k.0 l.2.root l.2.path)
+      subst (λ m. Reached P cs m x.path) (sym l.2.method)
+      (led l.0 place.path (subst (λ m. Reached P cs m place.path) (sym k.1) (d.sound place (get_in queue next place at))) k.0 l.2.path)
 
-  step : (k : ℕ) (x y : Place) (b : Bool) → nat_lt k next ≡ b → k < next + 1 → slice_get queue k ≡ Some x → IsLed (row_at links x.method) x y → Contains longer y
+  step : (k : ℕ) (x y : Place) (b : Bool) → nat_lt k next ≡ b → k < next + 1 → slice_get queue k ≡ Some x → IsLed P (row_at links x.method) x y → Contains longer y
   step k x y true e under get leads = still y (d.done k x y (grind (arith, nat_tests)) get leads)
   step k x y false e under get leads =
       let same : k ≡ next = grind (arith, nat_tests) in
       let is_place : x ≡ place = same_Some x place (sym get ∙ ap (slice_get queue) same ∙ at) in
-      g.each y (subst (λ p. IsLed (row_at links p.method) p y) is_place leads)
+      g.each y (subst (λ p. IsLed P (row_at links p.method) p y) is_place leads)
 
-  pub done_more : HasDone cs links (next + 1) new longer
+  pub done_more : HasDone P cs links (next + 1) new longer
   done_more = record {
     agree = g.agree;
     starts = λ x h. still x (d.starts x h);
-    sound = λ x h. elim (Contains-append_cases queue g.added x (subst (λ q. Contains q x) g.is h)) as (λ _. Reached cs x.method x.path) [
+    sound = λ x h. elim (Contains-append_cases queue g.added x (subst (λ q. Contains q x) g.is h)) as (λ _. Reached P cs x.method x.path) [
       | inl old ↦ d.sound x old
       | inr added ↦ reach x (g.only x added)
     ];
@@ -312,20 +313,20 @@ module _ (cs : List Clause) (links : List (List Link)) (next : ℕ) (near new : 
 at_place : {A : Type 0} (xs : List A) (x : A) → Contains xs x → (k : ℕ) × (k < length xs) × (slice_get xs k ≡ Some x)
 at_place xs x (k, below, is) = (k, below, slice_get-get_or xs k x below ∙ ap Some is)
 
-pub reached_all : (cs : List Clause) (links : List (List Link)) (next : ℕ) (near : List (List PathData)) (queue : List Place) → AreLinks cs links → HasDone cs links next near queue → length queue ≤ next → (m : ℕ) (p : PathData) → Reached cs m p → Contains queue (record { method = m; path = p })
-reached_all cs links next near queue a d all m p (given has) = d.starts (record { method = m; path = p }) has
-reached_all cs links next near queue a d all m p (led link q reached has rooted fits) =
+pub reached_all : (P : Program) (cs : List Clause) (links : List (List Link)) (next : ℕ) (near : List (List PathData)) (queue : List Place) → AreLinks cs links → HasDone P cs links next near queue → length queue ≤ next → (m : ℕ) (p : PathData) → Reached P cs m p → Contains queue (record { method = m; path = p })
+reached_all P cs links next near queue a d all m p (given has) = d.starts (record { method = m; path = p }) has
+reached_all P cs links next near queue a d all m p (led link q reached has fits) =
     let from : Place = record { method = link.from; path = q } in
-    let at = at_place queue from (reached_all cs links next near queue a d all link.from q reached) in
+    let at = at_place queue from (reached_all P cs links next near queue a d all link.from q reached) in
     d.done at.0 from (record { method = link.to; path = p }) (omega (arith, at.1)) at.2
-    (link, (a.exact link.from link).1 (has, refl), record { root = rooted; path = fits; method = refl })
+    (link, (a.exact link.from link).1 (has, refl), record { path = fits; method = refl })
 
-pub least_family : (cs : List Clause) (links : List (List Link)) (next : ℕ) (near : List (List PathData)) (queue : List Place) → AreLinks cs links → HasDone cs links next near queue → length queue ≤ next → IsLeastFamily cs near
-least_family cs links next near queue a d all = record {
+pub least_family : (P : Program) (cs : List Clause) (links : List (List Link)) (next : ℕ) (near : List (List PathData)) (queue : List Place) → AreLinks cs links → HasDone P cs links next near queue → length queue ≤ next → IsLeastFamily P cs near
+least_family P cs links next near queue a d all = record {
   ascends = d.agree.ascends;
   exact = λ m p. (
     λ h. d.sound (record { method = m; path = p }) ((d.agree.same m p).0 h),
-    λ r. (d.agree.same m p).1 (reached_all cs links next near queue a d all m p r),
+    λ r. (d.agree.same m p).1 (reached_all P cs links next near queue a d all m p r),
   );
 }
 
@@ -365,12 +366,12 @@ module _ (rows grown : List (Vec PathData Global)) (had row : Vec PathData Globa
   put_known is_new fresh old = grows_known (rows_of rows) (rows_of (set grown i row)) queue queue place agree ascends_now paths_now others_now
       (ap (λ l. has_path l place.path) (sym (had_is rows grown had i place.method is long same at)) ∙ not-false (has_path had.items place.path) (sym fresh ∙ old)) refl
 
-pub links_row : (rows grown : List (Vec Link Global)) (had row : Vec Link Global) (i from : ℕ) (link : Link) → i ≡ from → i + 1 ≤ length grown → ((n : ℕ) → row_at (rows_of grown) n ≡ row_at (rows_of rows) n) → had ≡ get_or grown i had → row.items ≡ had.items ++ link ∷ [] → (m : ℕ) → row_at (rows_of (set grown i row)) m ≡ (if m == from then row_at (rows_of rows) m ++ link ∷ [] else row_at (rows_of rows) m)
-links_row rows grown had row i from link is long same at pushed m = elim (m == from) as (λ b. (m == from) ≡ b → row_at (rows_of (set grown i row)) m ≡ (if b then row_at (rows_of rows) m ++ link ∷ [] else row_at (rows_of rows) m)) [
+pub item_row : {A : Type 0} (rows grown : List (Vec A Global)) (had row : Vec A Global) (i from : ℕ) (item : A) → i ≡ from → i + 1 ≤ length grown → ((n : ℕ) → row_at (rows_of grown) n ≡ row_at (rows_of rows) n) → had ≡ get_or grown i had → row.items ≡ had.items ++ item ∷ [] → (m : ℕ) → row_at (rows_of (set grown i row)) m ≡ (if m == from then row_at (rows_of rows) m ++ item ∷ [] else row_at (rows_of rows) m)
+item_row rows grown had row i from item is long same at pushed m = elim (m == from) as (λ b. (m == from) ≡ b → row_at (rows_of (set grown i row)) m ≡ (if b then row_at (rows_of rows) m ++ item ∷ [] else row_at (rows_of rows) m)) [
   | true ↦ λ e.
       let k : i ≡ m = is ∙ sym (grind (arith, nat_tests)) in
-      subst (λ n. row_at (rows_of (set grown i row)) n ≡ row_at (rows_of rows) n ++ link ∷ []) k
-      (row_set_same grown i row (omega arith) ∙ pushed ∙ ap (λ l. l ++ link ∷ []) (ap (λ v. v.items) at ∙ sym (row_is grown i had (omega arith)) ∙ same i))
+      subst (λ n. row_at (rows_of (set grown i row)) n ≡ row_at (rows_of rows) n ++ item ∷ []) k
+      (row_set_same grown i row (omega arith) ∙ pushed ∙ ap (λ l. l ++ item ∷ []) (ap (λ v. v.items) at ∙ sym (row_is grown i had (omega arith)) ∙ same i))
   | false ↦ λ e. row_set_other grown i m row (λ k. grind (arith, nat_tests)) ∙ same m
 ] refl
 
@@ -382,31 +383,23 @@ read_at xs i read copied below at copy = slice_get-get_or xs i read below ∙ ap
 none_some : (p : PathData) → None ≡ Some p → ⊥
 none_some p e = absurd cc
 
-led_from : (link : Link) (place : Place) (p : PathData) (b : Bool) → (place.path.root == link.root) ≡ b → (if b then extended link.start place.path.fields else None) ≡ Some p → LeadsTo link place (record { method = link.to; path = p })
-led_from link place p true e is = record { root = grind (arith, nat_tests); path = is; method = refl }
-led_from link place p false e is = absurd (none_some p is)
-
-led_to : (link : Link) (place x : Place) (b : Bool) → (place.path.root == link.root) ≡ b → LeadsTo link place x → (if b then extended link.start place.path.fields else None) ≡ Some x.path
-led_to link place x true e l = l.path
-led_to link place x false e l = absurd (let k = l.root in grind (arith, nat_tests))
-
-pub follow_some : {A E : Type 0} (r : Result A E) (link : Link) (place : Place) (p : PathData) (near : List (List PathData)) (queue longer : List Place) → led_path link place ≡ Some p → OnOk r (Grows queue (λ x. x ≡ record { method = link.to; path = p }) near longer) → OnOk r (Grows queue (LeadsTo link place) near longer)
-follow_some r link place p near queue longer is h = on_ok r (λ g. grows_same near queue longer (λ x. x ≡ record { method = link.to; path = p }) (LeadsTo link place)
-    (λ x e. subst (LeadsTo link place) (sym e) (led_from link place p _ refl is))
+pub follow_some : {A E : Type 0} (P : Program) (r : Result A E) (link : Link) (place : Place) (p : PathData) (near : List (List PathData)) (queue longer : List Place) → led_by P link.way place.path ≡ Some p → OnOk r (Grows queue (λ x. x ≡ record { method = link.to; path = p }) near longer) → OnOk r (Grows queue (LeadsTo P link place) near longer)
+follow_some P r link place p near queue longer is h = on_ok r (λ g. grows_same near queue longer (λ x. x ≡ record { method = link.to; path = p }) (LeadsTo P link place)
+    (λ x e. subst (LeadsTo P link place) (sym e) (record { path = is; method = refl }))
     (λ x l.
-    let e : x.path ≡ p = same_Some x.path p (sym (led_to link place x _ refl l) ∙ is) in
+    let e : x.path ≡ p = same_Some x.path p (sym l.path ∙ is) in
     let m : x.method ≡ link.to = l.method in
     λ i. record { method = m i; path = e i })
     g) h
 
-pub follow_none : (link : Link) (place : Place) (near : List (List PathData)) (queue : List Place) → led_path link place ≡ None → Agree near queue → Grows queue (LeadsTo link place) near queue
-follow_none link place near queue is agree = grows_none near queue (LeadsTo link place) agree (λ x l. none_some x.path (sym is ∙ led_to link place x _ refl l))
+pub follow_none : (P : Program) (link : Link) (place : Place) (near : List (List PathData)) (queue : List Place) → led_by P link.way place.path ≡ None → Agree near queue → Grows queue (LeadsTo P link place) near queue
+follow_none P link place near queue is agree = grows_none near queue (LeadsTo P link place) agree (λ x l. none_some x.path (sym is ∙ l.path))
 
-pub led_none : (place : Place) (near : List (List PathData)) (queue : List Place) → Agree near queue → Grows queue (IsLed [] place) near queue
-led_none place near queue agree = grows_none near queue (IsLed [] place) agree (λ x l. contains_none l.0 l.1)
+pub led_none : (P : Program) (place : Place) (near : List (List PathData)) (queue : List Place) → Agree near queue → Grows queue (IsLed P [] place) near queue
+led_none P place near queue agree = grows_none near queue (IsLed P [] place) agree (λ x l. contains_none l.0 l.1)
 
-pub led_next : (near new : List (List PathData)) (queue longer longest : List Place) (links : List Link) (i : ℕ) (link : Link) (place : Place) → i < length links → link ≡ get_or links i link → Grows queue (IsLed (take i links) place) near longer → Grows longer (LeadsTo link place) new longest → Grows queue (IsLed (take (i + 1) links) place) new longest
-led_next near new queue longer longest links i link place below is g h = led_more near new queue longer longest (take i links) (take (i + 1) links) link place (take_more links i link below ∙ ap (λ x. take i links ++ x ∷ []) (sym is)) g h
+pub led_next : (P : Program) (near new : List (List PathData)) (queue longer longest : List Place) (links : List Link) (i : ℕ) (link : Link) (place : Place) → i < length links → link ≡ get_or links i link → Grows queue (IsLed P (take i links) place) near longer → Grows longer (LeadsTo P link place) new longest → Grows queue (IsLed P (take (i + 1) links) place) new longest
+led_next P near new queue longer longest links i link place below is g h = led_more P near new queue longer longest (take i links) (take (i + 1) links) link place (take_more links i link below ∙ ap (λ x. take i links ++ x ∷ []) (sym is)) g h
 
-pub led_whole : (near : List (List PathData)) (queue longer : List Place) (links : List Link) (i : ℕ) (place : Place) → length links ≤ i → Grows queue (IsLed (take i links) place) near longer → Grows queue (IsLed links place) near longer
-led_whole near queue longer links i place all g = subst (λ l. Grows queue (IsLed l place) near longer) (take_all links i all) g
+pub led_whole : (P : Program) (near : List (List PathData)) (queue longer : List Place) (links : List Link) (i : ℕ) (place : Place) → length links ≤ i → Grows queue (IsLed P (take i links) place) near longer → Grows queue (IsLed P links place) near longer
+led_whole P near queue longer links i place all g = subst (λ l. Grows queue (IsLed P l place) near longer) (take_all links i all) g

@@ -1,10 +1,14 @@
 -- The rules of the family of near paths, as the bodies of a program have them: facts, and links from one method's paths to another's.
-use Rattle.std.specs.Prelude.{◌≡◌, ℕ, ◌+◌, List, [], ◌∷◌, ◌++◌, map, length, nat_le, Option, Some, None, Contains, slice_get, if◌then◌else◌}
+use Rattle.std.specs.Prelude.{◌≡◌, ℕ, ◌+◌, Bool, true, false, not, ◌&&◌, ◌==◌, List, [], ◌∷◌, ◌++◌, map, length, nat_le, Option, Some, None, Contains, slice_get, if◌then◌else◌}
 use Rattle.aj_paths.specs.Paths.{PathData, extended}
-use Rattle.aj_core.specs.Core.{Program, Method}
+use Rattle.aj_core.specs.Core.{Program, Class, Method}
+use Rattle.aj_core.specs.Dispatch.{target_of}
 use Rattle.aj_core.specs.Locks.{path_of}
 use Rattle.aj_rules.specs.Guards.{guard_of, guard_path}
+use Rattle.aj_rules.specs.Near.{begins_in}
 use Rattle.aj_rules.specs.Mentions.{Mention, Accesses, Calls, Locks, Names, mentions, paths_of}
+use Rattle.aj_rules.specs.declared.clauses.Way.{Way}
+use Rattle.aj_rules.specs.declared.clauses.Way.TheVariants as way
 use Rattle.aj_rules.specs.declared.clauses.Link.{Link}
 use Rattle.aj_rules.specs.declared.clauses.Clause.{Clause}
 use Rattle.aj_rules.specs.declared.clauses.Clause.TheVariants as clause
@@ -16,7 +20,7 @@ fact m p = clause.Fact (record { method = m; path = p })
 -- in the method `to` this path, where there is one, is what the slot of the method `from` stands for
 abbrev pub link_clauses : (from root to : ℕ) → Option PathData → List Clause
 link_clauses from root to None = []
-link_clauses from root to (Some start) = clause.Leads (record { from = from; root = root; to = to; start = start }) ∷ []
+link_clauses from root to (Some start) = clause.Leads (record { from = from; to = to; way = way.Passed root start }) ∷ []
 
 -- the same of a slot that is `this` or a parameter of a method with so many parameters
 abbrev pub passed_clauses : (params from root to : ℕ) → Option PathData → List Clause
@@ -62,7 +66,51 @@ abbrev pub clauses_from : Program → ℕ → List Method → List Clause
 clauses_from P m [] = []
 clauses_from P m (method ∷ methods) = method_clauses P m method ++ clauses_from P (m + 1) methods
 
+-- the class of a method, where it is there
+abbrev pub class_of : Option Method → Option ℕ
+class_of None = None
+class_of (Some m) = Some m.class
+
+-- a number is this one, where it is there
+abbrev pub is_number : Option ℕ → ℕ → Bool
+is_number None n = false
+is_number (Some k) n = k == n
+
+-- this pair of a class has a method of the class itself, which overrides the other
+abbrev pub is_over : Program → ℕ → ℕ × ℕ → Bool
+is_over P c p = not (p.1 == p.0) && (is_number (class_of (slice_get P.methods p.1)) c && is_number (target_of P c p.0) p.1)
+
+-- what an overriding method with so many parameters tells a method of a class, where both are there
+abbrev pub kept_clauses : (over m : ℕ) → Option ℕ → Option ℕ → List Clause
+kept_clauses over m None class = []
+kept_clauses over m (Some params) None = []
+kept_clauses over m (Some params) (Some class) = clause.Leads (record { from = over; to = m; way = way.Kept params class }) ∷ []
+
+-- the clause of a pair, where its method overrides
+abbrev pub pair_clauses : Program → ℕ → ℕ × ℕ → List Clause
+pair_clauses P c p =
+    if is_over P c p then kept_clauses p.1 p.0 (params_of (slice_get P.methods p.1)) (class_of (slice_get P.methods p.0)) else []
+
+-- the clauses of a class's pairs
+abbrev pub pairs_clauses : Program → ℕ → List (ℕ × ℕ) → List Clause
+pairs_clauses P c [] = []
+pairs_clauses P c (p ∷ rest) = pair_clauses P c p ++ pairs_clauses P c rest
+
+-- the clauses of overriding methods, of classes that are numbered from here on
+abbrev pub over_clauses : Program → ℕ → List Class → List Clause
+over_clauses P c [] = []
+over_clauses P c (class ∷ classes) = pairs_clauses P c class.targets ++ over_clauses P (c + 1) classes
+
+-- all clauses of a program
+abbrev pub program_clauses : Program → List Clause
+program_clauses P = clauses_from P 0 P.methods ++ over_clauses P 0 P.classes
+
+-- the path that one becomes on a way, where it becomes one
+abbrev pub led_by : Program → Way → PathData → Option PathData
+led_by P (way.Passed root start) p = if p.root == root then extended start p.fields else None
+led_by P (way.Kept params class) p = if nat_le p.root params && begins_in P class p.root p.fields then Some p else None
+
 -- the least family that meets these clauses
-pub data Reached (clauses : List Clause) : ℕ → PathData → Type 0 where
-  given : {m : ℕ} {p : PathData} → Contains clauses (fact m p) → Reached clauses m p
-  led : {p : PathData} (link : Link) (q : PathData) → Reached clauses link.from q → Contains clauses (clause.Leads link) → q.root ≡ link.root → extended link.start q.fields ≡ Some p → Reached clauses link.to p
+pub data Reached (P : Program) (clauses : List Clause) : ℕ → PathData → Type 0 where
+  given : {m : ℕ} {p : PathData} → Contains clauses (fact m p) → Reached P clauses m p
+  led : {p : PathData} (link : Link) (q : PathData) → Reached P clauses link.from q → Contains clauses (clause.Leads link) → led_by P link.way q ≡ Some p → Reached P clauses link.to p

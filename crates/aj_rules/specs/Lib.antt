@@ -8,4 +8,5 @@ pub mod Rules
 pub mod Examples
 pub mod Clauses
 pub mod Search
+pub mod Overriding
 pub mod Limits

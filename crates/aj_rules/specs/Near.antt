@@ -1,10 +1,11 @@
 -- Relevant paths: the locks that matter for a method, as a least family over all methods.
-use Rattle.std.specs.Prelude.{◌≡◌, ◌↔◌, ℕ, ◌<◌, ◌≤◌, true, List, [], length, Option, Some, None, Contains, slice_get}
+use Rattle.std.specs.Prelude.{◌≡◌, ◌↔◌, ℕ, zero, suc, ◌<◌, ◌≤◌, Bool, true, List, [], ◌∷◌, length, Option, Some, None, Contains, slice_get}
 use Rattle.std.specs.List.Sorted.{IsStrictlySortedBy}
 use Rattle.aj_paths.specs.Paths.{PathData, path_order, extended}
 use Rattle.aj_paths.specs.Renamings.{under_call}
 use Rattle.aj_algebra.specs.HeldPaths.{has_path}
 use Rattle.aj_core.specs.Core.{Program, Method, Expr, Exprs}
+use Rattle.aj_core.specs.Dispatch.{has_field, Overrides}
 use Rattle.aj_core.specs.Locks.{path_of}
 use Rattle.aj_rules.specs.Guards.{guard_of, guard_path}
 use Rattle.aj_rules.specs.Mentions.{Mention, Accesses, Calls, Locks, Names, mentions, paths_of}
@@ -25,6 +26,16 @@ IsOuter P m p = (method : Method) × (slice_get P.methods m ≡ Some method) × 
 abbrev pub IsInner : Program → ℕ → PathData → Type 0
 IsInner P m p = (method : Method) × (slice_get P.methods m ≡ Some method) × (length method.params < p.root)
 
+-- a path of `this` begins with a field that the class has; other paths may begin with any
+abbrev pub begins_in : Program → ℕ → ℕ → List ℕ → Bool
+begins_in P class (suc x) fields = true
+begins_in P class zero [] = true
+begins_in P class zero (f ∷ fs) = has_field P class f
+
+-- the method knows the first field of the path
+abbrev pub IsKnown : Program → ℕ → PathData → Type 0
+IsKnown P m p = (method : Method) × (slice_get P.methods m ≡ Some method) × (begins_in P method.class p.root p.fields ≡ true)
+
 module _ (P : Program) where
   -- the paths near a method: the least family with these
   pub data Near : ℕ → PathData → Type 0 where
@@ -36,6 +47,8 @@ module _ (P : Program) where
     guarded : {m : ℕ} {p : PathData} (e : Expr) (f : ℕ) → Mentions P m (Accesses e f) → guard_path (guard_of P f (path_of P e)) ≡ Some p → Near m p
     -- a callee's relevant path as it is called here, where that is defined
     called : {m : ℕ} {p : PathData} (e : Expr) (callee : ℕ) (args : Exprs) (q : PathData) → Mentions P m (Calls e callee args) → Near callee q → IsOuter P callee q → under_call (path_of P e) (paths_of P args) q ≡ Some p → Near m p
+    -- a relevant path of a method that overrides this one, where this one's class knows its first field
+    overriding : {m : ℕ} {p : PathData} (over : ℕ) → Overrides P over m → Near over p → IsOuter P over p → IsKnown P m p → Near m p
     -- what a path rooted at a final local is from the path of the local's value, where it has at most two fields
     named : {m : ℕ} {p : PathData} (q : PathData) (e : Expr) (start : PathData) → Near m q → Mentions P m (Names q.root e) → path_of P e ≡ Some start → extended start q.fields ≡ Some p → Near m p
 

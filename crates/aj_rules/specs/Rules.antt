@@ -1,11 +1,12 @@
 -- The rules of atomicity: assignments that are closed and keep every bound, and accepted programs.
-use Rattle.std.specs.Prelude.{◌≡◌, ℕ, Bool, true, List, Some, slice_get, if◌then◌else◌}
+use Rattle.std.specs.Prelude.{◌≡◌, ℕ, Bool, true, ◌&&◌, List, Some, slice_get, if◌then◌else◌}
 use Rattle.aj_paths.specs.Paths.{PathData}
 use Rattle.aj_algebra.specs.declared.basic.Basic.{Basic}
 use Rattle.aj_algebra.specs.declared.basic.Basic.TheVariants.{Atomic, Cmpd}
 use Rattle.aj_algebra.specs.Basics.{below_of}
 use Rattle.aj_algebra.specs.HeldPaths.{Held, has_path}
 use Rattle.aj_core.specs.Core.{Program, Method}
+use Rattle.aj_core.specs.Dispatch.{Overrides}
 use Rattle.aj_rules.specs.Near.{MethodPaths, AreRelevant, AreFew, rel_of}
 use Rattle.aj_rules.specs.Effect.{Assignment, effect}
 
@@ -22,9 +23,23 @@ abbrev pub IsFalling : (rel : ℕ → List PathData) → Assignment → Type 0
 IsFalling rel A = (m : ℕ) (H K : Held) → IsPart K (has_path (rel m)) → IsPart H K → AtMost (A m K) (A m H)
 
 -- at each part of a method's relevant paths that has its required paths, the effect of its body is at most what is assigned
-abbrev pub IsClosed : Program → (rel : ℕ → List PathData) → Assignment → Type 0
-IsClosed P rel A = (m : ℕ) (method : Method) → slice_get P.methods m ≡ Some method →
+abbrev pub AreBodiesBelow : Program → (rel : ℕ → List PathData) → Assignment → Type 0
+AreBodiesBelow P rel A = (m : ℕ) (method : Method) → slice_get P.methods m ≡ Some method →
     (H : Held) → IsPart H (has_path (rel m)) → IsPart (has_path method.requires_) H → AtMost (effect P rel A method.body H) (A m H)
+
+-- those of the held paths that are among these
+abbrev pub held_in : List PathData → Held → Held
+held_in rel H = λ q. has_path rel q && H q
+
+-- at each such part, what is assigned to a method that overrides this one, at those of the paths that are relevant to it, is at most what is assigned
+abbrev pub AreOverridesBelow : Program → (rel : ℕ → List PathData) → Assignment → Type 0
+AreOverridesBelow P rel A = (m over : ℕ) (method : Method) → slice_get P.methods m ≡ Some method → Overrides P over m →
+    (H : Held) → IsPart H (has_path (rel m)) → IsPart (has_path method.requires_) H → AtMost (A over (held_in (rel over) H)) (A m H)
+
+-- an assignment is closed: what a call of a method may come to, its body or that of an overriding method, is at most what is assigned to it
+pub record IsClosed (P : Program) (rel : ℕ → List PathData) (A : Assignment) : Type 0 where
+  pub bodies : AreBodiesBelow P rel A
+  pub overrides : AreOverridesBelow P rel A
 
 -- the greatest basic that a method may have at its required paths
 abbrev pub declared_bound : (annotated : Bool) → Basic

@@ -2,13 +2,14 @@
 use Rattle.std.specs.Prelude.{◌≡◌, ◌↔◌, ℕ, ◌<◌, true, ◌==◌, List, [], ◌∷◌, ◌++◌, map, Option, Some, None, if◌then◌else◌, Contains, Vec, slice_get}
 use Rattle.std.specs.List.Sorted.{IsStrictlySortedBy}
 use Rattle.std.specs.declared.alloc.Global.{Global}
-use Rattle.aj_paths.specs.Paths.{PathData, path_order, extended}
+use Rattle.aj_paths.specs.Paths.{PathData, path_order}
+use Rattle.aj_core.specs.Core.{Program}
 use Rattle.aj_algebra.specs.HeldPaths.{has_path}
 use Rattle.aj_rules.specs.declared.clauses.Place.{Place}
 use Rattle.aj_rules.specs.declared.clauses.Link.{Link}
 use Rattle.aj_rules.specs.declared.clauses.Clause.{Clause}
 use Rattle.aj_rules.specs.declared.clauses.Clause.TheVariants as clause
-use Rattle.aj_rules.specs.Clauses.{Reached}
+use Rattle.aj_rules.specs.Clauses.{led_by, Reached}
 
 abbrev pub row_or_none : {A : Type 0} → Option (List A) → List A
 row_or_none None = []
@@ -23,18 +24,13 @@ abbrev pub rows_of : {A : Type 0} → List (Vec A Global) → List (List A)
 rows_of rows = map (λ row. row.items) rows
 
 -- the link leads from the first place to the second
-pub record LeadsTo (link : Link) (from to : Place) : Type 0 where
-  pub root : from.path.root ≡ link.root
-  pub path : extended link.start from.path.fields ≡ Some to.path
+pub record LeadsTo (P : Program) (link : Link) (from to : Place) : Type 0 where
+  pub path : led_by P link.way from.path ≡ Some to.path
   pub method : to.method ≡ link.to
 
--- the path that a link leads to from a place, where it leads somewhere
-abbrev pub led_path : Link → Place → Option PathData
-led_path link place = if place.path.root == link.root then extended link.start place.path.fields else None
-
 -- one of the links leads from the first place to the second
-abbrev pub IsLed : List Link → Place → Place → Type 0
-IsLed links from to = (link : Link) × Contains links link × LeadsTo link from to
+abbrev pub IsLed : Program → List Link → Place → Place → Type 0
+IsLed P links from to = (link : Link) × Contains links link × LeadsTo P link from to
 
 -- the links of a method, and that of the clause if it is one of this method
 abbrev pub with_link : Clause → ℕ → List Link → List Link
@@ -64,13 +60,13 @@ pub record HasFacts (clauses : List Clause) (near : List (List PathData)) (queue
   pub facts : (x : Place) → Contains queue x ↔ Contains clauses (clause.Fact x)
 
 -- the queue has all facts and nothing that isn't reached, and what its first places lead to
-pub record HasDone (clauses : List Clause) (links : List (List Link)) (next : ℕ) (near : List (List PathData)) (queue : List Place) : Type 0 where
+pub record HasDone (P : Program) (clauses : List Clause) (links : List (List Link)) (next : ℕ) (near : List (List PathData)) (queue : List Place) : Type 0 where
   pub agree : Agree near queue
   pub starts : (x : Place) → Contains clauses (clause.Fact x) → Contains queue x
-  pub sound : (x : Place) → Contains queue x → Reached clauses x.method x.path
-  pub done : (k : ℕ) (x y : Place) → k < next → slice_get queue k ≡ Some x → IsLed (row_at links x.method) x y → Contains queue y
+  pub sound : (x : Place) → Contains queue x → Reached P clauses x.method x.path
+  pub done : (k : ℕ) (x y : Place) → k < next → slice_get queue k ≡ Some x → IsLed P (row_at links x.method) x y → Contains queue y
 
 -- the lists ascend, and have exactly the paths that are reached
-pub record IsLeastFamily (clauses : List Clause) (near : List (List PathData)) : Type 0 where
+pub record IsLeastFamily (P : Program) (clauses : List Clause) (near : List (List PathData)) : Type 0 where
   pub ascends : (m : ℕ) → IsStrictlySortedBy path_order (row_at near m)
-  pub exact : (m : ℕ) (p : PathData) → (has_path (row_at near m) p ≡ true) ↔ Reached clauses m p
+  pub exact : (m : ℕ) (p : PathData) → (has_path (row_at near m) p ≡ true) ↔ Reached P clauses m p

@@ -1,14 +1,16 @@
 //! The rules of the family of near paths, as the bodies of a program have them.
-ghost use Rattle.std.specs.Prelude.{◌≡◌, ◌≤◌, ◌^◌, ◌++◌, ◌∷◌, [], length, OnOk, IfOk, map, slice_get};
+ghost use Rattle.std.specs.Prelude.{◌≡◌, ◌≤◌, ◌^◌, ◌+◌, ◌++◌, ◌∷◌, [], length, OnOk, IfOk, map, slice_get};
 ghost use Rattle.aj_core.specs.Locks.{path_of};
 ghost use Rattle.aj_core.specs.Views.{program_of, method_of, expr_of, exprs_from, stmt_of, stmts_from};
 ghost use Rattle.aj_rules.specs.Mentions.{expr_mentions, exprs_mentions, mentions, block_mentions, paths_of};
 ghost use Rattle.aj_rules.specs.Guards.{guard_of, guard_path};
 ghost use Rattle.aj_rules.specs.Clauses.{link_clauses, passed_clauses, all_passed, params_of, call_clauses, guard_clauses, clauses_of, method_clauses, clauses_from, fact};
+ghost use Rattle.aj_rules.specs.Clauses.{class_of, is_number, is_over, kept_clauses, pair_clauses, pairs_clauses, over_clauses, program_clauses};
+ghost use Rattle.aj_core.specs.Dispatch.{target_of};
 
 use crate::guard::{Guard, guard_at};
 use aj_core::{CoreExpr, CoreMethod, CoreProgram, CoreStmt, path_of};
-use aj_paths::{FieldId, MethodId, Path};
+use aj_paths::{ClassId, FieldId, MethodId, Path};
 use std::alloc::{AllocError as NoMemory, Global};
 
 /// A path near a method.
@@ -18,14 +20,23 @@ pub(crate) struct Place {
     pub(crate) path: Path,
 }
 
-/// In the method `to` the path `start` is what the slot `root` of the method `from` stands for: what a call passes
-/// for it, or the value of a final local, where both methods are the same.
+/// How the paths of one method become paths of another.
+#[derive(Drop)]
+pub(crate) enum Way {
+    /// The path is what this slot stands for: what a call passes for it, or the value of a final local, where both
+    /// methods are the same.
+    Passed { root: usize, start: Path },
+    /// From a method with so many parameters to one of this class that it overrides: its relevant paths stay as they
+    /// are, where the class has the first field of a path of `this`.
+    Kept { params: usize, class: ClassId },
+}
+
+/// On this way paths of the method `from` become paths of the method `to`.
 #[derive(Drop)]
 pub(crate) struct Link {
     pub(crate) from: MethodId,
-    pub(crate) root: usize,
     pub(crate) to: MethodId,
-    pub(crate) start: Path,
+    pub(crate) way: Way,
 }
 
 impl Place {
@@ -39,15 +50,31 @@ impl Place {
     }
 }
 
+impl Way {
+    fn copy(&self) -> Way
+        ensures { result ≡ self.now }
+    {
+        match self {
+            Way::Passed { root, start } => Way::Passed {
+                root: *root,
+                start: start.copy(),
+            },
+            Way::Kept { params, class } => Way::Kept {
+                params: *params,
+                class: *class,
+            },
+        }
+    }
+}
+
 impl Link {
     pub(crate) fn copy(&self) -> Link
         ensures { result ≡ self.now }
     {
         Link {
             from: self.from,
-            root: self.root,
             to: self.to,
-            start: self.start.copy(),
+            way: self.way.copy(),
         }
     }
 }
@@ -67,8 +94,142 @@ struct Call {
     caller: MethodId,
 }
 
+/// The clauses of a program: those of its methods, and those of the methods that override.
+pub(crate) fn program_clauses(alloc: Global, program: &CoreProgram) -> Result<Vec<Clause>, NoMemory>
+    requires { length (program_of program.now).methods ≤ 2 ^ 32 }
+    ensures { IfOk result (λ clauses. clauses.items ≡ program_clauses (program_of program.now)) }
+{
+    let mut clauses = clauses_of(alloc, program)?;
+    add_overriding(program, &mut clauses)?;
+    Ok(clauses)
+}
+
+/// The clauses of the methods that override, class by class.
+fn add_overriding(program: &CoreProgram, clauses: &mut Vec<Clause>) -> Result<(), NoMemory>
+    ensures { OnOk result (let P = program_of program.now in clauses.new.items ≡ clauses.old.items ++ over_clauses P 0 P.classes) }
+{
+    let classes = program.classes();
+    let mut number = 0;
+    for place in 0..classes.len() {
+        add_pairs(
+            program,
+            ClassId(number),
+            classes[place].targets.as_slice(),
+            clauses,
+        )?;
+        number = next_class(number)?;
+    }
+    Ok(())
+}
+
+/// The number after this one. There is no memory for more classes than numbers.
+pub(crate) fn next_class(number: u32) -> Result<u32, NoMemory>
+    ensures { IfOk result (λ n. n ≡ number + 1) }
+{
+    match number.checked_add(1) {
+        Some(next) => Ok(next),
+        None => Err(NoMemory),
+    }
+}
+
+/// The clauses of a class's pairs.
+fn add_pairs(
+    program: &CoreProgram,
+    class: ClassId,
+    pairs: &[(MethodId, MethodId)],
+    clauses: &mut Vec<Clause>,
+) -> Result<(), NoMemory>
+    ensures { OnOk result (clauses.new.items ≡ clauses.old.items ++ pairs_clauses (program_of program.now) class pairs.now) }
+{
+    for place in 0..pairs.len() {
+        add_pair(program, class, pairs[place].0, pairs[place].1, clauses)?;
+    }
+    Ok(())
+}
+
+/// The clause of a pair of a class, where its method is the class's and overrides the other. Only such pairs are looked
+/// up among all.
+fn add_pair(
+    program: &CoreProgram,
+    class: ClassId,
+    method: MethodId,
+    over: MethodId,
+    clauses: &mut Vec<Clause>,
+) -> Result<(), NoMemory>
+    ensures { OnOk result (clauses.new.items ≡ clauses.old.items ++ pair_clauses (program_of program.now) class (method, over)) }
+{
+    if is_over(program, class, method, over) {
+        add_kept(program, over, method, clauses)
+    } else {
+        Ok(())
+    }
+}
+
+/// Whether the pair has a method of the class itself, which overrides the other.
+pub(crate) fn is_over(
+    program: &CoreProgram,
+    class: ClassId,
+    method: MethodId,
+    over: MethodId,
+) -> bool
+    ensures { result ≡ is_over (program_of program.now) class (method, over) }
+{
+    over != method && is_of_class(program, over, class) && is_target(program, class, method, over)
+}
+
+/// Whether a method is there and is the class's own.
+fn is_of_class(program: &CoreProgram, method: MethodId, class: ClassId) -> bool
+    ensures { result ≡ is_number (class_of (slice_get (program_of program.now).methods method)) class }
+{
+    match class_of(program, method) {
+        Some(own) => own == class,
+        None => false,
+    }
+}
+
+/// Whether a class runs this method for the other.
+fn is_target(program: &CoreProgram, class: ClassId, method: MethodId, over: MethodId) -> bool
+    ensures { result ≡ is_number (target_of (program_of program.now) class method) over }
+{
+    match program.target(class, method) {
+        Some(target) => target == over,
+        None => false,
+    }
+}
+
+/// The class of a method, where it is there.
+fn class_of(program: &CoreProgram, method: MethodId) -> Option<ClassId>
+    ensures { result ≡ class_of (slice_get (program_of program.now).methods method) }
+{
+    Some(program.methods().get(method.0 as usize)?.class)
+}
+
+/// What an overriding method tells the one that it overrides, where both are there.
+fn add_kept(
+    program: &CoreProgram,
+    over: MethodId,
+    method: MethodId,
+    clauses: &mut Vec<Clause>,
+) -> Result<(), NoMemory>
+    ensures { OnOk result (let P = program_of program.now in clauses.new.items ≡
+        clauses.old.items ++ kept_clauses over method (params_of (slice_get P.methods over)) (class_of (slice_get P.methods method))) }
+{
+    let Some(params) = params_of(program, over) else {
+        return Ok(());
+    };
+    let Some(class) = class_of(program, method) else {
+        return Ok(());
+    };
+    clauses.push(Clause::Leads(Link {
+        from: over,
+        to: method,
+        way: Way::Kept { params, class },
+    }))?;
+    Ok(())
+}
+
 /// The clauses of all methods, in order.
-pub(crate) fn clauses_of(alloc: Global, program: &CoreProgram) -> Result<Vec<Clause>, NoMemory>
+fn clauses_of(alloc: Global, program: &CoreProgram) -> Result<Vec<Clause>, NoMemory>
     requires { length (program_of program.now).methods ≤ 2 ^ 32 }
     ensures { IfOk result (λ clauses.
         let P = program_of program.now in
@@ -121,9 +282,8 @@ fn add_link(
     if let Some(start) = start {
         clauses.push(Clause::Leads(Link {
             from,
-            root,
             to,
-            start,
+            way: Way::Passed { root, start },
         }))?;
     }
     Ok(())

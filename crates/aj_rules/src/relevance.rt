@@ -5,7 +5,7 @@ ghost use Rattle.aj_rules.specs.Near.{AreRelevant, AreFew, IsWellFormed};
 ghost use Rattle.aj_rules.specs.Search.{rows_of};
 ghost use Rattle.aj_rules.specs.Limits.{IsFirstCrowded, is_crowded, parted_from};
 
-use crate::clauses::clauses_of;
+use crate::clauses::program_clauses;
 use crate::search::{near_paths, row};
 use crate::sets::{PartedPaths, PathsOfMethod, RelevantSets};
 use aj_core::CoreProgram;
@@ -38,7 +38,8 @@ impl From<AllocError> for RuleEnd {
 /// The least family of near paths, after Flanagan and Qadeer (2003): by method the paths rooted at `this` or a
 /// parameter, and those rooted at its locals.
 ///
-/// The bodies are read once, into facts and links from method to method. Then each path of a method is followed once
+/// The bodies are read once, into facts and links from method to method, and so are the pairs of the classes, for the
+/// methods that override. Then each path of a method is followed once
 /// along the links of that method. So the time is the size of the program, and the sum over the methods of their paths
 /// times the calls of them and their final locals, each with the search for a path among those of a method. The sets
 /// are not cut off at the limit, since which of a method's paths have a name at a call decides who is the first past it.
@@ -67,8 +68,8 @@ fn sets_of(alloc: Global, program: &CoreProgram) -> Result<PartedPaths, NoMemory
     requires { length (program_of program.now).methods ≤ 2 ^ 32 }
     ensures { IfOk result (λ sets. AreRelevant (program_of program.now) sets) }
 {
-    let clauses = clauses_of(alloc, program)?;
-    let near = near_paths(alloc, clauses.as_slice())?;
+    let clauses = program_clauses(alloc, program)?;
+    let near = near_paths(alloc, program, clauses.as_slice())?;
     parted_sets(alloc, program, near.as_slice())
 }
 

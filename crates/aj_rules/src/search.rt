@@ -1,14 +1,19 @@
 //! The search for the near paths of all methods: from the facts along the links, each place once.
-ghost use Rattle.std.specs.Prelude.{◌≡◌, ◌≤◌, ◌<◌, ◌^◌, ◌∷◌, ◌++◌, ◌==◌, ◌||◌, [], ℕ, Bool, length, not, map, IfOk, OnOk, if◌then◌else◌};
+ghost use Rattle.std.specs.Prelude.{Some, None, ◌≡◌, ◌≤◌, ◌<◌, ◌^◌, ◌∷◌, ◌++◌, ◌==◌, ◌||◌, ◌&&◌, nat_le, [], ℕ, Bool, length, not, map, slice_get, IfOk, OnOk, if◌then◌else◌};
 ghost use Rattle.std.specs.List.Sorted.{IsStrictlySortedBy};
-ghost use Rattle.aj_paths.specs.Paths.{PathData, path_order, path_eq};
+ghost use Rattle.aj_paths.specs.Paths.{PathData, path_order, path_eq, extended};
+ghost use Rattle.aj_core.specs.Dispatch.{has_field, fields_in};
+ghost use Rattle.aj_core.specs.Views.{program_of};
+ghost use Rattle.aj_rules.specs.Clauses.{led_by};
+ghost use Rattle.aj_rules.specs.Near.{begins_in};
 ghost use Rattle.aj_algebra.specs.HeldPaths.{has_path};
 ghost use Rattle.aj_rules.specs.declared.clauses.Place.{Place};
 ghost use Rattle.aj_rules.specs.declared.clauses.Clause.TheVariants as Clause;
-ghost use Rattle.aj_rules.specs.Search.{row_at, rows_of, with_link, LeadsTo, led_path, IsLed, AreLinks, Agree, Grows, HasFacts, IsLeastFamily};
+ghost use Rattle.aj_rules.specs.Search.{row_at, rows_of, with_link, LeadsTo, IsLed, AreLinks, Agree, Grows, HasFacts, IsLeastFamily};
 
-use crate::clauses::{Clause, Link, Place};
-use aj_paths::{MethodId, Path, extend};
+use crate::clauses::{Clause, Link, Place, Way};
+use aj_core::CoreProgram;
+use aj_paths::{ClassId, FieldId, MethodId, Path, extend};
 use std::alloc::{AllocError as NoMemory, Global};
 
 /// How many paths a list has at most which is read from its front. No method of a well-formed program has more.
@@ -23,15 +28,19 @@ struct Family {
 
 /// The near paths of each method that some clause names, ascending. A place is followed once, along the links of
 /// its method, and a method's list is searched by halves.
-pub(crate) fn near_paths(alloc: Global, clauses: &[Clause]) -> Result<Vec<Vec<Path>>, NoMemory>
-    ensures { IfOk result (λ near. IsLeastFamily clauses.now (rows_of near.items)) }
+pub(crate) fn near_paths(
+    alloc: Global,
+    program: &CoreProgram,
+    clauses: &[Clause],
+) -> Result<Vec<Vec<Path>>, NoMemory>
+    ensures { IfOk result (λ near. IsLeastFamily (program_of program.now) clauses.now (rows_of near.items)) }
 {
     let links = links_of(alloc, clauses)?;
     let mut family = facts_of(alloc, clauses)?;
     let mut next = 0;
     while next < family.queue.len() {
         let place = family.queue[next].copy();
-        family.follow_all(alloc, links.as_slice(), &place)?;
+        family.follow_all(alloc, program, links.as_slice(), &place)?;
         next += 1;
     }
     Ok(family.near)
@@ -54,17 +63,23 @@ fn add_link(alloc: Global, links: &mut Vec<Vec<Link>>, clause: &Clause) -> Resul
 {
     match clause {
         Clause::Fact(_) => Ok(()),
-        Clause::Leads(link) => push_link(alloc, links, link.copy()),
+        Clause::Leads(link) => push_at(alloc, links, link.from, link.copy()),
     }
 }
 
-fn push_link(alloc: Global, links: &mut Vec<Vec<Link>>, link: Link) -> Result<(), NoMemory>
-    ensures { OnOk result ((m : ℕ) → row_at (rows_of links.new.items) m ≡
-        (if m == link.from then row_at (rows_of links.old.items) m ++ link ∷ [] else row_at (rows_of links.old.items) m)) }
+/// Puts an item at the end of a method's list.
+pub(crate) fn push_at<T: Drop>(
+    alloc: Global,
+    rows: &mut Vec<Vec<T>>,
+    method: MethodId,
+    item: T,
+) -> Result<(), NoMemory>
+    ensures { OnOk result ((m : ℕ) → row_at (rows_of rows.new.items) m ≡
+        (if m == method then row_at (rows_of rows.old.items) m ++ item ∷ [] else row_at (rows_of rows.old.items) m)) }
 {
-    let from = number(link.from);
-    grow(alloc, links, from + 1)?;
-    links[from].push(link)?;
+    let place = number(method);
+    grow(alloc, rows, place + 1)?;
+    rows[place].push(item)?;
     Ok(())
 }
 
@@ -86,14 +101,67 @@ pub(crate) fn row<T>(rows: &[Vec<T>], method: usize) -> &[T]
     }
 }
 
-/// The path that a link leads to from a place, where it leads somewhere.
-fn led_path(link: &Link, place: &Place) -> Option<Path>
-    ensures { result ≡ led_path link.now place.now }
+/// The path that one becomes on a way, where it becomes one.
+fn led_by(program: &CoreProgram, way: &Way, path: &Path) -> Option<Path>
+    ensures { result ≡ led_by (program_of program.now) way.now path.now }
 {
-    if place.path.root as usize == link.root {
-        extend(&link.start, place.path.fields.as_slice())
+    match way {
+        Way::Passed { root, start } => passed(*root, start, path),
+        Way::Kept { params, class } => kept(program, *params, *class, path),
+    }
+}
+
+/// What a slot stands for, in a path that is rooted at it.
+fn passed(root: usize, start: &Path, path: &Path) -> Option<Path>
+    ensures { result ≡ (if path.now.root == root then extended start.now path.now.fields else None) }
+{
+    if path.root as usize == root {
+        extend(start, path.fields.as_slice())
     } else {
         None
+    }
+}
+
+/// The path itself, where it is a relevant one of a method with so many parameters, and the class knows its first field.
+fn kept(program: &CoreProgram, params: usize, class: ClassId, path: &Path) -> Option<Path>
+    ensures { result ≡ (if nat_le path.now.root params && begins_in (program_of program.now) class path.now.root path.now.fields then Some path.now else None) }
+{
+    if path.root as usize <= params && begins_in(program, class, path) {
+        Some(path.copy())
+    } else {
+        None
+    }
+}
+
+/// Whether a path of `this` begins with a field that the class has.
+fn begins_in(program: &CoreProgram, class: ClassId, path: &Path) -> bool
+    ensures { result ≡ begins_in (program_of program.now) class path.now.root path.now.fields }
+{
+    if path.root != 0 {
+        return true;
+    }
+    match path.fields.as_slice().first() {
+        Some(field) => has_field(program, class, *field),
+        None => true,
+    }
+}
+
+/// Whether a class has a field, its own or from above.
+fn has_field(program: &CoreProgram, class: ClassId, field: FieldId) -> bool
+    ensures { result ≡ has_field (program_of program.now) class field }
+{
+    fields_of(program, class)
+        .iter()
+        .any(|other| *other == field)
+}
+
+/// The fields of a class, its own and those from above; none where it isn't there.
+fn fields_of(program: &CoreProgram, class: ClassId) -> &[FieldId]
+    ensures { result.now ≡ fields_in (slice_get (program_of program.now).classes class) }
+{
+    match program.classes().get(class.0 as usize) {
+        Some(class) => class.fields.as_slice(),
+        None => &[],
     }
 }
 
@@ -174,11 +242,17 @@ impl Family {
     }
 
     /// What a link leads to from a place.
-    fn follow(&mut self, alloc: Global, link: &Link, place: &Place) -> Result<(), NoMemory>
+    fn follow(
+        &mut self,
+        alloc: Global,
+        program: &CoreProgram,
+        link: &Link,
+        place: &Place,
+    ) -> Result<(), NoMemory>
         requires { Agree (rows_of self.old.near.items) self.old.queue.items }
-        ensures { OnOk result (Grows self.old.queue.items (LeadsTo link.now place.now) (rows_of self.new.near.items) self.new.queue.items) }
+        ensures { OnOk result (Grows self.old.queue.items (LeadsTo (program_of program.now) link.now place.now) (rows_of self.new.near.items) self.new.queue.items) }
     {
-        match led_path(link, place) {
+        match led_by(program, &link.way, &place.path) {
             None => Ok(()),
             Some(path) => {
                 let place = Place {
@@ -191,12 +265,18 @@ impl Family {
     }
 
     /// What these links lead to from a place.
-    fn follow_each(&mut self, alloc: Global, links: &[Link], place: &Place) -> Result<(), NoMemory>
+    fn follow_each(
+        &mut self,
+        alloc: Global,
+        program: &CoreProgram,
+        links: &[Link],
+        place: &Place,
+    ) -> Result<(), NoMemory>
         requires { Agree (rows_of self.old.near.items) self.old.queue.items }
-        ensures { OnOk result (Grows self.old.queue.items (IsLed links.now place.now) (rows_of self.new.near.items) self.new.queue.items) }
+        ensures { OnOk result (Grows self.old.queue.items (IsLed (program_of program.now) links.now place.now) (rows_of self.new.near.items) self.new.queue.items) }
     {
         for link in links {
-            self.follow(alloc, link, place)?;
+            self.follow(alloc, program, link, place)?;
         }
         Ok(())
     }
@@ -205,13 +285,14 @@ impl Family {
     fn follow_all(
         &mut self,
         alloc: Global,
+        program: &CoreProgram,
         links: &[Vec<Link>],
         place: &Place,
     ) -> Result<(), NoMemory>
         requires { Agree (rows_of self.old.near.items) self.old.queue.items }
-        ensures { OnOk result (Grows self.old.queue.items (IsLed (row_at (rows_of links.now) place.now.method) place.now)
+        ensures { OnOk result (Grows self.old.queue.items (IsLed (program_of program.now) (row_at (rows_of links.now) place.now.method) place.now)
             (rows_of self.new.near.items) self.new.queue.items) }
     {
-        self.follow_each(alloc, row(links, number(place.method)), place)
+        self.follow_each(alloc, program, row(links, number(place.method)), place)
     }
 }

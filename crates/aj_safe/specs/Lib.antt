@@ -1,4 +1,5 @@
--- What the contracts of safe states cite, in the order to read them. The lemma files of proofs/ are public: the crates above cite them.
+-- What the contracts of safe states cite, in the order to read them; Turn has what a thread's turn needs and gives.
+pub mod Turn
 pub mod Phases
 pub mod Leads
 pub mod Fits

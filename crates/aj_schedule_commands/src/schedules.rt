@@ -15,8 +15,8 @@ ghost use Rattle.aj_steps.specs.Run.{run};
 ghost use Rattle.aj_schedule_commands.specs.Schedules.{NoSchedule, NoRun};
 
 use aj_classes::ClassTable;
+use aj_compile::CodeTable;
 use aj_deeds::StepEnd;
-use aj_emit::CodeTable;
 use aj_machine::{Machine, Stopped};
 use aj_schedule::{SchedFault, read_schedule};
 use aj_sources::{Ending, Refusal, Source};

@@ -23,9 +23,8 @@ ghost use Rattle.aj_schedule_commands.specs.Serialise.{SerialiseAnswer};
 
 use crate::schedules::{refuse_stop, schedule_of};
 use aj_classes::ClassTable;
-use aj_compile::compile;
+use aj_compile::{CodeTable, compile};
 use aj_core::CoreProgram;
-use aj_emit::CodeTable;
 use aj_schedule::{add_comments, comment_laws, write_schedule};
 use aj_serialise::{SerialEnd, Serialised, rewritten_with_machine};
 use aj_sources::{Ending, Refusal, Source, accepted, read_source};

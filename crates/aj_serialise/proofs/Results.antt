@@ -11,7 +11,7 @@ use Rattle.aj_held.proofs.Theorem.{words}
 use Rattle.aj_rewrite.specs.Serial.{IsSerial}
 use Rattle.aj_rewrite.proofs.Whole.{written}
 use Rattle.aj_machine.specs.declared.machine.Stopped.{Stopped}
-use Rattle.aj_perform.specs.MachineValue.{MachineValue}
+use Rattle.aj_machine.specs.MachineValue.{MachineValue}
 use Rattle.aj_machine.specs.Standing.{program_run, StandsFor, IsStopped}
 use Rattle.aj_units.specs.declared.step.Step.{Step}
 use Rattle.aj_units.specs.Entries.{entries_of}

@@ -14,9 +14,9 @@ ghost use Rattle.aj_serialise.specs.Rewritten.{IsRewritten, EndsInside, IsRefuse
 
 use crate::order::in_order;
 use crate::serial_end::{SerialEnd, end_of};
+use aj_compile::CodeTable;
 use aj_core::CoreProgram;
 use aj_deriv_check::Checked;
-use aj_emit::CodeTable;
 use aj_machine::Machine;
 use aj_noted::run_noted;
 use aj_units::Step;

@@ -7,7 +7,7 @@ use Rattle.aj_algebra.specs.HeldPaths.{Held}
 use Rattle.aj_classes.specs.Views.{table_data}
 use Rattle.aj_cond.specs.Conditions.{Cond, value_of, IsCanonical}
 use Rattle.aj_nodes.specs.declared.table.Node.{Node}
-use Rattle.aj_node_rows.specs.Nodes.{Items, IsTable}
+use Rattle.aj_nodes.specs.Nodes.{Items, IsTable}
 use Rattle.aj_nodes.specs.Shown.{IsThere, AreThere, node_tree, node_value, trees_at}
 use Rattle.aj_nodes.proofs.ShownLemmas.{node_canonical}
 use Rattle.aj_core.specs.Core.{Program}

@@ -3,10 +3,10 @@ use Rattle.std.proofs.Common.{◌≡◌, ◌++◌, List, [], ◌∷◌, map, len
 use Rattle.std.specs.List.{flat_map}
 use Rattle.std.specs.FinMap as finite
 use Rattle.aj_classes.specs.Table.{TableData}
-use Rattle.aj_emit.specs.declared.stack.Code.{Code}
+use Rattle.aj_compile.specs.declared.stack.Code.{Code}
 use Rattle.aj_core.specs.Core.{Program}
 use Rattle.aj_deeds.specs.Likeness.{FramesStand, no_frames, more_frames, ThreadStands, ready_stands, running_stands, done_stands, faulted_stands, ThreadsStand, no_threads, more_threads, StateStands}
-use Rattle.aj_perform.specs.MachineValue.{code_state}
+use Rattle.aj_machine.specs.MachineValue.{code_state}
 use Rattle.aj_deeds.proofs.Simulation.{as_high}
 use Rattle.aj_state.specs.declared.value.ThreadState.TheVariants as status
 use Rattle.aj_threads.specs.Frames.{CodeFrame, CellFrame, code_frame, code_thread, first_frame}

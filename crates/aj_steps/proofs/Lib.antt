@@ -1,4 +1,7 @@
--- Lemmas on the machine.
+-- Lemmas on the machine, and on the written order.
+pub mod Insertions
+pub mod Blocks
+pub mod Written
 pub mod StepCases
 pub mod RunLemmas
 pub mod MoreEntries

@@ -1,7 +1,7 @@
 -- A thread's turn comes to the same where what it asks looks the same.
 use Rattle.std.proofs.Common.{◌≡◌, ℕ, Bool, true, false, ◌==◌, List, [], ◌∷◌, Some, None, refl, sym, ap, ◌∙◌}
-use Rattle.std.specs.Prelude.{Option, is_some, slice_get, if◌then◌else◌}
-use Rattle.aj_core.specs.Core.{Program, Class, Field, Stmt}
+use Rattle.std.specs.Prelude.{Option, length, is_some, slice_get, if◌then◌else◌}
+use Rattle.aj_core.specs.Core.{Program, Class, Field, Method, Stmt}
 use Rattle.aj_state.specs.declared.value.Address.{Address}
 use Rattle.aj_state.specs.declared.value.Value.{Value}
 use Rattle.aj_state.specs.declared.value.Value.TheVariants as value
@@ -12,8 +12,8 @@ use Rattle.aj_state.specs.Memory.{Hold}
 use Rattle.aj_state.specs.Work as W
 use Rattle.aj_state.specs.Work.{Action, Item, Next, unfolded}
 use Rattle.aj_state.specs.States.{Frame, Thread, Ready, Running, Done, Faulted, new_object}
-use Rattle.aj_steps.specs.Step.{Shared, Outcome, LockIs, ObjectIs, Nothing, FieldIs, index_of, class_finals, release_kind, given_back, unless_final, value_at, access_kind, faults, goes_on, get, get_value, put, put_value, new, acquire, take, release, release_held, start, start_run, act, act_next, turn}
-use Rattle.aj_steps.specs.Asks.{asks, act_asks, next_asks, mine, LooksSame}
+use Rattle.aj_steps.specs.Step.{Shared, Outcome, LockIs, ObjectIs, Nothing, FieldIs, index_of, class_finals, release_kind, given_back, unless_final, value_at, access_kind, faults, goes_on, get, get_value, put, put_value, new, acquire, take, release, release_held, run_of, target_at, dispatch, call_on, call, start, start_run, act, act_next, turn}
+use Rattle.aj_steps.specs.Asks.{asks, call_asks, act_asks, next_asks, mine, LooksSame}
 
 module _ (P : Program) (t : ℕ) (see other : Shared) (f : Frame) (below : List Frame) (rest : List Item) where
   get_same : (a : Address) (field : Option Field) (v : Option Value) → access_kind P see t false a field ≡ access_kind P other t false a field → get_value P see t f below rest a field v ≡ get_value P other t f below rest a field v
@@ -67,9 +67,17 @@ module _ (P : Program) (t : ℕ) (see other : Shared) (f : Frame) (below : List 
 
   start_at : (o : Option Address) → LooksSame P t see other (Rattle.aj_steps.specs.Asks.asks_at Rattle.aj_steps.specs.Asks.Runs o) → start P see t f below rest o ≡ start P other t f below rest o
   start_at None looks = refl
-  start_at (Some a) looks = ap (start_run P see t f below rest a) looks
+  start_at (Some a) looks = ap (λ c. start_run P see t f below rest a (run_of P c)) looks
 
-  act_same : (a : Action) → LooksSame P t see other (act_asks f.operands a) → act P see t f below rest a ≡ act P other t f below rest a
+  call_at : (arity m : ℕ) (o : Option Address) → LooksSame P t see other (Rattle.aj_steps.specs.Asks.asks_at Rattle.aj_steps.specs.Asks.Runs o) → call_on P see t f below rest arity m o ≡ call_on P other t f below rest arity m o
+  call_at arity m None looks = refl
+  call_at arity m (Some a) looks = ap (λ c. dispatch P see t f below rest arity (target_at P m c) a) looks
+
+  call_same : (m : ℕ) (o : Option Method) → LooksSame P t see other (call_asks f.operands o) → call P see t f below rest m o ≡ call P other t f below rest m o
+  call_same m None looks = refl
+  call_same m (Some method) looks = call_at (length method.params) m (address_of (top (dropped (length method.params) f.operands))) looks
+
+  act_same : (a : Action) → LooksSame P t see other (act_asks P f.operands a) → act P see t f below rest a ≡ act P other t f below rest a
   act_same (W.Push v) looks = refl
   act_same (W.Load x) looks = refl
   act_same (W.Store x) looks = refl
@@ -83,7 +91,7 @@ module _ (P : Program) (t : ℕ) (see other : Shared) (f : Frame) (below : List 
   act_same (W.Get x) looks = get_at x (address_of (top f.operands)) looks
   act_same (W.Put x) looks = put_at x (address_of (top (under f.operands))) looks
   act_same (W.New c) looks = new_same c (slice_get P.classes c) looks
-  act_same (W.Call m) looks = refl
+  act_same (W.Call m) looks = call_same m (slice_get P.methods m) looks
   act_same (W.Acquire s) looks = acquire_at s (address_of (top f.operands)) looks
   act_same (W.Release a) looks = release_gives see a (see.lock_at a) ∙ ap (gives_back a) looks ∙ sym (release_gives other a (other.lock_at a))
   act_same W.Ret looks = refl
@@ -91,11 +99,11 @@ module _ (P : Program) (t : ℕ) (see other : Shared) (f : Frame) (below : List 
   act_same W.Start looks = start_at (address_of (top f.operands)) looks
 
 module _ (P : Program) (t : ℕ) (see other : Shared) where
-  next_same : (f : Frame) (below : List Frame) (o : Option Next) → LooksSame P t see other (next_asks f.operands o) → act_next P see t f below o ≡ act_next P other t f below o
+  next_same : (f : Frame) (below : List Frame) (o : Option Next) → LooksSame P t see other (next_asks P f.operands o) → act_next P see t f below o ≡ act_next P other t f below o
   next_same f below None looks = refl
   next_same f below (Some next) looks = act_same P t see other f below next.1 next.0 looks
 
-  pub turn_same : (o : Option Thread) → LooksSame P t see other (asks o) → turn P see t o ≡ turn P other t o
+  pub turn_same : (o : Option Thread) → LooksSame P t see other (asks P o) → turn P see t o ≡ turn P other t o
   turn_same None looks = refl
   turn_same (Some (Ready a m)) looks = refl
   turn_same (Some (Running [])) looks = refl

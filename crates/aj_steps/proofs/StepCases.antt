@@ -1,5 +1,5 @@
 -- What a thread's turn can come to, and why.
-use Rattle.std.proofs.Common.{◌≡◌, ◌⊎◌, ◌==◌, inl, inr, ℕ, Bool, true, false, List, [], ◌∷◌, Some, None, refl, sym, ap, subst, ◌∙◌, arith}
+use Rattle.std.proofs.Common.{◌≡◌, ◌⊎◌, ◌==◌, length, inl, inr, ℕ, Bool, true, false, List, [], ◌∷◌, Some, None, refl, sym, ap, subst, ◌∙◌, arith}
 use Rattle.std.proofs.lemmas.Bool.Decides.{nat_tests}
 use Rattle.std.specs.Prelude.{Option, slice_get}
 use Rattle.std.specs.FinMap as map
@@ -14,7 +14,7 @@ use Rattle.aj_state.specs.Work as W
 use Rattle.aj_state.specs.Work.{Action, Item, Next, unfolded}
 use Rattle.aj_state.specs.States.{Frame, Thread, Ready, Running, Done, Faulted, State}
 use Rattle.aj_steps.specs.Step.{Change, Nothing, FieldIs, ObjectIs, LockIs, Prints, Starts}
-use Rattle.aj_steps.specs.Step.{Move, Outcome, Moves, Absent, IsDone, HadFaulted, Waits, load, store, binary, and_then, or_else, choose, loop, get, get_value, put, put_value, new, call, call_on, enter, acquire, take, take_held, release, release_held, return_to, start, start_run, act, act_next, enter_first, turn, seen_by, outcome, step, state_after, kind_in}
+use Rattle.aj_steps.specs.Step.{Move, Outcome, Moves, Absent, IsDone, HadFaulted, Waits, load, store, binary, and_then, or_else, choose, loop, get, get_value, put, put_value, new, call, call_on, enter, enter_some, dispatch, acquire, take, take_held, release, release_held, return_to, start, start_run, act, act_next, enter_first, turn, seen_by, outcome, step, state_after, kind_in}
 use Rattle.aj_steps.specs.Waiting.{WaitsFor}
 
 -- a new object has its thread's next address
@@ -83,17 +83,25 @@ module _ (P : Program) (q : State) (t : ℕ) (f : Frame) (below : List Frame) (r
   new_case c None = moves _ tt
   new_case c (Some class) = moves _ refl
 
-  enter_case : (m : ℕ) (method : Method) (a : Address) (b : Bool) → Case q t (enter P (seen_by t q) t f below rest m method a b)
-  enter_case m method a false = moves _ tt
-  enter_case m method a true = moves _ tt
+  enter_case : (arity m : ℕ) (method : Method) (a : Address) (b : Bool) → Case q t (enter P (seen_by t q) t f below rest arity m method a b)
+  enter_case arity m method a false = moves _ tt
+  enter_case arity m method a true = moves _ tt
 
-  call_on_case : (m : ℕ) (method : Method) (o : Option Address) → Case q t (call_on P (seen_by t q) t f below rest m method o)
-  call_on_case m method None = moves _ tt
-  call_on_case m method (Some a) = enter_case m method a _
+  enter_some_case : (arity m : ℕ) (o : Option Method) (a : Address) → Case q t (enter_some P (seen_by t q) t f below rest arity m o a)
+  enter_some_case arity m None a = moves _ tt
+  enter_some_case arity m (Some method) a = enter_case arity m method a _
+
+  dispatch_case : (arity : ℕ) (o : Option ℕ) (a : Address) → Case q t (dispatch P (seen_by t q) t f below rest arity o a)
+  dispatch_case arity None a = moves _ tt
+  dispatch_case arity (Some m) a = enter_some_case arity m (slice_get P.methods m) a
+
+  call_on_case : (arity m : ℕ) (o : Option Address) → Case q t (call_on P (seen_by t q) t f below rest arity m o)
+  call_on_case arity m None = moves _ tt
+  call_on_case arity m (Some a) = dispatch_case arity _ a
 
   call_case : (m : ℕ) (o : Option Method) → Case q t (call P (seen_by t q) t f below rest m o)
   call_case m None = moves _ tt
-  call_case m (Some method) = call_on_case m method _
+  call_case m (Some method) = call_on_case (length method.params) m _
 
   release_held_case : (a : Address) (hold : Hold) (b : Bool) → Case q t (release_held P (seen_by t q) t f below rest a hold b)
   release_held_case a hold false = moves _ tt

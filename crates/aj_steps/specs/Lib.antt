@@ -1,5 +1,5 @@
--- What the contracts of the machine cite. Of proofs/ the files RunLemmas, Changed, MoreEntries, WordLemmas, UnitLemmas and PlainRuns are
--- public: crates above cite them.
+-- What the contracts of the machine cite, in the order to read them; Sorted has the written order as a sorted list of entries.
+pub mod Sorted
 pub mod Step
 pub mod Waiting
 pub mod Asks

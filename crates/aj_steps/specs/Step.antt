@@ -3,6 +3,7 @@ use Rattle.std.specs.Prelude.{ℕ, ◌+◌, ◌-◌, ℤ, Bool, true, false, ◌
 use Rattle.std.specs.FinMap as map
 use Rattle.aj_paths.specs.Paths.{PathData}
 use Rattle.aj_core.specs.Core.{Program, Class, Field, Method, Expr, Stmt, WhileS}
+use Rattle.aj_core.specs.Dispatch.{target_of}
 use Rattle.aj_state.specs.declared.value.Address.{Address}
 use Rattle.aj_state.specs.declared.value.Value.{Value}
 use Rattle.aj_state.specs.declared.value.Value.TheVariants as value
@@ -83,10 +84,20 @@ abbrev pub run_of_class : Option Class → Option ℕ
 run_of_class None = None
 run_of_class (Some c) = c.run
 
--- the method `run` of the class of an object, where both are there
-abbrev pub run_of : Program → Option Object → Option ℕ
+-- the class of an object, where it is there
+abbrev pub object_class : Option Object → Option ℕ
+object_class None = None
+object_class (Some o) = Some o.class
+
+-- the method that runs for `run` and an object's class, where both are there
+abbrev pub run_of : Program → Option ℕ → Option ℕ
 run_of P None = None
-run_of P (Some o) = run_of_class (slice_get P.classes o.class)
+run_of P (Some c) = run_of_class (slice_get P.classes c)
+
+-- the method that runs for a method and an object's class, where both are there
+abbrev pub target_at : Program → ℕ → Option ℕ → Option ℕ
+target_at P m None = None
+target_at P m (Some c) = target_of P c m
 
 -- a frame below gets the result, where there is one
 abbrev pub with_result : Bool → Value → List Value → List Value
@@ -237,25 +248,35 @@ module _ (P : Program) (see : Shared) (t : ℕ) where
     new c (Some class) = goes_on Both (value.Ref new_address ∷ dropped (class_finals class) f.operands) rest
         (ObjectIs new_address (new_object P c (taken (class_finals class) [] f.operands)))
 
-    -- enters a method on the object at an address, where there is room for one more frame
-    abbrev pub enter : ℕ → Method → Address → Bool → Outcome
-    enter m method a false = faults fault.Depth
-    enter m method a true = Moves (record {
+    -- enters a method with so many arguments on the object at an address, where there is room for one more frame
+    abbrev pub enter : (arity m : ℕ) → Method → Address → Bool → Outcome
+    enter arity m method a false = faults fault.Depth
+    enter arity m method a true = Moves (record {
       kind = Both;
-      thread = Running (new_frame m method (value.Ref a) (taken (length method.params) [] f.operands)
-          ∷ record f { operands = under (dropped (length method.params) f.operands); work = rest } ∷ below);
+      thread = Running (new_frame m method (value.Ref a) (taken arity [] f.operands)
+          ∷ record f { operands = under (dropped arity f.operands); work = rest } ∷ below);
       change = Nothing;
     })
 
-    -- calls a method on what the receiver refers to
-    abbrev pub call_on : ℕ → Method → Option Address → Outcome
-    call_on m method None = faults fault.Null
-    call_on m method (Some a) = enter m method a (nat_lt (length (f ∷ below)) most_frames)
+    -- enters a method, where it is there
+    abbrev pub enter_some : (arity m : ℕ) → Option Method → Address → Outcome
+    enter_some arity m None a = faults fault.Null
+    enter_some arity m (Some method) a = enter arity m method a (nat_lt (length (f ∷ below)) most_frames)
+
+    -- enters the method that runs, where there is one
+    abbrev pub dispatch : (arity : ℕ) → Option ℕ → Address → Outcome
+    dispatch arity None a = faults fault.Null
+    dispatch arity (Some m) a = enter_some arity m (slice_get P.methods m) a
+
+    -- calls a method on what the receiver refers to: the receiver object's class chooses the one that runs
+    abbrev pub call_on : (arity m : ℕ) → Option Address → Outcome
+    call_on arity m None = faults fault.Null
+    call_on arity m (Some a) = dispatch arity (target_at P m (object_class (see.object_at a))) a
 
     -- calls a method, where it is there
     abbrev pub call : ℕ → Option Method → Outcome
     call m None = faults fault.Null
-    call m (Some method) = call_on m method (address_of (top (dropped (length method.params) f.operands)))
+    call m (Some method) = call_on (length method.params) m (address_of (top (dropped (length method.params) f.operands)))
 
     -- takes a lock, and goes on with the part and the release
     abbrev pub takes : StepKind → Stmt → Address → Hold → Outcome
@@ -303,7 +324,7 @@ module _ (P : Program) (see : Shared) (t : ℕ) where
     -- starts a thread on what the operand refers to
     abbrev pub start : Option Address → Outcome
     start None = faults fault.Null
-    start (Some a) = start_run a (run_of P (see.object_at a))
+    start (Some a) = start_run a (run_of P (object_class (see.object_at a)))
 
     -- the table of actions
     abbrev pub act : Action → Outcome

@@ -49,7 +49,7 @@ pub fn change_laws()
 /// A thread's turn depends on what all threads share only at the one thing that it asks: where that looks the same, it comes
 /// to the same.
 pub fn asking_laws()
-    ensures same { (P : Program) (t : ℕ) (see other : Shared) (thread : Option Thread) → LooksSame P t see other (asks thread) → turn P see t thread ≡ turn P other t thread }
+    ensures same { (P : Program) (t : ℕ) (see other : Shared) (thread : Option Thread) → LooksSame P t see other (asks P thread) → turn P see t thread ≡ turn P other t thread }
 {}
 
 /// One more step at the end of a run adds one entry.

@@ -16,11 +16,11 @@ use Rattle.aj_steps.specs.Step.{Change, Nothing, FieldIs, ObjectIs, LockIs, Prin
 use Rattle.aj_state.specs.declared.value.StepKind.{StepKind}
 use Rattle.aj_state.specs.States.{Ready}
 use Rattle.aj_deeds.specs.Likeness.{ThreadsStand, no_threads, more_threads}
-use Rattle.aj_perform.specs.MachineValue.{MachineValue}
+use Rattle.aj_machine.specs.MachineValue.{MachineValue}
 use Rattle.aj_machine.specs.Standing.{StandsFor, HasRun, program_run}
 use Rattle.aj_state.specs.States.{Thread, ThreadOf}
 use Rattle.aj_threads.specs.Frames.{CodeFrame, code_thread}
-use Rattle.aj_emit.specs.declared.stack.Code.{Code}
+use Rattle.aj_compile.specs.declared.stack.Code.{Code}
 use Rattle.aj_swap.specs.Seen.{IsSeen}
 use Rattle.aj_swap.specs.Exchanged.{exchanged, AreNeighbours, IsStartOf, ArePassed}
 

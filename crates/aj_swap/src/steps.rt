@@ -8,8 +8,8 @@ ghost use Rattle.aj_steps.specs.Run.{run};
 ghost use Rattle.aj_machine.specs.Standing.{program_run, StandsFor};
 ghost use Rattle.aj_swap.specs.Seen.{IsSeen};
 
+use aj_compile::CodeTable;
 use aj_core::CoreProgram;
-use aj_emit::CodeTable;
 use aj_machine::Machine;
 use aj_state::StepKind;
 use std::alloc::{AllocError as NoMemory, Global};

@@ -13,8 +13,8 @@ ghost use Rattle.aj_swap.specs.Seen.{IsSeen};
 ghost use Rattle.aj_swap.specs.Exchanged.{exchanged, AreNeighbours, IsStartOf, AreNotMovers, ArePassed};
 
 use crate::steps::{Steps, reached, steps_of};
+use aj_compile::CodeTable;
 use aj_core::CoreProgram;
-use aj_emit::CodeTable;
 use aj_state::StepKind;
 use std::alloc::{AllocError as NoMemory, Global};
 

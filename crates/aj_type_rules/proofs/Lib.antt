@@ -1,2 +1,3 @@
+mod Steps
 mod Fitting
 pub mod Noting

@@ -1,6 +1,6 @@
 -- How the first fault is found, part by part.
 use Rattle.std.proofs.Common.{◌≡◌, List, ◌++◌, Option}
-use Rattle.aj_faults.proofs.FirstFaults as faults
+use Rattle.aj_class_rules.proofs.FirstFaults as faults
 use Rattle.aj_type_rules.specs.declared.fault.TypeFault.{TypeFault}
 use Rattle.aj_type_rules.specs.Faults.{place_of}
 use Rattle.aj_type_rules.specs.Noted.{noted}

@@ -1,6 +1,6 @@
 -- The order of type faults.
 use Rattle.std.specs.Prelude.{ℕ, ◌^◌}
-use Rattle.aj_faults.specs.declared.first.Place.{Place}
+use Rattle.aj_class_rules.specs.declared.first.Place.{Place}
 use Rattle.aj_type_rules.specs.declared.fault.TypeFault.{TypeFault}
 use Rattle.aj_type_rules.specs.declared.fault.TypeFault.TheVariants.{UnknownName, NoRule, FinalAssigned, NotALock, MissingReturn, Unreachable, TooManyLocals, Redeclared, NoMemory}
 

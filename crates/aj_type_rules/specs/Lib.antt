@@ -1,5 +1,10 @@
 -- For a reader of the rules, in this order: what a rule answers (Rulings), what is in scope (Scopes), the rules (Rules), expressions
--- (Exprs), the order of faults (Faults). Views, Names and Noted serve the code.
+-- (Exprs), locks (Locks), what can complete (Completion), statements (Stmts), the order of faults (Faults). Views, StmtViews, Names
+-- and Noted serve the code.
+pub mod Locks
+pub mod Completion
+pub mod Stmts
+pub mod StmtViews
 pub mod Faults
 pub mod Noted
 pub mod Rulings

@@ -1,5 +1,5 @@
 -- The rule of each kind of node: what it gives for the types of its parts, or the fault that is told.
-use Rattle.std.specs.Prelude.{ℕ, ◌^◌, Bool, true, false, ◌&&◌, nat_lt, List, [], ◌∷◌, map, filter, unwrap_or, Option, Some, None, option_map, option_and_then, ok_or, Result, Ok, slice_get, pos, neg_ℤ, take, drop, length}
+use Rattle.std.specs.Prelude.{ℕ, ◌^◌, Bool, true, false, ◌==◌, ◌&&◌, nat_lt, List, [], ◌∷◌, map, filter, unwrap_or, Option, Some, None, option_map, option_and_then, ok_or, Result, Ok, slice_get, pos, neg_ℤ, take, drop, length}
 use Rattle.aj_core.specs.declared.types.CoreType.{CoreType}
 use Rattle.aj_core.specs.declared.types.CoreType.TheVariants as T
 use Rattle.aj_core.specs.declared.types.CoreOp.{CoreOp}
@@ -50,6 +50,10 @@ class_in _ = None
 abbrev pub receiver_class : NodeType → Option ℕ
 receiver_class (ValueT t) = class_in t
 receiver_class _ = None
+
+-- whether two classes are the same; while no class extends another, a class is of its own kind alone
+abbrev pub same_class : ℕ → ℕ → Bool
+same_class c d = c == d
 
 -- ---- names
 
@@ -114,7 +118,7 @@ neg_rule at e = demand (is_int e.ty) (NoRule at) (typed int_type (NegE e.node))
 -- an operator on two values: two ints to int or boolean, and for `==` and `!=` two types of which one fits the other
 abbrev pub operator_rule : CoreOp → ℕ → TypedData × TypedData → Result TypedData TypeFault
 operator_rule op at p =
-    ok_or (option_map (λ ty. typed ty (BinaryE op p.0.node p.1.node)) (binary_type op p.0.ty p.1.ty)) (NoRule at)
+    ok_or (option_map (λ ty. typed ty (BinaryE op p.0.node p.1.node)) (binary_type same_class op p.0.ty p.1.ty)) (NoRule at)
 
 -- `&&` or `||`: two booleans to boolean
 abbrev pub logical_rule : (Expr → Expr → Expr) → ℕ → TypedData × TypedData → Result TypedData TypeFault
@@ -151,7 +155,7 @@ abbrev pub fit_each : List NodeType → List CoreType → Bool
 fit_each [] [] = true
 fit_each [] (u ∷ us) = false
 fit_each (t ∷ ts) [] = false
-fit_each (t ∷ ts) (u ∷ us) = fits t (ValueT u) && fit_each ts us
+fit_each (t ∷ ts) (u ∷ us) = fits same_class t (ValueT u) && fit_each ts us
 
 -- the types of a method's parameters, in order
 abbrev pub parameter_types : MethodData → List CoreType
@@ -183,4 +187,4 @@ new_rule t n args =
 
 -- a value for a place of this type: it fits
 abbrev pub fit_rule : ℕ → CoreType → TypedData → Result Expr TypeFault
-fit_rule at ty e = demand (fits e.ty (ValueT ty)) (NoRule at) e.node
+fit_rule at ty e = demand (fits same_class e.ty (ValueT ty)) (NoRule at) e.node

@@ -4,7 +4,7 @@ ghost use Rattle.std.specs.Prelude.{◌≡◌, [], ◌∷◌, None};
 ghost use Rattle.aj_type_rules.specs.Noted.{noted};
 
 use crate::fault::TypeFault;
-use aj_faults::first_of;
+use aj_class_rules::first_of;
 use std::marker::Model;
 
 /// The first of the faults that were noted.

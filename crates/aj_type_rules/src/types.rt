@@ -2,8 +2,8 @@
 
 ghost use Rattle.std.specs.Prelude.{◌≡◌, option_map};
 ghost use Rattle.aj_core.specs.declared.types.CoreType.TheVariants as type;
-ghost use Rattle.aj_core.specs.Types.{ValueT, fits, type_eq, binary_type};
-ghost use Rattle.aj_type_rules.specs.Rules.{is_int, is_boolean, receiver_class, class_in};
+ghost use Rattle.aj_core.specs.Types.{ValueT, fits, type_fits, binary_type};
+ghost use Rattle.aj_type_rules.specs.Rules.{is_int, is_boolean, same_class, receiver_class, class_in};
 ghost use Rattle.aj_type_rules.specs.Views.{type_data};
 
 use aj_core::{CoreExpr, CoreOp, CoreType};
@@ -66,7 +66,7 @@ impl ExprType {
 
     /// Whether this type fits another.
     pub fn fits(self, other: ExprType) -> bool
-        ensures { result ≡ fits (type_data self) (type_data other) }
+        ensures { result ≡ fits same_class (type_data self) (type_data other) }
     {
         match (self, other) {
             (ExprType::Value(ty), ExprType::Value(other)) => same_type(ty, other),
@@ -78,7 +78,7 @@ impl ExprType {
 }
 
 fn same_type(ty: CoreType, other: CoreType) -> bool
-    ensures { result ≡ type_eq ty other }
+    ensures { result ≡ type_fits same_class ty other }
 {
     match ty {
         CoreType::Int => matches!(other, CoreType::Int),
@@ -88,7 +88,7 @@ fn same_type(ty: CoreType, other: CoreType) -> bool
 }
 
 fn is_of_class(ty: CoreType, class: ClassId) -> bool
-    ensures { result ≡ type_eq (type.Class class) ty }
+    ensures { result ≡ type_fits same_class (type.Class class) ty }
 {
     match ty {
         CoreType::Class(other) => class == other,
@@ -98,7 +98,7 @@ fn is_of_class(ty: CoreType, class: ClassId) -> bool
 
 /// The type that an operator on two values gives.
 pub fn binary_type(op: CoreOp, left: ExprType, right: ExprType) -> Option<ExprType>
-    ensures { option_map type_data result ≡ binary_type op (type_data left) (type_data right) }
+    ensures { option_map type_data result ≡ binary_type same_class op (type_data left) (type_data right) }
 {
     match op {
         CoreOp::Eq | CoreOp::Ne => of_equals(left.fits(right) || right.fits(left)),

@@ -2,8 +2,7 @@
 //! program, and copies of a machine's parts.
 
 use crate::machine_tests::{BOOK, COUNTER, checked_of, schedule_of, source_of};
-use aj_book_grammar::{BookFault, Word};
-use aj_book_text::{BookCursor, read_table};
+use aj_book_grammar::{BookCursor, BookFault, Word, read_table};
 use aj_compile::compile;
 use aj_cond::Tree;
 use aj_deriv::{DerivBook, read_book, write_book};

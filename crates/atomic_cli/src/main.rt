@@ -14,11 +14,15 @@ mod large_tests;
 #[cfg(test)]
 mod library_tests;
 #[cfg(test)]
+mod limit_tests;
+#[cfg(test)]
 mod machine_tests;
 #[cfg(test)]
 mod nodes_tests;
 #[cfg(test)]
 mod open_tests;
+#[cfg(test)]
+mod part_tests;
 #[cfg(test)]
 mod schedule_tests;
 #[cfg(test)]

@@ -118,7 +118,7 @@ pub fn written(
 }
 
 /// The source of a method `main` with this body.
-fn with_body(alloc: Global, before: &str, times: u32, after: &str) -> Result<String, Fail> {
+pub fn with_body(alloc: Global, before: &str, times: u32, after: &str) -> Result<String, Fail> {
     let mut source = String::from_str(alloc, "class Main { void main() {")?;
     for _ in 0..times {
         source.push_str(before)?;
@@ -471,7 +471,7 @@ fn the_first_fault_has_its_line(rt: HostRuntime) -> Result<(), Fail> {
 }
 
 /// So many lines between two texts, each with its number.
-fn numbered(
+pub fn numbered(
     alloc: Global,
     before: &str,
     word: &str,

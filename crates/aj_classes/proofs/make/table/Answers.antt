@@ -1,6 +1,6 @@
 use Rattle.std.proofs.Common.{◌∙◌, sym, inl, inr}
 use Rattle.aj_syntax.specs.Views.{program_of}
-use Rattle.aj_class_faults.proofs.Leasts.{first_is, none_is, one_first, no_first}
+use Rattle.aj_class_rules.proofs.Leasts.{first_is, none_is, one_first, no_first}
 use Rattle.aj_classes.proofs.make.table.Goals as goal
 
 pub build-requires-clause-no_faults : goal.build-requires-clause-no_faults

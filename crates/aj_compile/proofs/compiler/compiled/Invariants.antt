@@ -1,7 +1,7 @@
 use Rattle.std.proofs.Common.{◌≡◌, ◌++◌, drop, vec_len}
 use Rattle.std.specs.Prelude.{map}
 use Rattle.aj_core.specs.Views.{method_of}
-use Rattle.aj_emit.specs.Emission.{emitted_methods, method_entries}
+use Rattle.aj_compile.specs.Emission.{emitted_methods, method_entries}
 use Rattle.aj_compile.specs.Rooms.{method_rooms}
 use Rattle.aj_compile.proofs.compiler.compiled.Given as goal
 

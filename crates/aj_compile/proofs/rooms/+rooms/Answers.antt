@@ -2,7 +2,7 @@ use Rattle.std.proofs.Common.{ap, ◌∙◌, arith}
 use Rattle.aj_core.specs.Views.{expr_of, exprs_from}
 use Rattle.aj_core.proofs.ViewLemmas.{expr_of-Call, expr_of-New}
 use Rattle.aj_compile.specs.Rooms.{expr_room, exprs_room}
-use Rattle.aj_emit.proofs.Measures.{expr_measure, exprs_measure}
+use Rattle.aj_compile.proofs.Measures.{expr_measure, exprs_measure}
 use Rattle.aj_compile.proofs.rooms.+rooms.Goals as goal
 
 pub expr_room-exprs_room-requires : goal.expr_room-exprs_room-requires

@@ -1,5 +1,5 @@
 use Rattle.aj_core.specs.Views.{expr_of, exprs_from}
-use Rattle.aj_emit.proofs.Measures.{expr_measure, exprs_measure}
+use Rattle.aj_compile.proofs.Measures.{expr_measure, exprs_measure}
 use Rattle.aj_compile.proofs.rooms.+rooms.Given as goal
 
 abbrev pub decreases-expr_room : goal.decreases-expr_room

@@ -2,7 +2,7 @@ use Rattle.std.proofs.Common.{◌≡◌, ◌+◌, ◌*◌, length, map}
 use Rattle.aj_book_grammar.specs.Combine.{several}
 use Rattle.aj_deriv.specs.Memory.{node_of}
 use Rattle.aj_book_grammar.specs.Reading.{node_at, premise_with}
-use Rattle.aj_book_text.specs.Views.{after_those}
+use Rattle.aj_book_grammar.specs.Views.{after_those}
 use Rattle.aj_deriv.proofs.reader.+building.Given as goal
 
 abbrev pub decreases-derivation : goal.decreases-derivation

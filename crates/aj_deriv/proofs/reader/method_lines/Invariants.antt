@@ -2,7 +2,7 @@ use Rattle.std.proofs.Common.{◌≡◌, length, map}
 use Rattle.aj_book_grammar.specs.Combine.{several}
 use Rattle.aj_deriv.specs.Memory.{line_of}
 use Rattle.aj_book_grammar.specs.Reading.{line_at}
-use Rattle.aj_book_text.specs.Views.{after_those}
+use Rattle.aj_book_grammar.specs.Views.{after_those}
 use Rattle.aj_deriv.proofs.reader.method_lines.Given as goal
 
 -- what is built, and then the rest, is all

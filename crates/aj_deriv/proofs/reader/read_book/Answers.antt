@@ -1,8 +1,8 @@
 -- A text has one book, and then no fault.
 use Rattle.std.proofs.Common.{[]}
 use Rattle.aj_deriv.specs.Memory.{book_of}
-use Rattle.aj_book_text.proofs.BookLaws.{complete_book}
-use Rattle.aj_book_text.proofs.CursorLaws.{no_fault, one_book}
+use Rattle.aj_book_grammar.proofs.BookLaws.{complete_book}
+use Rattle.aj_book_grammar.proofs.CursorLaws.{no_fault, one_book}
 use Rattle.aj_deriv.proofs.reader.read_book.Goals as goal
 
 pub returns-in-Ok-clause-only_book : goal.returns-in-Ok-clause-only_book

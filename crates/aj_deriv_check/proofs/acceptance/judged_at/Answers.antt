@@ -2,8 +2,8 @@
 use Rattle.std.proofs.Common.{◌≡◌, ◌∙◌, ap, map, subst}
 use Rattle.aj_cond.specs.Conditions.{cond_of}
 use Rattle.aj_core.specs.Views.{program_of}
-use Rattle.aj_book_text.specs.Views.{lines_in}
-use Rattle.aj_book_text.proofs.TableLaws.{lines_are, at_some}
+use Rattle.aj_book_grammar.specs.Views.{lines_in}
+use Rattle.aj_book_grammar.proofs.TableLaws.{lines_are, at_some}
 use Rattle.aj_rules.specs.Near.{rel_of}
 use Rattle.aj_deriv_check.specs.Passes.{IsVerdict}
 use Rattle.aj_deriv_check.proofs.acceptance.judged_at.Goals as goal

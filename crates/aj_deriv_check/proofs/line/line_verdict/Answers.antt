@@ -1,12 +1,18 @@
--- The tree is right and the steps aren't.
-use Rattle.std.proofs.Common.{inl, inr, refl, sym, subst, slice_get}
+-- The tree is right and the steps aren't; both are and an overriding method's tree isn't; the bound is broken; and nothing is wrong.
+use Rattle.std.proofs.Common.{inl, inr, refl, sym, ap, subst, slice_get, ◌∙◌}
 use Rattle.std.proofs.lemmas.Bool.{both_ways}
+use Rattle.aj_algebra.specs.Basics.{below_of}
+use Rattle.aj_algebra.specs.HeldPaths.{has_path}
+use Rattle.aj_cond.specs.Conditions.{value_of}
 use Rattle.aj_core.specs.Views.{method_of}
 use Rattle.aj_book_grammar.specs.Derivations.{node}
-use Rattle.aj_deriv_check.specs.Good.{IsStep, IsTabled, IsUnder, cond_at}
+use Rattle.aj_rules.specs.Rules.{declared_bound}
+use Rattle.aj_deriv_check.specs.Good.{IsStep, IsStepped, IsTabled, IsUnder, cond_at}
 use Rattle.aj_deriv_rules.specs.Judges.{judge_assignment, judge_program, judge_rel, judge_table, judge_value}
 use Rattle.aj_deriv_rules.specs.Parts.{StmtP, places}
 use Rattle.aj_deriv_check.specs.Walks.{IsEnd}
+use Rattle.aj_deriv_check.proofs.Admissible.{cond_is}
+use Rattle.aj_deriv_check.proofs.LineLemmas.{overs_below}
 use Rattle.aj_deriv_check.proofs.VerdictLemmas.{bad_from}
 use Rattle.aj_deriv_check.proofs.line.line_verdict.Goals as goal
 
@@ -19,7 +25,7 @@ returns-then-not-branch-2 g c = λ id.
       tabled,
       inl (
         (λ under. both_ways c.in_ok-is_under.field-0 c.if-not-branch-2.true
-            (c.in_ok-is_under.ensures.1 (subst (λ ps. IsUnder ps (judge_value j c.args.number) (judge_value j c.args.own)) (sym c.as_slice.ensures.value) under))),
+            (c.in_ok-is_under.ensures.1 (subst (λ ps. IsUnder ps (judge_value j c.args.number) (judge_value j c.args.own)) (sym c.as_slice-required.ensures.value) under))),
         refl,
       ),
     )
@@ -31,12 +37,85 @@ returns-in-Bad g c = λ id.
     let body = StmtP (method_of c.args.method.now).body in
     let tabled = subst (λ z. IsTabled z (cond_at (slice_get (judge_table j) c.args.own))) c.rel.ensures
     (subst (λ t. IsTabled c.rel.result.now t) c.in_ok-tree.ensures.tree (c.in_ok-is_tabled.ensures.0 c.if-not-branch.false)) in
-    let under = subst (λ ps. IsUnder ps (judge_value j c.args.number) (judge_value j c.args.own)) c.as_slice.ensures.value (c.in_ok-is_under.ensures.0 c.if-not-branch-2.false) in (
+    let under = subst (λ ps. IsUnder ps (judge_value j c.args.number) (judge_value j c.args.own)) c.as_slice-required.ensures.value (c.in_ok-is_under.ensures.0 c.if-not-branch-2.false) in (
       c.m.view_is,
       tabled,
       inr (
         under,
         bad_from (IsStep (judge_program j) (judge_rel j) (judge_value j) (judge_assignment j)) (places body d) c.in-Bad.node
-            (subst (λ e. IsEnd (IsStep (judge_program j) (judge_rel j) (judge_value j) (judge_assignment j)) (places body d) 0 e) c.in-Bad.is c.in_ok-node.ensures),
+            (subst (λ e. IsEnd (IsStep (judge_program j) (judge_rel j) (judge_value j) (judge_assignment j)) (places body d) 0 e) c.in-Bad.is c.in_ok-walk_node.ensures),
       ),
     )
+
+pub returns-then-not-branch-3 : goal.returns-then-not-branch-3
+returns-then-not-branch-3 g c = λ id.
+    let j = c.args.judge.now in
+    let method = method_of c.args.method.now in
+    let P = judge_program j in
+    let A = judge_assignment j in
+    let V = judge_value j in
+    let d = node c.args.word c.args.number (g.F.Nodes.nodes c.args.premises) in
+    let xs = places (StmtP method.body) d in
+    let tabled = subst (λ z. IsTabled z (cond_at (slice_get (judge_table j) c.args.own))) c.rel.ensures
+    (subst (λ t. IsTabled c.rel.result.now t) c.in_ok-tree.ensures.tree (c.in_ok-is_tabled.ensures.0 c.if-not-branch.false)) in
+    let under = subst (λ ps. IsUnder ps (V c.args.number) (V c.args.own)) c.as_slice-required.ensures.value (c.in_ok-is_under.ensures.0 c.if-not-branch-2.false) in
+    let steps = (subst (λ e. IsEnd (IsStep P (judge_rel j) V A) xs 0 e) c.in-Good.is c.in_ok-walk_node.ensures).0 in
+    let overs = overs_below P c.args.over.now c.requires.overriders c.args.m c.of.result.now (judge_rel j c.args.m) c.rel-2.result.now method.requires_ c.as_slice-required.result.now A (V c.args.own)
+    c.of.ensures c.rel-2.ensures c.as_slice-required.ensures.value in (
+      c.m-2.view_is,
+      tabled,
+      record { under = under; steps = steps },
+      (λ below. both_ways c.in_ok-are_under_in.field-0 c.if-not-branch-3.true (c.in_ok-are_under_in.ensures.1 (overs.1 below))),
+    )
+
+pub returns-then-not-is_bounded : goal.returns-then-not-is_bounded
+returns-then-not-is_bounded g c = λ id.
+    let j = c.args.judge.now in
+    let method = method_of c.args.method.now in
+    let P = judge_program j in
+    let A = judge_assignment j in
+    let V = judge_value j in
+    let d = node c.args.word c.args.number (g.F.Nodes.nodes c.args.premises) in
+    let xs = places (StmtP method.body) d in
+    let tabled = subst (λ z. IsTabled z (cond_at (slice_get (judge_table j) c.args.own))) c.rel.ensures
+    (subst (λ t. IsTabled c.rel.result.now t) c.in_ok-tree.ensures.tree (c.in_ok-is_tabled.ensures.0 c.if-not-branch.false)) in
+    let under = subst (λ ps. IsUnder ps (V c.args.number) (V c.args.own)) c.as_slice-required.ensures.value (c.in_ok-is_under.ensures.0 c.if-not-branch-2.false) in
+    let steps = (subst (λ e. IsEnd (IsStep P (judge_rel j) V A) xs 0 e) c.in-Good.is c.in_ok-walk_node.ensures).0 in
+    let overs = overs_below P c.args.over.now c.requires.overriders c.args.m c.of.result.now (judge_rel j c.args.m) c.rel-2.result.now method.requires_ c.as_slice-required.result.now A (V c.args.own)
+    c.of.ensures c.rel-2.ensures c.as_slice-required.ensures.value in
+    let tree = slice_get (judge_table j) c.args.own in
+    let limit = declared_bound method.annotated in
+    let held = has_path method.requires_ in
+    let same = ap (λ t. below_of (value_of t held) limit) c.in_ok-tree.ensures.tree ∙ ap (λ b. below_of b limit) (sym (cond_is tree held)) in (
+      c.m-2.view_is,
+      tabled,
+      record { under = under; steps = steps },
+      overs.0 (c.in_ok-are_under_in.ensures.0 c.if-not-branch-3.false),
+      (λ bounded. both_ways c.is_bounded.result c.if-not-is_bounded.true (c.is_bounded.ensures ∙ same ∙ bounded)),
+    )
+
+pub returns : goal.returns
+returns g c = λ id.
+    let j = c.args.judge.now in
+    let method = method_of c.args.method.now in
+    let P = judge_program j in
+    let A = judge_assignment j in
+    let V = judge_value j in
+    let d = node c.args.word c.args.number (g.F.Nodes.nodes c.args.premises) in
+    let xs = places (StmtP method.body) d in
+    let tabled = subst (λ z. IsTabled z (cond_at (slice_get (judge_table j) c.args.own))) c.rel.ensures
+    (subst (λ t. IsTabled c.rel.result.now t) c.in_ok-tree.ensures.tree (c.in_ok-is_tabled.ensures.0 c.if-not-branch.false)) in
+    let under = subst (λ ps. IsUnder ps (V c.args.number) (V c.args.own)) c.as_slice-required.ensures.value (c.in_ok-is_under.ensures.0 c.if-not-branch-2.false) in
+    let steps = (subst (λ e. IsEnd (IsStep P (judge_rel j) V A) xs 0 e) c.in-Good.is c.in_ok-walk_node.ensures).0 in
+    let overs = overs_below P c.args.over.now c.requires.overriders c.args.m c.of.result.now (judge_rel j c.args.m) c.rel-2.result.now method.requires_ c.as_slice-required.result.now A (V c.args.own)
+    c.of.ensures c.rel-2.ensures c.as_slice-required.ensures.value in
+    let tree = slice_get (judge_table j) c.args.own in
+    let limit = declared_bound method.annotated in
+    let held = has_path method.requires_ in
+    let same = ap (λ t. below_of (value_of t held) limit) c.in_ok-tree.ensures.tree ∙ ap (λ b. below_of b limit) (sym (cond_is tree held)) in
+    record {
+      tabled = tabled;
+      stepped = record { under = under; steps = steps };
+      overrides = overs.0 (c.in_ok-are_under_in.ensures.0 c.if-not-branch-3.false);
+      bounded = sym same ∙ sym c.is_bounded.ensures ∙ c.if-not-is_bounded.false;
+    }

@@ -4,7 +4,7 @@ use Rattle.std.proofs.lemmas.List.{length-map}
 use Rattle.aj_core.specs.Views.{program_of}
 use Rattle.aj_rules.specs.Near.{rel_of}
 use Rattle.aj_nodes.specs.Shown.{AreThere, node_tree, trees_at}
-use Rattle.aj_node_rows.proofs.Tables.{grows_itself, grows_chain}
+use Rattle.aj_nodes.proofs.Tables.{grows_itself, grows_chain}
 use Rattle.aj_deriv.specs.Memory.{nodes_at}
 use Rattle.aj_deriv_rules.specs.Conclusions.{conclusions, table_value}
 use Rattle.aj_deriv_rules.specs.Rules.{rule_of}

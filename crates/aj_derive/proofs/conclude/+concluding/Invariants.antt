@@ -1,6 +1,6 @@
 use Rattle.std.proofs.Common.{◌+◌, ◌*◌, ◌≤◌, ◌++◌, List, length}
 use Rattle.aj_cond.specs.Conditions.{Cond}
-use Rattle.aj_node_rows.specs.Nodes.{Grows}
+use Rattle.aj_nodes.specs.Nodes.{Grows}
 use Rattle.aj_nodes.specs.Shown.{AreThere, trees_at}
 use Rattle.aj_deriv.specs.Memory.{nodes_at}
 use Rattle.aj_deriv.specs.declared.derivation.Derivation.{Derivation}

@@ -8,7 +8,7 @@ use Rattle.aj_derive.specs.Derived.{IsDerived}
 use Rattle.aj_derive.specs.Lines.{AreLinesOf}
 use Rattle.aj_derive.specs.Pools.{pool_table}
 use Rattle.aj_derive.proofs.Whole.{derived, written, good}
-use Rattle.aj_infer.proofs.Required.{required_in_rel}
+use Rattle.aj_rules.proofs.Required.{required_in_rel}
 use Rattle.aj_rules.specs.Near.{rel_of}
 use Rattle.aj_derive.proofs.derive_book.derive.Goals as goal
 

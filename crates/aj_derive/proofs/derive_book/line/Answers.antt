@@ -4,7 +4,7 @@ use Rattle.std.proofs.lemmas.List.{length-map}
 use Rattle.aj_cond.specs.Conditions.{cond_of, IsCanonical}
 use Rattle.aj_core.specs.Views.{method_of, program_of}
 use Rattle.aj_nodes.specs.Shown.{trees_at}
-use Rattle.aj_node_rows.proofs.Tables.{grows_chain}
+use Rattle.aj_nodes.proofs.Tables.{grows_chain}
 use Rattle.aj_book_grammar.specs.Books.{IsNumbered}
 use Rattle.aj_deriv.specs.Memory.{node_of}
 use Rattle.aj_deriv_rules.specs.Parts.{StmtP}

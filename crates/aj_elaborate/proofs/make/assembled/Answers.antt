@@ -6,7 +6,7 @@ use Rattle.aj_syntax.specs.Views.{class_of}
 use Rattle.aj_elaborate.specs.Gathered.{gathered}
 use Rattle.aj_elaborate.specs.Programs.{program_node}
 use Rattle.aj_elaborate.specs.Views.{fields_data, methods_data}
-use Rattle.aj_elaborate.proofs.Answering.{fields_ordered, first_there, second_there, mapped_there}
+use Rattle.aj_elaborate.proofs.Answering.{fields_ordered, methods_ordered, first_there, second_there, mapped_there}
 use Rattle.aj_elaborate.proofs.make.assembled.Goals as goal
 
 pub unwrap-fields-requires : goal.unwrap-fields-requires
@@ -28,4 +28,7 @@ core_program-requires c = record {
   ascends =
       fields_ordered (map class_of c.args.classes.now) (table_data c.args.table.now) (map core.field_of c.unwrap-fields.result.items) (fields_data c.args.parts)
       (ap (option_map (map core.field_of)) (sym c.all.ensures ∙ ap (option_map (λ v. v.items)) c.unwrap-fields.ensures)) c.requires.fields;
+  methods_ascend =
+      methods_ordered (map class_of c.args.classes.now) (table_data c.args.table.now) (map core.method_of c.unwrap-methods.result.items) (methods_data c.args.parts)
+      (ap (option_map (map core.method_of)) (sym c.all-2.ensures ∙ ap (option_map (λ v. v.items)) c.unwrap-methods.ensures)) c.requires.methods;
 }

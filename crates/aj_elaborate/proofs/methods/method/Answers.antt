@@ -4,16 +4,16 @@ use Rattle.aj_core.specs.Core.{BlockS}
 use Rattle.aj_core.specs.Views as core
 use Rattle.aj_syntax.specs.Trees.{MethodTree}
 use Rattle.aj_syntax.specs.Views.{lock_of, member_of, stmt_of, stmts_from}
-use Rattle.aj_statement_rules.specs.Completion.{completes_each, locals_in_each}
+use Rattle.aj_type_rules.specs.Completion.{completes_each, locals_in_each}
 use Rattle.aj_elaborate.specs.Gathered.{method_in, faults_in_method}
-use Rattle.aj_statement_rules.specs.Stmts.{return_faults}
-use Rattle.aj_statement_rules.specs.Locks.{lock_rule}
+use Rattle.aj_type_rules.specs.Stmts.{return_faults}
+use Rattle.aj_type_rules.specs.Locks.{lock_rule}
 use Rattle.aj_elaborate.specs.Making.{method_with, types_in}
 use Rattle.aj_type_rules.specs.Noted.{noted}
 use Rattle.aj_elaborate.specs.Programs.{all_there}
 use Rattle.aj_type_rules.specs.Rulings.{gain, loss, both}
 use Rattle.aj_type_rules.specs.Scopes.{parameters_from}
-use Rattle.aj_statement_rules.specs.Stmts.{block_core, block_faults}
+use Rattle.aj_type_rules.specs.Stmts.{block_core, block_faults}
 use Rattle.aj_elaborate.proofs.Bodies.{faults_told, node_made, on_ok}
 use Rattle.aj_elaborate.proofs.methods.method.Goals as goal
 

@@ -2,12 +2,12 @@ use Rattle.std.proofs.Common.{true, map, flat_map, ap, ◌∙◌, option_map}
 use Rattle.aj_classes.specs.Views.{table_data}
 use Rattle.aj_core.specs.Core.{BlockS}
 use Rattle.aj_syntax.specs.Views.{lock_of, stmt_of, stmts_from}
-use Rattle.aj_statement_rules.specs.Locks.{lock_rule}
+use Rattle.aj_type_rules.specs.Locks.{lock_rule}
 use Rattle.aj_type_rules.specs.Noted.{noted}
 use Rattle.aj_elaborate.specs.Programs.{all_there}
 use Rattle.aj_type_rules.specs.Rulings.{gain, loss}
 use Rattle.aj_type_rules.specs.Scopes.{parameters_from}
-use Rattle.aj_statement_rules.specs.Stmts.{block_core, block_faults}
+use Rattle.aj_type_rules.specs.Stmts.{block_core, block_faults}
 use Rattle.aj_elaborate.proofs.Bodies.{types_from}
 use Rattle.aj_elaborate.proofs.methods.method_parts.Goals as goal
 

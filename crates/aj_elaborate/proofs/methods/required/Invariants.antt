@@ -2,7 +2,7 @@ use Rattle.std.proofs.Common.{◌≡◌, drop, flat_map, map}
 use Rattle.aj_classes.specs.Views.{table_data}
 use Rattle.aj_syntax.specs.Views.{lock_of}
 use Rattle.aj_elaborate.specs.Gathered.{gathered, appended}
-use Rattle.aj_statement_rules.specs.Locks.{lock_rule}
+use Rattle.aj_type_rules.specs.Locks.{lock_rule}
 use Rattle.aj_type_rules.specs.Noted.{noted}
 use Rattle.aj_elaborate.specs.Programs.{all_there}
 use Rattle.aj_type_rules.specs.Rulings.{gain, loss}

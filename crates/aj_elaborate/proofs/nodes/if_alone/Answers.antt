@@ -1,7 +1,7 @@
 use Rattle.std.proofs.Common.{◌∙◌, Some, ap, option_map}
 use Rattle.aj_core.specs.Views.{stmt_of}
 use Rattle.aj_type_rules.specs.Rulings.{both}
-use Rattle.aj_statement_rules.specs.Stmts.{if_node}
+use Rattle.aj_type_rules.specs.Stmts.{if_node}
 use Rattle.aj_type_rules.specs.Views.{boxed_expr}
 use Rattle.aj_elaborate.proofs.Blocks.{one_branch}
 use Rattle.aj_elaborate.proofs.nodes.if_alone.Goals as goal

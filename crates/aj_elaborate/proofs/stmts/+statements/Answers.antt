@@ -6,12 +6,12 @@ use Rattle.aj_core.specs.Views as core
 use Rattle.aj_syntax.specs.Trees as tree
 use Rattle.aj_syntax.specs.Views.{stmt_of, stmts_from, lock_of}
 use Rattle.aj_syntax.proofs.Bridge.{view_block, view_sync}
-use Rattle.aj_statement_rules.specs.Completion.{completes, completes_each, locals_in, locals_in_each}
+use Rattle.aj_type_rules.specs.Completion.{completes, completes_each, locals_in, locals_in_each}
 use Rattle.aj_elaborate.specs.Gathered.{gathered}
-use Rattle.aj_statement_rules.specs.Locks.{lock_rule}
+use Rattle.aj_type_rules.specs.Locks.{lock_rule}
 use Rattle.aj_type_rules.specs.Noted.{noted}
 use Rattle.aj_type_rules.specs.Rulings.{gain, loss}
-use Rattle.aj_statement_rules.specs.Stmts.{declared_type, scope_after, stmt_core, block_core, stmt_faults, block_faults}
+use Rattle.aj_type_rules.specs.Stmts.{declared_type, scope_after, stmt_core, block_core, stmt_faults, block_faults}
 use Rattle.aj_elaborate.proofs.Blocks.{link, blocks_end, statement_step, statement_fault, locals_step, completes_step, sync_made, sync_fault, grown, behind}
 use Rattle.aj_elaborate.proofs.Bodies.{on_ok}
 use Rattle.aj_elaborate.proofs.Gathering.{so_far}

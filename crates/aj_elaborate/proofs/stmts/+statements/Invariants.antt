@@ -3,10 +3,10 @@ use Rattle.aj_type_rules.specs.declared.scope.Bound.{Bound}
 use Rattle.aj_classes.specs.Views.{table_data}
 use Rattle.aj_core.specs.Views as core
 use Rattle.aj_syntax.specs.Views.{stmt_of, stmts_from}
-use Rattle.aj_statement_rules.specs.Completion.{completes_each, locals_in_each}
+use Rattle.aj_type_rules.specs.Completion.{completes_each, locals_in_each}
 use Rattle.aj_elaborate.specs.Gathered.{gathered}
 use Rattle.aj_type_rules.specs.Noted.{noted}
-use Rattle.aj_statement_rules.specs.Stmts.{block_core, block_faults}
+use Rattle.aj_type_rules.specs.Stmts.{block_core, block_faults}
 use Rattle.aj_elaborate.proofs.Blocks.{link}
 use Rattle.aj_elaborate.proofs.Gathering.{so_far}
 use Rattle.aj_elaborate.proofs.Measures.{stmt_measure, stmts_measure}

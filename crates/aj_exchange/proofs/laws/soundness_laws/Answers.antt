@@ -11,4 +11,4 @@ pub returns-clause-run : goal.returns-clause-run
 returns-clause-run c = λ P s q e. sound_run P s q e
 
 pub returns-clause-orderly : goal.returns-clause-orderly
-returns-clause-orderly c = λ q s. sound_orderly q s
+returns-clause-orderly c = sound_orderly

@@ -1,5 +1,6 @@
 use Rattle.std.proofs.Common.{◌≡◌, length}
 use Rattle.aj_core.specs.Views.{program_of}
+use Rattle.aj_rules.specs.Search.{row_at as overs_at}
 use Rattle.aj_infer.proofs.CalleeLemmas.{SoFar}
 use Rattle.aj_infer.proofs.callers.add_methods.Given as goal
 
@@ -7,5 +8,5 @@ use Rattle.aj_infer.proofs.callers.add_methods.Given as goal
 abbrev pub invariant-loop-caller : goal.invariant-loop-caller
 invariant-loop-caller l = record {
   size : length l.rows ≡ length l.fn.rows;
-  callers : SoFar (program_of l.program) l.rows l.caller;
+  callers : SoFar (program_of l.program) (overs_at l.over) l.rows l.caller;
 }

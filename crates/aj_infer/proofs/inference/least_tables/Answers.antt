@@ -19,7 +19,7 @@ invariant_of-cells-2 g c =
     let o = c.in_ok-tables.tables.ok in
     let len : c.len-count.result ≡ length tables = omega (arith, o, c.len-count.ensures) in
     record {
-      sound = start_cells P c.args.sets.now tables (length c.methods.result.now) c.in_ok-tables.ensures all c.requires.count c.few.ensures c.len-count.result (1024 * c.len-count.result) c.in_ok-callers.callers.items len refl c.in_ok-callers.ensures;
+      sound = start_cells P c.args.sets.now tables (length c.methods.result.now) c.in_ok-tables.ensures all c.in_ok-over.over c.requires.count c.few.ensures c.len-count.result (1024 * c.len-count.result) c.in_ok-callers.callers.items len refl c.in_ok-callers.ensures;
     }
 
 pub returns-clause-count : goal.returns-clause-count
@@ -32,5 +32,5 @@ pub returns-clause-least : goal.returns-clause-least
 returns-clause-least g c =
     let P = program_of c.args.program.now in
     let all = same_count c.methods.result.now P.methods c.methods.ensures in
-    λ typed. least_is P c.args.sets.now c.in_ok-tables.tables.items (length c.methods.result.now) c.in_ok-tables.ensures all typed c.requires.relevant c.settle-done.new.cells.tables.items
+    λ typed. least_is P c.args.sets.now c.in_ok-tables.tables.items (length c.methods.result.now) c.in_ok-tables.ensures all c.in_ok-over.over typed c.requires.relevant c.in_ok-over.ensures c.settle-done.new.cells.tables.items
     c.in_ok-done.ensures.closed c.in_ok-done.ensures.between

@@ -1,6 +1,6 @@
 use Rattle.aj_rules.specs.Near.{rel_of}
 use Rattle.aj_infer.proofs.LeastLemmas.{least_unique, least_decides, least_accepts}
-use Rattle.aj_infer.proofs.Required.{required_in_rel}
+use Rattle.aj_rules.proofs.Required.{required_in_rel}
 use Rattle.aj_infer.proofs.laws.least_assignment_laws.Goals as goal
 
 pub returns-clause-unique : goal.returns-clause-unique

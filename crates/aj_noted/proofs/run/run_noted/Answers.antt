@@ -4,7 +4,7 @@ use Rattle.std.proofs.lemmas.List.{take_all}
 use Rattle.aj_core.specs.Views.{program_of}
 use Rattle.aj_state.specs.States.{State}
 use Rattle.aj_steps.specs.Step.{outcome}
-use Rattle.aj_perform.specs.Reasons.{IsReason}
+use Rattle.aj_machine.specs.Reasons.{IsReason}
 use Rattle.aj_machine.specs.Standing.{program_run, StandsFor}
 use Rattle.aj_noted.specs.Made.{HaveRun}
 use Rattle.aj_noted.specs.NoRun.{IsNoRun}

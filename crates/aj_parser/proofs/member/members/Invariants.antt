@@ -1,7 +1,7 @@
 use Rattle.std.proofs.Common.{◌≡◌, map, length}
 use Rattle.aj_syntax.specs.Views.{member_of}
 use Rattle.aj_expressions.specs.Combine.{item_step, loop, several}
-use Rattle.aj_statements.specs.Statements.{goes_on}
+use Rattle.aj_expressions.specs.Statements.{goes_on}
 use Rattle.aj_parser.specs.Members.{member}
 use Rattle.aj_parser.proofs.member.members.Given as goal
 

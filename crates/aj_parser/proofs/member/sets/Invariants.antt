@@ -1,6 +1,6 @@
 use Rattle.std.proofs.Common.{◌≡◌, length}
 use Rattle.aj_expressions.specs.Combine.{item_step, loop, several}
-use Rattle.aj_statements.specs.Statements.{goes_on}
+use Rattle.aj_expressions.specs.Statements.{goes_on}
 use Rattle.aj_parser.specs.Members.{set}
 use Rattle.aj_parser.proofs.member.sets.Given as goal
 

@@ -1,5 +1,5 @@
 use Rattle.std.proofs.Common.{◌≡◌, map, drop}
-use Rattle.aj_page.specs.Layout.{writes}
+use Rattle.aj_printer.specs.Layout.{writes}
 use Rattle.aj_printer.specs.Printing.{args_lexemes, more_args_lexemes}
 use Rattle.aj_syntax.specs.Views.{expr_of, exprs_from}
 use Rattle.aj_printer.proofs.print.+expressions.Given as goal

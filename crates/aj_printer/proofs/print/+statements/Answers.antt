@@ -1,5 +1,5 @@
 use Rattle.std.proofs.Common.{◌≡◌, [], ◌∷◌, ◌++◌, map, refl, ap, sym, subst, ◌∙◌, append_assoc, OnOk}
-use Rattle.aj_page.specs.Layout.{Fixed, writes}
+use Rattle.aj_printer.specs.Layout.{Fixed, writes}
 use Rattle.aj_syntax.specs.declared.terminal.Terminal.TheVariants as T
 use Rattle.aj_printer.specs.Printing.{lock_lexemes, stmts_lexemes, stmt_lexemes}
 use Rattle.aj_syntax.specs.Trees.{BlockS}

@@ -1,5 +1,5 @@
 use Rattle.std.proofs.Common.{◌≡◌, map, drop}
-use Rattle.aj_page.specs.Layout.{writes}
+use Rattle.aj_printer.specs.Layout.{writes}
 use Rattle.aj_printer.specs.Printing.{stmts_lexemes}
 use Rattle.aj_syntax.specs.Views.{stmt_of, stmts_from}
 use Rattle.aj_printer.proofs.print.+statements.Given as goal

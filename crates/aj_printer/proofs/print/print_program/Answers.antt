@@ -1,5 +1,5 @@
 use Rattle.std.proofs.Common.{◌≡◌, map, ap, sym, subst, ◌∙◌, string_bytes}
-use Rattle.aj_page.specs.Layout.{writes}
+use Rattle.aj_printer.specs.Layout.{writes}
 use Rattle.aj_printer.specs.Printing.{all_lexemes, canonical, class_lexemes}
 use Rattle.aj_printer.specs.Reprinted.{ReadsBack}
 use Rattle.aj_syntax.specs.Views.{class_of, program_of}

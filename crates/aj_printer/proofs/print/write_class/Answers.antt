@@ -1,5 +1,5 @@
 use Rattle.std.proofs.Common.{refl, map, ap, ◌∙◌}
-use Rattle.aj_page.specs.Layout.{writes}
+use Rattle.aj_printer.specs.Layout.{writes}
 use Rattle.aj_printer.specs.Printing.{class_lexemes, runnable_lexemes, all_lexemes, member_lexemes}
 use Rattle.aj_syntax.specs.Views.{class_of, member_of}
 use Rattle.aj_printer.proofs.Writing.{put_first, writes_first, put_last, added}

@@ -1,5 +1,5 @@
 use Rattle.std.proofs.Common.{◌≡◌, map, drop}
-use Rattle.aj_page.specs.Layout.{writes}
+use Rattle.aj_printer.specs.Layout.{writes}
 use Rattle.aj_printer.specs.Printing.{all_lexemes, class_lexemes}
 use Rattle.aj_syntax.specs.Views.{class_of}
 use Rattle.aj_printer.proofs.print.write_classes.Given as goal

@@ -1,5 +1,5 @@
 use Rattle.std.proofs.Common.{◌∷◌, map, refl, ap, sym, ◌∙◌}
-use Rattle.aj_page.specs.Layout.{writes, Fixed}
+use Rattle.aj_printer.specs.Layout.{writes, Fixed}
 use Rattle.aj_syntax.specs.declared.terminal.Terminal.TheVariants as T
 use Rattle.aj_printer.specs.Printing.{further_lexemes, lock_lexemes}
 use Rattle.aj_syntax.specs.Views.{lock_of}

@@ -1,5 +1,5 @@
 use Rattle.std.proofs.Common.{◌≡◌, map, drop}
-use Rattle.aj_page.specs.Layout.{writes}
+use Rattle.aj_printer.specs.Layout.{writes}
 use Rattle.aj_printer.specs.Printing.{further_lexemes, lock_lexemes}
 use Rattle.aj_syntax.specs.Views.{lock_of}
 use Rattle.aj_printer.proofs.print.write_further_locks.Given as goal

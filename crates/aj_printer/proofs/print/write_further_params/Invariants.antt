@@ -1,5 +1,5 @@
 use Rattle.std.proofs.Common.{◌≡◌, drop}
-use Rattle.aj_page.specs.Layout.{writes}
+use Rattle.aj_printer.specs.Layout.{writes}
 use Rattle.aj_printer.specs.Printing.{further_lexemes, param_lexemes}
 use Rattle.aj_printer.proofs.print.write_further_params.Given as goal
 

@@ -1,5 +1,5 @@
 use Rattle.std.proofs.Common.{map, refl}
-use Rattle.aj_page.specs.Layout.{writes}
+use Rattle.aj_printer.specs.Layout.{writes}
 use Rattle.aj_printer.specs.Printing.{all_lexemes, member_lexemes}
 use Rattle.aj_syntax.specs.Views.{member_of}
 use Rattle.aj_printer.proofs.Writing.{item_step, item_end}

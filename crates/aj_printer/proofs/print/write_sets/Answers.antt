@@ -1,5 +1,5 @@
 use Rattle.std.proofs.Common.{refl}
-use Rattle.aj_page.specs.Layout.{writes}
+use Rattle.aj_printer.specs.Layout.{writes}
 use Rattle.aj_printer.specs.Printing.{all_lexemes, set_lexemes}
 use Rattle.aj_printer.proofs.Writing.{item_step, item_end}
 use Rattle.aj_printer.proofs.print.write_sets.Goals as goal

@@ -1,7 +1,7 @@
 -- The next method line is the first of the lines.
 use Rattle.aj_book_grammar.specs.Books.{Book}
-use Rattle.aj_book_text.specs.Views.{lines_in}
-use Rattle.aj_book_text.proofs.TableLaws.{first_line_is, no_line}
+use Rattle.aj_book_grammar.specs.Views.{lines_in}
+use Rattle.aj_book_grammar.proofs.TableLaws.{first_line_is, no_line}
 use Rattle.aj_deriv.proofs.lines.BookCursorLines.first_line.Goals as goal
 
 pub returns-in_default-clause-none : goal.returns-in_default-clause-none

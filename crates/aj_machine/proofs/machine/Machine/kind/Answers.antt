@@ -4,7 +4,7 @@ use Rattle.std.proofs.lemmas.Option.{slice_get_read, slice_get_past}
 use Rattle.aj_core.specs.Views.{program_of}
 use Rattle.aj_steps.specs.Step.{kind_of}
 use Rattle.aj_deeds.specs.Likeness.{StateStands}
-use Rattle.aj_perform.specs.MachineValue.{code_state}
+use Rattle.aj_machine.specs.MachineValue.{code_state}
 use Rattle.aj_machine.specs.Standing.{program_run}
 use Rattle.aj_machine.proofs.KindOf.{kind_at}
 use Rattle.aj_machine.proofs.machine.Machine.kind.Goals as goal

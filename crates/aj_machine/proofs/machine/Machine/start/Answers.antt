@@ -4,7 +4,7 @@ use Rattle.std.specs.FinMap.{get-empty}
 use Rattle.aj_core.specs.Views.{program_of}
 use Rattle.aj_state.specs.Memory.{address_cmp}
 use Rattle.aj_state.specs.States.{main_address}
-use Rattle.aj_perform.proofs.Counting.{start_counted}
+use Rattle.aj_machine.proofs.Counting.{start_counted}
 use Rattle.aj_machine.proofs.Starting.{started, start_kept}
 use Rattle.aj_machine.proofs.machine.Machine.start.Goals as goal
 

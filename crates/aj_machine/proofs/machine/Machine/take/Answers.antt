@@ -4,10 +4,10 @@ use Rattle.aj_core.specs.Views.{program_of}
 use Rattle.aj_core.specs.Typed.{IsTyped}
 use Rattle.aj_machine.specs.Standing.{program_run, StandsFor}
 use Rattle.aj_deeds.specs.CodeMachine.{code_outcome}
-use Rattle.aj_perform.specs.MachineValue.{code_state}
-use Rattle.aj_perform.specs.Taken.{state_in, turn_of}
-use Rattle.aj_perform.specs.Counts.{IsCounted}
-use Rattle.aj_perform.specs.Rooms.{TurnFits}
+use Rattle.aj_machine.specs.MachineValue.{code_state}
+use Rattle.aj_machine.specs.Taken.{state_in, turn_of}
+use Rattle.aj_machine.specs.Counts.{IsCounted}
+use Rattle.aj_machine.specs.Rooms.{TurnFits}
 use Rattle.aj_machine.proofs.Reaching.{kept_on, turn_fits}
 use Rattle.aj_machine.proofs.Turned.{kept_length, no_more_threads, one_more_thread, machine_turn}
 use Rattle.aj_machine.proofs.machine.Machine.take.Goals as goal

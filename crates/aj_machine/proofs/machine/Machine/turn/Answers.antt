@@ -1,7 +1,7 @@
 use Rattle.std.proofs.Common.{ap, ◌∙◌}
 use Rattle.std.specs.Prelude.{slice_get}
 use Rattle.aj_core.specs.Views.{program_of}
-use Rattle.aj_perform.specs.Deeds.{seen_of}
+use Rattle.aj_machine.specs.Deeds.{seen_of}
 use Rattle.aj_deeds.specs.Turns.{next_turn}
 use Rattle.aj_machine.proofs.machine.Machine.turn.Goals as goal
 

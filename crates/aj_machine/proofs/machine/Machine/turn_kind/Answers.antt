@@ -1,9 +1,9 @@
 use Rattle.std.proofs.Common.{sym, ap, subst, ◌∙◌}
 use Rattle.aj_core.specs.Views.{program_of}
-use Rattle.aj_perform.specs.Deeds.{seen_of}
+use Rattle.aj_machine.specs.Deeds.{seen_of}
 use Rattle.aj_machine.specs.Standing.{program_run, StandsFor}
 use Rattle.aj_deeds.specs.Turns.{turn_kind}
-use Rattle.aj_perform.specs.Taken.{turn_of}
+use Rattle.aj_machine.specs.Taken.{turn_of}
 use Rattle.aj_machine.proofs.KindOf.{turn_kind_at}
 use Rattle.aj_steps.specs.Step.{kind_of}
 use Rattle.aj_machine.proofs.machine.Machine.turn_kind.Goals as goal

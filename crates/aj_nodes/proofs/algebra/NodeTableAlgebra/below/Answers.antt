@@ -1,7 +1,7 @@
 -- The comparison of trees is exact.
 use Rattle.std.proofs.Common.{sym, ◌∙◌}
 use Rattle.aj_cond.proofs.BelowLemmas.{below-exact}
-use Rattle.aj_node_rows.specs.Nodes.{tree_at}
+use Rattle.aj_nodes.specs.Nodes.{tree_at}
 use Rattle.aj_nodes.proofs.algebra.NodeTableAlgebra.below.Goals as goal
 
 pub returns : goal.returns

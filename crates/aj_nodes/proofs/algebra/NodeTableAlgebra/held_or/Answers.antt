@@ -1,5 +1,5 @@
 use Rattle.aj_cond.proofs.HoldLemmas.{hold-is}
-use Rattle.aj_node_rows.specs.Nodes.{tree_at}
+use Rattle.aj_nodes.specs.Nodes.{tree_at}
 use Rattle.aj_nodes.proofs.Values.{value_by}
 use Rattle.aj_nodes.proofs.algebra.NodeTableAlgebra.held_or.Goals as goal
 

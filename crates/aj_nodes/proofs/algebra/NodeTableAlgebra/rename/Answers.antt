@@ -3,7 +3,7 @@ use Rattle.std.proofs.Common.{◌≡◌, ◌∙◌, subst}
 use Rattle.aj_algebra.specs.HeldPaths.{Held, renamed}
 use Rattle.aj_cond.specs.Conditions.{value_of}
 use Rattle.aj_cond.proofs.RenameLemmas.{rename-is}
-use Rattle.aj_node_rows.specs.Nodes.{tree_at}
+use Rattle.aj_nodes.specs.Nodes.{tree_at}
 use Rattle.aj_nodes.proofs.Values.{value_by}
 use Rattle.aj_nodes.proofs.algebra.NodeTableAlgebra.rename.Goals as goal
 

@@ -1,6 +1,6 @@
 use Rattle.aj_algebra.specs.Basics.{seq_of}
 use Rattle.aj_cond.proofs.LeafLemmas.{both-is}
-use Rattle.aj_node_rows.specs.Nodes.{tree_at}
+use Rattle.aj_nodes.specs.Nodes.{tree_at}
 use Rattle.aj_nodes.proofs.Values.{value_by}
 use Rattle.aj_nodes.proofs.algebra.NodeTableAlgebra.seq.Goals as goal
 

@@ -1,6 +1,6 @@
 -- The test on the lock before the others, at the root, or in the parts.
 use Rattle.aj_nodes.proofs.Steps.{sync_less, sync_equal, sync_canonical, sync_combined}
-use Rattle.aj_node_rows.specs.Nodes.{tree_at}
+use Rattle.aj_nodes.specs.Nodes.{tree_at}
 use Rattle.aj_nodes.proofs.table.NodeTable.+sync_at.Goals as goal
 
 pub lifted-requires-in-Less-clause-canonical : goal.lifted-requires-in-Less-clause-canonical

@@ -1,6 +1,6 @@
 -- Numbers are equal exactly where values are.
 use Rattle.std.proofs.Common.{subst}
-use Rattle.aj_node_rows.specs.Nodes.{IsTable}
+use Rattle.aj_nodes.specs.Nodes.{IsTable}
 use Rattle.aj_nodes.proofs.Values.{same_number, same_node}
 use Rattle.aj_nodes.proofs.table.NodeTable.same_value.Goals as goal
 

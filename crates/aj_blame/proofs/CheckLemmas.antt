@@ -1,0 +1,70 @@
+-- The checker's steps: the first line that fails a test, and lines that follow from what is said so far.
+use Rattle.std.proofs.Common.{◌≡◌, ℕ, zero, suc, ◌+◌, ◌-◌, ◌<◌, ◌≤◌, ◌⊎◌, Bool, true, false, List, [], ◌∷◌, ◌++◌, length, get_or, take, Some, None, refl, sym, ap, subst, ◌∙◌, arith, inl, inr}
+use Rattle.std.specs.Prelude.{Option, slice_get, MatchOption}
+use Rattle.std.proofs.lemmas.List.{take_more}
+use Rattle.std.proofs.lemmas.Option.{slice_get_within, slice_get-get_or, same_Some}
+use Rattle.aj_paths.specs.Paths.{PathData}
+use Rattle.aj_algebra.specs.declared.basic.Basic.{Basic}
+use Rattle.aj_algebra.specs.Basics.{below_of}
+use Rattle.aj_algebra.specs.HeldPaths.{Held, has_path}
+use Rattle.aj_core.specs.Core.{Program}
+use Rattle.aj_rules.specs.Near.{MethodPaths, rel_of}
+use Rattle.aj_blame.specs.Lines.{LineData, floor, run_effect}
+use Rattle.aj_blame.specs.Certificates.{is_placed, is_justified, AreLines, IsCertificate, breaks}
+use Rattle.aj_blame.specs.Rows.{ClaimData, said_by}
+use Rattle.aj_blame.specs.Wrongs.{placed_at, justified_at, PassBefore, AllPass, IsFirstFailing}
+use Rattle.aj_blame.proofs.Below.{placed_is}
+use Rattle.aj_blame.proofs.RowLemmas.{last_or}
+
+-- the line at a place
+line_at : (lines : List LineData) (k : ℕ) (l : LineData) → k < length lines → l ≡ get_or lines k l → slice_get lines k ≡ Some l
+line_at lines k l below is = slice_get-get_or lines k l below ∙ ap Some (sym is)
+
+pub pass_none : (test : ℕ → LineData → Bool) (lines : List LineData) → PassBefore test lines 0
+pass_none test lines k l below at = absurd (omega (arith, below))
+
+pub pass_more : (test : ℕ → LineData → Bool) (lines : List LineData) (k : ℕ) (l : LineData) → k < length lines → l ≡ get_or lines k l → test k l ≡ true → PassBefore test lines k → PassBefore test lines (k + 1)
+pass_more test lines k l below is passes before j x less at = elim (last_or j k less) as (λ _. test j x ≡ true) [
+  | inl earlier ↦ before j x earlier at
+  | inr same ↦
+      let that : l ≡ x = same_Some l x (sym (line_at lines k l below is) ∙ ap (slice_get lines) (sym same) ∙ at) in
+      (λ i. test (same i) (sym that i)) ∙ passes
+]
+
+pub pass_all : (test : ℕ → LineData → Bool) (lines : List LineData) (k : ℕ) → length lines ≤ k → PassBefore test lines k → AllPass test lines
+pass_all test lines k past before j x at = before j x (omega (arith, slice_get_within lines j x at, past)) at
+
+pub first_failing : (test : ℕ → LineData → Bool) (lines : List LineData) (k : ℕ) (l : LineData) → k < length lines → l ≡ get_or lines k l → test k l ≡ false → PassBefore test lines k → IsFirstFailing test lines k
+first_failing test lines k l below is fails before = record { line = l; is = line_at lines k l below is; fails = fails; before = before }
+
+-- a line with its place has a method of the program
+pub placed_within : (P : Program) (rel : ℕ → List PathData) (lines : List LineData) (k : ℕ) (l : LineData) → AllPass (placed_at P rel) lines → k < length lines → l ≡ get_or lines k l → l.method < length P.methods
+placed_within P rel lines k l all below is = let at = placed_is P rel l (all k l (line_at lines k l below is)) in slice_get_within P.methods l.method at.method at.is
+
+-- whether a line follows, as the calls tell it
+pub justified_is : (P : Program) (sets kept : List MethodPaths) (rows : List (List ClaimData)) (lines : List LineData) (k : ℕ) (l : LineData) (b : Bool) → kept ≡ sets → said_by (rel_of kept) rows ≡ floor (rel_of kept) (take k lines)
+    → b ≡ below_of l.found (run_effect P (rel_of sets) (said_by (rel_of kept) rows) l.method (has_path l.held)) → justified_at P (rel_of sets) lines k l ≡ b
+justified_is P sets kept rows lines k l b same says is =
+    sym (is ∙ ap (λ (A : ℕ → Held → Basic). below_of l.found (run_effect P (rel_of sets) A l.method (has_path l.held))) (says ∙ ap (λ s. floor (rel_of s) (take k lines)) same))
+
+-- one line more is said
+pub says_more : (kept now : List MethodPaths) (rows next : List (List ClaimData)) (lines : List LineData) (k : ℕ) (l : LineData) → k < length lines → l ≡ get_or lines k l → said_by (rel_of kept) rows ≡ floor (rel_of kept) (take k lines)
+    → ((ls : List LineData) → said_by (rel_of kept) rows ≡ floor (rel_of kept) ls → said_by (rel_of now) next ≡ floor (rel_of now) (ls ++ l ∷ []))
+    → said_by (rel_of now) next ≡ floor (rel_of now) (take (k + 1) lines)
+says_more kept now rows next lines k l below is says add = add (take k lines) says ∙ ap (floor (rel_of now)) (sym (take_more lines k l below ∙ ap (λ x. take k lines ++ x ∷ []) (sym is)))
+
+pub is_certificate : (P : Program) (rel : ℕ → List PathData) (lines : List LineData) → AllPass (placed_at P rel) lines → AllPass (justified_at P rel lines) lines → breaks P (slice_get lines (length lines - 1)) ≡ true → IsCertificate P rel lines
+is_certificate P rel lines placed steps broken = record { each = record { placed = placed; steps = steps }; broken = broken }
+
+-- what is told of a copy of the lines holds of the lines
+
+pub placed_all : (P : Program) (rel : ℕ → List PathData) (o : Option ℕ) (lines now : List LineData) → lines ≡ now → o ≡ None → MatchOption o (AllPass (placed_at P rel) lines) (λ k. IsFirstFailing (placed_at P rel) lines k) → AllPass (placed_at P rel) now
+placed_all P rel None lines now same e first = subst (λ xs. AllPass (placed_at P rel) xs) same first
+placed_all P rel (Some k) lines now same e first = absurd cc
+
+pub steps_all : (P : Program) (rel : ℕ → List PathData) (o : Option ℕ) (lines now : List LineData) → lines ≡ now → o ≡ None → MatchOption o (AllPass (justified_at P rel lines) lines) (λ k. IsFirstFailing (justified_at P rel lines) lines k) → AllPass (justified_at P rel now) now
+steps_all P rel None lines now same e first = subst (λ xs. AllPass (justified_at P rel xs) xs) same first
+steps_all P rel (Some k) lines now same e first = absurd cc
+
+pub breaks_is : (P : Program) (lines now : List LineData) (r b : Bool) → lines ≡ now → r ≡ breaks P (slice_get lines (length lines - 1)) → r ≡ b → breaks P (slice_get now (length now - 1)) ≡ b
+breaks_is P lines now r b same is e = subst (λ xs. breaks P (slice_get xs (length xs - 1)) ≡ b) same (sym is ∙ e)

@@ -1,0 +1,28 @@
+-- One set more.
+use Rattle.std.proofs.Common.{◌≡◌, ◌+◌, ◌++◌, false, rules, drop, ap, subst, ◌∙◌}
+use Rattle.std.specs.List.{AllByRecursion}
+use Rattle.std.specs.List.Sorted.{IsStrictlySortedBy}
+use Rattle.aj_lemmas.proofs.Lists.{next_drop}
+use Rattle.aj_paths.specs.Paths.{path_order}
+use Rattle.aj_core.specs.Views.{program_of}
+use Rattle.aj_rules.specs.Near.{rel_of}
+use Rattle.aj_blame.specs.Ends.{cells_at, goes_on}
+use Rattle.aj_blame.proofs.MakerLemmas.{sets_step}
+use Rattle.aj_blame.proofs.ask.ask_sets.Goals as goal
+
+pub loop-part-preserved : goal.loop-part-preserved
+loop-part-preserved c =
+    let P = program_of c.args.program.now in
+    let rel = rel_of c.args.sets.now in
+    let parts = c.args.parts.now in
+    let k = c.loop-part.part-index in
+    let before = c.loop-part.invariant in
+    let none : c.in_ok-ask.field-0 ≡ false = search rules in
+    record {
+      agrees = c.in_ok-ask.ensures.agrees;
+      ascend = (subst (AllByRecursion (IsStrictlySortedBy path_order)) (next_drop parts k c.part-item.result c.loop-part-test.true c.part-item.is) before.ascend).1;
+      asked = λ cs. before.asked cs
+          ∙ sets_step P rel c.args.method parts k c.part-item.result c.as_slice-held.result.now c.loop-part.lines.items c.ask.new.lines.items c.in_ok-ask.field-0 c.loop-part-test.true c.part-item.is
+          (c.as_slice-held.ensures.value ∙ c.part.view_is) c.in_ok-ask.ensures.asked cs
+          ∙ ap (λ b. goes_on P rel (cells_at c.args.method (drop (k + 1) parts) ++ cs) c.ask.new.lines.items b) none;
+    }

@@ -1,0 +1,19 @@
+use Rattle.std.proofs.Common.{◌≡◌, ◌++◌, drop, List}
+use Rattle.std.specs.List.{AllByRecursion}
+use Rattle.std.specs.List.Sorted.{IsStrictlySortedBy}
+use Rattle.aj_paths.specs.Paths.{path_order}
+use Rattle.aj_core.specs.Views.{program_of}
+use Rattle.aj_rules.specs.Near.{rel_of}
+use Rattle.aj_blame.specs.Passes.{Cell, pass}
+use Rattle.aj_blame.specs.Ends.{Agrees, cells_at}
+use Rattle.aj_blame.proofs.ask.ask_sets.Given as goal
+
+-- a pass that asks the rest now goes as one that asks all from the start
+abbrev pub invariant-loop-part : goal.invariant-loop-part
+invariant-loop-part l =
+    let P = program_of l.program in let rel = rel_of l.sets in
+    record {
+      agrees : Agrees P l.sets l.floors.sets.now l.floors.rows.items l.lines.items;
+      ascend : AllByRecursion (IsStrictlySortedBy path_order) (drop l.part-index l.parts);
+      asked : (cs : List Cell) → pass P rel (cells_at l.method l.parts ++ cs) l.fn.lines.items ≡ pass P rel (cells_at l.method (drop l.part-index l.parts) ++ cs) l.lines.items;
+    }

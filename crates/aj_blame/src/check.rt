@@ -1,0 +1,181 @@
+//! The checker of certificates.
+ghost use Rattle.std.specs.Prelude.{◌≡◌, ◌<◌, ◌-◌, ◌^◌, ℕ, true, length, slice_get, take, IfOk, IfSome, MatchOption, MatchResult};
+ghost use Rattle.aj_algebra.specs.Basics.{below_of};
+ghost use Rattle.aj_algebra.specs.HeldPaths.{has_path};
+ghost use Rattle.aj_core.specs.Views.{program_of};
+ghost use Rattle.aj_rules.specs.Near.{rel_of};
+ghost use Rattle.aj_blame.specs.Lines.{run_effect};
+ghost use Rattle.aj_blame.specs.Rows.{AreOverriding, said_by};
+ghost use Rattle.aj_blame.specs.Certificates.{IsCertificate, bound_of, breaks, is_placed, keeps_bound};
+ghost use Rattle.aj_blame.specs.Wrongs.{AllPass, IsFirstFailing, IsWrong, justified_at, placed_at};
+
+use crate::floors::Floors;
+use crate::line::{Blame, Line};
+use crate::overriding::{Overriding, overriding_of};
+use crate::up::run_effect;
+use aj_algebra::Basic;
+use aj_core::CoreProgram;
+use aj_held_lists::has_all;
+use aj_paths::MethodId;
+use aj_rules::RelevantSets;
+use std::alloc::{AllocError, AllocError as NoMemory, Global};
+
+/// Why lines are no certificate: the first cause that stands. Lines count from 1.
+#[derive(Clone, Copy, Debug, PartialEq, Eq)]
+pub enum BlameWrong {
+    /// The method of the line isn't the program's, or the paths of the line aren't relevant to it or lack a required one.
+    Place { line: u32 },
+    /// The line doesn't follow from those before it.
+    Step { line: u32 },
+    /// There is no line, or the last one keeps the bound of its method.
+    NoBound,
+    /// There was no memory for the check.
+    NoMemory,
+}
+
+impl From<AllocError> for BlameWrong {
+    ghost use Rattle.std.specs.Prelude.{◌≡◌};
+    ghost use Rattle.aj_blame.specs.declared.check.BlameWrong.TheVariants as wrong;
+
+    ghost from_gives = { λ _ e. e ≡ wrong.NoMemory };
+
+    fn from(_: AllocError) -> Self {
+        BlameWrong::NoMemory
+    }
+}
+
+/// Whether a line has a method of the program, at relevant paths that have the required ones.
+fn is_placed(program: &CoreProgram, sets: &RelevantSets, line: &Line) -> bool
+    ensures { result ≡ is_placed (program_of program.now) (rel_of sets.now) line.now }
+{
+    match program.methods().get(line.method.0 as usize) {
+        Some(method) => {
+            has_all(sets.rel(line.method), line.held.as_slice())
+                && has_all(line.held.as_slice(), method.requires_.as_slice())
+        }
+        None => false,
+    }
+}
+
+/// The greatest basic that a method may have at its required paths; any, where it isn't there.
+fn bound_of(program: &CoreProgram, method: MethodId) -> Basic
+    ensures { result ≡ bound_of (slice_get (program_of program.now).methods method) }
+{
+    match program.methods().get(method.0 as usize) {
+        Some(method) if method.annotated => Basic::Atomic,
+        Some(_) => Basic::Cmpd,
+        None => Basic::Error,
+    }
+}
+
+/// Whether a basic is at most the bound of a method.
+pub fn keeps_bound(program: &CoreProgram, method: MethodId, found: Basic) -> bool
+    ensures { result ≡ keeps_bound (program_of program.now) method found }
+{
+    found.below(bound_of(program, method))
+}
+
+/// Whether there is a last line, and it is above the bound of its method.
+fn breaks(program: &CoreProgram, lines: &[Line]) -> bool
+    ensures { result ≡ breaks (program_of program.now) (slice_get lines.now (length lines.now - 1)) }
+{
+    match lines.last() {
+        Some(line) => !keeps_bound(program, line.method, line.found),
+        None => false,
+    }
+}
+
+/// The first line without its place.
+#[tactic(auto, using(crate::proofs::CheckLemmas::first_failing, crate::proofs::CheckLemmas::pass_none, crate::proofs::CheckLemmas::pass_more, crate::proofs::CheckLemmas::pass_all))]
+fn unplaced(program: &CoreProgram, sets: &RelevantSets, lines: &[Line]) -> Option<usize>
+    ensures first { let P = program_of program.now in let rel = rel_of sets.now in
+        MatchOption result (AllPass (placed_at P rel) lines.now) (λ k. IsFirstFailing (placed_at P rel) lines.now k) }
+    ensures within { IfSome result (λ k. k < length lines.now) }
+{
+    for at in 0..lines.len() {
+        if !is_placed(program, sets, &lines[at]) {
+            return Some(at);
+        }
+    }
+    None
+}
+
+/// Whether a line of a method of the program follows from what is said so far.
+fn is_justified(
+    alloc: Global,
+    program: &CoreProgram,
+    sets: &RelevantSets,
+    over: &Overriding,
+    floors: &Floors<'_>,
+    line: &Line,
+) -> Result<bool, NoMemory>
+    requires there { line.now.method < length (program_of program.now).methods }
+    requires over { let P = program_of program.now in AreOverriding P (length P.methods) over.now.rows.items }
+    ensures { IfOk result (λ b.
+        b ≡ below_of line.now.found (run_effect (program_of program.now) (rel_of sets.now) (said_by (rel_of floors.now.sets.now) floors.now.rows.items) line.now.method (has_path line.now.held))) }
+{
+    let found = run_effect(
+        alloc,
+        program,
+        sets,
+        over,
+        floors,
+        line.method,
+        line.held.as_slice(),
+    )?;
+    Ok(line.found.below(found))
+}
+
+/// The first line that doesn't follow from those before it; each has its place.
+fn unjustified(
+    alloc: Global,
+    program: &CoreProgram,
+    sets: &RelevantSets,
+    lines: &[Line],
+) -> Result<Option<usize>, NoMemory>
+    requires { AllPass (placed_at (program_of program.now) (rel_of sets.now)) lines.now }
+    ensures first { let P = program_of program.now in let rel = rel_of sets.now in
+        IfOk result (λ found. MatchOption found (AllPass (justified_at P rel lines.now) lines.now) (λ k. IsFirstFailing (justified_at P rel lines.now) lines.now k)) }
+    ensures within { IfOk result (λ found. IfSome found (λ k. k < length lines.now)) }
+{
+    let over = overriding_of(alloc, program)?;
+    let mut floors = Floors::new(alloc, sets, program.methods().len())?;
+    for at in 0..lines.len() {
+        let line = &lines[at];
+        if !is_justified(alloc, program, sets, &over, &floors, line)? {
+            return Ok(Some(at));
+        }
+        floors.add(alloc, line)?;
+    }
+    Ok(None)
+}
+
+/// Whether lines are a certificate of refusal of a program with these relevant sets: then no assignment is admissible. A line costs
+/// the size of its method's body, and of what is said so far of the methods that it calls.
+pub fn check_blame(
+    alloc: Global,
+    program: &CoreProgram,
+    sets: &RelevantSets,
+    blame: &Blame,
+) -> Result<(), BlameWrong>
+    requires { length blame.now < 2 ^ 32 }
+    ensures { MatchResult result
+        (λ _. IsCertificate (program_of program.now) (rel_of sets.now) blame.now)
+        (λ e. IsWrong (program_of program.now) (rel_of sets.now) blame.now e) }
+{
+    let lines = blame.lines();
+    if let Some(at) = unplaced(program, sets, lines) {
+        return Err(BlameWrong::Place {
+            line: at as u32 + 1,
+        });
+    }
+    if let Some(at) = unjustified(alloc, program, sets, lines)? {
+        return Err(BlameWrong::Step {
+            line: at as u32 + 1,
+        });
+    }
+    if !breaks(program, lines) {
+        return Err(BlameWrong::NoBound);
+    }
+    Ok(())
+}

@@ -1,0 +1,18 @@
+//! Certificates of refusal: why no assignment is admissible, in lines of which each follows from those before it. The laws, the
+//! checker, and the maker.
+#![tactic(auto)]
+
+mod ask;
+mod check;
+mod floors;
+mod laws;
+mod line;
+mod overriding;
+mod parts;
+mod passes;
+mod up;
+
+pub use check::{BlameWrong, check_blame};
+pub use laws::{certificates_refute, overriding_is_exact, passes_decide};
+pub use line::{Blame, Line};
+pub use passes::{BlameEnd, blame};

@@ -1,0 +1,75 @@
+//! What a call of a method comes to under an assignment.
+ghost use Rattle.std.specs.Prelude.{◌≡◌, ◌<◌, length, slice_get, IfOk};
+ghost use Rattle.aj_algebra.specs.HeldPaths.{has_path};
+ghost use Rattle.aj_core.specs.Views.{program_of};
+ghost use Rattle.aj_rules.specs.Near.{rel_of};
+ghost use Rattle.aj_rules.specs.Search.{row_at};
+ghost use Rattle.aj_blame.specs.Lines.{body_effect, joined_over, run_effect};
+ghost use Rattle.aj_blame.specs.Rows.{AreOverriding};
+
+use crate::overriding::Overriding;
+use aj_algebra::Basic;
+use aj_core::CoreProgram;
+use aj_effect_at::{Assigned, stmt_effect};
+use aj_held_lists::among;
+use aj_paths::{MethodId, Path};
+use aj_rules::RelevantSets;
+use std::alloc::{AllocError as NoMemory, Global};
+
+/// The effect of a method's body, where the method is there.
+fn body_effect<A: Assigned>(
+    alloc: Global,
+    program: &CoreProgram,
+    sets: &RelevantSets,
+    assigned: &A,
+    method: MethodId,
+    held: &[Path],
+) -> Result<Basic, NoMemory>
+    ensures { IfOk result (λ b. let P = program_of program.now in
+        b ≡ body_effect P (rel_of sets.now) (A.Assigned.assigned assigned.now) (slice_get P.methods method) (has_path held.now)) }
+{
+    match program.methods().get(method.0 as usize) {
+        Some(method) => stmt_effect(alloc, program, sets, assigned, &method.body, held),
+        None => Ok(Basic::Const),
+    }
+}
+
+/// The greatest of what is assigned to these methods.
+#[tactic(auto, using(crate::proofs::Sets::join_assoc, crate::proofs::Sets::join_const))]
+fn joined_over<A: Assigned>(
+    alloc: Global,
+    sets: &RelevantSets,
+    assigned: &A,
+    methods: &[MethodId],
+    held: &[Path],
+) -> Result<Basic, NoMemory>
+    ensures { IfOk result (λ b.
+        b ≡ joined_over (rel_of sets.now) (A.Assigned.assigned assigned.now) methods.now (has_path held.now)) }
+{
+    let mut so_far = Basic::Const;
+    for method in methods {
+        let known = among(alloc, sets.rel(*method), held)?;
+        so_far = so_far.join(assigned.at(*method, known.as_slice()));
+    }
+    Ok(so_far)
+}
+
+/// What a call of a method of the program may come to where these paths are held: its body, or that of a method that overrides it.
+pub fn run_effect<A: Assigned>(
+    alloc: Global,
+    program: &CoreProgram,
+    sets: &RelevantSets,
+    over: &Overriding,
+    assigned: &A,
+    method: MethodId,
+    held: &[Path],
+) -> Result<Basic, NoMemory>
+    requires there { method < length (program_of program.now).methods }
+    requires over { let P = program_of program.now in AreOverriding P (length P.methods) over.now.rows.items }
+    ensures { IfOk result (λ b.
+        b ≡ run_effect (program_of program.now) (rel_of sets.now) (A.Assigned.assigned assigned.now) method (has_path held.now)) }
+{
+    let body = body_effect(alloc, program, sets, assigned, method, held)?;
+    let others = joined_over(alloc, sets, assigned, over.of(method), held)?;
+    Ok(body.join(others))
+}

@@ -1,0 +1,12 @@
+use Rattle.std.proofs.Common.{◌≡◌}
+use Rattle.aj_book_grammar.specs.Combine.{exactly}
+use Rattle.aj_book_grammar.specs.Views.{after_those}
+use Rattle.aj_blame_text.specs.Reading.{line_at}
+use Rattle.aj_blame_text.proofs.reader.lines.Given as goal
+
+-- what is built, and then the rest, is all
+abbrev pub invariant-loop-left : goal.invariant-loop-left
+invariant-loop-left l = exactly l.count line_at l.text ≡ after_those l.built.items (exactly l.left line_at l.rest)
+
+abbrev pub decreases-loop-left : goal.decreases-loop-left
+decreases-loop-left l = l.left

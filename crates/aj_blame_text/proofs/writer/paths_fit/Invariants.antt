@@ -1,0 +1,8 @@
+use Rattle.std.proofs.Common.{drop}
+use Rattle.std.specs.List.{AllByRecursion}
+use Rattle.aj_book_grammar.specs.Books.{IsPath}
+use Rattle.aj_blame_text.proofs.writer.paths_fit.Given as goal
+
+-- where the rest can be written, all can
+abbrev pub invariant-loop-path : goal.invariant-loop-path
+invariant-loop-path l = AllByRecursion IsPath (drop l.path-index l.paths) → AllByRecursion IsPath l.paths

@@ -1,0 +1,39 @@
+-- The text of a list of lines: their count, each in a line of its own, and `end`.
+use Rattle.std.specs.Prelude.{◌≡◌, ◌<◌, ◌^◌, ℕ, List, [], ◌∷◌, ◌++◌, length, codes, decimal}
+use Rattle.std.specs.List.{AllByRecursion}
+use Rattle.std.specs.List.Sorted.{IsStrictlySortedBy}
+use Rattle.aj_paths.specs.Paths.{PathData, path_order}
+use Rattle.aj_algebra.specs.Basics.{name_of}
+use Rattle.aj_cond.specs.Texts.{path_text}
+use Rattle.aj_book_grammar.specs.Books.{IsPath}
+use Rattle.aj_book_grammar.specs.Texts.{newline}
+use Rattle.aj_blame.specs.Lines.{LineData}
+
+-- held paths, each after a blank
+abbrev pub held_text : List PathData → List ℕ
+held_text [] = []
+held_text (p ∷ ps) = (codes " " ++ path_text p) ++ held_text ps
+
+-- a line: the method's number, the basic, the held paths
+abbrev pub line_text : LineData → List ℕ
+line_text l = decimal l.method ++ (codes " " ++ (name_of l.found ++ (held_text l.held ++ (newline ∷ []))))
+
+abbrev pub lines_text : List LineData → List ℕ
+lines_text [] = []
+lines_text (l ∷ ls) = line_text l ++ lines_text ls
+
+-- the lines between their count and the end
+abbrev pub blame_text : List LineData → List ℕ
+blame_text ls = (codes "blame " ++ (decimal (length ls) ++ (newline ∷ []))) ++ (lines_text ls ++ (codes "end" ++ (newline ∷ [])))
+
+-- a line that can be written: its numbers fit, and its paths ascend strictly
+pub record IsLine (l : LineData) : Type 0 where
+  pub method : l.method < 2 ^ 32
+  pub paths : AllByRecursion IsPath l.held
+  pub ascend : IsStrictlySortedBy path_order l.held
+
+-- the bytes are the text of these lines
+pub record IsTextOf (bytes : List ℕ) (ls : List LineData) : Type 0 where
+  pub few : length ls < 2 ^ 32
+  pub lines : AllByRecursion IsLine ls
+  pub text_is : bytes ≡ blame_text ls

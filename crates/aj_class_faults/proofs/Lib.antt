@@ -1,2 +1,0 @@
-mod Sets
-pub mod Leasts

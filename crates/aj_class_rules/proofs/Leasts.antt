@@ -1,0 +1,87 @@
+-- What is found part by part is the first of all faults.
+use Rattle.std.proofs.Common.{◌≡◌, ℕ, true, false, List, [], ◌∷◌, ◌++◌, Option, Some, None, refl, flat_map, ap, sym, ◌∙◌, ◌||◌, ◌==◌, bytes_eq, if◌then◌else◌}
+use Rattle.std.proofs.Math.Path.{fun_ext}
+use Rattle.std.proofs.Math.Bool.{or_assoc, or-false}
+use Rattle.std.proofs.lemmas.List.Folds.{list_any-append}
+use Rattle.std.proofs.lemmas.Slice.Eq.{bytes_eq-Decides}
+use Rattle.aj_class_rules.specs.declared.first.Place.{Place}
+use Rattle.aj_class_rules.proofs.FirstFaults as first
+use Rattle.aj_syntax.specs.declared.tree.Name.{Name}
+use Rattle.aj_syntax.specs.Trees.{ProgramTree}
+use Rattle.aj_class_rules.specs.declared.fault.ClassFault.{ClassFault}
+use Rattle.aj_class_rules.specs.declared.fault.ClassFault.TheVariants as kind
+use Rattle.aj_class_rules.specs.Names.{has_text, with_text, texts_of, distinct_after, distinct}
+use Rattle.aj_class_rules.specs.Faults.{place_of, twice_faults, class_faults, missing_main, IsFirstFault, faults_of}
+use Rattle.aj_class_rules.specs.Members.{class_names}
+use Rattle.aj_class_rules.specs.Noted.{noted}
+use Rattle.aj_class_rules.proofs.Noting.{noted_append}
+
+-- ---- a set of texts tells the same as the list
+
+has_with : (seen : List (List ℕ)) (x t : List ℕ) → has_text (with_text seen x) t ≡ (has_text seen t || bytes_eq t x)
+has_with seen x t =
+    elim (has_text seen x) as (λ b. has_text seen x ≡ b → has_text (if b then seen else seen ++ x ∷ []) t ≡ (has_text seen t || bytes_eq t x)) [
+      | true ↦ λ has.
+          elim (bytes_eq t x) as (λ e. bytes_eq t x ≡ e → has_text seen t ≡ (has_text seen t || e)) [
+            | true ↦ λ e. let same : t ≡ x = (bytes_eq-Decides t x).0 e in
+                let h : has_text seen t ≡ true = ap (has_text seen) same ∙ has in
+                h ∙ ap (λ b. b || true) (sym h)
+            | false ↦ λ e. sym (or-false (has_text seen t))
+          ] refl
+      | false ↦ λ has. list_any-append (bytes_eq t) seen (x ∷ []) ∙ ap (λ b. has_text seen t || b) (or-false (bytes_eq t x))
+    ] refl
+
+has_distinct_after : (seen : List (List ℕ)) (names : List Name) (t : List ℕ) → has_text (distinct_after seen names) t ≡ (has_text seen t || has_text (texts_of names) t)
+has_distinct_after seen [] t = sym (or-false (has_text seen t))
+has_distinct_after seen (n ∷ ns) t =
+    has_distinct_after (with_text seen n.text) ns t
+    ∙ ap (λ b. b || has_text (texts_of ns) t) (has_with seen n.text t)
+    ∙ or_assoc (has_text seen t) (bytes_eq t n.text) (has_text (texts_of ns) t)
+
+pub same_tests : (names : List Name) → has_text (distinct names) ≡ has_text (texts_of names)
+same_tests names = fun_ext (λ t. has_distinct_after [] names t)
+
+pub all_noted : (tree part : ProgramTree) (names : List (List ℕ)) (first second third : Option ClassFault)
+    → part ≡ tree → names ≡ distinct (class_names part)
+    → first ≡ noted None (twice_faults (class_names part))
+    → second ≡ noted first (flat_map (class_faults (has_text names)) part)
+    → third ≡ noted second (missing_main part)
+    → third ≡ noted None (faults_of tree)
+all_noted tree part names first second third whole names_are one two three =
+    let twice = twice_faults (class_names part) in
+    let inner = flat_map (class_faults (has_text (texts_of (class_names part)))) part in
+    let tests : has_text names ≡ has_text (texts_of (class_names part)) = ap has_text names_are ∙ same_tests (class_names part) in
+    let second_is : second ≡ noted (noted None twice) inner = two ∙ ap (λ f. noted f (flat_map (class_faults (has_text names)) part)) one ∙ ap (λ t. noted (noted None twice) (flat_map (class_faults t) part)) tests in
+    three
+    ∙ ap (λ f. noted f (missing_main part)) (second_is ∙ sym (noted_append None twice inner))
+    ∙ sym (noted_append None (twice ++ inner) (missing_main part))
+    ∙ ap (λ t. noted None (faults_of t)) whole
+
+-- ---- the first fault of a program
+
+-- the fault that stands at a place
+abbrev fault_at : Place → ClassFault
+fault_at p =
+    if p.rank == 0 then kind.Twice p.offset else if p.rank == 1 then kind.UnknownClass p.offset else if p.rank == 2 then kind.BadConstructor p.offset
+    else if p.rank == 3 then kind.NoRun p.offset else if p.rank == 4 then kind.TooMany p.offset else if p.rank == 5 then kind.NoMain else kind.NoMemory
+
+fault_again : (f : ClassFault) → fault_at (place_of f) ≡ f
+fault_again (kind.Twice at) = refl
+fault_again (kind.UnknownClass at) = refl
+fault_again (kind.BadConstructor at) = refl
+fault_again (kind.NoRun at) = refl
+fault_again (kind.TooMany at) = refl
+fault_again kind.NoMain = refl
+fault_again kind.NoMemory = refl
+
+pub first_is : (tree : ProgramTree) (f : ClassFault) → noted None (faults_of tree) ≡ Some f → IsFirstFault tree f
+first_is tree f is = first.first_is place_of (faults_of tree) f is
+
+pub none_is : (tree : ProgramTree) → noted None (faults_of tree) ≡ None → faults_of tree ≡ []
+none_is tree is = first.none_is place_of (faults_of tree) is
+
+pub one_first : (tree : ProgramTree) (f g : ClassFault) → IsFirstFault tree f → IsFirstFault tree g → f ≡ g
+one_first tree f g h k = first.one_first place_of fault_at fault_again (faults_of tree) f g h k
+
+pub no_first : (tree : ProgramTree) (f : ClassFault) → faults_of tree ≡ [] → IsFirstFault tree f → ⊥
+no_first tree f none h = first.no_first place_of (faults_of tree) f none h

@@ -1,0 +1,205 @@
+//! Notes the faults of the members of a class, each by itself.
+
+ghost use Rattle.std.specs.Prelude.{◌≡◌, ◌∷◌, [], Option, Some, None, map, flat_map, slice_get, option_map, IfOk, OnOk, if◌then◌else◌};
+ghost use Rattle.aj_syntax.specs.Views.{member_of};
+ghost use Rattle.aj_class_rules.specs.declared.fault.ClassFault.TheVariants as kind;
+ghost use Rattle.aj_class_rules.specs.Names.{has_text, with_text};
+ghost use Rattle.aj_class_rules.specs.Members.{field_names, method_names, param_names};
+ghost use Rattle.aj_class_rules.specs.Faults.{twice_faults, too_many_faults, type_faults, result_faults, params_faults, member_faults};
+ghost use Rattle.aj_class_rules.specs.Noted.{noted};
+
+use crate::fault::ClassFault;
+use crate::first::first_of;
+use crate::limits::MOST_PARAMS;
+use crate::names::NameSet;
+use aj_syntax::{Member, Name, Param, TypeName};
+use std::alloc::{AllocError as NoMemory, Global};
+
+/// Adds a name to those that were seen. A name that was seen before is a fault.
+pub(crate) fn see<'a>(
+    seen: &mut NameSet<'a>,
+    name: &Name<'a>,
+    first: Option<ClassFault>,
+) -> Result<Option<ClassFault>, NoMemory>
+    ensures fault { IfOk result (λ f. f ≡ (if has_text seen.old name.now.text then noted first (kind.Twice name.now.at ∷ []) else first)) }
+    ensures seen { OnOk result (seen.new ≡ with_text seen.old name.now.text) }
+{
+    let is_new = seen.add(name.text)?;
+    if is_new {
+        Ok(first)
+    } else {
+        Ok(first_of(first, ClassFault::Twice(name.at)))
+    }
+}
+
+pub(crate) fn note_fields(
+    alloc: Global,
+    members: &[Member],
+    first: Option<ClassFault>,
+) -> Result<Option<ClassFault>, NoMemory>
+    ensures { IfOk result (λ f. f ≡ noted first (twice_faults (field_names (map member_of members.now)))) }
+{
+    let mut seen = NameSet::new(alloc);
+    let mut found = first;
+    for member in members {
+        if let Member::Field { name, .. } = member {
+            found = see(&mut seen, name, found)?;
+        }
+    }
+    Ok(found)
+}
+
+pub(crate) fn note_methods(
+    alloc: Global,
+    members: &[Member],
+    first: Option<ClassFault>,
+) -> Result<Option<ClassFault>, NoMemory>
+    ensures { IfOk result (λ f. f ≡ noted first (twice_faults (method_names (map member_of members.now)))) }
+{
+    let mut seen = NameSet::new(alloc);
+    let mut found = first;
+    for member in members {
+        if let Member::Method { name, .. } = member {
+            found = see(&mut seen, name, found)?;
+        }
+    }
+    Ok(found)
+}
+
+fn note_names(
+    alloc: Global,
+    params: &[Param],
+    first: Option<ClassFault>,
+) -> Result<Option<ClassFault>, NoMemory>
+    ensures { IfOk result (λ f. f ≡ noted first (twice_faults (param_names params.now))) }
+{
+    let mut seen = NameSet::new(alloc);
+    let mut found = first;
+    for param in params {
+        found = see(&mut seen, &param.name, found)?;
+    }
+    Ok(found)
+}
+
+/// A type that is no class of the program.
+fn note_type(classes: &NameSet, ty: &TypeName, first: Option<ClassFault>) -> Option<ClassFault>
+    ensures { result ≡ noted first (type_faults (has_text classes.now) ty.now) }
+{
+    match ty {
+        TypeName::Class(name) if !classes.contains(name.text) => {
+            first_of(first, ClassFault::UnknownClass(name.at))
+        }
+        _ => first,
+    }
+}
+
+fn note_result(
+    classes: &NameSet,
+    returns: &Option<TypeName>,
+    first: Option<ClassFault>,
+) -> Option<ClassFault>
+    ensures { result ≡ noted first (result_faults (has_text classes.now) returns.now) }
+{
+    match returns {
+        Some(ty) => note_type(classes, ty, first),
+        None => first,
+    }
+}
+
+fn note_types(classes: &NameSet, params: &[Param], first: Option<ClassFault>) -> Option<ClassFault>
+    ensures { result ≡ noted first (flat_map (λ p. type_faults (has_text classes.now) p.ty) params.now) }
+{
+    let mut found = first;
+    for param in params {
+        found = note_type(classes, &param.ty, found);
+    }
+    found
+}
+
+pub(crate) fn note_excess(name: Option<&Name>, first: Option<ClassFault>) -> Option<ClassFault>
+    ensures { result ≡ noted first (too_many_faults (option_map (λ n. n.now) name.entry)) }
+{
+    match name {
+        Some(name) => first_of(first, ClassFault::TooMany(name.at)),
+        None => first,
+    }
+}
+
+/// The name of the parameter with this number, counted from 0.
+fn param_at<'p, 'a>(params: &'p [Param<'a>], number: usize) -> Option<&'p Name<'a>>
+    ensures { option_map (λ n. n.now) result ≡ slice_get (param_names params.now) number }
+{
+    match params.get(number) {
+        Some(param) => Some(&param.name),
+        None => None,
+    }
+}
+
+/// Parameters: a name again, a type that is no class, one too many.
+#[tactic(auto, using(crate::proofs::Noting::noted_append))]
+fn note_params(
+    alloc: Global,
+    classes: &NameSet,
+    params: &[Param],
+    first: Option<ClassFault>,
+) -> Result<Option<ClassFault>, NoMemory>
+    ensures { IfOk result (λ f. f ≡ noted first (params_faults (has_text classes.now) params.now)) }
+{
+    let found = note_names(alloc, params, first)?;
+    let found = note_types(classes, params, found);
+    Ok(note_excess(param_at(params, MOST_PARAMS), found))
+}
+
+#[tactic(auto, using(crate::proofs::Noting::noted_append))]
+fn note_member(
+    alloc: Global,
+    classes: &NameSet,
+    member: &Member,
+    first: Option<ClassFault>,
+) -> Result<Option<ClassFault>, NoMemory>
+    ensures { IfOk result (λ f. f ≡ noted first (member_faults (has_text classes.now) (member_of member.now))) }
+{
+    match member {
+        Member::Field { ty, .. } => Ok(note_type(classes, ty, first)),
+        Member::Ctor { params, .. } => note_params(alloc, classes, params.as_slice(), first),
+        Member::Method {
+            result: returns,
+            params,
+            ..
+        } => {
+            let found = note_result(classes, returns, first);
+            note_params(alloc, classes, params.as_slice(), found)
+        }
+    }
+}
+
+pub(crate) fn note_members(
+    alloc: Global,
+    classes: &NameSet,
+    members: &[Member],
+    first: Option<ClassFault>,
+) -> Result<Option<ClassFault>, NoMemory>
+    ensures { IfOk result (λ f. f ≡ noted first (flat_map (member_faults (has_text classes.now)) (map member_of members.now))) }
+{
+    let mut found = first;
+    for member in members {
+        found = note_member(alloc, classes, member, found)?;
+    }
+    Ok(found)
+}
+
+/// The field with this number, counted from 0.
+pub(crate) fn field_at<'m, 'a>(members: &'m [Member<'a>], number: usize) -> Option<&'m Name<'a>>
+    ensures { option_map (λ n. n.now) result ≡ slice_get (field_names (map member_of members.now)) number }
+{
+    let mut left = number;
+    for member in members {
+        if let Member::Field { name, .. } = member {
+            if left == 0 {
+                return Some(name);
+            }
+            left -= 1;
+        }
+    }
+    None
+}

@@ -1,0 +1,2 @@
+-- Parts in memory and their effects.
+pub mod Parts

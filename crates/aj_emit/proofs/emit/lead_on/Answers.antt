@@ -1,6 +1,0 @@
-use Rattle.aj_emit.proofs.Emitting.{led_on}
-use Rattle.aj_emit.proofs.emit.lead_on.Goals as goal
-
-pub returns-in-Some-clause-line : goal.returns-in-Some-clause-line
-returns-in-Some-clause-line c before after instr old is at =
-    led_on c.args.code.now.items before after instr old c.args.next c.args.at c.in-Some.line.now is at c.in-Some.ensures.value

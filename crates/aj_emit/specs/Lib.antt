@@ -1,2 +1,0 @@
--- What the contracts of emitting cite: Emission, the lines of each expression and statement.
-pub mod Emission

@@ -1,2 +1,0 @@
--- The laws of first faults.
-pub mod FirstFaults

@@ -1,0 +1,2 @@
+-- What lists of held paths are as sets.
+pub mod ListedSets

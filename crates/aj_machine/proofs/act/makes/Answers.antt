@@ -1,0 +1,10 @@
+use Rattle.std.specs.Prelude.{Some, max}
+use Rattle.aj_threads.specs.Frames.{settled}
+use Rattle.aj_state.specs.declared.value.Value.TheVariants as value
+use Rattle.aj_machine.proofs.RoomLemmas.{top_roomy, settled_widens, made_widens}
+use Rattle.aj_machine.proofs.act.makes.Goals as goal
+
+pub returns-clause-roomy : goal.returns-clause-roomy
+returns-clause-roomy c rooms h =
+    top_roomy rooms (settled c.args.arguments (Some (value.Ref c.args.address)) c.args.place) (settled_widens rooms c.args.arguments (Some (value.Ref c.args.address)) c.args.place) c.make_room.new.self c.give_to.new.self c.give_to.ensures
+    (top_roomy rooms (λ f. record f { room = max 1 f.room }) (made_widens rooms 1) c.args.cell.now c.make_room.new.self c.in_ok-make_room.ensures.ok h)

@@ -1,0 +1,48 @@
+-- A turn of a thread that is taken.
+use Rattle.std.specs.Prelude.{◌≡◌, ℕ, ℤ, List, [], ◌∷◌, Result, Ok, Err, slice_get}
+use Rattle.std.specs.declared.alloc.AllocError.{AllocError}
+use Rattle.aj_core.specs.Core.{Program, Method}
+use Rattle.aj_core.specs.Views.{program_of}
+use Rattle.aj_state.specs.declared.value.Value.{Value}
+use Rattle.aj_state.specs.Memory.{Heap, Locks}
+use Rattle.aj_state.specs.States.{ThreadOf, Running, StateOf}
+use Rattle.aj_threads.specs.Frames.{CellFrame, CodeFrame}
+use Rattle.aj_compile.specs.declared.stack.Code.{Code}
+use Rattle.aj_steps.specs.Step.{OutcomeOf, Moves, moved}
+use Rattle.aj_deeds.specs.declared.deed.StepEnd.{StepEnd}
+use Rattle.aj_machine.specs.MachineValue.{MachineValue, code_state}
+use Rattle.aj_machine.specs.Deeds.{seen_of}
+use Rattle.aj_machine.specs.Reasons.{IsReason}
+use Rattle.aj_deeds.specs.declared.deed.Turn.{Turn}
+use Rattle.aj_deeds.specs.declared.deed.Turn.TheVariants as turn
+use Rattle.aj_deeds.specs.declared.deed.StepEnd.TheVariants as ends
+use Rattle.aj_deeds.specs.CodeMachine.{code_frame_at}
+use Rattle.aj_deeds.specs.Turns.{next_turn}
+
+-- a thread that entered its first method
+abbrev pub first_thread : ℕ → Method → Value → ℕ → ThreadOf CodeFrame
+first_thread m method this place = Running (code_frame_at m method this [] place ∷ [])
+
+-- the turn of the thread of this number, over these parts of a state, comes to this
+abbrev pub ComesTo : Program → List Code → (entry room : List ℕ) → ℕ → Heap → Locks → List (ThreadOf CellFrame) → Turn → Type 0
+ComesTo P code entry room t heap locks threads found = found ≡ next_turn P code entry room (seen_of t heap locks) t (slice_get threads t)
+
+-- what the turn of a machine's thread comes to
+abbrev pub turn_of : MachineValue → ℕ → Turn
+turn_of m t = next_turn (program_of m.program) m.code.code.items m.code.entry.items m.code.room.items (seen_of t m.state.heap m.state.locks) t (slice_get m.state.threads t)
+
+-- the state of these parts, without the rooms of its frames
+abbrev pub state_in : Heap → Locks → List (ThreadOf CellFrame) → List ℤ → StateOf CodeFrame
+state_in heap locks threads output = code_state (record { heap = heap; locks = locks; threads = threads; output = output })
+
+-- what a step answers, where want of memory is all that could keep it
+abbrev pub step_result : Result (Unit {0}) AllocError → Result (Unit {0}) StepEnd
+step_result (Ok u) = Ok u
+step_result (Err e) = Err ends.NoMemory
+
+-- The answer of a turn that comes to this outcome, and the state after it: after a step the one that it leads to, else the
+-- same, and the reason is told.
+abbrev pub IsTaken : ℕ → Result (Unit {0}) StepEnd → (new old : StateOf CodeFrame) → OutcomeOf CodeFrame → Type 0
+IsTaken t (Ok u) new old (Moves move) = new ≡ moved t move old
+IsTaken t (Ok u) new old _ = ⊥
+IsTaken t (Err why) new old outcome = (new ≡ old) × IsReason why outcome

@@ -1,0 +1,194 @@
+//! A turn of a thread.
+ghost use Rattle.std.specs.Prelude.{◌≡◌, ◌<◌, ◌+◌, ◌≢◌, ℕ, List, IsOk, Err, length, ◌++◌, ◌∷◌, [], map, Some, None, true, IsSome, OnOk, OnErr, option_and_then, slice_get, slice_set};
+ghost use Rattle.aj_core.specs.Views.{program_of, method_of};
+ghost use Rattle.aj_core.specs.Core.{Method};
+ghost use Rattle.aj_state.specs.declared.value.Value.TheVariants as value;
+ghost use Rattle.aj_state.specs.States.{ThreadOf, Ready, Running, Faulted};
+ghost use Rattle.aj_threads.specs.Frames.{CellFrame, code_thread, may_enter, is_running, top_frame, slots_of, frames_in, on_top};
+ghost use Rattle.aj_compile.specs.declared.stack.Code.{Code};
+ghost use Rattle.aj_deeds.specs.CodeMachine.{code_outcome};
+ghost use Rattle.aj_machine.specs.Deeds.{Can, deed_thread, deed_heap, deed_locks, deed_output, seen_of, operands_in, goes_on};
+ghost use Rattle.aj_deeds.specs.declared.deed.StepEnd.TheVariants as ends;
+ghost use Rattle.aj_machine.specs.Counts.{IsCounted};
+ghost use Rattle.aj_machine.specs.Rooms.{StaysRoomy, AllRoomy, HasRoomOf, FitsIn, TurnFits};
+ghost use Rattle.aj_machine.specs.Taken.{first_thread, step_result, ComesTo, IsTaken, state_in};
+
+use crate::act::drops;
+use crate::make::slots_of;
+use crate::perform::perform;
+use aj_core::{CoreMethod, CoreProgram};
+use aj_deeds::{Deed, StepEnd, Turn};
+use aj_paths::MethodId;
+use aj_state::{Address, Fault, Heap, Locks, Value};
+use aj_threads::ThreadCell;
+use std::alloc::{AllocError as NoMemory, Global};
+
+/// A ready thread enters a method that is there, at its entry.
+fn enters_first(
+    alloc: Global,
+    found: &CoreMethod,
+    cell: &mut ThreadCell,
+    address: Address,
+    method: MethodId,
+    entry: u32,
+    room: u32,
+) -> Result<(), NoMemory>
+    requires { cell.old ≡ Ready address method }
+    ensures ok { OnOk result (code_thread cell.new ≡ first_thread method (method_of found.now) (value.Ref address) entry) }
+    ensures err { OnErr result (cell.new ≡ cell.old) }
+    ensures roomy { (rooms : List ℕ) → slice_get rooms method ≡ Some room → StaysRoomy rooms cell.old cell.new }
+{
+    let slots = slots_of(alloc, found.slots, Value::Ref(address), &[], 0)?;
+    cell.push_frame(alloc, method, slots, entry, room)
+}
+
+/// A thread of this number faults, where it may.
+fn fails(threads: &mut Vec<ThreadCell>, thread: u32, kind: Fault)
+    requires { (c : ThreadOf CellFrame) → slice_get threads.old.items thread ≡ Some c → may_enter c ≡ true }
+    ensures faulted { (c : ThreadOf CellFrame) → slice_get threads.old.items thread ≡ Some c →
+        threads.new.items ≡ slice_set threads.old.items thread (Faulted kind (frames_in c)) }
+    ensures roomy { (rooms : List ℕ) → AllRoomy rooms threads.old.items → AllRoomy rooms threads.new.items }
+{
+    if let Some(cell) = threads.get_mut(thread as usize) {
+        cell.fault(kind);
+    }
+}
+
+/// The thread of this number, which is ready, enters its method.
+fn enters(
+    alloc: Global,
+    program: &CoreProgram,
+    threads: &mut Vec<ThreadCell>,
+    thread: u32,
+    address: Address,
+    method: MethodId,
+    entry: u32,
+    room: u32,
+) -> Result<(), NoMemory>
+    requires { slice_get threads.old.items thread ≡ Some (Ready address method) }
+    ensures ok { OnOk result ((m : Method) → slice_get (program_of program.now).methods method ≡ Some m →
+        map code_thread threads.new.items ≡ slice_set (map code_thread threads.old.items) thread (first_thread method m (value.Ref address) entry)) }
+    ensures err { OnErr result (threads.new.items ≡ threads.old.items) }
+    ensures roomy { (rooms : List ℕ) → slice_get rooms method ≡ Some room → AllRoomy rooms threads.old.items → AllRoomy rooms threads.new.items }
+{
+    let Some(found) = program.methods.get(method.0 as usize) else {
+        return Ok(());
+    };
+    match threads.get_mut(thread as usize) {
+        Some(cell) => enters_first(alloc, found, cell, address, method, entry, room),
+        None => Ok(()),
+    }
+}
+
+/// The thread of this number, which has a frame, starts another on an object.
+fn starts(
+    alloc: Global,
+    threads: &mut Vec<ThreadCell>,
+    thread: u32,
+    address: Address,
+    method: MethodId,
+    place: u32,
+) -> Result<(), NoMemory>
+    requires { IsSome (option_and_then top_frame (slice_get threads.old.items thread)) }
+    ensures ok { OnOk result ((c : ThreadOf CellFrame) → slice_get threads.old.items thread ≡ Some c →
+        map code_thread threads.new.items ≡ slice_set (map code_thread threads.old.items) thread (on_top (goes_on 1 None place) (code_thread c)) ++ Ready address method ∷ []) }
+    ensures err { OnErr result (threads.new.items ≡ threads.old.items) }
+    ensures roomy { (rooms : List ℕ) → AllRoomy rooms threads.old.items → AllRoomy rooms threads.new.items }
+{
+    threads.push(ThreadCell::ready(alloc, address, method))?;
+    if let Some(cell) = threads.get_mut(thread as usize) {
+        drops(cell, 1, place);
+    }
+    Ok(())
+}
+
+/// The thread of this number, which runs, does something.
+fn does(
+    alloc: Global,
+    program: &CoreProgram,
+    heap: &mut Heap,
+    locks: &mut Locks,
+    output: &mut Vec<i32>,
+    threads: &mut Vec<ThreadCell>,
+    thread: u32,
+    deed: Deed,
+) -> Result<(), NoMemory>
+    requires top { (c : ThreadOf CellFrame) → slice_get threads.old.items thread ≡ Some c → IsSome (top_frame c) }
+    requires running { (c : ThreadOf CellFrame) → slice_get threads.old.items thread ≡ Some c → is_running c ≡ true }
+    requires can { (c : ThreadOf CellFrame) → slice_get threads.old.items thread ≡ Some c →
+        Can (program_of program.now) (seen_of thread heap.old locks.old) thread (slots_of (top_frame c)) deed }
+    requires counted { (n : ℕ) × (n < 4294967295) × IsCounted n heap.old locks.old }
+    ensures threads { OnOk result ((c : ThreadOf CellFrame) → slice_get threads.old.items thread ≡ Some c →
+        map code_thread threads.new.items ≡ slice_set (map code_thread threads.old.items) thread (deed_thread (program_of program.now) (seen_of thread heap.old locks.old) thread deed (code_thread c))) }
+    ensures heap { OnOk result ((c : ThreadOf CellFrame) → slice_get threads.old.items thread ≡ Some c →
+        heap.new ≡ deed_heap (program_of program.now) (seen_of thread heap.old locks.old) thread (operands_in (code_thread c)) deed heap.old) }
+    ensures locks { OnOk result (IsSome (slice_get threads.old.items thread) → locks.new ≡ deed_locks (seen_of thread heap.old locks.old) thread deed locks.old) }
+    ensures output { OnOk result (IsSome (slice_get threads.old.items thread) → output.new.items ≡ deed_output deed output.old.items) }
+    ensures threads_kept { OnErr result (map code_thread threads.new.items ≡ map code_thread threads.old.items) }
+    ensures heap_kept { OnErr result (heap.new ≡ heap.old) }
+    ensures locks_kept { OnErr result (locks.new ≡ locks.old) }
+    ensures output_kept { OnErr result (output.new.items ≡ output.old.items) }
+    ensures roomy { (rooms : List ℕ) → HasRoomOf rooms deed → AllRoomy rooms threads.old.items → AllRoomy rooms threads.new.items }
+    ensures lean { (f : CellFrame) (below : List CellFrame) → slice_get threads.old.items thread ≡ Some (Running (f ∷ below)) → FitsIn f below deed → IsOk result }
+{
+    match threads.get_mut(thread as usize) {
+        Some(cell) => perform(alloc, program, heap, locks, output, cell, thread, deed),
+        None => Ok(()),
+    }
+}
+
+/// The answer of a step that only want of memory could keep.
+fn answer(done: Result<(), NoMemory>) -> Result<(), StepEnd>
+    ensures { result ≡ step_result done }
+{
+    match done {
+        Ok(()) => Ok(()),
+        Err(_) => Err(StepEnd::NoMemory),
+    }
+}
+
+/// A turn of a thread, which comes to this: a step that changes the parts of the state, or the reason why there is none.
+pub fn take_turn(
+    alloc: Global,
+    program: &CoreProgram,
+    heap: &mut Heap,
+    locks: &mut Locks,
+    output: &mut Vec<i32>,
+    threads: &mut Vec<ThreadCell>,
+    thread: u32,
+    turn: Turn,
+) -> Result<(), StepEnd>
+    requires counted { (n : ℕ) × (n < 4294967295) × IsCounted n heap.old locks.old }
+    requires decided { (code : List Code) × (entry : List ℕ) × (room : List ℕ) × ComesTo (program_of program.now) code entry room thread heap.old locks.old threads.old.items turn }
+    ensures taken { (code : List Code) (entry room : List ℕ) → ComesTo (program_of program.now) code entry room thread heap.old locks.old threads.old.items turn →
+        IsTaken thread result (state_in heap.new locks.new threads.new.items output.new.items) (state_in heap.old locks.old threads.old.items output.old.items)
+        (code_outcome (program_of program.now) code entry room (state_in heap.old locks.old threads.old.items output.old.items) thread) }
+    ensures roomy { (code : List Code) (entry room : List ℕ) → ComesTo (program_of program.now) code entry room thread heap.old locks.old threads.old.items turn →
+        length room ≡ length (program_of program.now).methods → AllRoomy room threads.old.items → AllRoomy room threads.new.items }
+    ensures lean { TurnFits (slice_get threads.old.items thread) turn → result ≢ Err ends.NoMemory }
+    ensures counted { OnOk result ((n : ℕ) → IsCounted n heap.old locks.old → IsCounted (n + 1) heap.new locks.new) }
+{
+    match turn {
+        Turn::Ends(end) => Err(end),
+        Turn::Fails(kind) => {
+            fails(threads, thread, kind);
+            Ok(())
+        }
+        Turn::Enters {
+            address,
+            method,
+            entry,
+            room,
+        } => answer(enters(
+            alloc, program, threads, thread, address, method, entry, room,
+        )),
+        Turn::Starts {
+            address,
+            method,
+            place,
+        } => answer(starts(alloc, threads, thread, address, method, place)),
+        Turn::Does(deed) => answer(does(
+            alloc, program, heap, locks, output, threads, thread, deed,
+        )),
+    }
+}

@@ -1,4 +1,0 @@
--- Lemmas on numbered nodes.
-pub mod Tables
-mod Decisions
-mod Apart

@@ -1,0 +1,16 @@
+//! Ordered programs in code: the walk through a body at a list of held paths and under a level.
+#![tactic(auto)]
+
+mod expressions;
+mod laws;
+mod slots;
+mod statements;
+mod told;
+mod walk;
+
+pub use expressions::walk_expr;
+pub use laws::{light_laws, settled_laws};
+pub use slots::slot_types;
+pub use statements::walk_body;
+pub use told::Seen;
+pub use walk::Walk;

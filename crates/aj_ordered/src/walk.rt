@@ -1,0 +1,69 @@
+//! Where a walk goes: the program, its relevant paths, the methods that override others, the levels of classes, and the types of a
+//! method's slots.
+ghost use Rattle.std.specs.Prelude.{◌≡◌, slice_get, Some};
+ghost use Rattle.aj_core.specs.Types.{field_type};
+ghost use Rattle.aj_core.specs.Views.{program_of};
+ghost use Rattle.aj_levels.specs.Walks.{class_in, last_type, lock_class};
+ghost use Rattle.aj_ordered.specs.Told.{level_in};
+
+use aj_core::{CoreProgram, CoreType};
+use aj_paths::{ClassId, FieldId, Path};
+use aj_rules::{OverridingMethods, RelevantSets};
+
+/// What a walk through a body asks. `levels` has a level for each class, from 1 on.
+#[derive(Clone, Copy)]
+pub struct Walk<'a> {
+    pub program: &'a CoreProgram,
+    pub sets: &'a RelevantSets,
+    pub over: &'a OverridingMethods,
+    pub levels: &'a [u32],
+    pub slots: &'a [CoreType],
+}
+
+/// The level of a class; 0 for one that has none.
+pub(crate) fn level_of(levels: &[u32], class: ClassId) -> u32
+    ensures { result ≡ level_in levels.now class }
+{
+    match levels.get(class.0 as usize) {
+        Some(level) => *level,
+        None => 0,
+    }
+}
+
+/// The class of the lock of a path.
+pub(crate) fn lock_class(walk: &Walk<'_>, path: &Path) -> ClassId
+    ensures { result ≡ lock_class (program_of walk.now.program.now) walk.now.slots.now path.now }
+{
+    let mut ty = walk.slots.get(path.root as usize).copied();
+    for field in path.fields.as_slice() {
+        ty = field_type(walk.program, *field);
+    }
+    class_in(ty)
+}
+
+/// The type of a field, where it is there.
+fn field_type(program: &CoreProgram, field: FieldId) -> Option<CoreType>
+    ensures { result ≡ field_type (slice_get (program_of program.now).fields field) }
+{
+    Some(program.fields().get(field.0 as usize)?.ty)
+}
+
+/// The class of a type, where there is one.
+fn class_in(ty: Option<CoreType>) -> ClassId
+    ensures { result ≡ class_in ty }
+{
+    match ty {
+        Some(ty) => class_of(ty),
+        None => ClassId(0),
+    }
+}
+
+/// The class of a type.
+fn class_of(ty: CoreType) -> ClassId
+    ensures { result ≡ class_in (Some ty) }
+{
+    match ty {
+        CoreType::Class(class) => class,
+        CoreType::Int | CoreType::Boolean => ClassId(0),
+    }
+}

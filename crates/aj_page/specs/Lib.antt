@@ -1,2 +1,0 @@
--- What the contracts of pages cite.
-pub mod Layout

@@ -1,0 +1,17 @@
+-- Lemmas on evaluation beside the steps of a thread.
+pub mod Comes
+pub mod Leaves
+pub mod Neat
+pub mod Calling
+pub mod Expressions
+pub mod Statements
+pub mod Joined
+pub mod Opens
+pub mod Whole
+pub mod Runs
+pub mod Schedules
+pub mod Endings
+pub mod Scan
+pub mod Scanned
+pub mod Giving
+pub mod Instance

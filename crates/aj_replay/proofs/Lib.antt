@@ -1,0 +1,3 @@
+-- Lemmas on going through a schedule.
+pub mod Seen
+pub mod Replaying

@@ -1,0 +1,69 @@
+-- Going through a schedule with the machine beside.
+use Rattle.std.proofs.Common.{◌≡◌, ◌⊎◌, inl, inr, ℕ, ◌+◌, ◌≤◌, Bool, true, false, List, [], ◌++◌, Some, None, refl, ap, subst, arith}
+use Rattle.std.specs.Prelude.{Option, nat_lt, length, take, slice_get}
+use Rattle.std.proofs.lemmas.Bool.{ltb-true, ltb-false}
+use Rattle.aj_core.specs.Core.{Program}
+use Rattle.aj_state.specs.States.{State, initial}
+use Rattle.aj_steps.specs.Step.{step}
+use Rattle.aj_steps.specs.Run.{run, inside, IsUninterrupted}
+use Rattle.aj_machine.specs.MachineValue.{MachineValue}
+use Rattle.aj_machine.specs.Standing.{StandsFor}
+use Rattle.aj_plain.specs.Records.{Told, AreTold, HasNoDeep, IsTooDeep}
+use Rattle.aj_plain.specs.Scanning.{Begun, Goes, Deep, next_of}
+use Rattle.aj_replay.specs.declared.calls.ReplayEnd.{ReplayEnd}
+use Rattle.aj_replay.specs.declared.calls.ReplayEnd.TheVariants as ends
+use Rattle.aj_replay.specs.Views.{IsDeepEnd}
+use Rattle.aj_plain.proofs.Schedules.{prefix_runs, entry_steps}
+use Rattle.aj_plain.proofs.Scan.{first_outside, told_none, all_told, no_deep}
+use Rattle.aj_plain.proofs.Scanned.{Scanned, goes_right, deep_right}
+
+module _ (P : Program) (s : List ℕ) where
+  -- after so many entries: the machine's state, and what is told and open
+  abbrev pub Reached : MachineValue → ℕ → List Told → Option Begun → Type 0
+  Reached m n calls o = (q : State) × (run P (take n s) ≡ Some q) × StandsFor m q × ((alone : IsUninterrupted P s) → Scanned P s alone n q calls o)
+
+  pub reached_none : (m : MachineValue) → StandsFor m (initial P) → Reached m 0 [] None
+  reached_none m stands = (initial P, refl, stands, λ alone. record { told = told_none P s alone; stands = first_outside P })
+
+  abbrev pub Out : Type 0
+  Out = (z : State) → run P s ≡ Some z → (u : ℕ) → inside P z u ≡ false
+
+  pub reached_more : IsUninterrupted P s → Out → (m new : MachineValue) (n t : ℕ) (calls more : List Told) (o o2 : Option Begun) → slice_get s n ≡ Some t → Reached m n calls o
+      → ((q r : State) → StandsFor m q → step P q t ≡ Some r → next_of P q r (n + 1) t o ≡ Goes o2 more)
+      → ((q r : State) → StandsFor m q → step P q t ≡ Some r → StandsFor new r) → Reached new (n + 1) (calls ++ more) o2
+  reached_more alone out m new n t calls more o o2 is_entry (q, at, stands, scanned) adds comes =
+      let r = prefix_runs P s (n + 1) alone.runs in
+      let stepped = entry_steps P s n t q r.0 is_entry at r.1 in
+      (r.0, r.1, comes q r.0 stands stepped, λ here. goes_right P s here out n t q r.0 at r.1 is_entry stepped calls o o2 more (scanned here) (adds q r.0 stands stepped))
+
+  pub reached_deep : IsUninterrupted P s → Out → (m : MachineValue) (n t entry : ℕ) (calls : List Told) (o : Option Begun) → slice_get s n ≡ Some t → Reached m n calls o
+      → ((q r : State) → StandsFor m q → step P q t ≡ Some r → next_of P q r (n + 1) t o ≡ Deep entry) → IsTooDeep P s entry
+  reached_deep alone out m n t entry calls o is_entry (q, at, stands, scanned) adds =
+      let r = prefix_runs P s (n + 1) alone.runs in
+      let stepped = entry_steps P s n t q r.0 is_entry at r.1 in
+      deep_right P s alone out n t q r.0 at r.1 is_entry stepped calls o entry (scanned alone) (adds q r.0 stands stepped)
+
+  pub reached_end : IsUninterrupted P s → Out → (m : MachineValue) (n t : ℕ) (calls : List Told) (o : Option Begun) → slice_get s n ≡ Some t → Reached m n calls o → (end : ReplayEnd)
+      → ((q r : State) → StandsFor m q → step P q t ≡ Some r → IsDeepEnd end (next_of P q r (n + 1) t o)) → (entry : ℕ) → end ≡ ends.TooDeep entry → IsTooDeep P s entry
+  reached_end alone out m n t calls o is_entry reached end says entry is =
+      reached_deep alone out m n t entry calls o is_entry reached (λ q r stands e. subst (λ x. IsDeepEnd x (next_of P q r (n + 1) t o)) is (says q r stands e))
+
+  pub reached_all : IsUninterrupted P s → (m : MachineValue) (n : ℕ) (calls : List Told) (o : Option Begun) → length s ≤ n → Reached m n calls o → AreTold P s calls × HasNoDeep P s
+  reached_all alone m n calls o past (q, at, stands, scanned) = (all_told P s alone calls n past (scanned alone).told, no_deep P s alone calls n past (scanned alone).told)
+
+  -- there is one first call that is too deep
+  pub one_deep : (a b : ℕ) → IsTooDeep P s a → IsTooDeep P s b → a ≡ b
+  one_deep a b x y = by_place (nat_lt x.place y.place) refl (nat_lt y.place x.place) refl
+    where
+      by_place : (c : Bool) → nat_lt x.place y.place ≡ c → (d : Bool) → nat_lt y.place x.place ≡ d → a ≡ b
+      by_place true e d f = absurd (y.first x.place x.steps x.thread x.before x.after x.call (ltb-true x.place y.place e) x.deep)
+      by_place false e true f = absurd (x.first y.place y.steps y.thread y.before y.after y.call (ltb-true y.place x.place f) y.deep)
+      by_place false e false f = let l = ltb-false x.place y.place e in let m = ltb-false y.place x.place f in let i = x.entry_is in let j = y.entry_is in omega (arith, l, m, i, j)
+
+  pub deep_not_few : (a : ℕ) → IsTooDeep P s a → HasNoDeep P s → ⊥
+  deep_not_few a x none = none x.place x.steps x.thread x.before x.after x.call x.deep
+
+  -- which end it is, where a call is too deep
+  pub which_end : (end : ReplayEnd) → ((entry : ℕ) → end ≡ ends.TooDeep entry → IsTooDeep P s entry) → (entry : ℕ) → IsTooDeep P s entry → (end ≡ ends.TooDeep entry) ⊎ (end ≡ ends.NoMemory)
+  which_end (ends.TooDeep first) says entry deep = inl (ap ends.TooDeep (one_deep first entry (says first refl) deep))
+  which_end ends.NoMemory says entry deep = inr refl

@@ -1,0 +1,30 @@
+-- Calls in memory as plain data.
+use Rattle.std.specs.Prelude.{◌≡◌, List, [], ◌∷◌, Option, Some, None}
+use Rattle.aj_plain.specs.Records.{Told}
+use Rattle.aj_plain.specs.Scanning as scan
+use Rattle.aj_replay.specs.declared.calls.CallRecord.{CallRecord}
+use Rattle.aj_replay.specs.declared.calls.ReplayEnd.{ReplayEnd}
+use Rattle.aj_replay.specs.declared.calls.ReplayEnd.TheVariants as ends
+use Rattle.aj_replay.specs.declared.begun.Begun.{Begun}
+
+-- what a record tells
+abbrev pub told_in : CallRecord → Told
+told_in c = record { entry = c.entry; thread = c.thread; method = c.method; on = c.on; result = c.result; prints = c.prints.items }
+
+-- what one or no record tells
+abbrev pub all_told_in : Option CallRecord → List Told
+all_told_in None = []
+all_told_in (Some c) = told_in c ∷ []
+
+-- an open call
+abbrev pub begun_of : Begun → scan.Begun
+begun_of b = record { entry = b.entry; thread = b.thread; method = b.method; on = b.on; frames = b.frames; printed = b.printed }
+
+abbrev pub open_of : Option Begun → Option scan.Begun
+open_of None = None
+open_of (Some b) = Some (begun_of b)
+
+-- why an entry is refused: its call has too many frames; of want of memory nothing is said
+abbrev pub IsDeepEnd : ReplayEnd → scan.Next → Type 0
+IsDeepEnd (ends.TooDeep entry) next = next ≡ scan.Deep entry
+IsDeepEnd ends.NoMemory next = Unit {0}

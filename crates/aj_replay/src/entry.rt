@@ -1,0 +1,179 @@
+//! One entry of a schedule.
+ghost use Rattle.std.specs.Prelude.{◌≡◌, ◌<◌, ◌+◌, [], Some, IfOk, OnOk, MatchResult, drop, length, slice_get};
+ghost use Rattle.aj_core.specs.Views.{program_of};
+ghost use Rattle.aj_state.specs.States.{State};
+ghost use Rattle.aj_steps.specs.Run.{inside};
+ghost use Rattle.aj_steps.specs.Step.{step, has_result};
+ghost use Rattle.aj_machine.specs.Standing.{program_run, StandsFor};
+ghost use Rattle.aj_plain.specs.Scanning as scan;
+ghost use Rattle.aj_plain.specs.Calls.{depth, result_in};
+ghost use Rattle.aj_replay.specs.Views.{told_in, all_told_in, begun_of, open_of, IsDeepEnd};
+
+use crate::begun::Begun;
+use crate::calls::{CallRecord, ReplayEnd};
+use crate::sight::{Sight, sight_at};
+use aj_core::CoreProgram;
+use aj_machine::Machine;
+use aj_paths::MethodId;
+use aj_state::Value;
+use std::alloc::{AllocError as NoMemory, Global};
+
+/// What an entry adds: the call that is open after it, and the record of the one that ended with it.
+#[derive(Drop)]
+pub(crate) struct Added {
+    pub(crate) open: Option<Begun>,
+    pub(crate) told: Option<CallRecord>,
+}
+
+/// Whether a thread stands inside an atomic call.
+fn stands_inside(machine: &Machine<'_>, thread: u32) -> bool
+    ensures { (q : State) → StandsFor machine.now q → result ≡ inside (program_run machine.now) q thread }
+{
+    match machine.inside(thread) {
+        Some(inside) => inside,
+        None => false,
+    }
+}
+
+/// Whether a method has a result.
+fn has_result(program: &CoreProgram, method: MethodId) -> bool
+    ensures { result ≡ has_result (slice_get (program_of program.now).methods method) }
+{
+    match program.methods.get(method.0 as usize) {
+        Some(found) => found.result.is_some(),
+        None => false,
+    }
+}
+
+/// The result of a call of a method, which stands on top of the operands.
+fn result_at(machine: &Machine<'_>, method: MethodId, thread: u32) -> Option<Value>
+    ensures { (q : State) → StandsFor machine.now q → result ≡ result_in (has_result (slice_get (program_run machine.now).methods method)) (slice_get q.threads thread) }
+{
+    if has_result(machine.program(), method) {
+        sight_at(machine, thread).top
+    } else {
+        None
+    }
+}
+
+/// The numbers from a place on.
+fn behind(numbers: &[i32], from: usize) -> &[i32]
+    ensures { result.now ≡ drop from numbers.now }
+{
+    if from <= numbers.len() {
+        &numbers[from..]
+    } else {
+        &[]
+    }
+}
+
+/// The record of a call that ended.
+fn told_of(alloc: Global, machine: &Machine<'_>, begun: Begun) -> Result<CallRecord, NoMemory>
+    ensures { IfOk result (λ c. (r : State) → StandsFor machine.now r → told_in c ≡ scan.told_of (program_run machine.now) r (begun_of begun)) }
+{
+    let printed = behind(machine.output(), begun.printed);
+    let mut prints = Vec::with_capacity(alloc, printed.len())?;
+    prints.extend_from_slice(printed)?;
+    Ok(CallRecord {
+        entry: begun.entry,
+        thread: begun.thread,
+        method: begun.method,
+        on: begun.on,
+        result: result_at(machine, begun.method, begun.thread),
+        prints,
+    })
+}
+
+/// The call that begins, where its method and receiver were seen.
+fn begun_at(entry: u32, thread: u32, frames: usize, printed: usize, after: Sight) -> Option<Begun>
+    ensures { (q : State) → frames ≡ depth (slice_get q.threads thread) → printed ≡ length q.output → open_of result ≡ scan.begun_in q entry thread after.call }
+{
+    match after.call {
+        Some((method, on)) => Some(Begun {
+            entry,
+            thread,
+            method,
+            on,
+            frames,
+            printed,
+        }),
+        None => None,
+    }
+}
+
+/// Refuses an open call that has more than 100 frames of its own.
+fn refuse_deep(machine: &Machine<'_>, opened: Option<Begun>) -> Result<Option<Begun>, ReplayEnd>
+    ensures { (r : State) → StandsFor machine.now r → MatchResult result
+        (λ o. scan.low_or_deep r (open_of opened) ≡ scan.Goes (open_of o) [])
+        (λ e. IsDeepEnd e (scan.low_or_deep r (open_of opened))) }
+{
+    let Some(begun) = opened else {
+        return Ok(None);
+    };
+    let frames = sight_at(machine, begun.thread).frames;
+    if frames > begun.frames && frames - begun.frames > 100 {
+        return Err(ReplayEnd::TooDeep { entry: begun.entry });
+    }
+    Ok(Some(begun))
+}
+
+/// What an entry adds that led the machine here.
+fn adds(
+    alloc: Global,
+    machine: &Machine<'_>,
+    opened: Option<Begun>,
+    entry: u32,
+    thread: u32,
+    frames: usize,
+    printed: usize,
+) -> Result<Added, ReplayEnd>
+    ensures { (q r : State) → frames ≡ depth (slice_get q.threads thread) → printed ≡ length q.output → StandsFor machine.now r → MatchResult result
+        (λ a. scan.next_of (program_run machine.now) q r entry thread (open_of opened) ≡ scan.Goes (open_of a.open) (all_told_in a.told))
+        (λ e. IsDeepEnd e (scan.next_of (program_run machine.now) q r entry thread (open_of opened))) }
+{
+    if stands_inside(machine, thread) {
+        let begins = match opened {
+            Some(begun) => Some(begun),
+            None => begun_at(entry, thread, frames, printed, sight_at(machine, thread)),
+        };
+        let open = refuse_deep(machine, begins)?;
+        return Ok(Added { open, told: None });
+    }
+    match opened {
+        Some(begun) => {
+            let told = told_of(alloc, machine, begun)?;
+            Ok(Added {
+                open: None,
+                told: Some(told),
+            })
+        }
+        None => Ok(Added {
+            open: None,
+            told: None,
+        }),
+    }
+}
+
+/// Makes the step of an entry, which its thread can make, and tells what it adds.
+pub(crate) fn enter(
+    alloc: Global,
+    machine: &mut Machine<'_>,
+    opened: Option<Begun>,
+    entry: u32,
+    thread: u32,
+) -> Result<Added, ReplayEnd>
+    requires { machine.old.made < 4294967295 }
+    ensures next { (q r : State) → StandsFor machine.old q → step (program_run machine.old) q thread ≡ Some r → MatchResult result
+        (λ a. scan.next_of (program_run machine.old) q r entry thread (open_of opened) ≡ scan.Goes (open_of a.open) (all_told_in a.told))
+        (λ e. IsDeepEnd e (scan.next_of (program_run machine.old) q r entry thread (open_of opened))) }
+    ensures stands { OnOk result ((q r : State) → StandsFor machine.old q → step (program_run machine.old) q thread ≡ Some r → StandsFor machine.new r) }
+    ensures counted { OnOk result (machine.new.made ≡ machine.old.made + 1) }
+    ensures program { machine.new.program ≡ machine.old.program }
+{
+    let frames = sight_at(machine, thread).frames;
+    let printed = machine.output().len();
+    match machine.step(alloc, thread) {
+        Ok(()) => adds(alloc, machine, opened, entry, thread, frames, printed),
+        Err(_) => Err(ReplayEnd::NoMemory),
+    }
+}

@@ -1,2 +1,0 @@
--- What the contract of `is_reserved` cites.
-pub mod Reserved

@@ -1,6 +1,0 @@
-//! The words that are no names.
-#![tactic(auto)]
-
-mod words;
-
-pub use words::is_reserved;
