@@ -6,7 +6,7 @@ use Rattle.aj_sources.specs.Refusals.{code_of}
 use Rattle.aj_sources.specs.Facts.{RefusedAs, CheckFact}
 use Rattle.aj_sources.proofs.Apart.{no_program_is_none, no_program_ends, no_accepted_is, accepted_or_none}
 use Rattle.aj_commands.specs.declared.command.Command.{Command}
-use Rattle.aj_commands.specs.declared.command.Command.TheVariants.{Check, Print, Run, Serialise, Derive, Verify, SerialiseOpen, Generate}
+use Rattle.aj_commands.specs.declared.command.Command.TheVariants.{Check, Print, Run, Serialise, Derive, Verify, SerialiseOpen, Blame, VerifyBlame, Levels, Replay, Generate}
 use Rattle.aj_commands.specs.Rows.{Row}
 use Rattle.aj_commands.specs.Files.{first_too_large, file_at}
 use Rattle.aj_source_commands.specs.Check.{CheckAnswer, not_accepted, judged}
@@ -15,6 +15,9 @@ use Rattle.aj_book_commands.specs.Derive.{DeriveAnswer, DeriveFact, not_accepted
 use Rattle.aj_book_commands.proofs.BookEndings.{verify_caused, verify_apart}
 use Rattle.aj_schedule_commands.proofs.ScheduleEndings.{run_caused, run_apart, serialise_caused, serialise_apart}
 use Rattle.aj_schedule_commands.proofs.OpenEndings.{open_caused, open_apart}
+use Rattle.aj_blame_commands.proofs.Endings.{blame_caused, blame_apart, verify_blame_caused, verify_blame_apart}
+use Rattle.aj_level_commands.proofs.LevelEndings.{levels_caused, levels_apart}
+use Rattle.aj_replay_commands.proofs.ReplayEndings.{replay_caused, replay_apart}
 use Rattle.aj_schedule_commands.proofs.GenerateEndings.{generate_caused, generate_apart}
 use Rattle.aj_commands.specs.Answers.{Answer, Fact, Belongs, too_large, ended, Yields, IsExact}
 
@@ -131,6 +134,10 @@ caused Serialise files ending text is = serialise_caused (file_at files 0) (file
 caused Derive files ending text is = derive_caused (file_at files 0) ending text is
 caused Verify files ending text is = verify_caused (file_at files 0) (file_at files 1) ending text is
 caused SerialiseOpen files ending text is = open_caused (file_at files 0) (file_at files 1) ending text is
+caused Blame files ending text is = blame_caused (file_at files 0) ending text is
+caused VerifyBlame files ending text is = verify_blame_caused (file_at files 0) (file_at files 1) ending text is
+caused Levels files ending text is = levels_caused (file_at files 0) (file_at files 1) ending text is
+caused Replay files ending text is = replay_caused (file_at files 0) (file_at files 1) ending text is
 caused (Generate n) files ending text is = generate_caused n ending text is
 
 apart : (command : Command) (files : List (List ℕ)) (one other : Ending) → Fact command files one → Fact command files other → one ≡ other
@@ -141,6 +148,10 @@ apart Serialise files one other f g = serialise_apart (file_at files 0) (file_at
 apart Derive files one other f g = check_apart (file_at files 0) one other f g
 apart Verify files one other f g = verify_apart (file_at files 0) (file_at files 1) one other f g
 apart SerialiseOpen files one other f g = open_apart (file_at files 0) (file_at files 1) one other f g
+apart Blame files one other f g = blame_apart (file_at files 0) one other f g
+apart VerifyBlame files one other f g = verify_blame_apart (file_at files 0) (file_at files 1) one other f g
+apart Levels files one other f g = levels_apart (file_at files 0) (file_at files 1) one other f g
+apart Replay files one other f g = replay_apart (file_at files 0) (file_at files 1) one other f g
 apart (Generate n) files one other f g = generate_apart n one other f g
 
 -- an ending's status is none of those that aren't endings
