@@ -1,8 +1,9 @@
 //! `verify-blame FILE CERT`.
-ghost use Rattle.std.specs.Prelude.{◌≡◌, ◌≤◌, ◌<◌, ◌^◌, List, length, IfOk, MatchResult, string_bytes};
+ghost use Rattle.std.specs.Prelude.{◌≡◌, ◌≤◌, ◌<◌, ◌^◌, ℕ, List, length, IfOk, MatchResult, string_bytes};
 ghost use Rattle.aj_blame_text.specs.Texts.{IsTextOf};
 ghost use Rattle.aj_sources.specs.Checking.{IsSourceOf};
 ghost use Rattle.aj_sources.specs.Refusals.{IsRight, Tells};
+ghost use Rattle.aj_blame_commands.specs.Lines.{verified_line};
 ghost use Rattle.aj_blame_commands.specs.Refused.{IsFaultLine};
 ghost use Rattle.aj_blame_commands.specs.Verifying.{VerifyBlameAnswer};
 
@@ -13,7 +14,7 @@ use aj_sources::{Ending, Refusal, Source, read_source};
 use std::alloc::{AllocError as NoMemory, Global};
 use std::mem::forget;
 
-/// What is written where the certificate refuses the source.
+/// The line for a source that the certificate refuses.
 const VERIFIED: &[u8] = b"refusal verified\n";
 
 /// The line for the first fault of a text.
@@ -36,6 +37,13 @@ fn refuse(line: Result<String, NoMemory>) -> Refusal
     }
 }
 
+/// What is written where the certificate refuses the source.
+fn verified(alloc: Global) -> Result<Vec<u8>, NoMemory>
+    ensures { IfOk result (λ out. out.items ≡ verified_line) }
+{
+    VERIFIED.to_vec(alloc)
+}
+
 /// Judges a certificate of a source.
 fn judged(alloc: Global, source: &Source, blame: &Blame) -> Result<Vec<u8>, Refusal>
     requires few { length blame.now < 2 ^ 32 }
@@ -43,7 +51,7 @@ fn judged(alloc: Global, source: &Source, blame: &Blame) -> Result<Vec<u8>, Refu
         MatchResult result (λ out. VerifyBlameAnswer file bytes Ending.Done out.items) (IsRight (VerifyBlameAnswer file bytes)) }
 {
     match check_blame(alloc, &source.program, &source.sets, blame) {
-        Ok(()) => Ok(VERIFIED.to_vec(alloc)?),
+        Ok(()) => Ok(verified(alloc)?),
         Err(wrong) => Err(refuse(wrong_text(alloc, wrong))),
     }
 }
