@@ -159,6 +159,7 @@ fn only_an_accepted_source_is_replayed(rt: HostRuntime) -> Result<(), Fail> {
 }
 
 /// A call without arguments: its thread, the receiver, the method's number, and the turns.
+#[derive(Clone, Copy)]
 struct Asked {
     thread: u32,
     on: Address,
