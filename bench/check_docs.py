@@ -5,10 +5,11 @@ Runs what the documents show, and tells each line that the program doesn't write
 (crates/atomic_cli/out/atomic_cli) or not (crates/atomic_cli/out/atomic-unproved, by bench/quick.sh).
 
 It reads the tables of docs/repairs.md and docs/tutorial.md (a line in the first cell, and the source for it in the last)
-and of examples/README.md (a file, the lines, the status), and the blocks of lines in docs/tutorial.md. Where
-crates/atomic_cli has a test of the examples, it is held against examples/as_test.py. The book that `derive` writes of
-each accepted example has to be good, and changed books of it are refused with their lines. Each file that README.md and
-the documents name has to be there. The exit status is 0 where all of them hold.
+and of examples/README.md (a file, the lines, the status), the blocks of lines in docs/tutorial.md, and the blocks in
+docs/machine.md that begin with a command line. Where crates/atomic_cli has a test of the examples, it is held against
+examples/as_test.py. The book that `derive` writes of each accepted example has to be good, and changed books of it are
+refused with their lines. Each file that README.md and the documents name has to be there. The exit status is 0 where
+all of them hold.
 """
 import os
 import re
@@ -145,6 +146,15 @@ class Checker:
             named = re.findall(r"`examples/(\w+\.java)`", line)
             name = named[-1] if named else name
 
+    def commands(self, *names):
+        """The blocks that begin with a command line: what the command writes in the folder of the examples."""
+        for command, text in re.findall(r"^```\n\$ atomic (.*)\n((?:.*\n)*?)```$", read(*names), re.MULTILINE):
+            done = subprocess.run([self.program, *command.split()], capture_output=True, cwd=os.path.join(TOP, "examples"))
+            self.count += 1
+            if done.stdout.decode() != text:
+                self.wrong += 1
+                print(f"{os.path.join(*names)}: wanted of {command}\n{text}given {done.returncode}\n{done.stdout.decode()}")
+
     def books(self):
         """The derived book of each accepted example, and what is said of it where it is changed."""
         with tempfile.TemporaryDirectory() as folder:
@@ -180,6 +190,7 @@ def main():
     checker.files()
     checker.examples()
     checker.tutorial()
+    checker.commands("docs", "machine.md")
     checker.examples_test()
     checker.books()
     print(f"{checker.count} answers, {checker.wrong} wrong")

@@ -1,4 +1,6 @@
-"""make_checked.py KIND: writes a well-formed source of at most 262,144 bytes for `check`, as large as that allows.
+"""make_checked.py KIND [refused]: writes a well-formed source of at most 262,144 bytes for `check`, as large as that allows; with
+`refused` one that the rules refuse, for `blame`: the last method breaks its bound, in `chain` and `cycle` the first one, which is
+found last.
 
 classes     thousands of classes with a guarded field and a method each
 methods     one class with thousands of methods that call each other
@@ -12,7 +14,9 @@ calls       methods with eight relevant and eight local paths, and bodies of a h
 """
 import sys
 
-LIMIT = 262144
+REFUSED = sys.argv[2:] == ["refused"]
+LAST = "class Last { int u; atomic void last() { this.u = 1; this.u = 2; } }\n" if REFUSED else ""
+LIMIT = 262144 - len(LAST)
 MAIN = "class Main { void main() { } }\n"
 
 
@@ -80,11 +84,15 @@ def chain(forward):
         other = k + 1 if forward else k - 1
         body = f"this.m{other}();" if 0 <= other < count else "this.u = 1; this.u = 2;"
         part.append(f"void m{k}() {{ {body} }}\n")
+    if REFUSED:
+        part[0 if forward else -1] = "atomic " + part[0 if forward else -1]
     return "class Main { int u; void main() { }\n" + "".join(part) + "}\n"
 
 
 def cycle():
     part = [f"void m{k}() {{ this.u = {k}; this.m{(k + 1) % 1000}(); }}\n" for k in range(1000)]
+    if REFUSED:
+        part[0] = "atomic " + part[0]
     return "class Main { int u; void main() { }\n" + "".join(part) + "}\n"
 
 
@@ -108,4 +116,4 @@ KINDS = {
     "cycle": cycle,
     "paths": paths,
 }
-sys.stdout.write(KINDS[sys.argv[1]]())
+sys.stdout.write(KINDS[sys.argv[1]]() + ("" if sys.argv[1] in ("chain", "chain_back", "cycle") else LAST))

@@ -9,12 +9,15 @@ use Rattle.aj_algebra.specs.Basics.{below_of}
 use Rattle.aj_algebra.specs.HeldPaths.{Held, has_path}
 use Rattle.aj_core.specs.Core.{Program}
 use Rattle.aj_rules.specs.Near.{MethodPaths, rel_of}
-use Rattle.aj_blame.specs.Lines.{LineData, floor, run_effect}
+use Rattle.aj_blame.specs.Lines.{LineData, run_effect}
 use Rattle.aj_blame.specs.Certificates.{is_placed, is_justified, AreLines, IsCertificate, breaks}
-use Rattle.aj_blame.specs.Rows.{ClaimData, said_by}
+use Rattle.aj_blame.specs.Tables.{said_by, Says}
 use Rattle.aj_blame.specs.Wrongs.{placed_at, justified_at, PassBefore, AllPass, IsFirstFailing}
 use Rattle.aj_blame.proofs.Below.{placed_is}
+use Rattle.aj_rules.specs.Rules.{AtMost}
+use Rattle.aj_blame.proofs.Known.{known_follows}
 use Rattle.aj_blame.proofs.RowLemmas.{last_or}
+use Rattle.aj_blame.proofs.TableLemmas.{says_known}
 
 -- the line at a place
 line_at : (lines : List LineData) (k : ℕ) (l : LineData) → k < length lines → l ≡ get_or lines k l → slice_get lines k ≡ Some l
@@ -37,21 +40,53 @@ pass_all test lines k past before j x at = before j x (omega (arith, slice_get_w
 pub first_failing : (test : ℕ → LineData → Bool) (lines : List LineData) (k : ℕ) (l : LineData) → k < length lines → l ≡ get_or lines k l → test k l ≡ false → PassBefore test lines k → IsFirstFailing test lines k
 first_failing test lines k l below is fails before = record { line = l; is = line_at lines k l below is; fails = fails; before = before }
 
+pub placed_line : (P : Program) (rel : ℕ → List PathData) (lines : List LineData) (k : ℕ) (l : LineData) → AllPass (placed_at P rel) lines → k < length lines → l ≡ get_or lines k l → is_placed P rel l ≡ true
+placed_line P rel lines k l all below is = all k l (line_at lines k l below is)
+
 -- a line with its place has a method of the program
 pub placed_within : (P : Program) (rel : ℕ → List PathData) (lines : List LineData) (k : ℕ) (l : LineData) → AllPass (placed_at P rel) lines → k < length lines → l ≡ get_or lines k l → l.method < length P.methods
 placed_within P rel lines k l all below is = let at = placed_is P rel l (all k l (line_at lines k l below is)) in slice_get_within P.methods l.method at.method at.is
 
--- whether a line follows, as the calls tell it
-pub justified_is : (P : Program) (sets kept : List MethodPaths) (rows : List (List ClaimData)) (lines : List LineData) (k : ℕ) (l : LineData) (b : Bool) → kept ≡ sets → said_by (rel_of kept) rows ≡ floor (rel_of kept) (take k lines)
-    → b ≡ below_of l.found (run_effect P (rel_of sets) (said_by (rel_of kept) rows) l.method (has_path l.held)) → justified_at P (rel_of sets) lines k l ≡ b
-justified_is P sets kept rows lines k l b same says is =
-    sym (is ∙ ap (λ (A : ℕ → Held → Basic). below_of l.found (run_effect P (rel_of sets) A l.method (has_path l.held))) (says ∙ ap (λ s. floor (rel_of s) (take k lines)) same))
+-- Whether a line follows, as the calls tell it.
 
--- one line more is said
-pub says_more : (kept now : List MethodPaths) (rows next : List (List ClaimData)) (lines : List LineData) (k : ℕ) (l : LineData) → k < length lines → l ≡ get_or lines k l → said_by (rel_of kept) rows ≡ floor (rel_of kept) (take k lines)
-    → ((ls : List LineData) → said_by (rel_of kept) rows ≡ floor (rel_of kept) ls → said_by (rel_of now) next ≡ floor (rel_of now) (ls ++ l ∷ []))
-    → said_by (rel_of now) next ≡ floor (rel_of now) (take (k + 1) lines)
-says_more kept now rows next lines k l below is says add = add (take k lines) says ∙ ap (floor (rel_of now)) (sym (take_more lines k l below ∙ ap (λ x. take k lines ++ x ∷ []) (sym is)))
+module _ (P : Program) (sets kept : List MethodPaths) (tables : List (List Basic)) (l : LineData) (found there : Basic) (found_is : found ≡ l.found) where
+  justified : {test : Bool} → there ≡ run_effect P (rel_of sets) (said_by (rel_of kept) tables) l.method (has_path l.held) → test ≡ below_of found there
+      → (before : List LineData) → kept ≡ sets → Says (rel_of sets) tables before → is_justified P (rel_of sets) before l ≡ test
+  justified {test} there_is asked before same says =
+      sym (asked ∙ (λ i. below_of (found_is i) (there_is i))
+      ∙ ap (λ (A : ℕ → Held → Basic). below_of l.found (run_effect P (rel_of sets) A l.method (has_path l.held))) (ap (λ s. said_by (rel_of s) tables) same ∙ says.says))
+
+  -- a line that is said already
+  pub follows_known : (test : Bool) → there ≡ said_by (rel_of kept) tables l.method (has_path l.held) → test ≡ below_of found there → test ≡ true
+      → (before : List LineData) → kept ≡ sets → Says (rel_of sets) tables before → AreLines P (rel_of sets) before → is_placed P (rel_of sets) l ≡ true
+      → (true ≡ is_justified P (rel_of sets) before l) × (true ≡ true → Says (rel_of sets) tables (before ++ l ∷ []))
+  follows_known test there_is asked low before same says lines placed =
+      let said : AtMost l.found (said_by (rel_of sets) tables l.method (has_path l.held)) =
+      (λ i. below_of (sym found_is i) (ap (λ s. said_by (rel_of s) tables l.method (has_path l.held)) (sym same) i)) ∙ (λ i. below_of found (sym there_is i)) ∙ sym asked ∙ low in (
+        sym (known_follows P (rel_of sets) before l lines placed (subst (λ (A : ℕ → Held → Basic). AtMost l.found (A l.method (has_path l.held))) says.says said)),
+        λ e. says_known (rel_of sets) tables l before says said,
+      )
+
+  -- a line that doesn't follow
+  pub follows_not : (now : List (List Basic)) (test : Bool) → there ≡ run_effect P (rel_of sets) (said_by (rel_of kept) tables) l.method (has_path l.held) → test ≡ below_of found there → test ≡ false
+      → (before : List LineData) → kept ≡ sets → Says (rel_of sets) tables before → AreLines P (rel_of sets) before → is_placed P (rel_of sets) l ≡ true
+      → (false ≡ is_justified P (rel_of sets) before l) × (false ≡ true → Says (rel_of sets) now (before ++ l ∷ []))
+  follows_not now test there_is asked fails before same says lines placed =
+      (sym (justified there_is asked before same says ∙ fails), λ e. absurd (let f : false ≡ true = e in cc))
+
+  -- a line that follows, and is said then
+  pub follows_new : (next : List MethodPaths) (now : List (List Basic)) (test : Bool) → there ≡ run_effect P (rel_of sets) (said_by (rel_of kept) tables) l.method (has_path l.held) → test ≡ below_of found there → test ≡ true
+      → next ≡ kept → ((ls : List LineData) → Says (rel_of kept) tables ls → Says (rel_of next) now (ls ++ l ∷ []))
+      → (before : List LineData) → kept ≡ sets → Says (rel_of sets) tables before → AreLines P (rel_of sets) before → is_placed P (rel_of sets) l ≡ true
+      → (true ≡ is_justified P (rel_of sets) before l) × (true ≡ true → Says (rel_of sets) now (before ++ l ∷ []))
+  follows_new next now test there_is asked passes kept_same add before same says lines placed = (
+    sym (justified there_is asked before same says ∙ passes),
+    λ e. subst (λ s. Says (rel_of s) now (before ++ l ∷ [])) (kept_same ∙ same) (add before (subst (λ s. Says (rel_of s) tables before) (sym same) says)),
+  )
+
+-- the lines up to a place, with one more behind them
+pub says_next : (rel : ℕ → List PathData) (tables : List (List Basic)) (lines : List LineData) (k : ℕ) (l : LineData) → k < length lines → l ≡ get_or lines k l → Says rel tables (take k lines ++ l ∷ []) → Says rel tables (take (k + 1) lines)
+says_next rel tables lines k l below is = subst (Says rel tables) (sym (take_more lines k l below ∙ ap (λ x. take k lines ++ x ∷ []) (sym is)))
 
 pub is_certificate : (P : Program) (rel : ℕ → List PathData) (lines : List LineData) → AllPass (placed_at P rel) lines → AllPass (justified_at P rel lines) lines → breaks P (slice_get lines (length lines - 1)) ≡ true → IsCertificate P rel lines
 is_certificate P rel lines placed steps broken = record { each = record { placed = placed; steps = steps }; broken = broken }

@@ -1,6 +1,7 @@
 -- Lemmas on certificates: sets that cover others and joins (Sets), overriding methods (Over), lines and closed assignments (Below),
--- floors (FloorLaws), the cells of a program (Cells) and passes (PassLaws); of the calls, rows of overriding methods (RowLemmas), claims
--- (ClaimLemmas), the checker (CheckLemmas) and the maker (MakerLemmas).
+-- floors (FloorLaws), the cells of a program (Cells) and passes (PassLaws); of the calls, rows of overriding methods (RowLemmas), tables
+-- (TableLemmas), methods that needn't be asked again (WaitLemmas), the maker (MakerLemmas), lines that are said already (Known) and the
+-- checker (CheckLemmas).
 pub mod Sets
 pub mod Over
 pub mod Below
@@ -8,6 +9,8 @@ pub mod FloorLaws
 pub mod Cells
 pub mod PassLaws
 pub mod RowLemmas
-pub mod ClaimLemmas
+pub mod TableLemmas
+pub mod WaitLemmas
 pub mod MakerLemmas
+pub mod Known
 pub mod CheckLemmas

@@ -16,7 +16,7 @@ use Rattle.aj_rules.specs.Near.{MethodPaths, AreRelevant, rel_of, rel_paths}
 use Rattle.aj_blame.specs.Lines.{LineData, AreAscending, floor, run_effect}
 use Rattle.aj_blame.specs.Certificates.{keeps_bound}
 use Rattle.aj_blame.specs.Passes.{Cell, cells_in, cells_from, cells_of, parts_of, with_and_without, Written, by_tests, floor_at, up_at, line_for, pass, Passes, broke, still, again}
-use Rattle.aj_blame.specs.Rows.{ClaimData, said_by}
+use Rattle.aj_blame.specs.Tables.{said_by, Says}
 use Rattle.aj_blame.specs.Ends.{cells_at, goes_on, IsAsked, Agrees, IsGoing}
 use Rattle.aj_blame.proofs.Cells.{each_with, each_filter, each_implies}
 use Rattle.aj_blame.proofs.PassLaws.{room, whole_is, no_lines}
@@ -54,10 +54,10 @@ asked_ascend P sets m rel required parts relevant is kept = subst (AllByRecursio
     (each_implies (IsStrictlySortedBy path_order) (λ qs. list_all (has_path qs) required ≡ true → IsStrictlySortedBy path_order qs) (parts_of rel) (λ qs s e. s)
     (subst (λ ps. AllByRecursion (IsStrictlySortedBy path_order) (parts_of ps)) (sym is) (parts_ascend (rel_of sets m) (rel_ascend P sets relevant m)))))
 
-module _ (P : Program) (sets kept : List MethodPaths) (rows : List (List ClaimData)) (lines : List LineData) (agrees : Agrees P sets kept rows lines) where
+module _ (P : Program) (sets kept : List MethodPaths) (rows : List (List Basic)) (lines : List LineData) (agrees : Agrees P sets kept rows lines) where
   -- what is said is the floor of the lines
   said_is : said_by (rel_of kept) rows ≡ floor (rel_of sets) lines
-  said_is = agrees.says ∙ ap (λ s. floor (rel_of s) lines) agrees.same
+  said_is = agrees.says.says ∙ ap (λ s. floor (rel_of s) lines) agrees.same
 
   -- what is known already adds no line
   pub ask_known : (m : ℕ) (held : List PathData) (found there : Basic) → found ≡ run_effect P (rel_of sets) (said_by (rel_of kept) rows) m (has_path held) → there ≡ said_by (rel_of kept) rows m (has_path held) → below_of found there ≡ true
@@ -86,12 +86,12 @@ module _ (P : Program) (sets kept : List MethodPaths) (rows : List (List ClaimDa
       ended true skipped cs new broken e = ap (λ b. goes_on P (rel_of sets) cs new b) (sym e)
       ended false skipped cs new broken e = ap (λ b. goes_on P (rel_of sets) cs new b) (sym e)
 
-  pub agrees_added : (now : List MethodPaths) (rows2 : List (List ClaimData)) (l : LineData) (new : List LineData) → now ≡ kept → length rows2 ≡ length rows
-      → ((ls : List LineData) → said_by (rel_of kept) rows ≡ floor (rel_of kept) ls → said_by (rel_of now) rows2 ≡ floor (rel_of now) (ls ++ l ∷ [])) → new ≡ lines ++ l ∷ [] → IsStrictlySortedBy path_order l.held → Agrees P sets now rows2 new
+  pub agrees_added : (now : List MethodPaths) (rows2 : List (List Basic)) (l : LineData) (new : List LineData) → now ≡ kept → length rows2 ≡ length rows
+      → ((ls : List LineData) → Says (rel_of kept) rows ls → Says (rel_of now) rows2 (ls ++ l ∷ [])) → new ≡ lines ++ l ∷ [] → IsStrictlySortedBy path_order l.held → Agrees P sets now rows2 new
   agrees_added now rows2 l new same size says added ascends = record {
     same = same ∙ agrees.same;
     size = size ∙ agrees.size;
-    says = says lines agrees.says ∙ ap (floor (rel_of now)) (sym added);
+    says = subst (Says (rel_of now) rows2) (sym added) (says lines agrees.says);
     ascend = subst AreAscending (sym added) (ascend_more lines agrees.ascend);
   }
     where
@@ -106,15 +106,6 @@ sets_step P rel m parts k part held now new broken below is same asked cs =
     ap (λ ps. pass P rel (cells_at m ps ++ cs) now) (next_drop parts k part below is)
     ∙ ap (λ h. pass P rel (record { method = m; held = h } ∷ (cells_at m (drop (k + 1) parts) ++ cs)) now) (sym same)
     ∙ asked (cells_at m (drop (k + 1) parts) ++ cs)
-
-drop_none : {A : Type 0} (xs : List A) (k : ℕ) → length xs ≤ k → drop k xs ≡ []
-drop_none [] zero h = refl
-drop_none [] (suc k) h = refl
-drop_none (x ∷ xs) zero h = absurd (omega (arith, h))
-drop_none (x ∷ xs) (suc k) h = drop_none xs k (omega (arith, h))
-
-pub sets_done : (P : Program) (rel : ℕ → List PathData) (m : ℕ) (parts : List (List PathData)) (k : ℕ) (now : List LineData) → length parts ≤ k → (cs : List Cell) → pass P rel (cells_at m (drop k parts) ++ cs) now ≡ pass P rel cs now
-sets_done P rel m parts k now past cs = ap (λ ps. pass P rel (cells_at m ps ++ cs) now) (drop_none parts k past)
 
 -- one method of a pass
 pub method_step : (P : Program) (rel : ℕ → List PathData) (methods : List CoreMethod) (place id : ℕ) (method : CoreMethod) (now new : List LineData) (broken : Bool) → map method_of methods ≡ P.methods → place < length methods → method ≡ get_or methods place method → id ≡ place
@@ -134,9 +125,6 @@ method_step P rel methods place id method now new broken all below is same asked
 
     dropped : drop place (map method_of methods) ≡ method_of method ∷ map method_of (drop (place + 1) methods)
     dropped = sym (mapped methods place) ∙ ap (map method_of) (next_drop methods place method below is)
-
-pub methods_done : (P : Program) (rel : ℕ → List PathData) (place : ℕ) (now : List LineData) → length P.methods ≤ place → pass P rel (cells_from rel place (drop place P.methods)) now ≡ record { all = now; broken = false }
-methods_done P rel place now past = ap (λ ms. pass P rel (cells_from rel place ms) now) (drop_none P.methods place past)
 
 longer : (a b : ℕ) → a ≤ b → (b ≡ a → ⊥) → a < b
 longer zero zero le differs = absurd (differs refl)

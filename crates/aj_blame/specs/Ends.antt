@@ -6,10 +6,11 @@ use Rattle.aj_core.specs.Core.{Program}
 use Rattle.aj_rules.specs.Near.{MethodPaths, rel_of}
 use Rattle.aj_rules.specs.Effect.{Assignment}
 use Rattle.aj_rules.specs.Rules.{IsAdmissible}
-use Rattle.aj_blame.specs.Lines.{LineData, AreAscending, floor}
+use Rattle.aj_algebra.specs.declared.basic.Basic.{Basic}
+use Rattle.aj_blame.specs.Lines.{LineData, AreAscending}
 use Rattle.aj_blame.specs.Passes.{Cell, Written, pass, Passes}
 use Rattle.aj_blame.specs.Certificates.{AreLines, keeps_bound}
-use Rattle.aj_blame.specs.Rows.{ClaimData, said_by}
+use Rattle.aj_blame.specs.Tables.{Says}
 use Rattle.aj_blame.specs.declared.passes.BlameEnd.{BlameEnd}
 use Rattle.aj_blame.specs.declared.passes.BlameEnd.TheVariants as ends
 
@@ -30,11 +31,11 @@ goes_on P rel cs lines broken = if broken then record { all = lines; broken = tr
 abbrev pub IsAsked : Program → (rel : ℕ → List PathData) → List Cell → (old new : List LineData) → (broken : Bool) → Type 0
 IsAsked P rel cells old new broken = (cs : List Cell) → pass P rel (cells ++ cs) old ≡ goes_on P rel cs new broken
 
--- what is kept agrees: these sets are the program's, each method has a row, what the claims say is the floor of the lines, whose paths ascend
-pub record Agrees (P : Program) (sets kept : List MethodPaths) (rows : List (List ClaimData)) (lines : List LineData) : Type 0 where
+-- what is kept agrees: these sets are the program's, each method has a table, the tables say what the lines say, whose paths ascend
+pub record Agrees (P : Program) (sets kept : List MethodPaths) (tables : List (List Basic)) (lines : List LineData) : Type 0 where
   pub same : kept ≡ sets
-  pub size : length rows ≡ length P.methods
-  pub says : said_by (rel_of kept) rows ≡ floor (rel_of kept) lines
+  pub size : length tables ≡ length P.methods
+  pub says : Says (rel_of kept) tables lines
   pub ascend : AreAscending lines
 
 -- the passes from these lines on end as those from none

@@ -2,6 +2,7 @@
 pub mod Lines
 pub mod Certificates
 pub mod Passes
-pub mod Rows
+pub mod Tables
 pub mod Wrongs
 pub mod Ends
+pub mod Waiting

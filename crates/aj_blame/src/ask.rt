@@ -5,21 +5,21 @@ ghost use Rattle.std.specs.List.Sorted.{IsStrictlySortedBy};
 ghost use Rattle.aj_paths.specs.Paths.{path_order};
 ghost use Rattle.aj_core.specs.Views.{program_of, method_of};
 ghost use Rattle.aj_rules.specs.Near.{AreRelevant, rel_of};
+ghost use Rattle.aj_rules.specs.Overriding.{AreOverriders};
 ghost use Rattle.aj_blame.specs.Passes.{Cell, cells_in, parts_of};
-ghost use Rattle.aj_blame.specs.Rows.{AreOverriding};
 ghost use Rattle.aj_blame.specs.Ends.{Agrees, IsAsked, cells_at};
+ghost use Rattle.aj_blame.specs.Waiting.{Adds};
 
 use crate::check::keeps_bound;
 use crate::floors::Floors;
 use crate::line::Line;
-use crate::overriding::Overriding;
 use crate::parts::{HeldSet, parts_with};
 use crate::up::run_effect;
 use aj_core::{CoreMethod, CoreProgram};
 use aj_effect_at::Assigned;
 use aj_held_lists::copied;
 use aj_paths::{MethodId, Path};
-use aj_rules::RelevantSets;
+use aj_rules::{OverridingMethods, RelevantSets};
 use std::alloc::{AllocError as NoMemory, Global};
 
 /// Asks what a call of a method comes to where these paths are held, and adds the line that says so where that is new: whether it is
@@ -28,17 +28,18 @@ fn ask(
     alloc: Global,
     program: &CoreProgram,
     sets: &RelevantSets,
-    over: &Overriding,
+    over: &OverridingMethods,
     floors: &mut Floors<'_>,
     lines: &mut Vec<Line>,
     method: MethodId,
     held: &[Path],
 ) -> Result<bool, NoMemory>
     requires there { method < length (program_of program.now).methods }
-    requires over { let P = program_of program.now in AreOverriding P (length P.methods) over.now.rows.items }
-    requires agrees { Agrees (program_of program.now) sets.now floors.old.sets.now floors.old.rows.items lines.old.items }
+    requires over { AreOverriders (program_of program.now) over.now }
+    requires agrees { Agrees (program_of program.now) sets.now floors.old.sets.now floors.old.tables.items lines.old.items }
     requires ascends { IsStrictlySortedBy path_order held.now }
-    ensures agrees { OnOk result (Agrees (program_of program.now) sets.now floors.new.sets.now floors.new.rows.items lines.new.items) }
+    ensures agrees { OnOk result (Agrees (program_of program.now) sets.now floors.new.sets.now floors.new.tables.items lines.new.items) }
+    ensures adds { OnOk result (Adds method lines.old.items lines.new.items) }
     ensures asked { IfOk result (λ broken. IsAsked (program_of program.now) (rel_of sets.now) (record { method = method; held = held.now } ∷ []) lines.old.items lines.new.items broken) }
 {
     let found = run_effect(alloc, program, sets, over, floors, method, held)?;
@@ -51,7 +52,7 @@ fn ask(
         found,
         held,
     };
-    floors.add(alloc, &line)?;
+    floors.add(&line);
     lines.push(line)?;
     Ok(!keeps_bound(program, method, found))
 }
@@ -61,17 +62,18 @@ fn ask_sets(
     alloc: Global,
     program: &CoreProgram,
     sets: &RelevantSets,
-    over: &Overriding,
+    over: &OverridingMethods,
     floors: &mut Floors<'_>,
     lines: &mut Vec<Line>,
     method: MethodId,
     parts: &[HeldSet],
 ) -> Result<bool, NoMemory>
     requires there { method < length (program_of program.now).methods }
-    requires over { let P = program_of program.now in AreOverriding P (length P.methods) over.now.rows.items }
-    requires agrees { Agrees (program_of program.now) sets.now floors.old.sets.now floors.old.rows.items lines.old.items }
+    requires over { AreOverriders (program_of program.now) over.now }
+    requires agrees { Agrees (program_of program.now) sets.now floors.old.sets.now floors.old.tables.items lines.old.items }
     requires ascend { AllByRecursion (IsStrictlySortedBy path_order) parts.now }
-    ensures agrees { OnOk result (Agrees (program_of program.now) sets.now floors.new.sets.now floors.new.rows.items lines.new.items) }
+    ensures agrees { OnOk result (Agrees (program_of program.now) sets.now floors.new.sets.now floors.new.tables.items lines.new.items) }
+    ensures adds { OnOk result (Adds method lines.old.items lines.new.items) }
     ensures asked { IfOk result (λ broken. IsAsked (program_of program.now) (rel_of sets.now) (cells_at method parts.now) lines.old.items lines.new.items broken) }
 {
     for part in parts {
@@ -88,17 +90,18 @@ pub(crate) fn ask_method(
     alloc: Global,
     program: &CoreProgram,
     sets: &RelevantSets,
-    over: &Overriding,
+    over: &OverridingMethods,
     floors: &mut Floors<'_>,
     lines: &mut Vec<Line>,
     id: MethodId,
     method: &CoreMethod,
 ) -> Result<bool, NoMemory>
     requires there { id < length (program_of program.now).methods }
-    requires over { let P = program_of program.now in AreOverriding P (length P.methods) over.now.rows.items }
+    requires over { AreOverriders (program_of program.now) over.now }
     requires relevant { AreRelevant (program_of program.now) sets.now }
-    requires agrees { Agrees (program_of program.now) sets.now floors.old.sets.now floors.old.rows.items lines.old.items }
-    ensures agrees { OnOk result (Agrees (program_of program.now) sets.now floors.new.sets.now floors.new.rows.items lines.new.items) }
+    requires agrees { Agrees (program_of program.now) sets.now floors.old.sets.now floors.old.tables.items lines.old.items }
+    ensures agrees { OnOk result (Agrees (program_of program.now) sets.now floors.new.sets.now floors.new.tables.items lines.new.items) }
+    ensures adds { OnOk result (Adds id lines.old.items lines.new.items) }
     ensures asked { IfOk result (λ broken. let rel = rel_of sets.now in
         IsAsked (program_of program.now) rel (cells_in id (method_of method.now).requires_ (parts_of (rel id))) lines.old.items lines.new.items broken) }
 {

@@ -1,23 +1,25 @@
 //! The checker of certificates.
-ghost use Rattle.std.specs.Prelude.{◌≡◌, ◌<◌, ◌-◌, ◌^◌, ℕ, true, length, slice_get, take, IfOk, IfSome, MatchOption, MatchResult};
+ghost use Rattle.std.specs.Prelude.{◌≡◌, ◌<◌, ◌-◌, ◌^◌, ◌∷◌, ◌++◌, List, [], true, length, slice_get, take, IfOk, IfSome, MatchOption, MatchResult};
 ghost use Rattle.aj_algebra.specs.Basics.{below_of};
 ghost use Rattle.aj_algebra.specs.HeldPaths.{has_path};
 ghost use Rattle.aj_core.specs.Views.{program_of};
 ghost use Rattle.aj_rules.specs.Near.{rel_of};
-ghost use Rattle.aj_blame.specs.Lines.{run_effect};
-ghost use Rattle.aj_blame.specs.Rows.{AreOverriding, said_by};
-ghost use Rattle.aj_blame.specs.Certificates.{IsCertificate, bound_of, breaks, is_placed, keeps_bound};
+ghost use Rattle.aj_rules.specs.Overriding.{AreOverriders};
+ghost use Rattle.aj_blame.specs.Lines.{LineData};
+ghost use Rattle.aj_blame.specs.Tables.{Says};
+ghost use Rattle.aj_blame.specs.Certificates.{AreLines, IsCertificate, bound_of, breaks, is_justified, is_placed, keeps_bound};
 ghost use Rattle.aj_blame.specs.Wrongs.{AllPass, IsFirstFailing, IsWrong, justified_at, placed_at};
 
 use crate::floors::Floors;
 use crate::line::{Blame, Line};
-use crate::overriding::{Overriding, overriding_of};
 use crate::up::run_effect;
+use crate::work::Work;
 use aj_algebra::Basic;
 use aj_core::CoreProgram;
+use aj_effect_at::Assigned;
 use aj_held_lists::has_all;
 use aj_paths::MethodId;
-use aj_rules::RelevantSets;
+use aj_rules::{OverridingMethods, RelevantSets, overriders};
 use std::alloc::{AllocError, AllocError as NoMemory, Global};
 
 /// Why lines are no certificate: the first cause that stands. Lines count from 1.
@@ -100,30 +102,36 @@ fn unplaced(program: &CoreProgram, sets: &RelevantSets, lines: &[Line]) -> Optio
     None
 }
 
-/// Whether a line of a method of the program follows from what is said so far.
-fn is_justified(
+/// Whether a line, which has its place, follows from what is said so far; and then says it too. A line that is said already follows,
+/// and takes no look at its method's body.
+fn follows(
     alloc: Global,
     program: &CoreProgram,
     sets: &RelevantSets,
-    over: &Overriding,
-    floors: &Floors<'_>,
+    over: &OverridingMethods,
+    work: &mut Work,
+    floors: &mut Floors<'_>,
     line: &Line,
 ) -> Result<bool, NoMemory>
-    requires there { line.now.method < length (program_of program.now).methods }
-    requires over { let P = program_of program.now in AreOverriding P (length P.methods) over.now.rows.items }
-    ensures { IfOk result (λ b.
-        b ≡ below_of line.now.found (run_effect (program_of program.now) (rel_of sets.now) (said_by (rel_of floors.now.sets.now) floors.now.rows.items) line.now.method (has_path line.now.held))) }
+    requires there { line.now.method < length floors.old.tables.items }
+    requires over { AreOverriders (program_of program.now) over.now }
+    ensures sets { floors.new.sets.now ≡ floors.old.sets.now }
+    ensures size { length floors.new.tables.items ≡ length floors.old.tables.items }
+    ensures follows { let P = program_of program.now in let rel = rel_of sets.now in
+        (before : List LineData) → floors.old.sets.now ≡ sets.now → Says rel floors.old.tables.items before → AreLines P rel before → is_placed P rel line.now ≡ true →
+        IfOk result (λ b. (b ≡ is_justified P rel before line.now) × (b ≡ true → Says rel floors.new.tables.items (before ++ line.now ∷ []))) }
 {
-    let found = run_effect(
-        alloc,
-        program,
-        sets,
-        over,
-        floors,
-        line.method,
-        line.held.as_slice(),
-    )?;
-    Ok(line.found.below(found))
+    let held = line.held.as_slice();
+    if line.found.below(floors.at(line.method, held)) {
+        return Ok(true);
+    }
+    work.spend(line.method)?;
+    let found = run_effect(alloc, program, sets, over, floors, line.method, held)?;
+    if !line.found.below(found) {
+        return Ok(false);
+    }
+    floors.add(line);
+    Ok(true)
 }
 
 /// The first line that doesn't follow from those before it; each has its place.
@@ -138,20 +146,28 @@ fn unjustified(
         IfOk result (λ found. MatchOption found (AllPass (justified_at P rel lines.now) lines.now) (λ k. IsFirstFailing (justified_at P rel lines.now) lines.now k)) }
     ensures within { IfOk result (λ found. IfSome found (λ k. k < length lines.now)) }
 {
-    let over = overriding_of(alloc, program)?;
+    let over = overriders(alloc, program)?;
+    let mut work = Work::new(alloc, program)?;
     let mut floors = Floors::new(alloc, sets, program.methods().len())?;
     for at in 0..lines.len() {
-        let line = &lines[at];
-        if !is_justified(alloc, program, sets, &over, &floors, line)? {
+        if !follows(
+            alloc,
+            program,
+            sets,
+            &over,
+            &mut work,
+            &mut floors,
+            &lines[at],
+        )? {
             return Ok(Some(at));
         }
-        floors.add(alloc, line)?;
     }
     Ok(None)
 }
 
-/// Whether lines are a certificate of refusal of a program with these relevant sets: then no assignment is admissible. A line costs
-/// the size of its method's body, and of what is said so far of the methods that it calls.
+/// Whether lines are a certificate of refusal of a program with these relevant sets: then no assignment is admissible. A line that
+/// is said already costs a look at its paths, and any other the size of its method's body, up to a stated amount of work, past which
+/// there is no memory for more.
 pub fn check_blame(
     alloc: Global,
     program: &CoreProgram,

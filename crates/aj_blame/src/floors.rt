@@ -3,171 +3,193 @@ ghost use Rattle.std.specs.Prelude.{◌≡◌, ◌∷◌, ◌++◌, ◌<◌, ℕ
 ghost use Rattle.aj_algebra.specs.HeldPaths.{has_path};
 ghost use Rattle.aj_rules.specs.Near.{rel_of};
 ghost use Rattle.aj_rules.specs.Search.{row_at};
-ghost use Rattle.aj_blame.specs.Lines.{LineData, covers, floor};
-ghost use Rattle.aj_blame.specs.Rows.{IsAdded, claim_at, claims_at, said_by};
+ghost use Rattle.aj_blame.specs.Lines.{LineData};
+ghost use Rattle.aj_blame.specs.Tables.{IsRaised, Says, consts, entry, front, half, raised};
 
 use crate::line::Line;
 use aj_algebra::Basic;
 use aj_effect_at::Assigned;
-use aj_held_lists::{copied, has};
+use aj_held_lists::has;
 use aj_paths::{MethodId, Path};
 use aj_rules::RelevantSets;
 use std::alloc::{AllocError as NoMemory, Global};
 use std::marker::Model;
 
-/// What a line says of its method.
+/// The greatest of what lines say of one method, at each part of its relevant paths. Those with the first path are the second half,
+/// and so on in each half.
 #[derive(Drop)]
-pub(crate) struct Claim {
-    pub(crate) found: Basic,
-    pub(crate) held: Vec<Path>,
+pub(crate) struct Table {
+    pub(crate) basics: Vec<Basic>,
 }
 
-impl Model for Claim {
-    ghost use Rattle.aj_blame.specs.Rows.{ClaimData};
-
-    ghost Value = { ClaimData };
-
-    ghost view = { λ c. record { found = c.found; held = c.held.items } };
-}
-
-/// What lines say of one method.
-#[derive(Drop)]
-pub(crate) struct Claims {
-    pub(crate) claims: Vec<Claim>,
-}
-
-impl Model for Claims {
+impl Model for Table {
     ghost use Rattle.std.specs.Prelude.{List};
-    ghost use Rattle.aj_blame.specs.Rows.{ClaimData};
+    ghost use Rattle.aj_algebra.specs.declared.basic.Basic.{Basic};
 
-    ghost Value = { List ClaimData };
+    ghost Value = { List Basic };
 
-    ghost view = { λ c. c.claims.items };
+    ghost view = { λ t. t.basics.items };
 }
 
-/// What the lines so far say of each method. A line that says nothing new is left out, so a method has at most four claims for each
-/// set of its relevant paths.
+/// What the lines so far say of each method. To ask takes a step for each relevant path of the method, however many lines there are.
 #[derive(Drop)]
 pub struct Floors<'a> {
     pub(crate) sets: &'a RelevantSets,
-    pub(crate) rows: Vec<Claims>,
+    pub(crate) tables: Vec<Table>,
 }
 
 impl Assigned for Floors<'_> {
     ghost use Rattle.aj_rules.specs.Near.{rel_of};
-    ghost use Rattle.aj_blame.specs.Rows.{said_by};
+    ghost use Rattle.aj_blame.specs.Tables.{said_by};
 
-    ghost assigned = { λ s. said_by (rel_of s.sets.now) s.rows.items };
+    ghost assigned = { λ s. said_by (rel_of s.sets.now) s.tables.items };
 
     fn at(&self, method: MethodId, held: &[Path]) -> Basic {
-        claims_at(
+        entry(
             self.sets.rel(method),
-            claims_of(self.rows.as_slice(), method),
+            table_at(self.tables.as_slice(), method),
             held,
         )
     }
 }
 
-/// The claims of a method; none where there is no such method.
-fn claims_of(rows: &[Claims], method: MethodId) -> &[Claim]
-    ensures { result.now ≡ row_at rows.now method }
+/// The table of a method; empty where there is no such method.
+fn table_at(tables: &[Table], method: MethodId) -> &[Basic]
+    ensures { result.now ≡ row_at tables.now method }
 {
-    match rows.get(method.0 as usize) {
-        Some(row) => row.claims.as_slice(),
+    match tables.get(method.0 as usize) {
+        Some(table) => table.basics.as_slice(),
         None => &[],
     }
 }
 
-/// Whether each relevant path that is held is one of these.
-fn covers(paths: &[Path], rel: &[Path], held: &[Path]) -> bool
-    ensures { result ≡ covers paths.now rel.now (has_path held.now) }
+/// The first basic; const where there is none.
+fn front(table: &[Basic]) -> Basic
+    ensures { result ≡ front table.now }
 {
-    for path in rel {
-        if has(held, path) && !has(paths, path) {
-            return false;
-        }
-    }
-    true
+    table.first().copied().unwrap_or(Basic::Const)
 }
 
-/// What a claim says where these paths are held.
-fn claim_at(rel: &[Path], claim: &Claim, held: &[Path]) -> Basic
-    ensures { result ≡ claim_at rel.now claim.now (has_path held.now) }
+/// One half of a table.
+fn half(table: &[Basic], passes: bool) -> &[Basic]
+    ensures { result.now ≡ half passes table.now }
 {
-    if covers(claim.held.as_slice(), rel, held) {
-        claim.found
+    let middle = table.len() / 2;
+    if passes {
+        &table[middle..]
     } else {
-        Basic::Const
+        &table[..middle]
     }
 }
 
-/// The greatest of what claims say where these paths are held.
-#[tactic(auto, using(crate::proofs::Sets::join_assoc, crate::proofs::Sets::join_const))]
-fn claims_at(rel: &[Path], claims: &[Claim], held: &[Path]) -> Basic
-    ensures { result ≡ claims_at rel.now claims.now (has_path held.now) }
+/// The entry of a table where these paths are held.
+fn entry(rel: &[Path], table: &[Basic], held: &[Path]) -> Basic
+    ensures { result ≡ entry rel.now table.now (has_path held.now) }
 {
-    let mut found = Basic::Const;
-    for claim in claims {
-        found = found.join(claim_at(rel, claim, held));
+    match rel.split_first() {
+        Some((path, rest)) => entry(rest, half(table, has(held, path)), held),
+        None => front(table),
     }
-    found
 }
 
-/// So many methods of which nothing is said.
-#[tactic(auto, using(crate::proofs::RowLemmas::none_more))]
-fn no_claims(alloc: Global, count: usize) -> Result<Vec<Claims>, NoMemory>
-    ensures size { IfOk result (λ rows. length rows.items ≡ count) }
-    ensures none { IfOk result (λ rows. (m : ℕ) → row_at rows.items m ≡ []) }
+/// The table with const at each part of these paths.
+fn consts(alloc: Global, rel: &[Path]) -> Result<Vec<Basic>, NoMemory>
+    ensures { IfOk result (λ table. table.items ≡ consts rel.now) }
 {
-    let mut rows = Vec::new(alloc);
-    for _ in 0..count {
-        rows.push(Claims {
-            claims: Vec::new(alloc),
-        })?;
-    }
-    Ok(rows)
+    let Some((_, rest)) = rel.split_first() else {
+        let mut table = Vec::new(alloc);
+        table.push(Basic::Const)?;
+        return Ok(table);
+    };
+    let mut table = consts(alloc, rest)?;
+    table.extend_from_within(0..)?;
+    Ok(table)
 }
 
-/// Adds a claim to those of a method, which has a row.
-fn add_claim(rows: &mut [Claims], method: MethodId, claim: Claim) -> Result<(), NoMemory>
-    requires { method < length rows.old }
-    ensures size { length rows.new ≡ length rows.old }
-    ensures added { OnOk result (IsAdded rows.old rows.new method claim) }
+/// Joins a basic at each part of these held paths.
+fn raise(rel: &[Path], held: &[Path], found: Basic, table: &mut [Basic])
+    ensures { table.new ≡ raised rel.now held.now found table.old }
 {
-    let place = method.0 as usize;
-    let row = &mut rows[place];
-    row.claims.push(claim)?;
-    Ok(())
+    let Some((path, rest)) = rel.split_first() else {
+        if let Some(first) = table.first_mut() {
+            *first = first.join(found);
+        }
+        return;
+    };
+    let middle = table.len() / 2;
+    let (without, with) = table.split_at_mut(middle);
+    raise(rest, held, found, without);
+    if has(held, path) {
+        raise(rest, held, found, with);
+    }
+}
+
+/// The method at a place. There is no memory for more methods than numbers.
+fn method_at(place: usize) -> Result<MethodId, NoMemory>
+    ensures { IfOk result (λ method. method ≡ place) }
+{
+    match u32::try_from(place) {
+        Ok(number) => Ok(MethodId(number)),
+        Err(_) => Err(NoMemory),
+    }
+}
+
+/// The tables of so many methods of which nothing is said.
+fn const_tables(alloc: Global, sets: &RelevantSets, count: usize) -> Result<Vec<Table>, NoMemory>
+    ensures size { IfOk result (λ tables. length tables.items ≡ count) }
+    ensures none { IfOk result (λ tables. (m : ℕ) → m < length tables.items → row_at tables.items m ≡ consts (rel_of sets.now m)) }
+{
+    let mut tables = Vec::new(alloc);
+    for place in 0..count {
+        let basics = consts(alloc, sets.rel(method_at(place)?))?;
+        tables.push(Table { basics })?;
+    }
+    Ok(tables)
+}
+
+/// The place of a method.
+fn place_of(method: MethodId) -> usize
+    ensures { result ≡ method }
+{
+    method.0 as usize
+}
+
+/// Raises the table of the line's method, which has one.
+fn raise_table(rel: &[Path], tables: &mut [Table], line: &Line)
+    requires { line.now.method < length tables.old }
+    ensures size { length tables.new ≡ length tables.old }
+    ensures raised { IsRaised rel.now tables.old tables.new line.now }
+{
+    let place = place_of(line.method);
+    let table = &mut tables[place];
+    raise(
+        rel,
+        line.held.as_slice(),
+        line.found,
+        table.basics.as_mut_slice(),
+    );
 }
 
 impl<'a> Floors<'a> {
     /// What no lines say.
-    #[tactic(auto, using(crate::proofs::ClaimLemmas::said_none))]
     pub fn new(alloc: Global, sets: &'a RelevantSets, count: usize) -> Result<Self, NoMemory>
         ensures sets { IfOk result (λ floors. floors.sets.now ≡ sets.now) }
-        ensures size { IfOk result (λ floors. length floors.rows.items ≡ count) }
-        ensures says { IfOk result (λ floors. said_by (rel_of sets.now) floors.rows.items ≡ floor (rel_of sets.now) []) }
+        ensures size { IfOk result (λ floors. length floors.tables.items ≡ count) }
+        ensures says { IfOk result (λ floors. Says (rel_of sets.now) floors.tables.items []) }
     {
-        let rows = no_claims(alloc, count)?;
-        Ok(Floors { sets, rows })
+        let tables = const_tables(alloc, sets, count)?;
+        Ok(Floors { sets, tables })
     }
 
-    /// What the lines say with one more behind them, whose method has a row.
-    pub fn add(&mut self, alloc: Global, line: &Line) -> Result<(), NoMemory>
-        requires { line.now.method < length self.old.rows.items }
+    /// What the lines say with one more behind them, whose method has a table.
+    pub fn add(&mut self, line: &Line)
+        requires { line.now.method < length self.old.tables.items }
         ensures sets { self.new.sets.now ≡ self.old.sets.now }
-        ensures size { length self.new.rows.items ≡ length self.old.rows.items }
-        ensures says { OnOk result ((lines : List LineData) → said_by (rel_of self.old.sets.now) self.old.rows.items ≡ floor (rel_of self.old.sets.now) lines →
-            said_by (rel_of self.new.sets.now) self.new.rows.items ≡ floor (rel_of self.new.sets.now) (lines ++ line.now ∷ [])) }
+        ensures size { length self.new.tables.items ≡ length self.old.tables.items }
+        ensures says { (lines : List LineData) → Says (rel_of self.old.sets.now) self.old.tables.items lines →
+            Says (rel_of self.new.sets.now) self.new.tables.items (lines ++ line.now ∷ []) }
     {
-        if line.found.below(self.at(line.method, line.held.as_slice())) {
-            return Ok(());
-        }
-        let held = copied(alloc, line.held.as_slice())?;
-        let claim = Claim {
-            found: line.found,
-            held,
-        };
-        add_claim(&mut self.rows, line.method, claim)
+        let rel = self.sets.rel(line.method);
+        raise_table(rel, self.tables.as_mut_slice(), line);
     }
 }

@@ -7,10 +7,11 @@ mod check;
 mod floors;
 mod laws;
 mod line;
-mod overriding;
 mod parts;
 mod passes;
 mod up;
+mod waiting;
+mod work;
 
 pub use check::{BlameWrong, check_blame};
 pub use laws::{certificates_refute, overriding_is_exact, passes_decide};

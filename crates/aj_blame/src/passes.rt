@@ -1,19 +1,22 @@
 //! The written certificate.
-ghost use Rattle.std.specs.Prelude.{◌≡◌, ◌≤◌, ◌^◌, [], true, length, IfOk, OnOk, MatchResult};
+ghost use Rattle.std.specs.Prelude.{◌≡◌, ◌≤◌, ◌^◌, [], true, false, length, IfOk, OnOk, MatchResult};
 ghost use Rattle.aj_core.specs.Views.{program_of};
 ghost use Rattle.aj_rules.specs.Near.{AreRelevant, rel_of};
+ghost use Rattle.aj_rules.specs.Overriding.{AreOverriders};
+ghost use Rattle.aj_rules.specs.Search.{row_at as overs_at};
+ghost use Rattle.aj_callers.specs.Called.{AreCallers};
 ghost use Rattle.aj_blame.specs.Certificates.{IsCertificate};
 ghost use Rattle.aj_blame.specs.Passes.{Passes, Written, pass, cells_of};
-ghost use Rattle.aj_blame.specs.Rows.{AreOverriding};
 ghost use Rattle.aj_blame.specs.Ends.{Agrees, IsEnd, IsGoing};
+ghost use Rattle.aj_blame.specs.Waiting.{AreSettled};
 
-use crate::ask::ask_method;
 use crate::floors::Floors;
 use crate::line::{Blame, Line};
-use crate::overriding::{Overriding, overriding_of};
+use crate::waiting::{all_wait, ask_noting, does_wait};
+use aj_callers::{Row, callers_of};
 use aj_core::CoreProgram;
 use aj_paths::MethodId;
-use aj_rules::RelevantSets;
+use aj_rules::{OverridingMethods, RelevantSets, overriders};
 use std::alloc::{AllocError, AllocError as NoMemory, AllocFailed, Global};
 
 /// Why there is no certificate.
@@ -36,35 +39,41 @@ impl From<AllocError> for BlameEnd {
     }
 }
 
-/// One pass over the methods in source order: whether its last line is above the bound of its method.
+/// One pass over the methods that wait, in source order: whether its last line is above the bound of its method. A method that doesn't
+/// wait would add no line.
 fn pass(
     alloc: Global,
     program: &CoreProgram,
     sets: &RelevantSets,
-    over: &Overriding,
+    over: &OverridingMethods,
+    callers: &[Row],
     floors: &mut Floors<'_>,
     lines: &mut Vec<Line>,
+    waits: &mut [bool],
 ) -> Result<bool, NoMemory>
     requires few { length (program_of program.now).methods ≤ 2 ^ 32 }
-    requires over { let P = program_of program.now in AreOverriding P (length P.methods) over.now.rows.items }
+    requires over { AreOverriders (program_of program.now) over.now }
+    requires callers { AreCallers (program_of program.now) (overs_at over.now) callers.now }
+    requires rows { length callers.now ≡ length (program_of program.now).methods }
+    requires waits { length waits.old ≡ length (program_of program.now).methods }
     requires relevant { AreRelevant (program_of program.now) sets.now }
-    requires agrees { Agrees (program_of program.now) sets.now floors.old.sets.now floors.old.rows.items lines.old.items }
-    ensures agrees { OnOk result (Agrees (program_of program.now) sets.now floors.new.sets.now floors.new.rows.items lines.new.items) }
+    requires agrees { Agrees (program_of program.now) sets.now floors.old.sets.now floors.old.tables.items lines.old.items }
+    requires settled { AreSettled (program_of program.now) (rel_of sets.now) lines.old.items waits.old }
+    ensures agrees { OnOk result (Agrees (program_of program.now) sets.now floors.new.sets.now floors.new.tables.items lines.new.items) }
+    ensures size { length waits.new ≡ length waits.old }
+    ensures settled { IfOk result (λ broken. broken ≡ false → AreSettled (program_of program.now) (rel_of sets.now) lines.new.items waits.new) }
     ensures passed { IfOk result (λ broken. let P = program_of program.now in let rel = rel_of sets.now in
         pass P rel (cells_of P rel) lines.old.items ≡ record { all = lines.new.items; broken = broken }) }
 {
     let methods = program.methods();
     for place in 0..methods.len() {
+        let method = &methods[place];
+        if !does_wait(waits, place) {
+            continue;
+        }
         let id = MethodId(place as u32);
-        if ask_method(
-            alloc,
-            program,
-            sets,
-            over,
-            floors,
-            lines,
-            id,
-            &methods[place],
+        if ask_noting(
+            alloc, program, sets, over, callers, floors, lines, waits, id, method,
         )? {
             return Ok(true);
         }
@@ -78,21 +87,27 @@ fn passes(
     alloc: Global,
     program: &CoreProgram,
     sets: &RelevantSets,
-    over: &Overriding,
+    over: &OverridingMethods,
+    callers: &[Row],
     floors: &mut Floors<'_>,
     lines: &mut Vec<Line>,
+    waits: &mut [bool],
 ) -> Result<bool, NoMemory>
     requires few { length (program_of program.now).methods ≤ 2 ^ 32 }
-    requires over { let P = program_of program.now in AreOverriding P (length P.methods) over.now.rows.items }
+    requires over { AreOverriders (program_of program.now) over.now }
+    requires callers { AreCallers (program_of program.now) (overs_at over.now) callers.now }
+    requires rows { length callers.now ≡ length (program_of program.now).methods }
+    requires waits { length waits.old ≡ length (program_of program.now).methods }
     requires relevant { AreRelevant (program_of program.now) sets.now }
-    requires agrees { Agrees (program_of program.now) sets.now floors.old.sets.now floors.old.rows.items lines.old.items }
+    requires agrees { Agrees (program_of program.now) sets.now floors.old.sets.now floors.old.tables.items lines.old.items }
     requires none { lines.old.items ≡ [] }
-    ensures agrees { OnOk result (Agrees (program_of program.now) sets.now floors.new.sets.now floors.new.rows.items lines.new.items) }
+    requires settled { AreSettled (program_of program.now) (rel_of sets.now) lines.old.items waits.old }
+    ensures agrees { OnOk result (Agrees (program_of program.now) sets.now floors.new.sets.now floors.new.tables.items lines.new.items) }
     ensures passes { IfOk result (λ broken. Passes (program_of program.now) (rel_of sets.now) [] (record { all = lines.new.items; broken = broken })) }
 {
     loop {
         let before = lines.len();
-        if pass(alloc, program, sets, over, floors, lines)? {
+        if pass(alloc, program, sets, over, callers, floors, lines, waits)? {
             return Ok(true);
         }
         if lines.len() == before {
@@ -105,7 +120,8 @@ fn passes(
 ///
 /// It is made in passes over the methods in source order, and for each over the parts of its relevant paths that have its required
 /// ones, in ascending order of the number whose bit i stands for the i-th path. At each the line with what a call of the method comes
-/// to by the lines so far is added, where that isn't said already. The first line above the bound of its method ends it; that method
+/// to by the lines so far is added, where that isn't said already. A method is asked again only where one that it calls, or that
+/// overrides it, was raised since. The first line above the bound of its method ends it; that method
 /// may be another than the first whose bound the least closed assignment breaks.
 #[tactic(auto, using(crate::proofs::PassLaws::broken_certificate, crate::proofs::PassLaws::kept_admissible))]
 pub fn blame(alloc: Global, program: &CoreProgram, sets: &RelevantSets) -> Result<Blame, BlameEnd>
@@ -116,10 +132,22 @@ pub fn blame(alloc: Global, program: &CoreProgram, sets: &RelevantSets) -> Resul
         (λ e. IsEnd (program_of program.now) (rel_of sets.now) e) }
     ensures written { IfOk result (λ blame. Passes (program_of program.now) (rel_of sets.now) [] (record { all = blame; broken = true })) }
 {
-    let over = overriding_of(alloc, program)?;
-    let mut floors = Floors::new(alloc, sets, program.methods().len())?;
+    let over = overriders(alloc, program)?;
+    let callers = callers_of(alloc, program, &over)?;
+    let count = program.methods().len();
+    let mut floors = Floors::new(alloc, sets, count)?;
+    let mut waits = all_wait(alloc, count)?;
     let mut lines = Vec::new(alloc);
-    if passes(alloc, program, sets, &over, &mut floors, &mut lines)? {
+    if passes(
+        alloc,
+        program,
+        sets,
+        &over,
+        callers.as_slice(),
+        &mut floors,
+        &mut lines,
+        waits.as_mut_slice(),
+    )? {
         Ok(Blame { lines })
     } else {
         Err(BlameEnd::Accepted)

@@ -1,19 +1,17 @@
 //! What a call of a method comes to under an assignment.
-ghost use Rattle.std.specs.Prelude.{◌≡◌, ◌<◌, length, slice_get, IfOk};
+ghost use Rattle.std.specs.Prelude.{◌≡◌, slice_get, IfOk};
 ghost use Rattle.aj_algebra.specs.HeldPaths.{has_path};
 ghost use Rattle.aj_core.specs.Views.{program_of};
 ghost use Rattle.aj_rules.specs.Near.{rel_of};
-ghost use Rattle.aj_rules.specs.Search.{row_at};
 ghost use Rattle.aj_blame.specs.Lines.{body_effect, joined_over, run_effect};
-ghost use Rattle.aj_blame.specs.Rows.{AreOverriding};
+ghost use Rattle.aj_rules.specs.Overriding.{AreOverriders};
 
-use crate::overriding::Overriding;
 use aj_algebra::Basic;
 use aj_core::CoreProgram;
 use aj_effect_at::{Assigned, stmt_effect};
 use aj_held_lists::among;
 use aj_paths::{MethodId, Path};
-use aj_rules::RelevantSets;
+use aj_rules::{OverridingMethods, RelevantSets};
 use std::alloc::{AllocError as NoMemory, Global};
 
 /// The effect of a method's body, where the method is there.
@@ -59,13 +57,12 @@ pub fn run_effect<A: Assigned>(
     alloc: Global,
     program: &CoreProgram,
     sets: &RelevantSets,
-    over: &Overriding,
+    over: &OverridingMethods,
     assigned: &A,
     method: MethodId,
     held: &[Path],
 ) -> Result<Basic, NoMemory>
-    requires there { method < length (program_of program.now).methods }
-    requires over { let P = program_of program.now in AreOverriding P (length P.methods) over.now.rows.items }
+    requires { AreOverriders (program_of program.now) over.now }
     ensures { IfOk result (λ b.
         b ≡ run_effect (program_of program.now) (rel_of sets.now) (A.Assigned.assigned assigned.now) method (has_path held.now)) }
 {

@@ -23,12 +23,23 @@ pub enum BlameFault {
     NoMemory,
 }
 
-/// The held paths that a text begins with.
+/// The bytes of the shortest line, `0 const`.
+const LEAST_LINE: usize = 8;
+
+/// How many blanks stand in the line that a text begins with: no more paths than these.
+fn blanks(text: &[u8]) -> usize {
+    text.iter()
+        .take_while(|byte| **byte != b'\n')
+        .filter(|byte| **byte == b' ')
+        .count()
+}
+
+/// The held paths that a text begins with. Room for them is asked for at once, since a list that grows takes up to twice as much.
 #[tactic(auto, using(crate::proofs::Held::held_pushed, crate::proofs::Held::held_built, crate::proofs::Held::item_shorter, crate::proofs::Held::held_started))]
 fn held<'a>(alloc: Global, text: &'a [u8]) -> Result<(Vec<Path>, &'a [u8]), Unbuilt>
     ensures { IfOk result (λ x. held_at None text.now ≡ Ok (x.0.items, x.1.now)) }
 {
-    let mut built = Vec::new(alloc);
+    let mut built = Vec::with_capacity(alloc, blanks(text))?;
     let mut rest = text;
     let mut before: Option<Path> = None;
     while begins(rest, b' ') {
@@ -63,7 +74,8 @@ fn line<'a>(alloc: Global, text: &'a [u8]) -> Result<(Line, &'a [u8]), Unbuilt>
 fn lines<'a>(alloc: Global, text: &'a [u8], count: u32) -> Result<(Vec<Line>, &'a [u8]), Unbuilt>
     ensures { IfOk result (λ x. exactly count line_at text.now ≡ Ok (x.0.items, x.1.now)) }
 {
-    let mut built = Vec::new(alloc);
+    let room = (count as usize).min(text.len() / LEAST_LINE);
+    let mut built = Vec::with_capacity(alloc, room)?;
     let mut rest = text;
     let mut left = count;
     while left > 0 {

@@ -1,12 +1,12 @@
 -- Which status comes for the answer to a row.
-use Rattle.std.proofs.Common.{◌≡◌, ℕ, ◌≤◌, List, Option, None, IsSome, refl, sym, subst, ap, ◌∙◌, arith, inl, inr, is_some, true, false, zero, suc}
+use Rattle.std.proofs.Common.{◌≡◌, ◌-◌, ℕ, ◌≤◌, List, Option, None, IsSome, refl, sym, subst, ap, ◌∙◌, arith, inl, inr, is_some, true, false, zero, suc}
 use Rattle.aj_sources.specs.declared.refusal.Ending.{Ending}
-use Rattle.aj_sources.specs.declared.refusal.Ending.TheVariants.{Done, Refused, Inadmissible, NoSchedule, Stopped, Open, BookRefused}
+use Rattle.aj_sources.specs.declared.refusal.Ending.TheVariants.{Done, Refused, Inadmissible, NoSchedule, Stopped, Open, BookRefused, NothingToBlame, BlameRefused, LevelsRefused, CallTooDeep}
 use Rattle.aj_sources.specs.Refusals.{code_of}
 use Rattle.aj_sources.specs.Facts.{RefusedAs, CheckFact}
 use Rattle.aj_sources.proofs.Apart.{no_program_is_none, no_program_ends, no_accepted_is, accepted_or_none}
 use Rattle.aj_commands.specs.declared.command.Command.{Command}
-use Rattle.aj_commands.specs.declared.command.Command.TheVariants.{Check, Print, Run, Serialise, Derive, Verify, SerialiseOpen, Generate}
+use Rattle.aj_commands.specs.declared.command.Command.TheVariants.{Check, Print, Run, Serialise, Derive, Verify, SerialiseOpen, Blame, VerifyBlame, Levels, Replay, Generate}
 use Rattle.aj_commands.specs.Rows.{Row}
 use Rattle.aj_commands.specs.Files.{first_too_large, file_at}
 use Rattle.aj_source_commands.specs.Check.{CheckAnswer, not_accepted, judged}
@@ -15,6 +15,9 @@ use Rattle.aj_book_commands.specs.Derive.{DeriveAnswer, DeriveFact, not_accepted
 use Rattle.aj_book_commands.proofs.BookEndings.{verify_caused, verify_apart}
 use Rattle.aj_schedule_commands.proofs.ScheduleEndings.{run_caused, run_apart, serialise_caused, serialise_apart}
 use Rattle.aj_schedule_commands.proofs.OpenEndings.{open_caused, open_apart}
+use Rattle.aj_blame_commands.proofs.Endings.{blame_caused, blame_apart, verify_blame_caused, verify_blame_apart}
+use Rattle.aj_level_commands.proofs.LevelEndings.{levels_caused, levels_apart}
+use Rattle.aj_replay_commands.proofs.ReplayEndings.{replay_caused, replay_apart}
 use Rattle.aj_schedule_commands.proofs.GenerateEndings.{generate_caused, generate_apart}
 use Rattle.aj_commands.specs.Answers.{Answer, Fact, Belongs, too_large, ended, Yields, IsExact}
 
@@ -26,6 +29,10 @@ refused_fact file Inadmissible is = is
 refused_fact file NoSchedule is = is
 refused_fact file Stopped is = is
 refused_fact file Open is = is
+refused_fact file NothingToBlame is = is
+refused_fact file BlameRefused is = is
+refused_fact file LevelsRefused is = is
+refused_fact file CallTooDeep is = is
 refused_fact file BookRefused is = is
 
 check_caused : (file : List ℕ) (ending : Ending) (text : List ℕ) → CheckAnswer file ending text → CheckFact file ending
@@ -45,15 +52,31 @@ check_apart file Inadmissible Refused f g = absurd (g f.0 f.1 f.2)
 check_apart file NoSchedule other f g = absurd f
 check_apart file Stopped other f g = absurd f
 check_apart file Open other f g = absurd f
+check_apart file NothingToBlame other f g = absurd f
+check_apart file BlameRefused other f g = absurd f
+check_apart file LevelsRefused other f g = absurd f
+check_apart file CallTooDeep other f g = absurd f
 check_apart file Done NoSchedule f g = absurd g
 check_apart file Done Stopped f g = absurd g
 check_apart file Done Open f g = absurd g
+check_apart file Done NothingToBlame f g = absurd g
+check_apart file Done BlameRefused f g = absurd g
+check_apart file Done LevelsRefused f g = absurd g
+check_apart file Done CallTooDeep f g = absurd g
 check_apart file Refused NoSchedule f g = absurd g
 check_apart file Refused Stopped f g = absurd g
 check_apart file Refused Open f g = absurd g
+check_apart file Refused NothingToBlame f g = absurd g
+check_apart file Refused BlameRefused f g = absurd g
+check_apart file Refused LevelsRefused f g = absurd g
+check_apart file Refused CallTooDeep f g = absurd g
 check_apart file Inadmissible NoSchedule f g = absurd g
 check_apart file Inadmissible Stopped f g = absurd g
 check_apart file Inadmissible Open f g = absurd g
+check_apart file Inadmissible NothingToBlame f g = absurd g
+check_apart file Inadmissible BlameRefused f g = absurd g
+check_apart file Inadmissible LevelsRefused f g = absurd g
+check_apart file Inadmissible CallTooDeep f g = absurd g
 check_apart file BookRefused other f g = absurd f
 check_apart file Done BookRefused f g = absurd g
 check_apart file Refused BookRefused f g = absurd g
@@ -73,14 +96,26 @@ print_apart file Inadmissible other f g = absurd f
 print_apart file NoSchedule other f g = absurd f
 print_apart file Stopped other f g = absurd f
 print_apart file Open other f g = absurd f
+print_apart file NothingToBlame other f g = absurd f
+print_apart file BlameRefused other f g = absurd f
+print_apart file LevelsRefused other f g = absurd f
+print_apart file CallTooDeep other f g = absurd f
 print_apart file Done Inadmissible f g = absurd g
 print_apart file Done NoSchedule f g = absurd g
 print_apart file Done Stopped f g = absurd g
 print_apart file Done Open f g = absurd g
+print_apart file Done NothingToBlame f g = absurd g
+print_apart file Done BlameRefused f g = absurd g
+print_apart file Done LevelsRefused f g = absurd g
+print_apart file Done CallTooDeep f g = absurd g
 print_apart file Refused Inadmissible f g = absurd g
 print_apart file Refused NoSchedule f g = absurd g
 print_apart file Refused Stopped f g = absurd g
 print_apart file Refused Open f g = absurd g
+print_apart file Refused NothingToBlame f g = absurd g
+print_apart file Refused BlameRefused f g = absurd g
+print_apart file Refused LevelsRefused f g = absurd g
+print_apart file Refused CallTooDeep f g = absurd g
 print_apart file BookRefused other f g = absurd f
 print_apart file Done BookRefused f g = absurd g
 print_apart file Refused BookRefused f g = absurd g
@@ -99,6 +134,10 @@ caused Serialise files ending text is = serialise_caused (file_at files 0) (file
 caused Derive files ending text is = derive_caused (file_at files 0) ending text is
 caused Verify files ending text is = verify_caused (file_at files 0) (file_at files 1) ending text is
 caused SerialiseOpen files ending text is = open_caused (file_at files 0) (file_at files 1) ending text is
+caused Blame files ending text is = blame_caused (file_at files 0) ending text is
+caused VerifyBlame files ending text is = verify_blame_caused (file_at files 0) (file_at files 1) ending text is
+caused Levels files ending text is = levels_caused (file_at files 0) (file_at files 1) ending text is
+caused Replay files ending text is = replay_caused (file_at files 0) (file_at files 1) ending text is
 caused (Generate n) files ending text is = generate_caused n ending text is
 
 apart : (command : Command) (files : List (List ℕ)) (one other : Ending) → Fact command files one → Fact command files other → one ≡ other
@@ -109,6 +148,10 @@ apart Serialise files one other f g = serialise_apart (file_at files 0) (file_at
 apart Derive files one other f g = check_apart (file_at files 0) one other f g
 apart Verify files one other f g = verify_apart (file_at files 0) (file_at files 1) one other f g
 apart SerialiseOpen files one other f g = open_apart (file_at files 0) (file_at files 1) one other f g
+apart Blame files one other f g = blame_apart (file_at files 0) one other f g
+apart VerifyBlame files one other f g = verify_blame_apart (file_at files 0) (file_at files 1) one other f g
+apart Levels files one other f g = levels_apart (file_at files 0) (file_at files 1) one other f g
+apart Replay files one other f g = replay_apart (file_at files 0) (file_at files 1) one other f g
 apart (Generate n) files one other f g = generate_apart n one other f g
 
 -- an ending's status is none of those that aren't endings
@@ -120,8 +163,19 @@ no_ending NoSchedule status low high e = omega arith
 no_ending Stopped status low high e = omega arith
 no_ending Open status low high e = omega arith
 no_ending BookRefused status low high e = omega arith
+no_ending NothingToBlame status low high e = omega arith
+no_ending BlameRefused status low high e = omega arith
+no_ending LevelsRefused status low high e = omega arith
+no_ending CallTooDeep status low high e = omega arith
 
--- the ending with a status
+-- the ending with a status: the first are those of 11 and more
+late_ending : ℕ → Ending
+late_ending zero = BookRefused
+late_ending (suc zero) = NothingToBlame
+late_ending (suc (suc zero)) = BlameRefused
+late_ending (suc (suc (suc zero))) = LevelsRefused
+late_ending (suc (suc (suc (suc rest)))) = CallTooDeep
+
 ending_of : ℕ → Ending
 ending_of zero = Done
 ending_of (suc zero) = Refused
@@ -129,10 +183,10 @@ ending_of (suc (suc zero)) = Inadmissible
 ending_of (suc (suc (suc zero))) = NoSchedule
 ending_of (suc (suc (suc (suc zero)))) = Stopped
 ending_of (suc (suc (suc (suc (suc zero))))) = Open
-ending_of (suc (suc (suc (suc (suc (suc rest)))))) = BookRefused
+ending_of (suc (suc (suc (suc (suc (suc rest)))))) = late_ending (rest - 5)
 
 ending_back : (ending : Ending) → ending_of (code_of ending) ≡ ending
-unfolding ending_of
+unfolding ending_of late_ending
 ending_back Done = refl
 ending_back Refused = refl
 ending_back Inadmissible = refl
@@ -140,6 +194,10 @@ ending_back NoSchedule = refl
 ending_back Stopped = refl
 ending_back Open = refl
 ending_back BookRefused = refl
+ending_back NothingToBlame = refl
+ending_back BlameRefused = refl
+ending_back LevelsRefused = refl
+ending_back CallTooDeep = refl
 
 -- endings with one status are equal
 same_ending : (one other : Ending) → code_of one ≡ code_of other → one ≡ other

@@ -3,6 +3,9 @@ pub mod OneRow
 pub mod Runs
 pub mod Headlines
 pub mod OpenCalled
+pub mod Refuted
+pub mod Ordered
+pub mod Replayed
 pub mod Certified
 pub mod Rows
 pub mod FileLemmas

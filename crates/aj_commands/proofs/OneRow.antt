@@ -3,7 +3,7 @@ use Rattle.std.proofs.Common.{◌≡◌, ◌⊎◌, inl, inr, ℕ, ◌<◌, ◌^
 use Rattle.std.proofs.lemmas.Fmt.{decimal_injective}
 use Rattle.std.specs.Str.{bytes_eq}
 use Rattle.aj_commands.specs.declared.command.Command.{Command}
-use Rattle.aj_commands.specs.declared.command.Command.TheVariants.{Check, Print, Run, Serialise, Derive, Verify, SerialiseOpen, Generate}
+use Rattle.aj_commands.specs.declared.command.Command.TheVariants.{Check, Print, Run, Serialise, Derive, Verify, SerialiseOpen, Blame, VerifyBlame, Levels, Replay, Generate}
 use Rattle.aj_commands.specs.Rows.{Row, IsRow, IsWithin, word_of, numbers_of}
 
 -- the command that a word names, with this number where it has one
@@ -11,7 +11,12 @@ command_of : List ℕ → ℕ → Option Command
 command_of word n = if bytes_eq word (codes "check") then Some Check else if bytes_eq word (codes "print") then Some Print
     else if bytes_eq word (codes "run") then Some Run else if bytes_eq word (codes "serialise") then Some Serialise
     else if bytes_eq word (codes "derive") then Some Derive else if bytes_eq word (codes "verify") then Some Verify
-    else if bytes_eq word (codes "serialise-open") then Some SerialiseOpen else if bytes_eq word (codes "generate") then Some (Generate n) else None
+    else if bytes_eq word (codes "serialise-open") then Some SerialiseOpen
+    else if bytes_eq word (codes "blame") then Some Blame
+    else if bytes_eq word (codes "verify-blame") then Some VerifyBlame
+    else if bytes_eq word (codes "levels") then Some Levels
+    else if bytes_eq word (codes "replay") then Some Replay
+    else if bytes_eq word (codes "generate") then Some (Generate n) else None
 
 number_in : Command → ℕ
 number_in Check = 0
@@ -21,6 +26,10 @@ number_in Serialise = 0
 number_in Derive = 0
 number_in Verify = 0
 number_in SerialiseOpen = 0
+number_in Blame = 0
+number_in VerifyBlame = 0
+number_in Levels = 0
+number_in Replay = 0
 number_in (Generate n) = n
 
 named : (command : Command) → command_of (word_of command) (number_in command) ≡ Some command
@@ -32,6 +41,10 @@ named Serialise = refl
 named Derive = refl
 named Verify = refl
 named SerialiseOpen = refl
+named Blame = refl
+named VerifyBlame = refl
+named Levels = refl
+named Replay = refl
 named (Generate n) = refl
 
 -- a command has no number, or it is `generate` with one
@@ -44,6 +57,10 @@ by_number Serialise = inl (refl, refl)
 by_number Derive = inl (refl, refl)
 by_number Verify = inl (refl, refl)
 by_number SerialiseOpen = inl (refl, refl)
+by_number Blame = inl (refl, refl)
+by_number VerifyBlame = inl (refl, refl)
+by_number Levels = inl (refl, refl)
+by_number Replay = inl (refl, refl)
 by_number (Generate n) = inr (n, refl)
 
 -- commands of one word with the same number are one

@@ -4,7 +4,7 @@ use Rattle.aj_sources.specs.declared.refusal.Ending.TheVariants.{Done}
 use Rattle.aj_sources.specs.declared.refusal.Refusal.{Refusal}
 use Rattle.aj_sources.specs.Refusals.{IsRight}
 use Rattle.aj_commands.specs.declared.command.Command.{Command}
-use Rattle.aj_commands.specs.declared.command.Command.TheVariants.{Check, Print, Run, Serialise, Derive, Verify, SerialiseOpen, Generate}
+use Rattle.aj_commands.specs.declared.command.Command.TheVariants.{Check, Print, Run, Serialise, Derive, Verify, SerialiseOpen, Blame, VerifyBlame, Levels, Replay, Generate}
 use Rattle.aj_commands.specs.Files.{AreBounded, file_at}
 use Rattle.aj_commands.specs.Answers.{Answer}
 use Rattle.aj_source_commands.specs.Check.{CheckAnswer}
@@ -15,6 +15,10 @@ use Rattle.aj_schedule_commands.specs.SerialiseOpen.{SerialiseOpenAnswer}
 use Rattle.aj_schedule_commands.specs.Generate.{GenerateAnswer}
 use Rattle.aj_book_commands.specs.Derive.{DeriveAnswer}
 use Rattle.aj_book_commands.specs.Verify.{VerifyAnswer}
+use Rattle.aj_blame_commands.specs.Blames.{BlameAnswer}
+use Rattle.aj_blame_commands.specs.Verifying.{VerifyBlameAnswer}
+use Rattle.aj_level_commands.specs.Levels.{LevelsAnswer}
+use Rattle.aj_replay_commands.specs.Replay.{ReplayAnswer}
 
 -- what a row's function answers is the answer of its command
 pub check_answers : (command : Command) (files : List (List ℕ)) (bytes : List ℕ) (r : Result (Vec ℕ Global) Refusal) → command ≡ Check → bytes ≡ file_at files 0
@@ -59,6 +63,29 @@ pub verify_answers : (command : Command) (files : List (List ℕ)) (file text : 
 verify_answers command files file text r e first second is = subst (λ c. MatchResult r (λ out. Answer c files Done out.items) (IsRight (Answer c files))) (sym e)
     (subst (λ b. MatchResult r (λ out. VerifyAnswer b (file_at files 1) Done out.items) (IsRight (VerifyAnswer b (file_at files 1)))) first
     (subst (λ b. MatchResult r (λ out. VerifyAnswer file b Done out.items) (IsRight (VerifyAnswer file b))) second is))
+
+pub blame_answers : (command : Command) (files : List (List ℕ)) (bytes : List ℕ) (r : Result (Vec ℕ Global) Refusal) → command ≡ Blame → bytes ≡ file_at files 0
+    → MatchResult r (λ text. BlameAnswer bytes Done text.items) (IsRight (BlameAnswer bytes)) → MatchResult r (λ text. Answer command files Done text.items) (IsRight (Answer command files))
+blame_answers command files bytes r e at is = subst (λ c. MatchResult r (λ text. Answer c files Done text.items) (IsRight (Answer c files))) (sym e)
+    (subst (λ b. MatchResult r (λ text. BlameAnswer b Done text.items) (IsRight (BlameAnswer b))) at is)
+
+pub verify_blame_answers : (command : Command) (files : List (List ℕ)) (file text : List ℕ) (r : Result (Vec ℕ Global) Refusal) → command ≡ VerifyBlame → file ≡ file_at files 0 → text ≡ file_at files 1
+    → MatchResult r (λ out. VerifyBlameAnswer file text Done out.items) (IsRight (VerifyBlameAnswer file text)) → MatchResult r (λ out. Answer command files Done out.items) (IsRight (Answer command files))
+verify_blame_answers command files file text r e first second is = subst (λ c. MatchResult r (λ out. Answer c files Done out.items) (IsRight (Answer c files))) (sym e)
+    (subst (λ b. MatchResult r (λ out. VerifyBlameAnswer b (file_at files 1) Done out.items) (IsRight (VerifyBlameAnswer b (file_at files 1)))) first
+    (subst (λ b. MatchResult r (λ out. VerifyBlameAnswer file b Done out.items) (IsRight (VerifyBlameAnswer file b))) second is))
+
+pub levels_answers : (command : Command) (files : List (List ℕ)) (file text : List ℕ) (r : Result (Vec ℕ Global) Refusal) → command ≡ Levels → file ≡ file_at files 0 → text ≡ file_at files 1
+    → MatchResult r (λ out. LevelsAnswer file text Done out.items) (IsRight (LevelsAnswer file text)) → MatchResult r (λ out. Answer command files Done out.items) (IsRight (Answer command files))
+levels_answers command files file text r e first second is = subst (λ c. MatchResult r (λ out. Answer c files Done out.items) (IsRight (Answer c files))) (sym e)
+    (subst (λ b. MatchResult r (λ out. LevelsAnswer b (file_at files 1) Done out.items) (IsRight (LevelsAnswer b (file_at files 1)))) first
+    (subst (λ b. MatchResult r (λ out. LevelsAnswer file b Done out.items) (IsRight (LevelsAnswer file b))) second is))
+
+pub replay_answers : (command : Command) (files : List (List ℕ)) (file text : List ℕ) (r : Result (Vec ℕ Global) Refusal) → command ≡ Replay → file ≡ file_at files 0 → text ≡ file_at files 1
+    → MatchResult r (λ out. ReplayAnswer file text Done out.items) (IsRight (ReplayAnswer file text)) → MatchResult r (λ out. Answer command files Done out.items) (IsRight (Answer command files))
+replay_answers command files file text r e first second is = subst (λ c. MatchResult r (λ out. Answer c files Done out.items) (IsRight (Answer c files))) (sym e)
+    (subst (λ b. MatchResult r (λ out. ReplayAnswer b (file_at files 1) Done out.items) (IsRight (ReplayAnswer b (file_at files 1)))) first
+    (subst (λ b. MatchResult r (λ out. ReplayAnswer file b Done out.items) (IsRight (ReplayAnswer file b))) second is))
 
 -- the one file of a row is within its limit
 pub within_limit : (limit : ℕ) (files : List (List ℕ)) → AreBounded (limit ∷ []) files → length (file_at files 0) ≤ limit

@@ -3,7 +3,7 @@ use Rattle.std.specs.Prelude.{◌≡◌, ℕ, List, Some, IsSome, ◌⊎◌}
 use Rattle.aj_sources.specs.declared.refusal.Ending.{Ending}
 use Rattle.aj_sources.specs.Refusals.{code_of}
 use Rattle.aj_commands.specs.declared.command.Command.{Command}
-use Rattle.aj_commands.specs.declared.command.Command.TheVariants.{Check, Print, Run, Serialise, Derive, Verify, SerialiseOpen, Generate}
+use Rattle.aj_commands.specs.declared.command.Command.TheVariants.{Check, Print, Run, Serialise, Derive, Verify, SerialiseOpen, Blame, VerifyBlame, Levels, Replay, Generate}
 use Rattle.aj_commands.specs.Lines.{too_large_line}
 use Rattle.aj_commands.specs.Rows.{Row}
 use Rattle.aj_commands.specs.Files.{first_too_large, AreWithin, file_at}
@@ -16,6 +16,10 @@ use Rattle.aj_schedule_commands.specs.SerialiseOpen.{SerialiseOpenAnswer, Serial
 use Rattle.aj_schedule_commands.specs.Generate.{GenerateAnswer, GenerateFact}
 use Rattle.aj_book_commands.specs.Derive.{DeriveAnswer, DeriveFact}
 use Rattle.aj_book_commands.specs.Verify.{VerifyAnswer, VerifyFact}
+use Rattle.aj_blame_commands.specs.Blames.{BlameAnswer, BlameFact}
+use Rattle.aj_blame_commands.specs.Verifying.{VerifyBlameAnswer, VerifyBlameFact}
+use Rattle.aj_level_commands.specs.Levels.{LevelsAnswer, LevelsFact}
+use Rattle.aj_replay_commands.specs.Replay.{ReplayAnswer, ReplayFact}
 
 -- the texts that belong to each ending of a command
 abbrev pub Answer : Command → List (List ℕ) → Ending → List ℕ → Type 0
@@ -26,6 +30,10 @@ Answer Serialise files = SerialiseAnswer (file_at files 0) (file_at files 1)
 Answer Derive files = DeriveAnswer (file_at files 0)
 Answer Verify files = VerifyAnswer (file_at files 0) (file_at files 1)
 Answer SerialiseOpen files = SerialiseOpenAnswer (file_at files 0) (file_at files 1)
+Answer Blame files = BlameAnswer (file_at files 0)
+Answer VerifyBlame files = VerifyBlameAnswer (file_at files 0) (file_at files 1)
+Answer Levels files = LevelsAnswer (file_at files 0) (file_at files 1)
+Answer Replay files = ReplayAnswer (file_at files 0) (file_at files 1)
 Answer (Generate n) files = GenerateAnswer n
 
 -- when a command ends how
@@ -37,6 +45,10 @@ Fact Serialise files = SerialiseFact (file_at files 0) (file_at files 1)
 Fact Derive files = DeriveFact (file_at files 0)
 Fact Verify files = VerifyFact (file_at files 0) (file_at files 1)
 Fact SerialiseOpen files = SerialiseOpenFact (file_at files 0) (file_at files 1)
+Fact Blame files = BlameFact (file_at files 0)
+Fact VerifyBlame files = VerifyBlameFact (file_at files 0) (file_at files 1)
+Fact Levels files = LevelsFact (file_at files 0) (file_at files 1)
+Fact Replay files = ReplayFact (file_at files 0) (file_at files 1)
 Fact (Generate n) files = GenerateFact n
 
 -- the status and the text that belong to a row and the bytes of its files

@@ -1,7 +1,7 @@
 -- For a reader of the top call, in this order: the lines (Lines), the rows of words and their files (Rows, Files), in which order these
 -- are read (Reading), what each row answers and when it ends how (Check and Print of `aj_source_commands`, Run, Serialise, SerialiseOpen
 -- and Generate of `aj_schedule_commands`, Derive and Verify of `aj_book_commands`), the same for all rows (Answers), what is written (Said),
--- the sentence that the program is for (Headline), what books are for (Books), and what `serialise-open` is for (OpenCalls). Commands and
+-- the sentence that the program is for (Headline), what books are for (Books), what `serialise-open` is for (OpenCalls), what certificates of refusal are for (Refutations), what lock levels are for (NoCircles), what `replay` is for (ReplayedCalls). Commands and
 -- Outcomes serve the proofs.
 pub mod Lines
 pub mod Rows
@@ -12,5 +12,8 @@ pub mod Said
 pub mod Headline
 pub mod Books
 pub mod OpenCalls
+pub mod Refutations
+pub mod NoCircles
+pub mod ReplayedCalls
 pub mod Commands
 pub mod Outcomes

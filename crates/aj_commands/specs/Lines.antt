@@ -11,7 +11,7 @@ abbrev pub line_end : List ℕ
 line_end = 10 ∷ []
 
 abbrev pub usage_line : List ℕ
-usage_line = codes "usage: atomic check FILE | run FILE SCHEDULE | serialise FILE SCHEDULE | derive FILE | verify FILE BOOK | print FILE | generate N | serialise-open FILE SCHEDULE" ++ line_end
+usage_line = codes "usage: atomic check FILE | run FILE SCHEDULE | serialise FILE SCHEDULE | derive FILE | verify FILE BOOK | print FILE | generate N | serialise-open FILE SCHEDULE | blame FILE | verify-blame FILE CERT | levels FILE LEVELS | replay FILE SCHEDULE" ++ line_end
 
 abbrev pub cannot_read_line : List ℕ → List ℕ
 cannot_read_line name = joined (codes "cannot read " ∷ name ∷ line_end ∷ [])

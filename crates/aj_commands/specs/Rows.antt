@@ -1,7 +1,7 @@
 -- The rows of words that the program knows.
 use Rattle.std.specs.Prelude.{◌≡◌, ◌<◌, ℕ, List, [], ◌∷◌, ◌++◌, codes, decimal, length}
 use Rattle.aj_commands.specs.declared.command.Command.{Command}
-use Rattle.aj_commands.specs.declared.command.Command.TheVariants.{Check, Print, Run, Serialise, Derive, Verify, SerialiseOpen, Generate}
+use Rattle.aj_commands.specs.declared.command.Command.TheVariants.{Check, Print, Run, Serialise, Derive, Verify, SerialiseOpen, Blame, VerifyBlame, Levels, Replay, Generate}
 
 -- the word that names a command
 abbrev pub word_of : Command → List ℕ
@@ -12,6 +12,10 @@ word_of Serialise = codes "serialise"
 word_of Derive = codes "derive"
 word_of Verify = codes "verify"
 word_of SerialiseOpen = codes "serialise-open"
+word_of Blame = codes "blame"
+word_of VerifyBlame = codes "verify-blame"
+word_of Levels = codes "levels"
+word_of Replay = codes "replay"
 word_of (Generate n) = codes "generate"
 
 -- the words behind it that name no file: the number of workers, in decimal digits
@@ -23,6 +27,10 @@ numbers_of Serialise = []
 numbers_of Derive = []
 numbers_of Verify = []
 numbers_of SerialiseOpen = []
+numbers_of Blame = []
+numbers_of VerifyBlame = []
+numbers_of Levels = []
+numbers_of Replay = []
 numbers_of (Generate n) = decimal n ∷ []
 
 -- the numbers are those that a command may have: fewer than 1,000 workers
@@ -34,6 +42,10 @@ IsWithin Serialise = Unit {0}
 IsWithin Derive = Unit {0}
 IsWithin Verify = Unit {0}
 IsWithin SerialiseOpen = Unit {0}
+IsWithin Blame = Unit {0}
+IsWithin VerifyBlame = Unit {0}
+IsWithin Levels = Unit {0}
+IsWithin Replay = Unit {0}
 IsWithin (Generate n) = n < 1000
 
 -- the most bytes that each file of a command may have, in the order of the words
@@ -45,6 +57,10 @@ limits_of Serialise = 262144 ∷ 16777216 ∷ []
 limits_of Derive = 262144 ∷ []
 limits_of Verify = 262144 ∷ 16777216 ∷ []
 limits_of SerialiseOpen = 262144 ∷ 16777216 ∷ []
+limits_of Blame = 262144 ∷ []
+limits_of VerifyBlame = 262144 ∷ 16777216 ∷ []
+limits_of Levels = 262144 ∷ 16777216 ∷ []
+limits_of Replay = 262144 ∷ 16777216 ∷ []
 limits_of (Generate n) = []
 
 -- a command, and the names of its files

@@ -16,6 +16,12 @@ const LARGEST_SCHEDULE: u32 = 16_777_216;
 /// The most bytes that the text of a book may have.
 const LARGEST_BOOK: u32 = 16_777_216;
 
+/// The most bytes that the text of a certificate of refusal may have.
+const LARGEST_BLAME: u32 = 16_777_216;
+
+/// The most bytes that the text of lock levels may have.
+const LARGEST_LEVELS: u32 = 16_777_216;
+
 /// What is to be done with the named files.
 #[derive(Clone, Copy, Debug, PartialEq, Eq)]
 pub enum Command {
@@ -33,6 +39,14 @@ pub enum Command {
     Verify,
     /// Writes a schedule of a source with each atomic call in one piece, also one that is left open.
     SerialiseOpen,
+    /// Writes the certificate that refuses a source.
+    Blame,
+    /// Checks a certificate of refusal of a source.
+    VerifyBlame,
+    /// Checks that the locks of a source are taken in the order of their levels.
+    Levels,
+    /// Evaluates each completed atomic call of a schedule by itself.
+    Replay,
     /// Makes a source and a schedule for so many workers, and tells the figures of its serialised form.
     Generate(u32),
 }
@@ -53,6 +67,10 @@ impl Command {
             "derive" => Some(Command::Derive),
             "verify" => Some(Command::Verify),
             "serialise-open" => Some(Command::SerialiseOpen),
+            "blame" => Some(Command::Blame),
+            "verify-blame" => Some(Command::VerifyBlame),
+            "levels" => Some(Command::Levels),
+            "replay" => Some(Command::Replay),
             _ => None,
         }
     }
@@ -62,11 +80,13 @@ impl Command {
         ensures { result.now ≡ limits_of self }
     {
         match self {
-            Command::Check | Command::Print | Command::Derive => &[LARGEST_SOURCE],
-            Command::Run | Command::Serialise | Command::SerialiseOpen => {
+            Command::Check | Command::Print | Command::Derive | Command::Blame => &[LARGEST_SOURCE],
+            Command::Run | Command::Serialise | Command::SerialiseOpen | Command::Replay => {
                 &[LARGEST_SOURCE, LARGEST_SCHEDULE]
             }
             Command::Verify => &[LARGEST_SOURCE, LARGEST_BOOK],
+            Command::VerifyBlame => &[LARGEST_SOURCE, LARGEST_BLAME],
+            Command::Levels => &[LARGEST_SOURCE, LARGEST_LEVELS],
             Command::Generate(_) => &[],
         }
     }

@@ -7,7 +7,7 @@ use std::alloc::{AllocError as NoMemory, Global};
 
 /// What is written for words that are no row.
 pub const USAGE: &[u8] =
-    b"usage: atomic check FILE | run FILE SCHEDULE | serialise FILE SCHEDULE | derive FILE | verify FILE BOOK | print FILE | generate N | serialise-open FILE SCHEDULE\n";
+    b"usage: atomic check FILE | run FILE SCHEDULE | serialise FILE SCHEDULE | derive FILE | verify FILE BOOK | print FILE | generate N | serialise-open FILE SCHEDULE | blame FILE | verify-blame FILE CERT | levels FILE LEVELS | replay FILE SCHEDULE\n";
 
 /// What ends a line.
 const LINE_END: &str = "\n";

@@ -15,14 +15,20 @@ ghost use Rattle.aj_commands.specs.Commands.{row_of, status_of};
 ghost use Rattle.aj_commands.specs.Headline.{Headline, call_of};
 ghost use Rattle.aj_commands.specs.Books.{Books};
 ghost use Rattle.aj_commands.specs.OpenCalls.{OpenCalls};
+ghost use Rattle.aj_commands.specs.Refutations.{Refutations};
+ghost use Rattle.aj_commands.specs.NoCircles.{NoCircles};
+ghost use Rattle.aj_commands.specs.ReplayedCalls.{ReplayedCalls};
 ghost use Rattle.aj_commands.specs.Outcomes.{IsUnreadFor, IsOutcome};
 
 use crate::command::{Command, Words, words_of};
 use crate::files::{Unread, file_at, read_files};
 use crate::lines::{USAGE, cannot_read_line, too_large_line};
 use crate::status::Status;
+use aj_blame_commands::{blame_source, verify_blame};
 use aj_book_commands::{derive_book, verify_book};
 use aj_edge::{Fault, Folder, Sink, write_all};
+use aj_level_commands::order_levels;
+use aj_replay_commands::replay_calls;
 use aj_schedule_commands::{generate_figures, run_schedule, serialise, serialise_open};
 use aj_source_commands::{check, print};
 use aj_sources::{Ending, Refusal};
@@ -49,6 +55,10 @@ fn answer(alloc: Global, command: Command, files: &[Vec<u8>]) -> Result<Vec<u8>,
         Command::Derive => derive_book(alloc, file_at(files, 0)),
         Command::Verify => verify_book(alloc, file_at(files, 0), file_at(files, 1)),
         Command::SerialiseOpen => serialise_open(alloc, file_at(files, 0), file_at(files, 1)),
+        Command::Blame => blame_source(alloc, file_at(files, 0)),
+        Command::VerifyBlame => verify_blame(alloc, file_at(files, 0), file_at(files, 1)),
+        Command::Levels => order_levels(alloc, file_at(files, 0), file_at(files, 1)),
+        Command::Replay => replay_calls(alloc, file_at(files, 0), file_at(files, 1)),
         Command::Generate(workers) => generate_figures(alloc, workers),
     }
 }
@@ -118,7 +128,9 @@ fn say<K: Sink>(sink: &mut K, status: Status, text: &[u8]) -> u8
 /// the source is refused as it stands; 2, no assignment of atomicities is admissible; 3, the text of the schedule is none; 4, an
 /// entry of the schedule can't step; 5, the schedule ends with a thread inside an atomic call; 6, a file can't be read; 7, the text
 /// can't be written; 8, memory was refused; 9, the words are no row; 10, a file is over its limit; 11, the text of the book is none,
-/// or its book is wrong for the source. Each status but 0, 7 and 8 writes the one line that says why, and all texts go to the sink.
+/// or its book is wrong for the source; 12, there is no certificate of refusal, since the source is accepted; 13, the text of the
+/// certificate is none, or it is none for the source; 14, the text of the levels is none, or the source isn't ordered by them; 15, a
+/// call is too deep to be evaluated. Each status but 0, 7 and 8 writes the one line that says why, and all texts go to the sink.
 pub fn run<F: Folder, K: Sink>(alloc: Global, words: &[String], folder: &mut F, sink: &mut K) -> u8
     // Words that are no row: this path takes no memory, so it never answers 8.
     ensures usage { IsNoRow (map string_bytes words.now) → Says result 9 usage_line (K.written sink.old) (K.written sink.new) (K.faults sink.old) (K.faults sink.new) }
@@ -162,6 +174,18 @@ pub fn run<F: Folder, K: Sink>(alloc: Global, words: &[String], folder: &mut F, 
 
     // What `serialise-open` is for, derived from these too.
     ensures open_calls { OpenCalls (call_of (map string_bytes words.now) (F.told folder.old) (F.faults folder.old) (F.faults folder.new)
+        (K.faults sink.old) (K.faults sink.new) (K.written sink.old) (K.written sink.new) result) }
+
+    // What certificates of refusal are for, derived from these too.
+    ensures refutations { Refutations (call_of (map string_bytes words.now) (F.told folder.old) (F.faults folder.old) (F.faults folder.new)
+        (K.faults sink.old) (K.faults sink.new) (K.written sink.old) (K.written sink.new) result) }
+
+    // What lock levels are for, derived from these too.
+    ensures no_circles { NoCircles (call_of (map string_bytes words.now) (F.told folder.old) (F.faults folder.old) (F.faults folder.new)
+        (K.faults sink.old) (K.faults sink.new) (K.written sink.old) (K.written sink.new) result) }
+
+    // What `replay` is for, derived from these too.
+    ensures replayed_calls { ReplayedCalls (call_of (map string_bytes words.now) (F.told folder.old) (F.faults folder.old) (F.faults folder.new)
         (K.faults sink.old) (K.faults sink.new) (K.written sink.old) (K.written sink.new) result) }
 {
     let Some(row) = words_of(words) else {

@@ -1,5 +1,5 @@
 -- A walk through a body: it carries a set of held paths, and the greatest level of a lock that may be held.
-use Rattle.std.specs.Prelude.{ℕ, ◌+◌, Bool, true, false, nat_lt, max, List, [], ◌∷◌, ◌++◌, Option, Some, None, slice_get, if◌then◌else◌}
+use Rattle.std.specs.Prelude.{ℕ, ◌+◌, Bool, true, false, nat_lt, max, List, [], ◌∷◌, ◌++◌, Option, Some, None, slice_get, unwrap_or, if◌then◌else◌}
 use Rattle.aj_paths.specs.Paths.{PathData}
 use Rattle.aj_algebra.specs.HeldPaths.{Held, with_path}
 use Rattle.aj_core.specs.declared.types.CoreType.{CoreType}
@@ -18,6 +18,10 @@ pub data Visit : Type 0 where
   Comes : ℕ → (ℕ → Held) → ℕ → Visit
   -- a `synchronized` on a lock of this class, which isn't above the walk's level; its place among those of the body, in written order
   Bad : (place class under : ℕ) → Visit
+
+-- the level of a class in a list; 0 for one that has none
+abbrev pub level_in : List ℕ → ℕ → ℕ
+level_in levels c = unwrap_or (slice_get levels c) 0
 
 -- the class of a type, where it is one
 abbrev pub class_in : SlotType → ℕ

@@ -2,5 +2,7 @@
 #![tactic(auto)]
 
 mod laws;
+mod levels;
 
 pub use laws::{answer_laws, level_laws};
+pub use levels::Levels;

@@ -13,9 +13,9 @@ use Rattle.aj_core.specs.Views.{program_of, expr_of, exprs_from, stmt_of, stmts_
 use Rattle.aj_rules.specs.Effect.{after_stmt, held_under}
 use Rattle.aj_rules.specs.Near.{rel_of}
 use Rattle.aj_rules.specs.Search.{row_at}
-use Rattle.aj_levels.specs.Walks.{Visit, Comes, Bad, call_visits, syncs_in, syncs_in_each, lock_class, expr_visits, exprs_visits, visits, block_visits, sync_visits}
+use Rattle.aj_levels.specs.Walks.{level_in, Visit, Comes, Bad, call_visits, syncs_in, syncs_in_each, lock_class, expr_visits, exprs_visits, visits, block_visits, sync_visits}
 use Rattle.aj_ordered.specs.declared.walk.Walk.{Walk}
-use Rattle.aj_ordered.specs.Told.{Told, Wrong, told_at, told, told_bad, level_in, expr_told, exprs_told, stmt_told, block_told}
+use Rattle.aj_ordered.specs.Told.{Told, Wrong, told_at, told, told_bad, expr_told, exprs_told, stmt_told, block_told}
 
 pub told_append : (over : ℕ → List ℕ) (xs ys : List Visit) → told over (xs ++ ys) ≡ told over xs ++ told over ys
 told_append over [] ys = refl

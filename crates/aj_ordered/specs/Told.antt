@@ -1,11 +1,11 @@
 -- What a walk in code tells: for each call the methods that may run there, each with the paths that it knows.
-use Rattle.std.specs.Prelude.{ℕ, List, [], ◌∷◌, ◌++◌, map, slice_get, unwrap_or, nat_lt, if◌then◌else◌}
+use Rattle.std.specs.Prelude.{ℕ, List, [], ◌∷◌, ◌++◌, map, nat_lt, if◌then◌else◌}
 use Rattle.aj_algebra.specs.HeldPaths.{Held, has_path}
 use Rattle.aj_core.specs.Views.{program_of}
 use Rattle.aj_core.specs.Core.{Expr, Exprs, Stmt, Stmts}
 use Rattle.aj_rules.specs.Near.{rel_of}
 use Rattle.aj_rules.specs.Search.{row_at}
-use Rattle.aj_levels.specs.Walks.{Visit, Comes, Bad, expr_visits, exprs_visits, visits, block_visits}
+use Rattle.aj_levels.specs.Walks.{Visit, Comes, Bad, level_in, expr_visits, exprs_visits, visits, block_visits}
 use Rattle.aj_ordered.specs.declared.told.Seen.{Seen}
 use Rattle.aj_ordered.specs.declared.told.Seen.TheVariants as seen
 use Rattle.aj_ordered.specs.declared.walk.Walk.{Walk}
@@ -33,10 +33,6 @@ told_bad place class under level = if nat_lt under level then [] else Wrong plac
 abbrev pub told_of : Seen → Told
 told_of (seen.Comes method held under) = Calls method (has_path held.items) under
 told_of (seen.Bad place class under) = Wrong place class under
-
--- the level of a class; 0 for one that has none
-abbrev pub level_in : List ℕ → ℕ → ℕ
-level_in levels c = unwrap_or (slice_get levels c) 0
 
 -- what the parts of a body tell in this walk
 abbrev pub expr_told : Walk → Expr → Held → ℕ → List Told

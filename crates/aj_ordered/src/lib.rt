@@ -9,7 +9,7 @@ mod told;
 mod walk;
 
 pub use expressions::walk_expr;
-pub use laws::{light_laws, settled_laws};
+pub use laws::light_laws;
 pub use slots::slot_types;
 pub use statements::walk_body;
 pub use told::Seen;

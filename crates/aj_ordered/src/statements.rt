@@ -3,8 +3,8 @@ ghost use Rattle.std.specs.Prelude.{◌≡◌, ◌≤◌, ◌+◌, ◌^◌, ◌�
 ghost use Rattle.aj_algebra.specs.HeldPaths.{has_path, with_path};
 ghost use Rattle.aj_core.specs.Core.{SyncS};
 ghost use Rattle.aj_core.specs.Views.{program_of, expr_of, stmt_of, stmts_from};
-ghost use Rattle.aj_levels.specs.Walks.{syncs_in, syncs_in_each, lock_class};
-ghost use Rattle.aj_ordered.specs.Told.{level_in, told_bad, told_of, stmt_told, block_told};
+ghost use Rattle.aj_levels.specs.Walks.{level_in, syncs_in, syncs_in_each, lock_class};
+ghost use Rattle.aj_ordered.specs.Told.{told_bad, told_of, stmt_told, block_told};
 
 use crate::expressions::{walk_expr, walk_two};
 use crate::told::Seen;

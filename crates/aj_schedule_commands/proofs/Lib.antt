@@ -1,9 +1,9 @@
 -- Refusals and answers of the commands on a schedule (ScheduleRows, OpenRows, GenerateRows), and that each ending has its fact, and one alone
 -- (ScheduleEndings, OpenEndings, GenerateEndings).
-mod ScheduleRows
+pub mod ScheduleRows
 mod OpenRows
 mod GenerateRows
 pub mod ScheduleEndings
 pub mod OpenEndings
 pub mod GenerateEndings
-mod Counts
+pub mod Counts

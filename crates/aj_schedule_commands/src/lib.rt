@@ -11,4 +11,5 @@ mod serialising;
 pub use generating::generate_figures;
 pub use opening::serialise_open;
 pub use running::run_schedule;
-pub use serialising::serialise;
+pub use schedules::schedule_of;
+pub use serialising::{order_of, serialise};

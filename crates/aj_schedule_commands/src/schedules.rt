@@ -36,7 +36,7 @@ fn refuse_text(alloc: Global, bytes: &[u8], fault: SchedFault) -> Refusal
 }
 
 /// The schedule that these bytes are the text of.
-pub(crate) fn schedule_of(alloc: Global, bytes: &[u8]) -> Result<Vec<u32>, Refusal>
+pub fn schedule_of(alloc: Global, bytes: &[u8]) -> Result<Vec<u32>, Refusal>
     requires { length bytes.now ≤ 16777216 }
     ensures { MatchResult result (λ s. IsSchedule bytes.now s.items) (IsRight (NoSchedule bytes.now)) }
 {

@@ -54,7 +54,7 @@ fn refuse_open(alloc: Global, thread: u32) -> Refusal
 }
 
 /// The written order of a schedule of an accepted program, and the machine that ran the schedule.
-pub(crate) fn order_of<'p>(
+pub fn order_of<'p>(
     alloc: Global,
     program: &'p CoreProgram,
     code: &'p CodeTable,

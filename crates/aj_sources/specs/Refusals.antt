@@ -1,7 +1,7 @@
 -- How commands on files end, and when a refusal is right.
 use Rattle.std.specs.Prelude.{◌≡◌, ℕ, List, string_bytes}
 use Rattle.aj_sources.specs.declared.refusal.Ending.{Ending}
-use Rattle.aj_sources.specs.declared.refusal.Ending.TheVariants.{Done, Refused, Inadmissible, NoSchedule, Stopped, Open, BookRefused}
+use Rattle.aj_sources.specs.declared.refusal.Ending.TheVariants.{Done, Refused, Inadmissible, NoSchedule, Stopped, Open, BookRefused, NothingToBlame, BlameRefused, LevelsRefused, CallTooDeep}
 use Rattle.aj_sources.specs.declared.refusal.Refusal.{Refusal}
 use Rattle.aj_sources.specs.declared.refusal.Refusal.TheVariants.{Line, NoMemory}
 
@@ -14,6 +14,10 @@ code_of NoSchedule = 3
 code_of Stopped = 4
 code_of Open = 5
 code_of BookRefused = 11
+code_of NothingToBlame = 12
+code_of BlameRefused = 13
+code_of LevelsRefused = 14
+code_of CallTooDeep = 15
 
 -- the texts that belong to each ending
 abbrev pub Texts : Type 1

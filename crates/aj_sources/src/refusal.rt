@@ -25,6 +25,14 @@ pub enum Ending {
     Open,
     /// The text of the book is none, or its book is wrong for the source.
     BookRefused,
+    /// No certificate of refusal is there: the source is accepted.
+    NothingToBlame,
+    /// The text of the certificate is none, or its certificate is wrong for the source.
+    BlameRefused,
+    /// The text of the levels is none for the source, or the source isn't ordered by them.
+    LevelsRefused,
+    /// A call of the schedule has too many calls within each other to be evaluated.
+    CallTooDeep,
 }
 
 impl Ending {
@@ -42,6 +50,10 @@ impl Ending {
             Ending::Stopped => 4,
             Ending::Open => 5,
             Ending::BookRefused => 11,
+            Ending::NothingToBlame => 12,
+            Ending::BlameRefused => 13,
+            Ending::LevelsRefused => 14,
+            Ending::CallTooDeep => 15,
         }
     }
 }

@@ -9,3 +9,4 @@ mod values;
 pub use numbers::write_number;
 pub use schedules::{open_text, schedule_fault_text, stopped_text};
 pub use states::state_text;
+pub use values::{write_address, write_value};

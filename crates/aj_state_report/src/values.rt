@@ -8,7 +8,7 @@ use aj_state::{Address, Fault, Value};
 use std::alloc::AllocError as NoMemory;
 
 /// Writes an address.
-pub(crate) fn write_address(text: &mut String, address: Address) -> Result<(), NoMemory>
+pub fn write_address(text: &mut String, address: Address) -> Result<(), NoMemory>
     ensures { OnOk result (string_bytes text.new ≡ string_bytes text.old ++ address_text address) }
 {
     write_number(text, address.thread)?;
@@ -17,7 +17,7 @@ pub(crate) fn write_address(text: &mut String, address: Address) -> Result<(), N
 }
 
 /// Writes a value.
-pub(crate) fn write_value(text: &mut String, value: Value) -> Result<(), NoMemory>
+pub fn write_value(text: &mut String, value: Value) -> Result<(), NoMemory>
     ensures { OnOk result (string_bytes text.new ≡ string_bytes text.old ++ value_text value) }
 {
     match value {

@@ -1,7 +1,7 @@
 //! The files of `examples/`, with the lines that its README states. Written by `examples/as_test.py`.
 
 /// Name, text, status and lines.
-pub const EXAMPLES: [(&str, &str, u8, &str); 20] = [
+pub const EXAMPLES: [(&str, &str, u8, &str); 24] = [
     (
         "locked.java",
         "class Main { int v guarded_by this; atomic void main() { synchronized (this) { this.v = 7; } } }\n",
@@ -37,6 +37,12 @@ pub const EXAMPLES: [(&str, &str, u8, &str); 20] = [
         "class Cell {\n    int v guarded_by this;\n    atomic void inc() {\n        synchronized (this) {\n            this.v = this.v + 1;\n        }\n    }\n}\n\nclass W implements Runnable {\n    final Cell c;\n    W(Cell c) { this.c = c; }\n    public void run() {\n        this.c.inc();\n    }\n}\n\nclass Main {\n    void main() {\n        final Cell c = new Cell();\n        new Thread(new W(c)).start();\n        new Thread(new W(c)).start();\n    }\n}\n",
         0,
         "Cell.inc this ? mover : atomic\nW.run this.c ? mover : atomic\nMain.main cmpd\n",
+    ),
+    (
+        "tickets.java",
+        "class Tickets {\n    int last guarded_by this;\n    atomic int draw() {\n        synchronized (this) {\n            this.last = this.last + 1;\n            return this.last;\n        }\n    }\n}\n\nclass Guest implements Runnable {\n    final Tickets tickets;\n    Guest(Tickets tickets) { this.tickets = tickets; }\n    public void run() {\n        System.out.println(this.tickets.draw());\n    }\n}\n\nclass Main {\n    void main() {\n        final Tickets tickets = new Tickets();\n        new Thread(new Guest(tickets)).start();\n        new Thread(new Guest(tickets)).start();\n    }\n}\n",
+        0,
+        "Tickets.draw this ? mover : atomic\nGuest.run this.tickets ? atomic : cmpd\nMain.main cmpd\n",
     ),
     (
         "twice.java",
@@ -121,5 +127,23 @@ pub const EXAMPLES: [(&str, &str, u8, &str); 20] = [
         "class Gauge {\n    int level write_guarded_by this;\n    atomic int read() {\n        return this.level;\n    }\n    atomic void raise() {\n        synchronized (this) {\n            this.level = this.level + 1;\n            this.level = this.level + 1;\n        }\n    }\n}\n\nclass Main {\n    void main() {\n        new Gauge().raise();\n    }\n}\n",
         2,
         "Gauge.raise: declared atomic, found cmpd\n",
+    ),
+    (
+        "buffers.java",
+        "class Buf {\n    int n guarded_by this;\n    atomic int length() {\n        synchronized (this) { return this.n; }\n    }\n    atomic void append(final Buf other) {\n        synchronized (this) {\n            synchronized (other) {\n                this.n = this.n + other.length();\n            }\n        }\n    }\n}\n\nclass Appender implements Runnable {\n    final Buf to;\n    final Buf from;\n    Appender(Buf to, Buf from) { this.to = to; this.from = from; }\n    public void run() {\n        this.to.append(this.from);\n    }\n}\n\nclass Main {\n    void main() {\n        final Buf a = new Buf();\n        final Buf b = new Buf();\n        new Thread(new Appender(a, b)).start();\n        new Thread(new Appender(b, a)).start();\n    }\n}\n",
+        0,
+        "Buf.length this ? mover : atomic\nBuf.append this ? (other ? mover : atomic) : atomic\nAppender.run this.to ? (this.from ? mover : atomic) : atomic\nMain.main cmpd\n",
+    ),
+    (
+        "buffers_ranked.java",
+        "class Buf {\n    int n guarded_by this;\n    atomic int length() {\n        synchronized (this) { return this.n; }\n    }\n}\n\nclass Log {\n    int n guarded_by this;\n    atomic void append(final Buf other) {\n        synchronized (this) {\n            synchronized (other) {\n                this.n = this.n + other.length();\n            }\n        }\n    }\n}\n\nclass Appender implements Runnable {\n    final Log to;\n    final Buf from;\n    Appender(Log to, Buf from) { this.to = to; this.from = from; }\n    public void run() {\n        this.to.append(this.from);\n    }\n}\n\nclass Main {\n    void main() {\n        final Log log = new Log();\n        new Thread(new Appender(log, new Buf())).start();\n        new Thread(new Appender(log, new Buf())).start();\n    }\n}\n",
+        0,
+        "Buf.length this ? mover : atomic\nLog.append this ? (other ? mover : atomic) : atomic\nAppender.run this.to ? (this.from ? mover : atomic) : atomic\nMain.main cmpd\n",
+    ),
+    (
+        "buffers_one_lock.java",
+        "class Pair {\n    int first guarded_by this;\n    int second guarded_by this;\n    atomic void append_second() {\n        synchronized (this) {\n            this.first = this.first + this.second;\n        }\n    }\n    atomic void append_first() {\n        synchronized (this) {\n            this.second = this.second + this.first;\n        }\n    }\n}\n\nclass Appender implements Runnable {\n    final Pair pair;\n    Appender(Pair pair) { this.pair = pair; }\n    public void run() {\n        this.pair.append_second();\n    }\n}\n\nclass Other implements Runnable {\n    final Pair pair;\n    Other(Pair pair) { this.pair = pair; }\n    public void run() {\n        this.pair.append_first();\n    }\n}\n\nclass Main {\n    void main() {\n        final Pair pair = new Pair();\n        new Thread(new Appender(pair)).start();\n        new Thread(new Other(pair)).start();\n    }\n}\n",
+        0,
+        "Pair.append_second this ? mover : atomic\nPair.append_first this ? mover : atomic\nAppender.run this.pair ? mover : atomic\nOther.run this.pair ? mover : atomic\nMain.main cmpd\n",
     ),
 ];

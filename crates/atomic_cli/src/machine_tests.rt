@@ -69,7 +69,7 @@ pub fn source_of<'a>(alloc: Global, text: &'a str) -> Result<Source<'a>, Fail>
 }
 
 /// The core program of a text that is a well-formed source.
-fn core_of(alloc: Global, text: &str) -> Result<CoreProgram, Fail>
+pub fn core_of(alloc: Global, text: &str) -> Result<CoreProgram, Fail>
     ensures { IfOk result (λ program. IsTyped (program_of program)) }
 {
     let Source { program, .. } = source_of(alloc, text)?;
@@ -97,7 +97,7 @@ fn exchange(
 }
 
 /// The machine of a program after a schedule.
-fn machine_after<'p>(
+pub fn machine_after<'p>(
     alloc: Global,
     program: &'p CoreProgram,
     code: &'p CodeTable,

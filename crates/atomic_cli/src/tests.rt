@@ -149,7 +149,7 @@ pub fn counter(alloc: Global, in_cell: &str, in_main: &str, behind: &str) -> Res
 }
 
 /// The examples. A `static` is lent, where a `const` is copied into the function that names it.
-static EXAMPLE_ROWS: [(&str, &str, u8, &str); 20] = EXAMPLES;
+static EXAMPLE_ROWS: [(&str, &str, u8, &str); 24] = EXAMPLES;
 
 /// Each file of `examples/` that `check` judges gets the lines that the README there states.
 #[test]
@@ -610,7 +610,7 @@ fn a_body_is_at_most_64_high(rt: HostRuntime) -> Result<(), Fail> {
 }
 
 pub const USAGE: &str =
-    "usage: atomic check FILE | run FILE SCHEDULE | serialise FILE SCHEDULE | derive FILE | verify FILE BOOK | print FILE | generate N | serialise-open FILE SCHEDULE\n";
+    "usage: atomic check FILE | run FILE SCHEDULE | serialise FILE SCHEDULE | derive FILE | verify FILE BOOK | print FILE | generate N | serialise-open FILE SCHEDULE | blame FILE | verify-blame FILE CERT | levels FILE LEVELS | replay FILE SCHEDULE\n";
 
 /// Words with a status of their own, and their text.
 static WORDS: [(&[&str], u8, &str); 5] = [

@@ -8,6 +8,7 @@ use Rattle.aj_core.specs.Views.{program_of}
 use Rattle.aj_rules.specs.Near.{rel_of}
 use Rattle.aj_blame.specs.Ends.{cells_at, goes_on}
 use Rattle.aj_blame.proofs.MakerLemmas.{sets_step}
+use Rattle.aj_blame.proofs.WaitLemmas.{adds_both}
 use Rattle.aj_blame.proofs.ask.ask_sets.Goals as goal
 
 pub loop-part-preserved : goal.loop-part-preserved
@@ -21,6 +22,7 @@ loop-part-preserved c =
     record {
       agrees = c.in_ok-ask.ensures.agrees;
       ascend = (subst (AllByRecursion (IsStrictlySortedBy path_order)) (next_drop parts k c.part-item.result c.loop-part-test.true c.part-item.is) before.ascend).1;
+      adds = adds_both c.args.method c.args.lines.now.items c.loop-part.lines.items c.ask.new.lines.items before.adds c.in_ok-ask.ensures.adds;
       asked = λ cs. before.asked cs
           ∙ sets_step P rel c.args.method parts k c.part-item.result c.as_slice-held.result.now c.loop-part.lines.items c.ask.new.lines.items c.in_ok-ask.field-0 c.loop-part-test.true c.part-item.is
           (c.as_slice-held.ensures.value ∙ c.part.view_is) c.in_ok-ask.ensures.asked cs

@@ -6,6 +6,7 @@ use Rattle.aj_core.specs.Views.{program_of}
 use Rattle.aj_rules.specs.Near.{rel_of}
 use Rattle.aj_blame.specs.Passes.{Cell, pass}
 use Rattle.aj_blame.specs.Ends.{Agrees, cells_at}
+use Rattle.aj_blame.specs.Waiting.{Adds}
 use Rattle.aj_blame.proofs.ask.ask_sets.Given as goal
 
 -- a pass that asks the rest now goes as one that asks all from the start
@@ -13,7 +14,8 @@ abbrev pub invariant-loop-part : goal.invariant-loop-part
 invariant-loop-part l =
     let P = program_of l.program in let rel = rel_of l.sets in
     record {
-      agrees : Agrees P l.sets l.floors.sets.now l.floors.rows.items l.lines.items;
+      agrees : Agrees P l.sets l.floors.sets.now l.floors.tables.items l.lines.items;
       ascend : AllByRecursion (IsStrictlySortedBy path_order) (drop l.part-index l.parts);
+      adds : Adds l.method l.fn.lines.items l.lines.items;
       asked : (cs : List Cell) → pass P rel (cells_at l.method l.parts ++ cs) l.fn.lines.items ≡ pass P rel (cells_at l.method (drop l.part-index l.parts) ++ cs) l.lines.items;
     }

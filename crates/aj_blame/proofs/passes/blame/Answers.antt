@@ -1,10 +1,13 @@
 -- Nothing is said at first.
-use Rattle.std.proofs.Common.{◌≡◌, ap, sym, subst, ◌∙◌}
+use Rattle.std.proofs.Common.{◌≡◌, true, false, rules, [], Some, slice_get, refl, ap, sym, subst, ◌∙◌}
 use Rattle.aj_core.specs.Views.{program_of, method_of}
 use Rattle.aj_rules.specs.Near.{rel_of}
-use Rattle.aj_blame.specs.Lines.{AreAscending, floor}
-use Rattle.aj_blame.specs.Rows.{said_by}
+use Rattle.aj_blame.specs.Lines.{AreAscending}
+use Rattle.aj_blame.specs.Passes.{Passes}
+use Rattle.aj_blame.specs.Tables.{Says}
+use Rattle.aj_blame.proofs.PassLaws.{broken_certificate}
 use Rattle.aj_blame.proofs.RowLemmas.{same_count}
+use Rattle.aj_blame.proofs.WaitLemmas.{none_settled}
 use Rattle.aj_blame.proofs.passes.blame.Goals as goal
 
 pub passes-requires-clause-agrees : goal.passes-requires-clause-agrees
@@ -15,7 +18,18 @@ passes-requires-clause-agrees c =
     let none = c.new-lines.ensures.items in
     record {
       same = made.sets;
-      size = made.size ∙ same_count method_of c.methods.result.now P.methods c.methods.ensures;
-      says = subst (λ s. said_by (rel_of s) floors.rows.items ≡ floor (rel_of s) c.new-lines.result.items) (sym made.sets) (made.says ∙ ap (floor (rel_of c.args.sets.now)) (sym none));
+      size = made.size ∙ same_count method_of c.methods-count.result.now P.methods c.methods-count.ensures;
+      says = subst (λ s. Says (rel_of s) floors.tables.items c.new-lines.result.items) (sym made.sets) (subst (Says (rel_of c.args.sets.now) floors.tables.items) (sym none) made.says);
       ascend = subst AreAscending (sym none) tt;
     }
+
+pub passes-requires-clause-settled : goal.passes-requires-clause-settled
+passes-requires-clause-settled c = none_settled (program_of c.args.program.now) (rel_of c.args.sets.now) c.new-lines.result.items c.as_mut_slice.result.now (λ m e. c.in_ok-waits.ensures.wait m (subst (λ ws. slice_get ws m ≡ Some false) c.as_mut_slice.ensures.value e))
+
+pub returns-then-branch-clause-certificate : goal.returns-then-branch-clause-certificate
+returns-then-branch-clause-certificate c =
+    let P = program_of c.args.program.now in
+    let rel = rel_of c.args.sets.now in
+    let lines = c.passes.new.lines.items in
+    let broken : c.in_ok-passes.field-0 ≡ true = search rules in
+    broken_certificate P rel (record { all = lines; broken = true }) (subst (λ b. Passes P rel [] (record { all = lines; broken = b })) broken c.in_ok-passes.ensures.passes) refl

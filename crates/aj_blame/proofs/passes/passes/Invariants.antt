@@ -1,7 +1,9 @@
+use Rattle.std.proofs.Common.{◌≡◌, length}
 use Rattle.aj_core.specs.Views.{program_of}
 use Rattle.aj_rules.specs.Near.{rel_of}
 use Rattle.aj_blame.specs.Passes.{cells_of}
 use Rattle.aj_blame.specs.Ends.{Agrees, IsGoing}
+use Rattle.aj_blame.specs.Waiting.{AreSettled}
 use Rattle.aj_blame.proofs.PassLaws.{room}
 use Rattle.aj_blame.proofs.passes.passes.Given as goal
 
@@ -10,7 +12,9 @@ abbrev pub invariant-loop-lines : goal.invariant-loop-lines
 invariant-loop-lines l =
     let P = program_of l.program in
     record {
-      agrees : Agrees P l.sets l.floors.sets.now l.floors.rows.items l.lines.items;
+      agrees : Agrees P l.sets l.floors.sets.now l.floors.tables.items l.lines.items;
+      size : length l.waits ≡ length P.methods;
+      settled : AreSettled P (rel_of l.sets) l.lines.items l.waits;
       going : IsGoing P (rel_of l.sets) l.lines.items;
     }
 

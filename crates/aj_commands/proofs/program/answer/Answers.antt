@@ -1,5 +1,5 @@
 use Rattle.std.proofs.Common.{map}
-use Rattle.aj_commands.proofs.Rows.{check_answers, print_answers, run_answers, serialise_answers, serialise_open_answers, generate_answers, derive_answers, verify_answers}
+use Rattle.aj_commands.proofs.Rows.{check_answers, print_answers, run_answers, serialise_answers, serialise_open_answers, blame_answers, verify_blame_answers, levels_answers, replay_answers, generate_answers, derive_answers, verify_answers}
 use Rattle.aj_commands.proofs.program.answer.Goals as goal
 
 pub returns-in-Check : goal.returns-in-Check
@@ -33,3 +33,23 @@ returns-in-SerialiseOpen c =
 
 pub returns-in-Generate : goal.returns-in-Generate
 returns-in-Generate c = generate_answers c.args.command (map (λ file. file.items) c.args.files.now) c.in-Generate.workers c.generate_figures.result c.in-Generate.is c.generate_figures.ensures
+
+pub returns-in-Blame : goal.returns-in-Blame
+returns-in-Blame c =
+    blame_answers c.args.command (map (λ file. file.items) c.args.files.now) c.file_at-in-Blame.result.now c.blame_source.result
+    c.in-Blame.is c.file_at-in-Blame.ensures c.blame_source.ensures
+
+pub returns-in-VerifyBlame : goal.returns-in-VerifyBlame
+returns-in-VerifyBlame c =
+    verify_blame_answers c.args.command (map (λ file. file.items) c.args.files.now) c.file_at-in-VerifyBlame.result.now c.file_at-in-VerifyBlame-2.result.now c.verify_blame.result
+    c.in-VerifyBlame.is c.file_at-in-VerifyBlame.ensures c.file_at-in-VerifyBlame-2.ensures c.verify_blame.ensures
+
+pub returns-in-Levels : goal.returns-in-Levels
+returns-in-Levels c =
+    levels_answers c.args.command (map (λ file. file.items) c.args.files.now) c.file_at-in-Levels.result.now c.file_at-in-Levels-2.result.now c.order_levels.result
+    c.in-Levels.is c.file_at-in-Levels.ensures c.file_at-in-Levels-2.ensures c.order_levels.ensures
+
+pub returns-in-Replay : goal.returns-in-Replay
+returns-in-Replay c =
+    replay_answers c.args.command (map (λ file. file.items) c.args.files.now) c.file_at-in-Replay.result.now c.file_at-in-Replay-2.result.now c.replay_calls.result
+    c.in-Replay.is c.file_at-in-Replay.ensures c.file_at-in-Replay-2.ensures c.replay_calls.ensures

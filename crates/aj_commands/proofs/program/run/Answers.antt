@@ -4,6 +4,9 @@ use Rattle.aj_commands.specs.Said.{Says}
 use Rattle.aj_commands.proofs.Headlines.{headline_of}
 use Rattle.aj_commands.proofs.Certified.{books_of}
 use Rattle.aj_commands.proofs.OpenCalled.{open_calls_of}
+use Rattle.aj_commands.proofs.Refuted.{refutations_of}
+use Rattle.aj_commands.proofs.Ordered.{no_circles_of}
+use Rattle.aj_commands.proofs.Replayed.{replayed_calls_of}
 use Rattle.aj_commands.proofs.Endings.{exact_yield}
 use Rattle.aj_commands.proofs.Runs.{IsDone, exact, answered, front, unreadable, over_limit, quiet, to_bytes, complete}
 use Rattle.aj_commands.proofs.program.run.Given.{Over}
@@ -77,3 +80,30 @@ returns-in-Err-clause-open_calls g c = open_calls_of _ (λ row files asked calm.
 
 pub returns-in_default-clause-open_calls : goal.returns-in_default-clause-open_calls
 returns-in_default-clause-open_calls g c = open_calls_of _ (λ row files asked calm. absurd (c.in_default.ensures row asked.is_row))
+
+pub returns-in-Ok-clause-refutations : goal.returns-in-Ok-clause-refutations
+returns-in-Ok-clause-refutations g c = refutations_of _ (λ row files asked. exact _ _ _ _ _ _ _ _ _ (the_row g c) row files asked) (λ row files asked calm. complete _ _ _ _ _ _ _ _ _ (the_row g c) row files asked calm.files calm.sink)
+
+pub returns-in-Err-clause-refutations : goal.returns-in-Err-clause-refutations
+returns-in-Err-clause-refutations g c = refutations_of _ (λ row files asked. exact_yield row files c.code.result (inr (inr c.code.ensures))) (λ row files asked calm. inl c.code.ensures)
+
+pub returns-in_default-clause-refutations : goal.returns-in_default-clause-refutations
+returns-in_default-clause-refutations g c = refutations_of _ (λ row files asked. absurd (c.in_default.ensures row asked.is_row)) (λ row files asked calm. absurd (c.in_default.ensures row asked.is_row))
+
+pub returns-in-Ok-clause-no_circles : goal.returns-in-Ok-clause-no_circles
+returns-in-Ok-clause-no_circles g c = no_circles_of _ (λ row files asked. exact _ _ _ _ _ _ _ _ _ (the_row g c) row files asked) (λ row files asked calm. complete _ _ _ _ _ _ _ _ _ (the_row g c) row files asked calm.files calm.sink)
+
+pub returns-in-Err-clause-no_circles : goal.returns-in-Err-clause-no_circles
+returns-in-Err-clause-no_circles g c = no_circles_of _ (λ row files asked. exact_yield row files c.code.result (inr (inr c.code.ensures))) (λ row files asked calm. inl c.code.ensures)
+
+pub returns-in_default-clause-no_circles : goal.returns-in_default-clause-no_circles
+returns-in_default-clause-no_circles g c = no_circles_of _ (λ row files asked. absurd (c.in_default.ensures row asked.is_row)) (λ row files asked calm. absurd (c.in_default.ensures row asked.is_row))
+
+pub returns-in-Ok-clause-replayed_calls : goal.returns-in-Ok-clause-replayed_calls
+returns-in-Ok-clause-replayed_calls g c = replayed_calls_of _ (λ row files asked calm. complete _ _ _ _ _ _ _ _ _ (the_row g c) row files asked calm.files calm.sink)
+
+pub returns-in-Err-clause-replayed_calls : goal.returns-in-Err-clause-replayed_calls
+returns-in-Err-clause-replayed_calls g c = replayed_calls_of _ (λ row files asked calm. inl c.code.ensures)
+
+pub returns-in_default-clause-replayed_calls : goal.returns-in_default-clause-replayed_calls
+returns-in_default-clause-replayed_calls g c = replayed_calls_of _ (λ row files asked calm. absurd (c.in_default.ensures row asked.is_row))

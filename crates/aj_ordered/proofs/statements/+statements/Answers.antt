@@ -6,8 +6,8 @@ use Rattle.aj_core.specs.declared.tree.CoreStmt.{the_lemmas}
 use Rattle.aj_core.specs.Views.{program_of, stmt_of, stmts_from}
 use Rattle.aj_core.proofs.ViewLemmas.{stmt_of-Block}
 use Rattle.aj_rules.specs.Near.{rel_of}
-use Rattle.aj_levels.specs.Walks.{visits, syncs_in, syncs_in_each}
-use Rattle.aj_ordered.specs.Told.{level_in, stmt_told, told_of}
+use Rattle.aj_levels.specs.Walks.{level_in, visits, syncs_in, syncs_in_each}
+use Rattle.aj_ordered.specs.Told.{stmt_told, told_of}
 use Rattle.aj_ordered.proofs.ToldLemmas.{more_stmts, while_told, if_told, room_left, room_same, place_left}
 use Rattle.aj_ordered.proofs.statements.+statements.Goals as goal
 

@@ -1,28 +1,16 @@
--- A line that is known already, and one that is added.
+-- The tables say the line too.
 use Rattle.std.proofs.Common.{length, ap, ◌∙◌, arith}
-use Rattle.aj_algebra.specs.HeldPaths.{has_path}
 use Rattle.aj_rules.specs.Near.{rel_of}
 use Rattle.aj_blame.specs.Lines.{LineData}
-use Rattle.aj_blame.specs.Rows.{said_by}
-use Rattle.aj_blame.proofs.ClaimLemmas.{add_known, add_says}
 use Rattle.aj_blame.proofs.RowLemmas.{whole_written}
+use Rattle.aj_blame.proofs.TableLemmas.{add_says}
 use Rattle.aj_blame.proofs.floors.Floors.add.Goals as goal
-
-pub returns-then-below-clause-says : goal.returns-then-below-clause-says
-returns-then-below-clause-says c =
-    let rel = rel_of c.args.self.now.sets.now in
-    let rows = c.args.self.now.rows.items in
-    let method = ap (λ (x : LineData). x.method) c.line.view_is in
-    let held = c.as_slice.ensures.value ∙ ap (λ (x : LineData). x.held) c.line.view_is in
-    add_known rel rows c.args.line.now c.line.inside.found c.at.result c.below.result (ap (λ (x : LineData). x.found) c.line.view_is)
-    (c.at.ensures ∙ (λ i. said_by rel rows (method i) (has_path (held i)))) c.below.ensures c.if-below.true
 
 pub returns-clause-says : goal.returns-clause-says
 returns-clause-says c =
-    let rows = c.args.self.now.rows in
-    let value = c.deref_mut.ensures.value in
-    add_says c.add_claim.result (rel_of c.args.self.now.sets.now) rows.items c.deref_mut.result.now c.add_claim.new.rows _ c.args.line.now
-    (record { found = c.line.inside.found; held = c.in_ok-held.held.items }) c.line.inside.method value
-    (whole_written rows.len c.add_claim.new.rows rows.items (omega (arith, rows.ok)) (c.add_claim.ensures.size ∙ ap length value))
-    (ap (λ (x : LineData). x.method) c.line.view_is) (ap (λ (x : LineData). x.found) c.line.view_is)
-    (c.in_ok-held.ensures ∙ c.as_slice-2.ensures.value ∙ ap (λ (x : LineData). x.held) c.line.view_is) c.add_claim.ensures.added
+    let tables = c.args.self.now.tables in
+    let rel = rel_of c.args.self.now.sets.now in
+    let value = c.as_mut_slice.ensures.value in
+    add_says rel tables.items c.as_mut_slice.result.now c.raise_table.new.tables _ c.rel-rel.result.now c.args.line.now value
+    (whole_written tables.len c.raise_table.new.tables tables.items (omega (arith, tables.ok)) (c.raise_table.ensures.size ∙ ap length value))
+    (c.rel-rel.ensures ∙ ap (λ (x : LineData). rel x.method) c.line.view_is) c.raise_table.ensures.size c.requires c.raise_table.ensures.raised

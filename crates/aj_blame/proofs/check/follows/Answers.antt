@@ -1,0 +1,43 @@
+-- A line that is said already, one that doesn't follow, and one that does.
+use Rattle.std.proofs.Common.{◌≡◌, true, false, rules, ap, ◌∙◌}
+use Rattle.aj_algebra.specs.HeldPaths.{has_path}
+use Rattle.aj_core.specs.Views.{program_of}
+use Rattle.aj_rules.specs.Near.{rel_of}
+use Rattle.aj_blame.specs.Lines.{LineData, run_effect}
+use Rattle.aj_blame.specs.Tables.{said_by}
+use Rattle.aj_blame.proofs.CheckLemmas.{follows_known, follows_not, follows_new}
+use Rattle.aj_blame.proofs.check.follows.Goals as goal
+
+pub returns-then-below-clause-follows : goal.returns-then-below-clause-follows
+returns-then-below-clause-follows c =
+    let kept = c.args.floors.now.sets.now in
+    let tables = c.args.floors.now.tables.items in
+    let held = c.as_slice-held.ensures.value ∙ ap (λ (x : LineData). x.held) c.line.view_is in
+    let method = ap (λ (x : LineData). x.method) c.line.view_is in
+    follows_known (program_of c.args.program.now) c.args.sets.now kept tables c.args.line.now c.line.inside.found c.at.result (ap (λ (x : LineData). x.found) c.line.view_is)
+    c.below.result (c.at.ensures ∙ (λ i. said_by (rel_of kept) tables (method i) (has_path (held i)))) c.below.ensures c.if-below.true
+
+pub returns-then-not-below-clause-follows : goal.returns-then-not-below-clause-follows
+returns-then-not-below-clause-follows c =
+    let P = program_of c.args.program.now in
+    let rel = rel_of c.args.sets.now in
+    let kept = c.args.floors.now.sets.now in
+    let tables = c.args.floors.now.tables.items in
+    let held = c.as_slice-held.ensures.value ∙ ap (λ (x : LineData). x.held) c.line.view_is in
+    let method = ap (λ (x : LineData). x.method) c.line.view_is in
+    let fails : c.below-2.result ≡ false = search rules in
+    follows_not P c.args.sets.now kept tables c.args.line.now c.line.inside.found c.in_ok-found.found (ap (λ (x : LineData). x.found) c.line.view_is) tables
+    c.below-2.result (c.in_ok-found.ensures ∙ (λ i. run_effect P rel (said_by (rel_of kept) tables) (method i) (has_path (held i)))) c.below-2.ensures fails
+
+pub returns-clause-follows : goal.returns-clause-follows
+returns-clause-follows c =
+    let P = program_of c.args.program.now in
+    let rel = rel_of c.args.sets.now in
+    let kept = c.args.floors.now.sets.now in
+    let tables = c.args.floors.now.tables.items in
+    let held = c.as_slice-held.ensures.value ∙ ap (λ (x : LineData). x.held) c.line.view_is in
+    let method = ap (λ (x : LineData). x.method) c.line.view_is in
+    let passes : c.below-2.result ≡ true = search rules in
+    follows_new P c.args.sets.now kept tables c.args.line.now c.line.inside.found c.in_ok-found.found (ap (λ (x : LineData). x.found) c.line.view_is) c.add.new.self.sets.now c.add.new.self.tables.items
+    c.below-2.result (c.in_ok-found.ensures ∙ (λ i. run_effect P rel (said_by (rel_of kept) tables) (method i) (has_path (held i)))) c.below-2.ensures passes
+    c.add.ensures.sets c.add.ensures.says

@@ -1,0 +1,121 @@
+//! Which methods wait to be asked.
+ghost use Rattle.std.specs.Prelude.{◌≡◌, ◌<◌, ◌∷◌, [], ℕ, length, Some, IfOk, OnOk, false, slice_get};
+ghost use Rattle.aj_core.specs.Views.{program_of, method_of};
+ghost use Rattle.aj_rules.specs.Near.{AreRelevant, rel_of};
+ghost use Rattle.aj_rules.specs.Overriding.{AreOverriders};
+ghost use Rattle.aj_rules.specs.Search.{row_at as overs_at};
+ghost use Rattle.aj_callers.specs.Called.{AreCallers, row_at};
+ghost use Rattle.aj_blame.specs.Ends.{Agrees, IsAsked};
+ghost use Rattle.aj_blame.specs.Passes.{cells_in, parts_of};
+ghost use Rattle.aj_blame.specs.Waiting.{AreSettled, AreWoken, IsAsleep};
+
+use crate::ask::ask_method;
+use crate::floors::Floors;
+use crate::line::Line;
+use aj_callers::Row;
+use aj_core::{CoreMethod, CoreProgram};
+use aj_paths::MethodId;
+use aj_rules::{OverridingMethods, RelevantSets};
+use std::alloc::{AllocError as NoMemory, Global};
+
+/// So many methods that all wait.
+pub(crate) fn all_wait(alloc: Global, count: usize) -> Result<Vec<bool>, NoMemory>
+    ensures size { IfOk result (λ waits. length waits.items ≡ count) }
+    ensures wait { IfOk result (λ waits. (m : ℕ) → slice_get waits.items m ≡ Some false → ⊥) }
+{
+    let mut waits = Vec::with_capacity(alloc, count)?;
+    for _ in 0..count {
+        waits.push(true)?;
+    }
+    Ok(waits)
+}
+
+/// Whether a method waits; so does one that isn't there.
+pub(crate) fn does_wait(waits: &[bool], method: usize) -> bool
+    ensures { result ≡ false → slice_get waits.now method ≡ Some false }
+{
+    match waits.get(method) {
+        Some(waits) => *waits,
+        None => true,
+    }
+}
+
+/// Lets one method wait, if it is there.
+fn wake_one(waits: &mut [bool], method: usize)
+    ensures size { length waits.new ≡ length waits.old }
+    ensures woken { AreWoken waits.old waits.new (method ∷ []) }
+{
+    if method < waits.len() {
+        waits[method] = true;
+    }
+}
+
+/// Lets methods wait.
+fn wake(waits: &mut [bool], methods: &[usize])
+    ensures size { length waits.new ≡ length waits.old }
+    ensures woken { AreWoken waits.old waits.new methods.now }
+{
+    for method in methods {
+        wake_one(waits, *method);
+    }
+}
+
+/// Lets one method, which is there, wait no longer.
+fn sleep(waits: &mut [bool], method: usize)
+    requires { method < length waits.old }
+    ensures size { length waits.new ≡ length waits.old }
+    ensures asleep { IsAsleep waits.old waits.new method }
+{
+    waits[method] = false;
+}
+
+/// The callers of the method at a place; none where there is no such row.
+fn callers_at(rows: &[Row], place: usize) -> &[usize]
+    ensures { result.now ≡ row_at rows.now place }
+{
+    match rows.get(place) {
+        Some(row) => row.callers(),
+        None => &[],
+    }
+}
+
+/// Asks of a method at each part of its relevant paths that has its required ones, up to the first line that is above its bound. Where
+/// that adds a line, the methods that call it wait, and those that it overrides, and it waits itself; else it waits no longer.
+pub(crate) fn ask_noting(
+    alloc: Global,
+    program: &CoreProgram,
+    sets: &RelevantSets,
+    over: &OverridingMethods,
+    callers: &[Row],
+    floors: &mut Floors<'_>,
+    lines: &mut Vec<Line>,
+    waits: &mut [bool],
+    id: MethodId,
+    method: &CoreMethod,
+) -> Result<bool, NoMemory>
+    requires is { slice_get (program_of program.now).methods id ≡ Some (method_of method.now) }
+    requires over { AreOverriders (program_of program.now) over.now }
+    requires callers { AreCallers (program_of program.now) (overs_at over.now) callers.now }
+    requires rows { length callers.now ≡ length (program_of program.now).methods }
+    requires waits { length waits.old ≡ length (program_of program.now).methods }
+    requires relevant { AreRelevant (program_of program.now) sets.now }
+    requires agrees { Agrees (program_of program.now) sets.now floors.old.sets.now floors.old.tables.items lines.old.items }
+    requires settled { AreSettled (program_of program.now) (rel_of sets.now) lines.old.items waits.old }
+    ensures agrees { OnOk result (Agrees (program_of program.now) sets.now floors.new.sets.now floors.new.tables.items lines.new.items) }
+    ensures asked { IfOk result (λ broken. let rel = rel_of sets.now in
+        IsAsked (program_of program.now) rel (cells_in id (method_of method.now).requires_ (parts_of (rel id))) lines.old.items lines.new.items broken) }
+    ensures size { length waits.new ≡ length waits.old }
+    ensures settled { IfOk result (λ broken. broken ≡ false → AreSettled (program_of program.now) (rel_of sets.now) lines.new.items waits.new) }
+{
+    let before = lines.len();
+    if ask_method(alloc, program, sets, over, floors, lines, id, method)? {
+        return Ok(true);
+    }
+    let place = id.0 as usize;
+    if lines.len() == before {
+        sleep(waits, place);
+        return Ok(false);
+    }
+    wake(waits, callers_at(callers, place));
+    Ok(false)
+}

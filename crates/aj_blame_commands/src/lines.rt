@@ -1,0 +1,50 @@
+//! The lines of `blame` and `verify-blame`.
+ghost use Rattle.std.specs.Prelude.{◌≡◌, ◌≢◌, ◌++◌, decimal, string_bytes, IfOk, OnOk};
+ghost use Rattle.aj_blame.specs.declared.check.BlameWrong.TheVariants as wrongs;
+ghost use Rattle.aj_blame_commands.specs.Lines.{form_line, line_line, wrong_line};
+
+use aj_blame::BlameWrong;
+use itoa::Buffer;
+use std::alloc::{AllocError as NoMemory, Global};
+
+/// Writes a number.
+fn write_number(line: &mut String, number: u32) -> Result<(), NoMemory>
+    ensures { OnOk result (string_bytes line.new ≡ string_bytes line.old ++ decimal number) }
+{
+    let mut digits = Buffer::new();
+    line.push_str(digits.format(number))
+}
+
+/// The line for a text that goes wrong at this byte.
+pub(crate) fn form_text(alloc: Global, place: u32) -> Result<String, NoMemory>
+    ensures { IfOk result (λ line. string_bytes line ≡ form_line place) }
+{
+    let mut line = String::from_str(alloc, "blame refused at byte ")?;
+    write_number(&mut line, place)?;
+    line.push_str(": form\n")?;
+    Ok(line)
+}
+
+/// The line for a line of a certificate that is wrong, counted from 1.
+fn line_text(alloc: Global, number: u32, kind: &str) -> Result<String, NoMemory>
+    ensures { IfOk result (λ line. string_bytes line ≡ line_line number kind.now) }
+{
+    let mut line = String::from_str(alloc, "blame refused: line ")?;
+    write_number(&mut line, number)?;
+    line.push_str(": ")?;
+    line.push_str(kind)?;
+    line.push_str("\n")?;
+    Ok(line)
+}
+
+/// The line for what is wrong with a certificate first.
+pub(crate) fn wrong_text(alloc: Global, wrong: BlameWrong) -> Result<String, NoMemory>
+    ensures { IfOk result (λ line. (wrong ≢ wrongs.NoMemory) × (string_bytes line ≡ wrong_line wrong)) }
+{
+    match wrong {
+        BlameWrong::Place { line } => line_text(alloc, line, "place"),
+        BlameWrong::Step { line } => line_text(alloc, line, "step"),
+        BlameWrong::NoBound => String::from_str(alloc, "blame refused: no bound broken\n"),
+        BlameWrong::NoMemory => Err(NoMemory),
+    }
+}

@@ -1,0 +1,49 @@
+-- Parts of bodies over the program with four fields, and sets of held paths.
+use Rattle.std.specs.Prelude.{ℕ, pos, true, false, List, [], ◌∷◌}
+use Rattle.aj_paths.specs.Paths.{PathData}
+use Rattle.aj_algebra.specs.declared.basic.Basic.TheVariants.{Mover}
+use Rattle.aj_algebra.specs.HeldPaths.{Held, has_path}
+use Rattle.aj_core.specs.declared.types.CoreType.TheVariants as type
+use Rattle.aj_core.specs.Core.{Program, Expr, IntE, ThisE, VarE, GetE, CallE, no_exprs, Stmt, SetFieldS, EmptyS}
+use Rattle.aj_core.specs.Examples.{plain_method, this_path}
+use Rattle.aj_rules.specs.Effect.{Assignment}
+use Rattle.aj_examples.specs.Seen.{four_fields}
+
+-- no path is held, or that of `this`, or that of the slot 1
+abbrev pub nothing_held : Held
+nothing_held = has_path []
+
+abbrev pub this_held : Held
+this_held = has_path (this_path ∷ [])
+
+abbrev pub one_path : PathData
+one_path = record { root = 1; fields = [] }
+
+-- the program with a method that requires the lock of `this`
+abbrev pub with_required : Program
+with_required = record four_fields { methods = record (plain_method 0 0 false EmptyS) { requires_ = this_path ∷ [] } ∷ [] }
+
+-- the lock of `this` is relevant to each method, and each is assigned mover
+abbrev pub this_relevant : ℕ → List PathData
+this_relevant m = this_path ∷ []
+
+abbrev pub all_movers : Assignment
+all_movers m H = Mover
+
+-- `this.f` and `this.f = 1;` for a field
+abbrev pub read_of : ℕ → Expr
+read_of f = GetE ThisE f
+
+abbrev pub write_of : ℕ → Stmt
+write_of f = SetFieldS ThisE f (IntE (pos 1))
+
+-- a local that is no lock, and one that is final
+abbrev pub plain_local : Expr
+plain_local = VarE 1 false (type.Class 0)
+
+abbrev pub final_local : Expr
+final_local = VarE 1 true (type.Class 0)
+
+-- a call of the method 0 on a receiver
+abbrev pub call_on : Expr → Expr
+call_on e = CallE e 0 no_exprs

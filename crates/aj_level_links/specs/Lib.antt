@@ -1,0 +1,3 @@
+-- What the contracts of greatest levels cite.
+pub mod Greatest
+pub mod Rises
