@@ -2,6 +2,8 @@
 #![tactic(auto)]
 
 #[cfg(test)]
+mod blame_tests;
+#[cfg(test)]
 mod book_tests;
 #[cfg(test)]
 mod examples;
@@ -11,6 +13,8 @@ mod failing_tests;
 mod generate_tests;
 #[cfg(test)]
 mod large_tests;
+#[cfg(test)]
+mod level_tests;
 #[cfg(test)]
 mod library_tests;
 #[cfg(test)]
@@ -23,6 +27,8 @@ mod nodes_tests;
 mod open_tests;
 #[cfg(test)]
 mod part_tests;
+#[cfg(test)]
+mod replay_tests;
 #[cfg(test)]
 mod schedule_tests;
 #[cfg(test)]
