@@ -67,8 +67,9 @@ def knows(programs, folder, source):
     return known
 
 
-def fixed_sources():
+def fixed_sources(extends):
     """The sources that other scripts and folders have."""
+    families = ["line", "heirs", "inherited"] if extends else []
     examples = os.path.join(HERE, "..", "examples")
     for name in sorted(os.listdir(examples)):
         if name.endswith(".java"):
@@ -76,17 +77,20 @@ def fixed_sources():
                 yield name, file.read()
     for size in (100, 3000, 131072, 262144):
         yield f"every_production_{size}", run([sys.executable, os.path.join(HERE, "make_source.py"), str(size)]).stdout
-    for kind in "classes methods statements locks paths chain chain_back cycle".split():
+    for kind in "classes methods statements locks paths chain chain_back cycle".split() + families:
         yield f"many_{kind}", run([sys.executable, os.path.join(HERE, "make_checked.py"), kind]).stdout
 
 
-def random_sources(count, seed, words):
-    """Random programs, some with many locks, high ones, and damaged ones."""
+def random_sources(count, seed, words, extends):
+    """Random programs, some with classes that extend each other, some with many locks, high ones, and damaged ones."""
     chooser = random.Random(seed)
     for k in range(count):
         calm, slips = k % 3 > 0, 0.002 if k % 4 == 0 else 0.0
         source = Generator(chooser.getrandbits(64), slips, calm, words).source()
         yield f"random_{k}", source.encode()
+        if extends:
+            source = Generator(chooser.getrandbits(64), slips * 3, calm, words, True).source()
+            yield f"family_{k}", source.encode()
         yield f"damaged_{k}", damaged(source, chooser)
         yield f"crowd_{k}", Crowd(chooser, words).source().encode()
         high = deep(chooser)
@@ -153,14 +157,14 @@ def answer_to(plain, folder, schedule):
     return status, text.decode()
 
 
-def compare_schedules(atomic, plain, folder, options, words, report):
+def compare_schedules(atomic, plain, folder, options, words, extends, report):
     """Rows and random schedules of the commands on them. `atomic` is left out where it hasn't got `run`."""
     write(folder, "a", "class Main { void main() { } }")
     write(folder, "b", "")
     has_them = isinstance(atomic, Program) and atomic.answer(folder, "run", "a", "b")[0] != 9
     if not has_them:
         print("`run` and `serialise` aren't known to `atomic`: only the plain program is held against the rows")
-    for number, (command, source, schedule, status, text) in enumerate(rows.schedule_rows()):
+    for number, (command, source, schedule, status, text) in enumerate(rows.schedule_rows(extends)):
         write(folder, "a", source)
         write(folder, "b", schedule)
         given = plain.answer(folder, command, "a", "b")
@@ -172,7 +176,7 @@ def compare_schedules(atomic, plain, folder, options, words, report):
         commands.append("serialise-open")
     chooser = random.Random(options.seed)
     for number in range(options.count if has_them else 0):
-        write(folder, "a", workers(chooser, words))
+        write(folder, "a", workers(chooser, words, extends and number % 2 == 0))
         write(folder, "b", random_schedule(chooser, lambda s: answer_to(plain, folder, s)))
         for command in commands:
             both = [p.answer(folder, command, "a", "b") for p in (atomic, plain)]
@@ -202,13 +206,16 @@ def compare_all(atomic, plain, folder, options):
         words.append("write_guarded_by")
     else:
         print("`write_guarded_by` isn't known to `atomic`: rows and sources with it are left out")
+    extends = knows([atomic, plain], folder, "class A extends A { } ")
+    if not extends:
+        print("`extends` isn't known to `atomic`: rows and sources with it are left out")
     report, names, wanted = Report(folder, options.keep), [], {}
-    for number, (command, source, status, text) in enumerate(rows.rows(len(words) > 1)):
+    for number, (command, source, status, text) in enumerate(rows.rows(len(words) > 1, extends)):
         name = f"row_{number}"
         wanted[name] = (command, (status, text))
         write(folder, name, source)
         names.append(name)
-    for name, source in [*fixed_sources(), *random_sources(options.count, options.seed, words)]:
+    for name, source in [*fixed_sources(extends), *random_sources(options.count, options.seed, words, extends)]:
         write(folder, name, source)
         names.append(name)
     for command in COMMANDS:
@@ -218,7 +225,7 @@ def compare_all(atomic, plain, folder, options):
             if name in wanted and wanted[name][0] == command:
                 report.want(command, name, wanted[name][1], theirs[name])
     compare_words(atomic, plain, folder, report)
-    compare_schedules(atomic, plain, folder, options, words, report)
+    compare_schedules(atomic, plain, folder, options, words, extends, report)
     for (command, status), count in sorted(report.counts.items()):
         print(f"{command}: {count} sources with status {status}")
     print(f"{report.deep} told `too deep` at another place; {report.differences} differ")

@@ -11,6 +11,10 @@ chain_back  the same, each of which calls the one before; the first one is compo
 cycle       1,000 methods in a circle
 paths       thousands of blocks that lock a path of two fields
 calls       methods with eight relevant and eight local paths, and bodies of a hundred calls on them
+line        500 classes in a line, each of which overrides the one method
+heirs       one class with 2,000 heirs that override its method
+inherited   1,000 classes that inherit 20 methods each, and call one of them
+pairs       3,162 empty classes that inherit as many methods each: ten million pairs of a method and what runs for it
 """
 import sys
 
@@ -105,6 +109,32 @@ def paths():
     )
 
 
+def overriding(name, above, value):
+    return f"class {name}{' extends ' * bool(above)}{above} {{ atomic void f() {{ synchronized (this) {{ this.v = {value}; }} }} }}\n"
+
+
+FIRST = "class C { int v guarded_by this; atomic void f() { synchronized (this) { this.v = 0; } } }\n"
+
+
+def line():
+    return MAIN + FIRST + "".join(overriding(f"C{k}", f"C{k - 1}" if k else "C", k) for k in range(499))
+
+
+def heirs():
+    return MAIN + FIRST + "".join(overriding(f"C{k}", "C", k) for k in range(2000))
+
+
+def inherited():
+    methods = " ".join(f"atomic void f{k}() {{ synchronized (this) {{ this.v = {k}; }} }}" for k in range(20))
+    classes = "".join(f"class C{k} extends C {{ atomic void g() {{ synchronized (this) {{ this.f{k % 20}(); }} }} }}\n" for k in range(1000))
+    return MAIN + f"class C {{ int v guarded_by this; {methods} }}\n" + classes
+
+
+def pairs():
+    methods = " ".join(f"void f{k}() {{ }}" for k in range(3162))
+    return MAIN + f"class C {{ {methods} }}\n" + "".join(f"class C{k} extends C {{ }}\n" for k in range(3162))
+
+
 KINDS = {
     "classes": classes,
     "methods": methods,
@@ -115,5 +145,9 @@ KINDS = {
     "chain_back": lambda: chain(False),
     "cycle": cycle,
     "paths": paths,
+    "line": line,
+    "heirs": heirs,
+    "inherited": inherited,
+    "pairs": pairs,
 }
 sys.stdout.write(KINDS[sys.argv[1]]() + ("" if sys.argv[1] in ("chain", "chain_back", "cycle") else LAST))

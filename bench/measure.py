@@ -5,7 +5,7 @@ import subprocess
 import sys
 import time
 
-KINDS = "classes methods statements locks paths calls chain chain_back cycle".split()
+KINDS = "classes methods statements locks paths calls chain chain_back cycle line heirs inherited pairs".split()
 BOOKS = "classes methods statements locks paths calls chain".split()
 HOSTILE = "braces letters not_text parentheses nots dots".split()
 SCHEDULES = "workers objects deep prints".split()

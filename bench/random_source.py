@@ -2,7 +2,7 @@
 
 A Generator draws a program whose names and types fit, but for a slip now and then where `slips` says so: a name that
 nothing declares, a wrong type, an assigned final, a lock that is none. A calm one mostly takes a guard before it touches
-a guarded field, so that many of its programs are accepted. A Crowd draws methods with many locks. `workers` draws a
+a guarded field, so that many of its programs are accepted. With `extends` classes extend each other. A Crowd draws methods with many locks. `workers` draws a
 program whose threads meet at shared cells, `deep` a body whose height is near the limit. `damaged` cuts, repeats, swaps
 or changes tokens or bytes of a source.
 """
@@ -10,7 +10,7 @@ import random
 import re
 
 TOKEN = re.compile(r"[A-Za-z_0-9]+|==|!=|<=|>=|&&|\|\||--|\S|\s+")
-SPARE = "class A B this f g ( ) { } ; , . = == < + - ! && 0 7 2147483648 if else while return synchronized new final int boolean void atomic requires guarded_by null true @ /* // public implements Runnable Thread System x y".split()
+SPARE = "class A B this f g ( ) { } ; , . = == < + - ! && 0 7 2147483648 if else while return synchronized new final int boolean void atomic requires guarded_by null true @ /* // public implements Runnable extends Thread System x y".split()
 
 
 class Field:
@@ -19,22 +19,38 @@ class Field:
 
 
 class Method:
-    def __init__(self, name, params, result):
-        self.name, self.params, self.result, self.requires = name, params, result, []
+    def __init__(self, name, params, result, atomic=False, over=None):
+        self.name, self.params, self.result, self.atomic, self.over, self.requires = name, params, result, atomic, over, []
 
 
 class Class:
     def __init__(self, name):
-        self.name, self.fields, self.methods, self.runnable = name, [], [], False
+        self.name, self.fields, self.methods, self.runnable, self.above = name, [], [], False, None
+
+    def line(self):
+        """The class and those above it, the nearest first."""
+        return [self] + (self.above.line() if self.above else [])
+
+    def all_fields(self):
+        """Its fields, those of the classes above first."""
+        return [f for c in reversed(self.line()) for f in c.fields]
+
+    def all_methods(self):
+        """Its methods, own ones in place of those that they override."""
+        named = {m.name: m for c in reversed(self.line()) for m in c.methods}
+        return list(named.values())
 
     def finals(self):
-        return [f for f in self.fields if f.final]
+        return [f for f in self.all_fields() if f.final]
+
+    def counts(self):
+        return any(c.runnable for c in self.line())
 
 
 class Generator:
-    def __init__(self, seed, slips=0.0, calm=False, words=("guarded_by",)):
+    def __init__(self, seed, slips=0.0, calm=False, words=("guarded_by",), extends=False):
         self.random = random.Random(seed)
-        self.slips, self.calm, self.words = slips, calm, words
+        self.slips, self.calm, self.words, self.extends = slips, calm, words, extends
         self.classes, self.held = [], []
 
     def slip(self):
@@ -52,12 +68,27 @@ class Generator:
         names = ["A", "B", "C", "D"][: self.random.randint(0, 4)] + ["Main"]
         self.random.shuffle(names)
         self.classes = [Class(name) for name in names]
-        for cls in self.classes:
+        order = self.families()
+        for cls in order:
             self.declare(cls)
-        for cls in self.classes:
+        for cls in order:
             self.declare_locks(cls)
         text = " ".join(self.class_text(cls) for cls in self.classes)
         return text.replace("; ", ";\n").replace("} ", "}\n") if self.some(0.5) else text
+
+    def families(self):
+        """The classes, each behind the one that it extends."""
+        order = list(self.classes)
+        if self.extends:
+            self.random.shuffle(order)
+            for k, cls in enumerate(order):
+                cls.above = self.pick(order[:k]) if k and self.some(0.7) else None
+        return order
+
+    def is_kind(self, ty, other):
+        """Whether the type is this one or a class below it."""
+        cls = self.find(ty)
+        return ty == other or cls is not None and any(c.name == other for c in cls.line())
 
     def type(self):
         if self.slip():
@@ -68,19 +99,38 @@ class Generator:
         return self.pick([c.name for c in self.classes])
 
     def declare(self, cls):
-        for name in ["f", "g", "h", "v", "w"][: self.random.randint(0, 5)]:
-            final = cls.name != "Main" and self.some(0.4)
+        is_main = any(c.name == "Main" for c in self.classes if cls in c.line())
+        known = [] if self.slip() else [f.name for f in cls.all_fields()]
+        names = [name for name in ["f", "g", "h", "v", "w", "r", "s"] if name not in known]
+        for name in names[: self.random.randint(0, 5 if not known else 2)]:
+            final = not is_main and self.some(0.4)
             cls.fields.append(Field(name, self.class_type() if final and self.some(0.8) else self.type(), final))
+        inherited = {m.name: m for m in cls.all_methods()}
         for name in ["m", "n", "p", "q"][: self.random.randint(0, 4)]:
-            params = [(self.some(0.7), self.type(), "abc"[k]) for k in range(self.random.choice([0, 0, 1, 1, 2, 3]))]
-            cls.methods.append(Method(name, params, self.pick(["void", "void", self.type()])))
+            cls.methods.append(self.overriding(inherited[name]) if name in inherited and not self.slip() else self.new_method(name))
         cls.runnable = self.some(0.3)
-        if cls.runnable and not self.slip():
-            cls.methods.append(Method("run", [], "void"))
+        if cls.counts() and not self.slip() and ("run" not in inherited or self.some(0.4)):
+            atomic = inherited["run"].atomic if "run" in inherited else self.is_atomic()
+            cls.methods.append(Method("run", [], "void", atomic))
         if cls.name == "Main" and not self.slip():
-            cls.methods.append(Method("main", [], "void"))
+            homes = [c for c in cls.line() if not any("main" in (m.name for m in d.methods) for d in c.line())]
+            home = self.pick(homes) if self.some(0.3) else cls
+            home.methods.append(Method("main", [], "void", self.is_atomic()))
         if self.slip() and cls.methods:
             cls.methods.append(self.pick(cls.methods))
+
+    def is_atomic(self):
+        return self.some(0.15 if self.calm else 0.4)
+
+    def new_method(self, name):
+        params = [(self.some(0.7), self.type(), "abc"[k]) for k in range(self.random.choice([0, 0, 1, 1, 2, 3]))]
+        return Method(name, params, self.pick(["void", "void", self.type()]), self.is_atomic())
+
+    def overriding(self, other):
+        """A method that overrides this one, mostly with other names of its parameters."""
+        letters = self.pick(["abc", "bca", "def"])
+        params = [(final if not self.slip() else not final, ty, letters[k]) for k, (final, ty, _) in enumerate(other.params)]
+        return Method(other.name, params, other.result, other.atomic if not self.slip() else not other.atomic, other)
 
     def declare_locks(self, cls):
         this = [("this", True, cls.name)]
@@ -88,7 +138,11 @@ class Generator:
             if not field.final and self.some(0.6):
                 field.guard, field.word = self.lock(this), self.pick(self.words)
         for method in cls.methods:
-            if method.name not in ("run", "main") and self.some(0.4):
+            if method.over and not self.slip():
+                names = {old: new for (_, _, old), (_, _, new) in zip(method.over.params, method.params)}
+                method.requires = [renamed(lock, names) for lock in method.over.requires]
+                self.random.shuffle(method.requires)
+            elif method.name not in ("run", "main") and self.some(0.4):
                 scope = this + [(name, final, ty) for final, ty, name in method.params]
                 method.requires = [self.lock(scope) for _ in range(self.random.randint(1, 2))]
 
@@ -100,7 +154,9 @@ class Generator:
             sets = " ".join(f"this.{f.name} = {f.name};" for f in cls.finals())
             members.insert(self.random.randint(0, len(members)), f"{cls.name}({params}) {{ {sets} }}")
         members += [self.method_text(m) for m in cls.methods]
-        head = "public " * self.some(0.1) + "class " + cls.name + " implements Runnable" * cls.runnable
+        above = self.pick(self.classes + [Class("Zz")]) if self.extends and self.slip() else cls.above
+        head = "public " * self.some(0.1) + "class " + cls.name + (f" extends {above.name}" if above else "")
+        head += " implements Runnable" * cls.runnable
         return f"{head} {{ {' '.join(members)} }}"
 
     def field_text(self, field):
@@ -116,7 +172,7 @@ class Generator:
         if method.result != "void" and not self.slip():
             body.append(f"return {self.expr(method.result, 2)};")
         params = ", ".join(f"{'final ' * final}{ty} {name}" for final, ty, name in method.params)
-        head = f"{'public ' * self.some(0.1)}{'atomic ' * self.some(0.15 if self.calm else 0.4)}{method.result} {method.name}({params}){requires}"
+        head = f"{'public ' * self.some(0.1)}{'atomic ' * method.atomic}{method.result} {method.name}({params}){requires}"
         return f"{head} {{ {' '.join(body)} }}"
 
     # Names.
@@ -130,7 +186,7 @@ class Generator:
             return self.pick(["zz", "this.zz", "this.f.f.f"])
         text, ty = self.pick(roots)
         for _ in range(self.pick([0, 0, 0, 1, 1, 2])):
-            steps = [f for f in self.find(ty).fields if f.final and self.find(f.ty)]
+            steps = [f for f in self.find(ty).all_fields() if f.final and self.find(f.ty)]
             if not steps:
                 break
             step = self.pick(steps)
@@ -189,7 +245,7 @@ class Generator:
         return self.pick(known) if known else self.lock(self.scope)
 
     def start(self, depth):
-        runnable = [c.name for c in self.classes if c.runnable or self.slip()]
+        runnable = [c.name for c in self.classes if c.counts() or self.slip()]
         value = self.value(self.pick(runnable), depth) if runnable else "null"
         return f"new Thread({value}).start();" if value != "null" or self.slip() else ";"
 
@@ -201,7 +257,7 @@ class Generator:
         return text
 
     def path_of(self, ty):
-        found = [lock for lock in (self.lock(self.scope) for _ in range(4)) if self.type_of(lock) == ty]
+        found = [lock for lock in (self.lock(self.scope) for _ in range(4)) if self.is_kind(self.type_of(lock), ty)]
         return found[0] if found else None
 
     def type_of(self, lock):
@@ -209,14 +265,14 @@ class Generator:
         ty = next((ty for n, _, ty in self.scope if n == names[0]), None)
         for name in names[1:]:
             cls = self.find(ty)
-            ty = next((f.ty for f in cls.fields if f.name == name), None) if cls else None
+            ty = next((f.ty for f in cls.all_fields() if f.name == name), None) if cls else None
         return ty
 
     def is_lock(self, lock):
         names = lock.split(".")
         fronts = [".".join(names[:k]) for k in range(1, len(names))]
         classes = [self.find(self.type_of(front)) for front in fronts]
-        finals = [any(f.name == n and f.final for f in c.fields) for c, n in zip(classes, names[1:]) if c]
+        finals = [any(f.name == n and f.final for f in c.all_fields()) for c, n in zip(classes, names[1:]) if c]
         roots = [n for n, final, _ in self.scope if final]
         return names[0] in roots and len(names) <= 3 and all(finals) and self.find(self.type_of(lock)) is not None
 
@@ -235,11 +291,11 @@ class Generator:
         found = [(n, ty) for n, _, ty in self.scope if self.find(ty)]
         more = []
         for text, ty in found:
-            more += [(f"{text}.{f.name}", f.ty) for f in self.find(ty).fields if self.find(f.ty)]
+            more += [(f"{text}.{f.name}", f.ty) for f in self.find(ty).all_fields() if self.find(f.ty)]
         return found + (more if self.some(0.4) else [])
 
     def fields(self, test, all_of_them=False):
-        found = [(t, f) for t, ty in self.receivers() for f in self.find(ty).fields if test(f)]
+        found = [(t, f) for t, ty in self.receivers() for f in self.find(ty).all_fields() if test(f)]
         if self.calm and not all_of_them and self.some(0.98):
             found = [(t, f) for t, f in found if not f.guard or renamed(f.guard, {"this": t}) in self.held]
         return found
@@ -255,8 +311,8 @@ class Generator:
         calls = [
             (t, m)
             for t, ty in self.receivers()
-            for m in self.find(ty).methods
-            if result is None or m.result == result or self.slip()
+            for m in self.find(ty).all_methods()
+            if result is None or self.is_kind(m.result, result) or self.slip()
         ]
         if not calls:
             return None if result else "new Main()"
@@ -296,8 +352,8 @@ class Generator:
         return self.value(ty, depth)
 
     def value(self, ty, depth):
-        choices = [n for n, _, t in self.scope if t == ty]
-        choices += [f"{t}.{f.name}" for t, f in self.fields(lambda f: f.ty == ty)]
+        choices = [n for n, _, t in self.scope if self.is_kind(t, ty)]
+        choices += [f"{t}.{f.name}" for t, f in self.fields(lambda f: self.is_kind(f.ty, ty))]
         if self.slip():
             return self.pick(["zz", "this.zz", "null", "7", "true", "this"])
         if choices and self.some(0.8):
@@ -306,9 +362,10 @@ class Generator:
             return str(self.pick([0, 1, 7, 10, 2147483647]))
         if ty == "boolean":
             return self.pick(["true", "false"])
-        cls = self.find(ty)
-        if cls and depth > 0 and self.some(0.5):
-            return f"new {ty}({self.args([f.ty for f in cls.finals()], depth)})"
+        kinds = [c for c in self.classes if self.is_kind(c.name, ty)]
+        if kinds and depth > 0 and self.some(0.5):
+            cls = self.pick(kinds)
+            return f"new {cls.name}({self.args([f.ty for f in cls.finals()], depth)})"
         return "null"
 
 
@@ -376,8 +433,7 @@ class Crowd:
 
 
 def method_of(chooser, name, body):
-    annotated = "atomic " if chooser.random() < 0.4 else ""
-    return f"{annotated}void {name}(int d) {{ {body} }}"
+    return f"{chooser.choice(['atomic ', 'atomic ', '', '', ''])}void {name}(int d) {{ {body} }}"
 
 
 def cell_step(chooser):
@@ -401,7 +457,22 @@ def cell_body(chooser, calls):
     return chooser.choice([held, held, held, held + " " + chooser.choice(free), chooser.choice(free) + " " + held, chooser.choice(free)])
 
 
-def workers(chooser, words):
+def heirs(chooser, cells):
+    """Classes below `Cell`, whose methods override some of these, and one below `W`."""
+    text, above, known = "", "Cell", []
+    for name in ("Near", "Far")[: chooser.randint(1, 2)]:
+        heads = [cell.partition("{")[0] for cell in cells if chooser.random() < 0.6]
+        known += [f"this.{head.split('void ')[1][0]}(d);" for head in heads if chooser.random() < 0.2]
+        bodies = [cell_body(chooser, known[:1] if chooser.random() < 0.3 else []) for _ in heads]
+        locked = f"synchronized (this) {{ {cell_step(chooser)} }}"
+        own = [f"{head}{{ {locked if head.startswith('atomic') else body} }}" for head, body in zip(heads, bodies)]
+        text += f"class {name} extends {above} {{ {' '.join(own)} }}\n"
+        above = chooser.choice([above, name])
+    run = chooser.choice(["", "public void run() { this.p.a.m(1); this.p.b.n(2); } "])
+    return text + f"class V extends W {{ V(Pair p) {{ this.p = p; }} {run}}}\n"
+
+
+def workers(chooser, words, extends=False):
     """A program in which some threads call methods of two cells and of a pair, which holds both; it ends or faults."""
     word = chooser.choice(words)
     cells, calls = [], []
@@ -416,12 +487,16 @@ def workers(chooser, words):
         both = f"synchronized (this.{first}) {{ synchronized (this.{second}) {{ {inner} }} }}"
         pairs.append(method_of(chooser, name, chooser.choice([inner, locked, both, both])))
     runs = [f"this.p.{chooser.choice(['both', 'one', 'two', 'a.m', 'b.n'])}({chooser.randint(0, 8)});" for _ in range(chooser.randint(1, 3))]
-    starts = "new Thread(new W(p)).start(); " * chooser.randint(2, 3)
+    below = heirs(chooser, cells) if extends else ""
+    kinds = ["Cell"] + re.findall(r"class (\w+) extends (?:Cell|Near)", below)
+    runs_of = ["W", "V"] if extends else ["W"]
+    starts = " ".join(f"new Thread(new {chooser.choice(runs_of)}(p)).start();" for _ in range(chooser.randint(2, 3)))
+    pair = f"new Pair(new {chooser.choice(kinds)}(), new {chooser.choice(kinds)}())"
     return (
         f"class Cell {{ int v {word} this; int w guarded_by this; int u; int x {words[-1]} this; {' '.join(cells)} }}\n"
         f"class Pair {{ final Cell a; final Cell b; Pair(Cell a, Cell b) {{ this.a = a; this.b = b; }} {' '.join(pairs)} }}\n"
         f"class W implements Runnable {{ final Pair p; W(Pair p) {{ this.p = p; }} public void run() {{ {' '.join(runs)} }} }}\n"
-        f"class Main {{ void main() {{ final Pair p = new Pair(new Cell(), new Cell()); {starts}}} }}\n"
+        f"{below}class Main {{ void main() {{ final Pair p = {pair}; {starts} }} }}\n"
     )
 
 

@@ -9,7 +9,7 @@ cd "$work"
 rustc --edition 2024 -O -o plain "$here/plain/main.rs"
 python3 "$here/make_source.py" 262144 > full
 python3 "$here/make_source.py" 131072 > half
-for kind in classes methods statements locks paths calls chain chain_back cycle; do
+for kind in classes methods statements locks paths calls chain chain_back cycle line heirs inherited pairs; do
     python3 "$here/make_checked.py" "$kind" > "$kind"
 done
 for kind in workers objects deep prints; do

@@ -40,7 +40,7 @@ class Trial:
 
     def source(self, words):
         with open(self.path("source"), "w", encoding="ascii") as file:
-            file.write(workers(self.chooser, words))
+            file.write(workers(self.chooser, words, self.chooser.random() < 0.5))
         return subprocess.run([self.program, "check", self.path("source")], capture_output=True).returncode == 0
 
     def one(self):

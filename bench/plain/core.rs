@@ -58,21 +58,21 @@ pub enum Type {
     Class(ClassId),
 }
 
-impl Type {
-    pub fn fits(self, other: Type) -> bool {
-        match (self, other) {
-            (Type::Void, _) => false,
-            (Type::Null, Type::Class(_)) => true,
-            _ => self == other,
-        }
-    }
-}
-
+/// A class. Fields of the classes above it come first.
 #[derive(Debug)]
 pub struct Class {
     pub fields: Vec<FieldId>,
     pub finals: Vec<FieldId>,
     pub run: Option<MethodId>,
+    /// Each method that the class has, ascending, with the one that runs for it.
+    pub targets: Vec<(MethodId, MethodId)>,
+}
+
+impl Class {
+    pub fn target(&self, method: MethodId) -> Option<MethodId> {
+        let place = self.targets.binary_search_by_key(&method, |pair| pair.0);
+        Some(self.targets[place.ok()?].1)
+    }
 }
 
 #[derive(Debug)]
@@ -86,6 +86,7 @@ pub struct Field {
 
 #[derive(Debug)]
 pub struct Method {
+    pub class: ClassId,
     pub at: u32,
     pub annotated: bool,
     pub requires: Vec<Path>,

@@ -52,6 +52,7 @@ pub fn elaborate<'a>(
         fields: c.fields.clone(),
         finals: c.finals.clone(),
         run: c.run,
+        targets: c.targets.clone(),
     };
     Ok(core::Program {
         classes: table.classes.iter().map(class).collect(),
@@ -65,10 +66,10 @@ pub fn elaborate<'a>(
 
 fn field(table: &Table<'_, '_>, faults: &mut Faults, id: FieldId) -> core::Field {
     let entry = &table.fields[id as usize];
-    let first = table.classes[entry.class as usize].fields[0];
+    let mut fields = table.classes[entry.class as usize].fields.iter();
     let guard = entry.tree.guard.as_ref();
     core::Field {
-        index: (id - first) as u16,
+        index: fields.position(|&f| f == id).unwrap_or(0) as u16,
         is_final: entry.tree.is_final,
         ty: entry.ty,
         guard: guard.and_then(|lock| path(table, faults, entry.class, &[], lock)),
@@ -118,6 +119,7 @@ fn method<'a>(
         elaborator.faults.note(Kind::MissingReturn, tree.end);
     }
     core::Method {
+        class: entry.class,
         at: tree.name.at,
         annotated: tree.atomic,
         requires,
@@ -187,7 +189,7 @@ impl<'a> Elaborator<'a, '_, '_> {
 
     fn fits(&mut self, given: Option<Type>, wanted: Option<Type>, at: u32) {
         if let (Some(given), Some(wanted)) = (given, wanted) {
-            if !given.fits(wanted) {
+            if !self.table.fits(given, wanted) {
                 self.note(Kind::NoRule, at);
             }
         }
@@ -440,9 +442,10 @@ impl<'a> Elaborator<'a, '_, '_> {
     fn binary(&mut self, op: Op, a: Option<Type>, b: Option<Type>, at: u32) -> Option<Type> {
         let (a, b) = (a?, b?);
         let both = |ty: Type| a == ty && b == ty;
+        let fits = |a, b| self.table.fits(a, b);
         let (has_rule, ty) = match op {
             Op::Or | Op::And => (both(Type::Boolean), Type::Boolean),
-            Op::Eq | Op::Ne => (a.fits(b) || b.fits(a) || both(Type::Null), Type::Boolean),
+            Op::Eq | Op::Ne => (fits(a, b) || fits(b, a) || both(Type::Null), Type::Boolean),
             Op::Lt | Op::Le | Op::Gt | Op::Ge => (both(Type::Int), Type::Boolean),
             Op::Add | Op::Sub | Op::Mul | Op::Div | Op::Rem => (both(Type::Int), Type::Int),
         };
@@ -485,7 +488,7 @@ impl<'a> Elaborator<'a, '_, '_> {
         let mut result = None;
         if let (Some(method), Some(given)) = (method, given) {
             let entry = &self.table.methods[method as usize];
-            if fit_each(&given, entry.params.iter().copied()) {
+            if fit_each(self.table, &given, entry.params.iter().copied()) {
                 result = Some(entry.result);
             } else {
                 self.note(Kind::NoRule, name.at);
@@ -503,7 +506,8 @@ impl<'a> Elaborator<'a, '_, '_> {
         let mut result = None;
         if let (Some(class), Some(given)) = (class, given) {
             let finals = self.table.classes[class as usize].finals.iter();
-            if fit_each(&given, finals.map(|&f| self.table.fields[f as usize].ty)) {
+            let wanted = finals.map(|&f| self.table.fields[f as usize].ty);
+            if fit_each(self.table, &given, wanted) {
                 result = Some(Type::Class(class));
             } else {
                 self.note(Kind::NoRule, name.at);
@@ -513,6 +517,10 @@ impl<'a> Elaborator<'a, '_, '_> {
     }
 }
 
-fn fit_each(given: &[Type], wanted: impl ExactSizeIterator<Item = Type>) -> bool {
-    given.len() == wanted.len() && given.iter().zip(wanted).all(|(g, w)| g.fits(w))
+fn fit_each(
+    table: &Table<'_, '_>,
+    given: &[Type],
+    wanted: impl ExactSizeIterator<Item = Type>,
+) -> bool {
+    given.len() == wanted.len() && given.iter().zip(wanted).all(|(&g, w)| table.fits(g, w))
 }

@@ -16,6 +16,8 @@ pub enum Kind {
     BadConstructor,
     NoRun,
     TooMany,
+    Circle,
+    BadOverride,
     NoMain,
     // Types.
     UnknownName,
@@ -44,6 +46,8 @@ impl Kind {
             Kind::BadConstructor => "bad constructor",
             Kind::NoRun => "no run",
             Kind::TooMany => "too many",
+            Kind::Circle => "circle",
+            Kind::BadOverride => "bad override",
             Kind::NoMain => "no main",
             Kind::UnknownName => "unknown name",
             Kind::NoRule => "no rule",

@@ -16,6 +16,7 @@ pub enum Kind {
     Final,
     GuardedBy,
     If,
+    Extends,
     Implements,
     Int,
     New,
@@ -77,6 +78,7 @@ fn word_kind(word: &[u8]) -> Kind {
         b"final" => Kind::Final,
         b"guarded_by" => Kind::GuardedBy,
         b"if" => Kind::If,
+        b"extends" => Kind::Extends,
         b"implements" => Kind::Implements,
         b"int" => Kind::Int,
         b"new" => Kind::New,
@@ -94,7 +96,7 @@ fn word_kind(word: &[u8]) -> Kind {
         b"while" => Kind::While,
         b"write_guarded_by" => Kind::WriteGuardedBy,
         b"abstract" | b"assert" | b"break" | b"byte" | b"case" | b"catch" | b"char" | b"const"
-        | b"continue" | b"default" | b"do" | b"double" | b"enum" | b"extends" | b"finally"
+        | b"continue" | b"default" | b"do" | b"double" | b"enum" | b"finally"
         | b"float" | b"for" | b"goto" | b"import" | b"instanceof" | b"interface" | b"long"
         | b"native" | b"package" | b"private" | b"protected" | b"short" | b"static"
         | b"strictfp" | b"super" | b"switch" | b"throw" | b"throws" | b"transient" | b"try"

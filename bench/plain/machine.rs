@@ -432,7 +432,9 @@ impl<'p> Machine<'p> {
         let args = frame.operands.split_off(frame.operands.len() - params);
         frame.pop();
         frame.place = next;
-        self.enter(thread, method, Value::Ref(receiver), &args);
+        let class = self.object(receiver).class;
+        let runs = self.program.classes[class as usize].target(method);
+        self.enter(thread, runs.ok_or(Fault::Null)?, Value::Ref(receiver), &args);
         Ok(())
     }
 

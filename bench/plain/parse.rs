@@ -145,6 +145,11 @@ impl<'a> Parser<'a, '_> {
         self.accept(Kind::Public);
         self.take(Kind::Class)?;
         let name = self.name()?;
+        let above = if self.accept(Kind::Extends) {
+            Some(self.name()?)
+        } else {
+            None
+        };
         let runnable = self.accept(Kind::Implements);
         if runnable {
             self.take(Kind::Runnable)?;
@@ -156,6 +161,7 @@ impl<'a> Parser<'a, '_> {
         }
         Ok(Class {
             name,
+            above,
             runnable,
             members,
         })

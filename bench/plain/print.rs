@@ -130,6 +130,10 @@ impl Printer<'_, '_> {
     fn class(&mut self, class: &Class<'_>) {
         self.word("class");
         self.name(class.name);
+        if let Some(above) = class.above {
+            self.word("extends");
+            self.name(above);
+        }
         if class.runnable {
             self.word("implements");
             self.word("Runnable");

@@ -156,6 +156,29 @@ impl Paths {
     }
 }
 
+/// A method that overrides another one.
+struct Over {
+    over: MethodId,
+    method: MethodId,
+    /// Bits of the method's paths, and of the overriding one's that are the same.
+    same: Vec<(Held, Held)>,
+}
+
+/// Each method that overrides another one.
+fn overs(program: &Program) -> Vec<Over> {
+    let mut all = Vec::new();
+    for (class, id) in program.classes.iter().zip(0..) {
+        let own = |n: MethodId| program.methods[n as usize].class == id;
+        let pairs = class.targets.iter().filter(|&&(m, n)| m != n && own(n));
+        all.extend(pairs.map(|&(method, over)| Over {
+            over,
+            method,
+            same: Vec::new(),
+        }));
+    }
+    all
+}
+
 /// A well-formed program's bodies, locks and calls.
 pub struct Rules<'p> {
     program: &'p Program,
@@ -163,6 +186,11 @@ pub struct Rules<'p> {
     calls: Vec<Call>,
     /// The calls of each method.
     callers: Vec<Vec<u32>>,
+    overs: Vec<Over>,
+    /// Those by which each method overrides others.
+    overridden: Vec<Vec<u32>>,
+    /// Those by which others override each method.
+    overriding: Vec<Vec<u32>>,
     paths: Paths,
     requires: Vec<Held>,
 }
@@ -189,7 +217,20 @@ pub fn rules(program: &Program) -> Result<Rules<'_>, Fault> {
     for (k, call) in calls.iter().enumerate() {
         callers[call.callee as usize].push(k as u32);
     }
-    let paths = Paths::new(program, near.closed(&calls, &callers))?;
+    let mut overs = overs(program);
+    let (mut overridden, mut overriding) = (vec![Vec::new(); bodies.len()], vec![Vec::new(); bodies.len()]);
+    for (k, over) in overs.iter().enumerate() {
+        overridden[over.over as usize].push(k as u32);
+        overriding[over.method as usize].push(k as u32);
+    }
+    let closed = near.closed(program, &calls, &callers, &overs, &overridden);
+    let paths = Paths::new(program, closed)?;
+    for over in &mut overs {
+        let (method, other) = (over.method as usize, over.over as usize);
+        let same = paths.relevant(other).iter();
+        let same = same.map(|&path| (paths.bit(method, path), paths.bit(other, path)));
+        over.same = same.filter(|pair| pair.0 != 0).collect();
+    }
     for call in &mut calls {
         let (caller, callee) = (call.caller as usize, call.callee as usize);
         for &path in paths.relevant(callee) {
@@ -212,6 +253,9 @@ pub fn rules(program: &Program) -> Result<Rules<'_>, Fault> {
         bodies,
         calls,
         callers,
+        overs,
+        overridden,
+        overriding,
         paths,
         requires,
     })
@@ -266,7 +310,14 @@ impl Near {
     }
 
     /// The least family with these paths.
-    fn closed(mut self, calls: &[Call], callers: &[Vec<u32>]) -> Vec<BTreeSet<Path>> {
+    fn closed(
+        mut self,
+        program: &Program,
+        calls: &[Call],
+        callers: &[Vec<u32>],
+        overs: &[Over],
+        overridden: &[Vec<u32>],
+    ) -> Vec<BTreeSet<Path>> {
         while let Some((method, path)) = self.open.pop() {
             let value = self.names.get(&(method, path.root));
             if let Some(same) = value.and_then(|value| value.extended(path)) {
@@ -276,6 +327,18 @@ impl Near {
                 let call = &calls[call as usize];
                 if let Some(renamed) = call.renamed(path) {
                     self.add(call.caller, renamed);
+                }
+            }
+            if path.root > program.methods[method as usize].params {
+                continue;
+            }
+            for &over in &overridden[method as usize] {
+                let other = overs[over as usize].method;
+                let class = program.methods[other as usize].class;
+                let known = &program.classes[class as usize].fields;
+                let first = path.fields().next().filter(|_| path.root == 0);
+                if first.is_none_or(|field| known.contains(&field)) {
+                    self.add(other, path);
                 }
             }
         }
@@ -482,13 +545,20 @@ impl Rules<'_> {
             waits[method] = false;
             let mut rose = false;
             for held in self.sets(method) {
-                let found = self.effect(&tables, &self.bodies[method], held);
+                let body = self.effect(&tables, &self.bodies[method], held);
+                let found = self.joined(&tables, method, held, body);
                 rose |= mem::replace(&mut tables[method][held as usize], found) != found;
             }
             for &call in self.callers[method].iter().filter(|_| rose) {
                 let caller = self.calls[call as usize].caller as usize;
                 if !mem::replace(&mut waits[caller], true) {
                     queue.push_back(caller);
+                }
+            }
+            for &over in self.overridden[method].iter().filter(|_| rose) {
+                let other = self.overs[over as usize].method as usize;
+                if !mem::replace(&mut waits[other], true) {
+                    queue.push_back(other);
                 }
             }
         }
@@ -499,6 +569,17 @@ impl Rules<'_> {
             }
         }
         Tables { tables }
+    }
+
+    /// The body's effect, or the greatest of the methods that override this one.
+    fn joined(&self, tables: &[Vec<Basic>], method: usize, held: Held, body: Basic) -> Basic {
+        let overs = self.overriding[method].iter();
+        overs.fold(body, |whole, &over| {
+            let over = &self.overs[over as usize];
+            let pairs = over.same.iter().filter(|(from, _)| held & from != 0);
+            let found = pairs.fold(0, |all, (_, to)| all | to);
+            whole.max(tables[over.over as usize][found as usize])
+        })
     }
 
     fn effect(&self, tables: &[Vec<Basic>], steps: &[Step], mut held: Held) -> Basic {

@@ -133,6 +133,8 @@ pub enum Member<'a> {
 #[derive(Debug)]
 pub struct Class<'a> {
     pub name: Name<'a>,
+    /// The name behind `extends`.
+    pub above: Option<Name<'a>>,
     pub runnable: bool,
     pub members: Vec<Member<'a>>,
 }

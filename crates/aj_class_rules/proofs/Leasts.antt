@@ -41,29 +41,15 @@ has_distinct_after seen (n ∷ ns) t =
 pub same_tests : (names : List Name) → has_text (distinct names) ≡ has_text (texts_of names)
 same_tests names = fun_ext (λ t. has_distinct_after [] names t)
 
-pub all_noted : (tree part : ProgramTree) (names : List (List ℕ)) (first second third : Option ClassFault)
-    → part ≡ tree → names ≡ distinct (class_names part)
-    → first ≡ noted None (twice_faults (class_names part))
-    → second ≡ noted first (flat_map (class_faults (has_text names)) part)
-    → third ≡ noted second (missing_main part)
-    → third ≡ noted None (faults_of tree)
-all_noted tree part names first second third whole names_are one two three =
-    let twice = twice_faults (class_names part) in
-    let inner = flat_map (class_faults (has_text (texts_of (class_names part)))) part in
-    let tests : has_text names ≡ has_text (texts_of (class_names part)) = ap has_text names_are ∙ same_tests (class_names part) in
-    let second_is : second ≡ noted (noted None twice) inner = two ∙ ap (λ f. noted f (flat_map (class_faults (has_text names)) part)) one ∙ ap (λ t. noted (noted None twice) (flat_map (class_faults t) part)) tests in
-    three
-    ∙ ap (λ f. noted f (missing_main part)) (second_is ∙ sym (noted_append None twice inner))
-    ∙ sym (noted_append None (twice ++ inner) (missing_main part))
-    ∙ ap (λ t. noted None (faults_of t)) whole
-
 -- ---- the first fault of a program
 
 -- the fault that stands at a place
 abbrev fault_at : Place → ClassFault
 fault_at p =
     if p.rank == 0 then kind.Twice p.offset else if p.rank == 1 then kind.UnknownClass p.offset else if p.rank == 2 then kind.BadConstructor p.offset
-    else if p.rank == 3 then kind.NoRun p.offset else if p.rank == 4 then kind.TooMany p.offset else if p.rank == 5 then kind.NoMain else kind.NoMemory
+    else if p.rank == 3 then kind.NoRun p.offset else if p.rank == 4 then kind.TooMany p.offset
+    else if p.rank == 5 then kind.Circle p.offset else if p.rank == 6 then kind.BadOverride p.offset
+    else if p.rank == 7 then kind.NoMain else kind.NoMemory
 
 fault_again : (f : ClassFault) → fault_at (place_of f) ≡ f
 fault_again (kind.Twice at) = refl
@@ -71,6 +57,8 @@ fault_again (kind.UnknownClass at) = refl
 fault_again (kind.BadConstructor at) = refl
 fault_again (kind.NoRun at) = refl
 fault_again (kind.TooMany at) = refl
+fault_again (kind.Circle at) = refl
+fault_again (kind.BadOverride at) = refl
 fault_again kind.NoMain = refl
 fault_again kind.NoMemory = refl
 

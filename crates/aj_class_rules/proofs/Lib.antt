@@ -1,5 +1,13 @@
--- Lemmas on faults that are found one after the other, and on sets of names.
+-- Lemmas on faults that are found one after the other, on sets of names, and on what a program without faults keeps (Faultless).
 mod Sets
+mod Meanings
+mod Places
+mod Climbing
+mod Rows
+mod Parted
+mod Repeats
+mod Wholes
 pub mod Leasts
 pub mod FirstFaults
 pub mod Noting
+pub mod Faultless

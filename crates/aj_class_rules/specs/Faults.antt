@@ -1,5 +1,5 @@
 -- The faults of a program's classes: which conditions stand, and at which offsets.
-use Rattle.std.specs.Prelude.{ℕ, ◌^◌, Bool, true, false, not, ◌&&◌, ◌||◌, List, [], ◌∷◌, ◌++◌, Option, Some, None, map, flat_map, slice_get, codes, bytes_eq, if◌then◌else◌}
+use Rattle.std.specs.Prelude.{ℕ, ◌^◌, ◌+◌, Bool, true, false, not, ◌&&◌, ◌||◌, List, [], ◌∷◌, ◌++◌, Option, Some, None, map, flat_map, slice_get, codes, bytes_eq, if◌then◌else◌}
 use Rattle.std.specs.List.{list_any}
 use Rattle.aj_syntax.specs.declared.tree.Name.{Name}
 use Rattle.aj_syntax.specs.declared.tree.Param.{Param}
@@ -9,14 +9,20 @@ use Rattle.aj_syntax.specs.Trees.{MemberTree, FieldM, CtorM, MethodM, ClassTree,
 use Rattle.aj_class_rules.specs.declared.first.Place.{Place}
 use Rattle.aj_class_rules.specs.First.{IsFirst}
 use Rattle.aj_class_rules.specs.declared.fault.ClassFault.{ClassFault}
-use Rattle.aj_class_rules.specs.declared.fault.ClassFault.TheVariants.{Twice, UnknownClass, BadConstructor, NoMain, NoRun, TooMany, NoMemory}
+use Rattle.aj_class_rules.specs.declared.fault.ClassFault.TheVariants.{Twice, UnknownClass, BadConstructor, NoMain, NoRun, TooMany, NoMemory, Circle, BadOverride}
 use Rattle.aj_class_rules.specs.Limits.{most_fields, most_parameters}
-use Rattle.aj_class_rules.specs.Names.{texts_of, has_text, repeats}
-use Rattle.aj_class_rules.specs.Members.{is_empty, class_names, field_names, method_names, param_names, finals_of, is_constructor, are_params_of, are_sets_of, is_entry, is_main}
+use Rattle.aj_class_rules.specs.Names.{texts_of, has_text, repeats, repeats_after}
+use Rattle.aj_class_rules.specs.Members.{is_empty, class_names, field_names, method_names, param_names, finals_of, is_constructor, are_params_of, are_sets_of, is_entry}
+use Rattle.aj_class_rules.specs.Lines.{is_on_circle, line, inherited, all_members, counts}
+use Rattle.aj_class_rules.specs.Overriding.{Heading, headings_at, overrides_badly}
 
 -- a fault for each name that stands again
 abbrev pub twice_faults : List Name → List ClassFault
 twice_faults names = map Twice (repeats names)
+
+-- a fault for each of these fields that has the name of an inherited one, or of one of these that stood before
+abbrev pub field_faults : List MemberTree → List MemberTree → List ClassFault
+field_faults inherited ms = map Twice (repeats_after (texts_of (field_names inherited)) (field_names ms))
 
 -- a fault at the name with this number, counted from 0, where there is one
 abbrev pub too_many_faults : Option Name → List ClassFault
@@ -33,6 +39,11 @@ type_faults is_class (Y.Class n) = if is_class n.text then [] else UnknownClass 
 abbrev pub result_faults : (List ℕ → Bool) → Option TypeName → List ClassFault
 result_faults is_class None = []
 result_faults is_class (Some ty) = type_faults is_class ty
+
+-- of the name after `extends`
+abbrev pub above_faults : (List ℕ → Bool) → Option Name → List ClassFault
+above_faults is_class None = []
+above_faults is_class (Some n) = if is_class n.text then [] else UnknownClass n.at ∷ []
 
 -- of parameters: a name again, an unknown type, one too many
 abbrev pub params_faults : (List ℕ → Bool) → List Param → List ClassFault
@@ -67,31 +78,62 @@ abbrev pub missing_constructor : Name → List (TypeName × Name) → List Membe
 missing_constructor class finals ms =
     if is_empty finals || list_any is_constructor ms then [] else BadConstructor class.at ∷ []
 
--- of a class that says `implements Runnable` and has no `run` to begin with
-abbrev pub missing_run : ClassTree → List ClassFault
-missing_run c = if not c.runnable || list_any (is_entry (codes "run")) c.members then [] else NoRun c.name.at ∷ []
+-- of a class of this name that counts as `implements Runnable` and has no `run` to begin with among these members
+abbrev pub missing_run : Name → Bool → List MemberTree → List ClassFault
+missing_run class counts ms = if not counts || list_any (is_entry (codes "run")) ms then [] else NoRun class.at ∷ []
 
--- of a class
-abbrev pub class_faults : (List ℕ → Bool) → ClassTree → List ClassFault
-class_faults is_class c =
-    twice_faults (field_names c.members)
-    ++ twice_faults (method_names c.members)
-    ++ flat_map (member_faults is_class) c.members
-    ++ missing_constructor c.name (finals_of c.members) c.members
-    ++ constructor_faults c.name (finals_of c.members) false c.members
-    ++ missing_run c
-    ++ too_many_faults (slice_get (field_names c.members) most_fields)
+-- of a class on or below a circle
+abbrev pub circle_faults : Name → Bool → List ClassFault
+circle_faults class on_circle = if on_circle then Circle class.at ∷ [] else []
+
+-- of methods of a class that inherits from these classes, where each class has its methods: each that overrides one that it may not override
+abbrev pub override_faults : (ℕ → List Heading) → List ℕ → List Heading → List ClassFault
+override_faults methods line [] = []
+override_faults methods line (m ∷ ms) =
+    if overrides_badly methods line m then BadOverride m.name.at ∷ override_faults methods line ms else override_faults methods line ms
+
+-- whether a text is the name of a class
+abbrev pub is_class_in : ProgramTree → List ℕ → Bool
+is_class_in tree = has_text (texts_of (class_names tree))
+
+-- of a class, which has the number k, but for the names of its fields
+abbrev pub other_faults : ProgramTree → ℕ → ClassTree → List ClassFault
+other_faults tree k c =
+    twice_faults (method_names c.members)
+    ++ above_faults (is_class_in tree) c.above
+    ++ flat_map (member_faults (is_class_in tree)) c.members
+    ++ missing_constructor c.name (finals_of (all_members tree k)) c.members
+    ++ constructor_faults c.name (finals_of (all_members tree k)) false c.members
+    ++ missing_run c.name (counts tree k) (all_members tree k)
+    ++ too_many_faults (slice_get (field_names (all_members tree k)) most_fields)
+    ++ circle_faults c.name (is_on_circle tree k)
+    ++ override_faults (headings_at tree) (line tree k) (headings_at tree k)
+
+-- of a class, which has the number k
+abbrev pub class_faults : ProgramTree → ℕ → ClassTree → List ClassFault
+class_faults tree k c = field_faults (inherited tree k) c.members ++ other_faults tree k c
+
+-- of these classes, the first of which has the number k
+abbrev pub faults_from : ProgramTree → ℕ → List ClassTree → List ClassFault
+faults_from tree k [] = []
+faults_from tree k (c ∷ cs) = class_faults tree k c ++ faults_from tree (k + 1) cs
+
+-- whether a class is `Main`, and its members, inherited ones among them, are without final fields and have a `main` to begin with
+abbrev pub is_main : Name → List MemberTree → Bool
+is_main class ms = bytes_eq class.text (codes "Main") && (is_empty (finals_of ms) && list_any (is_entry (codes "main")) ms)
+
+-- whether one of these classes, the first of which has the number k, is a class to begin with
+abbrev pub has_main : ProgramTree → ℕ → List ClassTree → Bool
+has_main tree k [] = false
+has_main tree k (c ∷ cs) = is_main c.name (all_members tree k) || has_main tree (k + 1) cs
 
 -- of a program without a class to begin with
 abbrev pub missing_main : ProgramTree → List ClassFault
-missing_main tree = if list_any is_main tree then [] else NoMain ∷ []
+missing_main tree = if has_main tree 0 tree then [] else NoMain ∷ []
 
 -- all faults of a program
 abbrev pub faults_of : ProgramTree → List ClassFault
-faults_of tree =
-    twice_faults (class_names tree)
-    ++ flat_map (class_faults (has_text (texts_of (class_names tree)))) tree
-    ++ missing_main tree
+faults_of tree = twice_faults (class_names tree) ++ faults_from tree 0 tree ++ missing_main tree
 
 -- the offset at which a fault stands; `NoMain` stands behind every offset
 abbrev pub offset_of : ClassFault → ℕ
@@ -100,6 +142,8 @@ offset_of (UnknownClass at) = at
 offset_of (BadConstructor at) = at
 offset_of (NoRun at) = at
 offset_of (TooMany at) = at
+offset_of (Circle at) = at
+offset_of (BadOverride at) = at
 offset_of NoMain = 2 ^ 32
 offset_of NoMemory = 2 ^ 32
 
@@ -110,8 +154,10 @@ rank_of (UnknownClass at) = 1
 rank_of (BadConstructor at) = 2
 rank_of (NoRun at) = 3
 rank_of (TooMany at) = 4
-rank_of NoMain = 5
-rank_of NoMemory = 6
+rank_of (Circle at) = 5
+rank_of (BadOverride at) = 6
+rank_of NoMain = 7
+rank_of NoMemory = 8
 
 -- where a fault stands
 abbrev pub place_of : ClassFault → Place

@@ -76,7 +76,3 @@ abbrev pub is_entry : List ℕ → MemberTree → Bool
 is_entry text (FieldM f) = false
 is_entry text (CtorM n params sets) = false
 is_entry text (MethodM m) = bytes_eq m.name.text text && is_bare m
-
--- whether a class is `Main`, without final fields, and has a `main` to begin with
-abbrev pub is_main : ClassTree → Bool
-is_main c = bytes_eq c.name.text (codes "Main") && (is_empty (finals_of c.members) && list_any (is_entry (codes "main")) c.members)

@@ -1,20 +1,28 @@
 //! Finds the first fault of a program's classes.
 
-ghost use Rattle.std.specs.Prelude.{◌≡◌, [], true, false, Option, None, map, flat_map, IfOk, OnOk, if◌then◌else◌};
+ghost use Rattle.std.specs.Prelude.{◌≡◌, [], None, map, IfOk, OnOk};
 ghost use Rattle.std.specs.List.{list_any};
 ghost use Rattle.aj_syntax.specs.Views.{member_of, class_of, program_of};
-ghost use Rattle.aj_class_rules.specs.Names.{has_text, distinct};
-ghost use Rattle.aj_class_rules.specs.Members.{class_names, is_entry, is_main};
-ghost use Rattle.aj_class_rules.specs.Faults.{twice_faults, missing_run, class_faults, missing_main, faults_of};
+ghost use Rattle.aj_class_rules.specs.Names.{distinct};
+ghost use Rattle.aj_class_rules.specs.Members.{class_names, is_entry};
+ghost use Rattle.aj_class_rules.specs.Lines.{all_members, members_at};
+ghost use Rattle.aj_class_rules.specs.Lines as lines;
+ghost use Rattle.aj_class_rules.specs.Overriding.{headings_at};
+ghost use Rattle.aj_class_rules.specs.Faults.{twice_faults, missing_run, circle_faults, other_faults, class_faults, faults_from, is_main, has_main, missing_main, faults_of};
+ghost use Rattle.aj_class_rules.specs.Families.{members_along, first_places, tree_of, IsFamily, rows_data, row_at};
 ghost use Rattle.aj_class_rules.specs.Noted.{noted};
 
 use crate::constructors::{has_finals, note_constructors, note_missing_constructor};
+use crate::family::{Family, reversed};
 use crate::fault::ClassFault;
 use crate::first::first_of;
 use crate::limits::MOST_FIELDS;
-use crate::members::{field_at, note_excess, note_fields, note_members, note_methods, see};
+use crate::members::{
+    field_at, note_above, note_excess, note_fields, note_members, note_methods, see,
+};
 use crate::names::NameSet;
-use aj_syntax::{Class, Member, Program};
+use crate::overriding::{Heading, all_headings, note_overrides};
+use aj_syntax::{Class, Member, Name, Program};
 use std::alloc::{AllocError as NoMemory, Global};
 
 /// Whether there is a void method of this name, without parameters and without `requires`.
@@ -38,86 +46,213 @@ fn has_entry(members: &[Member], text: &str) -> bool
     false
 }
 
-fn note_missing_run(class: &Class, first: Option<ClassFault>) -> Option<ClassFault>
-    ensures { result ≡ noted first (missing_run (class_of class.now)) }
+fn class_has_entry(classes: &[Class], number: usize, text: &str) -> bool
+    ensures { result ≡ list_any (is_entry text.now) (members_at (map class_of classes.now) number) }
 {
-    if !class.runnable || has_entry(class.members.as_slice(), "run") {
-        first
-    } else {
-        first_of(first, ClassFault::NoRun(class.name.at))
+    match classes.get(number) {
+        Some(class) => has_entry(class.members.as_slice(), text),
+        None => false,
     }
 }
 
+/// Whether one of these classes has such a method.
+fn have_entry(classes: &[Class], order: &[usize], text: &str) -> bool
+    ensures { result ≡ list_any (is_entry text.now) (members_along (map class_of classes.now) order.now) }
+{
+    for number in order {
+        if class_has_entry(classes, *number, text) {
+            return true;
+        }
+    }
+    false
+}
+
+/// The fault of a class that counts as `implements Runnable`, where none of these classes has a `run`.
+fn note_missing_run(
+    class: &Name,
+    counts: bool,
+    classes: &[Class],
+    order: &[usize],
+    first: Option<ClassFault>,
+) -> Option<ClassFault>
+    ensures { result ≡ noted first (missing_run class.now counts (members_along (map class_of classes.now) order.now)) }
+{
+    if !counts || have_entry(classes, order, "run") {
+        first
+    } else {
+        first_of(first, ClassFault::NoRun(class.at))
+    }
+}
+
+fn note_circle(class: &Name, is_on_circle: bool, first: Option<ClassFault>) -> Option<ClassFault>
+    ensures { result ≡ noted first (circle_faults class.now is_on_circle) }
+{
+    if is_on_circle {
+        first_of(first, ClassFault::Circle(class.at))
+    } else {
+        first
+    }
+}
+
+/// The faults of a class but for the names of its fields. It inherits from the classes of this line, and it has the members
+/// of these classes in order.
 #[tactic(auto, using(crate::proofs::Noting::noted_append))]
-fn note_class(
+fn note_others(
     alloc: Global,
-    classes: &NameSet,
+    family: &Family,
+    rows: &[Vec<Heading>],
+    number: usize,
     class: &Class,
+    line: &[usize],
+    order: &[usize],
     first: Option<ClassFault>,
 ) -> Result<Option<ClassFault>, NoMemory>
-    ensures { IfOk result (λ f. f ≡ noted first (class_faults (has_text classes.now) (class_of class.now))) }
+    requires family { IsFamily family.now }
+    requires rows { row_at (rows_data rows.now) ≡ headings_at (tree_of family.now) }
+    requires line { line.now ≡ lines.line (tree_of family.now) number }
+    requires order { members_along (tree_of family.now) order.now ≡ all_members (tree_of family.now) number }
+    ensures { IfOk result (λ f. f ≡ noted first (other_faults (tree_of family.now) number (class_of class.now))) }
 {
     let members = class.members.as_slice();
-    let found = note_fields(alloc, members, first)?;
-    let found = note_methods(alloc, members, found)?;
-    let found = note_members(alloc, classes, members, found)?;
-    let found = note_missing_constructor(&class.name, members, found);
-    let found = note_constructors(alloc, &class.name, members, found)?;
-    let found = note_missing_run(class, found);
-    Ok(note_excess(field_at(members, MOST_FIELDS), found))
+    let classes = family.classes;
+    let found = note_methods(alloc, members, first)?;
+    let found = note_above(family.names, &class.above, found);
+    let found = note_members(alloc, family.names, members, found)?;
+    let found = note_missing_constructor(&class.name, classes, order, members, found);
+    let found = note_constructors(alloc, &class.name, classes, order, members, found)?;
+    let found = note_missing_run(&class.name, family.counts(number), classes, order, found);
+    let found = note_excess(field_at(classes, order, MOST_FIELDS), found);
+    let found = note_circle(&class.name, family.is_on_circle(number), found);
+    Ok(note_overrides(rows, line, number, found))
+}
+
+fn note_class<'p, 'a>(
+    alloc: Global,
+    family: &Family<'p, 'a>,
+    rows: &[Vec<Heading>],
+    number: usize,
+    class: &Class<'a>,
+    first: Option<ClassFault>,
+) -> Result<Option<ClassFault>, NoMemory>
+    requires family { IsFamily family.now }
+    requires rows { row_at (rows_data rows.now) ≡ headings_at (tree_of family.now) }
+    ensures { IfOk result (λ f. f ≡ noted first (class_faults (tree_of family.now) number (class_of class.now))) }
+{
+    let members = class.members.as_slice();
+    let line = family.line(alloc, number)?;
+    let mut order = reversed(alloc, line.as_slice())?;
+    let found = note_fields(alloc, family.classes, order.as_slice(), members, first)?;
+    order.push(number)?;
+    note_others(
+        alloc,
+        family,
+        rows,
+        number,
+        class,
+        line.as_slice(),
+        order.as_slice(),
+        found,
+    )
 }
 
 fn note_classes(
     alloc: Global,
-    names: &NameSet,
-    classes: &[Class],
+    family: &Family,
+    rows: &[Vec<Heading>],
     first: Option<ClassFault>,
 ) -> Result<Option<ClassFault>, NoMemory>
-    ensures { IfOk result (λ f. f ≡ noted first (flat_map (class_faults (has_text names.now)) (map class_of classes.now))) }
+    requires family { IsFamily family.now }
+    requires rows { row_at (rows_data rows.now) ≡ headings_at (tree_of family.now) }
+    ensures { IfOk result (λ f. f ≡ noted first (faults_from (tree_of family.now) 0 (tree_of family.now))) }
 {
     let mut found = first;
-    for class in classes {
-        found = note_class(alloc, names, class, found)?;
+    for (number, class) in family.classes.iter().enumerate() {
+        found = note_class(alloc, family, rows, number, class, found)?;
     }
     Ok(found)
 }
 
-fn begins_program(class: &Class) -> bool
-    ensures { result ≡ is_main (class_of class.now) }
+/// Whether a class is one to begin with.
+fn begins_program(
+    alloc: Global,
+    family: &Family,
+    number: usize,
+    class: &Class,
+) -> Result<bool, NoMemory>
+    requires { IsFamily family.now }
+    ensures { IfOk result (λ begins. begins ≡ is_main class.now.name (all_members (tree_of family.now) number)) }
 {
-    let members = class.members.as_slice();
-    class.name.text == "Main" && !has_finals(members) && has_entry(members, "main")
+    if class.name.text != "Main" {
+        return Ok(false);
+    }
+    let line = family.line(alloc, number)?;
+    let mut order = reversed(alloc, line.as_slice())?;
+    order.push(number)?;
+    let order = order.as_slice();
+    Ok(!has_finals(family.classes, order) && have_entry(family.classes, order, "main"))
 }
 
-fn note_missing_main(classes: &[Class], first: Option<ClassFault>) -> Option<ClassFault>
-    ensures { result ≡ noted first (missing_main (map class_of classes.now)) }
+fn note_missing_main(
+    alloc: Global,
+    family: &Family,
+    first: Option<ClassFault>,
+) -> Result<Option<ClassFault>, NoMemory>
+    requires { IsFamily family.now }
+    ensures { IfOk result (λ f. f ≡ noted first (missing_main (tree_of family.now))) }
 {
-    for class in classes {
-        if begins_program(class) {
-            return first;
+    for (number, class) in family.classes.iter().enumerate() {
+        if begins_program(alloc, family, number, class)? {
+            return Ok(first);
         }
     }
-    first_of(first, ClassFault::NoMain)
+    Ok(first_of(first, ClassFault::NoMain))
 }
 
-/// The names of classes that stand again. The set has then the names of all classes.
+/// The names of classes that stand again. The set has then the names of all classes, and the list for each of these the
+/// number of the first class that has it.
 fn note_class_names<'a>(
     classes: &[Class<'a>],
     names: &mut NameSet<'a>,
+    firsts: &mut Vec<usize>,
 ) -> Result<Option<ClassFault>, NoMemory>
-    requires { names.old ≡ [] }
+    requires names { names.old ≡ [] }
+    requires firsts { firsts.old.items ≡ [] }
     ensures fault { IfOk result (λ f. f ≡ noted None (twice_faults (class_names (map class_of classes.now)))) }
     ensures names { OnOk result (names.new ≡ distinct (class_names (map class_of classes.now))) }
+    ensures firsts { OnOk result (firsts.new.items ≡ first_places (class_names (map class_of classes.now))) }
 {
     let mut found = None;
-    for class in classes {
+    for (number, class) in classes.iter().enumerate() {
+        if !names.contains(class.name.text) {
+            firsts.push(number)?;
+        }
         found = see(names, &class.name, found)?;
     }
     Ok(found)
 }
 
+/// The first of this fault and those of classes, which have these names.
+fn note_all<'p, 'a>(
+    alloc: Global,
+    classes: &'p [Class<'a>],
+    names: &'p NameSet<'a>,
+    firsts: Vec<usize>,
+    first: Option<ClassFault>,
+) -> Result<Option<ClassFault>, NoMemory>
+    requires names { names.now ≡ distinct (class_names (map class_of classes.now)) }
+    requires firsts { firsts.items ≡ first_places (class_names (map class_of classes.now)) }
+    ensures { IfOk result (λ f. f ≡ noted (noted first (faults_from (map class_of classes.entry.now) 0 (map class_of classes.entry.now)))
+        (missing_main (map class_of classes.entry.now))) }
+{
+    let family = Family::new(alloc, classes, names, firsts)?;
+    let rows = all_headings(alloc, &family)?;
+    let found = note_classes(alloc, &family, rows.as_slice(), first)?;
+    note_missing_main(alloc, &family, found)
+}
+
 /// The first fault of a program, if it has one. The set has then the names of its classes, each once, in order of
 /// first appearance.
+#[tactic(auto, using(crate::proofs::Noting::noted_append))]
 pub fn first_fault<'a>(
     alloc: Global,
     program: &Program<'a>,
@@ -128,7 +263,7 @@ pub fn first_fault<'a>(
     ensures names { OnOk result (names.new ≡ distinct (class_names (program_of program.now))) }
 {
     let classes = program.classes.as_slice();
-    let found = note_class_names(classes, names)?;
-    let found = note_classes(alloc, names, classes, found)?;
-    Ok(note_missing_main(classes, found))
+    let mut firsts = Vec::new(alloc);
+    let found = note_class_names(classes, names, &mut firsts)?;
+    note_all(alloc, classes, names, firsts, found)
 }

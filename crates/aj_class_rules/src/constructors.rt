@@ -1,16 +1,18 @@
 //! Notes the faults of constructors: each assigns the final fields of its class in order.
 
-ghost use Rattle.std.specs.Prelude.{◌≡◌, true, false, not, Option, map, IfOk};
+ghost use Rattle.std.specs.Prelude.{◌≡◌, ◌++◌, true, false, not, Option, map, IfOk, OnOk};
 ghost use Rattle.std.specs.List.{list_any};
-ghost use Rattle.aj_syntax.specs.Views.{member_of};
+ghost use Rattle.aj_syntax.specs.Views.{member_of, class_of};
+ghost use Rattle.aj_class_rules.specs.Lines.{members_at};
 ghost use Rattle.aj_class_rules.specs.Members.{finals_of, is_constructor, is_same_type, are_params_of, are_sets_of, is_empty};
 ghost use Rattle.aj_class_rules.specs.Faults.{is_right, constructor_faults, missing_constructor};
 ghost use Rattle.aj_class_rules.specs.Noted.{noted};
 ghost use Rattle.aj_class_rules.specs.Finals.{final_of};
+ghost use Rattle.aj_class_rules.specs.Families.{members_along};
 
 use crate::fault::ClassFault;
 use crate::first::first_of;
-use aj_syntax::{Member, Name, Param, TypeName};
+use aj_syntax::{Class, Member, Name, Param, TypeName};
 use std::alloc::{AllocError as NoMemory, Global};
 
 /// A final field, which the constructor of its class assigns.
@@ -20,13 +22,13 @@ struct FinalField<'m, 'a> {
     name: &'m Name<'a>,
 }
 
-fn final_fields<'m, 'a>(
-    alloc: Global,
+/// Adds the final fields among members.
+fn add_finals<'m, 'a>(
+    finals: &mut Vec<FinalField<'m, 'a>>,
     members: &'m [Member<'a>],
-) -> Result<Vec<FinalField<'m, 'a>>, NoMemory>
-    ensures { IfOk result (λ fs. map final_of fs.items ≡ finals_of (map member_of members.entry.now)) }
+) -> Result<(), NoMemory>
+    ensures { OnOk result (map final_of finals.new.items ≡ map final_of finals.old.items ++ finals_of (map member_of members.entry.now)) }
 {
-    let mut finals = Vec::new(alloc);
     for member in members {
         if let Member::Field {
             is_final: true,
@@ -38,10 +40,39 @@ fn final_fields<'m, 'a>(
             finals.push(FinalField { ty, name })?;
         }
     }
+    Ok(())
+}
+
+/// Adds the final fields of a class.
+fn add_finals_of<'m, 'a>(
+    finals: &mut Vec<FinalField<'m, 'a>>,
+    classes: &'m [Class<'a>],
+    number: usize,
+) -> Result<(), NoMemory>
+    ensures { OnOk result (map final_of finals.new.items ≡ map final_of finals.old.items ++ finals_of (members_at (map class_of classes.entry.now) number)) }
+{
+    match classes.get(number) {
+        Some(class) => add_finals(finals, class.members.as_slice()),
+        None => Ok(()),
+    }
+}
+
+/// The final fields of classes, in this order.
+fn final_fields<'m, 'a>(
+    alloc: Global,
+    classes: &'m [Class<'a>],
+    order: &[usize],
+) -> Result<Vec<FinalField<'m, 'a>>, NoMemory>
+    ensures { IfOk result (λ fs. map final_of fs.items ≡ finals_of (members_along (map class_of classes.entry.now) order.now)) }
+{
+    let mut finals = Vec::new(alloc);
+    for number in order {
+        add_finals_of(&mut finals, classes, *number)?;
+    }
     Ok(finals)
 }
 
-fn is_same(one: &TypeName, other: &TypeName) -> bool
+pub(crate) fn is_same(one: &TypeName, other: &TypeName) -> bool
     ensures { result ≡ is_same_type one.now other.now }
 {
     match (one, other) {
@@ -101,16 +132,19 @@ fn is_right_constructor(
         && match_sets(finals, sets)
 }
 
-/// The faults of constructors that aren't right, and of those after a first one.
-pub fn note_constructors(
+/// The faults of constructors that aren't right, and of those after a first one. The class has the
+/// fields of these classes, in this order.
+pub(crate) fn note_constructors(
     alloc: Global,
     class: &Name,
+    classes: &[Class],
+    order: &[usize],
     members: &[Member],
     first: Option<ClassFault>,
 ) -> Result<Option<ClassFault>, NoMemory>
-    ensures { IfOk result (λ f. f ≡ noted first (constructor_faults class.now (finals_of (map member_of members.now)) false (map member_of members.now))) }
+    ensures { IfOk result (λ f. f ≡ noted first (constructor_faults class.now (finals_of (members_along (map class_of classes.now) order.now)) false (map member_of members.now))) }
 {
-    let finals = final_fields(alloc, members)?;
+    let finals = final_fields(alloc, classes, order)?;
     Ok(note_wrong(class, finals.as_slice(), members, first))
 }
 
@@ -148,27 +182,49 @@ fn has_constructor(members: &[Member]) -> bool
     false
 }
 
-/// The fault of a class that has final fields and no constructor.
-pub fn note_missing_constructor(
+/// The fault of a class that has final fields, inherited ones among them, and no constructor of its own.
+pub(crate) fn note_missing_constructor(
     class: &Name,
+    classes: &[Class],
+    order: &[usize],
     members: &[Member],
     first: Option<ClassFault>,
 ) -> Option<ClassFault>
-    ensures { result ≡ noted first (missing_constructor class.now (finals_of (map member_of members.now)) (map member_of members.now)) }
+    ensures { result ≡ noted first (missing_constructor class.now (finals_of (members_along (map class_of classes.now) order.now)) (map member_of members.now)) }
 {
-    if !has_finals(members) || has_constructor(members) {
+    if !has_finals(classes, order) || has_constructor(members) {
         first
     } else {
         first_of(first, ClassFault::BadConstructor(class.at))
     }
 }
 
-/// Whether a class has final fields.
-pub fn has_finals(members: &[Member]) -> bool
+fn has_final(members: &[Member]) -> bool
     ensures { result ≡ not (is_empty (finals_of (map member_of members.now))) }
 {
     for member in members {
         if let Member::Field { is_final: true, .. } = member {
+            return true;
+        }
+    }
+    false
+}
+
+fn class_has_final(classes: &[Class], number: usize) -> bool
+    ensures { result ≡ not (is_empty (finals_of (members_at (map class_of classes.now) number))) }
+{
+    match classes.get(number) {
+        Some(class) => has_final(class.members.as_slice()),
+        None => false,
+    }
+}
+
+/// Whether one of these classes has final fields.
+pub(crate) fn has_finals(classes: &[Class], order: &[usize]) -> bool
+    ensures { result ≡ not (is_empty (finals_of (members_along (map class_of classes.now) order.now))) }
+{
+    for number in order {
+        if class_has_final(classes, *number) {
             return true;
         }
     }

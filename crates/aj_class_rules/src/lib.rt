@@ -4,14 +4,15 @@
 
 mod check;
 mod constructors;
+mod family;
 mod fault;
 mod first;
 mod limits;
 mod members;
 mod names;
+mod overriding;
 
 pub use check::first_fault;
-pub use constructors::{has_finals, note_constructors, note_missing_constructor};
 pub use fault::ClassFault;
 pub use first::{Fault, Place, first_of};
 pub use limits::{MOST_FIELDS, MOST_PARAMS};

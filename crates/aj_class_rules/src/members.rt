@@ -1,18 +1,20 @@
 //! Notes the faults of the members of a class, each by itself.
 
-ghost use Rattle.std.specs.Prelude.{◌≡◌, ◌∷◌, [], Option, Some, None, map, flat_map, slice_get, option_map, IfOk, OnOk, if◌then◌else◌};
-ghost use Rattle.aj_syntax.specs.Views.{member_of};
+ghost use Rattle.std.specs.Prelude.{◌≡◌, ◌∷◌, [], Option, Some, None, map, flat_map, slice_get, length, option_map, IfOk, OnOk, if◌then◌else◌};
+ghost use Rattle.aj_syntax.specs.Views.{member_of, class_of};
+ghost use Rattle.aj_class_rules.specs.Lines.{members_at};
 ghost use Rattle.aj_class_rules.specs.declared.fault.ClassFault.TheVariants as kind;
-ghost use Rattle.aj_class_rules.specs.Names.{has_text, with_text};
+ghost use Rattle.aj_class_rules.specs.Names.{has_text, with_text, distinct_after, distinct, repeats_after};
 ghost use Rattle.aj_class_rules.specs.Members.{field_names, method_names, param_names};
-ghost use Rattle.aj_class_rules.specs.Faults.{twice_faults, too_many_faults, type_faults, result_faults, params_faults, member_faults};
+ghost use Rattle.aj_class_rules.specs.Faults.{twice_faults, field_faults, above_faults, too_many_faults, type_faults, result_faults, params_faults, member_faults};
+ghost use Rattle.aj_class_rules.specs.Families.{members_along};
 ghost use Rattle.aj_class_rules.specs.Noted.{noted};
 
 use crate::fault::ClassFault;
 use crate::first::first_of;
 use crate::limits::MOST_PARAMS;
 use crate::names::NameSet;
-use aj_syntax::{Member, Name, Param, TypeName};
+use aj_syntax::{Class, Member, Name, Param, TypeName};
 use std::alloc::{AllocError as NoMemory, Global};
 
 /// Adds a name to those that were seen. A name that was seen before is a fault.
@@ -32,14 +34,68 @@ pub(crate) fn see<'a>(
     }
 }
 
-pub(crate) fn note_fields(
+/// Adds the names of the fields among members.
+fn see_fields<'a>(seen: &mut NameSet<'a>, members: &[Member<'a>]) -> Result<(), NoMemory>
+    ensures { OnOk result (seen.new ≡ distinct_after seen.old (field_names (map member_of members.now))) }
+{
+    for member in members {
+        if let Member::Field { name, .. } = member {
+            seen.add(name.text)?;
+        }
+    }
+    Ok(())
+}
+
+fn see_fields_of<'a>(
+    seen: &mut NameSet<'a>,
+    classes: &[Class<'a>],
+    number: usize,
+) -> Result<(), NoMemory>
+    ensures { OnOk result (seen.new ≡ distinct_after seen.old (field_names (members_at (map class_of classes.now) number))) }
+{
+    match classes.get(number) {
+        Some(class) => see_fields(seen, class.members.as_slice()),
+        None => Ok(()),
+    }
+}
+
+/// The names of the fields of these classes.
+fn names_of_fields<'a>(
     alloc: Global,
-    members: &[Member],
-    first: Option<ClassFault>,
-) -> Result<Option<ClassFault>, NoMemory>
-    ensures { IfOk result (λ f. f ≡ noted first (twice_faults (field_names (map member_of members.now)))) }
+    classes: &[Class<'a>],
+    order: &[usize],
+) -> Result<NameSet<'a>, NoMemory>
+    ensures { IfOk result (λ seen. seen ≡ distinct (field_names (members_along (map class_of classes.now) order.now))) }
 {
     let mut seen = NameSet::new(alloc);
+    for number in order {
+        see_fields_of(&mut seen, classes, *number)?;
+    }
+    Ok(seen)
+}
+
+/// Fields that have the name of one of these classes, or of one that stood before.
+pub(crate) fn note_fields<'a>(
+    alloc: Global,
+    classes: &[Class<'a>],
+    order: &[usize],
+    members: &[Member<'a>],
+    first: Option<ClassFault>,
+) -> Result<Option<ClassFault>, NoMemory>
+    ensures { IfOk result (λ f. f ≡ noted first (field_faults (members_along (map class_of classes.now) order.now) (map member_of members.now))) }
+{
+    let seen = names_of_fields(alloc, classes, order)?;
+    note_fields_after(seen, members, first)
+}
+
+fn note_fields_after<'a>(
+    names: NameSet<'a>,
+    members: &[Member<'a>],
+    first: Option<ClassFault>,
+) -> Result<Option<ClassFault>, NoMemory>
+    ensures { IfOk result (λ f. f ≡ noted first (map kind.Twice (repeats_after names.entry (field_names (map member_of members.now))))) }
+{
+    let mut seen = names;
     let mut found = first;
     for member in members {
         if let Member::Field { name, .. } = member {
@@ -188,8 +244,24 @@ pub(crate) fn note_members(
     Ok(found)
 }
 
+/// The name after `extends`, where it is no class of the program.
+pub(crate) fn note_above(
+    classes: &NameSet,
+    above: &Option<Name>,
+    first: Option<ClassFault>,
+) -> Option<ClassFault>
+    ensures { result ≡ noted first (above_faults (has_text classes.now) above.now) }
+{
+    match above {
+        Some(name) if !classes.contains(name.text) => {
+            first_of(first, ClassFault::UnknownClass(name.at))
+        }
+        _ => first,
+    }
+}
+
 /// The field with this number, counted from 0.
-pub(crate) fn field_at<'m, 'a>(members: &'m [Member<'a>], number: usize) -> Option<&'m Name<'a>>
+fn field_in<'m, 'a>(members: &'m [Member<'a>], number: usize) -> Option<&'m Name<'a>>
     ensures { option_map (λ n. n.now) result ≡ slice_get (field_names (map member_of members.now)) number }
 {
     let mut left = number;
@@ -200,6 +272,54 @@ pub(crate) fn field_at<'m, 'a>(members: &'m [Member<'a>], number: usize) -> Opti
             }
             left -= 1;
         }
+    }
+    None
+}
+
+fn field_of<'m, 'a>(classes: &'m [Class<'a>], class: usize, number: usize) -> Option<&'m Name<'a>>
+    ensures { option_map (λ n. n.now) result ≡ slice_get (field_names (members_at (map class_of classes.entry.now) class)) number }
+{
+    match classes.get(class) {
+        Some(class) => field_in(class.members.as_slice(), number),
+        None => None,
+    }
+}
+
+fn count_fields(members: &[Member]) -> usize
+    ensures { result ≡ length (field_names (map member_of members.now)) }
+{
+    let mut count = 0;
+    for member in members {
+        if let Member::Field { .. } = member {
+            count += 1;
+        }
+    }
+    count
+}
+
+fn count_fields_of(classes: &[Class], class: usize) -> usize
+    ensures { result ≡ length (field_names (members_at (map class_of classes.now) class)) }
+{
+    match classes.get(class) {
+        Some(class) => count_fields(class.members.as_slice()),
+        None => 0,
+    }
+}
+
+/// The field with this number, counted from 0, among those of classes in this order.
+pub(crate) fn field_at<'m, 'a>(
+    classes: &'m [Class<'a>],
+    order: &[usize],
+    number: usize,
+) -> Option<&'m Name<'a>>
+    ensures { option_map (λ n. n.now) result ≡ slice_get (field_names (members_along (map class_of classes.entry.now) order.now)) number }
+{
+    let mut left = number;
+    for class in order {
+        if let Some(name) = field_of(classes, *class, left) {
+            return Some(name);
+        }
+        left = left.saturating_sub(count_fields_of(classes, *class));
     }
     None
 }

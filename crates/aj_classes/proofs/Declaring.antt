@@ -10,9 +10,9 @@ use Rattle.aj_lemmas.proofs.Options.{then_parts}
 use Rattle.aj_lexer.specs.Tokens.{IsSlice}
 use Rattle.aj_syntax.specs.declared.tree.Name.{Name}
 use Rattle.aj_syntax.specs.declared.tree.Param.{Param}
-use Rattle.aj_syntax.specs.Names.{names_of_type, names_of_result, names_of_param, names_of_lock, names_of_stmts, names_of_guard, names_of_member, names_of_class, names_of_program}
+use Rattle.aj_syntax.specs.Names.{names_of_type, names_of_result, names_of_param, names_of_lock, names_of_stmts, names_of_guard, names_of_member, names_of_extends, names_of_class, names_of_program}
 use Rattle.aj_syntax.specs.Tokens.{name_token}
-use Rattle.aj_syntax.specs.Trees.{MemberTree, FieldM, CtorM, MethodM, ProgramTree}
+use Rattle.aj_syntax.specs.Trees.{MemberTree, FieldM, CtorM, MethodM, ClassTree, ProgramTree}
 use Rattle.aj_classes.specs.Declarations.{IsDeclared, declared_fields, declared_methods, method_params, declared_params}
 use Rattle.aj_class_rules.specs.Members.{class_names, field_names, method_names, param_names}
 use Rattle.aj_class_rules.specs.Names.{texts_of}
@@ -61,23 +61,26 @@ module _ (P : Name → Type 0) where
   classes_kept [] a = tt
   classes_kept (c ∷ cs) a = ((left P (names_of_class c) (names_of_program cs) a).0, classes_kept cs (right P (names_of_class c) (names_of_program cs) a))
 
+  members_kept : (c : ClassTree) (cs : ProgramTree) → Each P (names_of_program (c ∷ cs)) → Each P (flat_map names_of_member c.members)
+  members_kept c cs a = right P (names_of_extends c.above) (flat_map names_of_member c.members) (left P (names_of_class c) (names_of_program cs) a).1
+
   fields_kept : (t : ProgramTree) → Each P (names_of_program t) → Each P (declared_fields t)
   fields_kept [] a = tt
   fields_kept (c ∷ cs) a =
-      each_both P (field_names c.members) (declared_fields cs) (own_fields_kept c.members (left P (names_of_class c) (names_of_program cs) a).1)
+      each_both P (field_names c.members) (declared_fields cs) (own_fields_kept c.members (members_kept c cs a))
       (fields_kept cs (right P (names_of_class c) (names_of_program cs) a))
 
   methods_kept : (t : ProgramTree) → Each P (names_of_program t) → Each P (declared_methods t)
   methods_kept [] a = tt
   methods_kept (c ∷ cs) a =
-      each_both P (method_names c.members) (declared_methods cs) (own_methods_kept c.members (left P (names_of_class c) (names_of_program cs) a).1).0
+      each_both P (method_names c.members) (declared_methods cs) (own_methods_kept c.members (members_kept c cs a)).0
       (methods_kept cs (right P (names_of_class c) (names_of_program cs) a))
 
   all_params_kept : (t : ProgramTree) → Each P (names_of_program t) → Each (λ ps. Each P (param_names ps)) (declared_params t)
   all_params_kept [] a = tt
   all_params_kept (c ∷ cs) a =
       each_both (λ ps. Each P (param_names ps)) (method_params c.members) (declared_params cs)
-      (own_methods_kept c.members (left P (names_of_class c) (names_of_program cs) a).1).1
+      (own_methods_kept c.members (members_kept c cs a)).1
       (all_params_kept cs (right P (names_of_class c) (names_of_program cs) a))
 
 -- ---- a text by its number

@@ -1,33 +1,24 @@
 -- What is built from a tree without faults is its table.
-use Rattle.std.proofs.Common.{◌≡◌, ℕ, ◌+◌, suc, Bool, true, false, List, [], ◌∷◌, ◌++◌, refl, length, map, flat_map, ap, sym, ◌∙◌, arith, ◌<◌, ◌≤◌, ◌&&◌, nat_lt, if◌then◌else◌, append_assoc, length-append}
+use Rattle.std.proofs.Common.{◌≡◌, ℕ, ◌+◌, zero, suc, true, false, List, [], ◌∷◌, ◌++◌, Option, Some, None, refl, length, map, ap, sym, ◌∙◌, arith, ◌<◌, ◌≤◌, ◌&&◌, nat_lt, bytes_eq, unwrap_or, option_map, slice_get, inl, inr, if◌then◌else◌, append_assoc, length-append}
 use Rattle.std.proofs.lemmas.List.{append-nil, length-map}
-use Rattle.std.proofs.lemmas.List.Folds.{list_all-append, list_all-map}
+use Rattle.std.proofs.lemmas.List.Folds.{list_all-append, list_all-map, list_any-append}
+use Rattle.std.proofs.lemmas.Bool.{false_from_ne_true, or_left, or_right, or_cases}
+use Rattle.std.proofs.lemmas.Option.{slice_get-map}
+use Rattle.std.proofs.Math.Path.{fun_ext}
 use Rattle.std.proofs.lemmas.Bool.Decides.{nat_tests}
-use Rattle.std.specs.List.{list_all}
+use Rattle.std.specs.List.{list_all, list_any}
 use Rattle.aj_classes.specs.declared.entries.MethodEntry.{MethodEntry}
 use Rattle.aj_classes.specs.Views.{method_data}
 use Rattle.aj_syntax.specs.declared.tree.Name.{Name}
 use Rattle.aj_syntax.specs.Trees.{MemberTree, FieldM, CtorM, MethodM, ClassTree, ProgramTree}
 use Rattle.aj_class_rules.specs.Names.{has_text, texts_of, repeats, repeats_after, distinct_after, distinct}
 use Rattle.aj_class_rules.specs.Members.{class_names, field_names, method_names}
-use Rattle.aj_class_rules.specs.Faults.{twice_faults, class_faults, missing_main, faults_of}
+use Rattle.aj_class_rules.specs.Faults.{faults_of}
+use Rattle.aj_class_rules.proofs.Faultless.{IsSound, faultless}
+use Rattle.aj_class_rules.specs.Lines.{ancestors, above_in, above, inherited, says_runnable, counts}
 use Rattle.aj_classes.specs.Seen.{FieldData}
 use Rattle.aj_classes.specs.Table.{ClassData, MethodData, TableData, fields_of, methods_of, all_fields, all_methods, classes_from, table_of}
-use Rattle.aj_classes.specs.Building.{PartsData, class_at, with_class, with_classes, no_parts}
-
--- ---- nothing in a list
-
-left_empty : {X : Type 0} (xs ys : List X) → xs ++ ys ≡ [] → xs ≡ []
-left_empty [] ys h = refl
-left_empty (x ∷ xs) ys h = cc
-
-right_empty : {X : Type 0} (xs ys : List X) → xs ++ ys ≡ [] → ys ≡ []
-right_empty [] ys h = h
-right_empty (x ∷ xs) ys h = cc
-
-map_empty : {X Y : Type 0} (f : X → Y) (xs : List X) → map f xs ≡ [] → xs ≡ []
-map_empty f [] h = refl
-map_empty f (x ∷ xs) h = cc
+use Rattle.aj_classes.specs.Building.{PartsData, above_named, above_at, class_at, with_class, with_classes, no_parts, parts_from}
 
 -- ---- names that don't stand again
 
@@ -39,29 +30,75 @@ distinct_after_is seen (n ∷ ns) h =
       | false ↦ λ e. distinct_after_is (seen ++ n.text ∷ []) ns e ∙ append_assoc seen (n.text ∷ []) (texts_of ns)
     ] h
 
-distinct_is : (names : List Name) → twice_faults names ≡ [] → distinct names ≡ texts_of names
-distinct_is names h = distinct_after_is [] names (map_empty _ (repeats names) h)
+distinct_is : (names : List Name) → repeats names ≡ [] → distinct names ≡ texts_of names
+distinct_is names h = distinct_after_is [] names h
 
--- ---- a class without faults
+-- fewer names seen, fewer that stand again
+fewer_again : (small big : List (List ℕ)) → ((t : List ℕ) → has_text small t ≡ true → has_text big t ≡ true) → (names : List Name)
+    → repeats_after big names ≡ [] → repeats_after small names ≡ []
+fewer_again small big part [] e = refl
+fewer_again small big part (n ∷ ns) e =
+    elim (has_text big n.text) as (λ b. has_text big n.text ≡ b → (if b then n.at ∷ repeats_after big ns else repeats_after (big ++ n.text ∷ []) ns) ≡ [] → repeats_after small (n ∷ ns) ≡ []) [
+      | true ↦ λ is h. cc
+      | false ↦ λ is h.
+          ap (λ b. if b then n.at ∷ repeats_after small ns else repeats_after (small ++ n.text ∷ []) ns) (false_from_ne_true (has_text small n.text) (λ has. let clash : true ≡ false = sym (part n.text has) ∙ is in cc))
+          ∙ fewer_again (small ++ n.text ∷ []) (big ++ n.text ∷ []) (with_both small big part n.text) ns h
+    ] refl e where
+      with_both : (small big : List (List ℕ)) → ((t : List ℕ) → has_text small t ≡ true → has_text big t ≡ true) → (x t : List ℕ)
+          → has_text (small ++ x ∷ []) t ≡ true → has_text (big ++ x ∷ []) t ≡ true
+      with_both small big part x t h =
+          elim (or_cases (has_text small t) (has_text (x ∷ []) t) (sym (list_any-append (bytes_eq t) small (x ∷ [])) ∙ h)) [
+            | inl first ↦ list_any-append (bytes_eq t) big (x ∷ []) ∙ or_left (has_text big t) (has_text (x ∷ []) t) (part t first)
+            | inr last ↦ list_any-append (bytes_eq t) big (x ∷ []) ∙ or_right (has_text big t) (has_text (x ∷ []) t) last
+          ]
 
-no_field_twice : (is_class : List ℕ → Bool) (c : ClassTree) → class_faults is_class c ≡ [] → distinct (field_names c.members) ≡ texts_of (field_names c.members)
-no_field_twice is_class c h =
-    distinct_is (field_names c.members) (left_empty _ _ (left_empty _ _ (left_empty _ _ (left_empty _ _ (left_empty _ _ (left_empty _ _ h))))))
+-- names of which none stands again after others
+apart_is : (seen : List (List ℕ)) (names : List Name) → repeats_after seen names ≡ [] → distinct names ≡ texts_of names
+apart_is seen names h = distinct_is names (fewer_again [] seen (λ t none. let clash : false ≡ true = none in cc) names h)
 
-no_method_twice : (is_class : List ℕ → Bool) (c : ClassTree) → class_faults is_class c ≡ [] → distinct (method_names c.members) ≡ texts_of (method_names c.members)
-no_method_twice is_class c h =
-    distinct_is (method_names c.members) (right_empty _ _ (left_empty _ _ (left_empty _ _ (left_empty _ _ (left_empty _ _ (left_empty _ _ h))))))
+-- ---- what stands above each class
 
-classes_are : (is_class : List ℕ → Bool) (f m : ℕ) (tree : ProgramTree) → flat_map (class_faults is_class) tree ≡ [] → classes_from distinct f m tree ≡ classes_from texts_of f m tree
-classes_are is_class f m [] h = refl
-classes_are is_class f m (c ∷ cs) h =
-    let of_class : class_faults is_class c ≡ [] = left_empty (class_faults is_class c) (flat_map (class_faults is_class) cs) h in
-    let of_rest = right_empty (class_faults is_class c) (flat_map (class_faults is_class) cs) h in
+above_in_list : (tree : ProgramTree) (o : Option ClassTree) → unwrap_or (option_map (above_named (texts_of (class_names tree))) o) None ≡ above_in tree o
+above_in_list tree None = refl
+above_in_list tree (Some c) = refl
+
+above_is : (tree : ProgramTree) → above_at (map (above_named (texts_of (class_names tree))) tree) ≡ above tree
+above_is tree =
+    let names = texts_of (class_names tree) in
+    fun_ext (λ k. ap (λ o. unwrap_or o None) (slice_get-map (above_named names) tree k) ∙ above_in_list tree (slice_get tree k))
+
+-- ---- rows of classes
+
+-- the rows, where this stands above each class and the texts of names are these
+abbrev rows_from : ProgramTree → (ℕ → Option ℕ) → (List Name → List (List ℕ)) → ℕ → ℕ → ℕ → ProgramTree → List ClassData
+rows_from tree up texts k f m [] = []
+rows_from tree up texts k f m (c ∷ cs) =
+    record {
+      above = up k;
+      runnable = list_any (says_runnable tree) (k ∷ ancestors up (length tree) (up k));
+      first_field = f;
+      field_names = texts (field_names c.members);
+      first_method = m;
+      method_names = texts (method_names c.members);
+    }
+    ∷ rows_from tree up texts (k + 1) (f + length (field_names c.members)) (m + length (method_names c.members)) cs
+
+rows_are : (tree : ProgramTree) (k f m : ℕ) (cs : ProgramTree) → ((i n : ℕ) (c : ClassTree) → slice_get cs i ≡ Some c → n ≡ k + i → IsSound tree n c)
+    → rows_from tree (above tree) distinct k f m cs ≡ classes_from tree texts_of k f m cs
+rows_are tree k f m [] h = refl
+rows_are tree k f m (c ∷ cs) h =
+    let sound = h zero k c refl (omega arith) in
+    let of_fields = apart_is (texts_of (field_names (inherited tree k))) (field_names c.members) sound.fields in
+    let of_methods = distinct_is (method_names c.members) sound.methods in
+    let f_next = f + length (field_names c.members) in
+    let m_next = m + length (method_names c.members) in
+    let more = rows_from tree (above tree) distinct (k + 1) f_next m_next cs in
     let made : List (List ℕ) → List (List ℕ) → List ClassData → List ClassData =
-    λ fs ms rest. record { runnable = c.runnable; first_field = f; field_names = fs; first_method = m; method_names = ms } ∷ rest in
-    ap (λ z. made z (distinct (method_names c.members)) (classes_from distinct (f + length (field_names c.members)) (m + length (method_names c.members)) cs)) (no_field_twice is_class c of_class)
-    ∙ ap (λ z. made (texts_of (field_names c.members)) z (classes_from distinct (f + length (field_names c.members)) (m + length (method_names c.members)) cs)) (no_method_twice is_class c of_class)
-    ∙ ap (λ z. made (texts_of (field_names c.members)) (texts_of (method_names c.members)) z) (classes_are is_class (f + length (field_names c.members)) (m + length (method_names c.members)) cs of_rest)
+    λ fs ms rest. record { above = above tree k; runnable = counts tree k; first_field = f; field_names = fs; first_method = m; method_names = ms } ∷ rest in
+    ap (λ z. made z (distinct (method_names c.members)) more) of_fields
+    ∙ ap (λ z. made (texts_of (field_names c.members)) z more) of_methods
+    ∙ ap (λ z. made (texts_of (field_names c.members)) (texts_of (method_names c.members)) z)
+    (rows_are tree (k + 1) f_next m_next cs (λ i n d at e. h (suc i) n d at (omega (arith, e))))
 
 -- ---- what the parts are
 
@@ -77,50 +114,68 @@ count_methods names k (FieldM f ∷ ms) = count_methods names k ms
 count_methods names k (CtorM n params sets ∷ ms) = count_methods names k ms
 count_methods names k (MethodM m ∷ ms) = ap suc (count_methods names k ms)
 
-fields_are : (names : List (List ℕ)) (p : PartsData) (tree : ProgramTree) → (with_classes names p tree).fields ≡ p.fields ++ all_fields names (length p.classes) tree
-fields_are names p [] = sym (append-nil p.fields)
-fields_are names p (c ∷ cs) =
-    fields_are names (with_class names c p) cs
-    ∙ append_assoc p.fields (fields_of names (length p.classes) c.members) (all_fields names (length (with_class names c p).classes) cs)
-    ∙ ap (λ n. p.fields ++ (fields_of names (length p.classes) c.members ++ all_fields names n cs)) (length-append p.classes (class_at (length p.fields) (length p.methods) c ∷ []))
+module _ (tree : ProgramTree) (aboves : List (Option ℕ)) (names : List (List ℕ)) where
+  abbrev with_one : ClassTree → PartsData → PartsData
+  with_one c p = with_class tree aboves names c p
 
-methods_are : (names : List (List ℕ)) (p : PartsData) (tree : ProgramTree) → (with_classes names p tree).methods ≡ p.methods ++ all_methods names (length p.classes) tree
-methods_are names p [] = sym (append-nil p.methods)
-methods_are names p (c ∷ cs) =
-    methods_are names (with_class names c p) cs
-    ∙ append_assoc p.methods (methods_of names (length p.classes) c.members) (all_methods names (length (with_class names c p).classes) cs)
-    ∙ ap (λ n. p.methods ++ (methods_of names (length p.classes) c.members ++ all_methods names n cs)) (length-append p.classes (class_at (length p.fields) (length p.methods) c ∷ []))
+  abbrev with_more : PartsData → ProgramTree → PartsData
+  with_more p cs = with_classes tree aboves names p cs
 
-entries_are : (names : List (List ℕ)) (p : PartsData) (tree : ProgramTree) → (with_classes names p tree).classes ≡ p.classes ++ classes_from distinct (length p.fields) (length p.methods) tree
-entries_are names p [] = sym (append-nil p.classes)
-entries_are names p (c ∷ cs) =
-    let here = class_at (length p.fields) (length p.methods) c in
-    let fields_count : length (with_class names c p).fields ≡ length p.fields + length (field_names c.members)
-    = length-append p.fields (fields_of names (length p.classes) c.members) ∙ ap (λ n. length p.fields + n) (count_fields names (length p.classes) c.members) in
-    let methods_count : length (with_class names c p).methods ≡ length p.methods + length (method_names c.members)
-    = length-append p.methods (methods_of names (length p.classes) c.members) ∙ ap (λ n. length p.methods + n) (count_methods names (length p.classes) c.members) in
-    entries_are names (with_class names c p) cs
-    ∙ append_assoc p.classes (here ∷ []) (classes_from distinct (length (with_class names c p).fields) (length (with_class names c p).methods) cs)
-    ∙ ap (λ n. p.classes ++ here ∷ classes_from distinct n (length (with_class names c p).methods) cs) fields_count
-    ∙ ap (λ n. p.classes ++ here ∷ classes_from distinct (length p.fields + length (field_names c.members)) n cs) methods_count
+  abbrev entry : ClassTree → PartsData → ClassData
+  entry c p = class_at tree aboves (length p.classes) (length p.fields) (length p.methods) c
+
+  fields_are : (p : PartsData) (cs : ProgramTree) → (with_more p cs).fields ≡ p.fields ++ all_fields names (length p.classes) cs
+  fields_are p [] = sym (append-nil p.fields)
+  fields_are p (c ∷ cs) =
+      fields_are (with_one c p) cs
+      ∙ append_assoc p.fields (fields_of names (length p.classes) c.members) (all_fields names (length (with_one c p).classes) cs)
+      ∙ ap (λ n. p.fields ++ (fields_of names (length p.classes) c.members ++ all_fields names n cs)) (length-append p.classes (entry c p ∷ []))
+
+  methods_are : (p : PartsData) (cs : ProgramTree) → (with_more p cs).methods ≡ p.methods ++ all_methods names (length p.classes) cs
+  methods_are p [] = sym (append-nil p.methods)
+  methods_are p (c ∷ cs) =
+      methods_are (with_one c p) cs
+      ∙ append_assoc p.methods (methods_of names (length p.classes) c.members) (all_methods names (length (with_one c p).classes) cs)
+      ∙ ap (λ n. p.methods ++ (methods_of names (length p.classes) c.members ++ all_methods names n cs)) (length-append p.classes (entry c p ∷ []))
+
+  entries_are : (p : PartsData) (cs : ProgramTree)
+      → (with_more p cs).classes ≡ p.classes ++ rows_from tree (above_at aboves) distinct (length p.classes) (length p.fields) (length p.methods) cs
+  entries_are p [] = sym (append-nil p.classes)
+  entries_are p (c ∷ cs) =
+      let q = with_one c p in
+      let rows : ℕ → ℕ → ℕ → List ClassData = λ k f m. rows_from tree (above_at aboves) distinct k f m cs in
+      let fields_count : length q.fields ≡ length p.fields + length (field_names c.members)
+      = length-append p.fields (fields_of names (length p.classes) c.members) ∙ ap (λ n. length p.fields + n) (count_fields names (length p.classes) c.members) in
+      let methods_count : length q.methods ≡ length p.methods + length (method_names c.members)
+      = length-append p.methods (methods_of names (length p.classes) c.members) ∙ ap (λ n. length p.methods + n) (count_methods names (length p.classes) c.members) in
+      entries_are q cs
+      ∙ append_assoc p.classes (entry c p ∷ []) (rows (length q.classes) (length q.fields) (length q.methods))
+      ∙ ap (λ k. p.classes ++ entry c p ∷ rows k (length q.fields) (length q.methods)) (length-append p.classes (entry c p ∷ []))
+      ∙ ap (λ n. p.classes ++ entry c p ∷ rows (length p.classes + 1) n (length q.methods)) fields_count
+      ∙ ap (λ n. p.classes ++ entry c p ∷ rows (length p.classes + 1) (length p.fields + length (field_names c.members)) n) methods_count
 
 abbrev pub made : List (List ℕ) → List ClassData → List FieldData → List MethodData → TableData
 made names classes fields methods = record { names = names; classes = classes; fields = fields; methods = methods }
 
-pub table_is : (tree : ProgramTree) (names : List (List ℕ)) (p : PartsData) → faults_of tree ≡ [] → names ≡ distinct (class_names tree) → p ≡ with_classes names no_parts tree
+pub table_is : (tree : ProgramTree) (names : List (List ℕ)) (p : PartsData) → faults_of tree ≡ [] → names ≡ distinct (class_names tree) → p ≡ parts_from names tree
     → made names p.classes p.fields p.methods ≡ table_of tree
 table_is tree names p none names_are p_is =
-    let twice = twice_faults (class_names tree) in
-    let inner = flat_map (class_faults (has_text (texts_of (class_names tree)))) tree in
-    let named : names ≡ texts_of (class_names tree) = names_are ∙ distinct_is (class_names tree) (left_empty twice inner (left_empty (twice ++ inner) (missing_main tree) none)) in
-    let classes : p.classes ≡ classes_from texts_of 0 0 tree =
-    ap (λ q. q.classes) p_is ∙ entries_are names no_parts tree ∙ classes_are (has_text (texts_of (class_names tree))) 0 0 tree (right_empty twice inner (left_empty (twice ++ inner) (missing_main tree) none)) in
-    let fields : p.fields ≡ all_fields names 0 tree = ap (λ q. q.fields) p_is ∙ fields_are names no_parts tree in
-    let methods : p.methods ≡ all_methods names 0 tree = ap (λ q. q.methods) p_is ∙ methods_are names no_parts tree in
+    let texts = texts_of (class_names tree) in
+    let aboves = map (above_named texts) tree in
+    let whole = faultless tree none in
+    let named : names ≡ texts = names_are ∙ distinct_is (class_names tree) whole.names in
+    let parts : p ≡ with_classes tree aboves texts no_parts tree = p_is ∙ ap (λ z. parts_from z tree) named in
+    let sound : (i n : ℕ) (c : ClassTree) → slice_get tree i ≡ Some c → n ≡ 0 + i → IsSound tree n c
+    = λ i n c at e. whole.classes n c (ap (slice_get tree) (let same : n ≡ i = omega (arith, e) in same) ∙ at) in
+    let classes : p.classes ≡ classes_from tree texts_of 0 0 0 tree =
+    ap (λ q. q.classes) parts ∙ entries_are tree aboves texts no_parts tree ∙ ap (λ up. rows_from tree up distinct 0 0 0 tree) (above_is tree)
+    ∙ rows_are tree 0 0 0 tree sound in
+    let fields : p.fields ≡ all_fields texts 0 tree = ap (λ q. q.fields) parts ∙ fields_are tree aboves texts no_parts tree in
+    let methods : p.methods ≡ all_methods texts 0 tree = ap (λ q. q.methods) parts ∙ methods_are tree aboves texts no_parts tree in
     ap (λ z. made names z p.fields p.methods) classes
-    ∙ ap (λ z. made names (classes_from texts_of 0 0 tree) z p.methods) fields
-    ∙ ap (λ z. made names (classes_from texts_of 0 0 tree) (all_fields names 0 tree) z) methods
-    ∙ ap (λ z. made z (classes_from texts_of 0 0 tree) (all_fields z 0 tree) (all_methods z 0 tree)) named
+    ∙ ap (λ z. made names (classes_from tree texts_of 0 0 0 tree) z p.methods) fields
+    ∙ ap (λ z. made names (classes_from tree texts_of 0 0 0 tree) (all_fields texts 0 tree) z) methods
+    ∙ ap (λ z. made z (classes_from tree texts_of 0 0 0 tree) (all_fields texts 0 tree) (all_methods texts 0 tree)) named
 
 -- ---- each method has a class
 

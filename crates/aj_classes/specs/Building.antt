@@ -1,9 +1,11 @@
 -- The parts of a table while classes are added to it.
-use Rattle.std.specs.Prelude.{ℕ, List, [], ◌∷◌, ◌++◌, map, length}
+use Rattle.std.specs.Prelude.{ℕ, Bool, List, [], ◌∷◌, ◌++◌, Option, None, map, length, position, bytes_eq, unwrap_or, option_and_then, slice_get}
+use Rattle.std.specs.List.{list_any}
 use Rattle.aj_syntax.specs.Trees.{ClassTree, ProgramTree}
 use Rattle.aj_classes.specs.declared.build.Parts.{Parts}
 use Rattle.aj_class_rules.specs.Names.{distinct}
 use Rattle.aj_class_rules.specs.Members.{field_names, method_names}
+use Rattle.aj_class_rules.specs.Lines.{ancestors, says_runnable}
 use Rattle.aj_classes.specs.Seen.{FieldData}
 use Rattle.aj_classes.specs.Table.{ClassData, MethodData, fields_of, methods_of}
 use Rattle.aj_classes.specs.Views.{class_data, method_data}
@@ -20,28 +22,49 @@ parts_data p = record {
   methods = map method_data p.methods.items;
 }
 
--- a class, where so many fields and methods stand before
-abbrev pub class_at : ℕ → ℕ → ClassTree → ClassData
-class_at f m c = record {
-  runnable = c.runnable;
+-- the class that a class extends, where the classes have these names
+abbrev pub above_named : List (List ℕ) → ClassTree → Option ℕ
+above_named names c = option_and_then (λ n. position (bytes_eq n.text) names) c.above
+
+-- the class above one, where this is what stands above each
+abbrev pub above_at : List (Option ℕ) → ℕ → Option ℕ
+above_at aboves k = unwrap_or (slice_get aboves k) None
+
+-- whether a class of the tree or an ancestor of it says `implements Runnable`, where this is what stands above each
+abbrev pub counts_among : ProgramTree → List (Option ℕ) → ℕ → Bool
+counts_among tree aboves k = list_any (says_runnable tree) (k ∷ ancestors (above_at aboves) (length tree) (above_at aboves k))
+
+-- a class that extends this one and counts or not, where f fields and m methods stand before
+abbrev pub class_entry_of : Option ℕ → Bool → ℕ → ℕ → ClassTree → ClassData
+class_entry_of above runnable f m c = record {
+  above = above;
+  runnable = runnable;
   first_field = f;
   field_names = distinct (field_names c.members);
   first_method = m;
   method_names = distinct (method_names c.members);
 }
 
--- the parts with one class more
-abbrev pub with_class : List (List ℕ) → ClassTree → PartsData → PartsData
-with_class names c p = record {
-  classes = p.classes ++ class_at (length p.fields) (length p.methods) c ∷ [];
+-- a class of the tree with the number k, where f fields and m methods stand before, and this is what stands above each
+abbrev pub class_at : ProgramTree → List (Option ℕ) → ℕ → ℕ → ℕ → ClassTree → ClassData
+class_at tree aboves k f m c = class_entry_of (above_at aboves k) (counts_among tree aboves k) f m c
+
+-- the parts with one class of the tree more, where the classes have these names
+abbrev pub with_class : ProgramTree → List (Option ℕ) → List (List ℕ) → ClassTree → PartsData → PartsData
+with_class tree aboves names c p = record {
+  classes = p.classes ++ class_at tree aboves (length p.classes) (length p.fields) (length p.methods) c ∷ [];
   fields = p.fields ++ fields_of names (length p.classes) c.members;
   methods = p.methods ++ methods_of names (length p.classes) c.members;
 }
 
--- the parts with these classes
-abbrev pub with_classes : List (List ℕ) → PartsData → ProgramTree → PartsData
-with_classes names p [] = p
-with_classes names p (c ∷ cs) = with_classes names (with_class names c p) cs
+-- the parts with these classes of the tree
+abbrev pub with_classes : ProgramTree → List (Option ℕ) → List (List ℕ) → PartsData → ProgramTree → PartsData
+with_classes tree aboves names p [] = p
+with_classes tree aboves names p (c ∷ cs) = with_classes tree aboves names (with_class tree aboves names c p) cs
 
 abbrev pub no_parts : PartsData
 no_parts = record { classes = []; fields = []; methods = [] }
+
+-- the parts of a tree whose classes have these names
+abbrev pub parts_from : List (List ℕ) → ProgramTree → PartsData
+parts_from names tree = with_classes tree (map (above_named names) tree) names no_parts tree

@@ -1,5 +1,7 @@
 -- The class table of a tree: its classes, fields and methods, numbered from 0 in source order over the whole program.
-use Rattle.std.specs.Prelude.{ℕ, ◌+◌, ◌-◌, ◌==◌, if◌then◌else◌, Bool, List, [], ◌∷◌, ◌++◌, Option, Some, map, length, position, bytes_eq, unwrap_or, option_map, option_and_then, slice_get, codes}
+use Rattle.std.specs.Prelude.{ℕ, ◌+◌, ◌-◌, ◌==◌, if◌then◌else◌, Bool, List, [], ◌∷◌, ◌++◌, Option, Some, None, map, length, position, bytes_eq, unwrap_or, option_map, option_and_then, slice_get, codes}
+use Rattle.std.specs.Option.{option_or}
+use Rattle.aj_ancestors.specs.Ancestors.{reaches}
 use Rattle.aj_core.specs.declared.types.CoreType.{CoreType}
 use Rattle.aj_core.specs.declared.types.CoreType.TheVariants as T
 use Rattle.aj_syntax.specs.declared.tree.Name.{Name}
@@ -9,10 +11,13 @@ use Rattle.aj_syntax.specs.declared.tree.TypeName.TheVariants as Y
 use Rattle.aj_syntax.specs.Trees.{MemberTree, FieldM, CtorM, MethodM, ProgramTree}
 use Rattle.aj_class_rules.specs.Names.{texts_of}
 use Rattle.aj_class_rules.specs.Members.{class_names, field_names, method_names}
+use Rattle.aj_class_rules.specs.Lines.{ancestors, above, counts}
 pub use Rattle.aj_classes.specs.Seen.{FieldData, ParamData}
 
--- a class: the number of its first field and of its first method, and the names of both in order
+-- a class: the class that it extends, whether it counts as `implements Runnable`, and of its own fields and methods the number of the first
+-- and the names in order
 pub record ClassData : Type 0 where
+  pub above : Option ℕ
   pub runnable : Bool
   pub first_field : ℕ
   pub field_names : List (List ℕ)
@@ -71,18 +76,19 @@ abbrev pub all_methods : List (List ℕ) → ℕ → ProgramTree → List Method
 all_methods classes k [] = []
 all_methods classes k (c ∷ cs) = methods_of classes k c.members ++ all_methods classes (k + 1) cs
 
--- the classes, where f fields and m methods stand before; texts gives the texts of names
-abbrev pub classes_from : (List Name → List (List ℕ)) → ℕ → ℕ → ProgramTree → List ClassData
-classes_from texts f m [] = []
-classes_from texts f m (c ∷ cs) =
+-- these classes of the tree, the first of which has the number k, where f fields and m methods stand before; texts gives the texts of names
+abbrev pub classes_from : ProgramTree → (List Name → List (List ℕ)) → ℕ → ℕ → ℕ → ProgramTree → List ClassData
+classes_from tree texts k f m [] = []
+classes_from tree texts k f m (c ∷ cs) =
     record {
-      runnable = c.runnable;
+      above = above tree k;
+      runnable = counts tree k;
       first_field = f;
       field_names = texts (field_names c.members);
       first_method = m;
       method_names = texts (method_names c.members);
     }
-    ∷ classes_from texts (f + length (field_names c.members)) (m + length (method_names c.members)) cs
+    ∷ classes_from tree texts (k + 1) (f + length (field_names c.members)) (m + length (method_names c.members)) cs
 
 -- the table of a tree without faults
 abbrev pub table_of : ProgramTree → TableData
@@ -90,7 +96,7 @@ table_of tree =
     let names = texts_of (class_names tree) in
     record {
       names = names;
-      classes = classes_from texts_of 0 0 tree;
+      classes = classes_from tree texts_of 0 0 0 tree;
       fields = all_fields names 0 tree;
       methods = all_methods names 0 tree;
     }
@@ -101,21 +107,46 @@ table_of tree =
 abbrev pub class_number : TableData → List ℕ → Option ℕ
 class_number t name = position (bytes_eq name) t.names
 
--- the number of the class's field with this name
+-- the class that the class with number k extends
+abbrev pub above_in_table : TableData → ℕ → Option ℕ
+above_in_table t k = option_and_then (λ c. c.above) (slice_get t.classes k)
+
+-- a class and its ancestors, the nearest first
+abbrev pub line_of : TableData → ℕ → List ℕ
+line_of t k = k ∷ ancestors (above_in_table t) (length t.classes) (above_in_table t k)
+
+-- whether the second class is the first or an ancestor of it
+abbrev pub kind_in : TableData → ℕ → ℕ → Bool
+kind_in t c d = reaches (above_in_table t) (length t.classes) (Some c) d
+
+-- what is found first along a list
+abbrev pub first_found : {A : Type 0} → (ℕ → Option A) → List ℕ → Option A
+first_found found [] = None
+first_found found (k ∷ ks) = option_or (found k) (first_found found ks)
+
+-- the number of the class's own field with this name
 abbrev pub field_in : List ℕ → ClassData → Option ℕ
 field_in name c = option_map (λ i. c.first_field + i) (position (bytes_eq name) c.field_names)
 
--- the number of the field with this name in the class with number k
-abbrev pub field_number : TableData → ℕ → List ℕ → Option ℕ
-field_number t k name = option_and_then (field_in name) (slice_get t.classes k)
+-- the number of the own field with this name of the class with number k
+abbrev pub own_field : TableData → List ℕ → ℕ → Option ℕ
+own_field t name k = option_and_then (field_in name) (slice_get t.classes k)
 
--- the number of the class's method with this name
+-- the number of the field with this name in the class with number k: its own, else that of its nearest ancestor that has one
+abbrev pub field_number : TableData → ℕ → List ℕ → Option ℕ
+field_number t k name = first_found (own_field t name) (line_of t k)
+
+-- the number of the class's own method with this name
 abbrev pub method_in : List ℕ → ClassData → Option ℕ
 method_in name c = option_map (λ i. c.first_method + i) (position (bytes_eq name) c.method_names)
 
--- the number of the method with this name in the class with number k
+-- the number of the own method with this name of the class with number k
+abbrev pub own_method : TableData → List ℕ → ℕ → Option ℕ
+own_method t name k = option_and_then (method_in name) (slice_get t.classes k)
+
+-- the number of the method with this name in the class with number k: its own, else that of its nearest ancestor that has one
 abbrev pub method_number : TableData → ℕ → List ℕ → Option ℕ
-method_number t k name = option_and_then (method_in name) (slice_get t.classes k)
+method_number t k name = first_found (own_method t name) (line_of t k)
 
 -- the names of a method's class and of the method
 abbrev pub method_title : TableData → ℕ → Option (List ℕ × List ℕ)

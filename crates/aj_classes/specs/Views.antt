@@ -7,6 +7,7 @@ use Rattle.aj_classes.specs.Table.{ClassData, MethodData, TableData}
 
 abbrev pub class_data : ClassEntry → ClassData
 class_data c = record {
+  above = c.above;
   runnable = c.runnable;
   first_field = c.first_field;
   field_names = c.field_names;

@@ -1,29 +1,21 @@
 //! Builds the table of a program without faults.
 
-ghost use Rattle.std.specs.Prelude.{◌≡◌, ◌+◌, ◌^◌, ◌<◌, ◌++◌, [], map, option_map, IfOk, OnOk};
+ghost use Rattle.std.specs.Prelude.{◌≡◌, ◌+◌, ◌^◌, ◌<◌, ◌++◌, map, option_map, IfOk, OnOk};
 ghost use Rattle.aj_syntax.specs.Views.{member_of, class_of};
 ghost use Rattle.aj_class_rules.specs.Names.{distinct};
 ghost use Rattle.aj_class_rules.specs.Members.{field_names, method_names};
 ghost use Rattle.aj_classes.specs.Table.{type_of, param_of, fields_of, methods_of};
 ghost use Rattle.aj_classes.specs.Views.{class_data, method_data};
-ghost use Rattle.aj_classes.specs.Building.{parts_data, class_at, with_class, with_classes, no_parts};
+ghost use Rattle.aj_classes.specs.Building.{parts_data, class_entry_of, with_class, parts_from};
 
+use crate::above::{above_at, classes_above, counts_runnable};
 use crate::entries::{ClassEntry, FieldEntry, MethodEntry, ParamEntry};
+use crate::numbers::number;
 use aj_class_rules::NameSet;
 use aj_core::CoreType;
 use aj_paths::ClassId;
 use aj_syntax::{Class, Member, Name, Param, TypeName};
 use std::alloc::{AllocError as NoMemory, Global};
-
-/// A number for an id. There is no memory for a program with more parts than ids.
-pub(crate) fn number(count: usize) -> Result<u32, NoMemory>
-    ensures { IfOk result (λ n. n ≡ count) }
-{
-    match u32::try_from(count) {
-        Ok(number) => Ok(number),
-        Err(_) => Err(NoMemory),
-    }
-}
 
 /// Whether so many numbers from a first one are ids.
 fn check_room(first: u32, count: usize) -> Result<(), NoMemory>
@@ -200,10 +192,12 @@ fn method_set<'a>(alloc: Global, members: &[Member<'a>]) -> Result<NameSet<'a>, 
 fn class_entry<'a>(
     alloc: Global,
     class: &Class<'a>,
+    above: Option<ClassId>,
+    runnable: bool,
     first_field: u32,
     first_method: u32,
 ) -> Result<ClassEntry<'a>, NoMemory>
-    ensures { IfOk result (λ c. class_data c ≡ class_at first_field first_method (class_of class.now)) }
+    ensures { IfOk result (λ c. class_data c ≡ class_entry_of above runnable first_field first_method (class_of class.now)) }
 {
     let members = class.members.as_slice();
     check_room(first_field, members.len())?;
@@ -211,7 +205,8 @@ fn class_entry<'a>(
     let field_names = field_set(alloc, members)?;
     let method_names = method_set(alloc, members)?;
     Ok(ClassEntry {
-        runnable: class.runnable,
+        above,
+        runnable,
         first_field,
         field_names,
         first_method,
@@ -228,16 +223,26 @@ pub(crate) struct Parts<'a> {
 }
 
 impl<'a> Parts<'a> {
-    fn add(&mut self, alloc: Global, names: &NameSet, class: &Class<'a>) -> Result<(), NoMemory>
-        ensures { OnOk result (parts_data self.new ≡ with_class names.now (class_of class.now) (parts_data self.old)) }
+    /// Adds the next one of the classes.
+    fn add(
+        &mut self,
+        alloc: Global,
+        names: &NameSet,
+        classes: &[Class],
+        aboves: &[Option<ClassId>],
+        class: &Class<'a>,
+    ) -> Result<(), NoMemory>
+        ensures { OnOk result (parts_data self.new ≡ with_class (map class_of classes.now) aboves.now names.now (class_of class.now) (parts_data self.old)) }
     {
         let id = ClassId(number(self.classes.len())?);
+        let above = above_at(aboves, id);
+        let runnable = counts_runnable(classes, aboves, id);
         let first_field = number(self.fields.len())?;
         let first_method = number(self.methods.len())?;
         let members = class.members.as_slice();
         add_fields(names, id, members, &mut self.fields)?;
         add_methods(alloc, names, id, members, &mut self.methods)?;
-        let entry = class_entry(alloc, class, first_field, first_method)?;
+        let entry = class_entry(alloc, class, above, runnable, first_field, first_method)?;
         self.classes.push(entry)?;
         Ok(())
     }
@@ -249,15 +254,16 @@ pub(crate) fn parts_of<'a>(
     names: &NameSet,
     classes: &[Class<'a>],
 ) -> Result<Parts<'a>, NoMemory>
-    ensures { IfOk result (λ p. parts_data p ≡ with_classes names.now no_parts (map class_of classes.now)) }
+    ensures { IfOk result (λ p. parts_data p ≡ parts_from names.now (map class_of classes.now)) }
 {
+    let aboves = classes_above(alloc, names, classes)?;
     let mut parts = Parts {
         classes: Vec::new(alloc),
         fields: Vec::new(alloc),
         methods: Vec::new(alloc),
     };
     for class in classes {
-        parts.add(alloc, names, class)?;
+        parts.add(alloc, names, classes, aboves.as_slice(), class)?;
     }
     Ok(parts)
 }

@@ -8,10 +8,12 @@ use aj_core::CoreType;
 use aj_paths::ClassId;
 use std::marker::Model;
 
-/// A class of a program, with the names of its fields and methods.
+/// A class of a program, with the names of its own fields and methods.
 #[derive(Drop)]
 pub struct ClassEntry<'a> {
-    /// Whether the class says `implements Runnable`.
+    /// The class that it extends.
+    pub above: Option<ClassId>,
+    /// Whether the class or an ancestor of it says `implements Runnable`.
     pub runnable: bool,
     pub(crate) first_field: u32,
     pub(crate) field_names: NameSet<'a>,

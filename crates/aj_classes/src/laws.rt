@@ -1,14 +1,16 @@
-//! Where the names that a class table lends stand in the source.
+//! Where the names that a class table lends stand in the source, what stands above its classes, and its look-ups where nothing does.
 
-ghost use Rattle.std.specs.Prelude.{◌≡◌, ◌-◌, ◌<◌, ℕ, List, Some, slice_get, codes};
+ghost use Rattle.std.specs.Prelude.{◌≡◌, ◌-◌, ◌<◌, ◌==◌, ℕ, List, Some, None, length, slice_get, codes};
+ghost use Rattle.aj_ancestors.specs.Ancestors.{AreBelow};
 ghost use Rattle.aj_lexer.specs.declared.tokens.Token.{Token};
 ghost use Rattle.aj_lexer.specs.Tokens.{Tokens};
 ghost use Rattle.aj_syntax.specs.declared.tree.Param.{Param};
 ghost use Rattle.aj_syntax.specs.Grammar.{Grammar};
 ghost use Rattle.aj_syntax.specs.Trees.{ProgramTree};
 ghost use Rattle.aj_classes.specs.Declarations.{IsDeclared, declared_fields, declared_methods, declared_params};
+ghost use Rattle.aj_class_rules.specs.Lines.{above, counts};
 ghost use Rattle.aj_class_rules.specs.Members.{class_names, param_names};
-ghost use Rattle.aj_classes.specs.Table.{FieldData, MethodData, TableData, slot_title, table_of};
+ghost use Rattle.aj_classes.specs.Table.{ClassData, FieldData, MethodData, TableData, above_in_table, field_number, kind_in, method_number, own_field, own_method, slot_title, table_of};
 
 use aj_syntax::name_laws;
 
@@ -28,3 +30,18 @@ pub fn declaration_laws()
 {
     name_laws();
 }
+
+/// The table of a tree says of each class what it extends, which is a class of the table, and whether it counts as
+/// `implements Runnable`.
+pub fn above_laws()
+    ensures above { (tree : ProgramTree) (k : ℕ) → above_in_table (table_of tree) k ≡ above tree k }
+    ensures below { (tree : ProgramTree) → AreBelow (above_in_table (table_of tree)) (length (table_of tree).classes) }
+    ensures counts { (tree : ProgramTree) (k : ℕ) (c : ClassData) → slice_get (table_of tree).classes k ≡ Some c → c.runnable ≡ counts tree k }
+{}
+
+/// A class that extends none has its own fields and methods alone, and is of its own kind alone.
+pub fn plain_laws()
+    ensures fields { (t : TableData) (k : ℕ) (name : List ℕ) → above_in_table t k ≡ None → field_number t k name ≡ own_field t name k }
+    ensures methods { (t : TableData) (k : ℕ) (name : List ℕ) → above_in_table t k ≡ None → method_number t k name ≡ own_method t name k }
+    ensures kinds { (t : TableData) (c d : ℕ) → above_in_table t c ≡ None → kind_in t c d ≡ (c == d) }
+{}

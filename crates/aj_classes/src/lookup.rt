@@ -1,51 +1,51 @@
 //! What a class table tells.
 
 ghost use Rattle.std.specs.Prelude.{◌≡◌, ◌<◌, length, map, slice_get, option_map, is_some, nat_lt};
-ghost use Rattle.aj_classes.specs.Table.{class_number, field_number, method_number, method_title, slot_title, field_in, method_in, slot_of};
+ghost use Rattle.aj_classes.specs.Table.{class_number, above_in_table, kind_in, own_field, field_number, own_method, method_number, method_title, slot_title, field_in, method_in, slot_of};
 ghost use Rattle.aj_classes.specs.Views.{class_data, method_data, table_data};
 
 use crate::entries::{ClassEntry, ClassTable, FieldEntry, MethodEntry};
 use aj_paths::{ClassId, FieldId, MethodId};
 
 impl<'a> ClassEntry<'a> {
-    /// The number of the field with this name.
-    pub(crate) fn field_named(&self, name: &str) -> Option<FieldId>
+    /// The number of the class's own field with this name.
+    pub fn field_named(&self, name: &str) -> Option<FieldId>
         ensures { result ≡ field_in name.now (class_data self.now) }
     {
         let index = self.field_names.number_of(name)?;
         Some(FieldId(self.first_field + index as u32))
     }
 
-    /// The number of the class's first field; the others follow in order.
+    /// The number of the class's first own field; its others follow in order.
     pub fn first_field(&self) -> FieldId
         ensures { result ≡ (class_data self.now).first_field }
     {
         FieldId(self.first_field)
     }
 
-    /// How many fields the class has.
+    /// How many fields the class has itself.
     pub fn field_count(&self) -> usize
         ensures { result ≡ length (class_data self.now).field_names }
     {
         self.field_names.len()
     }
 
-    /// The number of the class's first method; the others follow in order.
+    /// The number of the class's first own method; its others follow in order.
     pub fn first_method(&self) -> MethodId
         ensures { result ≡ (class_data self.now).first_method }
     {
         MethodId(self.first_method)
     }
 
-    /// How many methods the class has.
+    /// How many methods the class has itself.
     pub fn method_count(&self) -> usize
         ensures { result ≡ length (class_data self.now).method_names }
     {
         self.method_names.len()
     }
 
-    /// The number of the method with this name.
-    pub(crate) fn method_named(&self, name: &str) -> Option<MethodId>
+    /// The number of the class's own method with this name.
+    pub fn method_named(&self, name: &str) -> Option<MethodId>
         ensures { result ≡ method_in name.now (class_data self.now) }
     {
         let index = self.method_names.number_of(name)?;
@@ -75,18 +75,70 @@ impl<'a> ClassTable<'a> {
         Some(ClassId(index as u32))
     }
 
-    /// The field with this name in a class.
-    pub fn field_named(&self, class: ClassId, name: &str) -> Option<FieldId>
-        ensures { result ≡ field_number (table_data self.now) class name.now }
+    /// The class that a class extends.
+    pub fn above(&self, class: ClassId) -> Option<ClassId>
+        ensures { result ≡ above_in_table (table_data self.now) class }
+    {
+        self.classes.get(class.0 as usize)?.above
+    }
+
+    /// Whether the second class is the first or an ancestor of it. It looks at no class above the second.
+    pub fn is_kind_of(&self, class: ClassId, other: ClassId) -> bool
+        ensures { result ≡ kind_in (table_data self.now) class other }
+    {
+        let mut at = class;
+        for _ in 0..self.classes.len() {
+            if at == other {
+                return true;
+            }
+            let Some(above) = self.above(at) else {
+                return false;
+            };
+            at = above;
+        }
+        at == other
+    }
+
+    fn own_field(&self, class: ClassId, name: &str) -> Option<FieldId>
+        ensures { result ≡ own_field (table_data self.now) name.now class }
     {
         self.classes.get(class.0 as usize)?.field_named(name)
     }
 
-    /// The method with this name in a class.
+    /// The field with this name in a class: its own, else that of its nearest ancestor that has one.
+    pub fn field_named(&self, class: ClassId, name: &str) -> Option<FieldId>
+        ensures { result ≡ field_number (table_data self.now) class name.now }
+    {
+        let mut at = class;
+        for _ in 0..self.classes.len() + 1 {
+            let found = self.own_field(at, name);
+            if found.is_some() {
+                return found;
+            }
+            at = self.above(at)?;
+        }
+        None
+    }
+
+    fn own_method(&self, class: ClassId, name: &str) -> Option<MethodId>
+        ensures { result ≡ own_method (table_data self.now) name.now class }
+    {
+        self.classes.get(class.0 as usize)?.method_named(name)
+    }
+
+    /// The method with this name in a class: its own, else that of its nearest ancestor that has one.
     pub fn method_named(&self, class: ClassId, name: &str) -> Option<MethodId>
         ensures { result ≡ method_number (table_data self.now) class name.now }
     {
-        self.classes.get(class.0 as usize)?.method_named(name)
+        let mut at = class;
+        for _ in 0..self.classes.len() + 1 {
+            let found = self.own_method(at, name);
+            if found.is_some() {
+                return found;
+            }
+            at = self.above(at)?;
+        }
+        None
     }
 
     /// The classes, by their numbers.

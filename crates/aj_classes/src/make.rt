@@ -11,8 +11,9 @@ ghost use Rattle.aj_classes.specs.Table.{table_of};
 ghost use Rattle.aj_classes.specs.Views.{table_data};
 ghost use Rattle.std.specs.Prelude.{IfOk};
 
-use crate::build::{Parts, number, parts_of};
+use crate::build::{Parts, parts_of};
 use crate::entries::ClassTable;
+use crate::numbers::number;
 use aj_class_rules::{ClassFault, NameSet, first_fault};
 use aj_syntax::Program;
 use std::alloc::{AllocError as NoMemory, Global};

@@ -12,7 +12,7 @@ use aj_paths::{FieldId, Path};
 use aj_rules::{Guard, guard_at};
 
 /// Reading a variable.
-pub(crate) fn variable(is_final: bool) -> Basic
+pub fn variable(is_final: bool) -> Basic
     ensures { result ≡ variable_effect is_final }
 {
     if is_final { Basic::Const } else { Basic::Mover }
@@ -26,7 +26,7 @@ fn held_or(held: &[Path], path: &Path, there: Basic, other: Basic) -> Basic
 }
 
 /// Reading or writing a field of this receiver.
-pub(crate) fn access(
+pub fn access(
     program: &CoreProgram,
     receiver: &CoreExpr,
     field: FieldId,

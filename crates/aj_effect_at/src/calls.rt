@@ -26,7 +26,7 @@ fn required_paths(program: &CoreProgram, method: MethodId) -> &[Path]
 }
 
 /// What is assigned to a callee at the set with which a call begins it, an error where that lacks a required path.
-pub(crate) fn call_effect<A: Assigned>(
+pub fn call_effect<A: Assigned>(
     alloc: Global,
     program: &CoreProgram,
     sets: &RelevantSets,

@@ -7,5 +7,7 @@ mod assigned;
 mod calls;
 mod walk;
 
+pub use accesses::{access, variable};
 pub use assigned::Assigned;
+pub use calls::call_effect;
 pub use walk::{expr_effect, stmt_effect};

@@ -8,6 +8,7 @@ use Rattle.aj_syntax.specs.Trees.{MemberTree, FieldM, CtorM, MethodM}
 use Rattle.aj_syntax.specs.Views.{member_of, class_of}
 use Rattle.aj_classes.specs.Table.{TableData}
 use Rattle.aj_type_rules.specs.declared.fault.TypeFault.{TypeFault}
+use Rattle.aj_elaborate.specs.Classes.{inherited_count}
 use Rattle.aj_elaborate.specs.Gathered.{appended, with_field, with_method, index_after}
 use Rattle.aj_type_rules.specs.Noted.{noted}
 use Rattle.aj_elaborate.specs.Programs.{all_there, guard_path, field_node, method_core, fields_core, methods_core, member_faults, faults_from, all_fields, all_methods}
@@ -66,16 +67,18 @@ module _ (t : TableData) where
       ∙ ap (λ z. noted found (flat_map (member_faults t k) (map member_of z))) (sym (next_drop ms place m within at))
       ∙ so
 
-  pub class_fields_step : (cs : List Class) (place k after : ℕ) (c : Class) (fields next whole : Option (List Field))
+  pub class_fields_step : (cs : List Class) (place k after inherited : ℕ) (c : Class) (fields next whole : Option (List Field))
       → place < length cs → c ≡ get_or cs place c
       → appended fields (all_there (all_fields t k (map class_of (drop place cs)))) ≡ whole
-      → next ≡ appended fields (all_there (fields_core t k 0 (map member_of c.members.items)))
+      → next ≡ appended fields (all_there (fields_core t k inherited (map member_of c.members.items)))
+      → inherited ≡ inherited_count t k
       → after ≡ k + 1
       → appended next (all_there (all_fields t after (map class_of (drop (place + 1) cs)))) ≡ whole
-  class_fields_step cs place k after c fields next whole within at so is counted =
+  class_fields_step cs place k after inherited c fields next whole within at so is from_above counted =
       let others = map class_of (drop (place + 1) cs) in
-      let own = fields_core t k 0 (map member_of c.members.items) in
+      let own = fields_core t k (inherited_count t k) (map member_of c.members.items) in
       ap (λ n. appended n (all_there (all_fields t after others))) is
+      ∙ ap (λ z. appended (appended fields (all_there (fields_core t k z (map member_of c.members.items)))) (all_there (all_fields t after others))) from_above
       ∙ ap (λ z. appended (appended fields (all_there own)) (all_there (all_fields t z others))) counted
       ∙ appended_assoc fields (all_there own) (all_there (all_fields t (k + 1) others))
       ∙ ap (appended fields) (sym (all_there_append own (all_fields t (k + 1) others)))

@@ -9,8 +9,6 @@ use Rattle.aj_type_rules.specs.declared.fault.TypeFault.TheVariants.{NoMemory as
 use Rattle.aj_type_rules.specs.Noted.{noted}
 use Rattle.aj_elaborate.specs.Programs.{IsFirstFault, IsCoreOf, faults_of, faults_from, program_node, all_there, all_fields, all_methods}
 use Rattle.aj_type_rules.specs.Rulings.{both}
-use Rattle.aj_elaborate.specs.Order.{Ascends, MethodsAscend}
-use Rattle.aj_elaborate.proofs.Ordering.{fields_ascend, methods_ascend}
 use Rattle.aj_elaborate.proofs.Complete.{one_core, program_there}
 use Rattle.aj_elaborate.proofs.FirstFaults.{first_is, none_is, no_first, one_first}
 
@@ -37,16 +35,15 @@ told tree f fields methods h = first_is tree f (sym h.first)
 
 pub made : (tree classes : ProgramTree) (t : TableData) (fields : Option (List Field)) (methods : Option (List Method)) (P : Program)
     → classes ≡ tree → t ≡ table_of tree → Found tree None fields methods
-    → Some P ≡ option_map (program_node t classes) (both fields methods)
+    → Some P ≡ option_map (program_node t) (both fields methods)
     → IsCoreOf tree P
 made tree classes t fields methods P whole table h node = record {
   faultless = none_is tree (sym h.first);
   core = sym (
       node
-      ∙ ap (λ z. option_map (program_node z classes) (both fields methods)) table
-      ∙ ap (λ z. option_map (program_node (table_of tree) z) (both fields methods)) whole
-      ∙ ap (λ f. option_map (program_node (table_of tree) tree) (both f methods)) h.fields_are
-      ∙ ap (λ m. option_map (program_node (table_of tree) tree) (both (all_there (all_fields (table_of tree) 0 tree)) m)) h.methods_are);
+      ∙ ap (λ z. option_map (program_node z) (both fields methods)) table
+      ∙ ap (λ f. option_map (program_node (table_of tree)) (both f methods)) h.fields_are
+      ∙ ap (λ m. option_map (program_node (table_of tree)) (both (all_there (all_fields (table_of tree) 0 tree)) m)) h.methods_are);
 }
 
 -- ---- from an exact answer to what it is for a given core program or fault
@@ -65,14 +62,6 @@ fault_told view (Ok p) tree exact f first = no_first tree f exact.faultless firs
 fault_told view (Err e) tree (inl memory) f first = inr memory
 fault_told view (Err e) tree (inr told) f first = inl (one_first tree e f told first)
 
--- the fields of a program are in the order of their classes
-pub fields_ordered : (classes : ProgramTree) (t : TableData) (fields : List Field) (all : Option (List Field)) → all ≡ Some fields → all ≡ all_there (all_fields t 0 classes) → Ascends 0 fields
-fields_ordered classes t fields all some is = fields_ascend t classes fields (sym is ∙ some)
-
--- so are the methods
-pub methods_ordered : (classes : ProgramTree) (t : TableData) (methods : List Method) (all : Option (List Method)) → all ≡ Some methods → all ≡ all_there (all_methods t 0 classes) → MethodsAscend 0 methods
-methods_ordered classes t methods all some is = methods_ascend t classes methods (sym is ∙ some)
-
 -- ---- no part is missing
 
 pub first_there : {A B C : Type 0} (f : A × B → C) (a : Option A) (b : Option B) (c : C) → option_map f (both a b) ≡ Some c → IsSome a
@@ -90,13 +79,12 @@ mapped_there f (Some a) h = refl
 
 pub all_are_there : (tree classes : ProgramTree) (t : TableData) (fields : Option (List Field)) (methods : Option (List Method))
     → classes ≡ tree → t ≡ table_of tree → Found tree None fields methods
-    → (P : Program) × (option_map (program_node t classes) (both fields methods) ≡ Some P)
+    → (P : Program) × (option_map (program_node t) (both fields methods) ≡ Some P)
 all_are_there tree classes t fields methods whole table h =
     let there = program_there tree (none_is tree (sym h.first)) in (
       there.0,
-      ap (λ z. option_map (program_node z classes) (both fields methods)) table
-          ∙ ap (λ z. option_map (program_node (table_of tree) z) (both fields methods)) whole
-          ∙ ap (λ f. option_map (program_node (table_of tree) tree) (both f methods)) h.fields_are
-          ∙ ap (λ m. option_map (program_node (table_of tree) tree) (both (all_there (all_fields (table_of tree) 0 tree)) m)) h.methods_are
+      ap (λ z. option_map (program_node z) (both fields methods)) table
+          ∙ ap (λ f. option_map (program_node (table_of tree)) (both f methods)) h.fields_are
+          ∙ ap (λ m. option_map (program_node (table_of tree)) (both (all_there (all_fields (table_of tree) 0 tree)) m)) h.methods_are
           ∙ there.1,
     )

@@ -1,6 +1,6 @@
 -- What a program's class table tells holds of its core program.
 use Rattle.std.proofs.Common.{◌≡◌, ℕ, ◌+◌, zero, suc, Bool, true, false, cond, ◌||◌, List, [], ◌∷◌, ◌++◌, map, length, get_or, filter, Option, Some, None, refl, ap, ap₂, sym, ◌∙◌, subst, slice_get, position, bytes_eq, arith, if◌then◌else◌}
-use Rattle.std.specs.List.{list_any, filter_map, cons_option}
+use Rattle.std.specs.List.{list_any, filter_map, cons_option, range_with_len}
 use Rattle.std.proofs.lemmas.List.Quantifiers.{position-Some}
 use Rattle.std.proofs.lemmas.List.Folds.{list_any-append}
 use Rattle.std.proofs.lemmas.Option.{slice_get-get_or, same_Some}
@@ -8,12 +8,11 @@ use Rattle.std.proofs.lemmas.Slice.Eq.{bytes_eq-Decides}
 use Rattle.std.proofs.lemmas.Bool.{or_parts, and_parts}
 use Rattle.aj_paths.specs.Paths.{PathData}
 use Rattle.aj_core.specs.declared.types.CoreType.{CoreType}
-use Rattle.aj_core.specs.Core.{Program, Class, Field, Method, Stmts}
+use Rattle.aj_core.specs.Core.{Program, Field, Method, Stmts}
 use Rattle.aj_core.specs.Types.{field_type}
-use Rattle.aj_core.specs.Typed.{fields_from, is_final_at}
 use Rattle.aj_syntax.specs.declared.tree.Name.{Name}
 use Rattle.aj_syntax.specs.declared.tree.Param.{Param}
-use Rattle.aj_syntax.specs.Trees.{MemberTree, FieldM, CtorM, MethodM, ClassTree, ProgramTree}
+use Rattle.aj_syntax.specs.Trees.{MemberTree, FieldM, CtorM, MethodM, ProgramTree}
 use Rattle.aj_class_rules.specs.Names.{texts_of, has_text, repeats, repeats_after}
 use Rattle.aj_class_rules.specs.Members.{is_empty, is_bare, is_entry}
 use Rattle.aj_classes.specs.Seen.{FieldData}
@@ -21,33 +20,25 @@ use Rattle.aj_classes.specs.Table.{TableData, type_of, param_of, table_of}
 use Rattle.aj_type_rules.specs.Rulings.{gain, both}
 use Rattle.aj_type_rules.specs.Locks.{lock_rule}
 use Rattle.aj_type_rules.specs.Stmts.{block_core}
-use Rattle.aj_elaborate.specs.Programs.{all_there, guard_path, field_node, method_scope, method_result, method_node, all_fields, all_methods, own_targets, all_classes, run_of, main_class, main_method, program_node, core_of}
+use Rattle.aj_elaborate.specs.Programs.{all_there, guard_path, field_node, method_scope, method_result, method_node, all_fields, all_methods, main_class, main_method, program_node, core_of}
+use Rattle.aj_elaborate.specs.Classes.{is_final_in, inherited_count, all_classes}
 use Rattle.aj_elaborate.proofs.Inversions.{both_of, map_of}
 use Rattle.aj_elaborate.proofs.Parts.{Each, nothing_at, mapped_at, before_mapped, any_position, there_are}
-use Rattle.aj_elaborate.proofs.Places.{FieldAt, MethodAt, own_methods, fields_at, methods_at, field_entry, core_field, core_method, field_cores, method_cores, count_up}
+use Rattle.aj_elaborate.proofs.Places.{FieldAt, MethodAt, own_methods, fields_at, methods_at, field_entry, core_field, core_method, field_cores, method_cores}
 
 -- ---- the parts of a core program
 
-abbrev pub class_node : TableData → List Field → List Method → ℕ → ClassTree → Class
-class_node t fs ms k c = record {
-  fields = fields_from k 0 fs;
-  finals = filter (λ f. is_final_at (slice_get fs f)) (fields_from k 0 fs);
-  run = run_of t k c;
-  above = None;
-  targets = own_targets k 0 ms;
-}
-
 pub record IsBuilt (tree : ProgramTree) (P : Program) : Type 0 where
-  pub fields : map (core_field (table_of tree)) (fields_at 0 tree) ≡ map Some P.fields
+  pub fields : map (core_field (table_of tree)) (fields_at (inherited_count (table_of tree)) 0 tree) ≡ map Some P.fields
   pub methods : map (core_method (table_of tree)) (methods_at 0 tree) ≡ map Some P.methods
-  pub classes : P.classes ≡ all_classes (table_of tree) P.fields P.methods 0 tree
+  pub classes : P.classes ≡ all_classes (table_of tree) 0 (table_of tree).classes
   pub main_class_is : P.main_class ≡ main_class (table_of tree)
   pub main_is : P.main ≡ main_method (table_of tree)
 
 pub built : (tree : ProgramTree) (P : Program) → core_of tree ≡ Some P → IsBuilt tree P
 built tree P h =
     let t = table_of tree in
-    let p = map_of (program_node t tree) (both (all_there (all_fields t 0 tree)) (all_there (all_methods t 0 tree))) P h in
+    let p = map_of (program_node t) (both (all_there (all_fields t 0 tree)) (all_there (all_methods t 0 tree))) P h in
     let q = both_of (all_there (all_fields t 0 tree)) (all_there (all_methods t 0 tree)) p.0 p.1 in
     subst (IsBuilt tree) p.2 (record {
       fields = sym (field_cores t 0 tree) ∙ there_are (all_fields t 0 tree) p.0.0 q.0;
@@ -56,18 +47,6 @@ built tree P h =
       main_class_is = refl;
       main_is = refl;
     })
-
-pub class_at : (t : TableData) (fs : List Field) (ms : List Method) (k : ℕ) (cs : ProgramTree) (c j : ℕ) (C : ClassTree) → j ≡ k + c → slice_get cs c ≡ Some C
-    → slice_get (all_classes t fs ms k cs) c ≡ Some (class_node t fs ms j C)
-class_at t fs ms k [] c j C number h = absurd (nothing_at c C h)
-class_at t fs ms k (D ∷ cs) zero j C number h =
-    let same : k ≡ j = omega (arith, number) in
-    ap₂ (λ i D. Some (class_node t fs ms i D)) same (same_Some D C h)
-class_at t fs ms k (D ∷ cs) (suc c) j C number h = class_at t fs ms (k + 1) cs c j C (omega (arith, number)) h
-
-pub classes_long : (t : TableData) (fs : List Field) (ms : List Method) (k : ℕ) (cs : ProgramTree) → length (all_classes t fs ms k cs) ≡ length cs
-classes_long t fs ms k [] = refl
-classes_long t fs ms k (C ∷ cs) = ap suc (classes_long t fs ms (k + 1) cs)
 
 -- ---- a field of the core program, by what is written
 
@@ -135,24 +114,28 @@ types_kept g n ty rest types entry entries true false e is ty_is h = absurd cc
 types_kept g n ty rest types entry entries false true e is ty_is h = absurd cc
 
 pub types_read : (p : ℕ → Bool) (g : ℕ → Option CoreType) (names : List (List ℕ)) (n : ℕ) (ds : List FieldAt) → Reads p g names n ds
-    → filter_map g (filter p (count_up n (length ds))) ≡ map (λ f. f.ty) (filter (λ f. f.is_final) (map (field_entry names) ds))
+    → filter_map g (filter p (range_with_len n (length ds))) ≡ map (λ f. f.ty) (filter (λ f. f.is_final) (map (field_entry names) ds))
 types_read p g names n [] h = refl
 types_read p g names n (d ∷ ds) h =
-    types_kept g n (type_of names d.field.ty) (filter p (count_up (n + 1) (length ds))) [] (field_entry names d)
+    types_kept g n (type_of names d.field.ty) (filter p (range_with_len (n + 1) (length ds))) [] (field_entry names d)
     (filter (λ f. f.is_final) (map (field_entry names) ds)) (p n) d.field.is_final h.0 h.1 refl (types_read p g names (n + 1) ds h.2)
 
 pub reads : (t : TableData) (P : Program) (n : ℕ) (ds : List FieldAt) → ((i m : ℕ) (d : FieldAt) → m ≡ n + i → slice_get ds i ≡ Some d → IsField t P m d)
-    → Reads (λ f. is_final_at (slice_get P.fields f)) (λ f. field_type (slice_get P.fields f)) t.names n ds
-reads t P n [] h = tt
-reads t P n (d ∷ ds) h =
-    let k = h 0 n d (omega arith) refl in
-    (ap is_final_at k.is ∙ k.finality, ap field_type k.is ∙ ap Some k.ty, reads t P (n + 1) ds (λ i m e at h2. h (suc i) m e (omega (arith, at)) h2))
+    → ((i m : ℕ) (d : FieldAt) → m ≡ n + i → slice_get ds i ≡ Some d → slice_get t.fields m ≡ Some (field_entry t.names d))
+    → Reads (λ f. is_final_in (slice_get t.fields f)) (λ f. field_type (slice_get P.fields f)) t.names n ds
+reads t P n [] h k = tt
+reads t P n (d ∷ ds) h k =
+    let x = h 0 n d (omega arith) refl in (
+      ap is_final_in (k 0 n d (omega arith) refl),
+      ap field_type x.is ∙ ap Some x.ty,
+      reads t P (n + 1) ds (λ i m e at h2. h (suc i) m e (omega (arith, at)) h2) (λ i m e at h2. k (suc i) m e (omega (arith, at)) h2),
+    )
 
 pub none_final : (p : ℕ → Bool) (g : ℕ → Option CoreType) (names : List (List ℕ)) (n : ℕ) (ds : List FieldAt) → Reads p g names n ds
-    → Each (λ d. d.field.is_final ≡ false) ds → filter p (count_up n (length ds)) ≡ []
+    → Each (λ d. d.field.is_final ≡ false) ds → filter p (range_with_len n (length ds)) ≡ []
 none_final p g names n [] h k = refl
 none_final p g names n (d ∷ ds) h k =
-    ap (λ b. cond b (n ∷ filter p (count_up (n + 1) (length ds))) (filter p (count_up (n + 1) (length ds)))) (h.0 ∙ k.0)
+    ap (λ b. cond b (n ∷ filter p (range_with_len (n + 1) (length ds))) (filter p (range_with_len (n + 1) (length ds)))) (h.0 ∙ k.0)
     ∙ none_final p g names (n + 1) ds h.2 k.1
 
 -- ---- names that stand once

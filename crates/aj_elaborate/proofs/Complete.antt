@@ -16,6 +16,7 @@ use Rattle.aj_type_rules.specs.Rules.{type_rule}
 use Rattle.aj_type_rules.specs.Locks.{lock_rule}
 use Rattle.aj_type_rules.specs.Completion.{completes, locals_in}
 use Rattle.aj_type_rules.specs.Stmts.{condition_rule, local_rule, too_many, set_rule, target_rule, put_rule, field_target, do_rule, if_node, return_rule, value_rule, print_rule, start_rule, unreachable, scope_after, stmt_core, block_core, stmt_faults, block_faults}
+use Rattle.aj_elaborate.specs.Classes.{inherited_count}
 use Rattle.aj_elaborate.specs.Programs.{all_there, method_scope, method_result, method_faults, method_node, method_core, guard_faults, guard_path, member_faults, faults_from, fields_core, methods_core, all_fields, all_methods, program_node, faults_of, core_of, IsCoreOf}
 use Rattle.aj_type_rules.specs.declared.fault.TypeFault.{TypeFault}
 use Rattle.aj_type_rules.specs.Rulings.{gain, loss, given, broken, both}
@@ -81,7 +82,7 @@ mutual
       (back_empty (expr_faults t class scope e) _ h)
   expr_there t class scope (BinaryE op a b at) h =
       let rest = back_empty (expr_faults t class scope a) _ h in
-      gave (binary_rule op at) (both (elaborated t class scope a) (elaborated t class scope b))
+      gave (binary_rule t op at) (both (elaborated t class scope a) (elaborated t class scope b))
       (both_some (elaborated t class scope a) (elaborated t class scope b)
       (expr_there t class scope a (front_empty (expr_faults t class scope a) _ h))
       (expr_there t class scope b (front_empty (expr_faults t class scope b) _ rest)))
@@ -146,7 +147,7 @@ module _ (t : TableData) (class : ℕ) (returns : Option CoreType) (first : ℕ)
     stmt_there scope before (LocalS fin ty n e at) h =
         let later = back_empty (loss (type_rule t ty)) _ h in
         let last = back_empty (expr_faults t class scope e) _ later in
-        let rule = local_rule (first + before) fin n.at in
+        let rule = local_rule t (first + before) fin n.at in
         let parts = both (gain (type_rule t ty)) (elaborated t class scope e) in
         local_there before (given rule parts) n
         (front_empty (too_many before n) _ (back_empty (broken rule parts) _ last))
@@ -157,7 +158,7 @@ module _ (t : TableData) (class : ℕ) (returns : Option CoreType) (first : ℕ)
         (front_empty (broken rule parts) _ last))
     stmt_there scope before (SetVarS n e at) h =
         let later = back_empty (loss (target_rule scope n)) _ h in
-        gave (set_rule at) (both (gain (target_rule scope n)) (elaborated t class scope e))
+        gave (set_rule t at) (both (gain (target_rule scope n)) (elaborated t class scope e))
         (both_some (gain (target_rule scope n)) (elaborated t class scope e)
         (gained (target_rule scope n) (front_empty (loss (target_rule scope n)) _ h))
         (expr_there t class scope e (front_empty (expr_faults t class scope e) _ later)))
@@ -165,7 +166,7 @@ module _ (t : TableData) (class : ℕ) (returns : Option CoreType) (first : ℕ)
     stmt_there scope before (SetFieldS e n value at) h =
         let later = back_empty (expr_faults t class scope e) _ h in
         let last = back_empty (broken (field_target t n) (elaborated t class scope e)) _ later in
-        gave (put_rule at) (both (given (field_target t n) (elaborated t class scope e)) (elaborated t class scope value))
+        gave (put_rule t at) (both (given (field_target t n) (elaborated t class scope e)) (elaborated t class scope value))
         (both_some (given (field_target t n) (elaborated t class scope e)) (elaborated t class scope value)
         (gave (field_target t n) (elaborated t class scope e)
         (expr_there t class scope e (front_empty (expr_faults t class scope e) _ h))
@@ -201,7 +202,7 @@ module _ (t : TableData) (class : ℕ) (returns : Option CoreType) (first : ℕ)
         (gained (lock_rule t class scope l) (front_empty (loss (lock_rule t class scope l)) _ h))
         (block_there scope before true ss (back_empty (loss (lock_rule t class scope l)) _ h)))
     stmt_there scope before (ReturnS None at) h = gained (return_rule at returns) h
-    stmt_there scope before (ReturnS (Some e) at) h = one_there scope e (value_rule at returns) h
+    stmt_there scope before (ReturnS (Some e) at) h = one_there scope e (value_rule t at returns) h
     stmt_there scope before (PrintS e at) h = one_there scope e (print_rule at) h
     stmt_there scope before (StartS e at) h = one_there scope e (start_rule t at) h
 
@@ -281,8 +282,8 @@ module _ (t : TableData) where
   all_fields_there k [] h = tt
   all_fields_there k (c ∷ cs) h =
       let own = flat_map (member_faults t k) c.members in
-      all_some_both (fields_core t k 0 c.members) (all_fields t (k + 1) cs)
-      (fields_there k 0 c.members (front_empty own _ h)) (all_fields_there (k + 1) cs (back_empty own _ h))
+      all_some_both (fields_core t k (inherited_count t k) c.members) (all_fields t (k + 1) cs)
+      (fields_there k (inherited_count t k) c.members (front_empty own _ h)) (all_fields_there (k + 1) cs (back_empty own _ h))
 
   pub all_methods_there : (k : ℕ) (cs : ProgramTree) → faults_from t k cs ≡ [] → AllSome (all_methods t k cs)
   all_methods_there k [] h = tt
@@ -302,7 +303,7 @@ pub program_there : (tree : ProgramTree) → faults_of tree ≡ [] → (P : Prog
 program_there tree h =
     let t = table_of tree in
     there (core_of tree)
-    (mapped_some (program_node t tree) (both (all_there (all_fields t 0 tree)) (all_there (all_methods t 0 tree)))
+    (mapped_some (program_node t) (both (all_there (all_fields t 0 tree)) (all_there (all_methods t 0 tree)))
     (both_some (all_there (all_fields t 0 tree)) (all_there (all_methods t 0 tree))
     (all_there_some (all_fields t 0 tree) (all_fields_there t 0 tree h))
     (all_there_some (all_methods t 0 tree) (all_methods_there t 0 tree h))))

@@ -1,178 +1,294 @@
--- Fields and methods that stand in the order of their classes.
-use Rattle.std.proofs.Common.{◌≡◌, ℕ, ◌+◌, ◌<◌, ◌≤◌, ◌==◌, Bool, false, List, [], ◌∷◌, ◌++◌, Option, Some, None, option_map, map, filter, slice_get, length, drop, get_or, refl, ap, sym, ◌∙◌, arith, if◌then◌else◌, subst}
-use Rattle.std.proofs.lemmas.List.{append_assoc, append-nil}
+-- Orders in which each class comes after the one above it: how one grows by a climb, and what is known at a place of it.
+use Rattle.std.proofs.Common.{◌≡◌, ◌≢◌, ◌<◌, ◌≤◌, ◌+◌, ◌-◌, ◌==◌, ◌||◌, ◌⊎◌, inl, inr, ℕ, zero, suc, Bool, true, false, List, [], ◌∷◌, ◌++◌, length, map, take, drop, reverse, get_or, Option, Some, None, refl, sym, ap, ap₂, subst, ◌∙◌, arith, slice_get, slice_set, replicate, unwrap_or, append_assoc, append-nil, length-append}
+use Rattle.std.specs.List.{list_any}
+use Rattle.std.specs.Option.{option_and_then, is_some}
+use Rattle.std.proofs.lemmas.List.{reverse-append, length-set, get_or-set_same, get_or-set_other}
+use Rattle.std.proofs.lemmas.List.Folds.{list_any-append}
+use Rattle.std.proofs.lemmas.Bool.{eqb-true, eq-eqb, or_right, or_cases}
 use Rattle.std.proofs.lemmas.Bool.Decides.{nat_tests}
-use Rattle.aj_lemmas.proofs.Lists.{next_drop}
-use Rattle.aj_core.specs.Core.{Class, Field, Method}
-use Rattle.aj_core.specs.Typed.{fields_from, is_final_at}
-use Rattle.aj_syntax.specs.declared.tree.Class as source
-use Rattle.aj_syntax.specs.Views.{class_of}
-use Rattle.aj_syntax.specs.Trees.{MemberTree, FieldM, CtorM, MethodM, ProgramTree}
-use Rattle.aj_classes.specs.Table.{TableData}
-use Rattle.aj_elaborate.specs.Order.{AscendBy, Ascends, MethodsAscend}
-use Rattle.aj_elaborate.specs.Programs.{all_there, field_node, guard_path, fields_core, all_fields, method_scope, method_result, method_node, methods_core, all_methods, own_targets, all_classes, run_of}
-use Rattle.aj_type_rules.specs.Rulings.{both, gain}
-use Rattle.aj_type_rules.specs.Locks.{lock_rule}
-use Rattle.aj_type_rules.specs.Stmts.{block_core}
-use Rattle.std.proofs.lemmas.Option.{same_Some}
+use Rattle.std.proofs.lemmas.Option.{none-some, same_Some, slice_get-get_or, slice_get_within, slice_get_past, unwrap_or-slice_get}
+use Rattle.aj_ancestors.specs.Ancestors.{AreBelow, IsAncestor, up}
+use Rattle.aj_elaborate.specs.Order.{stands_in, ComeAfter, IsFromAbove, is_marked, Climbs, IsClimb, IsOrdered}
+use Rattle.aj_elaborate.proofs.Ancestry.{going}
 
-differs : (a b : ℕ) → a < b → (b == a) ≡ false
-differs a b h = grind (arith, nat_tests)
+-- ---- what stands in a list
 
--- a field of a later class
-skipped : (k n : ℕ) (f : Field) (fs : List Field) (test : Bool) → (f.class == k) ≡ test → test ≡ false → fields_from k n (f ∷ fs) ≡ fields_from k (n + 1) fs
-skipped k n f fs test is fails = ap (λ b. if b then n ∷ fields_from k (n + 1) fs else fields_from k (n + 1) fs) (is ∙ fails)
+pub stands_either : (xs ys : List ℕ) (c : ℕ) → stands_in (xs ++ ys) c ≡ (stands_in xs c || stands_in ys c)
+stands_either xs ys c = list_any-append (λ x. x == c) xs ys
 
-pub none_later : (j k n : ℕ) (fs : List Field) → k < j → Ascends j fs → fields_from k n fs ≡ []
-none_later j k n [] below h = refl
-none_later j k n (f ∷ fs) below h =
-    skipped k n f fs (f.class == k) refl (differs k f.class (omega (arith, h.0))) ∙ none_later f.class k (n + 1) fs (omega (arith, h.0)) h.1
+pub stands_left : (xs ys : List ℕ) (c : ℕ) → stands_in xs c ≡ true → stands_in (xs ++ ys) c ≡ true
+stands_left xs ys c h = stands_either xs ys c ∙ ap (λ b. b || stands_in ys c) h
 
--- of a class whose fields ended
-pub ended : (k n : ℕ) (f : Field) (fs : List Field) → (f.class == k) ≡ false → Ascends k (f ∷ fs) → fields_from k n (f ∷ fs) ≡ []
-ended k n f fs other h =
-    let later : k < f.class = grind (arith, nat_tests, h.0, other) in
-    none_later f.class k n (f ∷ fs) later (omega arith, h.1)
+pub stands_right : (xs ys : List ℕ) (c : ℕ) → stands_in ys c ≡ true → stands_in (xs ++ ys) c ≡ true
+stands_right xs ys c h = stands_either xs ys c ∙ or_right (stands_in xs c) (stands_in ys c) h
 
-pub next_class : (k : ℕ) (f : Field) (fs : List Field) → (f.class == k) ≡ false → Ascends k (f ∷ fs) → Ascends (k + 1) (f ∷ fs)
-next_class k f fs other h =
-    let later : k < f.class = grind (arith, nat_tests, h.0, other) in
-    (omega (arith, later), h.1)
+one_stands : (c d : ℕ) → stands_in (c ∷ []) d ≡ true → c ≡ d
+one_stands c d = by_test (c == d) refl
+  where
+    by_test : (b : Bool) → (c == d) ≡ b → (b || false) ≡ true → c ≡ d
+    by_test true same h = eqb-true c d same
+    by_test false same h = absurd (let e : false ≡ true = h in cc)
 
--- the same of the methods of a class
-skipped_method : (k n : ℕ) (m : Method) (ms : List Method) (test : Bool) → (m.class == k) ≡ test → test ≡ false → own_targets k n (m ∷ ms) ≡ own_targets k (n + 1) ms
-skipped_method k n m ms test is fails = ap (λ b. if b then (n, n) ∷ own_targets k (n + 1) ms else own_targets k (n + 1) ms) (is ∙ fails)
+itself_stands : (c : ℕ) → stands_in (c ∷ []) c ≡ true
+itself_stands c = ap (λ b. b || false) (eq-eqb c c refl)
 
-pub no_later : (j k n : ℕ) (ms : List Method) → k < j → MethodsAscend j ms → own_targets k n ms ≡ []
-no_later j k n [] below h = refl
-no_later j k n (m ∷ ms) below h =
-    skipped_method k n m ms (m.class == k) refl (differs k m.class (omega (arith, h.0))) ∙ no_later m.class k (n + 1) ms (omega (arith, h.0)) h.1
+pub stands_last : (xs : List ℕ) (c : ℕ) → stands_in (xs ++ c ∷ []) c ≡ true
+stands_last xs c = stands_right xs (c ∷ []) c (itself_stands c)
 
-pub methods_ended : (k n : ℕ) (m : Method) (ms : List Method) → (m.class == k) ≡ false → MethodsAscend k (m ∷ ms) → own_targets k n (m ∷ ms) ≡ []
-methods_ended k n m ms other h =
-    let later : k < m.class = grind (arith, nat_tests, h.0, other) in
-    no_later m.class k n (m ∷ ms) later (omega arith, h.1)
+-- what stands in a list with one more stood there, or is that one
+pub stands_before : (xs : List ℕ) (c d : ℕ) → stands_in (xs ++ c ∷ []) d ≡ true → (stands_in xs d ≡ true) ⊎ (c ≡ d)
+stands_before xs c d h = elim (or_cases (stands_in xs d) (stands_in (c ∷ []) d) (sym (stands_either xs (c ∷ []) d) ∙ h)) as (λ _. (stands_in xs d ≡ true) ⊎ (c ≡ d)) [
+  | inl first ↦ inl first
+  | inr last ↦ inr (one_stands c d last)
+]
 
-pub methods_next : (k : ℕ) (m : Method) (ms : List Method) → (m.class == k) ≡ false → MethodsAscend k (m ∷ ms) → MethodsAscend (k + 1) (m ∷ ms)
-methods_next k m ms other h =
-    let later : k < m.class = grind (arith, nat_tests, h.0, other) in
-    (omega (arith, later), h.1)
+-- ---- one more at the end
 
--- ---- the fields and methods of a program
+come_more : (above : ℕ → Option ℕ) (seen xs : List ℕ) (c : ℕ) → ComeAfter above seen xs → ((d : ℕ) → above c ≡ Some d → stands_in (seen ++ xs) d ≡ true) → ComeAfter above seen (xs ++ c ∷ [])
+come_more above seen [] c h last = (λ d is. ap (λ z. stands_in z d) (sym (append-nil seen)) ∙ last d is, tt)
+come_more above seen (x ∷ xs) c h last = (h.0, come_more above (seen ++ x ∷ []) xs c h.1 (λ d is. ap (λ z. stands_in z d) (append_assoc seen (x ∷ []) xs) ∙ last d is))
 
--- the members that are there ascend by their class, from this one on
-abbrev AllAscend : {A : Type 0} → (A → ℕ) → ℕ → List (Option A) → Type 0
-AllAscend class k [] = Unit {0}
-AllAscend class k (None ∷ xs) = Unit {0}
-AllAscend class k (Some x ∷ xs) = (k ≤ class x) × AllAscend class (class x) xs
+-- at a place, what is above the number there stands before
+pub after_at : (above : ℕ → Option ℕ) (seen xs : List ℕ) (i c d : ℕ) → ComeAfter above seen xs → i < length xs → c ≡ get_or xs i c → above c ≡ Some d → stands_in (seen ++ take i xs) d ≡ true
+after_at above seen [] i c d h within at is = absurd (omega (arith, within))
+after_at above seen (x ∷ xs) zero c d h within at is = ap (λ z. stands_in z d) (append-nil seen) ∙ h.0 d (ap above (sym at) ∙ is)
+after_at above seen (x ∷ xs) (suc i) c d h within at is =
+    ap (λ z. stands_in z d) (sym (append_assoc seen (x ∷ []) (take i xs))) ∙ after_at above (seen ++ x ∷ []) xs i c d h.1 (omega (arith, within)) at is
 
-rest_there : {A : Type 0} (x : A) (rest : Option (List A)) (xs : List A) → option_map (λ p. p.0 ∷ p.1) (both (Some x) rest) ≡ Some xs → (more : List A) × (rest ≡ Some more) × (x ∷ more ≡ xs)
-rest_there x None xs h = absurd cc
-rest_there x (Some more) xs h = (more, refl, same_Some (x ∷ more) xs h)
+pub next_take : {A : Type 0} (xs : List A) (i : ℕ) (x : A) → i < length xs → x ≡ get_or xs i x → take (i + 1) xs ≡ take i xs ++ x ∷ []
+next_take [] i x within at = absurd (omega (arith, within))
+next_take (y ∷ ys) zero x within at = ap (λ z. z ∷ []) (sym at)
+next_take (y ∷ ys) (suc i) x within at =
+    let more : suc i + 1 ≡ suc (i + 1) = omega arith in
+    ap (λ n. take n (y ∷ ys)) more ∙ ap (λ z. y ∷ z) (next_take ys i x (omega (arith, within)) at)
 
-all_ascend : {A : Type 0} (class : A → ℕ) (k : ℕ) (parts : List (Option A)) (xs : List A) → AllAscend class k parts → all_there parts ≡ Some xs → AscendBy class k xs
-all_ascend class k [] xs h there = subst (AscendBy class k) (same_Some [] xs there) tt
-all_ascend class k (None ∷ parts) xs h there = absurd cc
-all_ascend class k (Some x ∷ parts) xs h there =
-    let r = rest_there x (all_there parts) xs there in
-    subst (AscendBy class k) r.2 (h.0, all_ascend class (class x) parts r.0 h.1 r.1)
+pub take_all : {A : Type 0} (xs : List A) (n : ℕ) → length xs ≤ n → take n xs ≡ xs
+take_all [] zero h = refl
+take_all [] (suc n) h = refl
+take_all (x ∷ xs) zero h = absurd (omega (arith, h))
+take_all (x ∷ xs) (suc n) h = ap (λ z. x ∷ z) (take_all xs n (omega (arith, h)))
 
-all_from : {A : Type 0} (class : A → ℕ) (j k : ℕ) (parts : List (Option A)) → j ≤ k → AllAscend class k parts → AllAscend class j parts
-all_from class j k [] below h = tt
-all_from class j k (None ∷ parts) below h = tt
-all_from class j k (Some x ∷ parts) below h = (omega (arith, below, h.0), h.1)
+pub there_at : {A : Type 0} (xs : List A) (i : ℕ) (x : A) → i < length xs → x ≡ get_or xs i x → slice_get xs i ≡ Some x
+there_at xs i x within at = slice_get-get_or xs i x within ∙ ap Some (sym at)
 
-one_ascends : {A B : Type 0} (class : A → ℕ) (k : ℕ) (part : Option B) (rest : List (Option A)) (make : B → A)
-    → ((b : B) → class (make b) ≡ k) → AllAscend class k rest → AllAscend class k (option_map make part ∷ rest)
-one_ascends class k None rest make same h = tt
-one_ascends class k (Some b) rest make same h = (omega (arith, same b), subst (λ c. AllAscend class c rest) (sym (same b)) h)
+-- what stands at a place stands in the list
+pub stands_at : (xs : List ℕ) (i x : ℕ) → i < length xs → x ≡ get_or xs i x → stands_in xs x ≡ true
+stands_at [] i x within at = absurd (omega (arith, within))
+stands_at (y ∷ ys) zero x within at = ap (λ b. b || stands_in ys x) (eq-eqb y x (sym at))
+stands_at (y ∷ ys) (suc i) x within at = or_right (y == x) (stands_in ys x) (stands_at ys i x (omega (arith, within)) at)
 
-abbrev field_class : Field → ℕ
-field_class = λ f. f.class
+-- ---- marks
 
-abbrev method_class : Method → ℕ
-method_class = λ m. m.class
+pub set_at : {A : Type 0} (xs : List A) (c : ℕ) (v : A) → c < length xs → slice_get (slice_set xs c v) c ≡ Some v
+set_at xs c v low =
+    let long : c < length (slice_set xs c v) = omega (arith, low, length-set xs c v) in
+    slice_get-get_or (slice_set xs c v) c v long ∙ ap Some (get_or-set_same xs c v v low)
 
-members_ascend : (t : TableData) (k i : ℕ) (ms : List MemberTree) (rest : List (Option Field)) → AllAscend field_class k rest → AllAscend field_class k (fields_core t k i ms ++ rest)
-members_ascend t k i [] rest h = h
-members_ascend t k i (FieldM f ∷ ms) rest h =
-    one_ascends field_class k (guard_path t k f.guard) (fields_core t k (i + 1) ms ++ rest) (field_node t k i f) (λ g. refl) (members_ascend t k (i + 1) ms rest h)
-members_ascend t k i (CtorM n params sets ∷ ms) rest h = members_ascend t k i ms rest h
-members_ascend t k i (MethodM m ∷ ms) rest h = members_ascend t k i ms rest h
+pub set_other : {A : Type 0} (xs : List A) (c d : ℕ) (v : A) → d ≢ c → slice_get (slice_set xs c v) d ≡ slice_get xs d
+set_other xs c d v other = by_end (slice_get xs d) refl
+  where
+    by_end : (o : Option _) → slice_get xs d ≡ o → slice_get (slice_set xs c v) d ≡ slice_get xs d
+    by_end (Some x) is =
+        let low = slice_get_within xs d x is in
+        slice_get-get_or (slice_set xs c v) d x (omega (arith, low, length-set xs c v)) ∙ ap Some (get_or-set_other xs c d v x other) ∙ sym (slice_get-get_or xs d x low)
+    by_end None is = past (slice_get (slice_set xs c v) d) refl ∙ sym is
+      where
+        past : (o : Option _) → slice_get (slice_set xs c v) d ≡ o → o ≡ None
+        past None at = refl
+        past (Some y) at =
+            let low = slice_get_within (slice_set xs c v) d y at in
+            absurd (none-some (get_or xs d y) (sym is ∙ slice_get-get_or xs d y (omega (arith, low, length-set xs c v))))
 
-methods_ascend_in : (t : TableData) (k : ℕ) (ms : List MemberTree) (rest : List (Option Method)) → AllAscend method_class k rest → AllAscend method_class k (methods_core t k ms ++ rest)
-methods_ascend_in t k [] rest h = h
-methods_ascend_in t k (FieldM f ∷ ms) rest h = methods_ascend_in t k ms rest h
-methods_ascend_in t k (CtorM n params sets ∷ ms) rest h = methods_ascend_in t k ms rest h
-methods_ascend_in t k (MethodM m ∷ ms) rest h =
-    one_ascends method_class k (both (all_there (map (λ l. gain (lock_rule t k (method_scope t m) l)) m.locks)) (block_core t k (method_result t m) (1 + length m.params) (method_scope t m) 0 m.body))
-    (methods_core t k ms ++ rest) (method_node t k m) (λ p. refl) (methods_ascend_in t k ms rest h)
+unmarked : (n : ℕ) (d : ℕ) → is_marked (replicate n false) d ≡ true → ⊥
+unmarked zero d h = let e : false ≡ true = h in cc
+unmarked (suc n) zero h = let e : false ≡ true = h in cc
+unmarked (suc n) (suc d) h = unmarked n d h
 
-classes_ascend : (t : TableData) (k : ℕ) (cs : ProgramTree) → AllAscend field_class k (all_fields t k cs)
-classes_ascend t k [] = tt
-classes_ascend t k (c ∷ cs) = members_ascend t k 0 c.members (all_fields t (k + 1) cs) (all_from field_class k (k + 1) (all_fields t (k + 1) cs) (omega arith) (classes_ascend t (k + 1) cs))
+-- before any class is placed
+pub none_ordered : (above : ℕ → Option ℕ) (count : ℕ) (marks : List Bool) → marks ≡ replicate count false → length marks ≡ count → IsOrdered above count marks []
+none_ordered above count marks is many = record {
+  many = many;
+  marked = λ c h. absurd (unmarked count c (ap (λ z. is_marked z c) (sym is) ∙ h));
+  within = λ c h. absurd (let e : false ≡ true = h in cc);
+  after = tt;
+}
 
-classes_ascend_in : (t : TableData) (k : ℕ) (cs : ProgramTree) → AllAscend method_class k (all_methods t k cs)
-classes_ascend_in t k [] = tt
-classes_ascend_in t k (c ∷ cs) = methods_ascend_in t k c.members (all_methods t (k + 1) cs) (all_from method_class k (k + 1) (all_methods t (k + 1) cs) (omega arith) (classes_ascend_in t (k + 1) cs))
+-- one more is placed and marked, after the one above it
+pub one_ordered : (above : ℕ → Option ℕ) (count : ℕ) (marks more : List Bool) (order : List ℕ) (c : ℕ) → c < length marks → more ≡ slice_set marks c true
+    → ((d : ℕ) → above c ≡ Some d → stands_in order d ≡ true) → IsOrdered above count marks order → IsOrdered above count more (order ++ c ∷ [])
+one_ordered above count marks more order c low is last h = record {
+  many = ap length is ∙ length-set marks c true ∙ h.many;
+  marked = λ d marked. by_same d (c == d) refl marked;
+  within = λ d stands. elim (stands_before order c d stands) as (λ _. d < count) [
+    | inl before ↦ h.within d before
+    | inr same ↦ let many = h.many in omega (arith, low, same, many)
+  ];
+  after = come_more above [] order c h.after last;
+}
+  where
+    differs : (d : ℕ) → (c == d) ≡ false → d ≢ c
+    differs d other same = let e : true ≡ false = sym (eq-eqb c d (sym same)) ∙ other in cc
 
--- the fields of a program ascend by their class
-pub fields_ascend : (t : TableData) (cs : ProgramTree) (fs : List Field) → all_there (all_fields t 0 cs) ≡ Some fs → Ascends 0 fs
-fields_ascend t cs fs there = all_ascend field_class 0 (all_fields t 0 cs) fs (classes_ascend t 0 cs) there
+    by_same : (d : ℕ) (b : Bool) → (c == d) ≡ b → is_marked more d ≡ true → stands_in (order ++ c ∷ []) d ≡ true
+    by_same d true same marked = stands_right order (c ∷ []) d (ap (λ b. b || false) same)
+    by_same d false other marked =
+        stands_left order (c ∷ []) d (h.marked d (sym (ap (λ o. unwrap_or o false) (ap (λ z. slice_get z d) is ∙ set_other marks c d true (differs d other))) ∙ marked))
 
--- so do the methods
-pub methods_ascend : (t : TableData) (cs : ProgramTree) (ms : List Method) → all_there (all_methods t 0 cs) ≡ Some ms → MethodsAscend 0 ms
-methods_ascend t cs ms there = all_ascend method_class 0 (all_methods t 0 cs) ms (classes_ascend_in t 0 cs) there
+-- ---- a climb
 
--- ---- the fields of a class, taken from the front
+pub climbs_more : (above : ℕ → Option ℕ) (from : Option ℕ) (line : List ℕ) (c : ℕ) → Climbs above from line (Some c) → Climbs above from (line ++ c ∷ []) (above c)
+climbs_more above from [] c h = (h, refl)
+climbs_more above from (x ∷ line) c h = (h.0, climbs_more above (above x) line c h.1)
 
--- all fields of a class, where later ones follow
-pub ids_end : (k next : ℕ) (ids whole : List ℕ) (rest : List Field) → Ascends (k + 1) rest → ids ++ fields_from k next rest ≡ whole → ids ≡ whole
-ids_end k next ids whole rest h so =
-    sym (append-nil ids) ∙ ap (λ z. ids ++ z) (sym (none_later (k + 1) k next rest (omega arith) h)) ∙ so
+-- a climb that came to a number that passes, or to the top
+pub climb_stopped : (above : ℕ → Option ℕ) (passes : ℕ → Bool) (class at : ℕ) (line : List ℕ) → Climbs above (Some class) line (Some at) → passes at ≡ true → IsClimb above passes class line
+climb_stopped above passes class at line h stops = record { to = Some at; climbs = h; ends = λ d is. ap passes (sym (same_Some at d is)) ∙ stops }
 
--- all pairs of a class, where later methods follow
-pub pairs_end : (k next : ℕ) (pairs whole : List (ℕ × ℕ)) (rest : List Method) → MethodsAscend (k + 1) rest → pairs ++ own_targets k next rest ≡ whole → pairs ≡ whole
-pairs_end k next pairs whole rest h so =
-    sym (append-nil pairs) ∙ ap (λ z. pairs ++ z) (sym (no_later (k + 1) k next rest (omega arith) h)) ∙ so
+pub climb_over : (above : ℕ → Option ℕ) (passes : ℕ → Bool) (class : ℕ) (line : List ℕ) (to : Option ℕ) → to ≡ None → Climbs above (Some class) line to → IsClimb above passes class line
+climb_over above passes class line to over h = record { to = to; climbs = h; ends = λ d is. absurd (none-some d (sym over ∙ is)) }
 
--- ---- classes, one after the other
+-- without its last number it ends at that one, of which the end was above
+climbs_less : (above : ℕ → Option ℕ) (from : Option ℕ) (line : List ℕ) (c : ℕ) (to : Option ℕ) → Climbs above from (line ++ c ∷ []) to → Climbs above from line (Some c) × (above c ≡ to)
+climbs_less above from [] c to h = (h.0, h.1)
+climbs_less above from (x ∷ line) c to h = let r = climbs_less above (above x) line c to h.1 in ((h.0, r.0), r.1)
 
--- a class as it is made of its parts
-pub record IsMadeOf (t : TableData) (F : List Field) (k next after_methods : ℕ) (c : source.Class) (rest : List Field) (rest_methods : List Method) (made : Class) : Type 0 where
-  pub fields : made.fields ≡ fields_from k next rest
-  pub finals : made.finals ≡ filter (λ f. is_final_at (slice_get F f)) made.fields
-  pub run : made.run ≡ run_of t k (class_of c)
-  pub above : made.above ≡ None
-  pub targets : made.targets ≡ own_targets k after_methods rest_methods
+up_first : (above : ℕ → Option ℕ) (n c d : ℕ) → above c ≡ Some d → up above (suc n) c ≡ up above n d
+up_first above n c d is = ap (λ o. option_and_then (λ x. up above n x) o) is
 
-pub class_step : (t : TableData) (F : List Field) (M : List Method) (cs : List source.Class) (place k after next next_method : ℕ) (c : source.Class) (classes more whole : List Class) (made : Class) (rest : List Field) (rest_methods : List Method)
-    → place < length cs → c ≡ get_or cs place c
-    → classes ++ all_classes t F M k (map class_of (drop place cs)) ≡ whole
-    → ((c : ℕ) → k ≤ c → fields_from c next rest ≡ fields_from c 0 F)
-    → ((c : ℕ) → k ≤ c → own_targets c next_method rest_methods ≡ own_targets c 0 M)
-    → IsMadeOf t F k next next_method c rest rest_methods made
-    → more ≡ classes ++ made ∷ []
-    → after ≡ k + 1
-    → more ++ all_classes t F M after (map class_of (drop (place + 1) cs)) ≡ whole
-class_step t F M cs place k after next next_method c classes more whole made rest rest_methods within at so fields methods parts is counted =
-    let others = map class_of (drop (place + 1) cs) in
-    let own : made.fields ≡ fields_from k 0 F = parts.fields ∙ fields k (omega arith) in
-    let last : made.finals ≡ filter (λ f. is_final_at (slice_get F f)) (fields_from k 0 F) = parts.finals ∙ ap (filter (λ f. is_final_at (slice_get F f))) own in
-    let pairs : made.targets ≡ own_targets k 0 M = parts.targets ∙ methods k (omega arith) in
-    let run = parts.run in
-    let none = parts.above in
-    let same : made ≡ record { fields = fields_from k 0 F; finals = filter (λ f. is_final_at (slice_get F f)) (fields_from k 0 F); run = run_of t k (class_of c); above = None; targets = own_targets k 0 M } =
-    (λ i. record { fields = own i; finals = last i; run = run i; above = none i; targets = pairs i }) in
-    ap (λ z. z ++ all_classes t F M after others) is
-    ∙ ap (λ z. (classes ++ made ∷ []) ++ all_classes t F M z others) counted
-    ∙ append_assoc classes (made ∷ []) (all_classes t F M (k + 1) others)
-    ∙ ap (λ z. classes ++ z ∷ all_classes t F M (k + 1) others) same
-    ∙ ap (λ z. classes ++ all_classes t F M k (map class_of z)) (sym (next_drop cs place c within at))
+-- it leads as many steps up as it has numbers
+climbs_up : (above : ℕ → Option ℕ) (c e : ℕ) (line : List ℕ) → Climbs above (Some c) line (Some e) → up above (length line) c ≡ Some e
+climbs_up above c e [] h = h
+climbs_up above c e (x ∷ line) h = by_next (above x) refl h.1 (λ d k. climbs_up above d e line k)
+  where
+    same : x ≡ c
+    same = same_Some x c (sym h.0)
+
+    from_nothing : (ys : List ℕ) → Climbs above None ys (Some e) → ⊥
+    from_nothing [] k = none-some e k
+    from_nothing (y ∷ ys) k = none-some y k.0
+
+    by_next : (o : Option ℕ) → above x ≡ o → Climbs above (above x) line (Some e) → ((d : ℕ) → Climbs above (Some d) line (Some e) → up above (length line) d ≡ Some e) → up above (suc (length line)) c ≡ Some e
+    by_next None is k later = absurd (from_nothing line (subst (λ o. Climbs above o line (Some e)) is k))
+    by_next (Some d) is k later = up_first above (length line) c d (ap above (sym same) ∙ is) ∙ later d (subst (λ o. Climbs above o line (Some e)) is k)
+
+up_less : (above : ℕ → Option ℕ) (few more c e : ℕ) → few ≤ more → up above more c ≡ Some e → (d : ℕ) × (up above few c ≡ Some d)
+up_less above zero more c e low h = (c, refl)
+up_less above (suc few) zero c e low h = absurd (omega (arith, low))
+up_less above (suc few) (suc more) c e low h = by_next (above c) refl (λ d k. up_less above few more d e (omega (arith, low)) k)
+  where
+    by_next : (o : Option ℕ) → above c ≡ o → ((d : ℕ) → up above more d ≡ Some e → (x : ℕ) × (up above few d ≡ Some x)) → (d : ℕ) × (up above (suc few) c ≡ Some d)
+    by_next None is later = absurd (none-some e (sym (ap (λ o. option_and_then (λ x. up above more x) o) is) ∙ h))
+    by_next (Some d) is later = let r = later d (sym (up_first above more c d is) ∙ h) in (r.0, up_first above few c d is ∙ r.1)
+
+-- where no number is its own ancestor, a climb that goes on has fewer numbers than there are
+pub climb_short : (above : ℕ → Option ℕ) (count : ℕ) → AreBelow above count → ((c : ℕ) → IsAncestor above c c → ⊥) → (c e : ℕ) (line : List ℕ) → c < count
+    → Climbs above (Some c) line (Some e) → length line < count
+climb_short above count below apart c e line low h = elim (by_size (length line) count) as (λ _. length line < count) [
+  | inl small ↦ small
+  | inr big ↦ absurd (let r = up_less above count (length line) c e big (climbs_up above c e line h) in none-some r.0 (sym (going above count below apart c low) ∙ r.1))
+]
+  where
+    by_size : (n m : ℕ) → (n < m) ⊎ (m ≤ n)
+    by_size zero zero = inr (omega arith)
+    by_size zero (suc m) = inl (omega arith)
+    by_size (suc n) zero = inr (omega arith)
+    by_size (suc n) (suc m) = elim (by_size n m) as (λ _. (suc n < suc m) ⊎ (suc m ≤ suc n)) [
+      | inl small ↦ inl (omega (arith, small))
+      | inr big ↦ inr (omega (arith, big))
+    ]
+
+-- all numbers of a climb stand below the count
+climb_within : (above : ℕ → Option ℕ) (count : ℕ) → AreBelow above count → (from : Option ℕ) (line : List ℕ) (to : Option ℕ) → ((c : ℕ) → from ≡ Some c → c < count)
+    → Climbs above from line to → (c : ℕ) → stands_in line c ≡ true → c < count
+climb_within above count below from [] to low h c stands = absurd (let e : false ≡ true = stands in cc)
+climb_within above count below from (x ∷ line) to low h c stands = by_first (x == c) refl stands (climb_within above count below (above x) line to (λ d is. below x d is) h.1 c)
+  where
+    by_first : (b : Bool) → (x == c) ≡ b → (b || stands_in line c) ≡ true → (stands_in line c ≡ true → c < count) → c < count
+    by_first true same k later = low c (h.0 ∙ ap Some (eqb-true x c same))
+    by_first false same k later = later k
+
+pub line_within : (above : ℕ → Option ℕ) (count size : ℕ) (passes : ℕ → Bool) (class : ℕ) (line : List ℕ) → AreBelow above count → class < count → size ≡ count
+    → IsClimb above passes class line → (c : ℕ) → stands_in line c ≡ true → c < size
+line_within above count size passes class line below low same climb c stands =
+    let within = climb_within above count below (Some class) line climb.to (λ d is. let e = same_Some class d is in omega (arith, e, low)) climb.climbs c stands in
+    omega (arith, within, same)
+
+-- ---- the last of a climb is placed
+
+-- an order that grows by a climb
+pub record IsGrowing (above : ℕ → Option ℕ) (count class : ℕ) (marks : List Bool) (order line : List ℕ) : Type 0 where
+  pub ordered : IsOrdered above count marks order
+  pub climb : IsClimb above (stands_in order) class line
+
+pub grows_once : (above : ℕ → Option ℕ) (count class : ℕ) (marks more : List Bool) (order next line left : List ℕ) (c : ℕ)
+    → line ≡ left ++ c ∷ [] → next ≡ order ++ c ∷ [] → more ≡ slice_set marks c true → c < length marks
+    → IsGrowing above count class marks order line → IsGrowing above count class more next left
+grows_once above count class marks more order next line left c line_is next_is more_is low h =
+    let parts = climbs_less above (Some class) left c h.climb.to (subst (λ z. Climbs above (Some class) z h.climb.to) line_is h.climb.climbs) in
+    subst (λ z. IsGrowing above count class more z left) (sym next_is) (record {
+      ordered = one_ordered above count marks more order c low more_is (λ d is. h.climb.ends d (sym parts.1 ∙ is)) h.ordered;
+      climb = record { to = Some c; climbs = parts.0; ends = λ d is. subst (λ x. stands_in (order ++ c ∷ []) x ≡ true) (same_Some c d is) (stands_last order c) };
+    })
+
+-- the rest of a line is within where the line was
+pub rest_within : (line left : List ℕ) (c size now : ℕ) → line ≡ left ++ c ∷ [] → now ≡ size → ((d : ℕ) → stands_in line d ≡ true → d < size) → (d : ℕ) → stands_in left d ≡ true → d < now
+rest_within line left c size now is same within d stands =
+    let h = within d (ap (λ z. stands_in z d) is ∙ stands_left left (c ∷ []) d stands) in
+    omega (arith, h, same)
+
+pub last_within : (line left : List ℕ) (c size : ℕ) → line ≡ left ++ c ∷ [] → ((d : ℕ) → stands_in line d ≡ true → d < size) → c < size
+last_within line left c size is within = within c (ap (λ z. stands_in z c) is ∙ stands_last left c)
+
+-- what is to come is the same
+pub turned : (order next line left whole : List ℕ) (c : ℕ) → line ≡ left ++ c ∷ [] → next ≡ order ++ c ∷ [] → order ++ reverse line ≡ whole → next ++ reverse left ≡ whole
+turned order next line left whole c line_is next_is so =
+    ap (λ z. z ++ reverse left) next_is
+    ∙ append_assoc order (c ∷ []) (reverse left)
+    ∙ ap (λ z. order ++ z) (sym (reverse-append left (c ∷ [])))
+    ∙ ap (λ z. order ++ reverse z) (sym line_is)
     ∙ so
 
-pub above : (k next q : ℕ) → next ≡ k + 1 → next ≤ q → k < q
-above k next q is below = omega (arith, is, below)
+-- what stands in a list stands in it turned round
+turned_stands : (xs : List ℕ) (c : ℕ) → stands_in xs c ≡ true → stands_in (reverse xs) c ≡ true
+turned_stands [] c h = h
+turned_stands (x ∷ xs) c h = by_first (x == c) refl h (turned_stands xs c)
+  where
+    by_first : (b : Bool) → (x == c) ≡ b → (b || stands_in xs c) ≡ true → (stands_in xs c ≡ true → stands_in (reverse xs) c ≡ true) → stands_in (reverse (x ∷ xs)) c ≡ true
+    by_first true same k later = ap (λ z. stands_in z c) (reverse-append (x ∷ []) xs) ∙ stands_right (reverse xs) (x ∷ []) c (ap (λ b. b || false) same)
+    by_first false same k later = ap (λ z. stands_in z c) (reverse-append (x ∷ []) xs) ∙ stands_left (reverse xs) (x ∷ []) c (later k)
 
-pub from_next : (k next q : ℕ) → next ≡ k + 1 → next ≤ q → k ≤ q
-from_next k next q is below = omega (arith, is, below)
+-- the class where a climb begins is placed then
+pub class_stands : (above : ℕ → Option ℕ) (order next line : List ℕ) (class : ℕ) → IsClimb above (stands_in order) class line → next ≡ order ++ reverse line → stands_in next class ≡ true
+class_stands above order next [] class climb is =
+    ap (λ z. stands_in z class) (is ∙ append-nil order) ∙ climb.ends class (sym climb.climbs)
+class_stands above order next (x ∷ line) class climb is =
+    ap (λ z. stands_in z class) is
+    ∙ stands_right order (reverse (x ∷ line)) class (turned_stands (x ∷ line) class (ap (λ b. b || stands_in line class) (eq-eqb x class (same_Some x class (sym climb.climbs.0)))))
+
+-- marked numbers stand in the order
+pub climb_placed : (above : ℕ → Option ℕ) (count class : ℕ) (marks : List Bool) (order line : List ℕ) → IsOrdered above count marks order → IsClimb above (is_marked marks) class line → IsClimb above (stands_in order) class line
+climb_placed above count class marks order line ordered climb = record { to = climb.to; climbs = climb.climbs; ends = λ d is. ordered.marked d (climb.ends d is) }
+
+-- ---- all classes
+
+-- the classes up to one are placed
+pub more_placed : (before now : List ℕ) (number next class : ℕ) → ((c : ℕ) → c < number → stands_in before c ≡ true) → ((c : ℕ) → stands_in before c ≡ true → stands_in now c ≡ true)
+    → stands_in now class ≡ true → class ≡ number → next ≡ number + 1 → (c : ℕ) → c < next → stands_in now c ≡ true
+more_placed before now number next class all kept one is counted c low = by_same (c == number) refl
+  where
+    smaller : (c == number) ≡ false → c < number
+    smaller other = by_order c number (omega (arith, low, counted)) other
+      where
+        by_order : (a b : ℕ) → a ≤ b → (a == b) ≡ false → a < b
+        by_order a b le ne = grind (arith, nat_tests)
+
+    by_same : (b : Bool) → (c == number) ≡ b → stands_in now c ≡ true
+    by_same true same = ap (stands_in now) (eqb-true c number same ∙ sym is) ∙ one
+    by_same false other = kept c (all c (smaller other))
+
+pub all_placed : (above : ℕ → Option ℕ) (count number : ℕ) (marks : List Bool) (order : List ℕ) → IsOrdered above count marks order → ((c : ℕ) → c < number → stands_in order c ≡ true) → count ≤ number → IsFromAbove above count order
+all_placed above count number marks order ordered all enough = record {
+  all = λ c low. all c (omega (arith, low, enough));
+  within = ordered.within;
+  after = ordered.after;
+}

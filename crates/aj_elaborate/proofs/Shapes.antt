@@ -14,12 +14,12 @@ use Rattle.aj_core.specs.Core.{Expr, Exprs}
 use Rattle.aj_core.specs.Types.{NodeType, ValueT, boolean_type, int_type, class_type, result_type, binary_type}
 use Rattle.aj_core.specs.Sizes.{height_of, highest_of, nodes_of, nodes_of_each}
 use Rattle.aj_core.specs.Typed as typing
-use Rattle.aj_classes.specs.Table.{TableData, FieldData, MethodData}
+use Rattle.aj_classes.specs.Table.{TableData, FieldData, MethodData, kind_in}
 use Rattle.aj_type_rules.specs.declared.fault.TypeFault.TheVariants.{UnknownName, NoRule}
 use Rattle.aj_type_rules.specs.Rulings.{both, demand}
 use Rattle.aj_type_rules.specs.Scopes.{Scope, variable}
 use Rattle.aj_type_rules.specs.Completion.{is_true_literal}
-use Rattle.aj_type_rules.specs.Rules.{TypedData, TypedList, typed, with_argument, is_int, is_boolean, same_class, number_rule, variable_typed, not_rule, neg_rule, operator_rule, logical_rule, binary_rule, field_rule, method_rule, get_rule, call_rule, class_rule, new_rule, fit_each, final_types, parameter_types}
+use Rattle.aj_type_rules.specs.Rules.{TypedData, TypedList, typed, with_argument, is_int, is_boolean, number_rule, variable_typed, not_rule, neg_rule, operator_rule, logical_rule, binary_rule, field_rule, method_rule, get_rule, call_rule, class_rule, new_rule, fit_each, final_types, parameter_types}
 use Rattle.aj_type_rules.specs.Exprs.{elaborated, elaborated_each, variable_rule}
 use Rattle.aj_elaborate.proofs.Inversions.{same_ok, gain_of, given_of, both_of, demand_of, then_of, ok_or_of, map_of}
 
@@ -55,10 +55,10 @@ max_mono a b c d h k = grind arith
 
 module _ (t : TableData) (class : ℕ) (scope : Scope) where
   operator_shape : (h k n m : ℕ) (b c : Bool) (op : CoreOp) (at : ℕ) (p : TypedData × TypedData) (d : TypedData)
-      → IsShape h n b p.0.node → IsShape k m c p.1.node → operator_rule op at p ≡ Ok d → IsShape (1 + max h k) (1 + (n + m)) false d.node
+      → IsShape h n b p.0.node → IsShape k m c p.1.node → operator_rule t op at p ≡ Ok d → IsShape (1 + max h k) (1 + (n + m)) false d.node
   operator_shape h k n m b c op at p d x y is =
       let make : NodeType → TypedData = λ ty. typed ty (core.BinaryE op p.0.node p.1.node) in
-      let o = map_of make (binary_type same_class op p.0.ty p.1.ty) d (ok_or_of (option_map make (binary_type same_class op p.0.ty p.1.ty)) (NoRule at) d is) in
+      let o = map_of make (binary_type (kind_in t) op p.0.ty p.1.ty) d (ok_or_of (option_map make (binary_type (kind_in t) op p.0.ty p.1.ty)) (NoRule at) d is) in
       subst (λ z. IsShape (1 + max h k) (1 + (n + m)) false z.node) o.2 (record {
         height = omega (arith, max_mono (height_of p.0.node) (height_of p.1.node) h k x.height y.height);
         nodes = omega (arith, x.nodes, y.nodes);
@@ -86,7 +86,7 @@ module _ (t : TableData) (class : ℕ) (scope : Scope) where
       })
 
   binary_shape : (h k n m : ℕ) (b c : Bool) (op : Op) (at : ℕ) (p : TypedData × TypedData) (d : TypedData)
-      → IsShape h n b p.0.node → IsShape k m c p.1.node → binary_rule op at p ≡ Ok d → IsShape (1 + max h k) (1 + (n + m)) false d.node
+      → IsShape h n b p.0.node → IsShape k m c p.1.node → binary_rule t op at p ≡ Ok d → IsShape (1 + max h k) (1 + (n + m)) false d.node
   binary_shape h k n m b c O.Or at p d x y is = or_shape h k n m b c at p d x y is
   binary_shape h k n m b c O.And at p d x y is = and_shape h k n m b c at p d x y is
   binary_shape h k n m b c O.Eq at p d x y is = operator_shape h k n m b c core_op.Eq at p d x y is
@@ -105,8 +105,8 @@ module _ (t : TableData) (class : ℕ) (scope : Scope) where
       → IsShape h n b p.0.node → AreShapes k m p.1.nodes → call_rule t name p ≡ Ok d → IsShape (1 + max h k) (1 + (n + m)) false d.node
   call_shape h k n m b name p d x y is =
       let make : ℕ × MethodData → TypedData = λ m. typed (result_type m.1.returns) (core.CallE p.0.node m.0 p.1.nodes) in
-      let o = then_of (method_rule t name p.0.ty) (λ m. demand (fit_each p.1.types (parameter_types m.1)) (NoRule name.at) (make m)) d is in
-      let q = demand_of (fit_each p.1.types (parameter_types o.0.1)) (NoRule name.at) (make o.0) d o.2 in
+      let o = then_of (method_rule t name p.0.ty) (λ m. demand (fit_each t p.1.types (parameter_types m.1)) (NoRule name.at) (make m)) d is in
+      let q = demand_of (fit_each t p.1.types (parameter_types o.0.1)) (NoRule name.at) (make o.0) d o.2 in
       subst (λ z. IsShape (1 + max h k) (1 + (n + m)) false z.node) q.1 (record {
         height = omega (arith, max_mono (height_of p.0.node) (highest_of p.1.nodes) h k x.height y.height);
         nodes = omega (arith, x.nodes, y.nodes);
@@ -117,8 +117,8 @@ module _ (t : TableData) (class : ℕ) (scope : Scope) where
       → AreShapes k m args.nodes → new_rule t name args ≡ Ok d → IsShape (1 + k) (1 + m) false d.node
   new_shape k m name args d y is =
       let make : ℕ → TypedData = λ c. typed (class_type c) (core.NewE c args.nodes) in
-      let o = then_of (class_rule t name) (λ c. demand (fit_each args.types (final_types t c)) (NoRule name.at) (make c)) d is in
-      let q = demand_of (fit_each args.types (final_types t o.0)) (NoRule name.at) (make o.0) d o.2 in
+      let o = then_of (class_rule t name) (λ c. demand (fit_each t args.types (final_types t c)) (NoRule name.at) (make c)) d is in
+      let q = demand_of (fit_each t args.types (final_types t o.0)) (NoRule name.at) (make o.0) d o.2 in
       subst (λ z. IsShape (1 + k) (1 + m) false z.node) q.1 (record { height = omega (arith, y.height); nodes = omega (arith, y.nodes); literal = refl })
 
   mutual
@@ -148,7 +148,7 @@ module _ (t : TableData) (class : ℕ) (scope : Scope) where
         (demand_of (is_int g.0.ty) (NoRule at) (typed int_type (core.NegE g.0.node)) d g.2).1
         (record { height = omega (arith, s.height); nodes = omega (arith, s.nodes); literal = refl })
     expr_shape (tree.BinaryE op a b at) d h =
-        let g = given_of (binary_rule op at) (both (elaborated t class scope a) (elaborated t class scope b)) d h in
+        let g = given_of (binary_rule t op at) (both (elaborated t class scope a) (elaborated t class scope b)) d h in
         let p = both_of (elaborated t class scope a) (elaborated t class scope b) g.0 g.1 in
         binary_shape (tree_height.height a) (tree_height.height b) (size a) (size b) (is_true_literal a) (is_true_literal b) op at g.0 d
         (expr_shape a g.0.0 p.0) (expr_shape b g.0.1 p.1) g.2

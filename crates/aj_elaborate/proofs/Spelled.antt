@@ -175,13 +175,13 @@ members_long (m ∷ ms) ts (xs, ys, (ps, zs, public_is, one, own), rest, is) =
 -- a program has no more classes, fields, methods and nodes than tokens
 pub program_long : (cs : ProgramTree) (ts : List Token) → Repeats SpellsClass cs ts → program_size cs ≤ length ts
 program_long [] ts is = omega arith
-program_long (c ∷ cs) ts (us, vs, (ps, rs, xs, d, b, e, public_is, runnable_is, members, own), rest, is) =
+program_long (c ∷ cs) ts (us, vs, (ps, es, rs, xs, d, b, e, public_is, extends_is, runnable_is, members, own), rest, is) =
     let inner = token T.OpenBrace b ∷ xs ++ (token T.CloseBrace e ∷ []) in
     long (program_size (c ∷ cs)) ts (us ++ vs) is
     (omega (
       arith,
       both_long us vs,
-      long (1 + members_size c.members) us (ps ++ (token T.Class d ∷ name_token c.name ∷ rs ++ inner)) own
-          (omega (arith, both_long ps (token T.Class d ∷ name_token c.name ∷ rs ++ inner), both_long rs inner, both_long xs (token T.CloseBrace e ∷ []), members_long c.members xs members)),
+      long (1 + members_size c.members) us (ps ++ (token T.Class d ∷ name_token c.name ∷ es ++ (rs ++ inner))) own
+          (omega (arith, both_long ps (token T.Class d ∷ name_token c.name ∷ es ++ (rs ++ inner)), both_long es (rs ++ inner), both_long rs inner, both_long xs (token T.CloseBrace e ∷ []), members_long c.members xs members)),
       program_long cs vs rest,
     ))

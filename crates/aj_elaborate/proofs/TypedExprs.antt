@@ -2,7 +2,7 @@
 use Rattle.std.proofs.Common.{◌≡◌, ℕ, ◌<◌, true, false, List, [], ◌∷◌, Some, Ok, refl, ap, sym, subst, ◌&&◌, Contains, slice_get, option_map}
 use Rattle.std.specs.Prelude.{ok_or}
 use Rattle.std.proofs.lemmas.Option.{same_Some}
-use Rattle.std.proofs.lemmas.Bool.{and_parts, eqb-true}
+use Rattle.std.proofs.lemmas.Bool.{and_parts}
 use Rattle.aj_syntax.specs.declared.tree.Name.{Name}
 use Rattle.aj_syntax.specs.declared.tree.Op.{Op}
 use Rattle.aj_syntax.specs.declared.tree.Op.TheVariants as O
@@ -15,15 +15,15 @@ use Rattle.aj_core.specs.declared.types.CoreType.TheVariants as type
 use Rattle.aj_core.specs.Core as core
 use Rattle.aj_core.specs.Core.{Program, Class, Field, Method, Exprs}
 use Rattle.aj_core.specs.Dispatch.{is_kind_of}
-use Rattle.aj_core.proofs.DispatchLemmas.{kind_same, fits_more, binary_more}
+use Rattle.aj_core.proofs.DispatchLemmas.{fits_more, binary_more}
 use Rattle.aj_core.specs.Types as typing
 use Rattle.aj_core.specs.Types.{NodeType, ValueT, NullT, VoidT, int_type, boolean_type, class_type, result_type, fits, binary_type, Variable, field_types, HasType, FitEach}
 use Rattle.aj_core.specs.Typed.{IsRunnable}
-use Rattle.aj_classes.specs.Table.{TableData, ClassData, FieldData, MethodData, class_number}
+use Rattle.aj_classes.specs.Table.{TableData, ClassData, FieldData, MethodData, class_number, kind_in}
 use Rattle.aj_type_rules.specs.declared.fault.TypeFault.TheVariants.{UnknownName, NoRule}
 use Rattle.aj_type_rules.specs.Rulings.{both, demand}
 use Rattle.aj_type_rules.specs.Scopes.{Scope, variable}
-use Rattle.aj_type_rules.specs.Rules.{TypedData, TypedList, typed, with_argument, is_int, is_boolean, same_class, class_in, receiver_class, number_rule, variable_typed, not_rule, neg_rule, operator_rule, logical_rule, binary_rule, field_named, method_named, field_rule, method_rule, get_rule, call_rule, class_rule, new_rule, fit_each, final_types, parameter_types}
+use Rattle.aj_type_rules.specs.Rules.{TypedData, TypedList, typed, with_argument, is_int, is_boolean, class_in, receiver_class, number_rule, variable_typed, not_rule, neg_rule, operator_rule, logical_rule, binary_rule, field_named, method_named, field_rule, method_rule, get_rule, call_rule, class_rule, new_rule, fit_each, final_types, parameter_types}
 use Rattle.aj_type_rules.specs.Exprs.{elaborated, elaborated_each, variable_rule}
 use Rattle.aj_elaborate.proofs.Inversions.{same_ok, gain_of, given_of, both_of, demand_of, then_of, ok_or_of, map_of}
 
@@ -51,11 +51,12 @@ pub record IsMade (P : Program) (c : ℕ) (types : List CoreType) : Type 0 where
   pub is : slice_get P.classes c ≡ Some class
   pub finals : field_types P class.finals ≡ types
 
--- what the table finds by name is in the core program
+-- what the table finds by name is in the core program, where each class is of the kinds that the table tells
 pub record Agrees (t : TableData) (P : Program) : Type 0 where
   pub fields : (c : ℕ) (name : List ℕ) (f : ℕ × FieldData) → field_named t c name ≡ Some f → IsFieldOf P c f
   pub methods : (c : ℕ) (name : List ℕ) (m : ℕ × MethodData) → method_named t c name ≡ Some m → IsMethodOf P c m
   pub classes : (c : ℕ) (name : List ℕ) → class_number t name ≡ Some c → IsMade P c (final_types t c)
+  pub kinds : (c d : ℕ) → kind_in t c d ≡ true → is_kind_of P c d ≡ true
   pub runs : (c : ℕ) (d : ClassData) → slice_get t.classes c ≡ Some d → d.runnable ≡ true → IsRunnable P c
 
 -- each variable that is found by name is one of these, and none is in the slot of `this`
@@ -120,20 +121,20 @@ module _ (t : TableData) (P : Program) (agrees : Agrees t P) where
     HoldEach (core.and_expr e es) [] = ⊥
     HoldEach (core.and_expr e es) (T ∷ Ts) = HasType P class vars e T × HoldEach es Ts
 
-    -- a class is of its own kind
-    pub wider : (c d : ℕ) → same_class c d ≡ true → is_kind_of P c d ≡ true
-    wider c d same = kind_same P c d (eqb-true c d same)
+    -- a class is of the kinds that the table tells
+    pub wider : (c d : ℕ) → kind_in t c d ≡ true → is_kind_of P c d ≡ true
+    wider = agrees.kinds
 
     -- arguments that hold and fit
-    fit_of : (es : Exprs) (Ts : List NodeType) (us : List CoreType) → HoldEach es Ts → fit_each Ts us ≡ true → FitEach P class vars es us
+    fit_of : (es : Exprs) (Ts : List NodeType) (us : List CoreType) → HoldEach es Ts → fit_each t Ts us ≡ true → FitEach P class vars es us
     fit_of core.no_exprs [] [] h k = tt
     fit_of core.no_exprs [] (u ∷ us) h k = absurd (let e : false ≡ true = k in cc)
     fit_of core.no_exprs (T ∷ Ts) us h k = absurd h
     fit_of (core.and_expr e es) [] us h k = absurd h
     fit_of (core.and_expr e es) (T ∷ Ts) [] h k = absurd (let e : false ≡ true = k in cc)
     fit_of (core.and_expr e es) (T ∷ Ts) (u ∷ us) h k =
-        let a = and_parts (fits same_class T (ValueT u)) (fit_each Ts us) k in
-        ((T, h.0, fits_more same_class (is_kind_of P) wider T (ValueT u) a.0), fit_of es Ts us h.1 a.1)
+        let a = and_parts (fits (kind_in t) T (ValueT u)) (fit_each t Ts us) k in
+        ((T, h.0, fits_more (kind_in t) (is_kind_of P) wider T (ValueT u) a.0), fit_of es Ts us h.1 a.1)
 
     -- ---- the rules
 
@@ -150,11 +151,11 @@ module _ (t : TableData) (P : Program) (agrees : Agrees t P) where
         let p = demand_of (is_int a.ty) (NoRule at) (typed int_type (core.NegE a.node)) d is in
         subst Holds p.1 (subst (HasType P class vars a.node) (is_int_of a.ty p.0) h, refl)
 
-    operator_holds : (op : CoreOp) (at : ℕ) (p : TypedData × TypedData) (d : TypedData) → Holds p.0 → Holds p.1 → operator_rule op at p ≡ Ok d → Holds d
+    operator_holds : (op : CoreOp) (at : ℕ) (p : TypedData × TypedData) (d : TypedData) → Holds p.0 → Holds p.1 → operator_rule t op at p ≡ Ok d → Holds d
     operator_holds op at p d h k is =
         let make : NodeType → TypedData = λ ty. typed ty (core.BinaryE op p.0.node p.1.node) in
-        let o = map_of make (binary_type same_class op p.0.ty p.1.ty) d (ok_or_of (option_map make (binary_type same_class op p.0.ty p.1.ty)) (NoRule at) d is) in
-        subst Holds o.2 (p.0.ty, p.1.ty, h, k, binary_more same_class (is_kind_of P) wider op p.0.ty p.1.ty o.0 o.1)
+        let o = map_of make (binary_type (kind_in t) op p.0.ty p.1.ty) d (ok_or_of (option_map make (binary_type (kind_in t) op p.0.ty p.1.ty)) (NoRule at) d is) in
+        subst Holds o.2 (p.0.ty, p.1.ty, h, k, binary_more (kind_in t) (is_kind_of P) wider op p.0.ty p.1.ty o.0 o.1)
 
     and_holds : (at : ℕ) (p : TypedData × TypedData) (d : TypedData) → Holds p.0 → Holds p.1 → logical_rule core.AndE at p ≡ Ok d → Holds d
     and_holds at p d h k is =
@@ -170,7 +171,7 @@ module _ (t : TableData) (P : Program) (agrees : Agrees t P) where
         subst Holds q.1
         (subst (HasType P class vars p.0.node) (is_boolean_of p.0.ty r.0) h, subst (HasType P class vars p.1.node) (is_boolean_of p.1.ty r.1) k, refl)
 
-    binary_holds : (op : Op) (at : ℕ) (p : TypedData × TypedData) (d : TypedData) → Holds p.0 → Holds p.1 → binary_rule op at p ≡ Ok d → Holds d
+    binary_holds : (op : Op) (at : ℕ) (p : TypedData × TypedData) (d : TypedData) → Holds p.0 → Holds p.1 → binary_rule t op at p ≡ Ok d → Holds d
     binary_holds O.Or at p d h k is = or_holds at p d h k is
     binary_holds O.And at p d h k is = and_holds at p d h k is
     binary_holds O.Eq at p d h k is = operator_holds core_op.Eq at p d h k is
@@ -197,8 +198,8 @@ module _ (t : TableData) (P : Program) (agrees : Agrees t P) where
     call_holds : (n : Name) (p : TypedData × TypedList) (d : TypedData) → Holds p.0 → HoldEach p.1.nodes p.1.types → call_rule t n p ≡ Ok d → Holds d
     call_holds n p d h k is =
         let make : ℕ × MethodData → TypedData = λ m. typed (result_type m.1.returns) (core.CallE p.0.node m.0 p.1.nodes) in
-        let m = then_of (method_rule t n p.0.ty) (λ m. demand (fit_each p.1.types (parameter_types m.1)) (NoRule n.at) (make m)) d is in
-        let q = demand_of (fit_each p.1.types (parameter_types m.0.1)) (NoRule n.at) (make m.0) d m.2 in
+        let m = then_of (method_rule t n p.0.ty) (λ m. demand (fit_each t p.1.types (parameter_types m.1)) (NoRule n.at) (make m)) d is in
+        let q = demand_of (fit_each t p.1.types (parameter_types m.0.1)) (NoRule n.at) (make m.0) d m.2 in
         let r = method_of n p.0.ty m.0 m.1 in
         let g = r.2 in
         subst Holds q.1 (
@@ -212,8 +213,8 @@ module _ (t : TableData) (P : Program) (agrees : Agrees t P) where
     new_holds : (n : Name) (args : TypedList) (d : TypedData) → HoldEach args.nodes args.types → new_rule t n args ≡ Ok d → Holds d
     new_holds n args d k is =
         let make : ℕ → TypedData = λ c. typed (class_type c) (core.NewE c args.nodes) in
-        let c = then_of (class_rule t n) (λ c. demand (fit_each args.types (final_types t c)) (NoRule n.at) (make c)) d is in
-        let q = demand_of (fit_each args.types (final_types t c.0)) (NoRule n.at) (make c.0) d c.2 in
+        let c = then_of (class_rule t n) (λ c. demand (fit_each t args.types (final_types t c)) (NoRule n.at) (make c)) d is in
+        let q = demand_of (fit_each t args.types (final_types t c.0)) (NoRule n.at) (make c.0) d c.2 in
         let g = agrees.classes c.0 n.text (ok_or_of (class_number t n.text) (UnknownName n.at) c.0 c.1) in
         subst Holds q.1
         (g.class, g.is, subst (FitEach P class vars args.nodes) (sym g.finals) (fit_of args.nodes args.types (final_types t c.0) k q.0), refl)
@@ -241,7 +242,7 @@ module _ (t : TableData) (P : Program) (agrees : Agrees t P) where
             let g = given_of (neg_rule at) (elaborated t class scope e) d h in
             neg_holds at g.0 d (expr_holds e g.0 g.1) g.2
         expr_holds (tree.BinaryE op a b at) d h =
-            let g = given_of (binary_rule op at) (both (elaborated t class scope a) (elaborated t class scope b)) d h in
+            let g = given_of (binary_rule t op at) (both (elaborated t class scope a) (elaborated t class scope b)) d h in
             let p = both_of (elaborated t class scope a) (elaborated t class scope b) g.0 g.1 in
             binary_holds op at g.0 d (expr_holds a g.0.0 p.0) (expr_holds b g.0.1 p.1) g.2
         expr_holds (tree.GetE e n) d h =

@@ -40,7 +40,7 @@ leads_more P c (g ∷ fs) d f field e (other, b, is_other, of_other, final_other
     (other, b, is_other, of_other, final_other, ty_other, leads_more P b fs d f field e rest is of_class final_is ty)
 
 -- what an extension is
-extension_of : (q : PathData) (fs : List ℕ) (p : PathData) → extended q fs ≡ Some p
+pub extension_of : (q : PathData) (fs : List ℕ) (p : PathData) → extended q fs ≡ Some p
     → (record { root = q.root; fields = q.fields ++ fs } ≡ p) × (length (q.fields ++ fs) ≤ most_fields)
 extension_of q fs p =
     elim (nat_le (length (q.fields ++ fs)) most_fields)
@@ -54,7 +54,7 @@ extension_of q fs p =
     short_of : (n : ℕ) → nat_le n most_fields ≡ true → n ≤ most_fields
     short_of n h = grind (arith, nat_tests)
 
-class_of : (ty : CoreType) → is_class ty ≡ true → (c : ℕ) × (ty ≡ type.Class c)
+pub class_of : (ty : CoreType) → is_class ty ≡ true → (c : ℕ) × (ty ≡ type.Class c)
 class_of (type.Class c) h = (c, refl)
 class_of type.Int h = absurd (let e : false ≡ true = h in cc)
 class_of type.Boolean h = absurd (let e : false ≡ true = h in cc)

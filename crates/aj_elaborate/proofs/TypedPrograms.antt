@@ -1,63 +1,65 @@
 -- The core program of a program without faults is typed.
-use Rattle.std.proofs.Common.{Result, Ok, Err, MatchResult, IfOk, ◌≡◌, ℕ, ◌+◌, ◌<◌, ◌≤◌, Bool, true, false, ◌&&◌, List, [], ◌∷◌, ◌++◌, map, flat_map, length, filter, Option, Some, None, is_some, refl, ap, sym, ◌∙◌, subst, inl, inr, slice_get, position, bytes_eq, arith, option_map, unwrap_or, if◌then◌else◌, length-append, IfSome, IsSome, sum_by, max, Contains}
+use Rattle.std.proofs.Common.{Result, Ok, Err, MatchResult, IfOk, ◌≡◌, ℕ, ◌+◌, ◌<◌, ◌≤◌, suc, Bool, true, false, ◌&&◌, ◌||◌, List, [], ◌∷◌, ◌++◌, map, flat_map, length, filter, Option, Some, None, is_some, refl, ap, ap₂, sym, ◌∙◌, subst, inl, inr, slice_get, position, bytes_eq, arith, option_map, option_and_then, unwrap_or, if◌then◌else◌, length-append, IfSome, IsSome, sum_by, max, Contains}
 use Rattle.std.specs.Prelude.{codes}
 use Rattle.std.specs.List.{list_any}
+use Rattle.std.proofs.Math.Path.{fun_ext}
+use Rattle.std.proofs.lemmas.Bool.{and_parts, or_right}
 use Rattle.std.proofs.lemmas.List.{length-map}
 use Rattle.std.proofs.lemmas.List.Quantifiers.{position-Some}
-use Rattle.std.proofs.lemmas.Option.{slice_get_within, same_Some, none-some}
-use Rattle.aj_core.proofs.DispatchLemmas.{none_overrides, none_above}
-use Rattle.aj_elaborate.proofs.Targets.{own_are_targets, nothing_above, own_alone}
+use Rattle.std.proofs.lemmas.List.Sums.{sum_by-cons}
+use Rattle.std.proofs.lemmas.Option.{slice_get_within, slice_get-map, same_Some, none-some}
 use Rattle.std.proofs.lemmas.Slice.Eq.{bytes_eq-Decides}
+use Rattle.aj_ancestors.specs.Ancestors.{IsAncestor}
+use Rattle.aj_lemmas.proofs.Lists.{get_right}
+use Rattle.aj_lexer.specs.declared.tokens.Token.{Token}
 use Rattle.aj_paths.specs.Paths.{PathData}
 use Rattle.aj_core.specs.declared.types.CoreType.{CoreType}
 use Rattle.aj_core.specs.Core.{Program, Class, Field, Method, Stmts}
-use Rattle.aj_core.specs.Types.{field_type}
-use Rattle.aj_core.specs.Typed.{fields_from, is_final_at, IsEntry}
+use Rattle.aj_core.specs.Dispatch.{fields_in, inherited_fields, Overrides}
+use Rattle.aj_core.specs.Sizes.{stmt_nodes}
+use Rattle.aj_core.specs.Types.{field_type, Variable}
+use Rattle.aj_core.specs.Typed as typed
+use Rattle.aj_core.specs.Typed.{fields_from, is_final_at, IsEntry, IsRunnable, IsType, IsLock, parameters, size_of, most_nodes, AreAlike, IsTypedClass, IsTypedField, IsTypedMethod, AreTypedStmts, IsTyped}
 use Rattle.aj_syntax.specs.declared.tree.Param.{Param}
 use Rattle.aj_syntax.specs.declared.tree.TypeName.{TypeName}
-use Rattle.aj_syntax.specs.Limits.{most_height, most_tokens}
-use Rattle.aj_syntax.specs.Trees.{LockTree, MethodTree, FieldTree, MemberTree, FieldM, CtorM, MethodM, ClassTree, ProgramTree}
-use Rattle.aj_class_rules.specs.Names.{has_text}
-use Rattle.aj_class_rules.specs.Members.{is_empty, finals_of, class_names, field_names, is_entry, is_main}
-use Rattle.aj_class_rules.specs.Faults.{twice_faults}
-use Rattle.aj_class_rules.specs.Faults as class_fault
-use Rattle.aj_classes.specs.Table.{TableData, type_of, class_number, method_number, table_of}
-use Rattle.aj_type_rules.specs.Rulings.{gain, both}
-use Rattle.aj_type_rules.specs.Locks.{lock_rule}
-use Rattle.aj_type_rules.specs.Stmts.{block_core}
-use Rattle.aj_elaborate.specs.Programs.{all_there, ascending, guard_path, method_scope, method_result, method_node, run_of}
-use Rattle.aj_elaborate.proofs.Complete.{front_empty, back_empty}
-use Rattle.aj_elaborate.proofs.Inversions.{both_of, map_of}
-use Rattle.aj_elaborate.proofs.Parts.{Each, each_both, each_at, at_either, get_below, mapped_at, any_at, any_position, there_are, part_at, as_many, each_faultless}
-use Rattle.aj_elaborate.proofs.Places.{FieldAt, MethodAt, own_fields, own_methods, fields_at, methods_at, core_field, core_method, own_fields_long}
-use Rattle.aj_elaborate.proofs.Built.{class_node, IsBuilt, built, field_is, method_is, none_final, place_of_name}
-use Rattle.std.proofs.lemmas.List.Sums.{sum_by-cons}
-use Rattle.std.proofs.lemmas.Bool.{and_parts}
-use Rattle.aj_lexer.specs.declared.tokens.Token.{Token}
 use Rattle.aj_syntax.specs.declared.tree.TypeName.TheVariants as Y
 use Rattle.aj_syntax.specs.Grammar.{Grammar, Repeats, SpellsGuard, SpellsField, SpellsMember, SpellsClass}
 use Rattle.aj_syntax.specs.Heights.{stmt_heights, highest_member, highest_body}
-use Rattle.aj_core.specs.Types.{Variable}
-use Rattle.aj_core.specs.Sizes.{stmt_nodes}
-use Rattle.aj_core.specs.Typed as typed
-use Rattle.aj_core.specs.Typed.{IsType, IsLock, parameters, size_of, most_nodes, IsTypedClass, IsTypedField, IsTypedMethod, AreTypedStmts, IsTyped}
-use Rattle.aj_class_rules.specs.Members.{param_names}
+use Rattle.aj_syntax.specs.Limits.{most_height, most_tokens}
+use Rattle.aj_syntax.specs.Trees.{LockTree, MethodTree, FieldTree, MemberTree, FieldM, CtorM, MethodM, ClassTree, ProgramTree}
 use Rattle.aj_class_rules.specs.declared.fault.ClassFault.TheVariants.{UnknownClass}
+use Rattle.aj_class_rules.specs.Names.{has_text}
+use Rattle.aj_class_rules.specs.Members.{is_empty, finals_of, class_names, field_names, param_names, is_entry}
+use Rattle.aj_class_rules.specs.Lines.{above, ancestors_of, members_in, members_at, all_members, says_runnable, counts}
+use Rattle.aj_class_rules.specs.Faults.{twice_faults, is_class_in}
+use Rattle.aj_class_rules.specs.Faults as class_fault
+use Rattle.aj_class_rules.proofs.Faultless as class_rules
+use Rattle.aj_class_rules.proofs.Faultless.{IsFaultless, faultless, below, no_circle, ancestors_step, along_lines, inherited_step, inherited_none, field_names_append, few_names, few_fields, has_run}
+use Rattle.aj_classes.specs.Table.{TableData, ClassData, type_of, class_number, method_number, above_in_table, table_of}
 use Rattle.aj_type_rules.specs.declared.fault.TypeFault.TheVariants.{MissingReturn}
-use Rattle.aj_type_rules.specs.Rulings.{loss}
-use Rattle.aj_type_rules.specs.Scopes.{Binding, Scope, variable, parameters_from}
 use Rattle.aj_type_rules.specs.Completion.{completes_each}
-use Rattle.aj_type_rules.specs.Stmts.{block_faults}
-use Rattle.aj_elaborate.specs.Programs.{member_faults, method_faults, missing_return, faults_from, IsCoreOf}
-use Rattle.aj_elaborate.proofs.Inversions.{gain_of}
-use Rattle.aj_elaborate.proofs.TypedExprs.{Seen}
+use Rattle.aj_type_rules.specs.Locks.{lock_rule}
+use Rattle.aj_type_rules.specs.Rulings.{gain, loss, both}
+use Rattle.aj_type_rules.specs.Scopes.{Binding, Scope, variable, parameters_from}
+use Rattle.aj_type_rules.specs.Stmts.{block_core, block_faults}
+use Rattle.aj_elaborate.specs.Classes.{numbers_in, is_final_in, fields_of_each, field_numbers, ancestors_in, inherited_count, class_core}
+use Rattle.aj_elaborate.specs.Order.{IsLined}
+use Rattle.aj_elaborate.specs.Programs.{all_there, ascending, guard_path, method_scope, method_result, method_node, member_faults, method_faults, missing_return, faults_from, IsCoreOf}
+use Rattle.aj_elaborate.proofs.Agreement.{first, own_numbers, own_reads, numbers, field_there, core_class, classes_many, methods_owned, core_above, core_long, kinds_same, filter_both, fields_agree, methods_agree, classes_agree}
+use Rattle.aj_elaborate.proofs.Built.{IsBuilt, built, field_is, method_is, none_final, place_of_name}
+use Rattle.aj_elaborate.proofs.Complete.{front_empty, back_empty}
+use Rattle.aj_elaborate.proofs.Inversions.{gain_of, both_of, map_of}
+use Rattle.aj_elaborate.proofs.Lined.{fields_are, fields_on, fields_top}
+use Rattle.aj_elaborate.proofs.Overridden.{entry_there, overriding_alike}
+use Rattle.aj_elaborate.proofs.Paired.{are_targets}
+use Rattle.aj_elaborate.proofs.Parts.{Each, all_of, each_both, each_at, at_either, get_below, mapped_at, any_position, there_are, part_at, as_many, each_faultless, head_same, tail_same}
+use Rattle.aj_elaborate.proofs.PathsInOrder.{each_ascending, sorted_ascending}
+use Rattle.aj_elaborate.proofs.Places.{FieldAt, MethodAt, own_fields, own_methods, fields_at, methods_at, field_entry, field_entries, core_field, core_method, own_fields_long, own_index, classes_between, method_classes_between, counted_at, counted_long}
+use Rattle.aj_elaborate.proofs.Spelled.{members_size, program_size, program_long}
+use Rattle.aj_elaborate.proofs.TreeLines.{the_table, table_long, place, class_known, same_entry, above_same, lined}
+use Rattle.aj_elaborate.proofs.TypedExprs.{Agrees, Seen}
 use Rattle.aj_elaborate.proofs.TypedLocks.{lock_holds}
 use Rattle.aj_elaborate.proofs.TypedStmts.{AreFine, block_fine, first_in, later_in, stmt_sizes}
-use Rattle.aj_elaborate.proofs.Spelled.{members_size, program_size, program_long}
-use Rattle.aj_elaborate.proofs.PathsInOrder.{each_ascending, sorted_ascending}
-use Rattle.aj_elaborate.proofs.Parts.{all_of, head_same, tail_same}
-use Rattle.aj_elaborate.proofs.Places.{own_index, classes_between, method_classes_between, counted_at, counted_long}
-use Rattle.aj_elaborate.proofs.Agreement.{IsSound, AreSound, all_sound, known_in, few_of, class_there, classes_many, place, numbers, own_reads, entry_there, run_there, agrees}
 
 -- ---- what the grammar tells of members
 
@@ -86,10 +88,10 @@ own_guarded k i (FieldM f ∷ ms) ts (xs, ys, (ps, zs, public_is, one, is_own), 
 own_guarded k i (CtorM n params sets ∷ ms) ts (xs, ys, one, rest, is) = own_guarded k i ms ys rest
 own_guarded k i (MethodM m ∷ ms) ts (xs, ys, one, rest, is) = own_guarded k i ms ys rest
 
-all_guarded : (k : ℕ) (cs : ProgramTree) (ts : List Token) → Repeats SpellsClass cs ts → Each IsWellGuarded (fields_at k cs)
-all_guarded k [] ts h = tt
-all_guarded k (c ∷ cs) ts (us, vs, (ps, rs, xs, d, b, e, public_is, runnable_is, members, is_own), rest, is) =
-    each_both IsWellGuarded (own_fields k 0 c.members) (fields_at (k + 1) cs) (own_guarded k 0 c.members xs members) (all_guarded (k + 1) cs vs rest)
+all_guarded : (start : ℕ → ℕ) (k : ℕ) (cs : ProgramTree) (ts : List Token) → Repeats SpellsClass cs ts → Each IsWellGuarded (fields_at start k cs)
+all_guarded start k [] ts h = tt
+all_guarded start k (c ∷ cs) ts (us, vs, (ps, es, rs, xs, d, b, e, public_is, extends_is, runnable_is, members, is_own), rest, is) =
+    each_both IsWellGuarded (own_fields k (start k) c.members) (fields_at start (k + 1) cs) (own_guarded k (start k) c.members xs members) (all_guarded start (k + 1) cs vs rest)
 
 abbrev IsLow : MethodAt → Type 0
 IsLow d = 1 + stmt_heights d.method.body ≤ most_height
@@ -134,7 +136,7 @@ known_method known k m h =
     record {
       result = front_empty result (twice ++ types ++ many) h;
       params = each_faultless (λ p. class_fault.type_faults known p.ty) m.params (back_empty twice types (front_empty (twice ++ types) many params));
-      few = omega (arith, few_of (param_names m.params) 16 (back_empty (twice ++ types) many params), length-map m.params (λ p. p.name));
+      few = omega (arith, few_names (param_names m.params) 16 (back_empty (twice ++ types) many params), length-map m.params (λ p. p.name));
     }
 
 own_known : (known : List ℕ → Bool) (k i : ℕ) (ms : List MemberTree) → flat_map (class_fault.member_faults known) ms ≡ [] → Each (IsKnownField known) (own_fields k i ms)
@@ -159,32 +161,40 @@ own_known_methods known k (MethodM m ∷ ms) h = (
   own_known_methods known k ms (back_empty (class_fault.member_faults known (MethodM m)) (flat_map (class_fault.member_faults known) ms) h),
 )
 
-all_known : (known : List ℕ → Bool) (k : ℕ) (cs : ProgramTree) → Each (IsSound known) cs → Each (IsKnownField known) (fields_at k cs)
-all_known known k [] h = tt
-all_known known k (c ∷ cs) h =
-    each_both (IsKnownField known) (own_fields k 0 c.members) (fields_at (k + 1) cs) (own_known known k 0 c.members h.0.members) (all_known known (k + 1) cs h.1)
+-- the members of a class have no faults of their own
+abbrev HasKnown : (List ℕ → Bool) → ClassTree → Type 0
+HasKnown known c = flat_map (class_fault.member_faults known) c.members ≡ []
 
-all_known_methods : (known : List ℕ → Bool) (k : ℕ) (cs : ProgramTree) → Each (IsSound known) cs → Each (IsKnownMethod known) (methods_at k cs)
+all_known : (start : ℕ → ℕ) (known : List ℕ → Bool) (k : ℕ) (cs : ProgramTree) → Each (HasKnown known) cs → Each (IsKnownField known) (fields_at start k cs)
+all_known start known k [] h = tt
+all_known start known k (c ∷ cs) h =
+    each_both (IsKnownField known) (own_fields k (start k) c.members) (fields_at start (k + 1) cs) (own_known known k (start k) c.members h.0) (all_known start known (k + 1) cs h.1)
+
+all_known_methods : (known : List ℕ → Bool) (k : ℕ) (cs : ProgramTree) → Each (HasKnown known) cs → Each (IsKnownMethod known) (methods_at k cs)
 all_known_methods known k [] h = tt
 all_known_methods known k (c ∷ cs) h =
-    each_both (IsKnownMethod known) (own_methods k c.members) (methods_at (k + 1) cs) (own_known_methods known k c.members h.0.members) (all_known_methods known (k + 1) cs h.1)
+    each_both (IsKnownMethod known) (own_methods k c.members) (methods_at (k + 1) cs) (own_known_methods known k c.members h.0) (all_known_methods known (k + 1) cs h.1)
+
+each_from : {A : Type 0} (P : A → Type 0) (xs : List A) → ((i : ℕ) (x : A) → slice_get xs i ≡ Some x → P x) → Each P xs
+each_from P [] h = tt
+each_from P (x ∷ xs) h = (h 0 x refl, each_from P xs (λ i y at. h (suc i) y at))
 
 -- ---- what the type faults tell of methods
 
-abbrev IsFaultless : TableData → MethodAt → Type 0
-IsFaultless t d = method_faults t d.class d.method ≡ []
+abbrev HasNoFaults : TableData → MethodAt → Type 0
+HasNoFaults t d = method_faults t d.class d.method ≡ []
 
-own_faultless : (t : TableData) (k : ℕ) (ms : List MemberTree) → flat_map (member_faults t k) ms ≡ [] → Each (IsFaultless t) (own_methods k ms)
+own_faultless : (t : TableData) (k : ℕ) (ms : List MemberTree) → flat_map (member_faults t k) ms ≡ [] → Each (HasNoFaults t) (own_methods k ms)
 own_faultless t k [] h = tt
 own_faultless t k (FieldM f ∷ ms) h = own_faultless t k ms (back_empty (member_faults t k (FieldM f)) (flat_map (member_faults t k) ms) h)
 own_faultless t k (CtorM n params sets ∷ ms) h = own_faultless t k ms h
 own_faultless t k (MethodM m ∷ ms) h =
     (front_empty (method_faults t k m) (flat_map (member_faults t k) ms) h, own_faultless t k ms (back_empty (method_faults t k m) (flat_map (member_faults t k) ms) h))
 
-all_faultless : (t : TableData) (k : ℕ) (cs : ProgramTree) → faults_from t k cs ≡ [] → Each (IsFaultless t) (methods_at k cs)
+all_faultless : (t : TableData) (k : ℕ) (cs : ProgramTree) → faults_from t k cs ≡ [] → Each (HasNoFaults t) (methods_at k cs)
 all_faultless t k [] h = tt
 all_faultless t k (c ∷ cs) h =
-    each_both (IsFaultless t) (own_methods k c.members) (methods_at (k + 1) cs)
+    each_both (HasNoFaults t) (own_methods k c.members) (methods_at (k + 1) cs)
     (own_faultless t k c.members (front_empty (flat_map (member_faults t k) c.members) (faults_from t (k + 1) cs) h))
     (all_faultless t (k + 1) cs (back_empty (flat_map (member_faults t k) c.members) (faults_from t (k + 1) cs) h))
 
@@ -204,14 +214,14 @@ own_size k i (FieldM f ∷ ms) = omega (arith, own_size k (i + 1) ms)
 own_size k i (CtorM n params sets ∷ ms) = omega (arith, own_size k i ms)
 own_size k i (MethodM m ∷ ms) = omega (arith, own_size k i ms)
 
-all_size : (k : ℕ) (cs : ProgramTree) → length cs + length (fields_at k cs) + length (methods_at k cs) + bodies_size (methods_at k cs) ≡ program_size cs
-all_size k [] = refl
-all_size k (c ∷ cs) =
+all_size : (start : ℕ → ℕ) (k : ℕ) (cs : ProgramTree) → length cs + length (fields_at start k cs) + length (methods_at k cs) + bodies_size (methods_at k cs) ≡ program_size cs
+all_size start k [] = refl
+all_size start k (c ∷ cs) =
     omega (
       arith,
-      own_size k 0 c.members,
-      all_size (k + 1) cs,
-      length-append (own_fields k 0 c.members) (fields_at (k + 1) cs),
+      own_size k (start k) c.members,
+      all_size start (k + 1) cs,
+      length-append (own_fields k (start k) c.members) (fields_at start (k + 1) cs),
       length-append (own_methods k c.members) (methods_at (k + 1) cs),
       bodies_both (own_methods k c.members) (methods_at (k + 1) cs),
     )
@@ -283,15 +293,74 @@ params_seen t x (p ∷ ps) above =
     (record { name = p.name.text; variable = record { slot = x; is_final = p.is_final; ty = type_of t.names p.ty } })
     (params_seen t (x + 1) ps (omega (arith, above))) above
 
-module _ (tree : ProgramTree) (P : Program) (b : IsBuilt tree P) (s : AreSound tree) where
+finals_both : (xs ys : List MemberTree) → finals_of (xs ++ ys) ≡ finals_of xs ++ finals_of ys
+finals_both [] ys = refl
+finals_both (FieldM f ∷ ms) ys = step f.is_final (finals_both ms ys)
+  where
+    step : (fin : Bool) → finals_of (ms ++ ys) ≡ finals_of ms ++ finals_of ys
+        → (if fin then (f.ty, f.name) ∷ finals_of (ms ++ ys) else finals_of (ms ++ ys)) ≡ (if fin then (f.ty, f.name) ∷ finals_of ms else finals_of ms) ++ finals_of ys
+    step true h = ap (λ z. (f.ty, f.name) ∷ z) h
+    step false h = h
+finals_both (CtorM n params sets ∷ ms) ys = finals_both ms ys
+finals_both (MethodM m ∷ ms) ys = finals_both ms ys
+
+both_empty : {A : Type 0} (xs ys : List A) → is_empty (xs ++ ys) ≡ true → (is_empty xs ≡ true) × (is_empty ys ≡ true)
+both_empty [] ys h = (refl, h)
+both_empty (x ∷ xs) ys h = absurd (let e : false ≡ true = h in cc)
+
+module _ (tree : ProgramTree) (P : Program) (b : IsBuilt tree P) (whole : IsFaultless tree) where
   abbrev t : TableData
-  t = table_of tree
+  t = the_table tree
+
+  abbrev known_in : List ℕ → Bool
+  known_in = is_class_in tree
+
+  abbrev in_line : IsLined t
+  in_line = lined tree whole
+
+  members_known : Each (HasKnown known_in) tree
+  members_known = each_from (HasKnown known_in) tree (λ i c at. (whole.classes i c at).members)
+
+  fields_known : Each (IsKnownField known_in) (fields_at (inherited_count t) 0 tree)
+  fields_known = all_known (inherited_count t) known_in 0 tree members_known
+
+  methods_known : Each (IsKnownMethod known_in) (methods_at 0 tree)
+  methods_known = all_known_methods known_in 0 tree members_known
+
+  method_params_known : (n : ℕ) (d : MethodAt) → slice_get (methods_at 0 tree) n ≡ Some d → Each (λ p. class_fault.type_faults known_in p.ty ≡ []) d.method.params
+  method_params_known n d at = (each_at (IsKnownMethod known_in) (methods_at 0 tree) n d methods_known at).params
+
+  -- ---- the table and the core program agree
+
+  class_low : (c : ℕ) (d : ClassData) → slice_get t.classes c ≡ Some d → c < length t.classes
+  class_low c d at = slice_get_within t.classes c d at
+
+  -- a class that counts as `implements Runnable` has its `run`
+  run_there : (c : ℕ) (d : ClassData) → slice_get t.classes c ≡ Some d → d.runnable ≡ true → (m : ℕ) × (method_number t c (codes "run") ≡ Some m) × IsEntry P c m
+  run_there c d at counting =
+      let C = class_known tree c d at in
+      let says : counts tree c ≡ true = ap (λ z. z.runnable) (same_entry tree c d C.0 C.1 at) ∙ counting in
+      entry_there tree P b whole fields_known method_params_known (codes "run") c (class_low c d at) (has_run tree c C.0 (whole.classes c C.0 C.1) says)
+
+  runs_agree : (c : ℕ) (d : ClassData) → slice_get t.classes c ≡ Some d → d.runnable ≡ true → IsRunnable P c
+  runs_agree c d at counting =
+      let r = run_there c d at counting in
+      (class_core t c d, core_class tree P b c d at, ap is_some (ap (λ z. if z then method_number t c (codes "run") else None) counting ∙ r.1))
+
+  agrees : Agrees t P
+  agrees = record {
+    fields = fields_agree tree P b whole;
+    methods = methods_agree tree P b whole;
+    classes = classes_agree tree P b;
+    kinds = λ c d h. kinds_same tree P b c d ∙ h;
+    runs = runs_agree;
+  }
 
   names_many : length t.names ≡ length P.classes
   names_many = length-map (class_names tree) (λ n. n.text) ∙ length-map tree (λ c. c.name) ∙ sym (classes_many tree P b)
 
   -- a type without faults is one of the program
-  type_known : (ty : TypeName) → class_fault.type_faults (known_in tree) ty ≡ [] → IsType P (type_of t.names ty)
+  type_known : (ty : TypeName) → class_fault.type_faults known_in ty ≡ [] → IsType P (type_of t.names ty)
   type_known Y.Int h = tt
   type_known Y.Boolean h = tt
   type_known (Y.Class n) h =
@@ -301,11 +370,11 @@ module _ (tree : ProgramTree) (P : Program) (b : IsBuilt tree P) (s : AreSound t
       let below : c.0 < length P.classes = omega (arith, within, names_many) in
       subst (λ z. z < length P.classes) (ap (λ o. unwrap_or o 0) (sym c.1)) below
 
-  result_known : (o : Option TypeName) → class_fault.result_faults (known_in tree) o ≡ [] → IfSome (option_map (type_of t.names) o) (IsType P)
+  result_known : (o : Option TypeName) → class_fault.result_faults known_in o ≡ [] → IfSome (option_map (type_of t.names) o) (IsType P)
   result_known None h = tt
   result_known (Some ty) h = type_known ty h
 
-  params_known : (ps : List Param) → Each (λ p. class_fault.type_faults (known_in tree) p.ty ≡ []) ps → Each (λ p. IsType P p.1) (map (param_pair t.names) ps)
+  params_known : (ps : List Param) → Each (λ p. class_fault.type_faults known_in p.ty ≡ []) ps → Each (λ p. IsType P p.1) (map (param_pair t.names) ps)
   params_known [] h = tt
   params_known (p ∷ ps) h = (type_known p.ty h.0, params_known ps h.1)
 
@@ -316,123 +385,247 @@ module _ (tree : ProgramTree) (P : Program) (b : IsBuilt tree P) (s : AreSound t
   guard_is_lock k (Some l) g h =
       let p = map_of Some (gain (lock_rule t k [] l)) g h in
       subst (λ z. IfSome z (IsLock P k [])) p.2
-      (lock_holds t P (agrees tree P b s) k [] [] no_more_seen l p.0 (gain_of (lock_rule t k [] l) p.0 p.1))
+      (lock_holds t P agrees k [] [] no_more_seen l p.0 (gain_of (lock_rule t k [] l) p.0 p.1))
 
   guard_kept : (k : ℕ) (guard : Option LockTree) (g : Option PathData) → IsSome guard → guard_path t k guard ≡ Some g → IsSome g
   guard_kept k None g some h = absurd (let e : false ≡ true = some in cc)
   guard_kept k (Some l) g some h = let p = map_of Some (gain (lock_rule t k [] l)) g h in subst (λ z. IsSome z) p.2 refl
 
-  -- the index of a field is its place among those of its class
-  index_is : (c : ℕ) (C : ClassTree) (at : slice_get tree c ≡ Some C) (f : ℕ) (d : FieldAt) → d.class ≡ c → slice_get (fields_at 0 tree) f ≡ Some d
-      → slice_get (fields_from c 0 P.fields) d.index ≡ Some f
-  index_is c C at f d class_is at_f =
-      let p = place tree P b c C at in
-      let mine = own_fields c 0 C.members in
+  -- a field of a class by its place among the class's own
+  record IsOwnField (c : ℕ) (C : ClassTree) (at : slice_get tree c ≡ Some C) (f : ℕ) (d : FieldAt) : Type 0 where
+    place_there : ℕ
+    number : f ≡ first tree P b c C at + place_there
+    there : slice_get (own_fields c (inherited_count t c) C.members) place_there ≡ Some d
+
+  own_field_at : (c : ℕ) (C : ClassTree) (at : slice_get tree c ≡ Some C) (f : ℕ) (d : FieldAt) → d.class ≡ c → slice_get (fields_at (inherited_count t) 0 tree) f ≡ Some d → IsOwnField c C at f d
+  own_field_at c C at f d class_is at_f =
+      let p = place tree c C at in
+      let mine = own_fields c (inherited_count t c) C.members in
       elim (at_either p.fields_before (mine ++ p.fields_after) f d (ap (λ z. slice_get z f) (sym p.fields) ∙ at_f)) [
         | inl early ↦ absurd (let below : d.class < c = each_at (λ d. d.class < c) p.fields_before f d p.apart_before early in omega (arith, below, class_is))
         | inr later ↦ elim (at_either mine p.fields_after later.0 d later.2) [
-          | inl here ↦
-              let index : d.index ≡ 0 + later.0 = own_index c 0 C.members later.0 d here in
-              let same : length p.fields_before + d.index ≡ f = omega (arith, index, later.1) in
-              let within : d.index < length mine = omega (arith, index, slice_get_within mine later.0 d here) in
-              ap (λ z. slice_get z d.index) (numbers tree P b c C at) ∙ counted_at (length p.fields_before) (length mine) d.index within ∙ ap Some same
+          | inl here ↦ record { place_there = later.0; number = omega (arith, later.1); there = here }
           | inr late ↦ absurd (let above : c < d.class = each_at (λ d. c < d.class) p.fields_after late.0 d p.apart_after late.2 in omega (arith, above, class_is))
         ]
       ]
 
-  module _ (guarded : Each IsWellGuarded (fields_at 0 tree)) where
+  -- the index of a field is its place in its class, behind the fields from above
+  index_is : (c : ℕ) (C : ClassTree) (at : slice_get tree c ≡ Some C) (f : ℕ) (d : FieldAt) → d.class ≡ c → slice_get (fields_at (inherited_count t) 0 tree) f ≡ Some d
+      → slice_get (field_numbers t c) d.index ≡ Some f
+  index_is c C at f d class_is at_f =
+      let o = own_field_at c C at f d class_is at_f in
+      let mine = own_fields c (inherited_count t c) C.members in
+      let inherited = fields_of_each t (ancestors_in t c) in
+      let index : d.index ≡ length inherited + o.place_there = own_index c (inherited_count t c) C.members o.place_there d o.there in
+      let within : o.place_there < length mine = slice_get_within mine o.place_there d o.there in
+      let same : first tree P b c C at + o.place_there ≡ f = omega (arith, o.number) in
+      ap (slice_get (field_numbers t c)) index
+      ∙ ap (λ z. slice_get z (length inherited + o.place_there)) (fields_are t c)
+      ∙ get_right inherited (numbers_in (slice_get t.classes c)) o.place_there
+      ∙ ap (λ z. slice_get z o.place_there) (own_numbers tree P b c C at)
+      ∙ counted_at (first tree P b c C at) (length mine) o.place_there within ∙ ap Some same
+
+  module _ (guarded : Each IsWellGuarded (fields_at (inherited_count t) 0 tree)) where
     pub field_typed : (f : ℕ) (field : Field) → slice_get P.fields f ≡ Some field → IsTypedField P f field
     field_typed f field at =
-        let r = part_at (core_field t) (fields_at 0 tree) P.fields b.fields f field at in
+        let r = part_at (core_field t) (fields_at (inherited_count t) 0 tree) P.fields b.fields f field at in
         let d = r.0 in
         let is = field_is t P f d field at r.2 in
-        let within = (each_at (λ d. (0 ≤ d.class) × (d.class < 0 + length tree)) (fields_at 0 tree) f d (classes_between 0 tree) r.1).1 in
+        let within = (each_at (λ d. (0 ≤ d.class) × (d.class < 0 + length tree)) (fields_at (inherited_count t) 0 tree) f d (classes_between (inherited_count t) 0 tree) r.1).1 in
         let C = get_below tree d.class (omega (arith, within)) in
+        let e = get_below t.classes d.class (omega (arith, within, table_long tree)) in
         record {
-          class = class_node t P.fields P.methods d.class C.0;
-          of_class = ap (slice_get P.classes) is.class ∙ class_there tree P b d.class C.0 C.1;
-          index = ap (slice_get (fields_from d.class 0 P.fields)) is.index ∙ index_is d.class C.0 C.1 f d refl r.1;
-          ty = subst (IsType P) (sym is.ty) (type_known d.field.ty (each_at (IsKnownField (known_in tree)) (fields_at 0 tree) f d (all_known (known_in tree) 0 tree s.classes) r.1));
+          class = class_core t d.class e.0;
+          of_class = ap (slice_get P.classes) is.class ∙ core_class tree P b d.class e.0 e.1;
+          index = ap (slice_get (field_numbers t d.class)) is.index ∙ index_is d.class C.0 C.1 f d refl r.1;
+          ty = subst (IsType P) (sym is.ty) (type_known d.field.ty (each_at (IsKnownField known_in) (fields_at (inherited_count t) 0 tree) f d fields_known r.1));
           guard = subst (λ k. IfSome field.guard (IsLock P k [])) (sym is.class) (guard_is_lock d.class d.field.guard field.guard is.guard);
           unguarded = λ final_is.
-              let none : d.field.guard ≡ None = (each_at IsWellGuarded (fields_at 0 tree) f d guarded r.1).plain (sym is.finality ∙ final_is) in
+              let none : d.field.guard ≡ None = (each_at IsWellGuarded (fields_at (inherited_count t) 0 tree) f d guarded r.1).plain (sym is.finality ∙ final_is) in
               same_Some field.guard None (sym is.guard ∙ ap (guard_path t d.class) none);
           writes = λ set.
-              let some : IsSome d.field.guard = (each_at IsWellGuarded (fields_at 0 tree) f d guarded r.1).writes (sym is.writes ∙ set) in
+              let some : IsSome d.field.guard = (each_at IsWellGuarded (fields_at (inherited_count t) 0 tree) f d guarded r.1).writes (sym is.writes ∙ set) in
               guard_kept d.class d.field.guard field.guard some is.guard;
         }
 
   -- ---- classes
 
-  run_is_entry : (c : ℕ) (C : ClassTree) → slice_get tree c ≡ Some C → (says : Bool) → C.runnable ≡ says → IfSome (run_of t c C) (IsEntry P c)
-  run_is_entry c C at true says =
-      let r = run_there tree P b c C at (each_at (IsSound (known_in tree)) tree c C s.classes at) says in
-      subst (λ z. IfSome z (IsEntry P c)) (sym r.1) r.2
-  run_is_entry c C at false says =
-      let none : run_of t c C ≡ None = ap (λ z. if z then method_number t c (codes "run") else None) says in
-      subst (λ z. IfSome z (IsEntry P c)) (sym none) tt
+  -- a class has as many fields as the tree tells, those from above among them
+  fields_long : (c : ℕ) → length (field_numbers t c) ≡ length (field_names (all_members tree c))
+  fields_long = along_lines tree whole (λ c. length (field_numbers t c) ≡ length (field_names (all_members tree c))) first_one next_one
+    where
+      own_long : (c : ℕ) → length (numbers_in (slice_get t.classes c)) ≡ length (field_names (members_at tree c))
+      own_long c = by_class (slice_get tree c) refl
+        where
+          by_class : (o : Option ClassTree) → slice_get tree c ≡ o → length (numbers_in (slice_get t.classes c)) ≡ length (field_names (members_at tree c))
+          by_class (Some C) at =
+              ap length (own_numbers tree P b c C at) ∙ counted_long (first tree P b c C at) (length (own_fields c (inherited_count t c) C.members))
+              ∙ own_fields_long c (inherited_count t c) C.members ∙ ap (λ o. length (field_names (members_in o))) (sym at)
+          by_class None none = by_entry (slice_get t.classes c) refl ∙ ap (λ o. length (field_names (members_in o))) (sym none)
+            where
+              by_entry : (o : Option ClassData) → slice_get t.classes c ≡ o → length (numbers_in o) ≡ 0
+              by_entry None is = refl
+              by_entry (Some d) is = let C = class_known tree c d is in absurd (none-some C.0 (sym none ∙ C.1))
+
+      first_one : (c : ℕ) → above tree c ≡ None → length (field_numbers t c) ≡ length (field_names (all_members tree c))
+      first_one c none =
+          ap length (fields_top t in_line c (ap (λ f. f c) (above_same tree) ∙ none)) ∙ own_long c
+          ∙ ap (λ ms. length (field_names (ms ++ members_at tree c))) (sym (inherited_none tree whole c none))
+
+      next_one : (c d : ℕ) → above tree c ≡ Some d → length (field_numbers t d) ≡ length (field_names (all_members tree d)) → length (field_numbers t c) ≡ length (field_names (all_members tree c))
+      next_one c d is h =
+          ap length (fields_on t in_line c d (ap (λ f. f c) (above_same tree) ∙ is)) ∙ length-append (field_numbers t d) (numbers_in (slice_get t.classes c))
+          ∙ ap₂ (λ x y. x + y) h (own_long c) ∙ sym (length-append (field_names (all_members tree d)) (field_names (members_at tree c)))
+          ∙ ap length (sym (field_names_append (all_members tree d) (members_at tree c)))
+          ∙ ap (λ ms. length (field_names (ms ++ members_at tree c))) (sym (inherited_step tree whole c d is))
+
+  -- the numbers of the final fields, where the tree has none
+  none_kept : (c : ℕ) → is_empty (finals_of (all_members tree c)) ≡ true → filter (λ f. is_final_in (slice_get t.fields f)) (field_numbers t c) ≡ []
+  none_kept = along_lines tree whole (λ c. is_empty (finals_of (all_members tree c)) ≡ true → filter kept (field_numbers t c) ≡ []) first_one next_one
+    where
+      kept : ℕ → Bool
+      kept f = is_final_in (slice_get t.fields f)
+
+      own_none : (c : ℕ) → is_empty (finals_of (members_at tree c)) ≡ true → filter kept (numbers_in (slice_get t.classes c)) ≡ []
+      own_none c plain = by_class (slice_get tree c) refl
+        where
+          by_class : (o : Option ClassTree) → slice_get tree c ≡ o → filter kept (numbers_in (slice_get t.classes c)) ≡ []
+          by_class (Some C) at =
+              ap (filter kept) (own_numbers tree P b c C at)
+              ∙ none_final kept (λ f. field_type (slice_get P.fields f)) t.names (first tree P b c C at) (own_fields c (inherited_count t c) C.members)
+              (own_reads tree P b c C at) (none_are_final c (inherited_count t c) C.members (sym (ap (λ o. is_empty (finals_of (members_in o))) at) ∙ plain))
+          by_class None none = by_entry (slice_get t.classes c) refl
+            where
+              by_entry : (o : Option ClassData) → slice_get t.classes c ≡ o → filter kept (numbers_in o) ≡ []
+              by_entry None is = refl
+              by_entry (Some d) is = let C = class_known tree c d is in absurd (none-some C.0 (sym none ∙ C.1))
+
+      first_one : (c : ℕ) → above tree c ≡ None → is_empty (finals_of (all_members tree c)) ≡ true → filter kept (field_numbers t c) ≡ []
+      first_one c none plain =
+          ap (filter kept) (fields_top t in_line c (ap (λ f. f c) (above_same tree) ∙ none))
+          ∙ own_none c (sym (ap (λ ms. is_empty (finals_of (ms ++ members_at tree c))) (inherited_none tree whole c none)) ∙ plain)
+
+      next_one : (c d : ℕ) → above tree c ≡ Some d → (is_empty (finals_of (all_members tree d)) ≡ true → filter kept (field_numbers t d) ≡ []) → is_empty (finals_of (all_members tree c)) ≡ true → filter kept (field_numbers t c) ≡ []
+      next_one c d is h plain =
+          let parts = both_empty (finals_of (all_members tree d)) (finals_of (members_at tree c))
+          (sym (ap is_empty (finals_both (all_members tree d) (members_at tree c))) ∙ sym (ap (λ ms. is_empty (finals_of (ms ++ members_at tree c))) (inherited_step tree whole c d is)) ∙ plain) in
+          ap (filter kept) (fields_on t in_line c d (ap (λ f. f c) (above_same tree) ∙ is))
+          ∙ filter_both kept (field_numbers t d) (numbers_in (slice_get t.classes c))
+          ∙ ap₂ (λ x y. x ++ y) (h parts.0) (own_none c parts.1)
+
+  -- whether a field is final, by the table and by the core program
+  pub finality_same : (f : ℕ) → is_final_in (slice_get t.fields f) ≡ is_final_at (slice_get P.fields f)
+  finality_same f = by_field (slice_get P.fields f) refl
+    where
+      entries : slice_get t.fields f ≡ option_map (field_entry t.names) (slice_get (fields_at (inherited_count t) 0 tree) f)
+      entries = ap (λ z. slice_get z f) (field_entries (inherited_count t) t.names 0 tree) ∙ slice_get-map (field_entry t.names) (fields_at (inherited_count t) 0 tree) f
+
+      by_field : (o : Option Field) → slice_get P.fields f ≡ o → is_final_in (slice_get t.fields f) ≡ is_final_at (slice_get P.fields f)
+      by_field (Some x) at =
+          let r = part_at (core_field t) (fields_at (inherited_count t) 0 tree) P.fields b.fields f x at in
+          ap is_final_in (entries ∙ ap (option_map (field_entry t.names)) r.1) ∙ sym (field_is t P f r.0 x at r.2).finality ∙ ap is_final_at (sym at)
+      by_field None none = by_place (slice_get (fields_at (inherited_count t) 0 tree) f) refl
+        where
+          by_place : (o : Option FieldAt) → slice_get (fields_at (inherited_count t) 0 tree) f ≡ o → is_final_in (slice_get t.fields f) ≡ is_final_at (slice_get P.fields f)
+          by_place None is = ap is_final_in (entries ∙ ap (option_map (field_entry t.names)) is) ∙ ap is_final_at (sym none)
+          by_place (Some d) is = let x = field_there tree P b f d is in absurd (none-some x.field (sym none ∙ x.is))
+
+  run_is_entry : (c : ℕ) (d : ClassData) → slice_get t.classes c ≡ Some d → (counting : Bool) → d.runnable ≡ counting → IfSome (if counting then method_number t c (codes "run") else None) (IsEntry P c)
+  run_is_entry c d at true counting = let r = run_there c d at counting in subst (λ z. IfSome z (IsEntry P c)) (sym r.1) r.2
+  run_is_entry c d at false counting = tt
+
+  -- the fields from above, and then the class's own
+  fields_in_order : (c : ℕ) (C : ClassTree) → slice_get tree c ≡ Some C → (a : Option ℕ) → above_in_table t c ≡ a → field_numbers t c ≡ inherited_fields P a ++ fields_from c 0 P.fields
+  fields_in_order c C at None none = fields_top t in_line c none ∙ sym (numbers tree P b c C at)
+  fields_in_order c C at (Some d) is =
+      let e = get_below t.classes d (in_line.below c d is) in
+      fields_on t in_line c d is ∙ ap₂ (λ x y. x ++ y) (sym (ap fields_in (core_class tree P b d e.0 e.1))) (sym (numbers tree P b c C at))
+
+  -- a class counts as `implements Runnable` where the class above does
+  counts_on : (c d : ℕ) (e f : ClassData) → slice_get t.classes c ≡ Some e → slice_get t.classes d ≡ Some f → above_in_table t c ≡ Some d → f.runnable ≡ true → e.runnable ≡ true
+  counts_on c d e f at_c at_d is counting =
+      let C = class_known tree c e at_c in
+      let D = class_known tree d f at_d in
+      let in_tree : above tree c ≡ Some d = sym (ap (λ g. g c) (above_same tree)) ∙ is in
+      let says : counts tree d ≡ true = ap (λ z. z.runnable) (same_entry tree d f D.0 D.1 at_d) ∙ counting in
+      let step : ancestors_of tree c ≡ d ∷ ancestors_of tree d = ancestors_step (above tree) (length tree) c d (below tree) (no_circle tree whole) in_tree in
+      ap (λ z. z.runnable) (sym (same_entry tree c e C.0 C.1 at_c))
+      ∙ ap (λ ks. says_runnable tree c || list_any (says_runnable tree) ks) step
+      ∙ or_right (says_runnable tree c) (list_any (says_runnable tree) (d ∷ ancestors_of tree d)) says
+
+  only_counting : (b : Bool) (o : Option ℕ) → IsSome (if b then o else None) → b ≡ true
+  only_counting true o some = refl
+  only_counting false o some = absurd (let e : false ≡ true = some in cc)
 
   pub class_typed : (c : ℕ) (class : Class) → slice_get P.classes c ≡ Some class → IsTypedClass P c class
   class_typed c class at =
       let within = slice_get_within P.classes c class at in
       let C = get_below tree c (omega (arith, within, classes_many tree P b)) in
-      let p = place tree P b c C.0 C.1 in
-      let sound_is = each_at (IsSound (known_in tree)) tree c C.0 s.classes C.1 in
-      subst (IsTypedClass P c) (same_Some (class_node t P.fields P.methods c C.0) class (sym (class_there tree P b c C.0 C.1) ∙ at)) (record {
-        above = tt;
-        apart = none_above P (nothing_above tree P b) c c;
-        fields = refl;
-        finals = refl;
-        targets = own_are_targets P c (class_node t P.fields P.methods c C.0) refl refl;
-        runs = λ d is. absurd (none-some d is);
-        run = run_is_entry c C.0 C.1 C.0.runnable refl;
-        few = omega (
-          arith,
-          ap length (numbers tree P b c C.0 C.1),
-          counted_long (length p.fields_before) (length (own_fields c 0 C.0.members)),
-          own_fields_long c 0 C.0.members,
-          few_of (field_names C.0.members) 32 sound_is.few,
-        );
+      let e = get_below t.classes c (omega (arith, within, classes_many tree P b, table_long tree)) in
+      let low : c < length t.classes = class_low c e.0 e.1 in
+      let above_is : above_in_table t c ≡ e.0.above = ap (option_and_then (λ (x : ClassData). x.above)) e.1 in
+      subst (IsTypedClass P c) (same_Some (class_core t c e.0) class (sym (core_class tree P b c e.0 e.1) ∙ at)) (record {
+        above = above_low e.0.above above_is;
+        apart = λ round. in_line.apart c (subst (λ f. IsAncestor f c c) (core_above tree P b) round);
+        fields = fields_in_order c C.0 C.1 e.0.above above_is;
+        finals = ap (λ p. filter p (field_numbers t c)) (fun_ext finality_same);
+        targets = are_targets t in_line P b.classes (methods_owned tree P b) c e.0 e.1 low;
+        runs = λ d is (made, there, some). runs_on d e.0 e.1 (above_is ∙ is) made there some;
+        run = run_is_entry c e.0 e.1 e.0.runnable refl;
+        few = omega (arith, fields_long c, few_fields tree c C.0 (whole.classes c C.0 C.1));
       })
+    where
+      above_low : (a : Option ℕ) → above_in_table t c ≡ a → IfSome a (λ d. d < length P.classes)
+      above_low None is = tt
+      above_low (Some d) is = let l = in_line.below c d is in omega (arith, l, core_long tree P b)
+
+      runs_on : (d : ℕ) (e : ClassData) → slice_get t.classes c ≡ Some e → above_in_table t c ≡ Some d → (made : Class) → slice_get P.classes d ≡ Some made → IsSome made.run → IsSome (class_core t c e).run
+      runs_on d e at_c is made there some =
+          let f = get_below t.classes d (in_line.below c d is) in
+          let same : class_core t d f.0 ≡ made = same_Some (class_core t d f.0) made (sym (core_class tree P b d f.0 f.1) ∙ there) in
+          let counting = counts_on c d e f.0 at_c f.1 is (only_counting f.0.runnable (method_number t d (codes "run")) (subst (λ (z : Class). IsSome z.run) (sym same) some)) in
+          let r = run_there c e at_c counting in
+          ap is_some (ap (λ z. if z then method_number t c (codes "run") else None) counting ∙ r.1)
 
   -- ---- main
 
   pub record IsMain : Type 0 where
-    class : ClassTree
-    at : slice_get tree P.main_class ≡ Some class
+    entry_data : ClassData
+    at : slice_get t.classes P.main_class ≡ Some entry_data
     pub entry : IsEntry P P.main_class P.main
-    plain : is_empty (finals_of class.members) ≡ true
+    plain : is_empty (finals_of (all_members tree P.main_class)) ≡ true
 
   pub main_is_there : IsMain
   main_is_there =
-      let c = any_at is_main tree s.main in
+      let c = class_rules.main_class tree whole in
       let C = c.1 in
-      let named = and_parts (bytes_eq C.name.text (codes "Main")) (is_empty (finals_of C.members) && list_any (is_entry (codes "main")) C.members) c.3 in
-      let rest = and_parts (is_empty (finals_of C.members)) (list_any (is_entry (codes "main")) C.members) named.1 in
+      let named = and_parts (bytes_eq C.name.text (codes "Main")) (is_empty (finals_of (all_members tree c.0)) && list_any (is_entry (codes "main")) (all_members tree c.0)) c.3 in
+      let rest = and_parts (is_empty (finals_of (all_members tree c.0))) (list_any (is_entry (codes "main")) (all_members tree c.0)) named.1 in
       let text_is : C.name.text ≡ codes "Main" = (bytes_eq-Decides C.name.text (codes "Main")).0 named.0 in
       let number : class_number t (codes "Main") ≡ Some c.0 =
       ap (λ z. position (bytes_eq z) t.names) (sym text_is)
-      ∙ place_of_name (class_names tree) s.names_once c.0 C.name (mapped_at (λ c. c.name) tree c.0 C c.2) in
+      ∙ place_of_name (class_names tree) whole.names c.0 C.name (mapped_at (λ c. c.name) tree c.0 C c.2) in
       let class_is : P.main_class ≡ c.0 = b.main_class_is ∙ ap (λ o. unwrap_or o 0) number in
-      let e = entry_there tree P b c.0 C c.2 (codes "main") (each_at (IsSound (known_in tree)) tree c.0 C s.classes c.2).names_once rest.1 in
+      let low : c.0 < length t.classes = let w = slice_get_within tree c.0 C c.2 in omega (arith, w, table_long tree) in
+      let row = get_below t.classes c.0 low in
+      let e = entry_there tree P b whole fields_known method_params_known (codes "main") c.0 low rest.1 in
       let main_found : P.main ≡ e.0 =
       b.main_is ∙ ap (λ k. unwrap_or (method_number t k (codes "main")) 0) (sym b.main_class_is ∙ class_is) ∙ ap (λ o. unwrap_or o 0) e.1 in
       record {
-        class = C;
-        at = ap (slice_get tree) class_is ∙ c.2;
+        entry_data = row.0;
+        at = ap (slice_get t.classes) class_is ∙ row.1;
         entry = subst (λ k. IsEntry P k P.main) (sym class_is) (subst (IsEntry P c.0) (sym main_found) e.2);
-        plain = rest.0;
+        plain = ap (λ k. is_empty (finals_of (all_members tree k))) class_is ∙ rest.0;
       }
 
   pub no_finals : (class : Class) → slice_get P.classes P.main_class ≡ Some class → class.finals ≡ []
   no_finals class at =
       let m = main_is_there in
-      let p = place tree P b P.main_class m.class m.at in
-      let class_is = same_Some (class_node t P.fields P.methods P.main_class m.class) class (sym (class_there tree P b P.main_class m.class m.at) ∙ at) in
-      ap (λ z. z.finals) (sym class_is)
-      ∙ ap (filter (λ f. is_final_at (slice_get P.fields f))) (numbers tree P b P.main_class m.class m.at)
-      ∙ none_final (λ f. is_final_at (slice_get P.fields f)) (λ f. field_type (slice_get P.fields f)) t.names (length p.fields_before) (own_fields P.main_class 0 m.class.members)
-      (own_reads tree P b P.main_class m.class m.at) (none_are_final P.main_class 0 m.class.members m.plain)
+      ap (λ (z : Class). z.finals) (sym (same_Some (class_core t P.main_class m.entry_data) class (sym (core_class tree P b P.main_class m.entry_data m.at) ∙ at)))
+      ∙ none_kept P.main_class m.plain
+
+  pub methods_alike : (over m : ℕ) (first second : Method) → Overrides P over m → slice_get P.methods over ≡ Some first → slice_get P.methods m ≡ Some second → AreAlike first second
+  methods_alike = overriding_alike tree P b whole fields_known method_params_known
 
   -- ---- methods
 
@@ -450,16 +643,16 @@ module _ (tree : ProgramTree) (P : Program) (b : IsBuilt tree P) (s : AreSound t
   locks_hold k m (l ∷ ls) (p ∷ ps) e =
       let one = gain (lock_rule t k (method_scope t m) l) in
       let rest = map (λ l. gain (lock_rule t k (method_scope t m) l)) ls in (
-        lock_holds t P (agrees tree P b s) k (vars_of m) (method_scope t m) (seen_in m) l p
+        lock_holds t P agrees k (vars_of m) (method_scope t m) (seen_in m) l p
             (gain_of (lock_rule t k (method_scope t m) l) p (head_same one (Some p) rest (map Some ps) e)),
         locks_hold k m ls ps (tail_same one (Some p) rest (map Some ps) e),
       )
 
   body_fine : (d : MethodAt) (stmts : Stmts)
       → block_core t d.class (method_result t d.method) (1 + length d.method.params) (method_scope t d.method) 0 d.method.body ≡ Some stmts
-      → AreFine t P (agrees tree P b s) d.class (method_result t d.method) (1 + length d.method.params) (omega arith) (vars_of d.method) 0 d.method.body stmts
+      → AreFine t P agrees d.class (method_result t d.method) (1 + length d.method.params) (omega arith) (vars_of d.method) 0 d.method.body stmts
   body_fine d stmts is =
-      block_fine t P (agrees tree P b s) d.class (method_result t d.method) (1 + length d.method.params) (omega arith)
+      block_fine t P agrees d.class (method_result t d.method) (1 + length d.method.params) (omega arith)
       (method_scope t d.method) (vars_of d.method) (seen_in d.method) 0 d.method.body stmts is
 
   -- a body has no more nodes than the statements of its method
@@ -471,7 +664,7 @@ module _ (tree : ProgramTree) (P : Program) (b : IsBuilt tree P) (s : AreSound t
       let fine = body_fine d p.0.1 (both_of paths stmts p.0 p.1).1 in
       subst (λ z. stmt_nodes z.body ≤ 1 + stmt_sizes d.method.body) p.2 (omega (arith, fine.nodes))
 
-  module _ (low : Each IsLow (methods_at 0 tree)) (faultless : Each (IsFaultless t) (methods_at 0 tree)) where
+  module _ (low : Each IsLow (methods_at 0 tree)) (faultless : Each (HasNoFaults t) (methods_at 0 tree)) where
     pub method_typed : (m : ℕ) (method : Method) → slice_get P.methods m ≡ Some method → IsTypedMethod P method
     method_typed m method at =
         let r = part_at (core_method t) (methods_at 0 tree) P.methods b.methods m method at in
@@ -479,13 +672,13 @@ module _ (tree : ProgramTree) (P : Program) (b : IsBuilt tree P) (s : AreSound t
         let is = method_is t P m d method at r.2 in
         let fine = body_fine d is.stmts is.body in
         let within = (each_at (λ d. (0 ≤ d.class) × (d.class < 0 + length tree)) (methods_at 0 tree) m d (method_classes_between 0 tree) r.1).1 in
-        let known = each_at (IsKnownMethod (known_in tree)) (methods_at 0 tree) m d (all_known_methods (known_in tree) 0 tree s.classes) r.1 in
+        let known = each_at (IsKnownMethod known_in) (methods_at 0 tree) m d methods_known r.1 in
         let many = length-map d.method.params (param_pair t.names) in
         let faults = flat_map (λ l. loss (lock_rule t d.class (method_scope t d.method) l)) d.method.locks in
         let inner = block_faults t d.class (method_result t d.method) (1 + length d.method.params) (method_scope t d.method) 0 true d.method.body in
         let ends : missing_return t d.method ≡ [] =
         back_empty inner (missing_return t d.method)
-        (back_empty faults (inner ++ missing_return t d.method) (each_at (IsFaultless t) (methods_at 0 tree) m d faultless r.1)) in
+        (back_empty faults (inner ++ missing_return t d.method) (each_at (HasNoFaults t) (methods_at 0 tree) m d faultless r.1)) in
         let next : 1 + length d.method.params + 0 ≡ 1 + length (map (param_pair t.names) d.method.params) = omega (arith, many) in
         subst (IsTypedMethod P) is.node (record {
           class = omega (arith, within, classes_many tree P b);
@@ -512,9 +705,9 @@ module _ (tree : ProgramTree) (P : Program) (b : IsBuilt tree P) (s : AreSound t
         arith,
         few,
         program_long tree ts wide,
-        all_size 0 tree,
+        all_size (inherited_count t) 0 tree,
         classes_many tree P b,
-        as_many (core_field t) (fields_at 0 tree) P.fields b.fields,
+        as_many (core_field t) (fields_at (inherited_count t) 0 tree) P.fields b.fields,
         as_many (core_method t) (methods_at 0 tree) P.methods b.methods,
         bodies_long t (methods_at 0 tree) P.methods b.methods body_long,
       )
@@ -524,15 +717,15 @@ pub core_is_typed : (tree : ProgramTree) (P : Program) (ts : List Token) → cla
     → length ts ≤ most_tokens → IsTyped P
 core_is_typed tree P ts sound_tree core grammar few =
     let b = built tree P core.core in
-    let s = all_sound tree sound_tree in
+    let whole = faultless tree sound_tree in
     record {
-      classes = class_typed tree P b s;
-      overriding = λ over m first second o. absurd (none_overrides P (own_alone tree P b) over m o);
-      fields = field_typed tree P b s (all_guarded 0 tree ts grammar.0);
-      methods = method_typed tree P b s (all_low 0 tree grammar.1) (all_faultless (table_of tree) 0 tree core.faultless);
-      main = (main_is_there tree P b s).entry;
-      no_finals = no_finals tree P b s;
-      size = size_is_low tree P b s ts grammar.0 few;
+      classes = class_typed tree P b whole;
+      overriding = methods_alike tree P b whole;
+      fields = field_typed tree P b whole (all_guarded (inherited_count (table_of tree)) 0 tree ts grammar.0);
+      methods = method_typed tree P b whole (all_low 0 tree grammar.1) (all_faultless (table_of tree) 0 tree core.faultless);
+      main = (main_is_there tree P b whole).entry;
+      no_finals = no_finals tree P b whole;
+      size = size_is_low tree P b whole ts grammar.0 few;
     }
 
 -- so is what answers with it

@@ -23,15 +23,15 @@ use Rattle.aj_core.specs.Typed as typing
 use Rattle.aj_core.specs.Dispatch.{is_kind_of}
 use Rattle.aj_core.proofs.DispatchLemmas.{fits_more}
 use Rattle.aj_core.specs.Typed.{IsType, IsOf, IsRunnable, is_call_or_new, gives_value, most_locals, IsTypedStmt, AreTypedStmts, declared_in, declared_in_each}
-use Rattle.aj_classes.specs.Table.{TableData, ClassData, class_number}
+use Rattle.aj_classes.specs.Table.{TableData, ClassData, class_number, kind_in}
 use Rattle.aj_type_rules.specs.declared.fault.TypeFault.TheVariants.{UnknownName, NoRule, FinalAssigned}
 use Rattle.aj_type_rules.specs.Rulings.{gain, given, both, demand, then_rule}
 use Rattle.aj_type_rules.specs.Scopes.{Binding, Scope, variable}
-use Rattle.aj_type_rules.specs.Rules.{TypedData, is_int, is_boolean, same_class, receiver_class, type_rule, field_rule, fit_rule}
+use Rattle.aj_type_rules.specs.Rules.{TypedData, is_int, is_boolean, receiver_class, type_rule, field_rule, fit_rule}
 use Rattle.aj_type_rules.specs.Locks.{lock_rule}
 use Rattle.aj_type_rules.specs.Exprs.{elaborated}
 use Rattle.aj_type_rules.specs.Completion.{completes, completes_each, is_true_literal, locals_in, locals_in_each}
-use Rattle.aj_type_rules.specs.Stmts.{local_rule, target_rule, set_rule, field_target, put_rule, do_rule, condition_rule, return_rule, value_rule, print_rule, says_runnable, is_runnable, start_rule, declared, if_node, scope_after, stmt_core, block_core}
+use Rattle.aj_type_rules.specs.Stmts.{local_rule, target_rule, set_rule, field_target, put_rule, do_rule, condition_rule, return_rule, value_rule, print_rule, counts_runnable, is_runnable, start_rule, declared, if_node, scope_after, stmt_core, block_core}
 use Rattle.aj_elaborate.proofs.Inversions.{same_ok, gain_of, given_of, none_of, both_of, demand_of, then_of, ok_or_of, map_of}
 use Rattle.aj_elaborate.proofs.TypedExprs.{Agrees, Seen, wider, is_int_of, is_boolean_of, receiver_of, field_of, expr_holds}
 use Rattle.aj_elaborate.proofs.TypedLocks.{lock_holds}
@@ -173,21 +173,21 @@ module _ (t : TableData) (P : Program) (agrees : Agrees t P) (class : ℕ) (retu
       fit : HasFit P class vars v ty
       shape : IsShape (tree_height.height e) (size e) (is_true_literal e) v
 
-    value_fine : (e : ExprTree) (at : ℕ) (ty : CoreType) (d : TypedData) (v : Expr) → elaborated t class scope e ≡ Some d → fit_rule at ty d ≡ Ok v → IsValue e ty v
+    value_fine : (e : ExprTree) (at : ℕ) (ty : CoreType) (d : TypedData) (v : Expr) → elaborated t class scope e ≡ Some d → fit_rule t at ty d ≡ Ok v → IsValue e ty v
     value_fine e at ty d v is h =
-        let q = demand_of (fits same_class d.ty (ValueT ty)) (NoRule at) d.node v h in
+        let q = demand_of (fits (kind_in t) d.ty (ValueT ty)) (NoRule at) d.node v h in
         record {
-          fit = subst (λ z. HasFit P class vars z ty) q.1 (d.ty, expr_holds t P agrees class vars scope seen e d is, fits_more same_class (is_kind_of P) (wider t P agrees class vars) d.ty (ValueT ty) q.0);
+          fit = subst (λ z. HasFit P class vars z ty) q.1 (d.ty, expr_holds t P agrees class vars scope seen e d is, fits_more (kind_in t) (is_kind_of P) (wider t P agrees class vars) d.ty (ValueT ty) q.0);
           shape = subst (IsShape (tree_height.height e) (size e) (is_true_literal e)) q.1 (expr_shape t class scope e d is);
         }
 
     local_fine : (before : ℕ) (fin : Bool) (ty : TypeName) (n : Name) (e : ExprTree) (at : ℕ) (s : Stmt)
         → stmt_core t class returns first scope before (tree.LocalS fin ty n e at) ≡ Some s → IsFine scope vars before (tree.LocalS fin ty n e at) s
     local_fine before fin ty n e at s h =
-        let few = if_taken (nat_lt before most_locals) (given (local_rule (first + before) fin n.at) (both (gain (type_rule t ty)) (elaborated t class scope e))) s h in
-        let g = given_of (local_rule (first + before) fin n.at) (both (gain (type_rule t ty)) (elaborated t class scope e)) s few.1 in
+        let few = if_taken (nat_lt before most_locals) (given (local_rule t (first + before) fin n.at) (both (gain (type_rule t ty)) (elaborated t class scope e))) s h in
+        let g = given_of (local_rule t (first + before) fin n.at) (both (gain (type_rule t ty)) (elaborated t class scope e)) s few.1 in
         let p = both_of (gain (type_rule t ty)) (elaborated t class scope e) g.0 g.1 in
-        let v = then_of (fit_rule n.at g.0.0 g.0.1) (λ v. Ok (core.LocalS (first + before) fin g.0.0 v)) s g.2 in
+        let v = then_of (fit_rule t n.at g.0.0 g.0.1) (λ v. Ok (core.LocalS (first + before) fin g.0.0 v)) s g.2 in
         let k = value_fine e n.at g.0.0 g.0.1 v.0 p.1 v.1 in
         let new : Variable = record { slot = first + before; is_final = fin; ty = g.0.0 } in
         let binding : Binding = record { name = n.text; variable = new } in
@@ -207,7 +207,7 @@ module _ (t : TableData) (P : Program) (agrees : Agrees t P) (class : ℕ) (retu
     set_var_fine : (before : ℕ) (n : Name) (e : ExprTree) (at : ℕ) (s : Stmt)
         → stmt_core t class returns first scope before (tree.SetVarS n e at) ≡ Some s → IsFine scope vars before (tree.SetVarS n e at) s
     set_var_fine before n e at s h =
-        let g = given_of (set_rule at) (both (gain (target_rule scope n)) (elaborated t class scope e)) s h in
+        let g = given_of (set_rule t at) (both (gain (target_rule scope n)) (elaborated t class scope e)) s h in
         let p = both_of (gain (target_rule scope n)) (elaborated t class scope e) g.0 g.1 in
         let target = then_of (ok_or (variable scope n.text) (UnknownName n.at)) (λ v. demand (not v.is_final) (FinalAssigned n.at) v) g.0.0
         (gain_of (target_rule scope n) g.0.0 p.0) in
@@ -215,7 +215,7 @@ module _ (t : TableData) (P : Program) (agrees : Agrees t P) (class : ℕ) (retu
         let is_there : Contains vars g.0.0 =
         subst (Contains vars) q.1 (seen.seen n.text target.0 (ok_or_of (variable scope n.text) (UnknownName n.at) target.0 target.1)) in
         let open_to : g.0.0.is_final ≡ false = subst (λ z. z.is_final ≡ false) q.1 (not-true target.0.is_final q.0) in
-        let v = then_of (fit_rule at g.0.0.ty g.0.1) (λ v. Ok (core.SetVarS g.0.0.slot v)) s g.2 in
+        let v = then_of (fit_rule t at g.0.0.ty g.0.1) (λ v. Ok (core.SetVarS g.0.0.slot v)) s g.2 in
         let k = value_fine e at g.0.0.ty g.0.1 v.0 p.1 v.1 in
         subst (IsFine scope vars before (tree.SetVarS n e at)) (same_ok (core.SetVarS g.0.0.slot v.0) s v.2) (record {
           is_typed = (g.0.0.ty, subst (λ z. Contains vars (record { slot = g.0.0.slot; is_final = z; ty = g.0.0.ty })) open_to is_there, k.fit);
@@ -231,14 +231,14 @@ module _ (t : TableData) (P : Program) (agrees : Agrees t P) (class : ℕ) (retu
         → stmt_core t class returns first scope before (tree.SetFieldS e n value at) ≡ Some s → IsFine scope vars before (tree.SetFieldS e n value at) s
     set_field_fine before e n value at s h =
         let receiver = given (field_target t n) (elaborated t class scope e) in
-        let g = given_of (put_rule at) (both receiver (elaborated t class scope value)) s h in
+        let g = given_of (put_rule t at) (both receiver (elaborated t class scope value)) s h in
         let p = both_of receiver (elaborated t class scope value) g.0 g.1 in
         let a = given_of (field_target t n) (elaborated t class scope e) g.0.0 p.0 in
         let f = then_of (field_rule t n a.0.ty) (λ f. demand (not f.1.is_final) (FinalAssigned n.at) (a.0.node, f)) g.0.0 a.2 in
         let q = demand_of (not f.0.1.is_final) (FinalAssigned n.at) (a.0.node, f.0) g.0.0 f.2 in
         let known = field_of t P agrees n a.0.ty f.0 f.1 in
         let is = known.2 in
-        let v = then_of (fit_rule at g.0.0.1.1.ty g.0.1) (λ v. Ok (core.SetFieldS g.0.0.0 g.0.0.1.0 v)) s g.2 in
+        let v = then_of (fit_rule t at g.0.0.1.1.ty g.0.1) (λ v. Ok (core.SetFieldS g.0.0.0 g.0.0.1.0 v)) s g.2 in
         let k = value_fine value at g.0.0.1.1.ty g.0.1 v.0 p.1 v.1 in
         let shape = expr_shape t class scope e a.0 a.1 in
         let typed_field : (field : core.Field) × (slice_get P.fields f.0.0 ≡ Some field) × (field.is_final ≡ false) × IsOf P class vars a.0.node field.class × (field.ty ≡ f.0.1.ty) = (
@@ -295,9 +295,9 @@ module _ (t : TableData) (P : Program) (agrees : Agrees t P) (class : ℕ) (retu
     return_value_fine : (before : ℕ) (e : ExprTree) (at : ℕ) (s : Stmt)
         → stmt_core t class returns first scope before (tree.ReturnS (Some e) at) ≡ Some s → IsFine scope vars before (tree.ReturnS (Some e) at) s
     return_value_fine before e at s h =
-        let g = given_of (value_rule at returns) (elaborated t class scope e) s h in
-        let ty = then_of (ok_or returns (NoRule at)) (λ ty. then_rule (fit_rule at ty g.0) (λ v. Ok (core.ReturnS (Some v)))) s g.2 in
-        let v = then_of (fit_rule at ty.0 g.0) (λ v. Ok (core.ReturnS (Some v))) s ty.2 in
+        let g = given_of (value_rule t at returns) (elaborated t class scope e) s h in
+        let ty = then_of (ok_or returns (NoRule at)) (λ ty. then_rule (fit_rule t at ty g.0) (λ v. Ok (core.ReturnS (Some v)))) s g.2 in
+        let v = then_of (fit_rule t at ty.0 g.0) (λ v. Ok (core.ReturnS (Some v))) s ty.2 in
         let k = value_fine e at ty.0 g.0 v.0 g.1 v.1 in
         subst (IsFine scope vars before (tree.ReturnS (Some e) at)) (same_ok (core.ReturnS (Some v.0)) s v.2) (record {
           is_typed = subst (λ z. typing.IsResult P class z vars (Some v.0) z) (sym (ok_or_of returns (NoRule at) ty.0 ty.1)) k.fit;
@@ -325,7 +325,7 @@ module _ (t : TableData) (P : Program) (agrees : Agrees t P) (class : ℕ) (retu
           later = seen;
         })
 
-    says_of : (o : Option ClassData) → says_runnable o ≡ true → (d : ClassData) × (o ≡ Some d) × (d.runnable ≡ true)
+    says_of : (o : Option ClassData) → counts_runnable o ≡ true → (d : ClassData) × (o ≡ Some d) × (d.runnable ≡ true)
     says_of (Some d) h = (d, refl, h)
     says_of None h = absurd (let e : false ≡ true = h in cc)
 

@@ -1,11 +1,10 @@
 -- Programs: all type faults of a program, the first of them, and the core program of one without faults.
-use Rattle.std.specs.Prelude.{◌≡◌, ℕ, ◌+◌, true, ◌&&◌, ◌==◌, List, [], ◌∷◌, ◌++◌, Option, Some, None, map, flat_map, filter, length, option_map, unwrap_or, is_some, slice_get, codes, if◌then◌else◌}
+use Rattle.std.specs.Prelude.{◌≡◌, ℕ, ◌+◌, true, ◌&&◌, List, [], ◌∷◌, ◌++◌, Option, Some, None, map, flat_map, length, option_map, unwrap_or, is_some, codes, if◌then◌else◌}
 use Rattle.std.specs.declared.cmp.Ordering.{Ordering}
 use Rattle.std.specs.declared.cmp.Ordering.TheVariants.{Less, Equal, Greater}
 use Rattle.aj_paths.specs.Paths.{PathData, path_order}
 use Rattle.aj_core.specs.declared.types.CoreType.{CoreType}
-use Rattle.aj_core.specs.Core.{Program, Class, Field, Method, Stmts, BlockS}
-use Rattle.aj_core.specs.Typed.{fields_from, is_final_at}
+use Rattle.aj_core.specs.Core.{Program, Field, Method, Stmts, BlockS}
 use Rattle.aj_class_rules.specs.First.{IsFirst}
 use Rattle.aj_syntax.specs.Trees.{LockTree, MethodTree, FieldTree, MemberTree, FieldM, CtorM, MethodM, ClassTree, ProgramTree}
 use Rattle.aj_classes.specs.Table.{TableData, type_of, class_number, method_number, table_of}
@@ -17,6 +16,7 @@ use Rattle.aj_type_rules.specs.Scopes.{Scope, parameters_from}
 use Rattle.aj_type_rules.specs.Locks.{lock_rule}
 use Rattle.aj_type_rules.specs.Completion.{completes_each, locals_in_each}
 use Rattle.aj_type_rules.specs.Stmts.{block_core, block_faults}
+use Rattle.aj_elaborate.specs.Classes.{inherited_count, all_classes}
 
 -- all of a list, where none is missing
 abbrev pub all_there : {A : Type 0} → List (Option A) → Option (List A)
@@ -38,11 +38,6 @@ inserted p (q ∷ qs) = by_order (path_order p q) (p ∷ q ∷ qs) (q ∷ qs) (q
 abbrev pub ascending : List PathData → List PathData
 ascending [] = []
 ascending (p ∷ ps) = inserted p (ascending ps)
-
--- each method of the class with number k, where the first of the methods has the number n, with itself
-abbrev pub own_targets : ℕ → ℕ → List Method → List (ℕ × ℕ)
-own_targets k n [] = []
-own_targets k n (m ∷ ms) = if m.class == k then (n, n) ∷ own_targets k (n + 1) ms else own_targets k (n + 1) ms
 
 module _ (t : TableData) where
   -- ---- methods
@@ -136,44 +131,27 @@ module _ (t : TableData) where
   methods_core k (CtorM n params sets ∷ ms) = methods_core k ms
   methods_core k (MethodM m ∷ ms) = method_core k m ∷ methods_core k ms
 
-  -- the core fields of classes, the first of which has the number k
+  -- the core fields of classes, the first of which has the number k; those of a class follow the ones that it has from above
   abbrev pub all_fields : ℕ → ProgramTree → List (Option Field)
   all_fields k [] = []
-  all_fields k (c ∷ cs) = fields_core k 0 c.members ++ all_fields (k + 1) cs
+  all_fields k (c ∷ cs) = fields_core k (inherited_count t k) c.members ++ all_fields (k + 1) cs
 
   -- the core methods of classes, the first of which has the number k
   abbrev pub all_methods : ℕ → ProgramTree → List (Option Method)
   all_methods k [] = []
   all_methods k (c ∷ cs) = methods_core k c.members ++ all_methods (k + 1) cs
 
-  -- the method `run` of a class that says `implements Runnable`
-  abbrev pub run_of : ℕ → ClassTree → Option ℕ
-  run_of k c = if c.runnable then method_number t k (codes "run") else None
-
-  -- the core classes, the first of which has the number k, in a program with these fields and methods; none extends another
-  abbrev pub all_classes : List Field → List Method → ℕ → ProgramTree → List Class
-  all_classes fields methods k [] = []
-  all_classes fields methods k (c ∷ cs) =
-      record {
-        fields = fields_from k 0 fields;
-        finals = filter (λ f. is_final_at (slice_get fields f)) (fields_from k 0 fields);
-        run = run_of k c;
-        above = None;
-        targets = own_targets k 0 methods;
-      }
-      ∷ all_classes fields methods (k + 1) cs
-
   -- the class `Main`
   abbrev pub main_class : ℕ
   main_class = unwrap_or (class_number t (codes "Main")) 0
 
-  -- the method `main` of it
+  -- the method that runs for `main` and it
   abbrev pub main_method : ℕ
   main_method = unwrap_or (method_number t main_class (codes "main")) 0
 
-  abbrev pub program_node : ProgramTree → List Field × List Method → Program
-  program_node tree p = record {
-    classes = all_classes p.0 p.1 0 tree;
+  abbrev pub program_node : List Field × List Method → Program
+  program_node p = record {
+    classes = all_classes t 0 t.classes;
     fields = p.0;
     methods = p.1;
     main_class = main_class;
@@ -192,7 +170,7 @@ IsFirstFault tree f = IsFirst place_of (faults_of tree) f
 abbrev pub core_of : ProgramTree → Option Program
 core_of tree =
     let t = table_of tree in
-    option_map (program_node t tree) (both (all_there (all_fields t 0 tree)) (all_there (all_methods t 0 tree)))
+    option_map (program_node t) (both (all_there (all_fields t 0 tree)) (all_there (all_methods t 0 tree)))
 
 -- the core program of a program without faults
 pub record IsCoreOf (tree : ProgramTree) (P : Program) : Type 0 where

@@ -1,154 +1,149 @@
 //! The core classes of a program.
 
-ghost use Rattle.std.specs.Prelude.{◌≡◌, ◌+◌, ◌++◌, ◌<◌, ℕ, map, filter, slice_get, IfOk};
-ghost use Rattle.aj_classes.specs.Views.{table_data};
-ghost use Rattle.aj_core.specs.Typed.{fields_from, is_final_at};
+ghost use Rattle.std.specs.Prelude.{◌≡◌, ◌++◌, ◌<◌, ℕ, Some, codes, filter, length, map, option_map, slice_get, IfOk, OnOk};
+ghost use Rattle.std.specs.List.{range_with_len};
+ghost use Rattle.aj_classes.specs.Table.{above_in_table, method_number};
+ghost use Rattle.aj_classes.specs.Views.{class_data, table_data};
 ghost use Rattle.aj_core.specs.Views as core;
-ghost use Rattle.aj_syntax.specs.Views.{class_of};
-ghost use Rattle.aj_elaborate.specs.Order.{Ascends, MethodsAscend};
-ghost use Rattle.aj_elaborate.specs.Programs.{own_targets, run_of, all_classes};
+ghost use Rattle.aj_elaborate.specs.Classes.{all_classes, class_of_number, is_final_in};
+ghost use Rattle.aj_elaborate.specs.Lineages.{lineage_of};
+ghost use Rattle.aj_elaborate.specs.Merged.{class_over};
+ghost use Rattle.aj_elaborate.specs.Order.{IsFromAbove, IsLined};
 
+use crate::columns::{put, value_of};
+use crate::lineage::Lineage;
 use crate::members::next_number;
-use aj_classes::ClassTable;
-use aj_core::{CoreClass, CoreField, CoreMethod};
+use crate::targets::class_targets;
+use aj_classes::{ClassEntry, ClassTable};
+use aj_core::CoreClass;
 use aj_paths::{ClassId, FieldId, MethodId};
-use aj_syntax::Class;
 use std::alloc::{AllocError as NoMemory, Global};
 
-/// The ids of a class's fields, and the fields of later classes with the id of the first of them.
-#[derive(Drop)]
-struct OwnFields<'f> {
-    ids: Vec<FieldId>,
-    next: u32,
-    rest: &'f [CoreField],
-}
-
-/// The fields of a class, where the fields ascend by class from this one on, and the first has this id.
-fn own_fields<'f>(
-    alloc: Global,
-    class: ClassId,
-    start: u32,
-    fields: &'f [CoreField],
-) -> Result<OwnFields<'f>, NoMemory>
-    requires ascends { Ascends class (map core.field_of fields.now) }
-    ensures ids { IfOk result (λ own. own.ids.items ++ fields_from class own.next (map core.field_of own.rest.now) ≡ fields_from class start (map core.field_of fields.now)) }
-    ensures rest { IfOk result (λ own. Ascends (class + 1) (map core.field_of own.rest.now)) }
-    ensures later { IfOk result (λ own. (c : ℕ) → class < c → fields_from c own.next (map core.field_of own.rest.now) ≡ fields_from c start (map core.field_of fields.now)) }
+/// Adds the own fields of a class.
+fn add_own(class: &ClassEntry, fields: &mut Vec<FieldId>) -> Result<(), NoMemory>
+    ensures { OnOk result (fields.new.items ≡ fields.old.items ++ range_with_len (class_data class.now).first_field (length (class_data class.now).field_names)) }
 {
-    let mut ids = Vec::new(alloc);
-    let mut next = start;
-    let mut rest = fields;
-    while let Some((field, later)) = rest.split_first() {
-        if field.class != class {
-            return Ok(OwnFields { ids, next, rest });
-        }
-        ids.push(FieldId(next))?;
+    let mut next = class.first_field().0;
+    for _ in 0..class.field_count() {
+        fields.push(FieldId(next))?;
         next = next_number(next)?;
-        rest = later;
     }
-    Ok(OwnFields { ids, next, rest })
+    Ok(())
 }
 
-/// Each of a class's methods with itself, and the methods of later classes with the id of the first of them.
-#[derive(Drop)]
-struct OwnTargets<'m> {
-    pairs: Vec<(MethodId, MethodId)>,
-    next: u32,
-    rest: &'m [CoreMethod],
-}
-
-/// The methods of a class, each with itself, where the methods ascend by class from this one on, and the first has this id.
-fn own_targets<'m>(
-    alloc: Global,
-    class: ClassId,
-    start: u32,
-    methods: &'m [CoreMethod],
-) -> Result<OwnTargets<'m>, NoMemory>
-    requires ascends { MethodsAscend class (map core.method_of methods.now) }
-    ensures pairs { IfOk result (λ own. own.pairs.items ++ own_targets class own.next (map core.method_of own.rest.now) ≡ own_targets class start (map core.method_of methods.now)) }
-    ensures rest { IfOk result (λ own. MethodsAscend (class + 1) (map core.method_of own.rest.now)) }
-    ensures later { IfOk result (λ own. (c : ℕ) → class < c → own_targets c own.next (map core.method_of own.rest.now) ≡ own_targets c start (map core.method_of methods.now)) }
+fn is_final(table: &ClassTable, field: FieldId) -> bool
+    ensures { result ≡ is_final_in (slice_get (table_data table.now).fields field) }
 {
-    let mut pairs = Vec::new(alloc);
-    let mut next = start;
-    let mut rest = methods;
-    while let Some((method, later)) = rest.split_first() {
-        if method.class != class {
-            return Ok(OwnTargets { pairs, next, rest });
-        }
-        pairs.push((MethodId(next), MethodId(next)))?;
-        next = next_number(next)?;
-        rest = later;
-    }
-    Ok(OwnTargets { pairs, next, rest })
-}
-
-fn is_final(fields: &[CoreField], id: FieldId) -> bool
-    ensures { result ≡ is_final_at (slice_get (map core.field_of fields.now) id) }
-{
-    match fields.get(id.0 as usize) {
+    match table.fields().get(field.0 as usize) {
         Some(field) => field.is_final,
         None => false,
     }
 }
 
-fn final_ids(alloc: Global, fields: &[CoreField], ids: &[FieldId]) -> Result<Vec<FieldId>, NoMemory>
-    ensures { IfOk result (λ finals. finals.items ≡ filter (λ f. is_final_at (slice_get (map core.field_of fields.now) f)) ids.now) }
+fn finals_of(
+    alloc: Global,
+    table: &ClassTable,
+    fields: &[FieldId],
+) -> Result<Vec<FieldId>, NoMemory>
+    ensures { IfOk result (λ finals. finals.items ≡ filter (λ f. is_final_in (slice_get (table_data table.now).fields f)) fields.now) }
 {
     let mut finals = Vec::new(alloc);
-    for id in ids {
-        if is_final(fields, *id) {
-            finals.push(*id)?;
+    for field in fields {
+        if is_final(table, *field) {
+            finals.push(*field)?;
         }
     }
     Ok(finals)
 }
 
-fn run_of(table: &ClassTable, id: ClassId, class: &Class) -> Option<MethodId>
-    ensures { result ≡ run_of (table_data table.now) id (class_of class.now) }
+/// A core class, where these are the fields and the targets of the class that it extends; there are none where it extends none.
+fn core_class(
+    alloc: Global,
+    table: &ClassTable,
+    class: &ClassEntry,
+    run: Option<MethodId>,
+    fields: &[FieldId],
+    pairs: &[(MethodId, MethodId)],
+) -> Result<CoreClass, NoMemory>
+    ensures { IfOk result (λ c. core.class_of c ≡ class_over (table_data table.now) (class_data class.now) run fields.now pairs.now) }
 {
-    if class.runnable {
-        table.method_named(id, "run")
-    } else {
-        None
-    }
+    let mut all = Vec::new(alloc);
+    all.extend_from_slice(fields)?;
+    add_own(class, &mut all)?;
+    let finals = finals_of(alloc, table, all.as_slice())?;
+    let targets = class_targets(alloc, table, class, pairs)?;
+    Ok(CoreClass {
+        fields: all,
+        finals,
+        run: if class.runnable { run } else { None },
+        above: class.above,
+        targets,
+    })
 }
 
-/// The core classes of a program with these fields and methods, which ascend by class.
+/// The core class of a class, where that of the class above it is known.
+fn class_at(
+    alloc: Global,
+    table: &ClassTable,
+    id: ClassId,
+    run: Option<MethodId>,
+    known: &[CoreClass],
+) -> Result<CoreClass, NoMemory>
+    requires lined { IsLined (table_data table.now) }
+    requires within { id < length (table_data table.now).classes }
+    requires run { run ≡ method_number (table_data table.now) id (codes "run") }
+    requires above { (d : ℕ) → above_in_table (table_data table.now) id ≡ Some d → option_map core.class_of (slice_get known.now d) ≡ class_of_number (table_data table.now) d }
+    ensures { IfOk result (λ c. Some (core.class_of c) ≡ class_of_number (table_data table.now) id) }
+{
+    let class = value_of(table.classes(), id);
+    let Some(above) = class.above else {
+        return core_class(alloc, table, class, run, &[], &[]);
+    };
+    let above = value_of(known, above);
+    core_class(
+        alloc,
+        table,
+        class,
+        run,
+        above.fields.as_slice(),
+        above.targets.as_slice(),
+    )
+}
+
+/// So many classes with nothing in them.
+fn blank(alloc: Global, classes: &[ClassEntry]) -> Result<Vec<CoreClass>, NoMemory>
+    ensures { IfOk result (λ all. length all.items ≡ length classes.now) }
+{
+    let mut all = Vec::new(alloc);
+    for _class in classes {
+        all.push(CoreClass {
+            fields: Vec::new(alloc),
+            finals: Vec::new(alloc),
+            run: None,
+            above: None,
+            targets: Vec::new(alloc),
+        })?;
+    }
+    Ok(all)
+}
+
+/// The core classes of a program. In the order each class comes after the one that it extends.
 pub(crate) fn core_classes(
     alloc: Global,
     table: &ClassTable,
-    classes: &[Class],
-    fields: &[CoreField],
-    methods: &[CoreMethod],
+    order: &[ClassId],
+    lineages: &[Lineage],
 ) -> Result<Vec<CoreClass>, NoMemory>
-    requires ascends { Ascends 0 (map core.field_of fields.now) }
-    requires methods_ascend { MethodsAscend 0 (map core.method_of methods.now) }
-    ensures { IfOk result (λ all. map core.class_of all.items ≡ all_classes (table_data table.now) (map core.field_of fields.now) (map core.method_of methods.now) 0 (map class_of classes.now)) }
+    requires lined { IsLined (table_data table.now) }
+    requires order { IsFromAbove (above_in_table (table_data table.now)) (length (table_data table.now).classes) order.now }
+    requires lineages { (c : ℕ) → c < length (table_data table.now).classes → slice_get lineages.now c ≡ Some (lineage_of (table_data table.now) c) }
+    ensures { IfOk result (λ all. map core.class_of all.items ≡ all_classes (table_data table.now) 0 (table_data table.now).classes) }
 {
-    let mut all = Vec::new(alloc);
-    let mut rest = fields;
-    let mut rest_methods = methods;
-    let mut number = 0;
-    let mut next = 0;
-    let mut next_method = 0;
-    for class in classes {
-        let id = ClassId(number);
-        let own = own_fields(alloc, id, next, rest)?;
-        next = own.next;
-        rest = own.rest;
-        let finals = final_ids(alloc, fields, own.ids.as_slice())?;
-        let paired = own_targets(alloc, id, next_method, rest_methods)?;
-        next_method = paired.next;
-        rest_methods = paired.rest;
-        all.push(CoreClass {
-            fields: own.ids,
-            finals,
-            run: run_of(table, id, class),
-            above: None,
-            targets: paired.pairs,
-        })?;
-        number = next_number(number)?;
+    let mut all = blank(alloc, table.classes())?;
+    for id in order {
+        let run = value_of(lineages, *id).run;
+        let class = class_at(alloc, table, *id, run, all.as_slice())?;
+        put(&mut all, *id, class);
     }
     Ok(all)
 }

@@ -131,7 +131,7 @@ fn binary_expr(
 {
     let left = boxed_expr(alloc, table, class, scope, left, first)?;
     let right = boxed_expr(alloc, table, class, scope, right, first)?;
-    Ok(binary_rule(op, at, left, right, first))
+    Ok(binary_rule(table, op, at, left, right, first))
 }
 
 #[cycle(expressions)]

@@ -1,14 +1,17 @@
 //! Laws of elaboration.
 
-ghost use Rattle.std.specs.Prelude.{◌≡◌, ◌≤◌, List, [], length};
+ghost use Rattle.std.specs.Prelude.{◌≡◌, ◌≤◌, ℕ, List, [], Some, length, slice_get};
 ghost use Rattle.aj_core.specs.Core.{Program};
 ghost use Rattle.aj_core.specs.Typed.{IsTyped};
 ghost use Rattle.aj_lexer.specs.declared.tokens.Token.{Token};
 ghost use Rattle.aj_syntax.specs.Grammar.{Grammar};
 ghost use Rattle.aj_syntax.specs.Limits.{most_tokens};
-ghost use Rattle.aj_syntax.specs.Trees.{ProgramTree};
+ghost use Rattle.aj_syntax.specs.Trees.{ClassTree, ProgramTree};
 ghost use Rattle.aj_class_rules.specs.Faults as classes;
 ghost use Rattle.aj_type_rules.specs.declared.fault.TypeFault.{TypeFault};
+ghost use Rattle.aj_classes.specs.Table.{table_of};
+ghost use Rattle.aj_elaborate.specs.Alone.{AreAlone, class_alone};
+ghost use Rattle.aj_elaborate.specs.Classes.{inherited_count};
 ghost use Rattle.aj_elaborate.specs.Programs.{faults_of, IsFirstFault, IsCoreOf};
 
 /// A program without faults has exactly one core program.
@@ -28,4 +31,12 @@ pub fn first_fault_laws()
 pub fn typed_law()
     ensures { (tree : ProgramTree) (P : Program) (ts : List Token) → classes.faults_of tree ≡ [] → IsCoreOf tree P → Grammar ts tree →
         length ts ≤ most_tokens → IsTyped P }
+{}
+
+/// Where no class extends another, each class of the core program has its own fields and methods alone, each of these runs for
+/// itself, and the first field of a class has the index 0.
+pub fn alone_laws()
+    ensures classes { (tree : ProgramTree) (P : Program) → classes.faults_of tree ≡ [] → AreAlone tree → IsCoreOf tree P →
+        (k : ℕ) (c : ClassTree) → slice_get tree k ≡ Some c → slice_get P.classes k ≡ Some (class_alone (table_of tree) P.fields P.methods k c) }
+    ensures indices { (tree : ProgramTree) → AreAlone tree → (k : ℕ) → inherited_count (table_of tree) k ≡ 0 }
 {}

@@ -1,8 +1,8 @@
 //! The core program of a program, or its first type fault.
 
-ghost use Rattle.std.specs.Prelude.{◌≡◌, ◌≤◌, ◌⊎◌, List, [], Some, length, map, option_map, IfOk, MatchResult};
+ghost use Rattle.std.specs.Prelude.{◌≡◌, ◌≤◌, ◌<◌, ◌⊎◌, ℕ, List, [], Some, length, map, option_map, slice_get, IfOk, MatchResult};
 ghost use Rattle.aj_class_rules.specs.Faults as classes;
-ghost use Rattle.aj_classes.specs.Table.{table_of};
+ghost use Rattle.aj_classes.specs.Table.{above_in_table, table_of};
 ghost use Rattle.aj_classes.specs.Views.{table_data};
 ghost use Rattle.aj_core.specs.Core.{Program as CoreData};
 ghost use Rattle.aj_core.specs.Typed.{IsTyped};
@@ -10,20 +10,23 @@ ghost use Rattle.aj_core.specs.Views as core;
 ghost use Rattle.aj_lexer.specs.declared.tokens.Token.{Token};
 ghost use Rattle.aj_syntax.specs.Grammar.{Grammar};
 ghost use Rattle.aj_syntax.specs.Limits.{most_tokens};
-ghost use Rattle.aj_syntax.specs.Views.{class_of, program_of};
+ghost use Rattle.aj_syntax.specs.Views.{program_of};
 ghost use Rattle.aj_type_rules.specs.declared.fault.TypeFault.{TypeFault};
 ghost use Rattle.aj_type_rules.specs.declared.fault.TypeFault.TheVariants.{NoMemory as OutOfMemory};
-ghost use Rattle.aj_elaborate.specs.Order.{Ascends, MethodsAscend};
-ghost use Rattle.aj_elaborate.specs.Programs.{IsFirstFault, IsCoreOf, main_class, main_method, program_node, all_there, all_fields, all_methods};
+ghost use Rattle.aj_elaborate.specs.Lineages.{lineage_of};
+ghost use Rattle.aj_elaborate.specs.Order.{IsFromAbove, IsLined};
+ghost use Rattle.aj_elaborate.specs.Programs.{IsFirstFault, IsCoreOf, main_class, main_method, program_node};
 ghost use Rattle.aj_type_rules.specs.Rulings.{both};
 ghost use Rattle.aj_elaborate.specs.Views.{fields_data, methods_data};
 
 use crate::classes::core_classes;
+use crate::lineage::{Lineage, lineages};
 use crate::members::{Parts, parts_of};
+use crate::order::from_above;
 use aj_classes::ClassTable;
 use aj_core::{CoreField, CoreMethod, CoreProgram};
 use aj_paths::{ClassId, MethodId};
-use aj_syntax::{Class, Program};
+use aj_syntax::Program;
 use aj_type_rules::{FirstFault, TypeFault};
 use std::alloc::{AllocError as NoMemory, Global};
 
@@ -39,19 +42,21 @@ fn main_method(table: &ClassTable, class: ClassId) -> MethodId
     table.method_named(class, "main").unwrap_or(MethodId(0))
 }
 
-/// The core program with these fields and methods, which ascend by class.
+/// The core program with these fields and methods. In the order each class comes after the one that it extends.
 fn core_program(
     alloc: Global,
     table: &ClassTable,
-    classes: &[Class],
+    order: &[ClassId],
+    lineages: &[Lineage],
     fields: Vec<CoreField>,
     methods: Vec<CoreMethod>,
 ) -> Result<CoreProgram, NoMemory>
-    requires ascends { Ascends 0 (map core.field_of fields.items) }
-    requires methods_ascend { MethodsAscend 0 (map core.method_of methods.items) }
-    ensures { IfOk result (λ p. core.program_of p ≡ program_node (table_data table.now) (map class_of classes.now) (map core.field_of fields.items, map core.method_of methods.items)) }
+    requires lined { IsLined (table_data table.now) }
+    requires order { IsFromAbove (above_in_table (table_data table.now)) (length (table_data table.now).classes) order.now }
+    requires lineages { (c : ℕ) → c < length (table_data table.now).classes → slice_get lineages.now c ≡ Some (lineage_of (table_data table.now) c) }
+    ensures { IfOk result (λ p. core.program_of p ≡ program_node (table_data table.now) (map core.field_of fields.items, map core.method_of methods.items)) }
 {
-    let classes = core_classes(alloc, table, classes, fields.as_slice(), methods.as_slice())?;
+    let classes = core_classes(alloc, table, order, lineages)?;
     let main_class = main_class(table);
     let main = main_method(table, main_class);
     Ok(CoreProgram {
@@ -67,18 +72,20 @@ fn core_program(
 fn assembled(
     alloc: Global,
     table: &ClassTable,
-    classes: &[Class],
+    order: &[ClassId],
+    lineages: &[Lineage],
     parts: Parts,
 ) -> Result<CoreProgram, NoMemory>
-    requires fields { fields_data parts ≡ all_there (all_fields (table_data table.now) 0 (map class_of classes.now)) }
-    requires methods { methods_data parts ≡ all_there (all_methods (table_data table.now) 0 (map class_of classes.now)) }
-    requires whole { (P : CoreData) × (option_map (program_node (table_data table.now) (map class_of classes.now)) (both (fields_data parts) (methods_data parts)) ≡ Some P) }
-    ensures { IfOk result (λ p. Some (core.program_of p) ≡ option_map (program_node (table_data table.now) (map class_of classes.now)) (both (fields_data parts) (methods_data parts))) }
+    requires lined { IsLined (table_data table.now) }
+    requires order { IsFromAbove (above_in_table (table_data table.now)) (length (table_data table.now).classes) order.now }
+    requires lineages { (c : ℕ) → c < length (table_data table.now).classes → slice_get lineages.now c ≡ Some (lineage_of (table_data table.now) c) }
+    requires whole { (P : CoreData) × (option_map (program_node (table_data table.now)) (both (fields_data parts) (methods_data parts)) ≡ Some P) }
+    ensures { IfOk result (λ p. Some (core.program_of p) ≡ option_map (program_node (table_data table.now)) (both (fields_data parts) (methods_data parts))) }
 {
     let Parts { fields, methods } = parts;
     let fields = fields.all().unwrap();
     let methods = methods.all().unwrap();
-    core_program(alloc, table, classes, fields, methods)
+    core_program(alloc, table, order, lineages, fields, methods)
 }
 
 fn core_or_fault(
@@ -86,15 +93,18 @@ fn core_or_fault(
     table: &ClassTable,
     program: &Program,
 ) -> Result<CoreProgram, TypeFault>
+    requires no_class_faults { classes.faults_of (program_of program.now) ≡ [] }
     requires table { table_data table.now ≡ table_of (program_of program.now) }
     ensures { MatchResult result (λ p. IsCoreOf (program_of program.now) (core.program_of p)) (λ e. (e ≡ OutOfMemory) ⊎ IsFirstFault (program_of program.now) e) }
 {
+    let order = from_above(alloc, table)?;
+    let lineages = lineages(alloc, table, order.as_slice())?;
     let classes = program.classes.as_slice();
     let mut first = FirstFault::new();
-    let parts = parts_of(alloc, table, classes, &mut first)?;
+    let parts = parts_of(alloc, table, lineages.as_slice(), classes, &mut first)?;
     match first.found {
         Some(fault) => Err(fault),
-        None => Ok(assembled(alloc, table, classes, parts)?),
+        None => Ok(assembled(alloc, table, order.as_slice(), lineages.as_slice(), parts)?),
     }
 }
 

@@ -1,7 +1,7 @@
 //! The fields and methods of all classes.
 #![tactic(auto, using(aj_type_rules::proofs::Noting::noted_append))]
 
-ghost use Rattle.std.specs.Prelude.{false, ◌≡◌, ◌+◌, map, option_map, IfOk, OnOk};
+ghost use Rattle.std.specs.Prelude.{false, ◌≡◌, ◌+◌, ◌<◌, ℕ, Some, length, map, option_map, slice_get, IfOk, OnOk};
 ghost use Rattle.aj_classes.specs.Table.{type_of};
 ghost use Rattle.aj_classes.specs.Views.{table_data};
 ghost use Rattle.aj_core.specs.Views.{field_of};
@@ -11,8 +11,11 @@ ghost use Rattle.aj_type_rules.specs.Noted.{noted};
 ghost use Rattle.aj_elaborate.specs.Programs.{all_there, guard_faults, guard_path, member_faults, faults_from, fields_core, methods_core, all_fields, all_methods};
 ghost use Rattle.aj_elaborate.specs.Views.{fields_data, methods_data};
 ghost use Rattle.std.specs.Prelude.{flat_map};
+ghost use Rattle.aj_elaborate.specs.Lineages.{lineage_of};
 
+use crate::columns::value_of;
 use crate::gather::Gathered;
+use crate::lineage::Lineage;
 use crate::methods::{core_type, method};
 use aj_classes::ClassTable;
 use aj_core::{CoreField, CoreMethod};
@@ -67,7 +70,7 @@ fn field(
     })
 }
 
-/// The index of the next field. A class table admits 32 fields in a class at most; there is no memory for 65,536.
+/// The index of the next field. A class table admits 32 fields in a class at most, those from above among them; there is no memory for 65,536.
 fn next_index(index: u16) -> Result<u16, NoMemory>
     ensures { IfOk result (λ n. n ≡ index + 1) }
 {
@@ -114,19 +117,21 @@ fn add_member(
     }
 }
 
+/// The members of a class, which has so many fields from above.
 fn add_members(
     alloc: Global,
     table: &ClassTable,
     class: ClassId,
+    inherited: u16,
     members: &[Member],
     parts: &mut Parts,
     first: &mut FirstFault,
 ) -> Result<(), NoMemory>
-    ensures fields { OnOk result (fields_data parts.new ≡ appended (fields_data parts.old) (all_there (fields_core (table_data table.now) class 0 (map member_of members.now)))) }
+    ensures fields { OnOk result (fields_data parts.new ≡ appended (fields_data parts.old) (all_there (fields_core (table_data table.now) class inherited (map member_of members.now)))) }
     ensures methods { OnOk result (methods_data parts.new ≡ appended (methods_data parts.old) (all_there (methods_core (table_data table.now) class (map member_of members.now)))) }
     ensures fault { OnOk result (first.new ≡ noted first.old (flat_map (member_faults (table_data table.now) class) (map member_of members.now))) }
 {
-    let mut index = 0;
+    let mut index = inherited;
     for member in members {
         index = add_member(alloc, table, class, index, member, parts, first)?;
     }
@@ -147,9 +152,12 @@ pub(crate) fn next_number(number: u32) -> Result<u32, NoMemory>
 pub(crate) fn parts_of(
     alloc: Global,
     table: &ClassTable,
+    lineages: &[Lineage],
     classes: &[Class],
     first: &mut FirstFault,
 ) -> Result<Parts, NoMemory>
+    requires many { length classes.now ≡ length (table_data table.now).classes }
+    requires lineages { (c : ℕ) → c < length (table_data table.now).classes → slice_get lineages.now c ≡ Some (lineage_of (table_data table.now) c) }
     ensures fields { IfOk result (λ p. fields_data p ≡ all_there (all_fields (table_data table.now) 0 (map class_of classes.now))) }
     ensures methods { IfOk result (λ p. methods_data p ≡ all_there (all_methods (table_data table.now) 0 (map class_of classes.now))) }
     ensures fault { OnOk result (first.new ≡ noted first.old (faults_from (table_data table.now) 0 (map class_of classes.now))) }
@@ -160,10 +168,13 @@ pub(crate) fn parts_of(
     };
     let mut number = 0;
     for class in classes {
+        let id = ClassId(number);
+        let inherited = value_of(lineages, id).inherited;
         add_members(
             alloc,
             table,
-            ClassId(number),
+            id,
+            inherited,
             class.members.as_slice(),
             &mut parts,
             first,

@@ -63,7 +63,7 @@ fn local(
 {
     let ty = type_rule(body.table, ty, first);
     let value = typed(body, scope, value, first)?;
-    let value = local_value(name.at, &ty, value, first);
+    let value = local_value(body.table, name.at, &ty, value, first);
     note_declaration(scope, before, name, first);
     let node = local_node(body.first_local, before, is_final, value);
     Ok(StmtPart {
@@ -90,7 +90,7 @@ fn set_var(
 {
     let target = target_rule(scope, name, first);
     let value = typed(body, scope, value, first)?;
-    let node = set_rule(at, target, value, first);
+    let node = set_rule(body.table, at, target, value, first);
     Ok(simple(node))
 }
 
@@ -112,7 +112,7 @@ fn set_field(
     let receiver = typed(body, scope, receiver, first)?;
     let target = field_target(body.table, name, receiver, first);
     let value = typed(body, scope, value, first)?;
-    let node = put_rule(at, target, value, first);
+    let node = put_rule(body.table, at, target, value, first);
     Ok(simple(node))
 }
 
@@ -184,7 +184,7 @@ fn return_node(
         return Ok(return_rule(at, body.returns, first));
     };
     let value = typed(body, scope, value, first)?;
-    Ok(value_rule(at, body.returns, value, first))
+    Ok(value_rule(body.table, at, body.returns, value, first))
 }
 
 fn return_part(

@@ -54,14 +54,14 @@ spelled_ranked x u k s = terminal_ranked u x (ap (λ z. same_kind z (kind_of u) 
     itself t = refl
 
 -- a token that is no terminal's has no terminal's number
-pub none_ranked : (x : Token) → ((t : Terminal) → is t x ≡ false) → IsRank x 49
+pub none_ranked : (x : Token) → ((t : Terminal) → is t x ≡ false) → IsRank x 50
 none_ranked x none t = none t ∙ apart t
   where
-    apart : (t : Terminal) → false ≡ (49 == rank_of t)
+    apart : (t : Terminal) → false ≡ (50 == rank_of t)
     apart T.Public = refl
     apart t = refl
 
-pub number_ranked : (x : Token) (n : ℕ) → x.kind ≡ K.Number n → IsRank x 49
+pub number_ranked : (x : Token) (n : ℕ) → x.kind ≡ K.Number n → IsRank x 50
 number_ranked x n k = none_ranked x (λ t. ap (λ z. same_kind z (kind_of t) && bytes_eq x.text (spelling t)) k)
 
 -- a name that is none of the three
@@ -73,7 +73,7 @@ name_apart x k o p s T.Start = ap (λ z. same_kind z K.Name && bytes_eq x.text (
 name_apart x k o p s t = ap (λ z. same_kind z (kind_of t) && bytes_eq x.text (spelling t)) k
 
 name_cases : (x : Token) → x.kind ≡ K.Name → (o p s : Bool) → bytes_eq x.text (codes "out") ≡ o → bytes_eq x.text (codes "println") ≡ p → bytes_eq x.text (codes "start") ≡ s
-    → IsRank x (if o then rank_of T.Out else if p then rank_of T.Println else if s then rank_of T.Start else 49)
+    → IsRank x (if o then rank_of T.Out else if p then rank_of T.Println else if s then rank_of T.Start else 50)
 name_cases x k true p s eo ep es = terminal_ranked T.Out x (ap (λ z. same_kind z K.Name && bytes_eq x.text (codes "out")) k ∙ eo)
 name_cases x k false true s eo ep es = terminal_ranked T.Println x (ap (λ z. same_kind z K.Name && bytes_eq x.text (codes "println")) k ∙ ep)
 name_cases x k false false true eo ep es = terminal_ranked T.Start x (ap (λ z. same_kind z K.Name && bytes_eq x.text (codes "start")) k ∙ es)
@@ -102,5 +102,5 @@ none_passes x (u ∷ us) h (suc k) t g = none_passes x us (none_step (is u x) u 
 pub found_ranked : (x : Token) (u : Terminal) → find (λ t. is t x) TERMINALS ≡ Some u → IsRank x (rank_of u)
 found_ranked x u h = terminal_ranked u x (found_passes x TERMINALS u h)
 
-pub none_found_ranked : (x : Token) → find (λ t. is t x) TERMINALS ≡ None → IsRank x 49
+pub none_found_ranked : (x : Token) → find (λ t. is t x) TERMINALS ≡ None → IsRank x 50
 none_found_ranked x h = none_ranked x (λ t. none_passes x TERMINALS h (rank_of t) t (at_rank t))

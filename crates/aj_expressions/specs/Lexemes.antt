@@ -10,53 +10,54 @@ use Rattle.aj_syntax.specs.Tokens.{is}
 abbrev pub rank_of : Terminal → ℕ
 rank_of T.Public = 0
 rank_of T.Class = 1
-rank_of T.Implements = 2
-rank_of T.Runnable = 3
-rank_of T.Final = 4
-rank_of T.GuardedBy = 5
-rank_of T.WriteGuardedBy = 6
-rank_of T.This = 7
-rank_of T.Atomic = 8
-rank_of T.Void = 9
-rank_of T.Requires = 10
-rank_of T.Int = 11
-rank_of T.Boolean = 12
-rank_of T.If = 13
-rank_of T.Else = 14
-rank_of T.While = 15
-rank_of T.Synchronized = 16
-rank_of T.Return = 17
-rank_of T.System = 18
-rank_of T.New = 19
-rank_of T.Thread = 20
-rank_of T.True = 21
-rank_of T.False = 22
-rank_of T.Null = 23
-rank_of T.Out = 24
-rank_of T.Println = 25
-rank_of T.Start = 26
-rank_of T.OpenParen = 27
-rank_of T.CloseParen = 28
-rank_of T.OpenBrace = 29
-rank_of T.CloseBrace = 30
-rank_of T.Semicolon = 31
-rank_of T.Comma = 32
-rank_of T.Dot = 33
-rank_of T.Assign = 34
-rank_of T.EqualTo = 35
-rank_of T.NotEqual = 36
-rank_of T.Less = 37
-rank_of T.LessEqual = 38
-rank_of T.Greater = 39
-rank_of T.GreaterEqual = 40
-rank_of T.Plus = 41
-rank_of T.Minus = 42
-rank_of T.Star = 43
-rank_of T.Slash = 44
-rank_of T.Percent = 45
-rank_of T.Bang = 46
-rank_of T.AndAnd = 47
-rank_of T.OrOr = 48
+rank_of T.Extends = 2
+rank_of T.Implements = 3
+rank_of T.Runnable = 4
+rank_of T.Final = 5
+rank_of T.GuardedBy = 6
+rank_of T.WriteGuardedBy = 7
+rank_of T.This = 8
+rank_of T.Atomic = 9
+rank_of T.Void = 10
+rank_of T.Requires = 11
+rank_of T.Int = 12
+rank_of T.Boolean = 13
+rank_of T.If = 14
+rank_of T.Else = 15
+rank_of T.While = 16
+rank_of T.Synchronized = 17
+rank_of T.Return = 18
+rank_of T.System = 19
+rank_of T.New = 20
+rank_of T.Thread = 21
+rank_of T.True = 22
+rank_of T.False = 23
+rank_of T.Null = 24
+rank_of T.Out = 25
+rank_of T.Println = 26
+rank_of T.Start = 27
+rank_of T.OpenParen = 28
+rank_of T.CloseParen = 29
+rank_of T.OpenBrace = 30
+rank_of T.CloseBrace = 31
+rank_of T.Semicolon = 32
+rank_of T.Comma = 33
+rank_of T.Dot = 34
+rank_of T.Assign = 35
+rank_of T.EqualTo = 36
+rank_of T.NotEqual = 37
+rank_of T.Less = 38
+rank_of T.LessEqual = 39
+rank_of T.Greater = 40
+rank_of T.GreaterEqual = 41
+rank_of T.Plus = 42
+rank_of T.Minus = 43
+rank_of T.Star = 44
+rank_of T.Slash = 45
+rank_of T.Percent = 46
+rank_of T.Bang = 47
+rank_of T.AndAnd = 48
+rank_of T.OrOr = 49
 
 -- a number that is a terminal's exactly where the token is that terminal's
 abbrev pub IsRank : Token → ℕ → Type 0
@@ -66,4 +67,4 @@ IsRank x rank = (t : Terminal) → is t x ≡ (rank == rank_of t)
 abbrev pub name_rank : List ℕ → ℕ
 name_rank text =
     if bytes_eq text (codes "out") then rank_of T.Out else if bytes_eq text (codes "println") then rank_of T.Println
-    else if bytes_eq text (codes "start") then rank_of T.Start else 49
+    else if bytes_eq text (codes "start") then rank_of T.Start else 50

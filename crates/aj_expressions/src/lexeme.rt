@@ -12,9 +12,10 @@ use std::alloc::{AllocError, Global};
 use std::marker::Model;
 
 /// The terminals, in the order of their numbers.
-const TERMINALS: [Terminal; 49] = [
+const TERMINALS: [Terminal; 50] = [
     Terminal::Public,
     Terminal::Class,
+    Terminal::Extends,
     Terminal::Implements,
     Terminal::Runnable,
     Terminal::Final,
@@ -65,7 +66,7 @@ const TERMINALS: [Terminal; 49] = [
 ];
 
 /// The number of a token that is no terminal's.
-const NO_TERMINAL: u32 = 49;
+const NO_TERMINAL: u32 = 50;
 
 /// A token, and the number of the terminal that it is. It is seen in contracts as the token.
 #[derive(Drop)]
@@ -163,6 +164,7 @@ fn word(text: &[u8]) -> Option<Terminal>
     match text {
         b"public" => Some(Terminal::Public),
         b"class" => Some(Terminal::Class),
+        b"extends" => Some(Terminal::Extends),
         b"implements" => Some(Terminal::Implements),
         b"Runnable" => Some(Terminal::Runnable),
         b"final" => Some(Terminal::Final),

@@ -7,7 +7,8 @@ use Rattle.aj_classes.specs.Views.{table_data}
 use Rattle.aj_core.specs.Core.{Program}
 use Rattle.aj_core.specs.Views.{program_of}
 use Rattle.aj_elaborate.specs.Programs.{IsCoreOf}
-use Rattle.aj_elaborate.proofs.Built.{built, classes_long}
+use Rattle.aj_elaborate.proofs.Agreement.{classes_many}
+use Rattle.aj_elaborate.proofs.Built.{built}
 use Rattle.aj_levels.specs.Contexts.{IsOrdered, IsFirstBad}
 use Rattle.aj_levels.specs.Walks.{level_in}
 use Rattle.aj_level_search.specs.declared.end.LevelEnd.{LevelEnd}
@@ -37,7 +38,7 @@ source_refused file bytes r is = right_of_more (NoSource file) (LevelsAnswer fil
 names_of_classes : (tree : ProgramTree) (P : Program) → IsCoreOf tree P → length (table_of tree).names ≡ length P.classes
 names_of_classes tree P core =
     length-map (class_names tree) (λ n. n.text) ∙ length-map tree (λ c. c.name)
-    ∙ sym (ap length (built tree P core.core).classes ∙ classes_long (table_of tree) P.fields P.methods 0 tree)
+    ∙ sym (classes_many tree P (built tree P core.core))
 
 pub class_count : (file : List ℕ) (source : Source) → IsSourceOf file source → length (table_data source.table).names ≡ length (program_of source.program).classes
 class_count file source is = ap (λ t. length t.names) is.1.table ∙ names_of_classes is.0 (program_of source.program) is.1.has_core.core

@@ -9,7 +9,7 @@ use Rattle.aj_syntax.specs.declared.tree.Name.{Name}
 use Rattle.aj_syntax.specs.declared.tree.Param.{Param}
 use Rattle.aj_syntax.specs.declared.tree.TypeName.{TypeName}
 use Rattle.aj_syntax.specs.declared.tree.TypeName.TheVariants as Y
-use Rattle.aj_syntax.specs.Grammar.{SpellsStmts, SpellsLock, IsType, IsFlag, IsOptional, IsResultType, SpellsSet, SpellsGuard, SpellsField, SpellsRequires, SpellsBare, SpellsMember, SpellsRunnable, SpellsClass, Separates, Follows, Repeats, Wide}
+use Rattle.aj_syntax.specs.Grammar.{SpellsStmts, SpellsLock, IsType, IsFlag, IsOptional, IsResultType, SpellsSet, SpellsGuard, SpellsField, SpellsRequires, SpellsBare, SpellsMember, SpellsExtends, SpellsRunnable, SpellsClass, Separates, Follows, Repeats, Wide}
 use Rattle.aj_syntax.specs.Heights.{stmt_heights, body_height, highest_member, highest_body}
 use Rattle.aj_syntax.specs.Limits.{most_height}
 use Rattle.aj_syntax.specs.Tokens.{is, token, name_token}
@@ -26,7 +26,7 @@ use Rattle.aj_expressions.specs.Combine.{Res, ◌>>=◌, starts, first, take_one
 use Rattle.aj_expressions.specs.Words.{a_name, field_name, lock, type_name}
 use Rattle.aj_expressions.specs.Statements.{goes_on}
 use Rattle.aj_parser.specs.Blocks.{block_at}
-use Rattle.aj_parser.specs.Members.{param, param_list, params, required, method_rest, set, ctor_rest, guard, field_rest, typed_rest, final_field, result_type, plain_method, named_member, bare_member, member, runnable, class_at, program}
+use Rattle.aj_parser.specs.Members.{param, param_list, params, required, method_rest, set, ctor_rest, guard, field_rest, typed_rest, final_field, result_type, plain_method, named_member, bare_member, member, extended, runnable, class_at, program}
 
 -- terminals that may stand
 
@@ -333,13 +333,23 @@ unfolding runnable
 runnable_read true rs f b s = ap (λ z. runnable (z ++ (token T.OpenBrace b ∷ f))) s.2
 runnable_read false rs f b s = ap (λ z. runnable (z ++ (token T.OpenBrace b ∷ f))) s
 
-make_class : Name → Bool → List MemberTree → ClassTree
-make_class n r ms = record { name = n; runnable = r; members = ms }
+extended_read : (above : Option Name) (es f : List Token) → SpellsExtends above es → starts (is T.Extends) f ≡ false → extended (es ++ f) ≡ Ok (above, f)
+unfolding extended
+extended_read (Some n) es f s e = ap (λ z. extended (z ++ f)) s.1
+extended_read None es f s e = ap (λ z. extended (z ++ f)) s ∙ cond-false (starts (is T.Extends) f) _ _ e
+
+-- what stands behind the name of a class doesn't begin with `extends` again
+no_extends : (r : Bool) (rs f : List Token) (b : ℕ) → SpellsRunnable r rs → starts (is T.Extends) (rs ++ (token T.OpenBrace b ∷ f)) ≡ false
+no_extends true rs f b s = ap (λ z. starts (is T.Extends) (z ++ (token T.OpenBrace b ∷ f))) s.2
+no_extends false rs f b s = ap (λ z. starts (is T.Extends) (z ++ (token T.OpenBrace b ∷ f))) s
+
+make_class : Name → Option Name → Bool → List MemberTree → ClassTree
+make_class n above r ms = record { name = n; above = above; runnable = r; members = ms }
 
 class_tail : Bool × List Token → Res ClassTree
 class_tail y =
-    take_one T.Class y.1 >>= λ c ts. first a_name ts >>= λ n ts. runnable ts >>= λ r ts.
-    take_one T.OpenBrace ts >>= λ b ts. several goes_on member ts >>= λ ms ts. take_one T.CloseBrace ts >>= λ e ts. Ok (make_class n r ms, ts)
+    take_one T.Class y.1 >>= λ c ts. first a_name ts >>= λ n ts. extended ts >>= λ above ts. runnable ts >>= λ r ts.
+    take_one T.OpenBrace ts >>= λ b ts. several goes_on member ts >>= λ ms ts. take_one T.CloseBrace ts >>= λ e ts. Ok (make_class n above r ms, ts)
 
 class_is : (ts : List Token) → class_at ts ≡ class_tail (flag T.Public ts)
 unfolding class_at class_tail make_class
@@ -348,16 +358,22 @@ class_is ts = refl
 class_read : (c : ClassTree) (zs f : List Token) → SpellsClass c zs → Same (highest_member c.members ≤ most_height) (class_at (zs ++ f)) (Ok (c, f))
 unfolding class_tail make_class
 class_read c zs f s =
-    let close = token T.CloseBrace s.5 in
-    let t = s.2 ++ (close ∷ f) in
-    let u = token T.Class s.3 ∷ name_token c.name ∷ s.1 ++ (token T.OpenBrace s.4 ∷ t) in
-    let o = optional_read T.Public (λ d. refl) s.0 u s.6 refl in
+    let close = token T.CloseBrace s.6 in
+    let t = s.3 ++ (close ∷ f) in
+    let u = s.2 ++ (token T.OpenBrace s.5 ∷ t) in
+    let v = token T.Class s.4 ∷ name_token c.name ∷ s.1 ++ u in
+    let o = optional_read T.Public (λ d. refl) s.0 v s.7 refl in
+    let ends = token T.OpenBrace s.5 ∷ s.3 ++ (close ∷ []) in
     at_list class_at
-    (ap (λ z. z ++ f) s.9 ∙ append_assoc s.0 (token T.Class s.3 ∷ name_token c.name ∷ s.1 ++ (token T.OpenBrace s.4 ∷ s.2 ++ (close ∷ []))) f
-    ∙ ap (λ z. s.0 ++ (token T.Class s.3 ∷ name_token c.name ∷ z)) (append_assoc s.1 (token T.OpenBrace s.4 ∷ s.2 ++ (close ∷ [])) f ∙ ap (λ z. s.1 ++ (token T.OpenBrace s.4 ∷ z)) (append_assoc s.2 (close ∷ []) f)))
-    (same_along (class_is (s.0 ++ u) ∙ ap class_tail o.1
-    ∙ ap (λ r. r >>= λ r ts. take_one T.OpenBrace ts >>= λ b ts. several goes_on member ts >>= λ ms ts. take_one T.CloseBrace ts >>= λ e ts. Ok (make_class c.name r ms, ts)) (runnable_read c.runnable s.1 t s.4 s.7))
-    (same_bind {low2 = highest_member c.members ≤ most_height} (λ ms ts. take_one T.CloseBrace ts >>= λ e ts. Ok (make_class c.name c.runnable ms, ts)) (λ q. q) (λ q. q) (members_read c.members s.2 f s.5 s.8) (same refl)))
+    (ap (λ z. z ++ f) s.11 ∙ append_assoc s.0 (token T.Class s.4 ∷ name_token c.name ∷ s.1 ++ (s.2 ++ ends)) f
+    ∙ ap (λ z. s.0 ++ (token T.Class s.4 ∷ name_token c.name ∷ z)) (append_assoc s.1 (s.2 ++ ends) f
+    ∙ ap (λ z. s.1 ++ z) (append_assoc s.2 ends f ∙ ap (λ z. s.2 ++ (token T.OpenBrace s.5 ∷ z)) (append_assoc s.3 (close ∷ []) f))))
+    (same_along (class_is (s.0 ++ v) ∙ ap class_tail o.1
+    ∙ ap (λ r. r >>= λ a ts. runnable ts >>= λ r ts. take_one T.OpenBrace ts >>= λ b ts. several goes_on member ts >>= λ ms ts. take_one T.CloseBrace ts >>= λ e ts. Ok (make_class c.name a r ms, ts))
+    (extended_read c.above s.1 u s.8 (no_extends c.runnable s.2 t s.5 s.9))
+    ∙ ap (λ r. r >>= λ r ts. take_one T.OpenBrace ts >>= λ b ts. several goes_on member ts >>= λ ms ts. take_one T.CloseBrace ts >>= λ e ts. Ok (make_class c.name c.above r ms, ts))
+    (runnable_read c.runnable s.2 t s.5 s.9))
+    (same_bind {low2 = highest_member c.members ≤ most_height} (λ ms ts. take_one T.CloseBrace ts >>= λ e ts. Ok (make_class c.name c.above c.runnable ms, ts)) (λ q. q) (λ q. q) (members_read c.members s.3 f s.6 s.10) (same refl)))
 
 any_first : (zs f : List Token) → 0 < length zs → starts (λ x. true) (zs ++ f) ≡ true
 any_first [] f h = absurd (omega (arith, h))

@@ -8,7 +8,7 @@ use Rattle.aj_syntax.specs.declared.tree.Name.{Name}
 use Rattle.aj_syntax.specs.declared.tree.Param.{Param}
 use Rattle.aj_syntax.specs.declared.tree.TypeName.{TypeName}
 use Rattle.aj_syntax.specs.declared.tree.TypeName.TheVariants as Y
-use Rattle.aj_syntax.specs.Grammar.{SpellsLock, IsType, IsFlag, IsOptional, IsResultType, SpellsParam, SpellsCtorParam, SpellsSet, SpellsGuard, SpellsField, SpellsRequires, SpellsBare, SpellsMember, SpellsRunnable, SpellsClass, Separates, Follows, Repeats, Wide}
+use Rattle.aj_syntax.specs.Grammar.{SpellsLock, IsType, IsFlag, IsOptional, IsResultType, SpellsParam, SpellsCtorParam, SpellsSet, SpellsGuard, SpellsField, SpellsRequires, SpellsBare, SpellsMember, SpellsExtends, SpellsRunnable, SpellsClass, Separates, Follows, Repeats, Wide}
 use Rattle.aj_syntax.specs.Heights.{body_height, highest_member, highest_body}
 use Rattle.aj_syntax.specs.Limits.{most_height}
 use Rattle.aj_syntax.specs.Tokens.{token, name_token}
@@ -23,7 +23,7 @@ use Rattle.aj_parser.proofs.Statements.{right_type, right_lock, this_lock, this_
 use Rattle.aj_expressions.specs.Combine.{Res, ◌>>=◌, starts, several}
 use Rattle.aj_expressions.specs.Words.{lock}
 use Rattle.aj_expressions.specs.Statements.{goes_on}
-use Rattle.aj_parser.specs.Members.{param, param_list, params, required, method_rest, set, ctor_rest, guard, field_rest, typed_rest, final_field, result_type, plain_method, named_member, bare_member, member, runnable, class_at, program}
+use Rattle.aj_parser.specs.Members.{param, param_list, params, required, method_rest, set, ctor_rest, guard, field_rest, typed_rest, final_field, result_type, plain_method, named_member, bare_member, member, extended, runnable, class_at, program}
 
 -- a terminal that may stand, and then
 flag_optional : (t : Terminal) (f : Bool) (zs : List Token) → IsFlag t f zs → IsOptional t zs
@@ -324,8 +324,15 @@ right_runnable ts =
     right_tok T.Runnable (λ e. ([], true, (d, e, refl))) (λ e r. right_done (d, e, refl) tt)))
     (λ e. right_done refl tt)
 
-make_class : Name → Bool → List MemberTree → ClassTree
-make_class n r ms = record { name = n; runnable = r; members = ms }
+right_extended : (ts : List Token) → Right extended (λ zs above. SpellsExtends above zs) Any ts
+unfolding extended
+right_extended ts =
+    right_if (λ e. right_tok T.Extends (λ d. (name_token x_name ∷ [], Some x_name, (d, refl))) (λ d r.
+    right_name (λ n. ([], Some n, (d, refl))) (λ n r. right_done (d, refl) tt)))
+    (λ e. right_done refl tt)
+
+make_class : Name → Option Name → Bool → List MemberTree → ClassTree
+make_class n above r ms = record { name = n; above = above; runnable = r; members = ms }
 
 abbrev pub LowClass : ClassTree → List Token → Type 0
 LowClass c r = highest_member c.members ≤ most_height
@@ -334,21 +341,22 @@ pub right_class : (ts : List Token) → Right class_at (λ zs c. SpellsClass c z
 unfolding class_at make_class
 right_class ts =
     let e : List Token = token T.OpenBrace 0 ∷ token T.CloseBrace 0 ∷ [] in
-    right_seq (right_flag T.Public ts) (λ f. (token T.Class 0 ∷ name_token x_name ∷ e, make_class x_name false [], λ ps p. (ps, [], [], 0, 0, 0, flag_optional T.Public f ps p, refl, refl, refl))) (λ f r _.
-    right_tok T.Class (λ d. (name_token x_name ∷ e, make_class x_name false [], λ ps p. (ps, [], [], d, 0, 0, flag_optional T.Public f ps p, refl, refl, refl))) (λ d r.
-    right_name (λ n. (e, make_class n false [], λ ps p. (ps, [], [], d, 0, 0, flag_optional T.Public f ps p, refl, refl, refl))) (λ n r.
-    right_seq (right_runnable r) (λ k. (e, make_class n k [], λ rs q ps p. (ps, rs, [], d, 0, 0, flag_optional T.Public f ps p, q, refl, refl))) (λ k r _.
-    right_tok T.OpenBrace (λ b. (token T.CloseBrace 0 ∷ [], make_class n k [], λ rs q ps p. (ps, rs, [], d, b, 0, flag_optional T.Public f ps p, q, refl, refl))) (λ b r.
-    right_seq (members_law r) (λ ms. (token T.CloseBrace 0 ∷ [], make_class n k ms, λ xs s rs q ps p. (ps, rs, xs, d, b, 0, flag_optional T.Public f ps p, q, s, refl))) (λ ms r low.
-    right_tok T.CloseBrace (λ e. ([], make_class n k ms, λ xs s rs q ps p. (ps, rs, xs, d, b, e, flag_optional T.Public f ps p, q, s, refl))) (λ e r.
-    right_done (λ xs s rs q ps p. (ps, rs, xs, d, b, e, flag_optional T.Public f ps p, q, s, refl)) low)))))))
+    right_seq (right_flag T.Public ts) (λ f. (token T.Class 0 ∷ name_token x_name ∷ e, make_class x_name None false [], λ ps p. (ps, [], [], [], 0, 0, 0, flag_optional T.Public f ps p, refl, refl, refl, refl))) (λ f r _.
+    right_tok T.Class (λ d. (name_token x_name ∷ e, make_class x_name None false [], λ ps p. (ps, [], [], [], d, 0, 0, flag_optional T.Public f ps p, refl, refl, refl, refl))) (λ d r.
+    right_name (λ n. (e, make_class n None false [], λ ps p. (ps, [], [], [], d, 0, 0, flag_optional T.Public f ps p, refl, refl, refl, refl))) (λ n r.
+    right_seq (right_extended r) (λ a. (e, make_class n a false [], λ es x ps p. (ps, es, [], [], d, 0, 0, flag_optional T.Public f ps p, x, refl, refl, refl))) (λ a r _.
+    right_seq (right_runnable r) (λ k. (e, make_class n a k [], λ rs q es x ps p. (ps, es, rs, [], d, 0, 0, flag_optional T.Public f ps p, x, q, refl, refl))) (λ k r _.
+    right_tok T.OpenBrace (λ b. (token T.CloseBrace 0 ∷ [], make_class n a k [], λ rs q es x ps p. (ps, es, rs, [], d, b, 0, flag_optional T.Public f ps p, x, q, refl, refl))) (λ b r.
+    right_seq (members_law r) (λ ms. (token T.CloseBrace 0 ∷ [], make_class n a k ms, λ xs s rs q es x ps p. (ps, es, rs, xs, d, b, 0, flag_optional T.Public f ps p, x, q, s, refl))) (λ ms r low.
+    right_tok T.CloseBrace (λ e. ([], make_class n a k ms, λ xs s rs q es x ps p. (ps, es, rs, xs, d, b, e, flag_optional T.Public f ps p, x, q, s, refl))) (λ e r.
+    right_done (λ xs s rs q es x ps p. (ps, es, rs, xs, d, b, e, flag_optional T.Public f ps p, x, q, s, refl)) low))))))))
 
 pub class_long : (zs : List Token) (c : ClassTree) → SpellsClass c zs → 0 < length zs
-class_long zs c p = along_length zs _ p.9 (append_left p.0 _ _)
+class_long zs c p = along_length zs _ p.11 (append_left p.0 _ _)
 
 pub class_example : Some_of (λ zs c. SpellsClass c zs)
 unfolding make_class
-class_example = (token T.Class 0 ∷ name_token x_name ∷ token T.OpenBrace 0 ∷ token T.CloseBrace 0 ∷ [], make_class x_name false [], ([], [], [], 0, 0, 0, inl refl, refl, refl, refl))
+class_example = (token T.Class 0 ∷ name_token x_name ∷ token T.OpenBrace 0 ∷ token T.CloseBrace 0 ∷ [], make_class x_name None false [], ([], [], [], [], 0, 0, 0, inl refl, refl, refl, refl, refl))
 
 more_classes : (so : ProgramTree) (c : ClassTree) → highest_member c.members ≤ most_height → highest_body so ≤ most_height → highest_body (so ++ (c ∷ [])) ≤ most_height
 more_classes [] c a b = omega (arith, a)

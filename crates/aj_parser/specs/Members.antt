@@ -91,11 +91,15 @@ unfoldable pub runnable : List Token → Res Bool
 runnable ts =
     if starts (is T.Implements) ts then (take_one T.Implements ts >>= λ d ts. take_one T.Runnable ts >>= λ e ts. Ok (true, ts)) else Ok (false, ts)
 
+-- the name behind `extends`, if there is one
+unfoldable pub extended : List Token → Res (Option Name)
+extended ts = if starts (is T.Extends) ts then (take_one T.Extends ts >>= λ d ts. first a_name ts >>= λ n ts. Ok (Some n, ts)) else Ok (None, ts)
+
 unfoldable pub class_at : List Token → Res ClassTree
 class_at ts =
-    Ok (flag T.Public ts) >>= λ p ts. take_one T.Class ts >>= λ c ts. first a_name ts >>= λ n ts. runnable ts >>= λ r ts.
+    Ok (flag T.Public ts) >>= λ p ts. take_one T.Class ts >>= λ c ts. first a_name ts >>= λ n ts. extended ts >>= λ above ts. runnable ts >>= λ r ts.
     take_one T.OpenBrace ts >>= λ b ts. several goes_on member ts >>= λ ms ts. take_one T.CloseBrace ts >>= λ e ts.
-    Ok (record { name = n; runnable = r; members = ms }, ts)
+    Ok (record { name = n; above = above; runnable = r; members = ms }, ts)
 
 -- classes up to the end of the tokens
 unfoldable pub program : List Token → Res ProgramTree

@@ -8,7 +8,7 @@ ghost use Rattle.aj_expressions.specs.Answer.{Gives};
 ghost use Rattle.aj_expressions.specs.Combine.{comma_step, item_step, several, starts};
 ghost use Rattle.aj_expressions.specs.Words.{lock as lock_at};
 ghost use Rattle.aj_expressions.specs.Statements.{goes_on as may_go_on};
-ghost use Rattle.aj_parser.specs.Members.{bare_member as bare_member_at, class_at, ctor_rest as ctor_rest_at, field_rest as field_rest_at, final_field as final_field_at, guard as guard_at, member as member_at, method_rest as method_rest_at, named_member as named_member_at, param as param_at, param_list as param_list_at, params as params_at, plain_method as plain_method_at, program as program_at, required as required_at, result_type as result_type_at, runnable as runnable_at, set as set_at, typed_rest as typed_rest_at};
+ghost use Rattle.aj_parser.specs.Members.{bare_member as bare_member_at, class_at, ctor_rest as ctor_rest_at, extended as extended_at, field_rest as field_rest_at, final_field as final_field_at, guard as guard_at, member as member_at, method_rest as method_rest_at, named_member as named_member_at, param as param_at, param_list as param_list_at, params as params_at, plain_method as plain_method_at, program as program_at, required as required_at, result_type as result_type_at, runnable as runnable_at, set as set_at, typed_rest as typed_rest_at};
 
 use crate::compound::{Braces, block};
 use aj_expressions::{
@@ -420,6 +420,20 @@ fn runnable<'t, 'a>(tokens: &'t [Lexeme<'a>]) -> Result<(bool, &'t [Lexeme<'a>])
     Ok((false, tokens))
 }
 
+/// The name of the class that a class extends, or nothing.
+#[tactic(auto, unfolding(crate::specs::Members::extended))]
+fn extended<'t, 'a>(
+    tokens: &'t [Lexeme<'a>],
+) -> Result<(Option<Name<'a>>, &'t [Lexeme<'a>]), Stop<'t, 'a>>
+    ensures { Gives (λ x. (x.0, x.1.now)) result (extended_at tokens.now) }
+{
+    if let Some((_, rest)) = accept(tokens, Terminal::Extends) {
+        let (above, rest) = name(rest)?;
+        return Ok((Some(above), rest));
+    }
+    Ok((None, tokens))
+}
+
 #[tactic(auto, unfolding(crate::specs::Members::class_at))]
 fn class<'t, 'a>(
     alloc: Global,
@@ -430,6 +444,7 @@ fn class<'t, 'a>(
     let (_, rest) = flag(tokens, Terminal::Public);
     let (_, rest) = take(rest, Terminal::Class)?;
     let (name, rest) = name(rest)?;
+    let (above, rest) = extended(rest)?;
     let (runnable, rest) = runnable(rest)?;
     let (_, rest) = take(rest, Terminal::OpenBrace)?;
     let (members, rest) = members(alloc, rest)?;
@@ -437,6 +452,7 @@ fn class<'t, 'a>(
     Ok((
         Class {
             name,
+            above,
             runnable,
             members,
         },

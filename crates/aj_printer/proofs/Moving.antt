@@ -6,9 +6,9 @@ use Rattle.aj_syntax.specs.declared.terminal.Terminal.TheVariants as T
 use Rattle.aj_syntax.specs.declared.tree.Name.{Name}
 use Rattle.aj_syntax.specs.declared.tree.Param.{Param}
 use Rattle.aj_syntax.specs.declared.tree.TypeName.{TypeName}
-use Rattle.aj_syntax.specs.Grammar.{SpellsLock, Repeats, Follows, Separates, SpellsParam, SpellsCtorParam, SpellsSet, SpellsGuard, SpellsFinalField, SpellsMutableField, SpellsRequires, SpellsBare, SpellsMember, SpellsRunnable, SpellsClass, Wide}
+use Rattle.aj_syntax.specs.Grammar.{SpellsLock, Repeats, Follows, Separates, SpellsParam, SpellsCtorParam, SpellsSet, SpellsGuard, SpellsFinalField, SpellsMutableField, SpellsRequires, SpellsBare, SpellsMember, SpellsExtends, SpellsRunnable, SpellsClass, Wide}
 use Rattle.aj_printer.specs.Layout.{Lexeme, Fixed, token_at}
-use Rattle.aj_printer.specs.Printing.{all_lexemes, further_lexemes, listed_lexemes, flag_lexemes, name_lexeme, type_lexeme, result_lexeme, lock_lexemes, stmts_lexemes, param_lexemes, set_lexemes, guard_lexemes, requires_lexemes, member_lexemes, runnable_lexemes, class_lexemes, program_lexemes}
+use Rattle.aj_printer.specs.Printing.{all_lexemes, further_lexemes, listed_lexemes, flag_lexemes, name_lexeme, type_lexeme, result_lexeme, lock_lexemes, stmts_lexemes, param_lexemes, set_lexemes, guard_lexemes, requires_lexemes, member_lexemes, runnable_lexemes, extends_lexemes, class_lexemes, program_lexemes}
 use Rattle.aj_printer.specs.Reprinted.{AreLexemes}
 use Rattle.aj_syntax.specs.Tokens.{token, name_token, guard_word}
 use Rattle.aj_syntax.specs.Trees.{LockTree, MemberTree, FieldM, CtorM, MethodM, ClassTree, ProgramTree}
@@ -257,31 +257,48 @@ pub runnable_placed : (runnable : Bool) (f : ℕ → ℕ) (k : ℕ) → SpellsRu
 runnable_placed true f k = (f k, f (suc k), refl)
 runnable_placed false f k = refl
 
+extends_law : (above : Option Name) (ts : List Token) → SpellsExtends above ts → Known ts → Law SpellsExtends extends_lexemes (option_map bare_name) above
+extends_law None ts s kn = record { known = tt; moved = λ f k. (None, refl, refl) }
+extends_law (Some n) ts s kn =
+    let kn2 = subst Known s.1 kn in
+    record { known = (spelled T.Extends, (kn2.1.0, tt)); moved = λ f k. (Some (named n (f (suc k))), (f k, refl), refl) }
+
 pub class_law : (c : ClassTree) (ts : List Token) → SpellsClass c ts → Known ts → Law SpellsClass class_lexemes bare_class c
-class_law c ts (ps, rs, xs, d, b, e, o, rn, ms, eq) kn =
+class_law c ts (ps, es, rs, xs, d, b, e, o, en, rn, ms, eq) kn =
     let inner = token T.OpenBrace b ∷ xs ++ (token T.CloseBrace e ∷ []) in
-    let kn2 = (back ps (token T.Class d ∷ name_token c.name ∷ rs ++ inner) (subst Known eq kn)).1 in
-    let l = repeats_law SpellsMember member_lexemes bare_member member_law c.members xs ms (front xs (token T.CloseBrace e ∷ []) (back rs inner kn2.1).1) in
+    let kn2 = (back ps (token T.Class d ∷ name_token c.name ∷ es ++ (rs ++ inner)) (subst Known eq kn)).1 in
+    let x = extends_law c.above es en (front es (rs ++ inner) kn2.1) in
+    let kn3 = back rs inner (back es (rs ++ inner) kn2.1) in
+    let l = repeats_law SpellsMember member_lexemes bare_member member_law c.members xs ms (front xs (token T.CloseBrace e ∷ []) kn3.1) in
+    let ups = extends_lexemes c.above in
     let runs = runnable_lexemes c.runnable in
     let body = all_lexemes member_lexemes c.members in
     let block = Fixed T.OpenBrace ∷ body ++ close_of in
     record {
-      known = (spelled T.Class, (kn2.0, together runs block (runnable_known c.runnable) (spelled T.OpenBrace, together body close_of l.known (spelled T.CloseBrace, tt))));
-      moved = λ f k. let i = suc (suc k) in let j = after i runs in let m = l.moved f (suc j) in (
-        record { name = named c.name (f (suc k)); runnable = c.runnable; members = m.0 },
+      known = (
+        spelled T.Class,
+        (kn2.0, together ups (runs ++ block) x.known (together runs block (runnable_known c.runnable) (spelled T.OpenBrace, together body close_of l.known (spelled T.CloseBrace, tt)))),
+      );
+      moved = λ f k. let h = suc (suc k) in let u = x.moved f h in let i = after h ups in let j = after i runs in let m = l.moved f (suc j) in (
+        record { name = named c.name (f (suc k)); above = u.0; runnable = c.runnable; members = m.0 },
         (
           [],
+          placed f h ups,
           placed f i runs,
           placed f (suc j) body,
           f k,
           f j,
           f (after (suc j) body),
           inl refl,
+          u.1,
           runnable_placed c.runnable f i,
           m.1,
-          ap (λ z. token T.Class (f k) ∷ name_token (named c.name (f (suc k))) ∷ z) (placed_both f i runs block ∙ ap (λ z. placed f i runs ++ (token T.OpenBrace (f j) ∷ z)) (placed_both f (suc j) body close_of)),
+          ap (λ z. token T.Class (f k) ∷ name_token (named c.name (f (suc k))) ∷ z)
+              (placed_both f h ups (runs ++ block)
+              ∙ ap (λ z. placed f h ups ++ z)
+              (placed_both f i runs block ∙ ap (λ z. placed f i runs ++ (token T.OpenBrace (f j) ∷ z)) (placed_both f (suc j) body close_of))),
         ),
-        ap (λ z. record { name = bare_name c.name; runnable = c.runnable; members = z }) m.2,
+        ap₂ (λ y z. record { name = bare_name c.name; above = y; runnable = c.runnable; members = z }) u.2 m.2,
       );
     }
 

@@ -7,7 +7,7 @@ use Rattle.aj_syntax.specs.declared.tree.TypeName.{TypeName}
 use Rattle.aj_syntax.specs.declared.tree.TypeName.TheVariants as Y
 use Rattle.aj_syntax.specs.Grammar.{sign_of}
 use Rattle.aj_printer.specs.Layout.{Lexeme, Fixed}
-use Rattle.aj_printer.specs.Printing.{all_lexemes, further_lexemes, listed_lexemes, flag_lexemes, name_lexeme, type_lexeme, result_lexeme, dotted_lexemes, root_lexeme, lock_lexemes, expr_lexemes, args_lexemes, more_args_lexemes, stmt_lexemes, stmts_lexemes, param_lexemes, set_lexemes, guard_lexemes, requires_lexemes, member_lexemes, runnable_lexemes, class_lexemes, program_lexemes}
+use Rattle.aj_printer.specs.Printing.{all_lexemes, further_lexemes, listed_lexemes, flag_lexemes, name_lexeme, type_lexeme, result_lexeme, dotted_lexemes, root_lexeme, lock_lexemes, expr_lexemes, args_lexemes, more_args_lexemes, stmt_lexemes, stmts_lexemes, param_lexemes, set_lexemes, guard_lexemes, requires_lexemes, member_lexemes, runnable_lexemes, extends_lexemes, class_lexemes, program_lexemes}
 use Rattle.aj_printer.specs.Reprinted.{Parted, is_bang}
 use Rattle.aj_syntax.specs.Trees.{LockTree, ExprTree, ExprTrees, NumberE, LeastE, TruthE, NullE, ThisE, VarE, ParenE, NotE, NegE, BinaryE, GetE, CallE, NewE, no_exprs, more_exprs, StmtTree, StmtTrees, EmptyS, BlockS, LocalS, SetVarS, SetFieldS, DoS, IfS, IfElseS, WhileS, SyncS, ReturnS, PrintS, StartS, no_stmts, more_stmts, MemberTree, FieldM, CtorM, MethodM, ClassTree, ProgramTree}
 
@@ -165,15 +165,21 @@ runnable_parted : (runnable : Bool) → Parted false (runnable_lexemes runnable)
 runnable_parted true = (never, (never, refl))
 runnable_parted false = refl
 
+extends_parted : (above : Option Name) → Parted false (extends_lexemes above)
+extends_parted None = refl
+extends_parted (Some n) = (never, (never, refl))
+
 class_parted : (c : ClassTree) → Parted false (class_lexemes c)
-class_parted c = (
-  never,
-  (
-    never,
-    both false (runnable_lexemes c.runnable) (Fixed T.OpenBrace ∷ all_lexemes member_lexemes c.members ++ (Fixed T.CloseBrace ∷ [])) (runnable_parted c.runnable)
-        (never, both false (all_lexemes member_lexemes c.members) (Fixed T.CloseBrace ∷ []) (all_parted member_lexemes member_parted c.members) (never, refl)),
-  ),
-)
+class_parted c =
+    let block = Fixed T.OpenBrace ∷ all_lexemes member_lexemes c.members ++ (Fixed T.CloseBrace ∷ []) in (
+      never,
+      (
+        never,
+        both false (extends_lexemes c.above) (runnable_lexemes c.runnable ++ block) (extends_parted c.above)
+            (both false (runnable_lexemes c.runnable) block (runnable_parted c.runnable)
+            (never, both false (all_lexemes member_lexemes c.members) (Fixed T.CloseBrace ∷ []) (all_parted member_lexemes member_parted c.members) (never, refl))),
+      ),
+    )
 
 pub program_parted : (t : ProgramTree) → Parted false (program_lexemes t)
 program_parted t = all_parted class_lexemes class_parted t

@@ -148,11 +148,15 @@ abbrev pub runnable_lexemes : Bool → List Lexeme
 runnable_lexemes true = Fixed T.Implements ∷ Fixed T.Runnable ∷ []
 runnable_lexemes false = []
 
+abbrev pub extends_lexemes : Option Name → List Lexeme
+extends_lexemes None = []
+extends_lexemes (Some n) = Fixed T.Extends ∷ name_lexeme n ∷ []
+
 -- a class, without `public`
 abbrev pub class_lexemes : ClassTree → List Lexeme
 class_lexemes c =
-    Fixed T.Class ∷ name_lexeme c.name ∷ runnable_lexemes c.runnable
-    ++ (Fixed T.OpenBrace ∷ all_lexemes member_lexemes c.members ++ (Fixed T.CloseBrace ∷ []))
+    Fixed T.Class ∷ name_lexeme c.name ∷ extends_lexemes c.above
+    ++ (runnable_lexemes c.runnable ++ (Fixed T.OpenBrace ∷ all_lexemes member_lexemes c.members ++ (Fixed T.CloseBrace ∷ [])))
 
 abbrev pub program_lexemes : ProgramTree → List Lexeme
 program_lexemes t = all_lexemes class_lexemes t

@@ -88,7 +88,7 @@ bare_member (MethodM m) =
     }
 
 abbrev pub bare_class : ClassTree → ClassTree
-bare_class c = record { name = bare_name c.name; runnable = c.runnable; members = map bare_member c.members }
+bare_class c = record { name = bare_name c.name; above = option_map bare_name c.above; runnable = c.runnable; members = map bare_member c.members }
 
 -- a program without its offsets
 abbrev pub without_offsets : ProgramTree → ProgramTree

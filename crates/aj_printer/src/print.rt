@@ -8,7 +8,7 @@ ghost use Rattle.aj_lexer.specs.Tokens.{Tokens};
 ghost use Rattle.aj_syntax.specs.Grammar.{Grammar, sign_of};
 ghost use Rattle.aj_printer.specs.Reprinted.{ReadsBack};
 ghost use Rattle.aj_printer.specs.Layout.{Fixed, put, writes};
-ghost use Rattle.aj_printer.specs.Printing.{all_lexemes, args_lexemes, canonical, class_lexemes, dotted_lexemes, expr_lexemes, field_lexemes, flag_lexemes, further_lexemes, guard_lexemes, listed_lexemes, lock_lexemes, member_lexemes, method_lexemes, name_lexeme, param_lexemes, requires_lexemes, result_lexeme, root_lexeme, runnable_lexemes, set_lexemes, stmt_lexemes, stmts_lexemes, type_lexeme};
+ghost use Rattle.aj_printer.specs.Printing.{all_lexemes, args_lexemes, canonical, class_lexemes, dotted_lexemes, expr_lexemes, extends_lexemes, field_lexemes, flag_lexemes, further_lexemes, guard_lexemes, listed_lexemes, lock_lexemes, member_lexemes, method_lexemes, name_lexeme, param_lexemes, requires_lexemes, result_lexeme, root_lexeme, runnable_lexemes, set_lexemes, stmt_lexemes, stmts_lexemes, type_lexeme};
 ghost use Rattle.aj_syntax.specs.Trees.{BlockS, CtorM, LocalS, NewE, ParenE, PrintS, ReturnS, SetFieldS, SetVarS, StartS};
 ghost use Rattle.aj_syntax.specs.Tokens.{guard_word as word_of};
 ghost use Rattle.aj_syntax.specs.declared.terminal.Terminal.TheVariants as terminals;
@@ -45,10 +45,21 @@ fn write_class(to: &mut Printer, class: &Class) -> Result<(), NoMemory>
 {
     to.terminal(Terminal::Class)?;
     write_name(to, &class.name)?;
+    write_extends(to, &class.above)?;
     write_runnable(to, class.runnable)?;
     to.terminal(Terminal::OpenBrace)?;
     write_members(to, &class.members)?;
     to.terminal(Terminal::CloseBrace)
+}
+
+fn write_extends(to: &mut Printer, above: &Option<Name>) -> Result<(), NoMemory>
+    ensures { OnOk result (to.new ≡ writes to.old (extends_lexemes above.now)) }
+{
+    let Some(name) = above else {
+        return Ok(());
+    };
+    to.terminal(Terminal::Extends)?;
+    write_name(to, name)
 }
 
 fn write_runnable(to: &mut Printer, runnable: bool) -> Result<(), NoMemory>

@@ -29,6 +29,8 @@ IsTold (source.Class (class.BadConstructor at)) = Unit {0}
 IsTold (source.Class class.NoMain) = Unit {0}
 IsTold (source.Class (class.NoRun at)) = Unit {0}
 IsTold (source.Class (class.TooMany at)) = Unit {0}
+IsTold (source.Class (class.Circle at)) = Unit {0}
+IsTold (source.Class (class.BadOverride at)) = Unit {0}
 IsTold (source.Class class.NoMemory) = ⊥
 IsTold (source.Types (types.UnknownName at)) = Unit {0}
 IsTold (source.Types (types.NoRule at)) = Unit {0}
@@ -56,6 +58,8 @@ class_offset_of (class.BadConstructor at) = at
 class_offset_of class.NoMain = 0
 class_offset_of (class.NoRun at) = at
 class_offset_of (class.TooMany at) = at
+class_offset_of (class.Circle at) = at
+class_offset_of (class.BadOverride at) = at
 class_offset_of class.NoMemory = 0
 
 -- the offset at which a fault of the types is told
@@ -99,6 +103,8 @@ class_kind (class.BadConstructor at) = codes "bad constructor"
 class_kind class.NoMain = codes "no main"
 class_kind (class.NoRun at) = codes "no run"
 class_kind (class.TooMany at) = codes "too many"
+class_kind (class.Circle at) = codes "circle"
+class_kind (class.BadOverride at) = codes "bad override"
 class_kind class.NoMemory = codes ""
 
 abbrev pub type_kind : TypeFault → List ℕ

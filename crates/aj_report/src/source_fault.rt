@@ -90,6 +90,8 @@ fn class_kind(fault: ClassFault) -> &'static str
         ClassFault::NoMain => "no main",
         ClassFault::NoRun(_) => "no run",
         ClassFault::TooMany(_) => "too many",
+        ClassFault::Circle(_) => "circle",
+        ClassFault::BadOverride(_) => "bad override",
         ClassFault::NoMemory => "",
     }
 }
@@ -130,7 +132,9 @@ fn class_offset(fault: ClassFault) -> u32
         | ClassFault::UnknownClass(at)
         | ClassFault::BadConstructor(at)
         | ClassFault::NoRun(at)
-        | ClassFault::TooMany(at) => at,
+        | ClassFault::TooMany(at)
+        | ClassFault::Circle(at)
+        | ClassFault::BadOverride(at) => at,
         ClassFault::NoMain | ClassFault::NoMemory => 0,
     }
 }

@@ -1,5 +1,5 @@
 -- The rules of the family of near paths, as the bodies of a program have them: facts, and links from one method's paths to another's.
-use Rattle.std.specs.Prelude.{◌≡◌, ℕ, ◌+◌, Bool, true, false, not, ◌&&◌, ◌==◌, List, [], ◌∷◌, ◌++◌, map, length, nat_le, Option, Some, None, Contains, slice_get, if◌then◌else◌}
+use Rattle.std.specs.Prelude.{nat_lt, ◌≡◌, ℕ, ◌+◌, Bool, true, false, not, ◌&&◌, ◌==◌, List, [], ◌∷◌, ◌++◌, map, length, nat_le, Option, Some, None, Contains, slice_get, if◌then◌else◌}
 use Rattle.aj_paths.specs.Paths.{PathData, extended}
 use Rattle.aj_core.specs.Core.{Program, Class, Method}
 use Rattle.aj_core.specs.Dispatch.{target_of}
@@ -75,6 +75,12 @@ class_of (Some m) = Some m.class
 abbrev pub is_number : Option ℕ → ℕ → Bool
 is_number None n = false
 is_number (Some k) n = k == n
+
+-- the first numbers of these pairs ascend
+abbrev pub ascend : List (ℕ × ℕ) → Bool
+ascend [] = true
+ascend (p ∷ []) = true
+ascend (p ∷ (q ∷ ps)) = nat_lt p.0 q.0 && ascend (q ∷ ps)
 
 -- this pair of a class has a method of the class itself, which overrides the other
 abbrev pub is_over : Program → ℕ → ℕ × ℕ → Bool

@@ -1,12 +1,12 @@
 //! The rules of the family of near paths, as the bodies of a program have them.
-ghost use Rattle.std.specs.Prelude.{◌≡◌, ◌≤◌, ◌^◌, ◌+◌, ◌++◌, ◌∷◌, [], length, OnOk, IfOk, map, slice_get};
+ghost use Rattle.std.specs.Prelude.{◌≡◌, ◌≤◌, ◌^◌, ◌+◌, ◌++◌, ◌∷◌, [], true, Some, length, OnOk, IfOk, map, slice_get};
 ghost use Rattle.aj_core.specs.Locks.{path_of};
 ghost use Rattle.aj_core.specs.Views.{program_of, method_of, expr_of, exprs_from, stmt_of, stmts_from};
 ghost use Rattle.aj_rules.specs.Mentions.{expr_mentions, exprs_mentions, mentions, block_mentions, paths_of};
 ghost use Rattle.aj_rules.specs.Guards.{guard_of, guard_path};
 ghost use Rattle.aj_rules.specs.Clauses.{link_clauses, passed_clauses, all_passed, params_of, call_clauses, guard_clauses, clauses_of, method_clauses, clauses_from, fact};
-ghost use Rattle.aj_rules.specs.Clauses.{class_of, is_number, is_over, kept_clauses, pair_clauses, pairs_clauses, over_clauses, program_clauses};
-ghost use Rattle.aj_core.specs.Dispatch.{target_of};
+ghost use Rattle.aj_rules.specs.Clauses.{ascend, class_of, is_number, is_over, kept_clauses, pair_clauses, pairs_clauses, over_clauses, program_clauses};
+ghost use Rattle.aj_core.specs.Dispatch.{target_of, targets_in};
 
 use crate::guard::{Guard, guard_at};
 use aj_core::{CoreExpr, CoreMethod, CoreProgram, CoreStmt, path_of};
@@ -139,26 +139,48 @@ fn add_pairs(
     pairs: &[(MethodId, MethodId)],
     clauses: &mut Vec<Clause>,
 ) -> Result<(), NoMemory>
+    requires { pairs.now ≡ targets_in (slice_get (program_of program.now).classes class) }
     ensures { OnOk result (clauses.new.items ≡ clauses.old.items ++ pairs_clauses (program_of program.now) class pairs.now) }
 {
+    let is_known = ascend(pairs);
     for place in 0..pairs.len() {
-        add_pair(program, class, pairs[place].0, pairs[place].1, clauses)?;
+        let pair = &pairs[place];
+        add_pair(program, class, pair.0, pair.1, is_known, clauses)?;
     }
     Ok(())
 }
 
+/// Whether the first methods of the pairs ascend, as they do in a typed program. Then each pair says by itself which
+/// method runs, and none is looked up.
+pub(crate) fn ascend(pairs: &[(MethodId, MethodId)]) -> bool
+    ensures { result ≡ true → ascend pairs.now ≡ true }
+{
+    let mut rest = pairs;
+    while let Some((first, others)) = rest.split_first() {
+        if let Some(second) = others.first() {
+            if second.0.0 <= first.0.0 {
+                return false;
+            }
+        }
+        rest = others;
+    }
+    true
+}
+
 /// The clause of a pair of a class, where its method is the class's and overrides the other. Only such pairs are looked
-/// up among all.
+/// up among all, unless it is known that the class runs the second method for the first.
 fn add_pair(
     program: &CoreProgram,
     class: ClassId,
     method: MethodId,
     over: MethodId,
+    is_known: bool,
     clauses: &mut Vec<Clause>,
 ) -> Result<(), NoMemory>
+    requires { is_known ≡ true → target_of (program_of program.now) class method ≡ Some over }
     ensures { OnOk result (clauses.new.items ≡ clauses.old.items ++ pair_clauses (program_of program.now) class (method, over)) }
 {
-    if is_over(program, class, method, over) {
+    if is_over(program, class, method, over, is_known) {
         add_kept(program, over, method, clauses)
     } else {
         Ok(())
@@ -171,10 +193,28 @@ pub(crate) fn is_over(
     class: ClassId,
     method: MethodId,
     over: MethodId,
+    is_known: bool,
 ) -> bool
+    requires { is_known ≡ true → target_of (program_of program.now) class method ≡ Some over }
     ensures { result ≡ is_over (program_of program.now) class (method, over) }
 {
-    over != method && is_of_class(program, over, class) && is_target(program, class, method, over)
+    over != method
+        && is_of_class(program, over, class)
+        && runs(program, class, method, over, is_known)
+}
+
+/// Whether a class runs the second method for the first.
+fn runs(
+    program: &CoreProgram,
+    class: ClassId,
+    method: MethodId,
+    over: MethodId,
+    is_known: bool,
+) -> bool
+    requires { is_known ≡ true → target_of (program_of program.now) class method ≡ Some over }
+    ensures { result ≡ is_number (target_of (program_of program.now) class method) over }
+{
+    is_known || is_target(program, class, method, over)
 }
 
 /// Whether a method is there and is the class's own.

@@ -1,10 +1,11 @@
 //! The methods that override others, by those that they override.
-ghost use Rattle.std.specs.Prelude.{◌≡◌, ◌++◌, ℕ, IfOk, OnOk};
+ghost use Rattle.std.specs.Prelude.{◌≡◌, ◌++◌, ℕ, true, Some, slice_get, IfOk, OnOk};
+ghost use Rattle.aj_core.specs.Dispatch.{target_of, targets_in};
 ghost use Rattle.aj_core.specs.Views.{program_of};
 ghost use Rattle.aj_rules.specs.Overriding.{pair_overriders, pairs_overriders, AreOverriders};
 ghost use Rattle.aj_rules.specs.Search.{row_at, rows_of};
 
-use crate::clauses::{is_over, next_class};
+use crate::clauses::{ascend, is_over, next_class};
 use crate::search::{push_at, row};
 use aj_core::CoreProgram;
 use aj_paths::{ClassId, MethodId};
@@ -64,11 +65,14 @@ fn add_pairs(
     pairs: &[(MethodId, MethodId)],
     rows: &mut Vec<Vec<MethodId>>,
 ) -> Result<(), NoMemory>
+    requires { pairs.now ≡ targets_in (slice_get (program_of program.now).classes class) }
     ensures { OnOk result ((m : ℕ) →
         row_at (rows_of rows.new.items) m ≡ row_at (rows_of rows.old.items) m ++ pairs_overriders (program_of program.now) class pairs.now m) }
 {
+    let is_known = ascend(pairs);
     for place in 0..pairs.len() {
-        add_pair(alloc, program, class, pairs[place].0, pairs[place].1, rows)?;
+        let pair = &pairs[place];
+        add_pair(alloc, program, class, pair.0, pair.1, is_known, rows)?;
     }
     Ok(())
 }
@@ -80,12 +84,14 @@ fn add_pair(
     class: ClassId,
     method: MethodId,
     over: MethodId,
+    is_known: bool,
     rows: &mut Vec<Vec<MethodId>>,
 ) -> Result<(), NoMemory>
+    requires { is_known ≡ true → target_of (program_of program.now) class method ≡ Some over }
     ensures { OnOk result ((m : ℕ) →
         row_at (rows_of rows.new.items) m ≡ row_at (rows_of rows.old.items) m ++ pair_overriders (program_of program.now) class (method, over) m) }
 {
-    if is_over(program, class, method, over) {
+    if is_over(program, class, method, over, is_known) {
         push_at(alloc, rows, method, over)
     } else {
         Ok(())

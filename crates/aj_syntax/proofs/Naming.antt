@@ -7,8 +7,8 @@ use Rattle.aj_syntax.specs.declared.tree.Name.{Name}
 use Rattle.aj_syntax.specs.declared.tree.Param.{Param}
 use Rattle.aj_syntax.specs.declared.tree.TypeName.{TypeName}
 use Rattle.aj_syntax.specs.declared.tree.TypeName.TheVariants as Y
-use Rattle.aj_syntax.specs.Grammar.{IsType, IsResultType, SpellsFields, SpellsRoot, SpellsLock, Spells, SpellsArgs, SpellsMoreArgs, SpellsStmt, SpellsStmts, Repeats, Follows, Separates, SpellsParam, SpellsCtorParam, SpellsSet, SpellsGuard, SpellsRequires, SpellsField, SpellsBare, SpellsMember, SpellsClass, Wide}
-use Rattle.aj_syntax.specs.Names.{names_of_type, names_of_result, names_of_root, names_of_lock, names_of_expr, names_of_exprs, names_of_stmt, names_of_stmts, names_of_param, names_of_set, names_of_guard, names_of_field, names_of_member, names_of_class, names_of_program}
+use Rattle.aj_syntax.specs.Grammar.{IsType, IsResultType, SpellsFields, SpellsRoot, SpellsLock, Spells, SpellsArgs, SpellsMoreArgs, SpellsStmt, SpellsStmts, Repeats, Follows, Separates, SpellsParam, SpellsCtorParam, SpellsSet, SpellsGuard, SpellsRequires, SpellsField, SpellsBare, SpellsMember, SpellsExtends, SpellsClass, Wide}
+use Rattle.aj_syntax.specs.Names.{names_of_type, names_of_result, names_of_root, names_of_lock, names_of_expr, names_of_exprs, names_of_stmt, names_of_stmts, names_of_param, names_of_set, names_of_guard, names_of_field, names_of_member, names_of_extends, names_of_class, names_of_program}
 use Rattle.aj_syntax.specs.Tokens.{name_token}
 use Rattle.aj_syntax.specs.Trees.{LockTree, ExprTree, ExprTrees, NumberE, LeastE, TruthE, NullE, ThisE, VarE, ParenE, NotE, NegE, BinaryE, GetE, CallE, NewE, no_exprs, more_exprs, StmtTree, StmtTrees, EmptyS, BlockS, LocalS, SetVarS, SetFieldS, DoS, IfS, IfElseS, WhileS, SyncS, ReturnS, PrintS, StartS, no_stmts, more_stmts, FieldTree, MemberTree, FieldM, CtorM, MethodM, ClassTree, ProgramTree}
 
@@ -187,9 +187,16 @@ module _ (P : Token → Type 0) where
   member_named : (m : MemberTree) (ts : List Token) → SpellsMember m ts → Each P ts → Named (names_of_member m)
   member_named m ts s a = bare_named m s.1 s.3 (right s.0 _ (subst (Each P) s.4 a))
 
+  extends_named : (above : Option Name) (ts : List Token) → SpellsExtends above ts → Each P ts → Named (names_of_extends above)
+  extends_named None ts s a = tt
+  extends_named (Some n) ts s a = ((subst (Each P) s.1 a).1.0, tt)
+
   class_named : (c : ClassTree) (ts : List Token) → SpellsClass c ts → Each P ts → Named (names_of_class c)
-  class_named c ts s a = let h = right s.0 _ (subst (Each P) s.9 a) in
-      (h.1.0, repeats_named SpellsMember names_of_member member_named c.members s.2 s.8 (left s.2 _ (right s.1 _ h.1.1).1))
+  class_named c ts s a = let h = right s.0 _ (subst (Each P) s.11 a) in (
+    h.1.0,
+    both (names_of_extends c.above) (flat_map names_of_member c.members) (extends_named c.above s.1 s.8 (left s.1 _ h.1.1))
+        (repeats_named SpellsMember names_of_member member_named c.members s.3 s.10 (left s.3 _ (right s.2 _ (right s.1 _ h.1.1)).1)),
+  )
 
   program_named : (t : ProgramTree) (ts : List Token) → Wide ts t → Each P ts → Named (names_of_program t)
   program_named t ts s a = repeats_named SpellsClass names_of_class class_named t ts s a

@@ -344,11 +344,17 @@ abbrev pub SpellsRunnable : Bool → List Token → Type 0
 SpellsRunnable true ts = (d e : ℕ) × (ts ≡ token T.Implements d ∷ token T.Runnable e ∷ [])
 SpellsRunnable false ts = ts ≡ []
 
--- class = [ "public" ] "class" Name [ "implements" "Runnable" ] "{" { member } "}"
+-- [ "extends" Name ]
+abbrev pub SpellsExtends : Option Name → List Token → Type 0
+SpellsExtends None ts = ts ≡ []
+SpellsExtends (Some n) ts = (d : ℕ) × (ts ≡ token T.Extends d ∷ name_token n ∷ [])
+
+-- class = [ "public" ] "class" Name [ "extends" Name ] [ "implements" "Runnable" ] "{" { member } "}"
 abbrev pub SpellsClass : ClassTree → List Token → Type 0
 SpellsClass c ts =
-    (ps rs xs : List Token) × (d b e : ℕ) × IsOptional T.Public ps × SpellsRunnable c.runnable rs × Repeats SpellsMember c.members xs
-    × (ts ≡ ps ++ (token T.Class d ∷ name_token c.name ∷ rs ++ (token T.OpenBrace b ∷ xs ++ (token T.CloseBrace e ∷ []))))
+    (ps es rs xs : List Token) × (d b e : ℕ) × IsOptional T.Public ps × SpellsExtends c.above es × SpellsRunnable c.runnable rs
+    × Repeats SpellsMember c.members xs
+    × (ts ≡ ps ++ (token T.Class d ∷ name_token c.name ∷ es ++ (rs ++ (token T.OpenBrace b ∷ xs ++ (token T.CloseBrace e ∷ [])))))
 
 -- the grammar without the limit of height: program = { class }
 abbrev pub Wide : List Token → ProgramTree → Type 0

@@ -86,8 +86,12 @@ names_of_member (FieldM f) = names_of_field f
 names_of_member (CtorM n params sets) = n ∷ flat_map names_of_param params ++ flat_map names_of_set sets
 names_of_member (MethodM m) = names_of_method m
 
+abbrev pub names_of_extends : Option Name → List Name
+names_of_extends None = []
+names_of_extends (Some n) = n ∷ []
+
 abbrev pub names_of_class : ClassTree → List Name
-names_of_class c = c.name ∷ flat_map names_of_member c.members
+names_of_class c = c.name ∷ names_of_extends c.above ++ flat_map names_of_member c.members
 
 abbrev pub names_of_program : ProgramTree → List Name
 names_of_program t = flat_map names_of_class t

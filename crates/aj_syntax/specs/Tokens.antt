@@ -12,6 +12,7 @@ use Rattle.aj_syntax.specs.declared.tree.Name.{Name}
 abbrev pub spelling : Terminal → List ℕ
 spelling T.Public = codes "public"
 spelling T.Class = codes "class"
+spelling T.Extends = codes "extends"
 spelling T.Implements = codes "implements"
 spelling T.Runnable = codes "Runnable"
 spelling T.Final = codes "final"
@@ -89,6 +90,7 @@ kind_of T.AndAnd = K.Sign
 kind_of T.OrOr = K.Sign
 kind_of T.Public = K.Word
 kind_of T.Class = K.Word
+kind_of T.Extends = K.Word
 kind_of T.Implements = K.Word
 kind_of T.Runnable = K.Word
 kind_of T.Final = K.Word

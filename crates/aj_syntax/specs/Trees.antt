@@ -79,8 +79,10 @@ pub data MemberTree : Type 0 where
   CtorM : Name → List Param → List (Name × Name) → MemberTree
   MethodM : MethodTree → MemberTree
 
+-- a class; `above` is the name behind its `extends`
 pub record ClassTree : Type 0 where
   pub name : Name
+  pub above : Option Name
   pub runnable : Bool
   pub members : List MemberTree
 

@@ -84,7 +84,7 @@ member_of (M.Method atomic returns n params locks body end) =
     }
 
 abbrev pub class_of : Class → ClassTree
-class_of c = record { name = c.name; runnable = c.runnable; members = map member_of c.members.items }
+class_of c = record { name = c.name; above = c.above; runnable = c.runnable; members = map member_of c.members.items }
 
 abbrev pub program_of : Program → ProgramTree
 program_of p = map class_of p.classes.items

@@ -10,6 +10,7 @@ use aj_lexer::{Token, TokenKind};
 pub enum Terminal {
     Public,
     Class,
+    Extends,
     Implements,
     Runnable,
     Final,
@@ -68,6 +69,7 @@ impl Terminal {
         match self {
             Terminal::Public => "public",
             Terminal::Class => "class",
+            Terminal::Extends => "extends",
             Terminal::Implements => "implements",
             Terminal::Runnable => "Runnable",
             Terminal::Final => "final",

@@ -135,9 +135,11 @@ pub enum Member<'a> {
     },
 }
 
+/// A class. `above` is the name of the class that it extends, if it extends one.
 #[derive(Drop)]
 pub struct Class<'a> {
     pub name: Name<'a>,
+    pub above: Option<Name<'a>>,
     pub runnable: bool,
     pub members: Vec<Member<'a>>,
 }

@@ -1,3 +1,4 @@
 mod Steps
 mod Fitting
+mod Plain
 pub mod Noting

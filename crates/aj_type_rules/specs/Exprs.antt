@@ -46,7 +46,7 @@ module _ (t : TableData) (class : ℕ) (scope : Scope) where
     elaborated (tree.ParenE e at) = elaborated e
     elaborated (tree.NotE e at) = given (not_rule at) (elaborated e)
     elaborated (tree.NegE e at) = given (neg_rule at) (elaborated e)
-    elaborated (tree.BinaryE op a b at) = given (binary_rule op at) (both (elaborated a) (elaborated b))
+    elaborated (tree.BinaryE op a b at) = given (binary_rule t op at) (both (elaborated a) (elaborated b))
     elaborated (tree.GetE e n) = given (get_rule t n) (elaborated e)
     elaborated (tree.CallE e n args) = given (call_rule t n) (both (elaborated e) (elaborated_each args))
     elaborated (tree.NewE n args at) = given (new_rule t n) (elaborated_each args)
@@ -69,7 +69,7 @@ module _ (t : TableData) (class : ℕ) (scope : Scope) where
     expr_faults (tree.NotE e at) = expr_faults e ++ broken (not_rule at) (elaborated e)
     expr_faults (tree.NegE e at) = expr_faults e ++ broken (neg_rule at) (elaborated e)
     expr_faults (tree.BinaryE op a b at) =
-        expr_faults a ++ (expr_faults b ++ broken (binary_rule op at) (both (elaborated a) (elaborated b)))
+        expr_faults a ++ (expr_faults b ++ broken (binary_rule t op at) (both (elaborated a) (elaborated b)))
     expr_faults (tree.GetE e n) = expr_faults e ++ broken (get_rule t n) (elaborated e)
     expr_faults (tree.CallE e n args) =
         expr_faults e ++ (each_faults args ++ call_fault t n (elaborated e) (elaborated_each args))

@@ -28,7 +28,7 @@ abbrev pub through : Reach → ℕ × FieldData → Reach
 through r f = record { path = extended_some r.path (f.0 ∷ []); is_final = r.is_final && f.1.is_final; ty = f.1.ty }
 
 -- the field that a name means in a lock whose first token stands at an offset: what stands before has a class type, and its
--- class has the field
+-- class has the field, its own or from above
 abbrev pub lock_field : TableData → ℕ → Reach → Name → Result (ℕ × FieldData) TypeFault
 lock_field t at r n = then_rule (ok_or (class_in r.ty) (NotALock at)) (λ c. ok_or (field_named t c n.text) (UnknownName n.at))
 

@@ -1,5 +1,5 @@
 -- The rule of each kind of node: what it gives for the types of its parts, or the fault that is told.
-use Rattle.std.specs.Prelude.{ℕ, ◌^◌, Bool, true, false, ◌==◌, ◌&&◌, nat_lt, List, [], ◌∷◌, map, filter, unwrap_or, Option, Some, None, option_map, option_and_then, ok_or, Result, Ok, slice_get, pos, neg_ℤ, take, drop, length}
+use Rattle.std.specs.Prelude.{ℕ, ◌^◌, Bool, true, false, ◌&&◌, nat_lt, List, [], ◌∷◌, map, flat_map, reverse, filter, unwrap_or, Option, Some, None, option_map, option_and_then, ok_or, Result, Ok, slice_get, pos, neg_ℤ, take, drop, length}
 use Rattle.aj_core.specs.declared.types.CoreType.{CoreType}
 use Rattle.aj_core.specs.declared.types.CoreType.TheVariants as T
 use Rattle.aj_core.specs.declared.types.CoreOp.{CoreOp}
@@ -11,7 +11,7 @@ use Rattle.aj_syntax.specs.declared.tree.Op.{Op}
 use Rattle.aj_syntax.specs.declared.tree.Op.TheVariants as O
 use Rattle.aj_syntax.specs.declared.tree.TypeName.{TypeName}
 use Rattle.aj_syntax.specs.declared.tree.TypeName.TheVariants as Y
-use Rattle.aj_classes.specs.Table.{TableData, ClassData, FieldData, MethodData, class_number, field_number, method_number}
+use Rattle.aj_classes.specs.Table.{TableData, ClassData, FieldData, MethodData, class_number, line_of, kind_in, field_number, method_number}
 use Rattle.aj_type_rules.specs.declared.fault.TypeFault.{TypeFault}
 use Rattle.aj_type_rules.specs.declared.fault.TypeFault.TheVariants.{UnknownName, NoRule}
 use Rattle.aj_type_rules.specs.Rulings.{demand, then_rule}
@@ -51,10 +51,6 @@ abbrev pub receiver_class : NodeType → Option ℕ
 receiver_class (ValueT t) = class_in t
 receiver_class _ = None
 
--- whether two classes are the same; while no class extends another, a class is of its own kind alone
-abbrev pub same_class : ℕ → ℕ → Bool
-same_class c d = c == d
-
 -- ---- names
 
 -- a type as it is written
@@ -67,7 +63,7 @@ type_rule t (Y.Class n) = ok_or (option_map T.Class (class_number t n.text)) (Un
 abbrev pub numbered_field : TableData → ℕ → Option (ℕ × FieldData)
 numbered_field t f = option_map (λ d. (f, d)) (slice_get t.fields f)
 
--- the field of this name in a class
+-- the field of this name in a class, its own or from above
 abbrev pub field_named : TableData → ℕ → List ℕ → Option (ℕ × FieldData)
 field_named t c name = option_and_then (numbered_field t) (field_number t c name)
 
@@ -75,16 +71,16 @@ field_named t c name = option_and_then (numbered_field t) (field_number t c name
 abbrev pub numbered_method : TableData → ℕ → Option (ℕ × MethodData)
 numbered_method t m = option_map (λ d. (m, d)) (slice_get t.methods m)
 
--- the method of this name in a class
+-- the method of this name in a class, its own or from above
 abbrev pub method_named : TableData → ℕ → List ℕ → Option (ℕ × MethodData)
 method_named t c name = option_and_then (numbered_method t) (method_number t c name)
 
--- the field that a name means: the receiver has a class type, and its class has the field
+-- the field that a name means: the receiver has a class type, and its class has the field, its own or from above
 abbrev pub field_rule : TableData → Name → NodeType → Result (ℕ × FieldData) TypeFault
 field_rule t n receiver =
     then_rule (ok_or (receiver_class receiver) (NoRule n.at)) (λ c. ok_or (field_named t c n.text) (UnknownName n.at))
 
--- the method that a name means: the receiver has a class type, and its class has the method
+-- the method that a name means: the receiver has a class type, and its class has the method, its own or from above
 abbrev pub method_rule : TableData → Name → NodeType → Result (ℕ × MethodData) TypeFault
 method_rule t n receiver =
     then_rule (ok_or (receiver_class receiver) (NoRule n.at)) (λ c. ok_or (method_named t c n.text) (UnknownName n.at))
@@ -116,9 +112,9 @@ abbrev pub neg_rule : ℕ → TypedData → Result TypedData TypeFault
 neg_rule at e = demand (is_int e.ty) (NoRule at) (typed int_type (NegE e.node))
 
 -- an operator on two values: two ints to int or boolean, and for `==` and `!=` two types of which one fits the other
-abbrev pub operator_rule : CoreOp → ℕ → TypedData × TypedData → Result TypedData TypeFault
-operator_rule op at p =
-    ok_or (option_map (λ ty. typed ty (BinaryE op p.0.node p.1.node)) (binary_type same_class op p.0.ty p.1.ty)) (NoRule at)
+abbrev pub operator_rule : TableData → CoreOp → ℕ → TypedData × TypedData → Result TypedData TypeFault
+operator_rule t op at p =
+    ok_or (option_map (λ ty. typed ty (BinaryE op p.0.node p.1.node)) (binary_type (kind_in t) op p.0.ty p.1.ty)) (NoRule at)
 
 -- `&&` or `||`: two booleans to boolean
 abbrev pub logical_rule : (Expr → Expr → Expr) → ℕ → TypedData × TypedData → Result TypedData TypeFault
@@ -131,31 +127,31 @@ logical_node true = AndE
 logical_node false = OrE
 
 -- a sign between two parts
-abbrev pub binary_rule : Op → ℕ → TypedData × TypedData → Result TypedData TypeFault
-binary_rule O.Or = logical_rule OrE
-binary_rule O.And = logical_rule AndE
-binary_rule O.Eq = operator_rule core_op.Eq
-binary_rule O.Ne = operator_rule core_op.Ne
-binary_rule O.Lt = operator_rule core_op.Lt
-binary_rule O.Le = operator_rule core_op.Le
-binary_rule O.Gt = operator_rule core_op.Gt
-binary_rule O.Ge = operator_rule core_op.Ge
-binary_rule O.Add = operator_rule core_op.Add
-binary_rule O.Sub = operator_rule core_op.Sub
-binary_rule O.Mul = operator_rule core_op.Mul
-binary_rule O.Div = operator_rule core_op.Div
-binary_rule O.Rem = operator_rule core_op.Rem
+abbrev pub binary_rule : TableData → Op → ℕ → TypedData × TypedData → Result TypedData TypeFault
+binary_rule t O.Or = logical_rule OrE
+binary_rule t O.And = logical_rule AndE
+binary_rule t O.Eq = operator_rule t core_op.Eq
+binary_rule t O.Ne = operator_rule t core_op.Ne
+binary_rule t O.Lt = operator_rule t core_op.Lt
+binary_rule t O.Le = operator_rule t core_op.Le
+binary_rule t O.Gt = operator_rule t core_op.Gt
+binary_rule t O.Ge = operator_rule t core_op.Ge
+binary_rule t O.Add = operator_rule t core_op.Add
+binary_rule t O.Sub = operator_rule t core_op.Sub
+binary_rule t O.Mul = operator_rule t core_op.Mul
+binary_rule t O.Div = operator_rule t core_op.Div
+binary_rule t O.Rem = operator_rule t core_op.Rem
 
 -- a field read: the receiver has a class type; the field's type
 abbrev pub get_rule : TableData → Name → TypedData → Result TypedData TypeFault
 get_rule t n e = then_rule (field_rule t n e.ty) (λ f. Ok (typed (ValueT f.1.ty) (GetE e.node f.0)))
 
 -- whether there are as many arguments as parameters, and each fits
-abbrev pub fit_each : List NodeType → List CoreType → Bool
-fit_each [] [] = true
-fit_each [] (u ∷ us) = false
-fit_each (t ∷ ts) [] = false
-fit_each (t ∷ ts) (u ∷ us) = fits same_class t (ValueT u) && fit_each ts us
+abbrev pub fit_each : TableData → List NodeType → List CoreType → Bool
+fit_each t [] [] = true
+fit_each t [] (u ∷ us) = false
+fit_each t (a ∷ rest) [] = false
+fit_each t (a ∷ rest) (u ∷ us) = fits (kind_in t) a (ValueT u) && fit_each t rest us
 
 -- the types of a method's parameters, in order
 abbrev pub parameter_types : MethodData → List CoreType
@@ -165,26 +161,34 @@ parameter_types m = map (λ p. p.ty) m.params
 abbrev pub call_rule : TableData → Name → TypedData × TypedList → Result TypedData TypeFault
 call_rule t n p =
     then_rule (method_rule t n p.0.ty)
-    (λ m. demand (fit_each p.1.types (parameter_types m.1)) (NoRule n.at) (typed (result_type m.1.returns) (CallE p.0.node m.0 p.1.nodes)))
+    (λ m. demand (fit_each t p.1.types (parameter_types m.1)) (NoRule n.at) (typed (result_type m.1.returns) (CallE p.0.node m.0 p.1.nodes)))
 
--- the fields of a class
+-- a class's own fields
 abbrev pub fields_in : TableData → ClassData → List FieldData
 fields_in t c = take (length c.field_names) (drop c.first_field t.fields)
 
--- the fields of the class with this number
+-- the own fields of the class with this number
+abbrev pub own_fields : TableData → ℕ → List FieldData
+own_fields t c = unwrap_or (option_map (fields_in t) (slice_get t.classes c)) []
+
+-- the fields of the class with this number, its own and those from above, the furthest ancestor's first
 abbrev pub class_fields : TableData → ℕ → List FieldData
-class_fields t c = unwrap_or (option_map (fields_in t) (slice_get t.classes c)) []
+class_fields t c = flat_map (own_fields t) (reverse (line_of t c))
+
+-- the types of the final ones of these fields, in order
+abbrev pub types_of_finals : List FieldData → List CoreType
+types_of_finals fs = map (λ f. f.ty) (filter (λ f. f.is_final) fs)
 
 -- the types of a class's final fields, in order
 abbrev pub final_types : TableData → ℕ → List CoreType
-final_types t c = map (λ f. f.ty) (filter (λ f. f.is_final) (class_fields t c))
+final_types t c = types_of_finals (class_fields t c)
 
--- `new`: as many arguments as final fields, each fits in order; the class
+-- `new`: as many arguments as final fields, those from above first, each fits in order; the class
 abbrev pub new_rule : TableData → Name → TypedList → Result TypedData TypeFault
 new_rule t n args =
     then_rule (class_rule t n)
-    (λ c. demand (fit_each args.types (final_types t c)) (NoRule n.at) (typed (class_type c) (NewE c args.nodes)))
+    (λ c. demand (fit_each t args.types (final_types t c)) (NoRule n.at) (typed (class_type c) (NewE c args.nodes)))
 
 -- a value for a place of this type: it fits
-abbrev pub fit_rule : ℕ → CoreType → TypedData → Result Expr TypeFault
-fit_rule at ty e = demand (fits same_class e.ty (ValueT ty)) (NoRule at) e.node
+abbrev pub fit_rule : TableData → ℕ → CoreType → TypedData → Result Expr TypeFault
+fit_rule t at ty e = demand (fits (kind_in t) e.ty (ValueT ty)) (NoRule at) e.node

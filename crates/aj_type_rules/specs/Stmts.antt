@@ -21,8 +21,8 @@ use Rattle.aj_type_rules.specs.Completion.{completes, locals_in}
 -- ---- the rule of each kind of statement
 
 -- a declaration: the value fits the declared type; the offset is that of the local's name
-abbrev pub local_rule : ℕ → Bool → ℕ → CoreType × TypedData → Result Stmt TypeFault
-local_rule slot is_final at p = then_rule (fit_rule at p.0 p.1) (λ e. Ok (LocalS slot is_final p.0 e))
+abbrev pub local_rule : TableData → ℕ → Bool → ℕ → CoreType × TypedData → Result Stmt TypeFault
+local_rule t slot is_final at p = then_rule (fit_rule t at p.0 p.1) (λ e. Ok (LocalS slot is_final p.0 e))
 
 -- the variable that is assigned: it is in scope and isn't final
 abbrev pub target_rule : Scope → Name → Result Variable TypeFault
@@ -30,16 +30,16 @@ target_rule scope n =
     then_rule (ok_or (variable scope n.text) (UnknownName n.at)) (λ v. demand (not v.is_final) (FinalAssigned n.at) v)
 
 -- an assignment to a variable: the value fits the variable's type
-abbrev pub set_rule : ℕ → Variable × TypedData → Result Stmt TypeFault
-set_rule at p = then_rule (fit_rule at p.0.ty p.1) (λ e. Ok (SetVarS p.0.slot e))
+abbrev pub set_rule : TableData → ℕ → Variable × TypedData → Result Stmt TypeFault
+set_rule t at p = then_rule (fit_rule t at p.0.ty p.1) (λ e. Ok (SetVarS p.0.slot e))
 
 -- the receiver and field that are assigned: the field follows the rule of a read, and isn't final
 abbrev pub field_target : TableData → Name → TypedData → Result (Expr × (ℕ × FieldData)) TypeFault
 field_target t n e = then_rule (field_rule t n e.ty) (λ f. demand (not f.1.is_final) (FinalAssigned n.at) (e.node, f))
 
 -- an assignment to a field: the value fits the field's type
-abbrev pub put_rule : ℕ → (Expr × (ℕ × FieldData)) × TypedData → Result Stmt TypeFault
-put_rule at p = then_rule (fit_rule at p.0.1.1.ty p.1) (λ e. Ok (SetFieldS p.0.0 p.0.1.0 e))
+abbrev pub put_rule : TableData → ℕ → (Expr × (ℕ × FieldData)) × TypedData → Result Stmt TypeFault
+put_rule t at p = then_rule (fit_rule t at p.0.1.1.ty p.1) (λ e. Ok (SetFieldS p.0.0 p.0.1.0 e))
 
 -- a call or a `new` of any type; a result is dropped
 abbrev pub do_rule : ℕ → TypedData → Result Stmt TypeFault
@@ -54,24 +54,24 @@ abbrev pub return_rule : ℕ → Option CoreType → Result Stmt TypeFault
 return_rule at returns = demand (is_none returns) (NoRule at) (ReturnS None)
 
 -- a return of a value: it fits the result
-abbrev pub value_rule : ℕ → Option CoreType → TypedData → Result Stmt TypeFault
-value_rule at returns e = then_rule (ok_or returns (NoRule at)) (λ ty. then_rule (fit_rule at ty e) (λ v. Ok (ReturnS (Some v))))
+abbrev pub value_rule : TableData → ℕ → Option CoreType → TypedData → Result Stmt TypeFault
+value_rule t at returns e = then_rule (ok_or returns (NoRule at)) (λ ty. then_rule (fit_rule t at ty e) (λ v. Ok (ReturnS (Some v))))
 
 -- a print: int
 abbrev pub print_rule : ℕ → TypedData → Result Stmt TypeFault
 print_rule at e = demand (is_int e.ty) (NoRule at) (PrintS e.node)
 
--- whether there is a class, and it says `implements Runnable`
-abbrev pub says_runnable : Option ClassData → Bool
-says_runnable None = false
-says_runnable (Some c) = c.runnable
+-- whether there is a class, and it counts as `implements Runnable`
+abbrev pub counts_runnable : Option ClassData → Bool
+counts_runnable None = false
+counts_runnable (Some c) = c.runnable
 
--- whether a type is a class that says `implements Runnable`
+-- whether a type is a class that counts as `implements Runnable`
 abbrev pub is_runnable : TableData → Option ℕ → Bool
 is_runnable t None = false
-is_runnable t (Some c) = says_runnable (slice_get t.classes c)
+is_runnable t (Some c) = counts_runnable (slice_get t.classes c)
 
--- a start: a class that says `implements Runnable`
+-- a start: a class that counts as `implements Runnable`
 abbrev pub start_rule : TableData → ℕ → TypedData → Result Stmt TypeFault
 start_rule t at e = demand (is_runnable t (receiver_class e.ty)) (NoRule at) (StartS e.node)
 
@@ -123,12 +123,12 @@ module _ (t : TableData) (class : ℕ) (returns : Option CoreType) (first : ℕ)
     stmt_core scope before (tree.BlockS ss at) = option_map BlockS (block_core scope before ss)
     stmt_core scope before (tree.LocalS fin ty n e at) =
         if nat_lt before most_locals
-        then given (local_rule (first + before) fin n.at) (both (gain (type_rule t ty)) (elaborated t class scope e))
+        then given (local_rule t (first + before) fin n.at) (both (gain (type_rule t ty)) (elaborated t class scope e))
         else None
     stmt_core scope before (tree.SetVarS n e at) =
-        given (set_rule at) (both (gain (target_rule scope n)) (elaborated t class scope e))
+        given (set_rule t at) (both (gain (target_rule scope n)) (elaborated t class scope e))
     stmt_core scope before (tree.SetFieldS e n value at) =
-        given (put_rule at) (both (given (field_target t n) (elaborated t class scope e)) (elaborated t class scope value))
+        given (put_rule t at) (both (given (field_target t n) (elaborated t class scope e)) (elaborated t class scope value))
     stmt_core scope before (tree.DoS e at) = given (do_rule at) (elaborated t class scope e)
     stmt_core scope before (tree.IfS c s at) =
         option_map (λ p. IfS p.0 p.1 EmptyS) (both (given (condition_rule at) (elaborated t class scope c)) (stmt_core scope before s))
@@ -141,7 +141,7 @@ module _ (t : TableData) (class : ℕ) (returns : Option CoreType) (first : ℕ)
     stmt_core scope before (tree.SyncS l ss at) =
         option_map (λ p. SyncS p.0 (BlockS p.1)) (both (gain (lock_rule t class scope l)) (block_core scope before ss))
     stmt_core scope before (tree.ReturnS None at) = gain (return_rule at returns)
-    stmt_core scope before (tree.ReturnS (Some e) at) = given (value_rule at returns) (elaborated t class scope e)
+    stmt_core scope before (tree.ReturnS (Some e) at) = given (value_rule t at returns) (elaborated t class scope e)
     stmt_core scope before (tree.PrintS e at) = given (print_rule at) (elaborated t class scope e)
     stmt_core scope before (tree.StartS e at) = given (start_rule t at) (elaborated t class scope e)
 
@@ -160,17 +160,17 @@ module _ (t : TableData) (class : ℕ) (returns : Option CoreType) (first : ℕ)
     stmt_faults scope before (tree.LocalS fin ty n e at) =
         loss (type_rule t ty)
         ++ (expr_faults t class scope e
-        ++ (broken (local_rule (first + before) fin n.at) (both (gain (type_rule t ty)) (elaborated t class scope e))
+        ++ (broken (local_rule t (first + before) fin n.at) (both (gain (type_rule t ty)) (elaborated t class scope e))
         ++ (too_many before n ++ redeclared scope n)))
     stmt_faults scope before (tree.SetVarS n e at) =
         loss (target_rule scope n)
         ++ (expr_faults t class scope e
-        ++ broken (set_rule at) (both (gain (target_rule scope n)) (elaborated t class scope e)))
+        ++ broken (set_rule t at) (both (gain (target_rule scope n)) (elaborated t class scope e)))
     stmt_faults scope before (tree.SetFieldS e n value at) =
         expr_faults t class scope e
         ++ (broken (field_target t n) (elaborated t class scope e)
         ++ (expr_faults t class scope value
-        ++ broken (put_rule at) (both (given (field_target t n) (elaborated t class scope e)) (elaborated t class scope value))))
+        ++ broken (put_rule t at) (both (given (field_target t n) (elaborated t class scope e)) (elaborated t class scope value))))
     stmt_faults scope before (tree.DoS e at) = expr_faults t class scope e ++ broken (do_rule at) (elaborated t class scope e)
     stmt_faults scope before (tree.IfS c s at) =
         expr_faults t class scope c ++ (broken (condition_rule at) (elaborated t class scope c) ++ stmt_faults scope before s)
@@ -183,7 +183,7 @@ module _ (t : TableData) (class : ℕ) (returns : Option CoreType) (first : ℕ)
     stmt_faults scope before (tree.SyncS l ss at) = loss (lock_rule t class scope l) ++ block_faults scope before true ss
     stmt_faults scope before (tree.ReturnS None at) = loss (return_rule at returns)
     stmt_faults scope before (tree.ReturnS (Some e) at) =
-        expr_faults t class scope e ++ broken (value_rule at returns) (elaborated t class scope e)
+        expr_faults t class scope e ++ broken (value_rule t at returns) (elaborated t class scope e)
     stmt_faults scope before (tree.PrintS e at) = expr_faults t class scope e ++ broken (print_rule at) (elaborated t class scope e)
     stmt_faults scope before (tree.StartS e at) = expr_faults t class scope e ++ broken (start_rule t at) (elaborated t class scope e)
 

@@ -1,14 +1,16 @@
 //! The rules of calls and of `new`.
 
-ghost use Rattle.std.specs.Prelude.{◌≡◌, map, filter, take, drop, slice_get, option_map, IfOk, OnOk};
+ghost use Rattle.std.specs.Prelude.{◌≡◌, ◌++◌, List, count_by, map, take, drop, slice_get, option_map, IfOk, OnOk};
 ghost use Rattle.aj_classes.specs.Views.{table_data, class_data};
+ghost use Rattle.aj_core.specs.declared.types.CoreType.{CoreType};
 ghost use Rattle.aj_core.specs.Core.{CallE, NewE};
 ghost use Rattle.aj_core.specs.Types.{result_type};
 ghost use Rattle.aj_core.specs.Views.{expr_of, exprs_from};
 ghost use Rattle.aj_type_rules.specs.Exprs.{unknown_only, call_fault, new_fault};
 ghost use Rattle.aj_type_rules.specs.Noted.{noted};
 ghost use Rattle.aj_type_rules.specs.Rulings.{gain, loss, given, both};
-ghost use Rattle.aj_type_rules.specs.Rules.{fields_in, class_fields, fit_each, method_rule, call_rule, new_rule};
+ghost use Rattle.aj_type_rules.specs.Rules.{fields_in, own_fields, types_of_finals, final_types, fit_each, method_rule, call_rule, new_rule};
+ghost use Rattle.aj_type_rules.specs.Fitting.{fit_before};
 ghost use Rattle.aj_type_rules.specs.Views.{boxed_data, typed_data, typed_list, type_data, types_of, nodes_of, method_found};
 
 use crate::fault::TypeFault;
@@ -55,15 +57,15 @@ fn note_unknown_method(table: &ClassTable, name: &Name, receiver: ExprType, firs
     }
 }
 
-fn fit_params(args: &[TypedExpr], params: &[ParamEntry]) -> bool
-    ensures { result ≡ fit_each (types_of args.now) (map (λ p. p.ty) params.now) }
+fn fit_params(table: &ClassTable, args: &[TypedExpr], params: &[ParamEntry]) -> bool
+    ensures { result ≡ fit_each (table_data table.now) (types_of args.now) (map (λ p. p.ty) params.now) }
 {
     let mut rest = args;
     for param in params {
         let Some((arg, more)) = rest.split_first() else {
             return false;
         };
-        if !arg.ty.fits(ExprType::Value(param.ty)) {
+        if !arg.ty.fits(table, ExprType::Value(param.ty)) {
             return false;
         }
         rest = more;
@@ -72,8 +74,8 @@ fn fit_params(args: &[TypedExpr], params: &[ParamEntry]) -> bool
 }
 
 /// Whether arguments fit the final ones of these fields.
-fn fit_finals(args: &[TypedExpr], fields: &[FieldEntry]) -> bool
-    ensures { result ≡ fit_each (types_of args.now) (map (λ f. f.ty) (filter (λ f. f.is_final) fields.now)) }
+fn fit_finals(table: &ClassTable, args: &[TypedExpr], fields: &[FieldEntry]) -> bool
+    ensures { result ≡ fit_each (table_data table.now) (types_of args.now) (types_of_finals fields.now) }
 {
     let mut rest = args;
     for field in fields {
@@ -83,7 +85,7 @@ fn fit_finals(args: &[TypedExpr], fields: &[FieldEntry]) -> bool
         let Some((arg, more)) = rest.split_first() else {
             return false;
         };
-        if !arg.ty.fits(ExprType::Value(field.ty)) {
+        if !arg.ty.fits(table, ExprType::Value(field.ty)) {
             return false;
         }
         rest = more;
@@ -113,14 +115,55 @@ fn entry_fields<'t, 'a>(table: &'t ClassTable<'a>, entry: &ClassEntry) -> &'t [F
     window(table.fields(), start, entry.field_count())
 }
 
-/// The fields of a class.
-fn fields_of<'t, 'a>(table: &'t ClassTable<'a>, class: ClassId) -> &'t [FieldEntry<'a>]
-    ensures { result.now ≡ class_fields (table_data table.now) class }
+/// The own fields of a class.
+fn own_fields<'t, 'a>(table: &'t ClassTable<'a>, class: ClassId) -> &'t [FieldEntry<'a>]
+    ensures { result.now ≡ own_fields (table_data table.now) class }
 {
     match class_entry(table, class) {
         Some(entry) => entry_fields(table, entry),
         None => window(table.fields(), 0, 0),
     }
+}
+
+fn count_finals(fields: &[FieldEntry]) -> usize
+    ensures { result ≡ count_by (λ f. f.is_final) fields.now }
+{
+    fields.iter().filter(|field| field.is_final).count()
+}
+
+/// The arguments before those that the final ones of these fields take, where each of these fits.
+fn fit_last<'e>(
+    table: &ClassTable,
+    args: &'e [TypedExpr],
+    fields: &[FieldEntry],
+) -> Option<&'e [TypedExpr]>
+    ensures { (us : List CoreType) → fit_each (table_data table.now) (types_of args.now) (us ++ types_of_finals fields.now) ≡ fit_before (table_data table.now) us (option_map (λ before. types_of before.now) result) }
+{
+    let count = args.len().checked_sub(count_finals(fields))?;
+    let (before, own) = args.split_at(count);
+    if !fit_finals(table, own, fields) {
+        return None;
+    }
+    Some(before)
+}
+
+/// Whether arguments fit the final fields of a class, those from above before its own.
+fn fit_class(table: &ClassTable, args: &[TypedExpr], class: ClassId) -> bool
+    ensures { result ≡ fit_each (table_data table.now) (types_of args.now) (final_types (table_data table.now) class) }
+{
+    let mut rest = args;
+    let mut at = class;
+    for _ in 0..table.classes().len() + 1 {
+        let Some(before) = fit_last(table, rest, own_fields(table, at)) else {
+            return false;
+        };
+        rest = before;
+        let Some(above) = table.above(at) else {
+            return rest.is_empty();
+        };
+        at = above;
+    }
+    rest.is_empty()
 }
 
 fn nodes_of(alloc: Global, parts: Vec<TypedExpr>) -> Result<Vec<CoreExpr>, NoMemory>
@@ -166,7 +209,7 @@ fn typed_call(
     let Some((id, method)) = method_rule(table, name, receiver.ty, first) else {
         return Ok(None);
     };
-    if !fit_params(args.as_slice(), method.params.as_slice()) {
+    if !fit_params(table, args.as_slice(), method.params.as_slice()) {
         first.note(TypeFault::NoRule(name.at));
         return Ok(None);
     }
@@ -216,7 +259,7 @@ pub fn new_rule(
     let Some(args) = args else {
         return Ok(None);
     };
-    if !fit_finals(args.as_slice(), fields_of(table, class)) {
+    if !fit_class(table, args.as_slice(), class) {
         first.note(TypeFault::NoRule(name.at));
         return Ok(None);
     }

@@ -4,6 +4,7 @@
 mod calls;
 mod fault;
 mod first;
+mod laws;
 mod lock;
 mod lookup;
 mod rules;
@@ -14,6 +15,7 @@ mod types;
 pub use calls::{call_rule, new_rule};
 pub use fault::TypeFault;
 pub use first::FirstFault;
+pub use laws::plain_rules;
 pub use lock::lock_path;
 pub use lookup::field_named;
 pub use rules::{

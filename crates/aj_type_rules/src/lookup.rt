@@ -8,7 +8,7 @@ ghost use Rattle.aj_type_rules.specs.Views.{field_found, method_found};
 use aj_classes::{ClassTable, FieldEntry, MethodEntry};
 use aj_paths::{ClassId, FieldId, MethodId};
 
-/// The field of this name in a class.
+/// The field of this name in a class, its own or from above.
 pub fn field_named<'t, 'a>(
     table: &'t ClassTable<'a>,
     class: ClassId,
@@ -21,7 +21,7 @@ pub fn field_named<'t, 'a>(
     Some((id, field))
 }
 
-/// The method of this name in a class.
+/// The method of this name in a class, its own or from above.
 pub fn method_named<'t, 'a>(
     table: &'t ClassTable<'a>,
     class: ClassId,

@@ -92,16 +92,17 @@ pub fn neg_rule(at: u32, part: Option<BoxedExpr>, first: &mut FirstFault) -> Opt
 }
 
 fn operator_rule(
+    table: &ClassTable,
     op: CoreOp,
     at: u32,
     left: BoxedExpr,
     right: BoxedExpr,
     first: &mut FirstFault,
 ) -> Option<TypedExpr>
-    ensures typed { option_map typed_data result ≡ gain (operator_rule op at (boxed_data left, boxed_data right)) }
-    ensures fault { first.new ≡ noted first.old (loss (operator_rule op at (boxed_data left, boxed_data right))) }
+    ensures typed { option_map typed_data result ≡ gain (operator_rule (table_data table.now) op at (boxed_data left, boxed_data right)) }
+    ensures fault { first.new ≡ noted first.old (loss (operator_rule (table_data table.now) op at (boxed_data left, boxed_data right))) }
 {
-    let Some(ty) = binary_type(op, left.ty, right.ty) else {
+    let Some(ty) = binary_type(table, op, left.ty, right.ty) else {
         first.note(TypeFault::NoRule(at));
         return None;
     };
@@ -136,43 +137,45 @@ fn logical_rule(
 
 /// The rule of a sign between two parts that have types.
 fn sign_rule(
+    table: &ClassTable,
     op: Op,
     at: u32,
     left: BoxedExpr,
     right: BoxedExpr,
     first: &mut FirstFault,
 ) -> Option<TypedExpr>
-    ensures typed { option_map typed_data result ≡ gain (binary_rule op at (boxed_data left, boxed_data right)) }
-    ensures fault { first.new ≡ noted first.old (loss (binary_rule op at (boxed_data left, boxed_data right))) }
+    ensures typed { option_map typed_data result ≡ gain (binary_rule (table_data table.now) op at (boxed_data left, boxed_data right)) }
+    ensures fault { first.new ≡ noted first.old (loss (binary_rule (table_data table.now) op at (boxed_data left, boxed_data right))) }
 {
     match op {
         Op::Or => logical_rule(false, at, left, right, first),
         Op::And => logical_rule(true, at, left, right, first),
-        Op::Eq => operator_rule(CoreOp::Eq, at, left, right, first),
-        Op::Ne => operator_rule(CoreOp::Ne, at, left, right, first),
-        Op::Lt => operator_rule(CoreOp::Lt, at, left, right, first),
-        Op::Le => operator_rule(CoreOp::Le, at, left, right, first),
-        Op::Gt => operator_rule(CoreOp::Gt, at, left, right, first),
-        Op::Ge => operator_rule(CoreOp::Ge, at, left, right, first),
-        Op::Add => operator_rule(CoreOp::Add, at, left, right, first),
-        Op::Sub => operator_rule(CoreOp::Sub, at, left, right, first),
-        Op::Mul => operator_rule(CoreOp::Mul, at, left, right, first),
-        Op::Div => operator_rule(CoreOp::Div, at, left, right, first),
-        Op::Rem => operator_rule(CoreOp::Rem, at, left, right, first),
+        Op::Eq => operator_rule(table, CoreOp::Eq, at, left, right, first),
+        Op::Ne => operator_rule(table, CoreOp::Ne, at, left, right, first),
+        Op::Lt => operator_rule(table, CoreOp::Lt, at, left, right, first),
+        Op::Le => operator_rule(table, CoreOp::Le, at, left, right, first),
+        Op::Gt => operator_rule(table, CoreOp::Gt, at, left, right, first),
+        Op::Ge => operator_rule(table, CoreOp::Ge, at, left, right, first),
+        Op::Add => operator_rule(table, CoreOp::Add, at, left, right, first),
+        Op::Sub => operator_rule(table, CoreOp::Sub, at, left, right, first),
+        Op::Mul => operator_rule(table, CoreOp::Mul, at, left, right, first),
+        Op::Div => operator_rule(table, CoreOp::Div, at, left, right, first),
+        Op::Rem => operator_rule(table, CoreOp::Rem, at, left, right, first),
     }
 }
 
 pub fn binary_rule(
+    table: &ClassTable,
     op: Op,
     at: u32,
     left: Option<BoxedExpr>,
     right: Option<BoxedExpr>,
     first: &mut FirstFault,
 ) -> Option<TypedExpr>
-    ensures typed { option_map typed_data result ≡ given (binary_rule op at) (both (option_map boxed_data left) (option_map boxed_data right)) }
-    ensures fault { first.new ≡ noted first.old (broken (binary_rule op at) (both (option_map boxed_data left) (option_map boxed_data right))) }
+    ensures typed { option_map typed_data result ≡ given (binary_rule (table_data table.now) op at) (both (option_map boxed_data left) (option_map boxed_data right)) }
+    ensures fault { first.new ≡ noted first.old (broken (binary_rule (table_data table.now) op at) (both (option_map boxed_data left) (option_map boxed_data right))) }
 {
-    sign_rule(op, at, left?, right?, first)
+    sign_rule(table, op, at, left?, right?, first)
 }
 
 /// The field that a name means for a receiver of this type.

@@ -45,15 +45,16 @@ pub fn type_rule(table: &ClassTable, ty: &TypeName, first: &mut FirstFault) -> O
 
 /// A value for a place of this type.
 fn fit_rule(
+    table: &ClassTable,
     at: u32,
     ty: CoreType,
     value: BoxedExpr,
     first: &mut FirstFault,
 ) -> Option<Box<CoreExpr>>
-    ensures node { option_map boxed_expr result ≡ gain (fit_rule at ty (boxed_data value)) }
-    ensures fault { first.new ≡ noted first.old (loss (fit_rule at ty (boxed_data value))) }
+    ensures node { option_map boxed_expr result ≡ gain (fit_rule (table_data table.now) at ty (boxed_data value)) }
+    ensures fault { first.new ≡ noted first.old (loss (fit_rule (table_data table.now) at ty (boxed_data value))) }
 {
-    if !value.ty.fits(ExprType::Value(ty)) {
+    if !value.ty.fits(table, ExprType::Value(ty)) {
         first.note(TypeFault::NoRule(at));
         return None;
     }
@@ -62,18 +63,19 @@ fn fit_rule(
 
 /// The type and the value of a declaration.
 pub fn local_value(
+    table: &ClassTable,
     at: u32,
     ty: &Option<CoreType>,
     value: Option<BoxedExpr>,
     first: &mut FirstFault,
 ) -> Option<(CoreType, Box<CoreExpr>)>
-    ensures node { (slot : ℕ) (is_final : Bool) → option_map (λ p. LocalS slot is_final p.0 (boxed_expr p.1)) result ≡ given (local_rule slot is_final at) (both ty.now (option_map boxed_data value)) }
-    ensures fault { (slot : ℕ) (is_final : Bool) → first.new ≡ noted first.old (broken (local_rule slot is_final at) (both ty.now (option_map boxed_data value))) }
+    ensures node { (slot : ℕ) (is_final : Bool) → option_map (λ p. LocalS slot is_final p.0 (boxed_expr p.1)) result ≡ given (local_rule (table_data table.now) slot is_final at) (both ty.now (option_map boxed_data value)) }
+    ensures fault { (slot : ℕ) (is_final : Bool) → first.new ≡ noted first.old (broken (local_rule (table_data table.now) slot is_final at) (both ty.now (option_map boxed_data value))) }
 {
     let Some(ty) = ty else {
         return None;
     };
-    let value = fit_rule(at, *ty, value?, first)?;
+    let value = fit_rule(table, at, *ty, value?, first)?;
     Some((*ty, value))
 }
 
@@ -142,16 +144,17 @@ pub fn target_rule(scope: &[Bound], name: &Name, first: &mut FirstFault) -> Opti
 
 /// An assignment to a variable.
 pub fn set_rule(
+    table: &ClassTable,
     at: u32,
     target: Option<Slot>,
     value: Option<BoxedExpr>,
     first: &mut FirstFault,
 ) -> Option<CoreStmt>
-    ensures node { option_map stmt_of result ≡ given (set_rule at) (both (option_map variable_of target) (option_map boxed_data value)) }
-    ensures fault { first.new ≡ noted first.old (broken (set_rule at) (both (option_map variable_of target) (option_map boxed_data value))) }
+    ensures node { option_map stmt_of result ≡ given (set_rule (table_data table.now) at) (both (option_map variable_of target) (option_map boxed_data value)) }
+    ensures fault { first.new ≡ noted first.old (broken (set_rule (table_data table.now) at) (both (option_map variable_of target) (option_map boxed_data value))) }
 {
     let target = target?;
-    let value = fit_rule(at, target.ty, value?, first)?;
+    let value = fit_rule(table, at, target.ty, value?, first)?;
     Some(CoreStmt::SetVar(target.slot, value))
 }
 
@@ -178,18 +181,19 @@ pub fn field_target<'t, 'a>(
 
 /// An assignment to a field.
 pub fn put_rule(
+    table: &ClassTable,
     at: u32,
     target: Option<(Box<CoreExpr>, (FieldId, &FieldEntry))>,
     value: Option<BoxedExpr>,
     first: &mut FirstFault,
 ) -> Option<CoreStmt>
-    ensures node { option_map stmt_of result ≡ given (put_rule at) (both (option_map target_data target.entry) (option_map boxed_data value)) }
-    ensures fault { first.new ≡ noted first.old (broken (put_rule at) (both (option_map target_data target.entry) (option_map boxed_data value))) }
+    ensures node { option_map stmt_of result ≡ given (put_rule (table_data table.now) at) (both (option_map target_data target.entry) (option_map boxed_data value)) }
+    ensures fault { first.new ≡ noted first.old (broken (put_rule (table_data table.now) at) (both (option_map target_data target.entry) (option_map boxed_data value))) }
 {
     let Some((receiver, (id, field))) = target else {
         return None;
     };
-    let value = fit_rule(at, field.ty, value?, first)?;
+    let value = fit_rule(table, at, field.ty, value?, first)?;
     Some(CoreStmt::SetField(receiver, id, value))
 }
 
@@ -254,20 +258,21 @@ pub fn return_rule(at: u32, returns: Option<CoreType>, first: &mut FirstFault) -
 
 /// A return of a value.
 pub fn value_rule(
+    table: &ClassTable,
     at: u32,
     returns: Option<CoreType>,
     part: Option<BoxedExpr>,
     first: &mut FirstFault,
 ) -> Option<CoreStmt>
-    ensures node { option_map stmt_of result ≡ given (value_rule at returns) (option_map boxed_data part) }
-    ensures fault { first.new ≡ noted first.old (broken (value_rule at returns) (option_map boxed_data part)) }
+    ensures node { option_map stmt_of result ≡ given (value_rule (table_data table.now) at returns) (option_map boxed_data part) }
+    ensures fault { first.new ≡ noted first.old (broken (value_rule (table_data table.now) at returns) (option_map boxed_data part)) }
 {
     let part = part?;
     let Some(ty) = returns else {
         first.note(TypeFault::NoRule(at));
         return None;
     };
-    let value = fit_rule(at, ty, part, first)?;
+    let value = fit_rule(table, at, ty, part, first)?;
     Some(CoreStmt::Return(Some(value)))
 }
 
@@ -283,7 +288,7 @@ pub fn print_rule(at: u32, part: Option<BoxedExpr>, first: &mut FirstFault) -> O
     Some(CoreStmt::Print(part.node))
 }
 
-/// Whether there is a class, and it says `implements Runnable`.
+/// Whether there is a class, and it counts as `implements Runnable`.
 fn is_runnable(table: &ClassTable, class: Option<ClassId>) -> bool
     ensures { result ≡ is_runnable (table_data table.now) class }
 {

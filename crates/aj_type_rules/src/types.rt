@@ -1,11 +1,14 @@
 //! Types of expressions, and expressions with their types.
 
 ghost use Rattle.std.specs.Prelude.{◌≡◌, option_map};
+ghost use Rattle.aj_classes.specs.Table.{kind_in};
+ghost use Rattle.aj_classes.specs.Views.{table_data};
 ghost use Rattle.aj_core.specs.declared.types.CoreType.TheVariants as type;
 ghost use Rattle.aj_core.specs.Types.{ValueT, fits, type_fits, binary_type};
-ghost use Rattle.aj_type_rules.specs.Rules.{is_int, is_boolean, same_class, receiver_class, class_in};
+ghost use Rattle.aj_type_rules.specs.Rules.{is_int, is_boolean, receiver_class, class_in};
 ghost use Rattle.aj_type_rules.specs.Views.{type_data};
 
+use aj_classes::ClassTable;
 use aj_core::{CoreExpr, CoreOp, CoreType};
 use aj_paths::ClassId;
 
@@ -64,12 +67,12 @@ impl ExprType {
         }
     }
 
-    /// Whether this type fits another.
-    pub fn fits(self, other: ExprType) -> bool
-        ensures { result ≡ fits same_class (type_data self) (type_data other) }
+    /// Whether this type fits another: a class fits itself and its ancestors.
+    pub fn fits(self, table: &ClassTable, other: ExprType) -> bool
+        ensures { result ≡ fits (kind_in (table_data table.now)) (type_data self) (type_data other) }
     {
         match (self, other) {
-            (ExprType::Value(ty), ExprType::Value(other)) => same_type(ty, other),
+            (ExprType::Value(ty), ExprType::Value(other)) => type_fits(table, ty, other),
             (ExprType::Null, ExprType::Null) => true,
             (ExprType::Null, ExprType::Value(other)) => class_in(other).is_some(),
             _ => false,
@@ -77,31 +80,36 @@ impl ExprType {
     }
 }
 
-fn same_type(ty: CoreType, other: CoreType) -> bool
-    ensures { result ≡ type_fits same_class ty other }
+fn type_fits(table: &ClassTable, ty: CoreType, other: CoreType) -> bool
+    ensures { result ≡ type_fits (kind_in (table_data table.now)) ty other }
 {
     match ty {
         CoreType::Int => matches!(other, CoreType::Int),
         CoreType::Boolean => matches!(other, CoreType::Boolean),
-        CoreType::Class(class) => is_of_class(other, class),
+        CoreType::Class(class) => class_fits(table, class, other),
     }
 }
 
-fn is_of_class(ty: CoreType, class: ClassId) -> bool
-    ensures { result ≡ type_fits same_class (type.Class class) ty }
+fn class_fits(table: &ClassTable, class: ClassId, other: CoreType) -> bool
+    ensures { result ≡ type_fits (kind_in (table_data table.now)) (type.Class class) other }
 {
-    match ty {
-        CoreType::Class(other) => class == other,
+    match other {
+        CoreType::Class(other) => table.is_kind_of(class, other),
         CoreType::Int | CoreType::Boolean => false,
     }
 }
 
 /// The type that an operator on two values gives.
-pub fn binary_type(op: CoreOp, left: ExprType, right: ExprType) -> Option<ExprType>
-    ensures { option_map type_data result ≡ binary_type same_class op (type_data left) (type_data right) }
+pub fn binary_type(
+    table: &ClassTable,
+    op: CoreOp,
+    left: ExprType,
+    right: ExprType,
+) -> Option<ExprType>
+    ensures { option_map type_data result ≡ binary_type (kind_in (table_data table.now)) op (type_data left) (type_data right) }
 {
     match op {
-        CoreOp::Eq | CoreOp::Ne => of_equals(left.fits(right) || right.fits(left)),
+        CoreOp::Eq | CoreOp::Ne => of_equals(left.fits(table, right) || right.fits(table, left)),
         CoreOp::Lt | CoreOp::Le | CoreOp::Gt | CoreOp::Ge => of_ints(
             CoreType::Boolean,
             left,

@@ -1,7 +1,7 @@
 //! The files of `examples/`, with the lines that its README states. Written by `examples/as_test.py`.
 
 /// Name, text, status and lines.
-pub const EXAMPLES: [(&str, &str, u8, &str); 24] = [
+pub const EXAMPLES: [(&str, &str, u8, &str); 25] = [
     (
         "locked.java",
         "class Main { int v guarded_by this; atomic void main() { synchronized (this) { this.v = 7; } } }\n",
@@ -121,6 +121,12 @@ pub const EXAMPLES: [(&str, &str, u8, &str); 24] = [
         "class Gauge {\n    int level write_guarded_by this;\n    atomic int read() {\n        return this.level;\n    }\n    atomic void raise() {\n        synchronized (this) {\n            this.level = this.level + 1;\n        }\n    }\n}\n\nclass Main {\n    void main() {\n        new Gauge().raise();\n    }\n}\n",
         0,
         "Gauge.read this ? mover : atomic\nGauge.raise atomic\nMain.main atomic\n",
+    ),
+    (
+        "visitor.java",
+        "class Visitor {\n    int sum guarded_by this;\n\n    atomic void add(int amount) {\n        synchronized (this) {\n            this.sum = this.sum + amount;\n        }\n    }\n\n    atomic void circle(Circle circle) {\n    }\n\n    atomic void square(Square square) {\n    }\n}\n\nclass Area extends Visitor {\n    atomic void circle(Circle circle) {\n        this.add(3 * circle.radius * circle.radius);\n    }\n\n    atomic void square(Square square) {\n        this.add(square.side * square.side);\n    }\n}\n\nclass Edge extends Visitor {\n    atomic void square(Square square) {\n        this.add(4 * square.side);\n    }\n}\n\nclass Shape {\n    atomic void accept(final Visitor visitor) {\n    }\n}\n\nclass Circle extends Shape {\n    final int radius;\n    Circle(int radius) { this.radius = radius; }\n    atomic void accept(final Visitor visitor) {\n        visitor.circle(this);\n    }\n}\n\nclass Square extends Shape {\n    final int side;\n    Square(int side) { this.side = side; }\n    atomic void accept(final Visitor visitor) {\n        visitor.square(this);\n    }\n}\n\nclass Walk implements Runnable {\n    final Shape shape;\n    final Visitor visitor;\n    Walk(Shape shape, Visitor visitor) {\n        this.shape = shape;\n        this.visitor = visitor;\n    }\n    public void run() {\n        this.shape.accept(this.visitor);\n    }\n}\n\nclass Main {\n    void main() {\n        final Visitor visitor = new Area();\n        new Thread(new Walk(new Circle(2), visitor)).start();\n        new Thread(new Walk(new Square(3), visitor)).start();\n    }\n}\n",
+        0,
+        "Visitor.add this ? mover : atomic\nVisitor.circle this ? mover : atomic\nVisitor.square this ? mover : atomic\nArea.circle this ? mover : atomic\nArea.square this ? mover : atomic\nEdge.square this ? mover : atomic\nShape.accept visitor ? mover : atomic\nCircle.accept visitor ? mover : atomic\nSquare.accept visitor ? mover : atomic\nWalk.run this.visitor ? mover : atomic\nMain.main cmpd\n",
     ),
     (
         "published_twice.java",

@@ -10,6 +10,8 @@ mod examples;
 #[cfg(test)]
 mod failing_tests;
 #[cfg(test)]
+mod family_tests;
+#[cfg(test)]
 mod generate_tests;
 #[cfg(test)]
 mod large_tests;

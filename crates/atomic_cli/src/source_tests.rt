@@ -60,7 +60,7 @@ static UNREADABLE: [(&str, &str); 19] = [
         "class A { int f write_guarded_by this guarded_by this; }",
         "refused at 1:39: unexpected\n",
     ),
-    ("class A extends B { }", "refused at 1:9: unexpected\n"),
+    ("class A extends for { }", "refused at 1:17: unexpected\n"),
     ("class for { }", "refused at 1:7: unexpected\n"),
 ];
 

@@ -1,11 +1,11 @@
-use Rattle.std.proofs.Common.{◌≡◌, drop, flat_map, map}
-use Rattle.aj_syntax.specs.Views.{class_of}
-use Rattle.aj_class_rules.specs.Names.{has_text}
-use Rattle.aj_class_rules.specs.Faults.{class_faults}
+use Rattle.aj_class_rules.specs.Families.{tree_of}
+use Rattle.aj_class_rules.specs.Faults.{faults_from}
 use Rattle.aj_class_rules.specs.Noted.{noted}
+use Rattle.aj_syntax.specs.Views.{class_of}
+use Rattle.std.proofs.Common.{drop, map, ◌≡◌}
 use Rattle.aj_class_rules.proofs.check.note_classes.Given as goal
 
-abbrev pub invariant-loop-class : goal.invariant-loop-class
-invariant-loop-class l =
-    noted l.found (flat_map (class_faults (has_text l.names)) (map class_of (drop l.class-index l.classes)))
-    ≡ noted l.fn.first (flat_map (class_faults (has_text l.names)) (map class_of l.classes))
+abbrev pub invariant-loop-number : goal.invariant-loop-number
+invariant-loop-number l =
+    noted l.found (faults_from (tree_of l.family) l.number (map class_of (drop l.number l.family.classes.now)))
+    ≡ noted l.fn.first (faults_from (tree_of l.family) 0 (tree_of l.family))

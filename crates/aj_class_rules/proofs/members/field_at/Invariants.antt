@@ -1,9 +1,9 @@
-use Rattle.std.proofs.Common.{◌≡◌, drop, map, slice_get}
-use Rattle.aj_syntax.specs.Views.{member_of}
+use Rattle.aj_class_rules.specs.Families.{members_along}
 use Rattle.aj_class_rules.specs.Members.{field_names}
+use Rattle.aj_syntax.specs.Views.{class_of}
+use Rattle.std.proofs.Common.{drop, map, slice_get, ◌≡◌}
 use Rattle.aj_class_rules.proofs.members.field_at.Given as goal
 
-abbrev pub invariant-loop-member : goal.invariant-loop-member
-invariant-loop-member l =
-    slice_get (field_names (map member_of (drop l.member-index l.members))) l.left
-    ≡ slice_get (field_names (map member_of l.members)) l.number
+abbrev pub invariant-loop-class : goal.invariant-loop-class
+invariant-loop-class l =
+    slice_get (field_names (members_along (map class_of l.classes) (drop l.class-index l.order))) l.left ≡ slice_get (field_names (members_along (map class_of l.classes) l.order)) l.number

@@ -1,17 +1,17 @@
 use Rattle.std.proofs.Common.{map, ap, ◌∙◌}
 use Rattle.aj_syntax.specs.Views.{class_of, program_of}
 use Rattle.aj_classes.specs.Views.{class_data}
-use Rattle.aj_classes.specs.Building.{parts_data, with_classes, no_parts}
+use Rattle.aj_classes.specs.Building.{parts_data, parts_from}
 use Rattle.aj_classes.proofs.Tables.{table_is, all_owned}
 use Rattle.aj_classes.proofs.make.build.Goals as goal
 
 pub returns : goal.returns
 returns c =
     table_is (program_of c.args.program.now) c.args.names (parts_data c.in_ok-parts.parts) c.requires.no_faults c.requires.names
-    (c.in_ok-parts.ensures ∙ ap (λ cs. with_classes c.args.names no_parts (map class_of cs)) c.as_slice.ensures.value)
+    (c.in_ok-parts.ensures ∙ ap (λ cs. parts_from c.args.names (map class_of cs)) c.as_slice.ensures.value)
 
 pub invariant_of-result-clause-owned : goal.invariant_of-result-clause-owned
 invariant_of-result-clause-owned c =
     all_owned (program_of c.args.program.now) c.args.names (map class_data c.in_ok-parts.parts.classes.items) c.in_ok-parts.parts.fields.items c.in_ok-parts.parts.methods.items
     (table_is (program_of c.args.program.now) c.args.names (parts_data c.in_ok-parts.parts) c.requires.no_faults c.requires.names
-    (c.in_ok-parts.ensures ∙ ap (λ cs. with_classes c.args.names no_parts (map class_of cs)) c.as_slice.ensures.value))
+    (c.in_ok-parts.ensures ∙ ap (λ cs. parts_from c.args.names (map class_of cs)) c.as_slice.ensures.value))

@@ -1,12 +1,11 @@
-use Rattle.std.proofs.Common.{map, option_map, ap, sym, ◌∙◌, subst}
+use Rattle.std.proofs.Common.{map, sym, subst}
 use Rattle.std.specs.Prelude.{IsSome}
 use Rattle.aj_classes.specs.Views.{table_data}
 use Rattle.aj_core.specs.Views as core
-use Rattle.aj_syntax.specs.Views.{class_of}
 use Rattle.aj_elaborate.specs.Gathered.{gathered}
 use Rattle.aj_elaborate.specs.Programs.{program_node}
 use Rattle.aj_elaborate.specs.Views.{fields_data, methods_data}
-use Rattle.aj_elaborate.proofs.Answering.{fields_ordered, methods_ordered, first_there, second_there, mapped_there}
+use Rattle.aj_elaborate.proofs.Answering.{first_there, second_there, mapped_there}
 use Rattle.aj_elaborate.proofs.make.assembled.Goals as goal
 
 pub unwrap-fields-requires : goal.unwrap-fields-requires
@@ -14,21 +13,11 @@ unwrap-fields-requires c =
     mapped_there (λ v. v.items) c.all.result
     (subst IsSome (sym c.all.ensures)
     (mapped_there (map core.field_of) (gathered c.args.parts.fields)
-    (first_there (program_node (table_data c.args.table.now) (map class_of c.args.classes.now)) (fields_data c.args.parts) (methods_data c.args.parts) c.requires.whole.0 c.requires.whole.1)))
+    (first_there (program_node (table_data c.args.table.now)) (fields_data c.args.parts) (methods_data c.args.parts) c.requires.whole.0 c.requires.whole.1)))
 
 pub unwrap-methods-requires : goal.unwrap-methods-requires
 unwrap-methods-requires c =
     mapped_there (λ v. v.items) c.all-2.result
     (subst IsSome (sym c.all-2.ensures)
     (mapped_there (map core.method_of) (gathered c.args.parts.methods)
-    (second_there (program_node (table_data c.args.table.now) (map class_of c.args.classes.now)) (fields_data c.args.parts) (methods_data c.args.parts) c.requires.whole.0 c.requires.whole.1)))
-
-pub core_program-requires : goal.core_program-requires
-core_program-requires c = record {
-  ascends =
-      fields_ordered (map class_of c.args.classes.now) (table_data c.args.table.now) (map core.field_of c.unwrap-fields.result.items) (fields_data c.args.parts)
-      (ap (option_map (map core.field_of)) (sym c.all.ensures ∙ ap (option_map (λ v. v.items)) c.unwrap-fields.ensures)) c.requires.fields;
-  methods_ascend =
-      methods_ordered (map class_of c.args.classes.now) (table_data c.args.table.now) (map core.method_of c.unwrap-methods.result.items) (methods_data c.args.parts)
-      (ap (option_map (map core.method_of)) (sym c.all-2.ensures ∙ ap (option_map (λ v. v.items)) c.unwrap-methods.ensures)) c.requires.methods;
-}
+    (second_there (program_node (table_data c.args.table.now)) (fields_data c.args.parts) (methods_data c.args.parts) c.requires.whole.0 c.requires.whole.1)))

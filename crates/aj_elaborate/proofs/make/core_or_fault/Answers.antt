@@ -6,6 +6,7 @@ use Rattle.aj_type_rules.specs.Noted.{noted}
 use Rattle.aj_elaborate.specs.Programs.{faults_from}
 use Rattle.aj_elaborate.specs.Views.{fields_data, methods_data}
 use Rattle.aj_elaborate.proofs.Answering.{found_in, told, made, all_are_there}
+use Rattle.aj_elaborate.proofs.TreeLines.{lined_as, many_as}
 use Rattle.aj_elaborate.proofs.make.core_or_fault.Goals as goal
 
 pub returns-in-Some : goal.returns-in-Some
@@ -19,8 +20,8 @@ returns-in-Some c =
     (sym c.in-Some.is ∙ c.first.view_is ∙ c.in_ok-parts.ensures.fault ∙ ap (λ z. noted z (faults_from t 0 classes)) c.new-first.ensures)
     c.in_ok-parts.ensures.fields c.in_ok-parts.ensures.methods))
 
-pub returns-in_ok-assembled-in-None : goal.returns-in_ok-assembled-in-None
-returns-in_ok-assembled-in-None c =
+pub returns : goal.returns
+returns c =
     let tree = program_of c.args.program.now in
     let classes = map class_of c.as_slice-classes.result.now in
     let t = table_data c.args.table.now in
@@ -43,3 +44,17 @@ assembled-requires-clause-whole c =
     (ap (map class_of) c.as_slice-classes.ensures.value) c.requires.table
     (sym c.in-None.is ∙ c.first.view_is ∙ c.in_ok-parts.ensures.fault ∙ ap (λ z. noted z (faults_from t 0 classes)) c.new-first.ensures)
     c.in_ok-parts.ensures.fields c.in_ok-parts.ensures.methods)
+
+pub from_above-requires : goal.from_above-requires
+from_above-requires c =
+    record { lined = lined_as (program_of c.args.program.now) (table_data c.args.table.now) c.requires.no_class_faults c.requires.table }
+
+pub lineages-requires-clause-lined : goal.lineages-requires-clause-lined
+lineages-requires-clause-lined c = lined_as (program_of c.args.program.now) (table_data c.args.table.now) c.requires.no_class_faults c.requires.table
+
+pub parts_of-requires-clause-many : goal.parts_of-requires-clause-many
+parts_of-requires-clause-many c =
+    many_as (program_of c.args.program.now) (table_data c.args.table.now) class_of c.as_slice-classes.result.now c.requires.table (ap (map class_of) c.as_slice-classes.ensures.value)
+
+pub assembled-requires-clause-lined : goal.assembled-requires-clause-lined
+assembled-requires-clause-lined c = lined_as (program_of c.args.program.now) (table_data c.args.table.now) c.requires.no_class_faults c.requires.table

@@ -13,7 +13,7 @@ loop-member-preserved c =
     let T = table_data c.args.table.now in (
       field_step T c.args.class c.args.members.now c.loop-member.member-index c.loop-member.index c.in_ok-index.index c.member-item.result
           (fields_data c.loop-member.parts) (fields_data c.add_member.new.parts)
-          (appended (fields_data c.args.parts.now) (all_there (fields_core T c.args.class 0 (map member_of c.args.members.now))))
+          (appended (fields_data c.args.parts.now) (all_there (fields_core T c.args.class c.args.inherited (map member_of c.args.members.now))))
           c.loop-member-test.true c.member-item.is c.loop-member.invariant.0 c.in_ok-index.ensures.fields c.in_ok-index.ensures.index,
       method_step T c.args.class c.args.members.now c.loop-member.member-index c.member-item.result
           (methods_data c.loop-member.parts) (methods_data c.add_member.new.parts)

@@ -10,7 +10,7 @@ use Rattle.aj_elaborate.proofs.members.add_members.Given as goal
 abbrev pub invariant-loop-member : goal.invariant-loop-member
 invariant-loop-member l =
     (appended (fields_data l.parts) (all_there (fields_core (table_data l.table) l.class l.index (map member_of (drop l.member-index l.members))))
-    ≡ appended (fields_data l.fn.parts) (all_there (fields_core (table_data l.table) l.class 0 (map member_of l.members))))
+    ≡ appended (fields_data l.fn.parts) (all_there (fields_core (table_data l.table) l.class l.inherited (map member_of l.members))))
     × (appended (methods_data l.parts) (all_there (methods_core (table_data l.table) l.class (map member_of (drop l.member-index l.members))))
     ≡ appended (methods_data l.fn.parts) (all_there (methods_core (table_data l.table) l.class (map member_of l.members))))
     × (noted l.first (flat_map (member_faults (table_data l.table) l.class) (map member_of (drop l.member-index l.members)))

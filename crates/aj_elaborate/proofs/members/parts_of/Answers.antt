@@ -1,4 +1,5 @@
-use Rattle.std.proofs.Common.{map, flat_map, ap, ◌∙◌}
+use Rattle.std.proofs.Common.{map, flat_map, ap, sym, ◌∙◌, arith}
+use Rattle.std.proofs.lemmas.Option.{same_Some}
 use Rattle.aj_classes.specs.Views.{table_data}
 use Rattle.aj_syntax.specs.Views.{class_of, member_of}
 use Rattle.aj_elaborate.specs.Gathered.{appended}
@@ -12,10 +13,11 @@ pub loop-class-preserved : goal.loop-class-preserved
 loop-class-preserved c =
     let T = table_data c.args.table.now in
     let k = c.loop-class.number in (
-      class_fields_step T c.args.classes.now c.loop-class.class-index k c.in_ok-number.number c.class-item.result
+      class_fields_step T c.args.classes.now c.loop-class.class-index k c.in_ok-number.number c.value_of.result.now.inherited c.class-item.result
           (fields_data c.loop-class.parts) (fields_data c.add_members.new.parts) (all_there (all_fields T 0 (map class_of c.args.classes.now)))
           c.loop-class-test.true c.class-item.is c.loop-class.invariant.0
-          (c.in_ok-add_members.ensures.fields ∙ ap (λ z. appended (fields_data c.loop-class.parts) (all_there (fields_core T k 0 (map member_of z)))) c.as_slice.ensures.value)
+          (c.in_ok-add_members.ensures.fields ∙ ap (λ z. appended (fields_data c.loop-class.parts) (all_there (fields_core T k c.value_of.result.now.inherited (map member_of z)))) c.as_slice.ensures.value)
+          (ap (λ l. l.inherited) (same_Some _ _ (sym c.value_of.ensures ∙ c.requires.lineages k (omega (arith, c.loop-class.invariant.3, c.loop-class-test.true, c.requires.many)))))
           c.in_ok-number.ensures,
       class_methods_step T c.args.classes.now c.loop-class.class-index k c.in_ok-number.number c.class-item.result
           (methods_data c.loop-class.parts) (methods_data c.add_members.new.parts) (all_there (all_methods T 0 (map class_of c.args.classes.now)))
@@ -27,4 +29,5 @@ loop-class-preserved c =
           c.loop-class-test.true c.class-item.is c.loop-class.invariant.2
           (c.in_ok-add_members.ensures.fault ∙ ap (λ z. noted c.loop-class.first (flat_map (member_faults T k) (map member_of z))) c.as_slice.ensures.value)
           c.in_ok-number.ensures,
+      omega (arith, c.loop-class.invariant.3, c.in_ok-number.ensures),
     )

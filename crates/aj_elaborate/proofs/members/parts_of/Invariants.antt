@@ -15,3 +15,4 @@ invariant-loop-class l =
     ≡ all_there (all_methods (table_data l.table) 0 (map class_of l.classes)))
     × (noted l.first (faults_from (table_data l.table) l.number (map class_of (drop l.class-index l.classes)))
     ≡ noted l.fn.first (faults_from (table_data l.table) 0 (map class_of l.classes)))
+    × (l.number ≡ l.class-index)

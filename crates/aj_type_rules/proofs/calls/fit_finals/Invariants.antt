@@ -1,9 +1,10 @@
-use Rattle.std.proofs.Common.{◌≡◌, drop, filter, map}
-use Rattle.aj_type_rules.specs.Rules.{fit_each}
+use Rattle.std.proofs.Common.{◌≡◌, drop}
+use Rattle.aj_classes.specs.Views.{table_data}
+use Rattle.aj_type_rules.specs.Rules.{fit_each, types_of_finals}
 use Rattle.aj_type_rules.specs.Views.{types_of}
 use Rattle.aj_type_rules.proofs.calls.fit_finals.Given as goal
 
 abbrev pub invariant-loop-field : goal.invariant-loop-field
 invariant-loop-field l =
-    fit_each (types_of l.rest) (map (λ f. f.ty) (filter (λ f. f.is_final) (drop l.field-index l.fields)))
-    ≡ fit_each (types_of l.args) (map (λ f. f.ty) (filter (λ f. f.is_final) l.fields))
+    fit_each (table_data l.table) (types_of l.rest) (types_of_finals (drop l.field-index l.fields))
+    ≡ fit_each (table_data l.table) (types_of l.args) (types_of_finals l.fields)

@@ -1,0 +1,31 @@
+-- The methods of each class, as they are kept.
+use Rattle.std.proofs.Common.{◌≡◌, ℕ, ◌+◌, ◌≤◌, zero, suc, List, [], ◌∷◌, ◌++◌, map, drop, length, Option, Some, None, refl, ap, sym, ◌∙◌, subst, slice_get, arith}
+use Rattle.std.proofs.Math.Path.{fun_ext}
+use Rattle.std.specs.Option.{option_map}
+use Rattle.std.proofs.lemmas.List.{append-nil}
+use Rattle.aj_syntax.specs.declared.tree.Class.{Class}
+use Rattle.aj_syntax.specs.Views.{class_of}
+use Rattle.aj_syntax.specs.Trees.{ClassTree, ProgramTree}
+use Rattle.aj_class_rules.specs.Lines.{members_in, members_at}
+use Rattle.aj_class_rules.specs.Overriding.{Heading, headings, headings_at}
+use Rattle.aj_class_rules.specs.Families.{row_in, row_at, all_headings}
+
+row_is : (tree : ProgramTree) (k : ℕ) (cs : List ClassTree) (i n : ℕ) → n ≡ k + i → row_in (slice_get (all_headings tree k cs) i) ≡ headings tree n (members_in (slice_get cs i))
+row_is tree k [] i n e = refl
+row_is tree k (c ∷ cs) zero n e = let same : k ≡ n = omega (arith, e) in ap (λ x. headings tree x c.members) same
+row_is tree k (c ∷ cs) (suc i) n e = row_is tree (k + 1) cs i n (omega (arith, e))
+
+pub rows_are : (tree : ProgramTree) (rows : List (List Heading)) → rows ≡ all_headings tree 0 tree → row_at rows ≡ headings_at tree
+rows_are tree rows is = fun_ext (λ j. ap (λ r. row_at r j) is ∙ row_is tree 0 tree j j (omega arith))
+
+nothing_left : {A : Type 0} (xs : List A) (i : ℕ) → length xs ≤ i → drop i xs ≡ []
+nothing_left [] zero past = refl
+nothing_left [] (suc i) past = refl
+nothing_left (x ∷ xs) zero past = absurd (omega (arith, past))
+nothing_left (x ∷ xs) (suc i) past = nothing_left xs i (omega (arith, past))
+
+-- when all classes were passed, the rows are those of all
+pub rows_end : (tree : ProgramTree) (xs : List Class) (i : ℕ) (rows : List (List Heading)) → length xs ≤ i → rows ++ all_headings tree i (map class_of (drop i xs)) ≡ all_headings tree 0 tree
+    → row_at rows ≡ headings_at tree
+rows_end tree xs i rows past so_far =
+    rows_are tree rows (sym (append-nil rows) ∙ ap (λ z. rows ++ all_headings tree i (map class_of z)) (sym (nothing_left xs i past)) ∙ so_far)

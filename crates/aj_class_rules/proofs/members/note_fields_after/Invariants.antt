@@ -1,0 +1,12 @@
+use Rattle.aj_class_rules.specs.Members.{field_names}
+use Rattle.aj_class_rules.specs.Names.{repeats_after}
+use Rattle.aj_class_rules.specs.Noted.{noted}
+use Rattle.aj_class_rules.specs.declared.fault.ClassFault.TheVariants.{Twice}
+use Rattle.aj_syntax.specs.Views.{member_of}
+use Rattle.std.proofs.Common.{drop, map, ◌≡◌}
+use Rattle.aj_class_rules.proofs.members.note_fields_after.Given as goal
+
+abbrev pub invariant-loop-member : goal.invariant-loop-member
+invariant-loop-member l =
+    noted l.found (map Twice (repeats_after l.seen (field_names (map member_of (drop l.member-index l.members)))))
+    ≡ noted l.fn.first (map Twice (repeats_after l.fn.names (field_names (map member_of l.members))))

@@ -1,0 +1,80 @@
+-- What the code keeps of the classes of a program, and how it finds them by their names.
+use Rattle.std.specs.Prelude.{◌≡◌, ℕ, ◌+◌, Bool, List, [], ◌∷◌, ◌++◌, Option, Some, None, Vec, map, flat_map, slice_get, if◌then◌else◌}
+use Rattle.std.specs.Option.{option_map}
+use Rattle.std.specs.declared.alloc.Global.{Global}
+use Rattle.aj_syntax.specs.declared.tree.Class.{Class}
+use Rattle.aj_syntax.specs.declared.tree.Name.{Name}
+use Rattle.aj_syntax.specs.Trees.{MemberTree, ClassTree, ProgramTree}
+use Rattle.aj_syntax.specs.Views.{class_of}
+use Rattle.aj_class_rules.specs.declared.family.Family.{Family}
+use Rattle.aj_class_rules.specs.declared.family.Field.{Field}
+use Rattle.aj_class_rules.specs.declared.family.FieldPlace as code
+use Rattle.aj_class_rules.specs.declared.overriding.LockReach.{LockReach}
+use Rattle.aj_class_rules.specs.declared.overriding.Heading as code_heading
+use Rattle.aj_class_rules.specs.Names.{has_text, distinct}
+use Rattle.aj_class_rules.specs.Members.{class_names}
+use Rattle.aj_class_rules.specs.Lines.{above_in, members_at}
+use Rattle.aj_class_rules.specs.Overriding.{FieldPlace, FoundField, Reach, Heading, headings}
+
+-- the members of these classes
+abbrev pub members_along : ProgramTree → List ℕ → List MemberTree
+members_along tree order = flat_map (members_at tree) order
+
+-- the numbers of the names that are new after names with these texts, where the first of these names has the number k
+abbrev pub new_places : List (List ℕ) → ℕ → List Name → List ℕ
+new_places seen k [] = []
+new_places seen k (n ∷ ns) =
+    if has_text seen n.text then new_places seen (k + 1) ns else k ∷ new_places (seen ++ n.text ∷ []) (k + 1) ns
+
+-- for each text of names, in order of first appearance, the number of the first name with it
+abbrev pub first_places : List Name → List ℕ
+first_places names = new_places [] 0 names
+
+-- for each class the number of the one that it extends
+abbrev pub all_above : ProgramTree → List (Option ℕ)
+all_above tree = map (λ c. above_in tree (Some c)) tree
+
+-- the classes of a family
+abbrev pub tree_of : Family → ProgramTree
+tree_of f = map class_of f.classes.now
+
+-- what a family keeps of its classes is theirs
+pub record IsFamily (f : Family) : Type 0 where
+  pub names : f.names.now ≡ distinct (class_names (tree_of f))
+  pub firsts : f.firsts.items ≡ first_places (class_names (tree_of f))
+  pub above : f.above.items ≡ all_above (tree_of f)
+
+abbrev pub place_data : code.FieldPlace → FieldPlace
+place_data p = record { class = p.class; place = p.place }
+
+abbrev pub field_data : Field → FoundField
+field_data f = record { at = place_data f.at; is_final = f.is_final; ty = f.ty.now }
+
+abbrev pub reach_data : LockReach → Reach
+reach_data r = record { slot = r.slot; fields = map place_data r.fields.items; class = r.class }
+
+abbrev pub locks_data : Option (Vec LockReach Global) → Option (List Reach)
+locks_data locks = option_map (λ rs. map reach_data rs.items) locks
+
+abbrev pub heading_data : code_heading.Heading → Heading
+heading_data h = record {
+  name = h.name.now;
+  signature = record { atomic = h.atomic; returns = h.returns.now; params = h.params.now; locks = locks_data h.locks };
+}
+
+-- the methods of each class, as they are kept
+abbrev pub rows_data : List (Vec code_heading.Heading Global) → List (List Heading)
+rows_data rows = map (λ row. map heading_data row.items) rows
+
+abbrev pub row_in : Option (List Heading) → List Heading
+row_in None = []
+row_in (Some row) = row
+
+-- the methods of a class
+abbrev pub row_at : List (List Heading) → ℕ → List Heading
+row_at rows k = row_in (slice_get rows k)
+
+-- the methods of these classes, the first of which has the number k
+abbrev pub all_headings : ProgramTree → ℕ → List ClassTree → List (List Heading)
+all_headings tree k [] = []
+all_headings tree k (c ∷ cs) = headings tree k c.members ∷ all_headings tree (k + 1) cs
