@@ -29,7 +29,8 @@ const LARGEST_SOURCE: u64 = 262_144;
 const LARGEST_SCHEDULE: u64 = 16_777_216;
 
 const USAGE: &str = "usage: atomic check FILE | run FILE SCHEDULE | serialise FILE SCHEDULE | derive FILE | \
-verify FILE BOOK | print FILE | generate N | serialise-open FILE SCHEDULE\n";
+verify FILE BOOK | print FILE | generate N | serialise-open FILE SCHEDULE | blame FILE | \
+verify-blame FILE CERT | levels FILE LEVELS | replay FILE SCHEDULE\n";
 
 /// A status that isn't 0, and its line.
 type Refusal = (u8, String);

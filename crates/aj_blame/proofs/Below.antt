@@ -1,22 +1,19 @@
 -- Each line of a certificate is at most what any closed assignment says, so no assignment is admissible.
-use Rattle.std.proofs.Common.{◌≡◌, ℕ, zero, suc, ◌-◌, ◌<◌, Bool, true, false, List, [], ◌∷◌, length, Some, None, refl, sym, subst, ◌==◌, ◌&&◌, arith}
-use Rattle.std.specs.Prelude.{Option, not, slice_get, take}
+use Rattle.std.proofs.Common.{◌≡◌, ℕ, zero, suc, ◌-◌, ◌<◌, true, false, List, [], ◌∷◌, length, Some, None, refl, sym, subst, ◌==◌, ◌&&◌, arith}
+use Rattle.std.specs.Prelude.{Option, slice_get, take}
 use Rattle.std.specs.List.{list_all}
 use Rattle.std.proofs.lemmas.Bool.{eqb-true, not-true, both_ways}
-use Rattle.std.proofs.lemmas.Option.{slice_get_within}
 use Rattle.aj_paths.specs.Paths.{PathData}
-use Rattle.aj_algebra.specs.declared.basic.Basic.{Basic}
 use Rattle.aj_algebra.specs.HeldPaths.{Held, has_path}
 use Rattle.aj_core.specs.Core.{Program, Method}
-use Rattle.aj_core.specs.Dispatch.{Overrides}
 use Rattle.aj_rules.specs.Near.{MethodPaths, AreRelevant, rel_of}
-use Rattle.aj_rules.specs.Effect.{Assignment, effect}
+use Rattle.aj_rules.specs.Effect.{Assignment}
 use Rattle.aj_rules.specs.Rules.{IsPart, AtMost, IsFalling, held_in, IsClosed, IsAdmissible, IsAccepted}
 use Rattle.aj_rules.proofs.BasicLemmas.{below_chain}
 use Rattle.aj_rules.proofs.SetLemmas.{first, second}
 use Rattle.aj_rules.proofs.EffectRises.{stmt_rises}
 use Rattle.aj_rules.proofs.UniqueSets.{unique_sets}
-use Rattle.aj_blame.specs.Lines.{LineData, covers, line_at, floor, body_effect, joined_over, overriding, up}
+use Rattle.aj_blame.specs.Lines.{LineData, covers, line_at, floor, body_effect, up}
 use Rattle.aj_blame.specs.Certificates.{are_placed, is_placed, AreLines, IsCertificate, breaks, keeps_bound, bound_of}
 use Rattle.aj_blame.proofs.Sets.{below_const, join_least, choice_low, covers_part, all_has}
 use Rattle.aj_blame.proofs.Over.{over_least}

@@ -1,15 +1,14 @@
 -- Floors: they fall with more held paths, one more line never lowers them, and lines one after the other.
-use Rattle.std.proofs.Common.{◌≡◌, ℕ, zero, suc, ◌+◌, ◌-◌, ◌<◌, ◌≤◌, Bool, true, false, List, [], ◌∷◌, ◌++◌, length, Some, None, refl, sym, ap, subst, ◌∙◌, ◌==◌, ◌&&◌, ◌⊎◌, inl, inr, arith}
-use Rattle.std.specs.Prelude.{Option, not, slice_get, take, if◌then◌else◌}
-use Rattle.std.specs.List.{list_all, AllByRecursion}
+use Rattle.std.proofs.Common.{◌≡◌, ℕ, zero, suc, Bool, true, false, List, [], ◌∷◌, ◌++◌, Some, refl, sym, ap, subst, ◌==◌, ◌&&◌, ◌⊎◌, inl, inr}
+use Rattle.std.specs.Prelude.{slice_get, take, if◌then◌else◌}
+use Rattle.std.specs.List.{AllByRecursion}
 use Rattle.std.proofs.lemmas.Bool.{and_from, eqb-true, eq-eqb, cond-true}
 use Rattle.std.proofs.lemmas.Option.{same_Some}
 use Rattle.aj_paths.specs.Paths.{PathData}
 use Rattle.aj_algebra.specs.declared.basic.Basic.{Basic}
 use Rattle.aj_algebra.specs.declared.basic.Basic.TheVariants.{Const}
-use Rattle.aj_algebra.specs.Basics.{below_of}
 use Rattle.aj_algebra.specs.HeldPaths.{Held, has_path}
-use Rattle.aj_core.specs.Core.{Program, Method}
+use Rattle.aj_core.specs.Core.{Program}
 use Rattle.aj_rules.specs.Rules.{IsPart, AtMost, IsFalling}
 use Rattle.aj_rules.proofs.BasicLemmas.{below_itself, below_chain, join_mono}
 use Rattle.aj_rules.proofs.SetLemmas.{first, second}

@@ -1,5 +1,5 @@
 -- What justified lines say of a method, a call of it comes to by them: so a line that is said already follows.
-use Rattle.std.proofs.Common.{◌≡◌, ℕ, zero, suc, ◌<◌, ◌≤◌, Bool, true, false, ◌&&◌, ◌==◌, List, [], ◌∷◌, take, slice_get, Some, None, refl, sym, ap, subst, ◌∙◌, arith}
+use Rattle.std.proofs.Common.{◌≡◌, ℕ, zero, suc, ◌≤◌, true, ◌&&◌, ◌==◌, List, [], ◌∷◌, take, slice_get, Some, None, refl, sym, ap, subst, arith}
 use Rattle.std.specs.Prelude.{Option}
 use Rattle.std.proofs.lemmas.Bool.{and_from, eqb-true}
 use Rattle.aj_paths.specs.Paths.{PathData}
@@ -11,7 +11,7 @@ use Rattle.aj_rules.proofs.BasicLemmas.{below_chain, below_itself, join_mono}
 use Rattle.aj_rules.proofs.SetLemmas.{first, second}
 use Rattle.aj_rules.proofs.EffectRises.{stmt_rises}
 use Rattle.aj_rules.proofs.Falling.{stmt_falls}
-use Rattle.aj_blame.specs.Lines.{LineData, covers, line_at, floor, body_effect, joined_over, overriding, up}
+use Rattle.aj_blame.specs.Lines.{LineData, covers, line_at, floor, body_effect, up}
 use Rattle.aj_blame.specs.Certificates.{is_placed, is_justified, AreLines}
 use Rattle.aj_blame.specs.Wrongs.{placed_at, justified_at, AllPass, PassBefore}
 use Rattle.aj_blame.proofs.Sets.{below_const, join_least, choice_low, covers_part}

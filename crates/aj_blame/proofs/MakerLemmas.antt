@@ -1,6 +1,6 @@
 -- The maker's steps: what one question does, several of them, a pass, and passes.
 use Rattle.std.proofs.Common.{◌≡◌, ℕ, zero, suc, ◌+◌, ◌<◌, ◌≤◌, Bool, true, false, List, [], ◌∷◌, ◌++◌, length, drop, get_or, map, Some, None, refl, sym, ap, subst, ◌∙◌, arith}
-use Rattle.std.specs.Prelude.{Option, not, filter, slice_get, if◌then◌else◌}
+use Rattle.std.specs.Prelude.{Option, not, filter, slice_get}
 use Rattle.std.specs.List.{list_all, AllByRecursion}
 use Rattle.std.specs.List.Sorted.{IsStrictlySortedBy}
 use Rattle.std.specs.declared.cmp.Ordering.TheVariants.{Less}
@@ -9,13 +9,13 @@ use Rattle.aj_paths.specs.Paths.{PathData, path_order}
 use Rattle.aj_algebra.specs.declared.basic.Basic.{Basic}
 use Rattle.aj_algebra.specs.Basics.{below_of}
 use Rattle.aj_algebra.specs.HeldPaths.{Held, has_path}
-use Rattle.aj_core.specs.Core.{Program, Method}
+use Rattle.aj_core.specs.Core.{Program}
 use Rattle.aj_core.specs.declared.program.CoreMethod.{CoreMethod}
 use Rattle.aj_core.specs.Views.{method_of}
 use Rattle.aj_rules.specs.Near.{MethodPaths, AreRelevant, rel_of, rel_paths}
 use Rattle.aj_blame.specs.Lines.{LineData, AreAscending, floor, run_effect}
 use Rattle.aj_blame.specs.Certificates.{keeps_bound}
-use Rattle.aj_blame.specs.Passes.{Cell, cells_in, cells_from, cells_of, parts_of, with_and_without, Written, by_tests, floor_at, up_at, line_for, pass, Passes, broke, still, again}
+use Rattle.aj_blame.specs.Passes.{Cell, cells_in, cells_from, cells_of, parts_of, Written, by_tests, floor_at, up_at, line_for, pass, Passes, broke, still, again}
 use Rattle.aj_blame.specs.Tables.{said_by, Says}
 use Rattle.aj_blame.specs.Ends.{cells_at, goes_on, IsAsked, Agrees, IsGoing}
 use Rattle.aj_blame.proofs.Cells.{each_with, each_filter, each_implies}

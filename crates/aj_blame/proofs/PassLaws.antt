@@ -1,22 +1,21 @@
 -- The passes: they end, in one way, and with a certificate exactly where no assignment is admissible.
-use Rattle.std.proofs.Common.{◌≡◌, ℕ, zero, suc, ◌+◌, ◌-◌, ◌*◌, ◌<◌, ◌≤◌, Bool, true, false, List, [], ◌∷◌, ◌++◌, length, Some, None, refl, sym, ap, subst, ◌∙◌, ◌↔◌, ◌⊎◌, inl, inr, arith}
-use Rattle.std.specs.Prelude.{Option, not, filter, slice_get, nat_lt}
-use Rattle.std.specs.List.{list_all, AllByRecursion}
+use Rattle.std.proofs.Common.{◌≡◌, ℕ, zero, suc, ◌+◌, ◌-◌, ◌≤◌, true, false, List, [], ◌∷◌, ◌++◌, length, Some, refl, sym, ap, subst, ◌∙◌, ◌↔◌, ◌⊎◌, inl, inr, arith}
+use Rattle.std.specs.Prelude.{not, slice_get, nat_lt}
+use Rattle.std.specs.List.{AllByRecursion}
 use Rattle.std.proofs.Common.{length-append}
-use Rattle.std.proofs.lemmas.Bool.{leb-true, leb-false, ltb-true, ltb-false, true_from_ne_false, false_from_ne_true, both_ways}
+use Rattle.std.proofs.lemmas.Bool.{leb-true, leb-false, ltb-true, ltb-false, true_from_ne_false, false_from_ne_true}
 use Rattle.aj_lemmas.proofs.Lists.{get_last}
 use Rattle.aj_paths.specs.Paths.{PathData}
 use Rattle.aj_algebra.specs.declared.basic.Basic.{Basic}
 use Rattle.aj_algebra.specs.Basics.{rank_of, below_of}
 use Rattle.aj_algebra.specs.HeldPaths.{Held, has_path}
 use Rattle.aj_core.specs.Core.{Program, Method}
-use Rattle.aj_core.specs.Dispatch.{Overrides}
 use Rattle.aj_rules.specs.Near.{MethodPaths, AreRelevant, AreFew, rel_of}
 use Rattle.aj_rules.specs.Effect.{Assignment, effect}
-use Rattle.aj_rules.specs.Rules.{IsPart, AtMost, IsFalling, held_in, IsClosed, IsAdmissible, IsAccepted}
+use Rattle.aj_rules.specs.Rules.{IsPart, AtMost, IsClosed, IsAdmissible, IsAccepted}
 use Rattle.aj_rules.proofs.BasicLemmas.{below_chain, below_itself, below_error}
-use Rattle.aj_blame.specs.Lines.{LineData, line_at, floor, body_effect, joined_over, overriding, up}
-use Rattle.aj_blame.specs.Certificates.{is_placed, is_justified, AreLines, IsCertificate, breaks, keeps_bound, bound_of}
+use Rattle.aj_blame.specs.Lines.{LineData, floor, body_effect, joined_over, overriding, up}
+use Rattle.aj_blame.specs.Certificates.{is_justified, AreLines, IsCertificate, breaks, keeps_bound, bound_of}
 use Rattle.aj_blame.specs.Passes.{Cell, cells_of, Written, by_tests, floor_at, up_at, line_for, pass, Passes, broke, still, again}
 use Rattle.aj_blame.proofs.Sets.{join_first, join_second}
 use Rattle.aj_blame.proofs.Over.{over_above}

@@ -1,14 +1,14 @@
 -- Rows of overriding methods: what is assigned to the methods of a row together.
-use Rattle.std.proofs.Common.{◌≡◌, ℕ, zero, suc, ◌+◌, ◌<◌, ◌⊎◌, List, [], ◌∷◌, ◌++◌, length, get_or, map, take, drop, refl, sym, ap, subst, ◌∙◌, arith, inl, inr}
+use Rattle.std.proofs.Common.{◌≡◌, ℕ, zero, suc, ◌+◌, ◌<◌, ◌⊎◌, List, [], ◌∷◌, ◌++◌, length, map, take, drop, refl, sym, ap, subst, ◌∙◌, arith, inl, inr}
 use Rattle.std.specs.Prelude.{Contains, slice_get}
 use Rattle.std.proofs.lemmas.List.{length-map}
 use Rattle.std.proofs.lemmas.Grind.{common_steps}
-use Rattle.aj_lemmas.proofs.Lists.{contains_cases, contains_later, next_drop}
+use Rattle.aj_lemmas.proofs.Lists.{contains_cases, contains_later}
 use Rattle.aj_fix.proofs.NoteLemmas.{contains_none}
 use Rattle.aj_paths.specs.Paths.{PathData}
 use Rattle.aj_algebra.specs.declared.basic.Basic.{Basic}
 use Rattle.aj_algebra.specs.Basics.{join_of}
-use Rattle.aj_algebra.specs.HeldPaths.{Held, has_path}
+use Rattle.aj_algebra.specs.HeldPaths.{Held}
 use Rattle.aj_core.specs.Core.{Program}
 use Rattle.aj_rules.specs.Search.{row_at}
 use Rattle.aj_rules.specs.Overriding.{AreOverriders}
@@ -16,7 +16,7 @@ use Rattle.aj_rules.specs.Effect.{Assignment}
 use Rattle.aj_rules.specs.Rules.{AtMost, held_in}
 use Rattle.aj_rules.proofs.BasicLemmas.{below_chain}
 use Rattle.aj_blame.specs.Lines.{overriding, joined_over, body_effect, run_effect}
-use Rattle.aj_blame.proofs.Sets.{below_const, join_least, join_first, join_second, both_below, join_assoc}
+use Rattle.aj_blame.proofs.Sets.{below_const, join_least, join_first, join_second, both_below}
 use Rattle.aj_blame.proofs.Over.{over_least, over_above}
 
 -- a place before one more is an earlier one or the last
@@ -55,15 +55,6 @@ module _ (rel : ℕ → List PathData) (A : Assignment) (H : Held) where
   row_same P rows m are = both_below _ _
       (list_least (row_at rows m) _ (λ n c. over_above P rel A m H n ((are m n).0 c)))
       (over_least P rel A m H _ (λ n o. list_above (row_at rows m) n ((are m n).1 o)))
-
--- one method more, joined to what was joined before
-pub joined_step : (rel : ℕ → List PathData) (A : Assignment) (H : Held) (methods : List ℕ) (k n : ℕ) (known : List PathData) (so_far at now whole : Basic) → k < length methods → n ≡ get_or methods k n → has_path known ≡ held_in (rel n) H → at ≡ A n (has_path known) → now ≡ join_of so_far at
-    → join_of so_far (joined_over rel A (drop k methods) H) ≡ whole → join_of now (joined_over rel A (drop (k + 1) methods) H) ≡ whole
-joined_step rel A H methods k n known so_far at now whole below is same value joined before =
-    let rest = joined_over rel A (drop (k + 1) methods) H in
-    let here : at ≡ A n (held_in (rel n) H) = value ∙ ap (A n) same in
-    ap (λ b. join_of b rest) joined ∙ join_assoc so_far at rest ∙ ap (λ b. join_of so_far (join_of b rest)) here
-    ∙ ap (λ ns. join_of so_far (joined_over rel A ns H)) (sym (next_drop methods k n below is)) ∙ before
 
 -- a method's body and what overrides it
 pub run_is : (P : Program) (rel : ℕ → List PathData) (A : Assignment) (H : Held) (rows : List (List ℕ)) (m : ℕ) (methods : List ℕ) (body others result : Basic) → AreOverriders P rows → methods ≡ row_at rows m

@@ -1,7 +1,6 @@
 -- Tables: what they say with const everywhere, and what they say after one of them was raised.
 use Rattle.std.proofs.Common.{◌≡◌, ℕ, zero, suc, ◌+◌, ◌<◌, ◌≤◌, ◌/◌, ◌⊎◌, Bool, true, false, ◌&&◌, ◌==◌, List, [], ◌∷◌, ◌++◌, length, take, drop, get_or, slice_get, slice_set, Some, None, refl, sym, ap, subst, ◌∙◌, arith, inl, inr}
-use Rattle.std.specs.Prelude.{Option, if◌then◌else◌}
-use Rattle.std.specs.List.{list_all}
+use Rattle.std.specs.Prelude.{if◌then◌else◌}
 use Rattle.std.proofs.lemmas.List.{length-append, length-take, length-drop}
 use Rattle.std.proofs.Math.Seq.{take-append_seam, drop-append_seam}
 use Rattle.std.proofs.lemmas.Option.{slice_get-get_or, slice_get_cases}
@@ -17,7 +16,7 @@ use Rattle.aj_rules.specs.Rules.{AtMost}
 use Rattle.aj_rules.proofs.BasicLemmas.{below_chain, join_mono, below_itself}
 use Rattle.aj_rules.proofs.SetLemmas.{first, second}
 use Rattle.aj_blame.specs.Lines.{LineData, covers, line_at, floor}
-use Rattle.aj_blame.specs.Tables.{front, half, entry, said_by, count_of_parts, consts, front_joined, raised, IsRaised, Says}
+use Rattle.aj_blame.specs.Tables.{half, entry, said_by, count_of_parts, consts, raised, IsRaised, Says}
 use Rattle.aj_blame.proofs.Sets.{join_least, join_first, join_second, both_below, join_const, choice_low, covers_part, part_covers}
 use Rattle.aj_blame.proofs.FloorLaws.{choice_falls, floor_more, floor_has, floor_both}
 

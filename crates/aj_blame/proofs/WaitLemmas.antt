@@ -1,15 +1,13 @@
 -- Methods that needn't be asked again: what is to be said of a method changes only where one that it calls, or that overrides it, is
 -- raised; and to ask where nothing new is to be said adds no line.
-use Rattle.std.proofs.Common.{◌≡◌, ℕ, zero, suc, ◌+◌, ◌<◌, ◌≤◌, ◌⊎◌, Bool, true, false, ◌||◌, ◌&&◌, ◌==◌, List, [], ◌∷◌, ◌++◌, length, take, get_or, slice_get, slice_set, Some, None, refl, sym, ap, subst, ◌∙◌, arith, inl, inr, append_assoc, append-nil}
+use Rattle.std.proofs.Common.{◌≡◌, ℕ, zero, suc, ◌+◌, ◌-◌, ◌<◌, ◌≤◌, Bool, true, false, ◌||◌, ◌&&◌, ◌==◌, List, [], ◌∷◌, ◌++◌, length, take, drop, get_or, slice_get, Some, None, refl, sym, ap, subst, ◌∙◌, arith, append_assoc, append-nil}
 use Rattle.std.specs.Prelude.{Option, filter, map, if◌then◌else◌}
 use Rattle.std.specs.List.{list_all, AllByRecursion}
 use Rattle.std.proofs.Common.{length-append}
-use Rattle.std.proofs.lemmas.Bool.{eqb-true, eqb-false, ne_eqb, eq-eqb, false_from_ne_true, both_ways}
-use Rattle.std.proofs.lemmas.List.{take_more, length-set}
-use Rattle.std.proofs.lemmas.Option.{same_Some, slice_get_within}
-use Rattle.aj_fix.proofs.NoteLemmas.{set_here, set_at}
+use Rattle.std.proofs.lemmas.Bool.{eqb-true, eqb-false, ne_eqb, false_from_ne_true, both_ways}
+use Rattle.std.proofs.lemmas.Grind.{common_steps}
+use Rattle.std.proofs.lemmas.List.{take_more, length-drop}
 use Rattle.aj_paths.specs.Paths.{PathData}
-use Rattle.aj_algebra.specs.declared.basic.Basic.{Basic}
 use Rattle.aj_algebra.specs.declared.basic.Basic.TheVariants.{Const}
 use Rattle.aj_algebra.specs.Basics.{below_of, join_of}
 use Rattle.aj_algebra.specs.HeldPaths.{Held, has_path}
@@ -17,16 +15,16 @@ use Rattle.aj_core.specs.Core.{Program, Method}
 use Rattle.aj_core.specs.Dispatch.{Overrides}
 use Rattle.aj_rules.specs.Search.{row_at as overs_at}
 use Rattle.aj_rules.specs.Overriding.{AreOverriders}
-use Rattle.aj_rules.specs.Effect.{Assignment, effect}
+use Rattle.aj_rules.specs.Effect.{Assignment}
 use Rattle.aj_rules.specs.Rules.{AtMost, held_in}
-use Rattle.aj_rules.proofs.BasicLemmas.{below_chain, below_itself}
+use Rattle.aj_rules.proofs.BasicLemmas.{below_chain}
 use Rattle.aj_callers.specs.Called.{stmt_calls, has_method, method_calls, calls, row_at, AreCallers}
 use Rattle.aj_callers.proofs.CallsSame.{first_false, second_false, stmt_same}
 use Rattle.aj_callers.proofs.CalleeLemmas.{contained}
-use Rattle.aj_blame.specs.Lines.{LineData, covers, line_at, floor, overriding, joined_over, body_effect, run_effect}
+use Rattle.aj_blame.specs.Lines.{LineData, covers, floor, overriding, joined_over, body_effect, run_effect}
 use Rattle.aj_blame.specs.Certificates.{keeps_bound}
-use Rattle.aj_blame.specs.Passes.{Cell, cells_in, parts_of, Written, by_tests, floor_at, up_at, line_for, pass}
-use Rattle.aj_blame.specs.Ends.{IsAsked, goes_on}
+use Rattle.aj_blame.specs.Passes.{Cell, cells_in, cells_from, parts_of, Written, by_tests, floor_at, up_at, line_for, pass}
+use Rattle.aj_blame.specs.Ends.{IsAsked}
 use Rattle.aj_blame.specs.Waiting.{Adds, AreSaid, cells_with, AreSettled, AreWoken, IsAsleep}
 use Rattle.aj_blame.proofs.Sets.{both_below, join_const}
 use Rattle.aj_blame.proofs.Over.{over_least, over_above}
@@ -59,6 +57,9 @@ adds_nothing m old new adds same = by adds.more adds.are
     by : (more : List LineData) → new ≡ old ++ more → new ≡ old
     by [] is = is ∙ append-nil old
     by (x ∷ xs) is = let l = length-append old (x ∷ xs) in let long = ap length is in absurd (omega (arith, l, long, same))
+
+drop_both : {A : Type 0} (xs : List A) (n k : ℕ) → drop k (drop n xs) ≡ drop (n + k) xs
+drop_both xs n k = grind (arith, common_steps)
 
 module _ (P : Program) (rel : ℕ → List PathData) where
   -- to ask where nothing new is to be said adds no line
@@ -182,38 +183,43 @@ module _ (P : Program) (rel : ℕ → List PathData) where
       by true e = subst (λ k. AreSaid P rel (cells_with rel k (slice_get P.methods k)) ls) (sym (eqb-true n m e)) (subst (λ o. AreSaid P rel (cells_with rel m o) ls) (sym is) said)
       by false e = settled n (sleeps n asleep (eqb-false n m e))
 
-  -- a method that doesn't wait
-  pub settled_method : (m : ℕ) (method : Method) (ls : List LineData) (waits : List Bool) → slice_get P.methods m ≡ Some method → AreSettled P rel ls waits → slice_get waits m ≡ Some false → IsAsked P rel (cells_in m method.requires_ (parts_of (rel m))) ls ls false
-  settled_method m method ls waits is settled asleep = said_asked (cells_in m method.requires_ (parts_of (rel m))) ls (subst (λ o. AreSaid P rel (cells_with rel m o) ls) is (settled m asleep))
+  -- methods that don't wait are passed over
+  skip_in : (ms : List Method) (n k : ℕ) (ls : List LineData) → ((j : ℕ) (x : Method) → j < k → slice_get ms j ≡ Some x → AreSaid P rel (cells_in (n + j) x.requires_ (parts_of (rel (n + j)))) ls) → k ≤ length ms
+      → pass P rel (cells_from rel n ms) ls ≡ pass P rel (cells_from rel (n + k) (drop k ms)) ls
+  skip_in ms n zero ls said le = ap (λ x. pass P rel (cells_from rel x ms) ls) (let e : n ≡ n + 0 = omega arith in e)
+  skip_in [] n (suc k) ls said le = absurd (omega (arith, le))
+  skip_in (x ∷ ms) n (suc k) ls said le =
+      let first : AreSaid P rel (cells_in n x.requires_ (parts_of (rel n))) ls =
+      subst (λ i. AreSaid P rel (cells_in i x.requires_ (parts_of (rel i))) ls) (let e : n + 0 ≡ n = omega arith in e) (said 0 x (omega arith) refl) in
+      said_asked (cells_in n x.requires_ (parts_of (rel n))) ls first (cells_from rel (n + 1) ms)
+      ∙ skip_in ms (n + 1) k ls
+      (λ j y less e. subst (λ i. AreSaid P rel (cells_in i y.requires_ (parts_of (rel i))) ls) (let f : n + suc j ≡ n + 1 + j = omega arith in f) (said (suc j) y (omega (arith, less)) e))
+      (omega (arith, le))
+      ∙ ap (λ i. pass P rel (cells_from rel i (drop k ms)) ls) (let f : n + 1 + k ≡ n + suc k = omega arith in f)
+
+  get_drop : (xs : List Method) (n j m : ℕ) → m ≡ n + j → slice_get (drop n xs) j ≡ slice_get xs m
+  get_drop xs zero j m e = ap (slice_get xs) (let f : j ≡ m = omega (arith, e) in f)
+  get_drop [] (suc n) j m e = refl
+  get_drop (x ∷ xs) (suc n) j zero e = absurd (omega (arith, e))
+  get_drop (x ∷ xs) (suc n) j (suc m) e = get_drop xs n j m (omega (arith, e))
+
+  pub skip_settled : (ls : List LineData) (waits : List Bool) (from to : ℕ) → AreSettled P rel ls waits → from ≤ to → to ≤ length P.methods → ((m : ℕ) → from ≤ m → m < to → slice_get waits m ≡ Some false)
+      → pass P rel (cells_from rel from (drop from P.methods)) ls ≡ pass P rel (cells_from rel to (drop to P.methods)) ls
+  skip_settled ls waits from to settled le within asleep =
+      let k = to - from in
+      let at_end : from + k ≡ to = omega (arith, le) in
+      let l = length-drop from P.methods in
+      skip_in (drop from P.methods) from k ls
+      (λ j x less e. subst (λ o. AreSaid P rel (cells_with rel (from + j) o) ls) (sym (get_drop P.methods from j (from + j) refl) ∙ e)
+      (settled (from + j) (asleep (from + j) (omega arith) (omega (arith, less, le)))))
+      (omega (arith, l, le, within))
+      ∙ ap (λ ms. pass P rel (cells_from rel (from + k) ms) ls) (drop_both P.methods from k)
+      ∙ ap (λ i. pass P rel (cells_from rel i (drop i P.methods)) ls) at_end
 
 -- Marks.
 
 pub none_settled : (P : Program) (rel : ℕ → List PathData) (ls : List LineData) (waits : List Bool) → ((m : ℕ) → slice_get waits m ≡ Some false → ⊥) → AreSettled P rel ls waits
 none_settled P rel ls waits all m asleep = absurd (all m asleep)
-
-pub all_wait_more : (waits : List Bool) → ((m : ℕ) → slice_get waits m ≡ Some false → ⊥) → (m : ℕ) → slice_get (waits ++ true ∷ []) m ≡ Some false → ⊥
-all_wait_more [] all zero e = absurd (let f : true ≡ false = same_Some true false e in cc)
-all_wait_more [] all (suc m) e = absurd (let f : slice_get [] m ≡ Some false = e in cc)
-all_wait_more (b ∷ waits) all zero e = all 0 e
-all_wait_more (b ∷ waits) all (suc m) e = all_wait_more waits (λ k. all (suc k)) m e
-
-pub woken_one : (waits : List Bool) (place : ℕ) → place < length waits → AreWoken waits (slice_set waits place true) (place ∷ [])
-woken_one waits place below m e = elim (set_at waits place true m) as (λ _. (slice_get waits m ≡ Some false) × (has_method (place ∷ []) m ≡ false)) [
-  | inl here ↦ absurd (let f : true ≡ false = same_Some true false (sym here.1 ∙ e) in cc)
-  | inr other ↦ (sym other ∙ e, apart (place == m) refl)
-]
-  where
-    apart : (b : Bool) → (place == m) ≡ b → (b || false) ≡ false
-    apart true same = absurd (let f : true ≡ false = same_Some true false (sym (set_here waits place true below) ∙ ap (slice_get (slice_set waits place true)) (eqb-true place m same) ∙ e) in cc)
-    apart false other = refl
-
--- a place that isn't there wakes nobody
-pub woken_past : (waits : List Bool) (place : ℕ) → length waits ≤ place → AreWoken waits waits (place ∷ [])
-woken_past waits place past m e = (e, apart (place == m) refl)
-  where
-    apart : (b : Bool) → (place == m) ≡ b → (b || false) ≡ false
-    apart true same = absurd (omega (arith, past, slice_get_within waits m false e, eqb-true place m same))
-    apart false other = refl
 
 pub woken_none : (waits : List Bool) → AreWoken waits waits []
 woken_none waits m e = (e, refl)
@@ -243,9 +249,3 @@ woken_all waits now methods k past woken = subst (AreWoken waits now) (whole met
     whole [] (suc k) h = refl
     whole (x ∷ xs) zero h = absurd (omega (arith, h))
     whole (x ∷ xs) (suc k) h = ap (λ ys. x ∷ ys) (whole xs k (omega (arith, h)))
-
-pub asleep_set : (waits : List Bool) (place method : ℕ) → place ≡ method → IsAsleep waits (slice_set waits place false) method
-asleep_set waits place method is m e other = elim (set_at waits place false m) as (λ _. slice_get waits m ≡ Some false) [
-  | inl here ↦ absurd (other (sym here.0 ∙ is))
-  | inr same ↦ sym same ∙ e
-]

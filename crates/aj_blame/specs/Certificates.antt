@@ -7,7 +7,7 @@ use Rattle.aj_algebra.specs.declared.basic.Basic.TheVariants.{Error}
 use Rattle.aj_algebra.specs.Basics.{below_of}
 use Rattle.aj_algebra.specs.HeldPaths.{has_path}
 use Rattle.aj_core.specs.Core.{Program, Method}
-use Rattle.aj_rules.specs.Rules.{AtMost, declared_bound}
+use Rattle.aj_rules.specs.Rules.{declared_bound}
 use Rattle.aj_blame.specs.Lines.{LineData, up}
 
 -- the paths are relevant ones, and have the required ones of the method, which is there

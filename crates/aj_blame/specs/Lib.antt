@@ -6,3 +6,4 @@ pub mod Tables
 pub mod Wrongs
 pub mod Ends
 pub mod Waiting
+pub mod ShortPaths

@@ -1,6 +1,6 @@
 -- Which methods wait to be asked: a method has something new to be said of it only where one that it calls, or that overrides it, was
 -- raised since it was asked last.
-use Rattle.std.specs.Prelude.{◌≡◌, ℕ, Bool, true, false, List, [], ◌++◌, Option, Some, None, slice_get}
+use Rattle.std.specs.Prelude.{◌≡◌, ℕ, ◌<◌, ◌≤◌, Bool, true, false, List, [], ◌++◌, length, Option, Some, None, slice_get}
 use Rattle.std.specs.List.{AllByRecursion}
 use Rattle.aj_paths.specs.Paths.{PathData}
 use Rattle.aj_algebra.specs.Basics.{below_of}
@@ -35,3 +35,9 @@ AreWoken old new methods = (m : ℕ) → slice_get new m ≡ Some false → (sli
 -- who doesn't wait now didn't before, or is this one
 abbrev pub IsAsleep : (old new : List Bool) → ℕ → Type 0
 IsAsleep old new method = (m : ℕ) → slice_get new m ≡ Some false → (m ≡ method → ⊥) → slice_get old m ≡ Some false
+
+-- who waits stands from the first of these places on and before the second
+pub record WaitWithin (waits : List Bool) (first end : ℕ) : Type 0 where
+  pub starts : first ≤ length waits
+  pub ends : end ≤ length waits
+  pub each : (m : ℕ) → slice_get waits m ≡ Some true → (first ≤ m) × (m < end)

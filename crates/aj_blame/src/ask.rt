@@ -14,10 +14,10 @@ use crate::check::keeps_bound;
 use crate::floors::Floors;
 use crate::line::Line;
 use crate::parts::{HeldSet, parts_with};
+use crate::short_path::packed;
 use crate::up::run_effect;
 use aj_core::{CoreMethod, CoreProgram};
 use aj_effect_at::Assigned;
-use aj_held_lists::copied;
 use aj_paths::{MethodId, Path};
 use aj_rules::{OverridingMethods, RelevantSets};
 use std::alloc::{AllocError as NoMemory, Global};
@@ -46,14 +46,13 @@ fn ask(
     if found.below(floors.at(method, held)) {
         return Ok(false);
     }
-    let held = copied(alloc, held)?;
-    let line = Line {
+    let short = packed(alloc, held)?;
+    floors.add(method, held, found);
+    lines.push(Line {
         method,
         found,
-        held,
-    };
-    floors.add(&line);
-    lines.push(line)?;
+        held: short,
+    })?;
     Ok(!keeps_bound(program, method, found))
 }
 

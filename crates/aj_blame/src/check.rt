@@ -12,12 +12,12 @@ ghost use Rattle.aj_blame.specs.Wrongs.{AllPass, IsFirstFailing, IsWrong, justif
 
 use crate::floors::Floors;
 use crate::line::{Blame, Line};
+use crate::short_path::{are_among, are_held, unpacked};
 use crate::up::run_effect;
 use crate::work::Work;
 use aj_algebra::Basic;
 use aj_core::CoreProgram;
 use aj_effect_at::Assigned;
-use aj_held_lists::has_all;
 use aj_paths::MethodId;
 use aj_rules::{OverridingMethods, RelevantSets, overriders};
 use std::alloc::{AllocError, AllocError as NoMemory, Global};
@@ -52,8 +52,8 @@ fn is_placed(program: &CoreProgram, sets: &RelevantSets, line: &Line) -> bool
 {
     match program.methods().get(line.method.0 as usize) {
         Some(method) => {
-            has_all(sets.rel(line.method), line.held.as_slice())
-                && has_all(line.held.as_slice(), method.requires_.as_slice())
+            are_among(line.held.as_slice(), sets.rel(line.method))
+                && are_held(line.held.as_slice(), method.requires_.as_slice())
         }
         None => false,
     }
@@ -121,7 +121,8 @@ fn follows(
         (before : List LineData) → floors.old.sets.now ≡ sets.now → Says rel floors.old.tables.items before → AreLines P rel before → is_placed P rel line.now ≡ true →
         IfOk result (λ b. (b ≡ is_justified P rel before line.now) × (b ≡ true → Says rel floors.new.tables.items (before ++ line.now ∷ []))) }
 {
-    let held = line.held.as_slice();
+    let paths = unpacked(alloc, line.held.as_slice())?;
+    let held = paths.as_slice();
     if line.found.below(floors.at(line.method, held)) {
         return Ok(true);
     }
@@ -130,7 +131,7 @@ fn follows(
     if !line.found.below(found) {
         return Ok(false);
     }
-    floors.add(line);
+    floors.add(line.method, held, line.found);
     Ok(true)
 }
 

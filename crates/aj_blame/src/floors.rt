@@ -6,7 +6,6 @@ ghost use Rattle.aj_rules.specs.Search.{row_at};
 ghost use Rattle.aj_blame.specs.Lines.{LineData};
 ghost use Rattle.aj_blame.specs.Tables.{IsRaised, Says, consts, entry, front, half, raised};
 
-use crate::line::Line;
 use aj_algebra::Basic;
 use aj_effect_at::Assigned;
 use aj_held_lists::has;
@@ -154,20 +153,15 @@ fn place_of(method: MethodId) -> usize
     method.0 as usize
 }
 
-/// Raises the table of the line's method, which has one.
-fn raise_table(rel: &[Path], tables: &mut [Table], line: &Line)
-    requires { line.now.method < length tables.old }
+/// Raises the table of a method, which has one, where these paths are held.
+fn raise_table(rel: &[Path], tables: &mut [Table], method: MethodId, held: &[Path], found: Basic)
+    requires { method < length tables.old }
     ensures size { length tables.new ≡ length tables.old }
-    ensures raised { IsRaised rel.now tables.old tables.new line.now }
+    ensures raised { IsRaised rel.now tables.old tables.new (record { method = method; found = found; held = held.now }) }
 {
-    let place = place_of(line.method);
+    let place = place_of(method);
     let table = &mut tables[place];
-    raise(
-        rel,
-        line.held.as_slice(),
-        line.found,
-        table.basics.as_mut_slice(),
-    );
+    raise(rel, held, found, table.basics.as_mut_slice());
 }
 
 impl<'a> Floors<'a> {
@@ -181,15 +175,15 @@ impl<'a> Floors<'a> {
         Ok(Floors { sets, tables })
     }
 
-    /// What the lines say with one more behind them, whose method has a table.
-    pub fn add(&mut self, line: &Line)
-        requires { line.now.method < length self.old.tables.items }
+    /// What the lines say with one more behind them: that the method, which has a table, is at least so much where these paths are held.
+    pub fn add(&mut self, method: MethodId, held: &[Path], found: Basic)
+        requires { method < length self.old.tables.items }
         ensures sets { self.new.sets.now ≡ self.old.sets.now }
         ensures size { length self.new.tables.items ≡ length self.old.tables.items }
         ensures says { (lines : List LineData) → Says (rel_of self.old.sets.now) self.old.tables.items lines →
-            Says (rel_of self.new.sets.now) self.new.tables.items (lines ++ line.now ∷ []) }
+            Says (rel_of self.new.sets.now) self.new.tables.items (lines ++ record { method = method; found = found; held = held.now } ∷ []) }
     {
-        let rel = self.sets.rel(line.method);
-        raise_table(rel, self.tables.as_mut_slice(), line);
+        let rel = self.sets.rel(method);
+        raise_table(rel, self.tables.as_mut_slice(), method, held, found);
     }
 }

@@ -9,11 +9,14 @@ mod laws;
 mod line;
 mod parts;
 mod passes;
+mod short_path;
 mod up;
 mod waiting;
+mod waits;
 mod work;
 
 pub use check::{BlameWrong, check_blame};
 pub use laws::{certificates_refute, overriding_is_exact, passes_decide};
 pub use line::{Blame, Line};
 pub use passes::{BlameEnd, blame};
+pub use short_path::ShortPath;

@@ -2,8 +2,9 @@
 ghost use Rattle.std.specs.Prelude.{◌≡◌};
 ghost use Rattle.aj_blame.specs.Lines.{AreAscending};
 
+use crate::short_path::ShortPath;
 use aj_algebra::Basic;
-use aj_paths::{MethodId, Path};
+use aj_paths::MethodId;
 use std::marker::Model;
 
 /// Where these paths are held, this method is at least this basic. The paths ascend.
@@ -11,7 +12,7 @@ use std::marker::Model;
 pub struct Line {
     pub method: MethodId,
     pub found: Basic,
-    pub held: Vec<Path>,
+    pub held: Vec<ShortPath>,
 }
 
 impl Model for Line {

@@ -12,7 +12,8 @@ ghost use Rattle.aj_blame.specs.Waiting.{AreSettled};
 
 use crate::floors::Floors;
 use crate::line::{Blame, Line};
-use crate::waiting::{all_wait, ask_noting, does_wait};
+use crate::waiting::ask_noting;
+use crate::waits::Waits;
 use aj_callers::{Row, callers_of};
 use aj_core::CoreProgram;
 use aj_paths::MethodId;
@@ -49,7 +50,7 @@ fn pass(
     callers: &[Row],
     floors: &mut Floors<'_>,
     lines: &mut Vec<Line>,
-    waits: &mut [bool],
+    waits: &mut Waits,
 ) -> Result<bool, NoMemory>
     requires few { length (program_of program.now).methods ≤ 2 ^ 32 }
     requires over { AreOverriders (program_of program.now) over.now }
@@ -66,17 +67,16 @@ fn pass(
         pass P rel (cells_of P rel) lines.old.items ≡ record { all = lines.new.items; broken = broken }) }
 {
     let methods = program.methods();
-    for place in 0..methods.len() {
-        let method = &methods[place];
-        if !does_wait(waits, place) {
-            continue;
-        }
+    let mut place = waits.next(0);
+    while place < methods.len() {
         let id = MethodId(place as u32);
+        let method = &methods[place];
         if ask_noting(
             alloc, program, sets, over, callers, floors, lines, waits, id, method,
         )? {
             return Ok(true);
         }
+        place = waits.next(place + 1);
     }
     Ok(false)
 }
@@ -91,7 +91,7 @@ fn passes(
     callers: &[Row],
     floors: &mut Floors<'_>,
     lines: &mut Vec<Line>,
-    waits: &mut [bool],
+    waits: &mut Waits,
 ) -> Result<bool, NoMemory>
     requires few { length (program_of program.now).methods ≤ 2 ^ 32 }
     requires over { AreOverriders (program_of program.now) over.now }
@@ -107,6 +107,7 @@ fn passes(
 {
     loop {
         let before = lines.len();
+        waits.narrow();
         if pass(alloc, program, sets, over, callers, floors, lines, waits)? {
             return Ok(true);
         }
@@ -136,7 +137,7 @@ pub fn blame(alloc: Global, program: &CoreProgram, sets: &RelevantSets) -> Resul
     let callers = callers_of(alloc, program, &over)?;
     let count = program.methods().len();
     let mut floors = Floors::new(alloc, sets, count)?;
-    let mut waits = all_wait(alloc, count)?;
+    let mut waits = Waits::all(alloc, count)?;
     let mut lines = Vec::new(alloc);
     if passes(
         alloc,
@@ -146,7 +147,7 @@ pub fn blame(alloc: Global, program: &CoreProgram, sets: &RelevantSets) -> Resul
         callers.as_slice(),
         &mut floors,
         &mut lines,
-        waits.as_mut_slice(),
+        &mut waits,
     )? {
         Ok(Blame { lines })
     } else {

@@ -1,5 +1,5 @@
-//! Which methods wait to be asked.
-ghost use Rattle.std.specs.Prelude.{◌≡◌, ◌<◌, ◌∷◌, [], ℕ, length, Some, IfOk, OnOk, false, slice_get};
+//! Asking one method, and which methods wait then.
+ghost use Rattle.std.specs.Prelude.{◌≡◌, ◌<◌, ◌≤◌, ◌∷◌, [], ℕ, length, Some, IfOk, OnOk, false, slice_get};
 ghost use Rattle.aj_core.specs.Views.{program_of, method_of};
 ghost use Rattle.aj_rules.specs.Near.{AreRelevant, rel_of};
 ghost use Rattle.aj_rules.specs.Overriding.{AreOverriders};
@@ -12,61 +12,21 @@ ghost use Rattle.aj_blame.specs.Waiting.{AreSettled, AreWoken, IsAsleep};
 use crate::ask::ask_method;
 use crate::floors::Floors;
 use crate::line::Line;
+use crate::waits::Waits;
 use aj_callers::Row;
 use aj_core::{CoreMethod, CoreProgram};
 use aj_paths::MethodId;
 use aj_rules::{OverridingMethods, RelevantSets};
 use std::alloc::{AllocError as NoMemory, Global};
 
-/// So many methods that all wait.
-pub(crate) fn all_wait(alloc: Global, count: usize) -> Result<Vec<bool>, NoMemory>
-    ensures size { IfOk result (λ waits. length waits.items ≡ count) }
-    ensures wait { IfOk result (λ waits. (m : ℕ) → slice_get waits.items m ≡ Some false → ⊥) }
-{
-    let mut waits = Vec::with_capacity(alloc, count)?;
-    for _ in 0..count {
-        waits.push(true)?;
-    }
-    Ok(waits)
-}
-
-/// Whether a method waits; so does one that isn't there.
-pub(crate) fn does_wait(waits: &[bool], method: usize) -> bool
-    ensures { result ≡ false → slice_get waits.now method ≡ Some false }
-{
-    match waits.get(method) {
-        Some(waits) => *waits,
-        None => true,
-    }
-}
-
-/// Lets one method wait, if it is there.
-fn wake_one(waits: &mut [bool], method: usize)
-    ensures size { length waits.new ≡ length waits.old }
-    ensures woken { AreWoken waits.old waits.new (method ∷ []) }
-{
-    if method < waits.len() {
-        waits[method] = true;
-    }
-}
-
 /// Lets methods wait.
-fn wake(waits: &mut [bool], methods: &[usize])
+fn wake(waits: &mut Waits, methods: &[usize])
     ensures size { length waits.new ≡ length waits.old }
     ensures woken { AreWoken waits.old waits.new methods.now }
 {
     for method in methods {
-        wake_one(waits, *method);
+        waits.wake(*method);
     }
-}
-
-/// Lets one method, which is there, wait no longer.
-fn sleep(waits: &mut [bool], method: usize)
-    requires { method < length waits.old }
-    ensures size { length waits.new ≡ length waits.old }
-    ensures asleep { IsAsleep waits.old waits.new method }
-{
-    waits[method] = false;
 }
 
 /// The callers of the method at a place; none where there is no such row.
@@ -89,7 +49,7 @@ pub(crate) fn ask_noting(
     callers: &[Row],
     floors: &mut Floors<'_>,
     lines: &mut Vec<Line>,
-    waits: &mut [bool],
+    waits: &mut Waits,
     id: MethodId,
     method: &CoreMethod,
 ) -> Result<bool, NoMemory>
@@ -113,7 +73,7 @@ pub(crate) fn ask_noting(
     }
     let place = id.0 as usize;
     if lines.len() == before {
-        sleep(waits, place);
+        waits.sleep(place);
         return Ok(false);
     }
     wake(waits, callers_at(callers, place));

@@ -1,5 +1,5 @@
 -- Held paths: what is read of them, and one more of them.
-use Rattle.std.proofs.Common.{◌≡◌, ℕ, zero, suc, ◌<◌, ◌≤◌, Bool, true, false, List, [], ◌∷◌, ◌++◌, length, length-append, codes, decimal, ◌^◌, Some, None, Ok, Err, refl, sym, ◌∙◌, ap, subst, arith, append_assoc, append-nil}
+use Rattle.std.proofs.Common.{◌≡◌, ℕ, zero, suc, ◌<◌, ◌≤◌, true, false, List, [], ◌∷◌, ◌++◌, length, length-append, codes, decimal, ◌^◌, Some, None, Ok, Err, refl, sym, ◌∙◌, ap, subst, arith, append_assoc, append-nil}
 use Rattle.std.specs.Prelude.{Option, if◌then◌else◌}
 use Rattle.std.specs.List.{AllByRecursion}
 use Rattle.std.specs.List.Sorted.{IsStrictlySortedBy}
@@ -13,7 +13,7 @@ use Rattle.aj_book_grammar.specs.declared.stop.Kind.{Kind}
 use Rattle.aj_book_grammar.specs.declared.stop.Kind.TheVariants.{Form}
 use Rattle.aj_book_grammar.specs.Books.{IsPath, is_less, comes_after}
 use Rattle.aj_book_grammar.specs.Combine.{Res, ◌>>=◌, unread, begins, expect}
-use Rattle.aj_book_grammar.specs.Reading.{number_at, path_at, fields_at}
+use Rattle.aj_book_grammar.specs.Reading.{number_at, path_at}
 use Rattle.aj_book_grammar.specs.Views.{after_those}
 use Rattle.aj_book_grammar.proofs.BookLaws.{sound_ok}
 use Rattle.aj_book_grammar.proofs.Complete.{stops, complete_number, complete_fields}

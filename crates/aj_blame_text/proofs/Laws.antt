@@ -1,9 +1,6 @@
 -- Whole texts: each has one list of lines, or one first fault.
-use Rattle.std.proofs.Common.{◌≡◌, ℕ, zero, suc, ◌-◌, ◌<◌, ◌≤◌, ◌^◌, true, false, List, [], ◌∷◌, ◌++◌, length, codes, decimal, Some, None, Ok, Err, refl, sym, ◌∙◌, ap, subst, arith, append_assoc, append-nil}
-use Rattle.std.specs.Prelude.{Option}
+use Rattle.std.proofs.Common.{◌≡◌, ℕ, ◌-◌, ◌<◌, ◌^◌, List, [], ◌∷◌, ◌++◌, length, codes, decimal, Some, None, Ok, Err, refl, sym, ◌∙◌, ap, subst, arith, append_assoc, append-nil}
 use Rattle.std.specs.List.{AllByRecursion}
-use Rattle.std.specs.List.Sorted.{IsStrictlySortedBy}
-use Rattle.aj_paths.specs.Paths.{path_order}
 use Rattle.aj_book_grammar.specs.declared.stop.Kind.{Kind}
 use Rattle.aj_book_grammar.specs.Texts.{newline}
 use Rattle.aj_book_grammar.specs.Combine.{Res, ◌>>=◌, unread, expect, exactly}

@@ -1,14 +1,12 @@
 -- Lines of a text: what is read of them, passing over them, and one more of them.
-use Rattle.std.proofs.Common.{◌≡◌, ℕ, zero, suc, ◌-◌, ◌<◌, ◌≤◌, ◌^◌, true, false, List, [], ◌∷◌, ◌++◌, length, codes, decimal, None, Ok, Err, refl, sym, ◌∙◌, ap, arith, append_assoc, append-nil}
+use Rattle.std.proofs.Common.{◌≡◌, ℕ, zero, suc, ◌-◌, ◌<◌, ◌^◌, List, [], ◌∷◌, ◌++◌, length, codes, decimal, None, Ok, Err, refl, sym, ◌∙◌, ap, arith, append_assoc, append-nil}
 use Rattle.std.specs.List.{AllByRecursion}
-use Rattle.aj_algebra.specs.declared.basic.Basic.TheVariants as b
-use Rattle.aj_algebra.specs.declared.basic.Basic.{Basic}
 use Rattle.aj_algebra.specs.Basics.{name_of}
 use Rattle.aj_book_grammar.specs.Texts.{newline}
-use Rattle.aj_book_grammar.specs.Combine.{Res, ◌>>=◌, unread, begins, expect, exactly}
+use Rattle.aj_book_grammar.specs.Combine.{Res, ◌>>=◌, unread, expect, exactly}
 use Rattle.aj_book_grammar.specs.Reading.{number_at, leaf_at}
 use Rattle.aj_book_grammar.specs.Views.{after_those}
-use Rattle.aj_book_grammar.proofs.Complete.{stops, complete_number, complete_leaf}
+use Rattle.aj_book_grammar.proofs.Complete.{complete_number, complete_leaf}
 use Rattle.aj_book_grammar.proofs.PassLemmas.{pass_seq, pass_same}
 use Rattle.aj_book_grammar.proofs.Sound.{SoundAt, Bytes, Spells, IsNumber, Row, row_end, row_more, sound_seq, sound_expect, sound_number}
 use Rattle.aj_book_grammar.proofs.SoundTrees.{sound_leaf}
@@ -17,7 +15,7 @@ use Rattle.aj_blame.specs.Lines.{LineData}
 use Rattle.aj_blame_text.specs.Reading.{held_at, line_at}
 use Rattle.aj_blame_text.specs.Passing.{pass_line, pass_lines}
 use Rattle.aj_blame_text.specs.Texts.{held_text, line_text, lines_text, IsLine}
-use Rattle.aj_blame_text.proofs.Held.{ReadsHeld, sound_held, ascends_sorted, sorted_after_none, complete_held, held_stops}
+use Rattle.aj_blame_text.proofs.Held.{ReadsHeld, sound_held, ascends_sorted, sorted_after_none, complete_held}
 
 -- a line that was read
 abbrev pub ReadsLine : List ℕ → LineData → Type 0

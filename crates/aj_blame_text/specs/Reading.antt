@@ -1,6 +1,6 @@
 -- How the text of a list of lines is read, part by part, from its first byte on: a part that goes on with a byte that no such text has
 -- there, or that ends too early, stops at that byte; a number out of range and a path that doesn't ascend stop at their first bytes.
-use Rattle.std.specs.Prelude.{◌≡◌, ℕ, zero, suc, ◌-◌, ◌^◌, List, [], ◌∷◌, ◌++◌, length, codes, Option, Some, None, Ok, Err, if◌then◌else◌}
+use Rattle.std.specs.Prelude.{ℕ, zero, suc, ◌-◌, ◌^◌, List, [], ◌∷◌, ◌++◌, length, codes, Option, Some, None, Ok, Err, if◌then◌else◌}
 use Rattle.aj_paths.specs.Paths.{PathData}
 use Rattle.aj_book_grammar.specs.declared.stop.Kind.TheVariants.{Form}
 use Rattle.aj_book_grammar.specs.Books.{comes_after}

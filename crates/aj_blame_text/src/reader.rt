@@ -8,7 +8,7 @@ ghost use Rattle.aj_blame_text.specs.declared.reader.BlameFault.TheVariants as f
 
 use crate::front::{count, item, last};
 use crate::skip;
-use aj_blame::{Blame, Line};
+use aj_blame::{Blame, Line, ShortPath};
 use aj_book_grammar::{NUMBERS_END, Unbuilt, begins, expect_byte, leaf, number};
 use aj_paths::{MethodId, Path};
 use std::alloc::Global;
@@ -36,7 +36,7 @@ fn blanks(text: &[u8]) -> usize {
 
 /// The held paths that a text begins with. Room for them is asked for at once, since a list that grows takes up to twice as much.
 #[tactic(auto, using(crate::proofs::Held::held_pushed, crate::proofs::Held::held_built, crate::proofs::Held::item_shorter, crate::proofs::Held::held_started))]
-fn held<'a>(alloc: Global, text: &'a [u8]) -> Result<(Vec<Path>, &'a [u8]), Unbuilt>
+fn held<'a>(alloc: Global, text: &'a [u8]) -> Result<(Vec<ShortPath>, &'a [u8]), Unbuilt>
     ensures { IfOk result (λ x. held_at None text.now ≡ Ok (x.0.items, x.1.now)) }
 {
     let mut built = Vec::with_capacity(alloc, blanks(text))?;
@@ -44,7 +44,7 @@ fn held<'a>(alloc: Global, text: &'a [u8]) -> Result<(Vec<Path>, &'a [u8]), Unbu
     let mut before: Option<Path> = None;
     while begins(rest, b' ') {
         let (path, behind) = item(rest, before.as_ref())?;
-        built.push(path.copy())?;
+        built.push(ShortPath::of(&path))?;
         before = Some(path);
         rest = behind;
     }

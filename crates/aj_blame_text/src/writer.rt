@@ -6,7 +6,7 @@ ghost use Rattle.aj_cond.specs.Texts.{dotted, path_text};
 ghost use Rattle.aj_blame.specs.Lines.{AreAscending};
 ghost use Rattle.aj_blame_text.specs.Texts.{IsLine, IsTextOf, held_text, line_text, lines_text};
 
-use aj_blame::{Blame, Line};
+use aj_blame::{Blame, Line, ShortPath};
 use aj_paths::{FieldId, Path};
 use itoa::Buffer;
 use std::alloc::{AllocError as NoMemory, Global};
@@ -30,11 +30,11 @@ fn path_fits(path: &Path) -> bool
 }
 
 /// Whether paths can be written.
-fn paths_fit(paths: &[Path]) -> bool
+fn paths_fit(paths: &[ShortPath]) -> bool
     ensures { result ≡ true → AllByRecursion IsPath paths.now }
 {
     for path in paths {
-        if !path_fits(path) {
+        if !path_fits(&path.path()) {
             return false;
         }
     }
@@ -86,11 +86,11 @@ fn write_path(text: &mut String, path: &Path) -> Result<(), NoMemory>
     write_fields(text, path.fields.as_slice())
 }
 
-fn write_held(text: &mut String, held: &[Path]) -> Result<(), NoMemory>
+fn write_held(text: &mut String, held: &[ShortPath]) -> Result<(), NoMemory>
     ensures { OnOk result (string_bytes text.new ≡ string_bytes text.old ++ held_text held.now) }
 {
     for path in held {
-        write_path(text, path)?;
+        write_path(text, &path.path())?;
     }
     Ok(())
 }

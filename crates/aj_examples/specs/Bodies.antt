@@ -1,7 +1,8 @@
 -- Parts of bodies over the program with four fields, and sets of held paths.
-use Rattle.std.specs.Prelude.{ℕ, pos, true, false, List, [], ◌∷◌}
+use Rattle.std.specs.Prelude.{ℕ, zero, suc, pos, true, false, List, [], ◌∷◌, if◌then◌else◌}
 use Rattle.aj_paths.specs.Paths.{PathData}
-use Rattle.aj_algebra.specs.declared.basic.Basic.TheVariants.{Mover}
+use Rattle.aj_algebra.specs.declared.basic.Basic.{Basic}
+use Rattle.aj_algebra.specs.declared.basic.Basic.TheVariants.{Const, Mover, Atomic, Cmpd, Error}
 use Rattle.aj_algebra.specs.HeldPaths.{Held, has_path}
 use Rattle.aj_core.specs.declared.types.CoreType.TheVariants as type
 use Rattle.aj_core.specs.Core.{Program, Expr, IntE, ThisE, VarE, GetE, CallE, no_exprs, Stmt, SetFieldS, EmptyS}
@@ -18,6 +19,17 @@ this_held = has_path (this_path ∷ [])
 
 abbrev pub one_path : PathData
 one_path = record { root = 1; fields = [] }
+
+abbrev pub one_held : Held
+one_held = has_path (one_path ∷ [])
+
+-- the basics in ascending order
+abbrev pub all_basics : List Basic
+all_basics = Const ∷ Mover ∷ Atomic ∷ Cmpd ∷ Error ∷ []
+
+-- a mover where this path is held, else an error
+abbrev pub mover_under : PathData → Held → Basic
+mover_under p H = if H p then Mover else Error
 
 -- the program with a method that requires the lock of `this`
 abbrev pub with_required : Program
@@ -47,3 +59,16 @@ final_local = VarE 1 true (type.Class 0)
 -- a call of the method 0 on a receiver
 abbrev pub call_on : Expr → Expr
 call_on e = CallE e 0 no_exprs
+
+-- the locks of `this` and of the slot 1 are relevant to each method
+abbrev pub both_relevant : ℕ → List PathData
+both_relevant m = this_path ∷ one_path ∷ []
+
+-- an assignment by which of these two the method 0 finds held; each other method is an error
+abbrev pub by_locks : Assignment
+by_locks zero H = if H this_path then (if H one_path then Const else Mover) else (if H one_path then Atomic else Cmpd)
+by_locks (suc m) H = Error
+
+-- the program with a method that requires the lock of its parameter
+abbrev pub with_required_parameter : Program
+with_required_parameter = record four_fields { methods = record (plain_method 0 0 false EmptyS) { requires_ = one_path ∷ [] } ∷ [] }

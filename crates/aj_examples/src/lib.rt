@@ -4,9 +4,19 @@
 
 pub mod accesses;
 pub mod actions;
+pub mod basics;
 pub mod calls;
+pub mod classes;
 pub mod effects;
 pub mod insides;
+pub mod judgements;
+pub mod lock_paths;
 pub mod locks;
+pub mod memory;
+pub mod mentions;
 pub mod operators;
+pub mod paths;
+pub mod runs;
+pub mod turns;
+pub mod unfolding;
 pub mod units;

@@ -72,7 +72,8 @@ was_refused t q m why (Waits a holder) turn = error_is why (step.Waits a holder)
 pub length_more : (steps : List Step) (x : Step) → length (steps ++ x ∷ []) ≡ length steps + 1
 length_more steps x = grind (arith, common_steps)
 
-no_calls : (P : Program) → AreCalls P (initial P) (value_at 0 [])
+-- at the start no thread stands in a call
+pub no_calls : (P : Program) → AreCalls P (initial P) (value_at 0 [])
 no_calls P zero = refl
 no_calls P (suc t) = refl
 

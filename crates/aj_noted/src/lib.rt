@@ -6,5 +6,5 @@ mod calls;
 mod run;
 mod run_end;
 
-pub use run::run_noted;
+pub use run::{make_step, run_noted};
 pub use run_end::RunEnd;

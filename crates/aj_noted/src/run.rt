@@ -39,8 +39,9 @@ fn note_step(
     })
 }
 
-/// Makes a step of a thread.
-fn make_step(
+/// Makes a step of a thread, and notes it. The table has the number of atomic calls in which each thread stands; its steps keep it, so no
+/// frames are looked through.
+pub fn make_step(
     alloc: Global,
     machine: &mut Machine<'_>,
     calls: &mut Vec<u32>,

@@ -1,10 +1,11 @@
 -- Going through a schedule with the machine beside.
 use Rattle.std.proofs.Common.{◌≡◌, ◌⊎◌, inl, inr, ℕ, ◌+◌, ◌≤◌, Bool, true, false, List, [], ◌++◌, Some, None, refl, ap, subst, arith}
-use Rattle.std.specs.Prelude.{Option, nat_lt, length, take, slice_get}
+use Rattle.std.specs.Prelude.{Option, Result, Ok, Err, OnOk, nat_lt, length, take, slice_get}
 use Rattle.std.proofs.lemmas.Bool.{ltb-true, ltb-false}
+use Rattle.std.proofs.lemmas.Option.{same_Some}
 use Rattle.aj_core.specs.Core.{Program}
 use Rattle.aj_state.specs.States.{State, initial}
-use Rattle.aj_steps.specs.Step.{step}
+use Rattle.aj_steps.specs.Step.{Outcome, Moves, Absent, IsDone, HadFaulted, Waits, moved, outcome, state_after, step}
 use Rattle.aj_steps.specs.Run.{run, inside, IsUninterrupted}
 use Rattle.aj_machine.specs.MachineValue.{MachineValue}
 use Rattle.aj_machine.specs.Standing.{StandsFor}
@@ -13,43 +14,65 @@ use Rattle.aj_plain.specs.Scanning.{Begun, Goes, Deep, next_of}
 use Rattle.aj_replay.specs.declared.calls.ReplayEnd.{ReplayEnd}
 use Rattle.aj_replay.specs.declared.calls.ReplayEnd.TheVariants as ends
 use Rattle.aj_replay.specs.Views.{IsDeepEnd}
+use Rattle.aj_noted.specs.Calls.{AreCalls}
+use Rattle.aj_noted.specs.Made.{IsMade}
+use Rattle.aj_noted.proofs.Running.{no_calls}
+use Rattle.aj_units.specs.declared.step.Step.{Step}
+use Rattle.aj_units.specs.Tables.{value_at}
 use Rattle.aj_plain.proofs.Schedules.{prefix_runs, entry_steps}
 use Rattle.aj_plain.proofs.Scan.{first_outside, told_none, all_told, no_deep}
 use Rattle.aj_plain.proofs.Scanned.{Scanned, goes_right, deep_right}
 
-module _ (P : Program) (s : List ℕ) where
-  -- after so many entries: the machine's state, and what is told and open
-  abbrev pub Reached : MachineValue → ℕ → List Told → Option Begun → Type 0
-  Reached m n calls o = (q : State) × (run P (take n s) ≡ Some q) × StandsFor m q × ((alone : IsUninterrupted P s) → Scanned P s alone n q calls o)
+-- what holds in any case
+pub on_ok : {T E A : Type 0} (r : Result T E) → A → OnOk r A
+on_ok (Ok x) a = a
+on_ok (Err e) a = tt
 
-  pub reached_none : (m : MachineValue) → StandsFor m (initial P) → Reached m 0 [] None
-  reached_none m stands = (initial P, refl, stands, λ alone. record { told = told_none P s alone; stands = first_outside P })
+-- a step that was made and noted is that of the definition
+pub was_made : (P : Program) (t : ℕ) (q r : State) (m : MachineValue) (x : Step) (inner : ℕ → ℕ) (o : Outcome) → IsMade P t q m x inner o → state_after q t o ≡ Some r
+    → (x.inside ≡ inside P r t) × StandsFor m r × AreCalls P r inner
+was_made P t q r m x inner (Moves move) (is, stands, are) e =
+    let same : moved t move q ≡ r = same_Some (moved t move q) r e in
+    subst (λ z. (x.inside ≡ inside P z t) × StandsFor m z × AreCalls P z inner) same (ap (λ y. y.inside) is, stands, are)
+was_made P t q r m x inner Absent made e = absurd made
+was_made P t q r m x inner IsDone made e = absurd made
+was_made P t q r m x inner (HadFaulted kind) made e = absurd made
+was_made P t q r m x inner (Waits a holder) made e = absurd made
+
+module _ (P : Program) (s : List ℕ) where
+  -- after so many entries: the machine's state, in how many atomic calls each thread stands, and what is told and open
+  abbrev pub Reached : MachineValue → (ℕ → ℕ) → ℕ → List Told → Option Begun → Type 0
+  Reached m inner n calls o = (q : State) × (run P (take n s) ≡ Some q) × StandsFor m q × AreCalls P q inner × ((alone : IsUninterrupted P s) → Scanned P s alone n q calls o)
+
+  pub reached_none : (m : MachineValue) → StandsFor m (initial P) → Reached m (value_at 0 []) 0 [] None
+  reached_none m stands = (initial P, refl, stands, no_calls P, λ alone. record { told = told_none P s alone; stands = first_outside P })
 
   abbrev pub Out : Type 0
   Out = (z : State) → run P s ≡ Some z → (u : ℕ) → inside P z u ≡ false
 
-  pub reached_more : IsUninterrupted P s → Out → (m new : MachineValue) (n t : ℕ) (calls more : List Told) (o o2 : Option Begun) → slice_get s n ≡ Some t → Reached m n calls o
-      → ((q r : State) → StandsFor m q → step P q t ≡ Some r → next_of P q r (n + 1) t o ≡ Goes o2 more)
-      → ((q r : State) → StandsFor m q → step P q t ≡ Some r → StandsFor new r) → Reached new (n + 1) (calls ++ more) o2
-  reached_more alone out m new n t calls more o o2 is_entry (q, at, stands, scanned) adds comes =
+  pub reached_more : IsUninterrupted P s → Out → (m new : MachineValue) (inner later : ℕ → ℕ) (n t : ℕ) (calls more : List Told) (o o2 : Option Begun) → slice_get s n ≡ Some t → Reached m inner n calls o
+      → ((q r : State) → StandsFor m q → AreCalls P q inner → step P q t ≡ Some r → next_of P q r (n + 1) t o ≡ Goes o2 more)
+      → ((q r : State) → StandsFor m q → AreCalls P q inner → step P q t ≡ Some r → StandsFor new r × AreCalls P r later) → Reached new later (n + 1) (calls ++ more) o2
+  reached_more alone out m new inner later n t calls more o o2 is_entry (q, at, stands, are, scanned) adds comes =
       let r = prefix_runs P s (n + 1) alone.runs in
       let stepped = entry_steps P s n t q r.0 is_entry at r.1 in
-      (r.0, r.1, comes q r.0 stands stepped, λ here. goes_right P s here out n t q r.0 at r.1 is_entry stepped calls o o2 more (scanned here) (adds q r.0 stands stepped))
+      let came = comes q r.0 stands are stepped in
+      (r.0, r.1, came.0, came.1, λ here. goes_right P s here out n t q r.0 at r.1 is_entry stepped calls o o2 more (scanned here) (adds q r.0 stands are stepped))
 
-  pub reached_deep : IsUninterrupted P s → Out → (m : MachineValue) (n t entry : ℕ) (calls : List Told) (o : Option Begun) → slice_get s n ≡ Some t → Reached m n calls o
-      → ((q r : State) → StandsFor m q → step P q t ≡ Some r → next_of P q r (n + 1) t o ≡ Deep entry) → IsTooDeep P s entry
-  reached_deep alone out m n t entry calls o is_entry (q, at, stands, scanned) adds =
+  pub reached_deep : IsUninterrupted P s → Out → (m : MachineValue) (inner : ℕ → ℕ) (n t entry : ℕ) (calls : List Told) (o : Option Begun) → slice_get s n ≡ Some t → Reached m inner n calls o
+      → ((q r : State) → StandsFor m q → AreCalls P q inner → step P q t ≡ Some r → next_of P q r (n + 1) t o ≡ Deep entry) → IsTooDeep P s entry
+  reached_deep alone out m inner n t entry calls o is_entry (q, at, stands, are, scanned) adds =
       let r = prefix_runs P s (n + 1) alone.runs in
       let stepped = entry_steps P s n t q r.0 is_entry at r.1 in
-      deep_right P s alone out n t q r.0 at r.1 is_entry stepped calls o entry (scanned alone) (adds q r.0 stands stepped)
+      deep_right P s alone out n t q r.0 at r.1 is_entry stepped calls o entry (scanned alone) (adds q r.0 stands are stepped)
 
-  pub reached_end : IsUninterrupted P s → Out → (m : MachineValue) (n t : ℕ) (calls : List Told) (o : Option Begun) → slice_get s n ≡ Some t → Reached m n calls o → (end : ReplayEnd)
-      → ((q r : State) → StandsFor m q → step P q t ≡ Some r → IsDeepEnd end (next_of P q r (n + 1) t o)) → (entry : ℕ) → end ≡ ends.TooDeep entry → IsTooDeep P s entry
-  reached_end alone out m n t calls o is_entry reached end says entry is =
-      reached_deep alone out m n t entry calls o is_entry reached (λ q r stands e. subst (λ x. IsDeepEnd x (next_of P q r (n + 1) t o)) is (says q r stands e))
+  pub reached_end : IsUninterrupted P s → Out → (m : MachineValue) (inner : ℕ → ℕ) (n t : ℕ) (calls : List Told) (o : Option Begun) → slice_get s n ≡ Some t → Reached m inner n calls o → (end : ReplayEnd)
+      → ((q r : State) → StandsFor m q → AreCalls P q inner → step P q t ≡ Some r → IsDeepEnd end (next_of P q r (n + 1) t o)) → (entry : ℕ) → end ≡ ends.TooDeep entry → IsTooDeep P s entry
+  reached_end alone out m inner n t calls o is_entry reached end says entry is =
+      reached_deep alone out m inner n t entry calls o is_entry reached (λ q r stands are e. subst (λ x. IsDeepEnd x (next_of P q r (n + 1) t o)) is (says q r stands are e))
 
-  pub reached_all : IsUninterrupted P s → (m : MachineValue) (n : ℕ) (calls : List Told) (o : Option Begun) → length s ≤ n → Reached m n calls o → AreTold P s calls × HasNoDeep P s
-  reached_all alone m n calls o past (q, at, stands, scanned) = (all_told P s alone calls n past (scanned alone).told, no_deep P s alone calls n past (scanned alone).told)
+  pub reached_all : IsUninterrupted P s → (m : MachineValue) (inner : ℕ → ℕ) (n : ℕ) (calls : List Told) (o : Option Begun) → length s ≤ n → Reached m inner n calls o → AreTold P s calls × HasNoDeep P s
+  reached_all alone m inner n calls o past (q, at, stands, are, scanned) = (all_told P s alone calls n past (scanned alone).told, no_deep P s alone calls n past (scanned alone).told)
 
   -- there is one first call that is too deep
   pub one_deep : (a b : ℕ) → IsTooDeep P s a → IsTooDeep P s b → a ≡ b

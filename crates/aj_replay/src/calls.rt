@@ -71,7 +71,8 @@ fn put(calls: &mut Vec<CallRecord>, told: Option<CallRecord>) -> Result<(), Repl
 }
 
 /// The completed outermost atomic calls of a schedule that runs, interrupts no atomic call and ends with no thread inside one, in
-/// the order of the schedule. The machine is run along beside, so no state is kept.
+/// the order of the schedule. The machine is run along beside, so no state is kept, and its threads' atomic calls are counted, so no
+/// frames are looked through.
 pub fn replay(
     alloc: Global,
     program: &CoreProgram,
@@ -89,12 +90,13 @@ pub fn replay(
         MatchResult result (λ _. ⊥) (λ e. (e ≡ ends.TooDeep entry) ⊎ (e ≡ ends.NoMemory)) }
 {
     let mut machine = Machine::start(alloc, program, code)?;
+    let mut inside = Vec::new(alloc);
     let mut calls = Vec::new(alloc);
     let mut open = None;
     let mut entry = 0;
     for thread in schedule {
         entry += 1;
-        match enter(alloc, &mut machine, open, entry, *thread) {
+        match enter(alloc, &mut machine, &mut inside, open, entry, *thread) {
             Ok(added) => {
                 open = added.open;
                 put(&mut calls, added.told)?;

@@ -2,18 +2,20 @@
 ghost use Rattle.std.specs.Prelude.{◌≡◌, ◌<◌, ◌+◌, [], Some, IfOk, OnOk, MatchResult, drop, length, slice_get};
 ghost use Rattle.aj_core.specs.Views.{program_of};
 ghost use Rattle.aj_state.specs.States.{State};
-ghost use Rattle.aj_steps.specs.Run.{inside};
 ghost use Rattle.aj_steps.specs.Step.{step, has_result};
 ghost use Rattle.aj_machine.specs.Standing.{program_run, StandsFor};
+ghost use Rattle.aj_noted.specs.Calls.{AreCalls};
 ghost use Rattle.aj_plain.specs.Scanning as scan;
 ghost use Rattle.aj_plain.specs.Calls.{depth, result_in};
 ghost use Rattle.aj_replay.specs.Views.{told_in, all_told_in, begun_of, open_of, IsDeepEnd};
+ghost use Rattle.aj_units.specs.Tables.{value_at};
 
 use crate::begun::Begun;
 use crate::calls::{CallRecord, ReplayEnd};
 use crate::sight::{Sight, sight_at};
 use aj_core::CoreProgram;
 use aj_machine::Machine;
+use aj_noted::make_step;
 use aj_paths::MethodId;
 use aj_state::Value;
 use std::alloc::{AllocError as NoMemory, Global};
@@ -23,16 +25,6 @@ use std::alloc::{AllocError as NoMemory, Global};
 pub(crate) struct Added {
     pub(crate) open: Option<Begun>,
     pub(crate) told: Option<CallRecord>,
-}
-
-/// Whether a thread stands inside an atomic call.
-fn stands_inside(machine: &Machine<'_>, thread: u32) -> bool
-    ensures { (q : State) → StandsFor machine.now q → result ≡ inside (program_run machine.now) q thread }
-{
-    match machine.inside(thread) {
-        Some(inside) => inside,
-        None => false,
-    }
 }
 
 /// Whether a method has a result.
@@ -117,7 +109,7 @@ fn refuse_deep(machine: &Machine<'_>, opened: Option<Begun>) -> Result<Option<Be
     Ok(Some(begun))
 }
 
-/// What an entry adds that led the machine here.
+/// What an entry adds that led the machine here, after which its thread stands inside an atomic call or not.
 fn adds(
     alloc: Global,
     machine: &Machine<'_>,
@@ -126,12 +118,13 @@ fn adds(
     thread: u32,
     frames: usize,
     printed: usize,
+    inside: bool,
 ) -> Result<Added, ReplayEnd>
     ensures { (q r : State) → frames ≡ depth (slice_get q.threads thread) → printed ≡ length q.output → StandsFor machine.now r → MatchResult result
-        (λ a. scan.next_of (program_run machine.now) q r entry thread (open_of opened) ≡ scan.Goes (open_of a.open) (all_told_in a.told))
-        (λ e. IsDeepEnd e (scan.next_of (program_run machine.now) q r entry thread (open_of opened))) }
+        (λ a. scan.next_by (program_run machine.now) q r entry thread (open_of opened) inside ≡ scan.Goes (open_of a.open) (all_told_in a.told))
+        (λ e. IsDeepEnd e (scan.next_by (program_run machine.now) q r entry thread (open_of opened) inside)) }
 {
-    if stands_inside(machine, thread) {
+    if inside {
         let begins = match opened {
             Some(begun) => Some(begun),
             None => begun_at(entry, thread, frames, printed, sight_at(machine, thread)),
@@ -154,26 +147,38 @@ fn adds(
     }
 }
 
-/// Makes the step of an entry, which its thread can make, and tells what it adds.
+/// Makes the step of an entry, which its thread can make, and tells what it adds. The table has the number of atomic calls in which
+/// each thread stands.
 pub(crate) fn enter(
     alloc: Global,
     machine: &mut Machine<'_>,
+    calls: &mut Vec<u32>,
     opened: Option<Begun>,
     entry: u32,
     thread: u32,
 ) -> Result<Added, ReplayEnd>
     requires { machine.old.made < 4294967295 }
-    ensures next { (q r : State) → StandsFor machine.old q → step (program_run machine.old) q thread ≡ Some r → MatchResult result
+    ensures next { (q r : State) → StandsFor machine.old q → AreCalls (program_run machine.old) q (value_at 0 calls.old.items) → step (program_run machine.old) q thread ≡ Some r → MatchResult result
         (λ a. scan.next_of (program_run machine.old) q r entry thread (open_of opened) ≡ scan.Goes (open_of a.open) (all_told_in a.told))
         (λ e. IsDeepEnd e (scan.next_of (program_run machine.old) q r entry thread (open_of opened))) }
-    ensures stands { OnOk result ((q r : State) → StandsFor machine.old q → step (program_run machine.old) q thread ≡ Some r → StandsFor machine.new r) }
+    ensures stands { OnOk result ((q r : State) → StandsFor machine.old q → AreCalls (program_run machine.old) q (value_at 0 calls.old.items) → step (program_run machine.old) q thread ≡ Some r →
+        StandsFor machine.new r × AreCalls (program_run machine.old) r (value_at 0 calls.new.items)) }
     ensures counted { OnOk result (machine.new.made ≡ machine.old.made + 1) }
     ensures program { machine.new.program ≡ machine.old.program }
 {
     let frames = sight_at(machine, thread).frames;
     let printed = machine.output().len();
-    match machine.step(alloc, thread) {
-        Ok(()) => adds(alloc, machine, opened, entry, thread, frames, printed),
+    match make_step(alloc, machine, calls, thread) {
+        Ok(step) => adds(
+            alloc,
+            machine,
+            opened,
+            entry,
+            thread,
+            frames,
+            printed,
+            step.inside,
+        ),
         Err(_) => Err(ReplayEnd::NoMemory),
     }
 }

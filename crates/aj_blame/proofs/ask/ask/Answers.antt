@@ -1,8 +1,6 @@
 -- What is known already adds nothing, and what is new its line.
-use Rattle.std.proofs.Common.{◌≡◌, false, rules, refl, ap, sym, subst, ◌∙◌}
+use Rattle.std.proofs.Common.{◌≡◌, ◌∷◌, ◌++◌, [], false, rules, refl, ap, sym, ◌∙◌}
 use Rattle.std.specs.Prelude.{not}
-use Rattle.std.specs.List.Sorted.{IsStrictlySortedBy}
-use Rattle.aj_paths.specs.Paths.{path_order}
 use Rattle.aj_core.specs.Views.{program_of}
 use Rattle.aj_blame.specs.Lines.{LineData}
 use Rattle.aj_blame.proofs.MakerLemmas.{ask_known, ask_added, agrees_added}
@@ -16,21 +14,23 @@ returns-then-below-clause-asked c =
 
 pub returns-clause-agrees : goal.returns-clause-agrees
 returns-clause-agrees c =
-    agrees_added (program_of c.args.program.now) c.args.sets.now c.args.floors.now.sets.now c.args.floors.now.tables.items c.args.lines.now.items c.requires.agrees c.add.new.self.sets.now c.add.new.self.tables.items
-    (record { method = c.args.method; found = c.in_ok-found.found; held = c.in_ok-held.held.items }) c.push.new.self.items c.add.ensures.sets c.add.ensures.size c.add.ensures.says
-    c.in_ok-push.ensures.items (subst (IsStrictlySortedBy path_order) (sym c.in_ok-held.ensures) c.requires.ascends)
+    let lines = c.args.lines.now.items in
+    let line : LineData = record { method = c.args.method; found = c.in_ok-found.found; held = c.args.held.now } in
+    agrees_added (program_of c.args.program.now) c.args.sets.now c.args.floors.now.sets.now c.args.floors.now.tables.items lines c.requires.agrees c.add.new.self.sets.now c.add.new.self.tables.items
+    line c.push.new.self.items c.add.ensures.sets c.add.ensures.size c.add.ensures.says
+    (c.in_ok-push.ensures.items ∙ (λ i. lines ++ record { method = c.args.method; found = c.in_ok-found.found; held = c.in_ok-short.ensures i } ∷ [])) c.requires.ascends
 
 pub returns-clause-asked : goal.returns-clause-asked
 returns-clause-asked c =
     let high : c.below.result ≡ false = search rules in
-    let line : LineData = record { method = c.args.method; found = c.in_ok-found.found; held = c.in_ok-held.held.items } in
+    let line : LineData = record { method = c.args.method; found = c.in_ok-found.found; held = c.in_ok-short.short.items } in
     ask_added (program_of c.args.program.now) c.args.sets.now c.args.floors.now.sets.now c.args.floors.now.tables.items c.args.lines.now.items c.requires.agrees c.args.method c.args.held.now
     c.in_ok-found.found c.at.result line c.push.new.self.items (not c.keeps_bound.result) c.in_ok-found.ensures c.at.ensures (sym c.below.ensures ∙ high)
-    (λ i. record { method = c.args.method; found = c.in_ok-found.found; held = c.in_ok-held.ensures i }) c.in_ok-push.ensures.items (ap not c.keeps_bound.ensures)
+    (λ i. record { method = c.args.method; found = c.in_ok-found.found; held = c.in_ok-short.ensures i }) c.in_ok-push.ensures.items (ap not c.keeps_bound.ensures)
 
 pub returns-then-below-clause-adds : goal.returns-then-below-clause-adds
 returns-then-below-clause-adds c = adds_none c.args.method c.args.lines.now.items
 
 pub returns-clause-adds : goal.returns-clause-adds
 returns-clause-adds c =
-    adds_one c.args.method c.args.lines.now.items (record { method = c.args.method; found = c.in_ok-found.found; held = c.in_ok-held.held.items }) c.push.new.self.items c.in_ok-push.ensures.items refl
+    adds_one c.args.method c.args.lines.now.items (record { method = c.args.method; found = c.in_ok-found.found; held = c.in_ok-short.short.items }) c.push.new.self.items c.in_ok-push.ensures.items refl

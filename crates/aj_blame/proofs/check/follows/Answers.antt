@@ -1,10 +1,10 @@
 -- A line that is said already, one that doesn't follow, and one that does.
-use Rattle.std.proofs.Common.{◌≡◌, true, false, rules, ap, ◌∙◌}
+use Rattle.std.proofs.Common.{◌≡◌, ◌∷◌, ◌++◌, [], true, false, rules, ap, subst, arith, ◌∙◌}
 use Rattle.aj_algebra.specs.HeldPaths.{has_path}
 use Rattle.aj_core.specs.Views.{program_of}
 use Rattle.aj_rules.specs.Near.{rel_of}
 use Rattle.aj_blame.specs.Lines.{LineData, run_effect}
-use Rattle.aj_blame.specs.Tables.{said_by}
+use Rattle.aj_blame.specs.Tables.{said_by, Says}
 use Rattle.aj_blame.proofs.CheckLemmas.{follows_known, follows_not, follows_new}
 use Rattle.aj_blame.proofs.check.follows.Goals as goal
 
@@ -12,7 +12,7 @@ pub returns-then-below-clause-follows : goal.returns-then-below-clause-follows
 returns-then-below-clause-follows c =
     let kept = c.args.floors.now.sets.now in
     let tables = c.args.floors.now.tables.items in
-    let held = c.as_slice-held.ensures.value ∙ ap (λ (x : LineData). x.held) c.line.view_is in
+    let held = c.as_slice-held.ensures.value ∙ c.in_ok-paths.ensures ∙ c.as_slice.ensures.value ∙ ap (λ (x : LineData). x.held) c.line.view_is in
     let method = ap (λ (x : LineData). x.method) c.line.view_is in
     follows_known (program_of c.args.program.now) c.args.sets.now kept tables c.args.line.now c.line.inside.found c.at.result (ap (λ (x : LineData). x.found) c.line.view_is)
     c.below.result (c.at.ensures ∙ (λ i. said_by (rel_of kept) tables (method i) (has_path (held i)))) c.below.ensures c.if-below.true
@@ -23,7 +23,7 @@ returns-then-not-below-clause-follows c =
     let rel = rel_of c.args.sets.now in
     let kept = c.args.floors.now.sets.now in
     let tables = c.args.floors.now.tables.items in
-    let held = c.as_slice-held.ensures.value ∙ ap (λ (x : LineData). x.held) c.line.view_is in
+    let held = c.as_slice-held.ensures.value ∙ c.in_ok-paths.ensures ∙ c.as_slice.ensures.value ∙ ap (λ (x : LineData). x.held) c.line.view_is in
     let method = ap (λ (x : LineData). x.method) c.line.view_is in
     let fails : c.below-2.result ≡ false = search rules in
     follows_not P c.args.sets.now kept tables c.args.line.now c.line.inside.found c.in_ok-found.found (ap (λ (x : LineData). x.found) c.line.view_is) tables
@@ -35,9 +35,16 @@ returns-clause-follows c =
     let rel = rel_of c.args.sets.now in
     let kept = c.args.floors.now.sets.now in
     let tables = c.args.floors.now.tables.items in
-    let held = c.as_slice-held.ensures.value ∙ ap (λ (x : LineData). x.held) c.line.view_is in
+    let held = c.as_slice-held.ensures.value ∙ c.in_ok-paths.ensures ∙ c.as_slice.ensures.value ∙ ap (λ (x : LineData). x.held) c.line.view_is in
     let method = ap (λ (x : LineData). x.method) c.line.view_is in
+    let found = ap (λ (x : LineData). x.found) c.line.view_is in
     let passes : c.below-2.result ≡ true = search rules in
     follows_new P c.args.sets.now kept tables c.args.line.now c.line.inside.found c.in_ok-found.found (ap (λ (x : LineData). x.found) c.line.view_is) c.add.new.self.sets.now c.add.new.self.tables.items
     c.below-2.result (c.in_ok-found.ensures ∙ (λ i. run_effect P rel (said_by (rel_of kept) tables) (method i) (has_path (held i)))) c.below-2.ensures passes
-    c.add.ensures.sets c.add.ensures.says
+    c.add.ensures.sets
+    (λ ls said. subst (λ l. Says (rel_of c.add.new.self.sets.now) c.add.new.self.tables.items (ls ++ l ∷ [])) (λ i. record { method = method i; found = found i; held = held i }) (c.add.ensures.says ls said))
+
+pub add-requires : goal.add-requires
+add-requires c =
+    let method = ap (λ (x : LineData). x.method) c.line.view_is in
+    omega (arith, c.requires.there, method)

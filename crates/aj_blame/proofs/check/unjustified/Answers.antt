@@ -1,5 +1,5 @@
 -- One line more, and the first that doesn't follow.
-use Rattle.std.proofs.Common.{◌≡◌, true, false, [], rules, sym, ◌∙◌, arith}
+use Rattle.std.proofs.Common.{◌≡◌, true, false, rules, sym, ◌∙◌, arith}
 use Rattle.aj_core.specs.Views.{program_of, method_of}
 use Rattle.aj_rules.specs.Near.{rel_of}
 use Rattle.aj_blame.specs.Wrongs.{justified_at}

@@ -1,5 +1,5 @@
 -- Nothing is said at first.
-use Rattle.std.proofs.Common.{◌≡◌, true, false, rules, [], Some, slice_get, refl, ap, sym, subst, ◌∙◌}
+use Rattle.std.proofs.Common.{◌≡◌, true, rules, [], refl, sym, subst, ◌∙◌}
 use Rattle.aj_core.specs.Views.{program_of, method_of}
 use Rattle.aj_rules.specs.Near.{rel_of}
 use Rattle.aj_blame.specs.Lines.{AreAscending}
@@ -24,7 +24,7 @@ passes-requires-clause-agrees c =
     }
 
 pub passes-requires-clause-settled : goal.passes-requires-clause-settled
-passes-requires-clause-settled c = none_settled (program_of c.args.program.now) (rel_of c.args.sets.now) c.new-lines.result.items c.as_mut_slice.result.now (λ m e. c.in_ok-waits.ensures.wait m (subst (λ ws. slice_get ws m ≡ Some false) c.as_mut_slice.ensures.value e))
+passes-requires-clause-settled c = none_settled (program_of c.args.program.now) (rel_of c.args.sets.now) c.new-lines.result.items c.in_ok-waits.waits c.in_ok-waits.ensures.wait
 
 pub returns-then-branch-clause-certificate : goal.returns-then-branch-clause-certificate
 returns-then-branch-clause-certificate c =

@@ -1,31 +1,25 @@
--- One method more, which waits or doesn't.
-use Rattle.std.proofs.Common.{◌≡◌, ◌+◌, true, false, rules, drop, refl, ap, ◌∙◌}
-use Rattle.aj_core.specs.Views.{program_of, method_of}
+-- The first method that waits, and one method more.
+use Rattle.std.proofs.Common.{◌≡◌, ◌+◌, ◌≤◌, true, false, rules, drop, length, refl, ap, ◌∙◌, arith}
+use Rattle.aj_core.specs.Views.{program_of}
 use Rattle.aj_rules.specs.Near.{rel_of}
 use Rattle.aj_callers.proofs.Lookups.{found_method}
 use Rattle.aj_blame.specs.Passes.{cells_from}
 use Rattle.aj_blame.specs.Ends.{goes_on}
 use Rattle.aj_blame.proofs.MakerLemmas.{method_step}
-use Rattle.aj_blame.proofs.WaitLemmas.{settled_method}
+use Rattle.aj_blame.proofs.WaitLemmas.{skip_settled}
 use Rattle.aj_blame.proofs.passes.pass.Goals as goal
 
-pub loop-place-preserved-then-not-does_wait : goal.loop-place-preserved-then-not-does_wait
-loop-place-preserved-then-not-does_wait c =
+pub loop-place-init : goal.loop-place-init
+loop-place-init c =
     let P = program_of c.args.program.now in
-    let rel = rel_of c.args.sets.now in
-    let place = c.loop-place.place in
-    let before = c.loop-place.invariant in
-    let method = c.index-methods-place.result in
-    let asleep : c.does_wait.result ≡ false = search rules in
-    let is = found_method c.methods-methods.result.now P.methods place method c.methods-methods.ensures c.loop-place-test.true c.index-methods-place.is in
+    let next = c.next-place.ensures in
+    let within : c.next-place.result ≤ length P.methods = omega (arith, next.within, c.requires.waits) in
     record {
-      agrees = before.agrees;
-      size = before.size;
-      settled = before.settled;
-      passed = before.passed
-          ∙ method_step P rel c.methods-methods.result.now place place method c.loop-place.lines.items c.loop-place.lines.items false
-          c.methods-methods.ensures c.loop-place-test.true c.index-methods-place.is refl
-          (settled_method P rel place (method_of method) c.loop-place.lines.items c.loop-place.waits is before.settled (c.does_wait.ensures asleep));
+      agrees = c.requires.agrees;
+      size = refl;
+      settled = c.requires.settled;
+      within = within;
+      passed = skip_settled P (rel_of c.args.sets.now) c.args.lines.now.items c.args.waits.now 0 c.next-place.result c.requires.settled (omega arith) within next.asleep;
     }
 
 pub ask_noting-requires-clause-is : goal.ask_noting-requires-clause-is
@@ -49,13 +43,20 @@ loop-place-preserved c =
     let rel = rel_of c.args.sets.now in
     let place = c.loop-place.place in
     let before = c.loop-place.invariant in
+    let new = c.ask_noting.new.lines.items in
     let kept : c.in_ok-ask_noting.field-0 ≡ false = search rules in
+    let size = c.ask_noting.ensures.size ∙ before.size in
+    let settled = c.in_ok-ask_noting.ensures.settled kept in
+    let next = c.next-place-in-loop-place.ensures in
+    let within : c.next-place-in-loop-place.result ≤ length P.methods = omega (arith, next.within, size, c.requires.waits) in
     record {
       agrees = c.in_ok-ask_noting.ensures.agrees;
-      size = c.ask_noting.ensures.size ∙ before.size;
-      settled = c.in_ok-ask_noting.ensures.settled kept;
+      size = size;
+      settled = settled;
+      within = within;
       passed = before.passed
-          ∙ method_step P rel c.methods-methods.result.now place place c.index-methods-place.result c.loop-place.lines.items c.ask_noting.new.lines.items c.in_ok-ask_noting.field-0
+          ∙ method_step P rel c.methods-methods.result.now place place c.index-methods-place.result c.loop-place.lines.items new c.in_ok-ask_noting.field-0
           c.methods-methods.ensures c.loop-place-test.true c.index-methods-place.is refl c.in_ok-ask_noting.ensures.asked
-          ∙ ap (λ b. goes_on P rel (cells_from rel (place + 1) (drop (place + 1) P.methods)) c.ask_noting.new.lines.items b) kept;
+          ∙ ap (λ b. goes_on P rel (cells_from rel (place + 1) (drop (place + 1) P.methods)) new b) kept
+          ∙ skip_settled P rel new c.ask_noting.new.waits (place + 1) c.next-place-in-loop-place.result settled next.after within next.asleep;
     }

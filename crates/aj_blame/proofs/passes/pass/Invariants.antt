@@ -1,4 +1,4 @@
-use Rattle.std.proofs.Common.{◌≡◌, drop, length}
+use Rattle.std.proofs.Common.{◌≡◌, ◌≤◌, ◌-◌, drop, length}
 use Rattle.aj_core.specs.Views.{program_of}
 use Rattle.aj_rules.specs.Near.{rel_of}
 use Rattle.aj_blame.specs.Passes.{cells_from, cells_of, pass}
@@ -14,5 +14,9 @@ invariant-loop-place l =
       agrees : Agrees P l.sets l.floors.sets.now l.floors.tables.items l.lines.items;
       size : length l.waits ≡ length l.fn.waits;
       settled : AreSettled P rel l.lines.items l.waits;
+      within : l.place ≤ length P.methods;
       passed : pass P rel (cells_of P rel) l.fn.lines.items ≡ pass P rel (cells_from rel l.place (drop l.place P.methods)) l.lines.items;
     }
+
+abbrev pub decreases-loop-place : goal.decreases-loop-place
+decreases-loop-place l = length (program_of l.program).methods - l.place

@@ -1,5 +1,5 @@
 -- Who is settled where no line was added, and where one was.
-use Rattle.std.proofs.Common.{◌≡◌, false, rules, length, ap, subst, ◌∙◌, arith}
+use Rattle.std.proofs.Common.{◌≡◌, false, rules, ap, subst, ◌∙◌, arith}
 use Rattle.std.proofs.lemmas.Option.{slice_get_within}
 use Rattle.aj_core.specs.Views.{program_of, method_of}
 use Rattle.aj_rules.specs.Near.{rel_of}
@@ -20,9 +20,9 @@ returns-then-len-before-clause-settled c =
     let new = c.ask_method.new.lines.items in
     let kept : c.in_ok-ask_method.field-0 ≡ false = search rules in
     let same = adds_nothing m old new c.in_ok-ask_method.ensures.adds (omega (arith, c.if-len-before.true, c.len.ensures, c.len-before.ensures, c.ask_method.new.lines.ok, c.args.lines.now.ok)) in
-    λ e. settled_asleep P rel m method old new c.args.waits.now c.sleep.new.waits c.requires.is same c.requires.settled
+    λ e. settled_asleep P rel m method old new c.args.waits.now c.sleep.new.self c.requires.is same c.requires.settled
     (subst (λ b. IsAsked P rel (cells_in m method.requires_ (parts_of (rel m))) old new b) kept c.in_ok-ask_method.ensures.asked)
-    (subst (λ k. IsAsleep c.args.waits.now c.sleep.new.waits k) c.id.view_is c.sleep.ensures.asleep)
+    (subst (λ k. IsAsleep c.args.waits.now c.sleep.new.self k) c.id.view_is c.sleep.ensures.asleep)
 
 pub returns-clause-settled : goal.returns-clause-settled
 returns-clause-settled c =

@@ -10,9 +10,9 @@ pub loop-method-preserved : goal.loop-method-preserved
 loop-method-preserved c =
     let k = c.loop-method.method-index in
     record {
-      size = c.wake_one.ensures.size ∙ c.loop-method.invariant.size;
-      woken = woken_more c.args.waits.now c.loop-method.waits c.wake_one.new.waits c.args.methods.now k (get_or c.args.methods.now k 0) c.loop-method-test.true
-          (get_or_any c.args.methods.now k 0 (get_or c.args.methods.now k 0) c.loop-method-test.true) c.loop-method.invariant.woken c.wake_one.ensures.woken;
+      size = c.wake.ensures.size ∙ c.loop-method.invariant.size;
+      woken = woken_more c.args.waits.now c.loop-method.waits c.wake.new.self c.args.methods.now k (get_or c.args.methods.now k 0) c.loop-method-test.true
+          (get_or_any c.args.methods.now k 0 (get_or c.args.methods.now k 0) c.loop-method-test.true) c.loop-method.invariant.woken c.wake.ensures.woken;
     }
 
 pub returns-clause-woken : goal.returns-clause-woken

@@ -11,6 +11,7 @@ returns-clause-says c =
     let tables = c.args.self.now.tables in
     let rel = rel_of c.args.self.now.sets.now in
     let value = c.as_mut_slice.ensures.value in
-    add_says rel tables.items c.as_mut_slice.result.now c.raise_table.new.tables _ c.rel-rel.result.now c.args.line.now value
+    let line : LineData = record { method = c.args.method; found = c.args.found; held = c.args.held.now } in
+    add_says rel tables.items c.as_mut_slice.result.now c.raise_table.new.tables _ c.rel-rel.result.now line value
     (whole_written tables.len c.raise_table.new.tables tables.items (omega (arith, tables.ok)) (c.raise_table.ensures.size ∙ ap length value))
-    (c.rel-rel.ensures ∙ ap (λ (x : LineData). rel x.method) c.line.view_is) c.raise_table.ensures.size c.requires c.raise_table.ensures.raised
+    c.rel-rel.ensures c.raise_table.ensures.size c.requires c.raise_table.ensures.raised

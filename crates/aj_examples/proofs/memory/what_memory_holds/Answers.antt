@@ -1,0 +1,36 @@
+use Rattle.std.proofs.Common.{ap}
+use Rattle.aj_state.specs.declared.value.Address.{Address}
+use Rattle.aj_examples.specs.Seen.{here, there, seven}
+use Rattle.aj_examples.specs.Small.{next, three_entries, lock_at}
+use Rattle.aj_examples.proofs.Maps.{insert_is, remove_is, field_is, made_is}
+use Rattle.aj_examples.proofs.memory.what_memory_holds.Goals as goal
+
+pub returns-clause-made : goal.returns-clause-made
+returns-clause-made c = made_is three_entries tt 0
+
+pub returns-clause-made_by_another : goal.returns-clause-made_by_another
+returns-clause-made_by_another c = made_is three_entries tt 1
+
+pub returns-clause-made_by_none : goal.returns-clause-made_by_none
+returns-clause-made_by_none c = made_is three_entries tt 2
+
+pub returns-clause-next : goal.returns-clause-next
+returns-clause-next c = ap (λ n. record { thread = 0; count = n }) (made_is three_entries tt 0)
+
+pub returns-clause-field : goal.returns-clause-field
+returns-clause-field c = field_is three_entries tt next 1 seven
+
+pub returns-clause-no_object : goal.returns-clause-no_object
+returns-clause-no_object c = field_is three_entries tt (record { thread = 2; count = 0 }) 1 seven
+
+pub returns-clause-taken : goal.returns-clause-taken
+returns-clause-taken c = insert_is (lock_at there) tt here _
+
+pub returns-clause-held_otherwise : goal.returns-clause-held_otherwise
+returns-clause-held_otherwise c = insert_is (lock_at there) tt there _
+
+pub returns-clause-free : goal.returns-clause-free
+returns-clause-free c = remove_is (lock_at there) tt there
+
+pub returns-clause-free_already : goal.returns-clause-free_already
+returns-clause-free_already c = remove_is (lock_at there) tt here

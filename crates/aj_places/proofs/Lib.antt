@@ -1,0 +1,3 @@
+-- Lemmas on line feeds and on places.
+pub mod LineFeeds
+pub mod Putting

@@ -1,0 +1,13 @@
+//! Where the nodes of a method stand in its source, and what its slots are called there. Core nodes have numbers and no offsets; the
+//! tree has the offsets.
+#![tactic(auto)]
+
+mod index;
+mod methods;
+mod offsets;
+mod slots;
+
+pub use index::LineIndex;
+pub use methods::methods_in;
+pub use offsets::method_places;
+pub use slots::{SlotNames, slot_names};
