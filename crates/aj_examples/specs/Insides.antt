@@ -1,8 +1,10 @@
--- Threads of the counter program.
-use Rattle.std.specs.Prelude.{List, [], ◌∷◌}
+-- Threads of the counter program, and of the program with four fields.
+use Rattle.std.specs.Prelude.{pos, List, [], ◌∷◌}
 use Rattle.std.specs.FinMap as map
-use Rattle.aj_state.specs.declared.value.Value.TheVariants.{Ref}
-use Rattle.aj_state.specs.States.{Frame, Thread, State}
+use Rattle.aj_core.specs.Core.{EmptyS}
+use Rattle.aj_state.specs.declared.value.Value.TheVariants.{Int, Ref}
+use Rattle.aj_state.specs.Work.{St, Act, Ret}
+use Rattle.aj_state.specs.States.{Frame, Thread, Ready, State}
 use Rattle.aj_examples.specs.Seen.{here}
 
 -- a frame of the annotated method `inc`
@@ -16,3 +18,10 @@ calling = record { method = 1; slots = Ref here ∷ []; operands = []; work = []
 -- a state with these threads
 abbrev pub with_threads : List Thread → State
 with_threads threads = record { heap = map.empty; locks = map.empty; threads = threads; output = [] }
+
+-- two threads that are ready to run the method of the class with four fields, and the frame that each enters
+abbrev pub two_ready : State
+two_ready = with_threads (Ready here 0 ∷ Ready here 0 ∷ [])
+
+abbrev pub entered : Frame
+entered = record { method = 0; slots = Ref here ∷ Int (pos 0) ∷ Int (pos 0) ∷ []; operands = []; work = St EmptyS ∷ Act Ret ∷ [] }

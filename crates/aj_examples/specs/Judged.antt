@@ -23,6 +23,10 @@ of_node body = plain_method 0 0 false body
 abbrev pub of_one : Stmt → Method
 of_one body = record (of_node body) { params = (true, node_type) ∷ []; slots = 2 }
 
+-- `this.v = 1;`
+abbrev pub put_one : Stmt
+put_one = SetFieldS ThisE 4 (IntE (pos 1))
+
 -- Over the class with fields of every kind, and one below it with a lock of its own:
 --     class Node { ..
 --       void need(final Node p) requires p { }
@@ -44,7 +48,7 @@ meetings = record {
   methods =
       record (of_one EmptyS) { requires_ = path 1 [] ∷ [] }
       ∷ of_node (SyncS (path 0 (0 ∷ [])) EmptyS)
-      ∷ of_node (SetFieldS ThisE 4 (IntE (pos 1)))
+      ∷ of_node put_one
       ∷ of_node (PrintS (of_this 6))
       ∷ of_one (BlockS (and_stmt (call (of_this 3) 1) (and_stmt (DoS (CallE ThisE 0 (and_expr first no_exprs)) false) (and_stmt (call (of_this 1) 2) no_stmts))))
       ∷ record (of_node (BlockS (and_stmt (LocalS 1 true node_type (of_this 0)) (and_stmt (SetFieldS first 4 (IntE (pos 1))) no_stmts)))) { slots = 2 }

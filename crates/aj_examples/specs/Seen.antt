@@ -53,6 +53,10 @@ four_fields = record {
   main = 0;
 }
 
+-- the same with a class that pairs its method with one that isn't there
+abbrev pub two_pairs : Program
+two_pairs = record four_fields { classes = record (plain_class (0 ∷ 1 ∷ 2 ∷ 3 ∷ []) (0 ∷ []) (Some 0) 0) { targets = (0, 2) ∷ [] } ∷ [] }
+
 -- an object of this class
 abbrev pub object_of : ℕ → Object
 object_of class = record { class = class; values = Int (pos 1) ∷ Int (pos 2) ∷ Int (pos 3) ∷ Int (pos 4) ∷ [] }

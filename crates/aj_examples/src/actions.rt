@@ -8,8 +8,8 @@ ghost use Rattle.aj_state.specs.declared.value.StepKind.TheVariants.{Both, Other
 ghost use Rattle.aj_state.specs.declared.value.Value.TheVariants.{Int, Null, Ref};
 ghost use Rattle.aj_state.specs.States.{Running};
 ghost use Rattle.aj_state.specs.Work.{Ex, St, Act, Push, Load, Store, Drop, Unary, Binary, AndThen, OrElse, Choose, Loop, Print};
-ghost use Rattle.aj_steps.specs.Step.{Moves, Nothing, Prints};
-ghost use Rattle.aj_examples.specs.Seen.{seven, minus_two, yes_value, no_value, here, sees, does, gives, goes, faults_with, frame_with, rest};
+ghost use Rattle.aj_steps.specs.Step.{Moves, Nothing, Prints, act};
+ghost use Rattle.aj_examples.specs.Seen.{four_fields, seven, minus_two, yes_value, no_value, here, sees, does, gives, goes, faults_with, frame_with, rest};
 
 /// Operands: pushed, read from slots and stored there, dropped.
 pub fn what_operands_do()
@@ -19,6 +19,11 @@ pub fn what_operands_do()
     ensures store { does (sees 0 None) (seven ∷ minus_two ∷ []) (Store 1) ≡ Moves (record {
       kind = Both;
       thread = Running (record (frame_with (minus_two ∷ [])) { slots = Ref here ∷ seven ∷ Int (pos 2) ∷ []; work = rest } ∷ []);
+      change = Nothing;
+    }) }
+    ensures store_above_another_frame { act four_fields (sees 0 None) 0 (frame_with (seven ∷ [])) (frame_with [] ∷ []) rest (Store 2) ≡ Moves (record {
+      kind = Both;
+      thread = Running (record (frame_with []) { slots = Ref here ∷ Int (pos 1) ∷ seven ∷ []; work = rest } ∷ frame_with [] ∷ []);
       change = Nothing;
     }) }
     ensures drop { does (sees 0 None) (seven ∷ minus_two ∷ []) Drop ≡ gives (minus_two ∷ []) }

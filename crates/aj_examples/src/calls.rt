@@ -7,6 +7,7 @@ ghost use Rattle.aj_state.specs.declared.value.Value.TheVariants.{Int, Null, Ref
 ghost use Rattle.aj_state.specs.States.{Running, Done, Faulted};
 ghost use Rattle.aj_state.specs.Work.{St, Act, Call, New, Ret, Start};
 ghost use Rattle.aj_steps.specs.Step.{Moves, Nothing, ObjectIs, Starts, act};
+ghost use Rattle.aj_examples.specs.Judged.{meetings, put_one};
 ghost use Rattle.aj_examples.specs.Seen.{four_fields, seven, minus_two, here, sees, does, goes, faults_with, frame_with, rest};
 
 /// A call hands its arguments on in order, and the receiver object's class chooses the method that runs.
@@ -21,6 +22,18 @@ pub fn what_calls_do()
       kind = Both;
       thread = Running (record { method = 1; slots = Ref here ∷ seven ∷ minus_two ∷ []; operands = []; work = St EmptyS ∷ Act Ret ∷ [] }
           ∷ record (frame_with []) { work = rest } ∷ []);
+      change = Nothing;
+    }) }
+    ensures own_below { does (sees 1 None) (minus_two ∷ seven ∷ Ref here ∷ []) (Call 1) ≡ Moves (record {
+      kind = Both;
+      thread = Running (record { method = 1; slots = Ref here ∷ seven ∷ minus_two ∷ []; operands = []; work = St EmptyS ∷ Act Ret ∷ [] }
+          ∷ record (frame_with []) { work = rest } ∷ []);
+      change = Nothing;
+    }) }
+    ensures no_arguments { act meetings (sees 0 None) 0 (frame_with (Ref here ∷ seven ∷ [])) [] rest (Call 2) ≡ Moves (record {
+      kind = Both;
+      thread = Running (record { method = 2; slots = Ref here ∷ []; operands = []; work = St put_one ∷ Act Ret ∷ [] }
+          ∷ record (frame_with (seven ∷ [])) { work = rest } ∷ []);
       change = Nothing;
     }) }
     ensures on_null { does (sees 0 None) (minus_two ∷ seven ∷ Null ∷ []) (Call 0) ≡ faults_with fault.Null (minus_two ∷ seven ∷ Null ∷ []) }

@@ -1,5 +1,6 @@
 //! Classes that extend each other: kinds, fields, and the method that runs.
 ghost use Rattle.std.specs.Prelude.{◌≡◌, true, false, [], ◌∷◌, Some, None};
+ghost use Rattle.aj_ancestors.specs.Ancestors.{up, is_circular, reaches};
 ghost use Rattle.aj_core.specs.Dispatch.{above_of, is_kind_of, inherited_fields, has_field, partner, target_of, inherited_target, Overrides};
 ghost use Rattle.aj_examples.specs.Family.{family};
 
@@ -10,6 +11,17 @@ pub fn of_which_kind_classes_are()
     ensures further_above { is_kind_of family 2 0 ≡ true }
     ensures below { is_kind_of family 1 2 ≡ false }
     ensures apart { is_kind_of family 3 0 ≡ false }
+    ensures no_step_up { up (above_of family) 0 2 ≡ Some 2 }
+    ensures two_steps_up { up (above_of family) 2 2 ≡ Some 0 }
+    ensures past_the_top { up (above_of family) 3 2 ≡ None }
+    ensures on_a_circle { is_circular (λ c. Some c) 4 2 ≡ true }
+    ensures on_no_circle { is_circular (above_of family) 4 2 ≡ false }
+    ensures too_few_steps { is_circular (above_of family) 2 2 ≡ true }
+    ensures two_steps_from_below { is_circular (above_of family) 2 1 ≡ false }
+    ensures no_steps_left { reaches (above_of family) 0 (Some 2) 1 ≡ false }
+    ensures itself_at_once { reaches (above_of family) 0 (Some 2) 2 ≡ true }
+    ensures few_steps { reaches (above_of family) 1 (Some 2) 0 ≡ false }
+    ensures nowhere { reaches (above_of family) 4 None 0 ≡ false }
     ensures extends_one { above_of family 2 ≡ Some 1 }
     ensures extends_none { above_of family 3 ≡ None }
     ensures absent { above_of family 4 ≡ None }

@@ -41,8 +41,12 @@ pub fn what_expressions_are()
     ensures negated { expr_effect four_fields this_relevant all_movers (NegE (read_of 1)) nothing_held ≡ Atomic }
     ensures opposite { expr_effect four_fields this_relevant all_movers (NotE (read_of 1)) nothing_held ≡ Atomic }
     ensures sum { expr_effect four_fields this_relevant all_movers (BinaryE Add (read_of 1) (read_of 1)) nothing_held ≡ Cmpd }
+    ensures left_of_sum { expr_effect four_fields this_relevant all_movers (BinaryE Add (read_of 1) plain_local) nothing_held ≡ Atomic }
+    ensures right_of_sum { expr_effect four_fields this_relevant all_movers (BinaryE Add plain_local (read_of 1)) nothing_held ≡ Atomic }
     ensures both { expr_effect four_fields this_relevant all_movers (AndE plain_local (read_of 1)) nothing_held ≡ Atomic }
     ensures either { expr_effect four_fields this_relevant all_movers (OrE (read_of 1) (read_of 1)) nothing_held ≡ Cmpd }
+    ensures left_of_or { expr_effect four_fields this_relevant all_movers (OrE (read_of 1) plain_local) nothing_held ≡ Atomic }
+    ensures right_of_or { expr_effect four_fields this_relevant all_movers (OrE plain_local (read_of 1)) nothing_held ≡ Atomic }
     ensures new_object { expr_effect four_fields this_relevant all_movers (NewE 0 no_exprs) nothing_held ≡ Mover }
     ensures new_object_of_a_read { expr_effect four_fields this_relevant all_movers (NewE 0 (and_expr (read_of 1) no_exprs)) nothing_held ≡ Atomic }
     ensures receiver_first { expr_effect four_fields this_relevant all_movers (GetE (read_of 1) 1) nothing_held ≡ Cmpd }
@@ -52,6 +56,7 @@ pub fn what_expressions_are()
     ensures call_on_a_read { expr_effect four_fields this_relevant all_movers (call_on (read_of 1)) nothing_held ≡ Atomic }
     ensures call_with_a_read { expr_effect four_fields this_relevant all_movers (CallE ThisE 0 (and_expr (read_of 1) no_exprs)) nothing_held ≡ Atomic }
     ensures call_on_a_read_with_one { expr_effect four_fields this_relevant all_movers (CallE (read_of 1) 0 (and_expr (read_of 1) no_exprs)) nothing_held ≡ Cmpd }
+    ensures call_of_const { expr_effect four_fields this_relevant (λ m H. Const) (call_on ThisE) nothing_held ≡ Const }
     ensures call { expr_effect with_required this_relevant all_movers (call_on ThisE) this_held ≡ Mover }
     ensures call_without { expr_effect with_required this_relevant all_movers (call_on ThisE) nothing_held ≡ Error }
     ensures call_on_no_lock { expr_effect with_required this_relevant all_movers (call_on plain_local) this_held ≡ Error }
@@ -60,6 +65,7 @@ pub fn what_expressions_are()
 /// Statements: branches are joined, a loop is its body any number of times, and a lock that isn't held is taken and given back.
 pub fn what_statements_are()
     ensures empty { effect four_fields this_relevant all_movers EmptyS nothing_held ≡ Const }
+    ensures empty_block { effect four_fields this_relevant all_movers (BlockS no_stmts) nothing_held ≡ Const }
     ensures local { effect four_fields this_relevant all_movers (LocalS 1 false type.Int (IntE (pos 1))) nothing_held ≡ Mover }
     ensures assigned { effect four_fields this_relevant all_movers (SetVarS 1 (read_of 1)) nothing_held ≡ Atomic }
     ensures local_of_a_read { effect four_fields this_relevant all_movers (LocalS 1 true type.Int (read_of 1)) nothing_held ≡ Atomic }

@@ -13,6 +13,7 @@ ghost use Rattle.aj_examples.specs.Seen.{here};
 pub fn who_stands_inside()
     ensures by_its_top_frame { is_inside counter (Running (called ∷ [])) ≡ true }
     ensures by_an_outer_frame { is_inside counter (Running (calling ∷ called ∷ [])) ≡ true }
+    ensures no_method { is_inside counter (Running (record calling { method = 3 } ∷ [])) ≡ false }
     ensures not_inside { is_inside counter (Running (calling ∷ [])) ≡ false }
     ensures faulted { is_inside counter (Faulted fault.Null (calling ∷ called ∷ [])) ≡ true }
     ensures ready { is_inside counter (Ready here 0) ≡ false }

@@ -1,9 +1,12 @@
 //! Relevant sets, and which programs are accepted.
-ghost use Rattle.std.specs.Prelude.{true, false};
+ghost use Rattle.std.specs.Prelude.{◌≡◌, true, false, [], ◌∷◌, map};
+ghost use Rattle.aj_algebra.specs.declared.basic.Basic.TheVariants.{Atomic, Cmpd};
+ghost use Rattle.aj_algebra.specs.HeldPaths.{has_path};
 ghost use Rattle.aj_core.specs.Core.{EmptyS};
 ghost use Rattle.aj_core.specs.Examples.{synchronized_this};
-ghost use Rattle.aj_rules.specs.Near.{AreRelevant};
-ghost use Rattle.aj_rules.specs.Rules.{IsAccepted};
+ghost use Rattle.aj_rules.specs.Near.{AreRelevant, begins_in, rel_of, loc_of, most_locks};
+ghost use Rattle.aj_rules.specs.Rules.{IsAccepted, held_in, declared_bound};
+ghost use Rattle.aj_examples.specs.Fields.{path};
 ghost use Rattle.aj_examples.specs.Judged.{meetings, meeting_sets, two_writes, no_lock, requiring, call_put, overridden, put_free};
 
 /// A path becomes relevant by each of the six rules; one that is too long, that the class above lacks, that begins at another method's
@@ -29,4 +32,22 @@ pub fn who_has_required_locks()
 pub fn what_overriding_methods_do()
     ensures both_movers { IsAccepted (overridden EmptyS) }
     ensures one_not { IsAccepted (overridden put_free) → ⊥ }
+{}
+
+/// What the rules of acceptance are made of: bounds, paths that a class knows, those of a set that are relevant, and sets by method.
+pub fn what_the_rules_speak_of()
+    ensures bounds { map declared_bound (true ∷ false ∷ []) ≡ Atomic ∷ Cmpd ∷ [] }
+    ensures known { begins_in meetings 0 0 (0 ∷ 9 ∷ []) ≡ true }
+    ensures unknown { begins_in meetings 0 0 (8 ∷ []) ≡ false }
+    ensures known_below { begins_in meetings 1 0 (8 ∷ []) ≡ true }
+    ensures this { begins_in meetings 0 0 [] ≡ true }
+    ensures of_a_parameter { begins_in meetings 0 1 (8 ∷ []) ≡ true }
+    ensures in_the_set { held_in (path 0 [] ∷ []) (has_path (path 0 [] ∷ path 1 [] ∷ [])) (path 0 []) ≡ true }
+    ensures not_relevant { held_in (path 0 [] ∷ []) (has_path (path 0 [] ∷ path 1 [] ∷ [])) (path 1 []) ≡ false }
+    ensures not_held { held_in (path 0 [] ∷ []) (has_path (path 1 [] ∷ [])) (path 0 []) ≡ false }
+    ensures relevant { rel_of meeting_sets 5 ≡ path 0 (0 ∷ []) ∷ [] }
+    ensures local { loc_of meeting_sets 5 ≡ path 1 [] ∷ [] }
+    ensures no_method { rel_of meeting_sets 10 ≡ [] }
+    ensures no_method_either { loc_of meeting_sets 10 ≡ [] }
+    ensures limit { most_locks ≡ 8 }
 {}

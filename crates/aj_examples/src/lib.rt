@@ -7,6 +7,7 @@ pub mod actions;
 pub mod basics;
 pub mod calls;
 pub mod classes;
+pub mod core_types;
 pub mod effects;
 pub mod insides;
 pub mod judgements;

@@ -29,6 +29,8 @@ pub fn which_expressions_are_locks()
     ensures new_object { path_of nodes (NewE 0 no_exprs) ≡ None }
     ensures arguments { paths_of nodes (and_expr ThisE (and_expr NullE (and_expr (of_this 0) no_exprs))) ≡ Some (path 0 []) ∷ None ∷ Some (path 0 (0 ∷ [])) ∷ [] }
     ensures objects { is_class (Class 0) ≡ true }
+    ensures numbers { is_class Int ≡ false }
+    ensures truths { is_class Boolean ≡ false }
 {}
 
 /// The guard of an access is the receiver's path with the guard's fields behind it; where there is none it is unnamed.

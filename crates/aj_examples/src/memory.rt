@@ -1,11 +1,12 @@
 //! Operands, objects, the heap, and the state at the start.
 ghost use Rattle.std.specs.Prelude.{◌≡◌, ℕ, pos, true, false, List, [], ◌∷◌, Some, None, slice_get};
 ghost use Rattle.std.specs.FinMap as map;
+ghost use Rattle.std.specs.declared.cmp.Ordering.TheVariants.{Less, Equal, Greater};
 ghost use Rattle.aj_core.specs.declared.types.CoreType.TheVariants as type;
 ghost use Rattle.aj_core.specs.Examples.{counter};
 ghost use Rattle.aj_state.specs.declared.value.Value.TheVariants.{Int, Truth, Null, Ref};
 ghost use Rattle.aj_state.specs.Values.{default_value, top, under, taken, dropped, as_int, as_truth, address_of, address_eq};
-ghost use Rattle.aj_state.specs.Memory.{made_by, next_address, field_value, with_field, with_lock, new_values};
+ghost use Rattle.aj_state.specs.Memory.{made_by, next_address, field_value, with_field, with_lock, value_in, address_cmp, new_values};
 ghost use Rattle.aj_state.specs.States.{Ready, new_slots, new_object, initial};
 ghost use Rattle.aj_examples.specs.Fields.{nodes};
 ghost use Rattle.aj_examples.specs.Seen.{two_parameters, four_fields, field_at, object_of, here, there, seven, minus_two, yes_value, no_value};
@@ -33,6 +34,13 @@ pub fn what_operands_are()
     ensures another_count { address_eq here next ≡ false }
 {}
 
+/// Addresses are ordered by their threads, and then by their counts.
+pub fn how_addresses_are_ordered()
+    ensures by_thread { address_cmp (record { thread = 0; count = 5 }) (record { thread = 1; count = 0 }) ≡ Less }
+    ensures by_count { address_cmp (record { thread = 1; count = 1 }) (record { thread = 1; count = 0 }) ≡ Greater }
+    ensures same { address_cmp here here ≡ Equal }
+{}
+
 /// What a field or slot holds at first, by its type.
 pub fn what_stands_at_first()
     ensures number { default_value type.Int ≡ Int (pos 0) }
@@ -53,6 +61,7 @@ pub fn what_objects_hold()
     ensures no_object { field_value four_fields 1 None (slice_get four_fields.fields 1) ≡ None }
     ensures no_field { field_value four_fields 4 (Some (object_of 0)) (slice_get four_fields.fields 4) ≡ None }
     ensures not_listed { field_value four_fields 4 (Some (object_of 0)) (Some (field_at 1 false None false)) ≡ None }
+    ensures past_its_fields { field_value nodes 8 (Some (object_of 0)) (Some (field_at 8 false None false)) ≡ None }
     ensures no_class { field_value four_fields 1 (Some (object_of 2)) (slice_get four_fields.fields 1) ≡ None }
     ensures no_value { field_value four_fields 1 (Some (record { class = 0; values = seven ∷ [] })) (slice_get four_fields.fields 1) ≡ None }
 {}
@@ -62,6 +71,8 @@ pub fn what_memory_holds()
     ensures made { made_by 0 three_objects ≡ 2 }
     ensures made_by_another { made_by 1 three_objects ≡ 1 }
     ensures made_by_none { made_by 2 three_objects ≡ 0 }
+    ensures in_the_heap { value_in four_fields three_objects next 1 ≡ Some (Int (pos 2)) }
+    ensures not_in_the_heap { value_in four_fields three_objects (record { thread = 2; count = 0 }) 1 ≡ None }
     ensures next { next_address 0 three_objects ≡ record { thread = 0; count = 2 } }
     ensures field { with_field next 1 seven three_objects ≡
         map.from_sorted ((here, object_of 0) ∷ (next, record { class = 0; values = Int (pos 1) ∷ seven ∷ Int (pos 3) ∷ Int (pos 4) ∷ [] }) ∷ (there, object_of 1) ∷ []) }

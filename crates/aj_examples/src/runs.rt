@@ -5,6 +5,8 @@ ghost use Rattle.aj_state.specs.States.{Running, Done, initial};
 ghost use Rattle.aj_steps.specs.Step.{Absent, IsDone};
 ghost use Rattle.aj_steps.specs.Run.{run, run_from, StopsAt, IsRearrangement, IsUninterrupted, own_states};
 ghost use Rattle.aj_steps.specs.Examples.{nested_after_eleven, one_worker};
+ghost use Rattle.aj_examples.specs.Seen.{four_fields};
+ghost use Rattle.aj_examples.specs.Insides.{entered, two_ready};
 
 /// Nothing runs to the state at the start; a run goes no further than the first entry that can't step.
 pub fn where_runs_end()
@@ -14,6 +16,14 @@ pub fn where_runs_end()
     ensures in_two_parts { run_from nested nested_after_eleven [] ≡ Some nested_after_eleven }
     ensures stops { StopsAt nested (replicate 11 0 ++ 0 ∷ 1 ∷ []) 11 IsDone }
     ensures stops_at_absent { StopsAt counter (1 ∷ 0 ∷ []) 0 Absent }
+{}
+
+/// What a thread's own entries make of it, up to the first entry of any thread that can't step.
+pub fn what_becomes_of_a_thread()
+    ensures own { own_states four_fields two_ready 1 (0 ∷ 1 ∷ 0 ∷ 1 ∷ []) ≡ Some (Running (entered ∷ [])) ∷ Some Done ∷ [] }
+    ensures no_entry { own_states four_fields two_ready 1 (0 ∷ 0 ∷ []) ≡ [] }
+    ensures stopped { own_states four_fields two_ready 1 (1 ∷ 2 ∷ 1 ∷ []) ≡ Some (Running (entered ∷ [])) ∷ [] }
+    ensures nothing { own_states four_fields two_ready 1 [] ≡ [] }
 {}
 
 /// A rearrangement has each entry as often.

@@ -9,7 +9,7 @@ ghost use Rattle.aj_state.specs.States.{Ready, Running, Done, Faulted};
 ghost use Rattle.aj_state.specs.Work.{St, Act, Push, Store, Get, Put, New, Call, Ret, Start};
 ghost use Rattle.aj_steps.specs.Step.{Moves, Absent, IsDone, HadFaulted, Nothing, FieldIs, ObjectIs, LockIs, Prints, Starts, act, turn, seen_by, outcome, changed, moved, step, kind_of, access_kind};
 ghost use Rattle.aj_examples.specs.Fields.{nodes};
-ghost use Rattle.aj_examples.specs.Seen.{four_fields, object_of, here, there, seven, sees, held_by, does, faults_with, frame_with, rest};
+ghost use Rattle.aj_examples.specs.Seen.{four_fields, two_pairs, object_of, here, there, seven, sees, held_by, does, faults_with, frame_with, rest};
 ghost use Rattle.aj_examples.specs.Small.{next, small, sees_two, sees_nothing};
 
 /// A ready thread enters its method, a running one does its next action, and any other one has no step.
@@ -92,6 +92,14 @@ pub fn what_is_not_there()
     ensures object { does sees_nothing (Ref here ∷ []) (Get 1) ≡ faults_with fault.Null (Ref here ∷ []) }
     ensures called_object { does sees_nothing (seven ∷ seven ∷ Ref here ∷ []) (Call 0) ≡ faults_with fault.Null (seven ∷ seven ∷ Ref here ∷ []) }
     ensures started_object { does sees_nothing (Ref here ∷ []) Start ≡ faults_with fault.Null (Ref here ∷ []) }
+{}
+
+/// A class may pair a method with none that is there, and be one that isn't there itself: only in programs that aren't typed.
+pub fn what_no_typed_program_has()
+    ensures missing_target { act two_pairs (sees 0 None) 0 (frame_with (seven ∷ seven ∷ Ref here ∷ [])) [] rest (Call 0) ≡ faults_with fault.Null (seven ∷ seven ∷ Ref here ∷ []) }
+    ensures missing_class { does (sees 2 None) (Ref here ∷ []) Start ≡ faults_with fault.Null (Ref here ∷ []) }
+    ensures missing_method { act four_fields (sees 0 None) 0 (record (frame_with (seven ∷ [])) { method = 2 }) (frame_with [] ∷ []) rest Ret ≡
+        Moves (record { kind = Both; thread = Running (frame_with [] ∷ []); change = Nothing }) }
 {}
 
 /// A method without a result leaves the operands of the frame below as they are.

@@ -1,8 +1,8 @@
 //! Units, commit places and the written order of entries.
-ghost use Rattle.std.specs.Prelude.{◌≡◌, true, false, [], ◌∷◌};
+ghost use Rattle.std.specs.Prelude.{◌≡◌, true, false, [], ◌∷◌, map};
 ghost use Rattle.aj_state.specs.declared.value.StepKind.TheVariants.{Both, Right, Left, Other, Bare};
 ghost use Rattle.aj_steps.specs.Units.{are_kept, units, word_of, is_call, is_whole, commit_place, in_order, schedule_of};
-ghost use Rattle.aj_steps.specs.Words.{is_reducible};
+ghost use Rattle.aj_steps.specs.Words.{moves_right, moves_left, is_other, is_reducible, fits_phase, next_phase};
 ghost use Rattle.aj_examples.specs.Entries.{entry};
 
 /// An entry after which its thread stands inside belongs to the unit of the thread's next entry.
@@ -11,9 +11,13 @@ pub fn what_units_are()
     ensures interleaved { units (entry 0 0 Both true ∷ entry 1 1 Both true ∷ entry 2 0 Both false ∷ entry 3 1 Both false ∷ []) ≡
         (entry 0 0 Both true ∷ entry 2 0 Both false ∷ []) ∷ (entry 1 1 Both true ∷ entry 3 1 Both false ∷ []) ∷ [] }
     ensures open_at_the_end { units (entry 0 0 Both true ∷ entry 1 1 Both false ∷ []) ≡ (entry 1 1 Both false ∷ []) ∷ (entry 0 0 Both true ∷ []) ∷ [] }
+    ensures three { units (entry 0 0 Both true ∷ entry 1 1 Both false ∷ entry 2 0 Both true ∷ entry 3 0 Both false ∷ []) ≡
+        (entry 1 1 Both false ∷ []) ∷ (entry 0 0 Both true ∷ entry 2 0 Both true ∷ entry 3 0 Both false ∷ []) ∷ [] }
+    ensures word { word_of (entry 0 0 Right true ∷ entry 2 0 Left false ∷ []) ≡ Right ∷ Left ∷ [] }
     ensures call { is_call (entry 0 0 Both true ∷ entry 2 0 Both false ∷ []) ≡ true }
     ensures no_call { is_call (entry 0 0 Both false ∷ []) ≡ false }
     ensures whole { is_whole (entry 0 0 Both true ∷ entry 2 0 Both false ∷ []) ≡ true }
+    ensures whole_after_three { is_whole (entry 0 0 Both true ∷ entry 1 0 Both true ∷ entry 2 0 Both false ∷ []) ≡ true }
     ensures cut_off { is_whole (entry 0 0 Both true ∷ entry 2 0 Both true ∷ []) ≡ false }
 {}
 
@@ -30,8 +34,37 @@ pub fn where_units_stand()
 /// Between an entry after which its thread stands inside and that thread's next one no other thread steps.
 pub fn what_interrupts()
     ensures kept { are_kept (entry 0 0 Both true ∷ entry 1 0 Both false ∷ entry 2 1 Both true ∷ []) ≡ true }
+    ensures kept_to_the_end { are_kept (entry 0 0 Both false ∷ entry 1 1 Both true ∷ entry 2 1 Both false ∷ []) ≡ true }
+    ensures interrupted_later { are_kept (entry 0 0 Both true ∷ entry 1 0 Both true ∷ entry 2 1 Both false ∷ []) ≡ false }
+    ensures interrupted_last { are_kept (entry 0 0 Both false ∷ entry 1 0 Both false ∷ entry 2 0 Both true ∷ entry 3 1 Both false ∷ []) ≡ false }
     ensures interrupted { are_kept (entry 0 0 Both true ∷ entry 1 1 Both false ∷ []) ≡ false }
     ensures outside { are_kept (entry 0 0 Both false ∷ entry 1 1 Both false ∷ []) ≡ true }
+{}
+
+/// No entries are no unit, no call, and cut off nothing.
+pub fn what_no_entries_are()
+    ensures kept { are_kept [] ≡ true }
+    ensures units { units [] ≡ [] }
+    ensures call { is_call [] ≡ false }
+    ensures whole { is_whole [] ≡ true }
+    ensures place { commit_place [] ≡ 0 }
+    ensures order { schedule_of (in_order []) ≡ [] }
+    ensures word { is_reducible [] ≡ true }
+{}
+
+/// Which kinds move right, and which left; within a call only those that move left come after its commit.
+pub fn which_kinds_move()
+    ensures right { map moves_right (Right ∷ Both ∷ Left ∷ Other ∷ Bare ∷ []) ≡ true ∷ true ∷ false ∷ false ∷ false ∷ [] }
+    ensures left { map moves_left (Right ∷ Both ∷ Left ∷ Other ∷ Bare ∷ []) ≡ false ∷ true ∷ true ∷ false ∷ false ∷ [] }
+    ensures other { map is_other (Right ∷ Both ∷ Left ∷ Other ∷ Bare ∷ []) ≡ false ∷ false ∷ false ∷ true ∷ false ∷ [] }
+    ensures before { map (fits_phase false) (Right ∷ Both ∷ Left ∷ Other ∷ Bare ∷ []) ≡ true ∷ true ∷ true ∷ true ∷ false ∷ [] }
+    ensures after { map (fits_phase true) (Right ∷ Both ∷ Left ∷ Other ∷ Bare ∷ []) ≡ false ∷ true ∷ true ∷ false ∷ false ∷ [] }
+    ensures commits { next_phase (λ t. false) (entry 0 1 Left true) 1 ≡ true }
+    ensures committed { next_phase (λ t. true) (entry 0 1 Both true) 1 ≡ true }
+    ensures not_yet { next_phase (λ t. false) (entry 0 1 Both true) 1 ≡ false }
+    ensures call_ended { next_phase (λ t. true) (entry 0 1 Left false) 1 ≡ false }
+    ensures of_another { next_phase (λ t. true) (entry 0 1 Both true) 2 ≡ true }
+    ensures of_another_one { next_phase (λ t. false) (entry 0 1 Left true) 2 ≡ false }
 {}
 
 /// Right movers, at most one step that is neither, left movers; Both stands anywhere, Bare nowhere.

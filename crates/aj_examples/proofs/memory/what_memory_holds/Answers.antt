@@ -1,8 +1,9 @@
-use Rattle.std.proofs.Common.{ap}
+use Rattle.std.proofs.Common.{ap, slice_get}
 use Rattle.aj_state.specs.declared.value.Address.{Address}
-use Rattle.aj_examples.specs.Seen.{here, there, seven}
+use Rattle.aj_examples.specs.Seen.{four_fields, here, there, seven}
+use Rattle.aj_state.specs.Memory.{field_value}
 use Rattle.aj_examples.specs.Small.{next, three_entries, lock_at}
-use Rattle.aj_examples.proofs.Maps.{insert_is, remove_is, field_is, made_is}
+use Rattle.aj_examples.proofs.Maps.{get_is, insert_is, remove_is, field_is, made_is}
 use Rattle.aj_examples.proofs.memory.what_memory_holds.Goals as goal
 
 pub returns-clause-made : goal.returns-clause-made
@@ -34,3 +35,9 @@ returns-clause-free c = remove_is (lock_at there) tt there
 
 pub returns-clause-free_already : goal.returns-clause-free_already
 returns-clause-free_already c = remove_is (lock_at there) tt here
+
+pub returns-clause-in_the_heap : goal.returns-clause-in_the_heap
+returns-clause-in_the_heap c = ap (λ o. field_value four_fields 1 o (slice_get four_fields.fields 1)) (get_is three_entries tt next)
+
+pub returns-clause-not_in_the_heap : goal.returns-clause-not_in_the_heap
+returns-clause-not_in_the_heap c = ap (λ o. field_value four_fields 1 o (slice_get four_fields.fields 1)) (get_is three_entries tt (record { thread = 2; count = 0 }))

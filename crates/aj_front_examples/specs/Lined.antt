@@ -1,0 +1,42 @@
+-- Classes above each other, two of them on a circle.
+--     class A { int a; void m() { } }
+--     class B extends A implements Runnable { final int b; }
+--     class C extends B { int a; int c; }
+--     class D extends X { }
+--     class E extends F { int e; }
+--     class F extends E implements Runnable { }
+--     class G extends F { int g; }
+--     class A extends C { }
+use Rattle.std.specs.Prelude.{true, false, [], ◌∷◌, codes}
+use Rattle.aj_syntax.specs.declared.tree.TypeName.TheVariants as Y
+use Rattle.aj_syntax.specs.Trees.{MemberTree, ProgramTree}
+use Rattle.aj_front_examples.specs.Written.{name, field, bare_method, class_tree, class_below}
+
+abbrev pub a_field : MemberTree
+a_field = field false Y.Int (name (codes "a") 2)
+
+abbrev pub m_method : MemberTree
+m_method = bare_method (name (codes "m") 4)
+
+abbrev pub b_field : MemberTree
+b_field = field true Y.Int (name (codes "b") 13)
+
+abbrev pub other_a_field : MemberTree
+other_a_field = field false Y.Boolean (name (codes "a") 22)
+
+abbrev pub c_field : MemberTree
+c_field = field false Y.Int (name (codes "c") 24)
+
+abbrev pub g_field : MemberTree
+g_field = field false Y.Int (name (codes "g") 62)
+
+abbrev pub lined : ProgramTree
+lined =
+    class_tree (name (codes "A") 0) (a_field ∷ m_method ∷ [])
+    ∷ record (class_below (name (codes "B") 10) (name (codes "A") 11) (b_field ∷ [])) { runnable = true }
+    ∷ class_below (name (codes "C") 20) (name (codes "B") 21) (other_a_field ∷ c_field ∷ [])
+    ∷ class_below (name (codes "D") 30) (name (codes "X") 31) []
+    ∷ class_below (name (codes "E") 40) (name (codes "F") 41) (field false Y.Int (name (codes "e") 42) ∷ [])
+    ∷ record (class_below (name (codes "F") 50) (name (codes "E") 51) []) { runnable = true }
+    ∷ class_below (name (codes "G") 60) (name (codes "F") 61) (g_field ∷ [])
+    ∷ class_below (name (codes "A") 70) (name (codes "C") 71) [] ∷ []

@@ -1,0 +1,2 @@
+-- Texts that the examples speak of, and what they write.
+pub mod Texts
