@@ -12,12 +12,6 @@ use std::alloc::{AllocError as NoMemory, Global};
 #[derive(Clone, Copy, Debug, Default)]
 pub struct Trees;
 
-impl Trees {
-    pub fn new() -> Trees {
-        Trees
-    }
-}
-
 impl Algebra for Trees {
     type A = Tree;
 

@@ -151,7 +151,7 @@ fn is_bounded(t: &Tree, method: &CoreMethod) -> bool
     requires { IsCanonical (cond_of t.now) }
     ensures { result ≡ below_of (value_of (cond_of t.now) (has_path (method_of method.now).requires_)) (declared_bound (method_of method.now).annotated) }
 {
-    let found = Trees::new().at(t, method.requires_.as_slice());
+    let found = Trees.at(t, method.requires_.as_slice());
     found.below(bound(method.annotated))
 }
 

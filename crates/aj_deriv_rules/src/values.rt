@@ -96,7 +96,7 @@ pub(crate) fn seq(alloc: Global, work: Work<'_>, t: &Tree, u: &Tree) -> Result<T
         value_of (cond_of r) H ≡ seq_of (value_of (cond_of t.now) H) (value_of (cond_of u.now) H)) }
 {
     check_small(work, t, u)?;
-    let mut trees = Trees::new();
+    let mut trees = Trees;
     trees.seq(alloc, t, u)
 }
 
@@ -109,7 +109,7 @@ pub(crate) fn join(alloc: Global, work: Work<'_>, t: &Tree, u: &Tree) -> Result<
         value_of (cond_of r) H ≡ join_of (value_of (cond_of t.now) H) (value_of (cond_of u.now) H)) }
 {
     check_small(work, t, u)?;
-    let mut trees = Trees::new();
+    let mut trees = Trees;
     trees.join(alloc, t, u)
 }
 
@@ -120,7 +120,7 @@ pub(crate) fn star(alloc: Global, work: Work<'_>, t: &Tree) -> Result<Tree, NoMe
     ensures value { IfOk result (λ r. (H : Held) → value_of (cond_of r) H ≡ star_of (value_of (cond_of t.now) H)) }
 {
     check_small(work, t, t)?;
-    let mut trees = Trees::new();
+    let mut trees = Trees;
     trees.star(alloc, t)
 }
 
@@ -131,7 +131,7 @@ pub(crate) fn sync(alloc: Global, work: Work<'_>, p: &Path, t: &Tree) -> Result<
     ensures value { IfOk result (λ r. (H : Held) → value_of (cond_of r) H ≡ sync_of p.now (value_of (cond_of t.now)) H) }
 {
     check_small(work, t, t)?;
-    let mut trees = Trees::new();
+    let mut trees = Trees;
     trees.sync(alloc, p, t)
 }
 
@@ -153,7 +153,7 @@ pub(crate) fn held_or(
     let Some(path) = name else {
         return copied(alloc, work, u);
     };
-    let mut trees = Trees::new();
+    let mut trees = Trees;
     trees.held_or(alloc, path, t, u)
 }
 
@@ -164,5 +164,5 @@ pub fn below(work: Work<'_>, t: &Tree, u: &Tree) -> Result<bool, NoMemory>
     ensures { IfOk result (λ b. (b ≡ true) ↔ ((H : Held) → AtMost (value_of (cond_of t.now) H) (value_of (cond_of u.now) H))) }
 {
     check_small(work, t, u)?;
-    Ok(Trees::new().below(t, u))
+    Ok(Trees.below(t, u))
 }

@@ -8,4 +8,4 @@ mod locals;
 
 pub use calls::{among, held_under};
 pub use lists::{copied, has, has_all, with_path};
-pub use locals::after;
+pub use locals::{after, local_name};

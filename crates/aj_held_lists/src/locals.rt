@@ -79,7 +79,7 @@ fn with_names(alloc: Global, slot: u16, start: &Path, held: &[Path]) -> Result<V
 }
 
 /// What a path is called from a local whose value has the path `start`; `None` where it doesn't go on from there.
-fn local_name(slot: u16, start: &Path, path: &Path) -> Option<Path>
+pub fn local_name(slot: u16, start: &Path, path: &Path) -> Option<Path>
     ensures { result ≡ local_name slot start.now path.now }
 {
     let after = path.fields.as_slice().get(start.fields.len()..)?;

@@ -5,4 +5,4 @@ mod source_fault;
 mod verdict;
 
 pub use source_fault::{SourceFault, source_fault_text};
-pub use verdict::{atomicity_text, broken_text, write_title};
+pub use verdict::{atomicity_text, broken_text, write_fields, write_path, write_title};

@@ -97,7 +97,8 @@ fn write_branch(
     }
 }
 
-fn write_path(
+/// Writes a path in a method: its slot, then its fields.
+pub fn write_path(
     line: &mut String,
     table: &ClassTable,
     method: MethodId,
@@ -109,7 +110,12 @@ fn write_path(
     write_fields(line, table, path.fields.as_slice())
 }
 
-fn write_fields(line: &mut String, table: &ClassTable, fields: &[FieldId]) -> Result<(), NoMemory>
+/// Writes the fields of a path, each behind a point.
+pub fn write_fields(
+    line: &mut String,
+    table: &ClassTable,
+    fields: &[FieldId],
+) -> Result<(), NoMemory>
     ensures { OnOk result (string_bytes line.new ≡ string_bytes line.old ++ fields_text (table_data table.now) fields.now) }
 {
     for field in fields {

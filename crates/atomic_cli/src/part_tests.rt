@@ -76,7 +76,7 @@ fn a_tree_has_its_text(rt: HostRuntime) -> Result<(), Fail> {
 #[test]
 fn equal_values_are_equal_trees(rt: HostRuntime) -> Result<(), Fail> {
     let alloc = rt.alloc();
-    let mut trees = Trees::new();
+    let mut trees = Trees;
     let lock = Path::of_root(1);
     let body = trees.leaf(alloc, Basic::Const)?;
     let part = trees.sync(alloc, &lock, &body)?;
