@@ -16,11 +16,6 @@ use Rattle.aj_infer.specs.Cells.{table_in, tables_in}
 use Rattle.aj_infer.specs.Verdicts.{AreKnown, basic_at, assignment_of}
 use Rattle.aj_infer.proofs.TableParts.{chosen_none}
 
--- paths under their own names are held where they are
-pub own_names : (H : Held) (ps : List PathData) → held_partners (map (λ q. (q, Some q)) ps) H ≡ map H ps
-own_names H [] = refl
-own_names H (p ∷ ps) = ap (λ bits. H p ∷ bits) (own_names H ps)
-
 -- one table more
 pub tables_more : (rel : ℕ → List PathData) (A : Assignment) (old new all : List (List Basic)) (table : List Basic) (m count : ℕ) → m < count → table ≡ table_in rel A m → new ≡ old ++ table ∷ []
     → old ++ tables_in rel A m (count - m) ≡ all → new ++ tables_in rel A (m + 1) (count - (m + 1)) ≡ all

@@ -1,5 +1,5 @@
 //! The tables of methods, and the value of one under the names that its paths have elsewhere.
-ghost use Rattle.std.specs.Prelude.{◌≡◌, true, map, Some, IfOk, slice_get};
+ghost use Rattle.std.specs.Prelude.{◌≡◌, true, map, IfOk, slice_get};
 ghost use Rattle.aj_algebra.specs.Values.{Keeps};
 ghost use Rattle.aj_algebra.specs.HeldPaths.{Held};
 ghost use Rattle.aj_rules.specs.Near.{rel_of};
@@ -89,6 +89,28 @@ pub(crate) fn pick<G: Algebra>(
     algebra.held_or(alloc, path, &with, &without)
 }
 
+/// The table's entry at each set, by which of the table's paths it has.
+fn pick_held<G: Algebra>(
+    alloc: Global,
+    algebra: &mut G,
+    paths: &[Path],
+    table: &[Basic],
+) -> Result<G::A, NoMemory>
+    ensures known { IfOk result (λ r. G.IsKnown algebra.new r) }
+    ensures value { IfOk result (λ r. (H : Held) → G.value algebra.new r H ≡ chosen (map H paths.now) table.now) }
+    ensures keeps { Keeps G.IsKnown G.value algebra.old algebra.new }
+{
+    let Some((path, rest)) = paths.split_first() else {
+        return algebra.leaf(alloc, front(table));
+    };
+    let without = pick_held(alloc, algebra, rest, half(table, false))?;
+    if are_equal(half(table, false), half(table, true)) {
+        return Ok(without);
+    }
+    let with = pick_held(alloc, algebra, rest, half(table, true))?;
+    algebra.held_or(alloc, path, &with, &without)
+}
+
 /// The value of the table of a method: its entry for the relevant paths that are held.
 pub(crate) fn value_of<G: Algebra>(
     alloc: Global,
@@ -101,17 +123,5 @@ pub(crate) fn value_of<G: Algebra>(
     ensures value { IfOk result (λ value. (H : Held) → G.value algebra.new value H ≡ assigned (rel_of sets.now) tables.now method H) }
     ensures keeps { Keeps G.IsKnown G.value algebra.old algebra.new }
 {
-    let pairs = own_names(alloc, sets.rel(method))?;
-    pick(alloc, algebra, pairs.as_slice(), table_at(tables, method))
-}
-
-/// Each path under its own name.
-fn own_names(alloc: Global, paths: &[Path]) -> Result<Vec<(Path, Option<Path>)>, NoMemory>
-    ensures { IfOk result (λ pairs. pairs.items ≡ map (λ q. (q, Some q)) paths.now) }
-{
-    let mut pairs = Vec::new(alloc);
-    for path in paths {
-        pairs.push((path.copy(), Some(path.copy())))?;
-    }
-    Ok(pairs)
+    pick_held(alloc, algebra, sets.rel(method), table_at(tables, method))
 }
