@@ -1,6 +1,6 @@
 //! Classes in an order in which each comes after the one that it extends.
 
-ghost use Rattle.std.specs.Prelude.{◌≡◌, ◌<◌, ◌++◌, ℕ, Option, false, true, length, replicate, reverse, IfOk, OnOk};
+ghost use Rattle.std.specs.Prelude.{◌≡◌, ◌<◌, ◌++◌, ◌∷◌, [], ℕ, Option, None, false, true, length, replicate, reverse, IfOk, OnOk};
 ghost use Rattle.aj_classes.specs.Table.{above_in_table};
 ghost use Rattle.aj_classes.specs.Views.{table_data};
 ghost use Rattle.aj_elaborate.specs.Order.{IsClimb, IsFromAbove, IsLined, IsOrdered, is_marked, stands_in};
@@ -62,8 +62,20 @@ fn put_line(
     Ok(())
 }
 
-/// Puts a class into the order, after those above it.
-fn put_class(
+/// Puts a class that extends none into the order.
+fn put_top(class: ClassId, marks: &mut Vec<bool>, order: &mut Vec<ClassId>) -> Result<(), NoMemory>
+    requires within { class < length marks.old.items }
+    ensures ordered { OnOk result ((above : ℕ → Option ℕ) (count : ℕ) → above class ≡ None → IsOrdered above count marks.old.items order.old.items
+        → IsOrdered above count marks.new.items order.new.items) }
+    ensures order { OnOk result (order.new.items ≡ order.old.items ++ class ∷ []) }
+{
+    order.push(class)?;
+    put(marks, class, true);
+    Ok(())
+}
+
+/// Puts a class into the order, after those above it that it doesn't have yet.
+fn put_heir(
     alloc: Global,
     table: &ClassTable,
     class: ClassId,
@@ -79,6 +91,30 @@ fn put_class(
 {
     let line = climb(alloc, table, class, marks.as_slice())?;
     put_line(line, marks, order)
+}
+
+/// Puts a class into the order, after those above it, unless the order has it.
+fn put_class(
+    alloc: Global,
+    table: &ClassTable,
+    class: ClassId,
+    marks: &mut Vec<bool>,
+    order: &mut Vec<ClassId>,
+) -> Result<(), NoMemory>
+    requires lined { IsLined (table_data table.now) }
+    requires within { class < length (table_data table.now).classes }
+    requires ordered { IsOrdered (above_in_table (table_data table.now)) (length (table_data table.now).classes) marks.old.items order.old.items }
+    ensures ordered { OnOk result (IsOrdered (above_in_table (table_data table.now)) (length (table_data table.now).classes) marks.new.items order.new.items) }
+    ensures class { OnOk result (stands_in order.new.items class ≡ true) }
+    ensures others { OnOk result ((c : ℕ) → stands_in order.old.items c ≡ true → stands_in order.new.items c ≡ true) }
+{
+    if is_marked(marks.as_slice(), class) {
+        return Ok(());
+    }
+    match table.above(class) {
+        Some(_) => put_heir(alloc, table, class, marks, order),
+        None => put_top(class, marks, order),
+    }
 }
 
 /// As many marks, none of them put.

@@ -1,28 +1,23 @@
-use Rattle.std.proofs.Common.{length, reverse, ap, ◌∙◌, ◌++◌, subst}
+use Rattle.std.proofs.Common.{length, ap, sym, ◌∙◌}
 use Rattle.std.proofs.lemmas.Result.{on_ok_weaker}
 use Rattle.aj_classes.specs.Table.{above_in_table}
 use Rattle.aj_classes.specs.Views.{table_data}
-use Rattle.aj_elaborate.specs.Order.{IsClimb, is_marked, stands_in}
-use Rattle.aj_elaborate.proofs.Ordering.{line_within, climb_placed, class_stands, stands_left}
+use Rattle.aj_elaborate.specs.Order.{is_marked, stands_in}
+use Rattle.aj_elaborate.proofs.Ordering.{stands_last, stands_left}
 use Rattle.aj_elaborate.proofs.order.put_class.Goals as goal
 
-pub put_line-requires : goal.put_line-requires
-put_line-requires c =
-    let t = table_data c.args.table.now in record {
-      within =
-          line_within (above_in_table t) (length t.classes) (length c.args.marks.now.items) (is_marked c.as_slice.result.now) c.args.class c.in_ok-line.line.items
-          c.requires.lined.below c.requires.within c.requires.ordered.many c.in_ok-line.ensures.climb;
-    }
+pub returns-then-is_marked : goal.returns-then-is_marked
+returns-then-is_marked c = record {
+  ordered = c.requires.ordered;
+  class = c.requires.ordered.marked c.args.class (ap (λ m. is_marked m c.args.class) (sym c.as_slice.ensures.value) ∙ sym c.is_marked.ensures ∙ c.if-is_marked.true);
+  others = λ d there. there;
+}
 
-pub returns : goal.returns
-returns c =
+pub returns-in-None : goal.returns-in-None
+returns-in-None c =
     let t = table_data c.args.table.now in
-    let line = c.in_ok-line.line.items in
-    let order = c.args.order.now.items in
-    let placed =
-    climb_placed (above_in_table t) (length t.classes) c.args.class c.args.marks.now.items order line c.requires.ordered
-    (subst (λ m. IsClimb (above_in_table t) (is_marked m) c.args.class line) c.as_slice.ensures.value c.in_ok-line.ensures.climb) in record {
-      ordered = on_ok_weaker c.put_line.result (λ h. h (above_in_table t) (length t.classes) c.args.class c.requires.ordered placed) c.put_line.ensures.ordered;
-      class = on_ok_weaker c.put_line.result (λ is. class_stands (above_in_table t) order c.put_line.new.order.items line c.args.class placed is) c.put_line.ensures.order;
-      others = on_ok_weaker c.put_line.result (λ is d there. ap (λ z. stands_in z d) is ∙ stands_left order (reverse line) d there) c.put_line.ensures.order;
+    let order = c.args.order.now.items in record {
+      ordered = on_ok_weaker c.put_top.result (λ h. h (above_in_table t) (length t.classes) (sym c.above.ensures ∙ c.in-None.is) c.requires.ordered) c.put_top.ensures.ordered;
+      class = on_ok_weaker c.put_top.result (λ is. ap (λ z. stands_in z c.args.class) is ∙ stands_last order c.args.class) c.put_top.ensures.order;
+      others = on_ok_weaker c.put_top.result (λ is d there. ap (λ z. stands_in z d) is ∙ stands_left order _ d there) c.put_top.ensures.order;
     }
