@@ -1,5 +1,5 @@
 -- What a program without faults of its classes keeps.
-use Rattle.std.proofs.Common.{◌≡◌, ℕ, ◌+◌, ◌<◌, ◌≤◌, zero, suc, Bool, true, false, not, List, [], ◌∷◌, ◌++◌, Option, Some, None, map, flat_map, length, reverse, refl, ap, sym, ◌∙◌, subst, ◌&&◌, ◌||◌, cond, bytes_eq, nat_le, slice_get, position, is_some, arith, append_assoc, if◌then◌else◌}
+use Rattle.std.proofs.Common.{◌≡◌, ℕ, ◌+◌, ◌<◌, ◌≤◌, zero, suc, Bool, true, false, not, List, [], ◌∷◌, ◌++◌, Option, Some, None, map, flat_map, length, reverse, refl, ap, sym, ◌∙◌, subst, ◌&&◌, ◌||◌, cond, bytes_eq, nat_le, slice_get, is_some, arith, if◌then◌else◌}
 use Rattle.std.specs.Prelude.{codes}
 use Rattle.std.specs.List.{list_any, position_from}
 use Rattle.std.specs.Option.{option_and_then}
@@ -8,21 +8,19 @@ use Rattle.std.proofs.lemmas.Bool.{leb-true, leb-false, or_parts}
 use Rattle.std.proofs.lemmas.Option.{none-some, same_Some, slice_get_within}
 use Rattle.std.proofs.lemmas.List.{append-nil, reverse-append, length-map}
 use Rattle.std.proofs.lemmas.List.Concat.{flat_map-cons}
-use Rattle.std.proofs.lemmas.List.Folds.{list_any-append}
 use Rattle.std.proofs.lemmas.List.Quantifiers.{position-Some}
 use Rattle.std.proofs.lemmas.Grind.{flat_map-append}
 use Rattle.std.proofs.lemmas.Iterator.Adapters.{position_from-zero}
-use Rattle.aj_ancestors.specs.Ancestors.{AreBelow, IsAncestor, IsCircular, is_circular, up}
+use Rattle.aj_ancestors.specs.Ancestors.{AreBelow, IsAncestor, is_circular, up}
 use Rattle.aj_ancestors.proofs.Going.{circle_exact, going_ends}
 use Rattle.aj_lemmas.proofs.Lists.{get_below}
 use Rattle.aj_syntax.specs.declared.tree.Name.{Name}
 use Rattle.aj_syntax.specs.Trees.{MethodTree, MemberTree, FieldM, CtorM, MethodM, ClassTree, ProgramTree}
-use Rattle.aj_class_rules.specs.declared.fault.ClassFault.{ClassFault}
 use Rattle.aj_class_rules.specs.declared.fault.ClassFault.TheVariants.{Twice, TooMany}
 use Rattle.aj_class_rules.specs.Limits.{most_fields}
-use Rattle.aj_class_rules.specs.Names.{texts_of, has_text, repeats, repeats_after}
+use Rattle.aj_class_rules.specs.Names.{texts_of, repeats, repeats_after}
 use Rattle.aj_class_rules.specs.Members.{class_names, field_names, method_names, finals_of, is_entry}
-use Rattle.aj_class_rules.specs.Lines.{ancestors, class_named, above_in, above, ancestors_of, is_on_circle, line, members_in, members_at, inherited, all_members, says_runnable, counts}
+use Rattle.aj_class_rules.specs.Lines.{ancestors, class_named, above_in, above, ancestors_of, is_on_circle, line, members_at, inherited, all_members, says_runnable, counts}
 use Rattle.aj_class_rules.specs.Overriding.{Heading, headings, headings_at, signature_of, is_same_signature, may_override, clashes, overrides_badly}
 use Rattle.aj_class_rules.specs.Faults.{twice_faults, field_faults, too_many_faults, above_faults, member_faults, missing_constructor, constructor_faults, missing_run, circle_faults, override_faults, is_class_in, other_faults, class_faults, faults_from, is_main, has_main, missing_main, faults_of}
 
@@ -150,14 +148,6 @@ is_class_named tree text has =
     let p = placed text 0 (texts_of (class_names tree)) has in
     (p.0, position_from-zero (bytes_eq text) (texts_of (class_names tree)) ∙ p.1)
 
--- what a class extends is a class
-pub above_known : (tree : ProgramTree) → IsFaultless tree → (k : ℕ) (c : ClassTree) (n : Name) → slice_get tree k ≡ Some c → c.above ≡ Some n
-    → (d : ℕ) × (class_named tree n.text ≡ Some d) × (above tree k ≡ Some d) × (d < length tree)
-above_known tree whole k c n at says =
-    let known = is_class_named tree n.text (passes (is_class_in tree n.text) _ (subst (λ a. above_faults (is_class_in tree) a ≡ []) says (whole.classes k c at).extended)) in
-    let stands : above tree k ≡ Some known.0 = ap (above_in tree) at ∙ ap (option_and_then (λ n. class_named tree n.text)) says ∙ known.1 in
-    (known.0, known.1, stands, below tree k known.0 stands)
-
 -- a class that isn't there has none above it
 no_class : (tree : ProgramTree) (k : ℕ) → slice_get tree k ≡ None → above tree k ≡ None
 no_class tree k none = ap (above_in tree) none
@@ -252,50 +242,6 @@ field_names_append [] ys = refl
 field_names_append (FieldM f ∷ xs) ys = ap (λ ns. f.name ∷ ns) (field_names_append xs ys)
 field_names_append (CtorM n params sets ∷ xs) ys = field_names_append xs ys
 field_names_append (MethodM m ∷ xs) ys = field_names_append xs ys
-
-none_again : (seen : List (List ℕ)) (xs ys : List Name) → repeats_after seen xs ≡ [] → repeats_after (seen ++ texts_of xs) ys ≡ [] → repeats_after seen (xs ++ ys) ≡ []
-none_again seen [] ys one two = subst (λ texts. repeats_after texts ys ≡ []) (append-nil seen) two
-none_again seen (x ∷ xs) ys one two = by_test (has_text seen x.text) one (λ first. none_again (seen ++ x.text ∷ []) xs ys first (subst (λ texts. repeats_after texts ys ≡ []) (sym (append_assoc seen (x.text ∷ []) (texts_of xs))) two))
-  where
-    by_test : (b : Bool) → (if b then x.at ∷ repeats_after seen xs else repeats_after (seen ++ x.text ∷ []) xs) ≡ [] → (repeats_after (seen ++ x.text ∷ []) xs ≡ [] → repeats_after (seen ++ x.text ∷ []) (xs ++ ys) ≡ [])
-        → (if b then x.at ∷ repeats_after seen (xs ++ ys) else repeats_after (seen ++ x.text ∷ []) (xs ++ ys)) ≡ []
-    by_test true one later = absurd (let e : x.at ∷ repeats_after seen xs ≡ [] = one in cc)
-    by_test false one later = later one
-
--- a name that doesn't stand among more doesn't stand among fewer
-fewer : (front seen : List (List ℕ)) (xs : List Name) → repeats_after (front ++ seen) xs ≡ [] → repeats_after seen xs ≡ []
-fewer front seen [] none = refl
-fewer front seen (x ∷ xs) none = by_tests (has_text seen x.text) (has_text front x.text) (has_text (front ++ seen) x.text) (list_any-append (bytes_eq x.text) front seen) none
-    (λ later. fewer front (seen ++ x.text ∷ []) xs (subst (λ texts. repeats_after texts xs ≡ []) (append_assoc front seen (x.text ∷ [])) later))
-  where
-    by_tests : (b before all : Bool) → all ≡ (before || b) → (if all then x.at ∷ repeats_after (front ++ seen) xs else repeats_after (front ++ seen ++ x.text ∷ []) xs) ≡ []
-        → (repeats_after (front ++ seen ++ x.text ∷ []) xs ≡ [] → repeats_after (seen ++ x.text ∷ []) xs ≡ [])
-        → (if b then x.at ∷ repeats_after seen xs else repeats_after (seen ++ x.text ∷ []) xs) ≡ []
-    by_tests b before true e none later = absurd (let f : x.at ∷ repeats_after (front ++ seen) xs ≡ [] = none in cc)
-    by_tests false before false e none later = later none
-    by_tests true true false e none later = absurd (let f : false ≡ true = e in cc)
-    by_tests true false false e none later = absurd (let f : false ≡ true = e in cc)
-
--- no field of a class has the name of another one that it has
-pub fields_apart : (tree : ProgramTree) → IsFaultless tree → (k : ℕ) → repeats (field_names (all_members tree k)) ≡ []
-fields_apart tree whole = along_lines tree whole (λ k. repeats (field_names (all_members tree k)) ≡ [])
-    (λ k none. whole_of k (subst (λ ms. repeats (field_names ms) ≡ []) (sym (inherited_none tree whole k none)) refl))
-    (λ k d is above_apart. whole_of k (subst (λ ms. repeats (field_names ms) ≡ []) (sym (inherited_step tree whole k d is)) above_apart))
-  where
-    own : (k : ℕ) (c : Option ClassTree) → slice_get tree k ≡ c → repeats_after (texts_of (field_names (inherited tree k))) (field_names (members_in c)) ≡ []
-    own k None none = refl
-    own k (Some c) at = (whole.classes k c at).fields
-
-    whole_of : (k : ℕ) → repeats (field_names (inherited tree k)) ≡ [] → repeats (field_names (all_members tree k)) ≡ []
-    whole_of k apart =
-        ap repeats (field_names_append (inherited tree k) (members_at tree k))
-        ∙ none_again [] (field_names (inherited tree k)) (field_names (members_at tree k)) apart (own k (slice_get tree k) refl)
-
--- nor of its own
-pub own_fields_apart : (tree : ProgramTree) (k : ℕ) (c : ClassTree) → IsSound tree k c → repeats (field_names c.members) ≡ []
-own_fields_apart tree k c h =
-    fewer (texts_of (field_names (inherited tree k))) [] (field_names c.members)
-    (subst (λ texts. repeats_after texts (field_names c.members) ≡ []) (sym (append-nil (texts_of (field_names (inherited tree k))))) h.fields)
 
 -- at most so many
 none_there : (n : Option Name) → too_many_faults n ≡ [] → n ≡ None

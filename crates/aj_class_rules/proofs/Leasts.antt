@@ -1,5 +1,5 @@
 -- What is found part by part is the first of all faults.
-use Rattle.std.proofs.Common.{◌≡◌, ℕ, true, false, List, [], ◌∷◌, ◌++◌, Option, Some, None, refl, flat_map, ap, sym, ◌∙◌, ◌||◌, ◌==◌, bytes_eq, if◌then◌else◌}
+use Rattle.std.proofs.Common.{◌≡◌, ℕ, true, false, List, [], ◌∷◌, ◌++◌, Some, None, refl, ap, sym, ◌∙◌, ◌||◌, ◌==◌, bytes_eq, if◌then◌else◌}
 use Rattle.std.proofs.Math.Path.{fun_ext}
 use Rattle.std.proofs.Math.Bool.{or_assoc, or-false}
 use Rattle.std.proofs.lemmas.List.Folds.{list_any-append}
@@ -11,10 +11,8 @@ use Rattle.aj_syntax.specs.Trees.{ProgramTree}
 use Rattle.aj_class_rules.specs.declared.fault.ClassFault.{ClassFault}
 use Rattle.aj_class_rules.specs.declared.fault.ClassFault.TheVariants as kind
 use Rattle.aj_class_rules.specs.Names.{has_text, with_text, texts_of, distinct_after, distinct}
-use Rattle.aj_class_rules.specs.Faults.{place_of, twice_faults, class_faults, missing_main, IsFirstFault, faults_of}
-use Rattle.aj_class_rules.specs.Members.{class_names}
+use Rattle.aj_class_rules.specs.Faults.{place_of, IsFirstFault, faults_of}
 use Rattle.aj_class_rules.specs.Noted.{noted}
-use Rattle.aj_class_rules.proofs.Noting.{noted_append}
 
 -- ---- a set of texts tells the same as the list
 

@@ -7,6 +7,7 @@ mod Rows
 mod Parted
 mod Repeats
 mod Wholes
+mod Alone
 pub mod Leasts
 pub mod FirstFaults
 pub mod Noting

@@ -1,13 +1,11 @@
 -- Members of several classes, one class after the other.
-use Rattle.std.proofs.Common.{◌≡◌, ℕ, ◌+◌, ◌-◌, ◌<◌, ◌≤◌, nat_lt, zero, suc, Bool, true, false, not, ◌&&◌, ◌||◌, List, [], ◌∷◌, ◌++◌, Option, Some, None, slice_get, map, flat_map, drop, get_or, length, refl, ap, sym, ◌∙◌, arith, append_assoc, if◌then◌else◌}
-use Rattle.std.specs.List.{list_any}
+use Rattle.std.proofs.Common.{◌≡◌, ℕ, ◌+◌, ◌-◌, ◌<◌, ◌≤◌, nat_lt, zero, suc, Bool, true, false, not, List, [], ◌∷◌, ◌++◌, Option, Some, None, slice_get, map, drop, get_or, length, refl, ap, sym, ◌∙◌, arith, append_assoc, if◌then◌else◌}
 use Rattle.std.proofs.Math.Seq.{drop-cons}
 use Rattle.std.proofs.lemmas.List.{append-nil, length-map}
 use Rattle.std.proofs.lemmas.Bool.{ltb-false}
 use Rattle.aj_syntax.specs.declared.tree.Class.{Class}
 use Rattle.aj_syntax.specs.Views.{class_of}
 use Rattle.std.proofs.lemmas.List.Concat.{flat_map-cons}
-use Rattle.std.proofs.lemmas.List.Folds.{list_any-append}
 use Rattle.std.proofs.lemmas.Option.{none-some, slice_get_past}
 use Rattle.aj_lemmas.proofs.Lists.{at_left}
 use Rattle.aj_syntax.specs.declared.tree.Name.{Name}

@@ -1,15 +1,13 @@
 -- The number of the first class with a name, found by the place of the name among those that differ.
-use Rattle.std.proofs.Common.{◌≡◌, ℕ, ◌+◌, suc, Bool, true, false, List, [], ◌∷◌, ◌++◌, Option, Some, None, cond, refl, ap, sym, ◌∙◌, subst, ◌||◌, bytes_eq, slice_get, position, arith, append_assoc, if◌then◌else◌}
+use Rattle.std.proofs.Common.{◌≡◌, ℕ, ◌+◌, suc, Bool, true, false, List, [], ◌∷◌, ◌++◌, Option, Some, None, cond, refl, ap, sym, ◌∙◌, ◌||◌, bytes_eq, slice_get, position, arith, append_assoc, if◌then◌else◌}
 use Rattle.std.specs.Option.{option_map, option_and_then}
-use Rattle.std.specs.List.{list_any, position_from}
-use Rattle.std.proofs.Math.Bool.{or-false}
-use Rattle.std.proofs.lemmas.Bool.{or_parts}
+use Rattle.std.specs.List.{position_from}
 use Rattle.std.proofs.lemmas.Iterator.Adapters.{position_from-zero}
 use Rattle.std.proofs.lemmas.List.{append-nil}
 use Rattle.std.proofs.lemmas.List.Folds.{list_any-append}
 use Rattle.std.proofs.lemmas.Slice.Eq.{bytes_eq-Decides}
 use Rattle.aj_syntax.specs.declared.tree.Name.{Name}
-use Rattle.aj_class_rules.specs.Names.{has_text, with_text, texts_of, distinct_after, distinct}
+use Rattle.aj_class_rules.specs.Names.{has_text, texts_of, distinct_after, distinct}
 use Rattle.aj_class_rules.specs.Families.{new_places, first_places}
 
 -- the texts that are new after these

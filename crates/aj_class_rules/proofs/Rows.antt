@@ -1,12 +1,11 @@
 -- The methods of each class, as they are kept.
-use Rattle.std.proofs.Common.{◌≡◌, ℕ, ◌+◌, ◌≤◌, zero, suc, List, [], ◌∷◌, ◌++◌, map, drop, length, Option, Some, None, refl, ap, sym, ◌∙◌, subst, slice_get, arith}
+use Rattle.std.proofs.Common.{◌≡◌, ℕ, ◌+◌, ◌≤◌, zero, suc, List, [], ◌∷◌, ◌++◌, map, drop, length, refl, ap, sym, ◌∙◌, slice_get, arith}
 use Rattle.std.proofs.Math.Path.{fun_ext}
-use Rattle.std.specs.Option.{option_map}
 use Rattle.std.proofs.lemmas.List.{append-nil}
 use Rattle.aj_syntax.specs.declared.tree.Class.{Class}
 use Rattle.aj_syntax.specs.Views.{class_of}
 use Rattle.aj_syntax.specs.Trees.{ClassTree, ProgramTree}
-use Rattle.aj_class_rules.specs.Lines.{members_in, members_at}
+use Rattle.aj_class_rules.specs.Lines.{members_in}
 use Rattle.aj_class_rules.specs.Overriding.{Heading, headings, headings_at}
 use Rattle.aj_class_rules.specs.Families.{row_in, row_at, all_headings}
 

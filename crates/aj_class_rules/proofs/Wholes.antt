@@ -1,19 +1,17 @@
 -- The first fault of a class, of classes and of a program from those of their parts.
-use Rattle.std.proofs.Common.{◌≡◌, ℕ, ◌+◌, ◌<◌, suc, Bool, true, false, List, [], ◌∷◌, ◌++◌, map, flat_map, drop, get_or, length, Option, Some, None, refl, ap, sym, ◌∙◌, ◌||◌, slice_get, arith, if◌then◌else◌}
+use Rattle.std.proofs.Common.{◌≡◌, ℕ, ◌+◌, ◌<◌, suc, Bool, false, List, ◌∷◌, ◌++◌, map, flat_map, drop, get_or, length, Option, ap, sym, ◌∙◌, slice_get, arith}
 use Rattle.std.specs.Prelude.{Result, Ok, Err, IfOk}
 use Rattle.std.proofs.Math.Seq.{drop-cons}
 use Rattle.aj_syntax.specs.declared.tree.Class.{Class}
-use Rattle.aj_syntax.specs.declared.tree.Name.{Name}
 use Rattle.aj_syntax.specs.Trees.{MemberTree, ClassTree, ProgramTree}
 use Rattle.aj_syntax.specs.Views.{class_of}
 use Rattle.aj_class_rules.specs.declared.fault.ClassFault.{ClassFault}
-use Rattle.aj_class_rules.specs.declared.fault.ClassFault.TheVariants.{NoMain}
 use Rattle.aj_class_rules.specs.Limits.{most_fields}
-use Rattle.aj_class_rules.specs.Names.{has_text, texts_of, distinct}
+use Rattle.aj_class_rules.specs.Names.{has_text, distinct}
 use Rattle.aj_class_rules.specs.Members.{class_names, field_names, method_names, finals_of}
 use Rattle.aj_class_rules.specs.Lines.{is_on_circle, line, inherited, all_members, counts}
 use Rattle.aj_class_rules.specs.Overriding.{Heading, headings_at}
-use Rattle.aj_class_rules.specs.Faults.{twice_faults, field_faults, above_faults, member_faults, missing_constructor, constructor_faults, missing_run, too_many_faults, circle_faults, override_faults, is_class_in, other_faults, class_faults, faults_from, is_main, has_main, missing_main, faults_of}
+use Rattle.aj_class_rules.specs.Faults.{twice_faults, field_faults, above_faults, member_faults, missing_constructor, constructor_faults, missing_run, too_many_faults, circle_faults, override_faults, is_class_in, other_faults, class_faults, faults_from}
 use Rattle.aj_class_rules.specs.Noted.{noted}
 use Rattle.aj_class_rules.proofs.Noting.{noted_append}
 use Rattle.aj_class_rules.proofs.Leasts.{same_tests}

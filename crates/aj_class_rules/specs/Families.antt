@@ -1,8 +1,7 @@
 -- What the code keeps of the classes of a program, and how it finds them by their names.
-use Rattle.std.specs.Prelude.{◌≡◌, ℕ, ◌+◌, Bool, List, [], ◌∷◌, ◌++◌, Option, Some, None, Vec, map, flat_map, slice_get, if◌then◌else◌}
+use Rattle.std.specs.Prelude.{◌≡◌, ◌⊎◌, ℕ, ◌+◌, List, [], ◌∷◌, ◌++◌, Option, Some, None, Vec, map, flat_map, slice_get, if◌then◌else◌}
 use Rattle.std.specs.Option.{option_map}
 use Rattle.std.specs.declared.alloc.Global.{Global}
-use Rattle.aj_syntax.specs.declared.tree.Class.{Class}
 use Rattle.aj_syntax.specs.declared.tree.Name.{Name}
 use Rattle.aj_syntax.specs.Trees.{MemberTree, ClassTree, ProgramTree}
 use Rattle.aj_syntax.specs.Views.{class_of}
@@ -13,8 +12,8 @@ use Rattle.aj_class_rules.specs.declared.overriding.LockReach.{LockReach}
 use Rattle.aj_class_rules.specs.declared.overriding.Heading as code_heading
 use Rattle.aj_class_rules.specs.Names.{has_text, distinct}
 use Rattle.aj_class_rules.specs.Members.{class_names}
-use Rattle.aj_class_rules.specs.Lines.{above_in, members_at}
-use Rattle.aj_class_rules.specs.Overriding.{FieldPlace, FoundField, Reach, Heading, headings}
+use Rattle.aj_class_rules.specs.Lines.{above_in, line, members_at}
+use Rattle.aj_class_rules.specs.Overriding.{FieldPlace, FoundField, Reach, Heading, headings, headings_at}
 
 -- the members of these classes
 abbrev pub members_along : ProgramTree → List ℕ → List MemberTree
@@ -78,3 +77,7 @@ row_at rows k = row_in (slice_get rows k)
 abbrev pub all_headings : ProgramTree → ℕ → List ClassTree → List (List Heading)
 all_headings tree k [] = []
 all_headings tree k (c ∷ cs) = headings tree k c.members ∷ all_headings tree (k + 1) cs
+
+-- the methods of each class are known, or no class inherits from any
+abbrev pub AreHeadings : ProgramTree → (ℕ → List Heading) → Type 0
+AreHeadings tree methods = (methods ≡ headings_at tree) ⊎ ((k : ℕ) → line tree k ≡ [])

@@ -1,9 +1,8 @@
 -- Which class stands above which, and what a class inherits. Classes are known by their numbers, from 0 in source order.
-use Rattle.std.specs.Prelude.{ℕ, zero, suc, Bool, false, List, [], ◌∷◌, ◌++◌, Option, Some, None, map, flat_map, length, reverse, position, slice_get, bytes_eq, if◌then◌else◌}
+use Rattle.std.specs.Prelude.{ℕ, zero, suc, Bool, false, List, [], ◌∷◌, ◌++◌, Option, Some, None, flat_map, length, reverse, position, slice_get, bytes_eq, if◌then◌else◌}
 use Rattle.std.specs.List.{list_any}
 use Rattle.std.specs.Option.{option_and_then}
 use Rattle.aj_ancestors.specs.Ancestors.{is_circular}
-use Rattle.aj_syntax.specs.declared.tree.Name.{Name}
 use Rattle.aj_syntax.specs.Trees.{MemberTree, ClassTree, ProgramTree}
 use Rattle.aj_class_rules.specs.Names.{texts_of}
 use Rattle.aj_class_rules.specs.Members.{class_names}

@@ -1,11 +1,10 @@
 -- The members of a class, by kind, in the order in which they are written.
-use Rattle.std.specs.Prelude.{ℕ, Bool, true, false, ◌&&◌, List, [], ◌∷◌, is_none, map, codes, bytes_eq, if◌then◌else◌}
-use Rattle.std.specs.List.{list_any}
+use Rattle.std.specs.Prelude.{ℕ, Bool, true, false, ◌&&◌, List, [], ◌∷◌, is_none, map, bytes_eq, if◌then◌else◌}
 use Rattle.aj_syntax.specs.declared.tree.Name.{Name}
 use Rattle.aj_syntax.specs.declared.tree.Param.{Param}
 use Rattle.aj_syntax.specs.declared.tree.TypeName.{TypeName}
 use Rattle.aj_syntax.specs.declared.tree.TypeName.TheVariants as Y
-use Rattle.aj_syntax.specs.Trees.{MethodTree, MemberTree, FieldM, CtorM, MethodM, ClassTree, ProgramTree}
+use Rattle.aj_syntax.specs.Trees.{MethodTree, MemberTree, FieldM, CtorM, MethodM, ProgramTree}
 
 abbrev pub is_empty : {A : Type 0} → List A → Bool
 is_empty [] = true

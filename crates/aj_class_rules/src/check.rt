@@ -1,15 +1,15 @@
 //! Finds the first fault of a program's classes.
 
-ghost use Rattle.std.specs.Prelude.{◌≡◌, [], None, map, IfOk, OnOk};
+ghost use Rattle.std.specs.Prelude.{◌≡◌, ◌++◌, ◌∷◌, [], None, map, IfOk, OnOk, if◌then◌else◌};
 ghost use Rattle.std.specs.List.{list_any};
 ghost use Rattle.aj_syntax.specs.Views.{member_of, class_of, program_of};
-ghost use Rattle.aj_class_rules.specs.Names.{distinct};
+ghost use Rattle.aj_class_rules.specs.Names.{has_text, with_text, distinct};
+ghost use Rattle.aj_class_rules.specs.declared.fault.ClassFault.TheVariants as kind;
 ghost use Rattle.aj_class_rules.specs.Members.{class_names, is_entry};
 ghost use Rattle.aj_class_rules.specs.Lines.{all_members, members_at};
 ghost use Rattle.aj_class_rules.specs.Lines as lines;
-ghost use Rattle.aj_class_rules.specs.Overriding.{headings_at};
 ghost use Rattle.aj_class_rules.specs.Faults.{twice_faults, missing_run, circle_faults, other_faults, class_faults, faults_from, is_main, has_main, missing_main, faults_of};
-ghost use Rattle.aj_class_rules.specs.Families.{members_along, first_places, tree_of, IsFamily, rows_data, row_at};
+ghost use Rattle.aj_class_rules.specs.Families.{members_along, first_places, tree_of, IsFamily, rows_data, row_at, AreHeadings};
 ghost use Rattle.aj_class_rules.specs.Noted.{noted};
 
 use crate::constructors::{has_finals, note_constructors, note_missing_constructor};
@@ -17,11 +17,9 @@ use crate::family::{Family, reversed};
 use crate::fault::ClassFault;
 use crate::first::first_of;
 use crate::limits::MOST_FIELDS;
-use crate::members::{
-    field_at, note_above, note_excess, note_fields, note_members, note_methods, see,
-};
+use crate::members::{field_at, note_above, note_excess, note_fields, note_members, note_methods};
 use crate::names::NameSet;
-use crate::overriding::{Heading, all_headings, note_overrides};
+use crate::overriding::{Heading, headings_where_inherited, note_overrides};
 use aj_syntax::{Class, Member, Name, Program};
 use std::alloc::{AllocError as NoMemory, Global};
 
@@ -108,7 +106,7 @@ fn note_others(
     first: Option<ClassFault>,
 ) -> Result<Option<ClassFault>, NoMemory>
     requires family { IsFamily family.now }
-    requires rows { row_at (rows_data rows.now) ≡ headings_at (tree_of family.now) }
+    requires rows { AreHeadings (tree_of family.now) (row_at (rows_data rows.now)) }
     requires line { line.now ≡ lines.line (tree_of family.now) number }
     requires order { members_along (tree_of family.now) order.now ≡ all_members (tree_of family.now) number }
     ensures { IfOk result (λ f. f ≡ noted first (other_faults (tree_of family.now) number (class_of class.now))) }
@@ -126,6 +124,26 @@ fn note_others(
     Ok(note_overrides(rows, line, number, found))
 }
 
+/// The faults of a class that extends none.
+fn note_alone<'p, 'a>(
+    alloc: Global,
+    family: &Family<'p, 'a>,
+    rows: &[Vec<Heading>],
+    number: usize,
+    class: &Class<'a>,
+    first: Option<ClassFault>,
+) -> Result<Option<ClassFault>, NoMemory>
+    requires family { IsFamily family.now }
+    requires rows { AreHeadings (tree_of family.now) (row_at (rows_data rows.now)) }
+    requires alone { lines.above (tree_of family.now) number ≡ None }
+    ensures { IfOk result (λ f. f ≡ noted first (class_faults (tree_of family.now) number (class_of class.now))) }
+{
+    let members = class.members.as_slice();
+    let found = note_fields(alloc, family.classes, &[], members, first)?;
+    note_others(alloc, family, rows, number, class, &[], &[number], found)
+}
+
+/// The faults of a class.
 fn note_class<'p, 'a>(
     alloc: Global,
     family: &Family<'p, 'a>,
@@ -135,7 +153,26 @@ fn note_class<'p, 'a>(
     first: Option<ClassFault>,
 ) -> Result<Option<ClassFault>, NoMemory>
     requires family { IsFamily family.now }
-    requires rows { row_at (rows_data rows.now) ≡ headings_at (tree_of family.now) }
+    requires rows { AreHeadings (tree_of family.now) (row_at (rows_data rows.now)) }
+    ensures { IfOk result (λ f. f ≡ noted first (class_faults (tree_of family.now) number (class_of class.now))) }
+{
+    match family.above(number) {
+        Some(_) => note_heir(alloc, family, rows, number, class, first),
+        None => note_alone(alloc, family, rows, number, class, first),
+    }
+}
+
+/// The faults of a class that may extend another.
+fn note_heir<'p, 'a>(
+    alloc: Global,
+    family: &Family<'p, 'a>,
+    rows: &[Vec<Heading>],
+    number: usize,
+    class: &Class<'a>,
+    first: Option<ClassFault>,
+) -> Result<Option<ClassFault>, NoMemory>
+    requires family { IsFamily family.now }
+    requires rows { AreHeadings (tree_of family.now) (row_at (rows_data rows.now)) }
     ensures { IfOk result (λ f. f ≡ noted first (class_faults (tree_of family.now) number (class_of class.now))) }
 {
     let members = class.members.as_slice();
@@ -162,7 +199,7 @@ fn note_classes(
     first: Option<ClassFault>,
 ) -> Result<Option<ClassFault>, NoMemory>
     requires family { IsFamily family.now }
-    requires rows { row_at (rows_data rows.now) ≡ headings_at (tree_of family.now) }
+    requires rows { AreHeadings (tree_of family.now) (row_at (rows_data rows.now)) }
     ensures { IfOk result (λ f. f ≡ noted first (faults_from (tree_of family.now) 0 (tree_of family.now))) }
 {
     let mut found = first;
@@ -208,6 +245,28 @@ fn note_missing_main(
     Ok(first_of(first, ClassFault::NoMain))
 }
 
+/// Adds the name of a class to those that were seen, and its number to those of first classes. A name that was seen before is a
+/// fault, and its class is no first one.
+fn see_class<'a>(
+    number: usize,
+    class: &Class<'a>,
+    names: &mut NameSet<'a>,
+    firsts: &mut Vec<usize>,
+    first: Option<ClassFault>,
+) -> Result<Option<ClassFault>, NoMemory>
+    ensures fault { IfOk result (λ f. f ≡ (if has_text names.old class.now.name.text then noted first (kind.Twice class.now.name.at ∷ []) else first)) }
+    ensures names { OnOk result (names.new ≡ with_text names.old class.now.name.text) }
+    ensures firsts { OnOk result (firsts.new.items ≡ (if has_text names.old class.now.name.text then firsts.old.items else firsts.old.items ++ number ∷ [])) }
+{
+    let is_new = names.add(class.name.text)?;
+    if is_new {
+        firsts.push(number)?;
+        Ok(first)
+    } else {
+        Ok(first_of(first, ClassFault::Twice(class.name.at)))
+    }
+}
+
 /// The names of classes that stand again. The set has then the names of all classes, and the list for each of these the
 /// number of the first class that has it.
 fn note_class_names<'a>(
@@ -223,10 +282,7 @@ fn note_class_names<'a>(
 {
     let mut found = None;
     for (number, class) in classes.iter().enumerate() {
-        if !names.contains(class.name.text) {
-            firsts.push(number)?;
-        }
-        found = see(names, &class.name, found)?;
+        found = see_class(number, class, names, firsts, found)?;
     }
     Ok(found)
 }
@@ -245,7 +301,7 @@ fn note_all<'p, 'a>(
         (missing_main (map class_of classes.entry.now))) }
 {
     let family = Family::new(alloc, classes, names, firsts)?;
-    let rows = all_headings(alloc, &family)?;
+    let rows = headings_where_inherited(alloc, &family)?;
     let found = note_classes(alloc, &family, rows.as_slice(), first)?;
     note_missing_main(alloc, &family, found)
 }

@@ -1,6 +1,7 @@
 //! Which class stands above which, and what each class inherits.
 
-ghost use Rattle.std.specs.Prelude.{◌≡◌, Some, reverse, map, position, bytes_eq, option_map, option_and_then, slice_get, IfOk};
+ghost use Rattle.std.specs.Prelude.{◌≡◌, Some, reverse, map, position, bytes_eq, option_map, option_and_then, slice_get, is_some, IfOk};
+ghost use Rattle.std.specs.List.{list_any};
 ghost use Rattle.aj_syntax.specs.Trees.{ProgramTree};
 ghost use Rattle.aj_syntax.specs.Views.{member_of, class_of};
 ghost use Rattle.aj_class_rules.specs.Members.{class_names};
@@ -119,8 +120,15 @@ impl<'p, 'a> Family<'p, 'a> {
         }
     }
 
+    /// Whether a class extends another.
+    pub(crate) fn has_heirs(&self) -> bool
+        ensures { result ≡ list_any is_some self.now.above.items }
+    {
+        self.above.iter().any(|above| above.is_some())
+    }
+
     /// The number of the class that a class extends.
-    fn above(&self, number: usize) -> Option<usize>
+    pub(crate) fn above(&self, number: usize) -> Option<usize>
         requires { IsFamily self.now }
         ensures { result ≡ above (tree_of self.now) number }
     {

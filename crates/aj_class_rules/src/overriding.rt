@@ -5,7 +5,7 @@ ghost use Rattle.std.specs.List.{list_any};
 ghost use Rattle.aj_syntax.specs.Views.{member_of, lock_of};
 ghost use Rattle.aj_class_rules.specs.Overriding.{class_of_type, reach_from, along, param_root, lock_root, meaning_of, meanings_of, is_same_lock, are_same_places, are_among, same_where_known, same_mark, are_alike, is_same_result, is_same_signature, headings, headings_at, clashes, overrides_badly};
 ghost use Rattle.aj_class_rules.specs.Faults.{override_faults};
-ghost use Rattle.aj_class_rules.specs.Families.{tree_of, IsFamily, place_data, reach_data, locks_data, heading_data, rows_data, row_at};
+ghost use Rattle.aj_class_rules.specs.Families.{tree_of, IsFamily, place_data, reach_data, locks_data, heading_data, rows_data, row_at, AreHeadings};
 ghost use Rattle.aj_class_rules.specs.Noted.{noted};
 
 use crate::constructors::is_same;
@@ -367,7 +367,7 @@ fn headings_of<'p, 'a>(
 }
 
 /// The methods of each class of a family.
-pub(crate) fn all_headings<'p, 'a>(
+fn all_headings<'p, 'a>(
     alloc: Global,
     family: &Family<'p, 'a>,
 ) -> Result<Vec<Vec<Heading<'p, 'a>>>, NoMemory>
@@ -380,4 +380,19 @@ pub(crate) fn all_headings<'p, 'a>(
         rows.push(row)?;
     }
     Ok(rows)
+}
+
+/// The methods of each class of a family where a class extends another; none where each class has its own ones alone.
+pub(crate) fn headings_where_inherited<'p, 'a>(
+    alloc: Global,
+    family: &Family<'p, 'a>,
+) -> Result<Vec<Vec<Heading<'p, 'a>>>, NoMemory>
+    requires { IsFamily family.now }
+    ensures { IfOk result (λ rows. AreHeadings (tree_of family.now) (row_at (rows_data rows.items))) }
+{
+    if family.has_heirs() {
+        all_headings(alloc, family)
+    } else {
+        Ok(Vec::new(alloc))
+    }
 }

@@ -1,4 +1,4 @@
-use Rattle.std.proofs.Common.{◌∙◌, ap}
+use Rattle.std.proofs.Common.{◌∙◌}
 use Rattle.aj_class_rules.specs.Members.{class_names}
 use Rattle.aj_class_rules.specs.Families.{tree_of}
 use Rattle.aj_class_rules.proofs.Places.{found_by}

@@ -2,7 +2,7 @@ use Rattle.std.proofs.Common.{map, reverse, ap, ◌∙◌}
 use Rattle.aj_syntax.specs.Views.{member_of, class_of}
 use Rattle.aj_class_rules.specs.Families.{members_along, tree_of}
 use Rattle.aj_class_rules.proofs.Wholes.{class_result}
-use Rattle.aj_class_rules.proofs.check.note_class.Goals as goal
+use Rattle.aj_class_rules.proofs.check.note_heir.Goals as goal
 
 pub returns : goal.returns
 returns c =
