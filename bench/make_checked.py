@@ -15,10 +15,18 @@ line        500 classes in a line, each of which overrides the one method
 heirs       one class with 2,000 heirs that override its method
 inherited   1,000 classes that inherit 20 methods each, and call one of them
 pairs       3,162 empty classes that inherit as many methods each: ten million pairs of a method and what runs for it
+sets        a method with eight relevant paths that is called at each of their 256 parts, for `levels`
+sets_calls  500 of these that call each other
+sets_rise   as many as fit, called under more and more levels, of which each comes to them later than the one before
+floors      a chain of methods with eight relevant paths whose effect rises three times at each of their 256 parts, round by round; with
+            `refused` the longest certificate that was found
 """
+import itertools
+import string
 import sys
 
 REFUSED = sys.argv[2:] == ["refused"]
+LOCKS = "abcdefgh"
 LAST = "class Last { int u; atomic void last() { this.u = 1; this.u = 2; } }\n" if REFUSED else ""
 LIMIT = 262144 - len(LAST)
 MAIN = "class Main { void main() { } }\n"
@@ -135,6 +143,76 @@ def pairs():
     return MAIN + f"class C {{ {methods} }}\n" + "".join(f"class C{k} extends C {{ }}\n" for k in range(3162))
 
 
+def at_each_part(call, locks=LOCKS):
+    """The call at each part of the locks."""
+    if not locks:
+        return call
+    inner = at_each_part(call, locks[1:])
+    return f"if (this.t) {{ synchronized ({locks[0]}) {{ {inner} }} }} else {{ {inner} }}"
+
+
+ALL = f"({', '.join(LOCKS)})"
+EIGHT = ", ".join(f"final D{k} {p}" for k, p in enumerate(LOCKS))
+USES = " ".join(f"{p}.v = 1;" for p in LOCKS)
+
+
+def with_sets(first, methods, classes=""):
+    """A program whose `main` calls the first of these methods at each part of eight locks of different classes."""
+    made = " ".join(f"final D{k} {p} = new D{k}();" for k, p in enumerate(LOCKS))
+    locks = "".join(f"class D{k} {{ int v guarded_by this; }}\n" for k in range(len(LOCKS)))
+    return f"{locks}{classes}class Main {{ boolean t;\n{''.join(methods)}void main() {{ {made} {at_each_part(f'this.{first}{ALL};')} }} }}\n"
+
+
+def sets():
+    return with_sets("m", [f"void m({EIGHT}) {{ {USES} }}\n"])
+
+
+def sets_calls(count=500):
+    return with_sets("m0", [f"void m{k}({EIGHT}) {{ {USES * (k == 0)} this.m{(k + 1) % count}{ALL}; this.m{(7 * k + 1) % count}{ALL}; }}\n" for k in range(count)])
+
+
+def sets_rise(count):
+    """Levels come to the end of a chain, one a round, and go back to its beginning."""
+    methods = [f"void m0({EIGHT}) {{ {USES} this.m1{ALL}; }}\n"]
+    methods += [f"void m{k}({EIGHT}) {{ {f'this.m{k + 1}{ALL};' * (k + 1 < count)} this.m{k - 1}{ALL}; }}\n" for k in range(1, count)]
+    methods += [f"void v0({EIGHT}) {{ this.m{count - 1}{ALL}; }}\n"]
+    methods += [f"void v{k}({EIGHT}) {{ final E{k} z = new E{k}(); synchronized (z) {{ this.v{k - 1}{ALL}; }} }}\n" for k in range(1, count)]
+    methods += [f"void w({EIGHT}) {{ this.m0{ALL}; {''.join(f'this.v{k}{ALL}; ' for k in range(count))}}}\n"]
+    return with_sets("w", methods, "".join(f"class E{k} {{ }}\n" for k in range(1, count)))
+
+
+def most(make):
+    """What is made for the greatest number for which it fits."""
+    low, high = 2, LIMIT
+    while high - low > 1:
+        middle = (low + high) // 2
+        low, high = (middle, high) if len(make(middle)) <= LIMIT else (low, middle)
+    return make(low)
+
+
+def floors():
+    """The methods that bring a greater effect stand behind the chain, so it comes there a round later. Many fields make long paths."""
+    words = ("".join(letters) for size in range(1, 5) for letters in itertools.product(string.ascii_letters, repeat=size))
+    names = (word for word in words if word not in "if int new for do run try main Main void last this char else long goto enum byte case null true".split())
+    fields = "".join(f"class F{k}{{{''.join(f'int {a};' for a in string.ascii_letters[:32])}}}" for k in range(32))
+    locks = f"class D{{int v write_guarded_by this;}}class N{{{''.join(f'final D {p};' for p in LOCKS)}N({','.join(f'D {p}' for p in LOCKS)}){{{''.join(f'this.{p}={p};' for p in LOCKS)}}}}}"
+    one, two, three, four = (next(names) for _ in range(4))
+    reads = "else ".join(f"if(x==1){{x=this.n.{p}.v;}}" for p in LOCKS)
+    later = f"void {one}(){{int x=0;this.{two}();}}void {two}(){{this.u=1;this.{three}();}}void {three}(){{this.u=1;this.u=2;this.{four}();}}void {four}(){{int x=0;{reads}}}"
+    head = f"{fields}{locks}class M{{final N n;int u;M(N n){{this.n=n;}}"
+
+    def end(called):
+        return f"{later}{'atomic ' * REFUSED}void last(){{this.{called}();}}}}\n{MAIN}"
+
+    text, size, called = [head], len(head), one
+    for name in names:
+        piece = f"void {name}(){{this.{called}();}}"
+        if size + len(piece) + len(end(name)) > LIMIT:
+            return "".join(text) + end(called)
+        text.append(piece)
+        size, called = size + len(piece), name
+
+
 KINDS = {
     "classes": classes,
     "methods": methods,
@@ -149,5 +227,9 @@ KINDS = {
     "heirs": heirs,
     "inherited": inherited,
     "pairs": pairs,
+    "sets": sets,
+    "sets_calls": sets_calls,
+    "sets_rise": lambda: most(sets_rise),
+    "floors": floors,
 }
-sys.stdout.write(KINDS[sys.argv[1]]() + ("" if sys.argv[1] in ("chain", "chain_back", "cycle") else LAST))
+sys.stdout.write(KINDS[sys.argv[1]]() + ("" if sys.argv[1] in ("chain", "chain_back", "cycle", "floors") else LAST))
