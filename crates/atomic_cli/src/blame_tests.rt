@@ -14,9 +14,22 @@ const TWICE: &str = "class Cell { int v guarded_by this; \
     void bare() requires this { this.v = 0; } } \
     class Main { void main() { } }";
 
+/// A call that may run a method which is more than the one that it names.
+const MAY_RUN: &str =
+    "class A { int u; void put() { } } class B extends A { void put() { this.u = 1; this.u = 2; } } \
+    class Main { atomic void go(final A a) { a.put(); } void main() { } }";
+
 /// Sources, each with the status and the text of `blame`.
-static BLAMED: [(&str, u8, &str); 6] = [
+static BLAMED: [(&str, u8, &str); 9] = [
     (TWICE, 0, "blame 3\n0 atomic\n0 mover 0\n1 cmpd\nend\n"),
+    // The same with the lock in a field.
+    (
+        "class L { } class C { final L l; int v guarded_by this.l; C(L l) { this.l = l; } \
+        void f() { synchronized (this.l) { this.v = 1; } } atomic void twice() { this.f(); this.f(); } } \
+        class Main { void main() { } }",
+        0,
+        "blame 3\n0 atomic\n0 mover 0.0\n1 cmpd\nend\n",
+    ),
     (
         "class Main { int u; atomic void main() { this.u = 1; this.u = 2; } }",
         0,
@@ -32,6 +45,15 @@ static BLAMED: [(&str, u8, &str); 6] = [
         "class Main { int u; void main() { } atomic void f() { this.g(); } void g() { this.u = 1; this.u = 2; } }",
         0,
         "blame 2\n2 cmpd\n1 cmpd\nend\n",
+    ),
+    // What a call may run is asked for too: in the second pass.
+    (MAY_RUN, 0, "blame 3\n1 cmpd\n0 cmpd\n2 cmpd\nend\n"),
+    // The method that overrides is above its bound before the one that `check` names is asked again.
+    (
+        "class A { int v guarded_by this; atomic void put() { synchronized (this) { this.v = 1; } } } \
+        class B extends A { atomic void put() { this.v = 2; } } class Main { void main() { } }",
+        0,
+        "blame 3\n0 atomic\n0 mover 0\n1 error\nend\n",
     ),
     (LOCKED, 12, "nothing to blame\n"),
     ("class Main { }", 1, "refused at 1:1: no main\n"),
@@ -54,7 +76,7 @@ fn an_accepted_source_has_nothing_to_blame(rt: HostRuntime) -> Result<(), Fail> 
 }
 
 /// Certificates for `TWICE`, each with the status and the text of `verify-blame`. All places are looked at before the first step.
-static CERTIFICATES: [(&str, u8, &str); 14] = [
+static CERTIFICATES: [(&str, u8, &str); 15] = [
     (
         "blame 3\n0 atomic\n0 mover 0\n1 cmpd\nend\n",
         0,
@@ -97,6 +119,12 @@ static CERTIFICATES: [(&str, u8, &str); 14] = [
     ),
     (
         "blame 1\n9 cmpd\nend\n",
+        13,
+        "blame refused: line 1: place\n",
+    ),
+    // The greatest numbers.
+    (
+        "blame 1\n4294967295 mover 65535.4294967295.4294967295\nend\n",
         13,
         "blame refused: line 1: place\n",
     ),
@@ -175,6 +203,37 @@ static NO_TEXTS: [(&str, u8, &str); 12] = [
 #[test]
 fn texts_that_no_certificate_has_have_their_first_fault(rt: HostRuntime) -> Result<(), Fail> {
     expect_inputs(&rt, rt.alloc(), "verify-blame", TWICE, &NO_TEXTS)
+}
+
+/// Certificates for `MAY_RUN`.
+static CERTIFICATES_OF_A_FAMILY: [(&str, u8, &str); 3] = [
+    (
+        "blame 3\n1 cmpd\n0 cmpd\n2 cmpd\nend\n",
+        0,
+        "refusal verified\n",
+    ),
+    // A call comes to what is said of the method that it names, which must be said of that one first.
+    (
+        "blame 2\n1 cmpd\n2 cmpd\nend\n",
+        13,
+        "blame refused: line 2: step\n",
+    ),
+    (
+        "blame 2\n0 cmpd\n2 cmpd\nend\n",
+        13,
+        "blame refused: line 1: step\n",
+    ),
+];
+
+#[test]
+fn verify_blame_judges_methods_that_may_run(rt: HostRuntime) -> Result<(), Fail> {
+    expect_inputs(
+        &rt,
+        rt.alloc(),
+        "verify-blame",
+        MAY_RUN,
+        &CERTIFICATES_OF_A_FAMILY,
+    )
 }
 
 #[test]

@@ -194,7 +194,7 @@ fn filled(alloc: Global, text: &str, len: usize) -> Result<Vec<u8>, Fail> {
 
 /// Commands with a source and the front of a second file of 16,777,216 bytes, and what they answer to it. One more byte is too
 /// large for each.
-static LARGEST: [(&str, &str, &str, u8, &str); 2] = [
+static LARGEST: [(&str, &str, &str, u8, &str); 4] = [
     (
         "run",
         ENDLESS,
@@ -203,10 +203,18 @@ static LARGEST: [(&str, &str, &str, u8, &str); 2] = [
         "object 0:0 Main\nthread 0 running Main.main 1\n",
     ),
     ("verify", LOCKED, "", 11, "book refused at byte 0: form\n"),
+    (
+        "verify-blame",
+        LOCKED,
+        "",
+        13,
+        "blame refused at byte 0: form\n",
+    ),
+    ("levels", LOCKED, "", 14, "levels refused at byte 0: form\n"),
 ];
 
 #[test]
-fn schedules_and_books_have_at_most_16777216_bytes(rt: HostRuntime) -> Result<(), Fail> {
+fn a_second_file_has_at_most_16777216_bytes(rt: HostRuntime) -> Result<(), Fail> {
     for (command, source, front, status, text) in &LARGEST {
         let full = filled(rt.alloc(), front, 16777216)?;
         let text = text.as_bytes();

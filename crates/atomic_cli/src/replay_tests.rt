@@ -35,6 +35,11 @@ const EFFECTS: &str =
     class Main { atomic boolean say() { System.out.println(-3); return true; } atomic Cell make() { return new Cell(); } \
     atomic void go() { new Thread(new W()).start(); } void main() { this.say(); this.make(); this.go(); } }";
 
+/// A call that runs what the receiver's class says.
+const OVERRIDDEN: &str =
+    "class A { atomic int get() { return 1; } } class B extends A { atomic int get() { return 2; } } \
+    class Main { void main() { A a = new B(); System.out.println(a.get()); } }";
+
 /// A call that has 100 frames, since its method calls itself 99 times under its lock.
 const HUNDRED: &str =
     "class Main { int n guarded_by this; atomic int down(int k) { synchronized (this) { if (k == 0) { return this.n; } \
@@ -67,7 +72,7 @@ fn replay_tells_each_call_of_the_written_order(rt: HostRuntime) -> Result<(), Fa
 }
 
 /// Sources and schedules, each with the status and the text.
-static REPLAYED: [(&str, &str, u8, &str); 8] = [
+static REPLAYED: [(&str, &str, u8, &str); 9] = [
     (
         ADDS,
         "0*34",
@@ -99,6 +104,12 @@ static REPLAYED: [(&str, &str, u8, &str); 8] = [
         0,
         "call 3 thread 0 Main.say on 0:0 gives true prints -3\ncall 11 thread 0 Main.make on 0:0 gives 0:1\n\
         call 16 thread 0 Main.go on 0:0 gives void\ncall 21 thread 1 W.run on 0:2 gives void prints 7\n",
+    ),
+    (
+        OVERRIDDEN,
+        "0*9",
+        0,
+        "call 5 thread 0 B.get on 0:1 gives 2\n",
     ),
     (
         HUNDRED,
