@@ -6,7 +6,7 @@ Runs what the documents show, and tells each line that the program doesn't write
 
 It reads the tables of docs/repairs.md and docs/tutorial.md (a line in the first cell, and the source for it in the last)
 and of examples/README.md (a file, the lines, the status), the blocks of lines in docs/tutorial.md, and the blocks in
-docs/machine.md that begin with a command line. Where crates/atomic_cli has a test of the examples, it is held against
+docs/machine.md and docs/levels.md that begin with a command line. Where crates/atomic_cli has a test of the examples, it is held against
 examples/as_test.py. The book that `derive` writes of each accepted example has to be good, and changed books of it are
 refused with their lines. Each file that README.md and the documents name has to be there. The exit status is 0 where
 all of them hold.
@@ -191,6 +191,7 @@ def main():
     checker.examples()
     checker.tutorial()
     checker.commands("docs", "machine.md")
+    checker.commands("docs", "levels.md")
     checker.examples_test()
     checker.books()
     print(f"{checker.count} answers, {checker.wrong} wrong")
