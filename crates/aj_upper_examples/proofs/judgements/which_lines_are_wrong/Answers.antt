@@ -37,8 +37,14 @@ returns-clause-step c = record {
   before = λ k method line less is its. absurd (omega arith);
   method_is = refl;
   line_is = refl;
-  verdict = (refl, record { relevant = refl; falls = λ H K part. refl }, inr ((λ H part. refl),
-      record { place = _; is = refl; bad = λ below. let e : false ≡ true = below nothing_held in absurd cc; first = λ j x less at. absurd (omega arith) }));
+  verdict = (
+    refl,
+    record { relevant = refl; falls = λ H K part. refl },
+    inr (
+      (λ H part. refl),
+      record { place = _; is = refl; bad = λ below. let e : false ≡ true = below nothing_held in absurd cc; first = λ j x less at. absurd (omega arith) },
+    ),
+  );
 }
 
 pub returns-clause-above_its_tree : goal.returns-clause-above_its_tree
@@ -52,13 +58,22 @@ returns-clause-above_its_tree c = record {
 
 pub returns-clause-inner_step : goal.returns-clause-inner_step
 returns-clause-inner_step c = record {
-  shaped = shaped_alone false print_twice no_paths (line 0 2 (block 2 (print 1) (print 0))) (record { id = refl; fits = each_of _ _
-      (record { word = refl; count = refl }, (record { word = refl; count = refl }, (record { word = refl; count = refl }, (record { word = refl; count = refl }, (record { word = refl; count = refl }, tt))))) });
+  shaped = shaped_alone false print_twice no_paths (line 0 2 (block 2 (print 1) (print 0))) (record {
+    id = refl;
+    fits = each_of _ _
+        (record { word = refl; count = refl }, (record { word = refl; count = refl }, (record { word = refl; count = refl }, (record { word = refl; count = refl }, (record { word = refl; count = refl }, tt)))));
+  });
   before = λ k method line less is its. absurd (omega arith);
   method_is = refl;
   line_is = refl;
-  verdict = (refl, record { relevant = refl; falls = λ H K part. refl }, inr ((λ H part. refl),
-      record { place = _; is = refl; bad = λ below. let e : false ≡ true = below nothing_held in absurd cc; first = before_of _ 3 _ ((λ H. refl), ((λ H. refl), ((λ H. refl), tt))) }));
+  verdict = (
+    refl,
+    record { relevant = refl; falls = λ H K part. refl },
+    inr (
+      (λ H part. refl),
+      record { place = _; is = refl; bad = λ below. let e : false ≡ true = below nothing_held in absurd cc; first = before_of _ 3 _ ((λ H. refl), ((λ H. refl), ((λ H. refl), tt))) },
+    ),
+  );
 }
 
 both_shaped : AreShaped prints_below no_paths (book (line 0 0 (skip 0) ∷ line 1 1 (print 1) ∷ []))
@@ -75,17 +90,29 @@ returns-clause-overridden c = record {
   before = λ k method line less is its. absurd (omega arith);
   method_is = refl;
   line_is = refl;
-  verdict = (refl, record { relevant = refl; falls = λ H K part. refl }, record { under = λ H part. refl; steps = each_of _ _ ((λ H. refl), tt) },
-      λ below. let e : false ≡ true = below 1 over_it nothing_held (nothing_in _) (nothing_in nothing_held) in absurd cc);
+  verdict = (
+    refl,
+    record { relevant = refl; falls = λ H K part. refl },
+    record { under = λ H part. refl; steps = each_of _ _ ((λ H. refl), tt) },
+    λ below. let e : false ≡ true = below 1 over_it nothing_held (nothing_in _) (nothing_in nothing_held) in absurd cc,
+  );
 }
 
 pub returns-clause-bound : goal.returns-clause-bound
 returns-clause-bound c = record {
-  shaped = shaped_alone true print_twice no_paths (line 0 2 (block 2 (print 1) (print 1))) (record { id = refl; fits = each_of _ _
-      (record { word = refl; count = refl }, (record { word = refl; count = refl }, (record { word = refl; count = refl }, (record { word = refl; count = refl }, (record { word = refl; count = refl }, tt))))) });
+  shaped = shaped_alone true print_twice no_paths (line 0 2 (block 2 (print 1) (print 1))) (record {
+    id = refl;
+    fits = each_of _ _
+        (record { word = refl; count = refl }, (record { word = refl; count = refl }, (record { word = refl; count = refl }, (record { word = refl; count = refl }, (record { word = refl; count = refl }, tt)))));
+  });
   before = λ k method line less is its. absurd (omega arith);
   method_is = refl;
   line_is = refl;
-  verdict = (refl, record { relevant = refl; falls = λ H K part. refl }, record { under = λ H part. refl; steps = each_of _ _ ((λ H. refl), ((λ H. refl), ((λ H. refl), ((λ H. refl), ((λ H. refl), tt))))) },
-      (λ over o. absurd (none_over true print_twice over o)), λ below. let e : false ≡ true = below in absurd cc);
+  verdict = (
+    refl,
+    record { relevant = refl; falls = λ H K part. refl },
+    record { under = λ H part. refl; steps = each_of _ _ ((λ H. refl), ((λ H. refl), ((λ H. refl), ((λ H. refl), ((λ H. refl), tt))))) },
+    (λ over o. absurd (none_over true print_twice over o)),
+    λ below. let e : false ≡ true = below in absurd cc,
+  );
 }

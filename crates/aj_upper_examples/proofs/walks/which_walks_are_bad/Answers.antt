@@ -30,6 +30,9 @@ returns-clause-circle c = record {
   first = 0;
   second = 1;
   others = [];
-  waits = (there, record { frame = _; below = []; running = refl; part = EmptyS; rest = []; acquires = refl; operand = refl; hold = held_by 1; held = second_lock; by = refl; another = λ e. absurd (omega arith) },
-      (here, record { frame = _; below = []; running = refl; part = EmptyS; rest = []; acquires = refl; operand = refl; hold = held_by 0; held = first_lock; by = refl; another = λ e. absurd (omega arith) }));
+  waits = (
+    there,
+    record { frame = _; below = []; running = refl; part = EmptyS; rest = []; acquires = refl; operand = refl; hold = held_by 1; held = second_lock; by = refl; another = λ e. absurd (omega arith) },
+    (here, record { frame = _; below = []; running = refl; part = EmptyS; rest = []; acquires = refl; operand = refl; hold = held_by 0; held = first_lock; by = refl; another = λ e. absurd (omega arith) }),
+  );
 }
