@@ -535,6 +535,8 @@ class File:
         self.path, self.text = path, text
         self.names, self.aliases = {}, {}
         self.definitions, self.constructors = {}, {}
+        # the whole text of each item: of a definition its signature and clauses, of a record or a data type its fields or constructors
+        self.items = {}
 
     def use(self, line):
         line = line.strip().rstrip(";")
@@ -609,21 +611,27 @@ def read_antt(path, text):
             if re.match(r"(?:pub )?use ", whole):
                 file.use(whole)
             elif re.match(r"(?:pub )?data ", whole):
+                file.items[re.match(r"(?:pub )?data ([^\s:]+)", whole).group(1)] = whole
                 for g in groups[i + 1 : body]:
                     found = re.match(r"\s*([^\W\d][\w'\-]*) : (.*)$", g[2])
                     if found:
                         file.constructors[found.group(1)] = argument_types(found.group(2))
-            elif re.match(r"(?:pub )?record ", whole) or whole.startswith(("pub mod", "mod ", "unfolding")):
+                        file.items[found.group(1)] = found.group(2)
+            elif re.match(r"(?:pub )?record ", whole):
+                file.items[re.match(r"(?:pub )?record ([^\s:]+)", whole).group(1)] = whole
+            elif whole.startswith(("pub mod", "mod ", "unfolding")):
                 pass
             elif DECLARES.match(whole) and not CLAUSE.match(whole.split("\n")[0]):
                 current = DECLARES.match(whole).group(1)
                 found = file.definitions.setdefault(current, Definition(current, modules))
+                file.items[current] = whole
                 found.is_type = bool(re.search(r"Type 0$|: .*≡", whole))
                 found.types = argument_types(whole[whole.index(" : ") + 3 :])
                 found.result = whole.rsplit("→", 1)[-1].rsplit(" : ", 1)[-1].strip()
             else:
                 clause = CLAUSE.match(whole)
                 if clause and clause.group(1) in file.definitions:
+                    file.items[clause.group(1)] += "\n" + whole
                     file.definitions[clause.group(1)].clauses.append((at, clause.group(2).strip(), clause.group(3)))
             i = body
         return i
@@ -1106,6 +1114,30 @@ def specs(name):
 
 def module_of(path):
     return f"Rattle.{path.parent.parent.name}.specs.{path.stem}"
+
+
+def cited_from(world, paths):
+    """The items that those of these files cite, directly or through others, each with the path of its file."""
+    waiting = [(module_of(path), name) for path in paths for name in world.file(module_of(path)).items]
+    seen = set()
+    while waiting:
+        module, name = waiting.pop()
+        file = world.file(module)
+        if file is None or (file.path, name) in seen:
+            continue
+        if name in file.items:
+            seen.add((file.path, name))
+            for word in re.findall(r"[^\W\d][\w'\-]*(?:\.[^\W\d][\w'\-]*)?|◌\S*◌", file.items[name]):
+                head, _, field = word.partition(".")
+                if head in file.aliases and field:
+                    waiting.append((file.aliases[head], field))
+                elif head in file.names:
+                    waiting.append(file.names[head])
+                elif head in file.items:
+                    waiting.append((module, head))
+        elif name in file.names:
+            waiting.append(file.names[name])
+    return seen
 
 
 def compile_all(world, path):

@@ -1,5 +1,5 @@
 #!/usr/bin/env python3
-"""usage: mutate.py [--list] [--every N] [--prove] CRATE[/FILE]..
+"""usage: mutate.py [--list] [--every N] [--prove] [--cited CRATE/FILE] [CRATE[/FILE]..]
 
 Makes small lies in the definitions of crates (crates/CRATE/specs/*.antt), one at a time, and tells which of them no example notices.
 
@@ -16,6 +16,7 @@ One line for each lie that stands, with the place, the old text and the new one,
   never     no example computes the clause
   STANDS    examples compute it, and notice nothing: an example is missing, or both read the same
 Lies that only exchange what may be exchanged, as the arguments of `seq_of` or `max`, are counted and not printed.
+`--cited aj_commands/Headline` takes only definitions that this file cites, directly or through others, and with no crates named all of them.
 `--list` only prints the lies; `--every N` tries each N-th. What is about types (a definition whose value is a type, a field of a record)
 isn't tried: it computes nothing. The exit status is 0 where all were noticed."""
 import re
@@ -302,6 +303,12 @@ def main():
         at = words.index("--every")
         every = int(words[at + 1])
         del words[at : at + 2]
+    cited = None
+    if "--cited" in words:
+        at = words.index("--cited")
+        cited = D.cited_from(D.World(), D.specs(words[at + 1]))
+        del words[at : at + 2]
+        words = words or sorted({path.parent.parent.name for path, _ in cited})
     if not words or any(w.startswith("-") for w in words):
         print(__doc__.strip())
         return 2
@@ -312,7 +319,7 @@ def main():
             world = trial.world if trial else D.World()
             file = world.file(D.module_of(path))
             for count, (definition, changes, old, new) in enumerate(lies(world, file)):
-                if count % every:
+                if count % every or cited is not None and (path, definition.name) not in cited:
                     continue
                 at = definition.clauses[min(changes)][0]
                 label = f"{path.parent.parent.name}/{path.stem}:{at + 1} {definition.name}: {one_line(old)}  =>  {one_line(new)}"

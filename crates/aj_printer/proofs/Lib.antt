@@ -1,4 +1,5 @@
 mod Indents
+mod Kept
 mod Cutting
 mod Moving
 mod MovingExprs

@@ -1,5 +1,5 @@
 -- Canonical text: how tokens are laid out in lines.
-use Rattle.std.specs.Prelude.{ℕ, zero, suc, ◌+◌, ◌-◌, List, [], ◌∷◌, ◌++◌, codes, decimal}
+use Rattle.std.specs.Prelude.{◌≡◌, ℕ, zero, suc, ◌+◌, ◌-◌, List, [], ◌∷◌, ◌++◌, codes, decimal}
 use Rattle.aj_lexer.specs.declared.tokens.Token.{Token}
 use Rattle.aj_lexer.specs.declared.tokens.TokenKind.TheVariants as K
 use Rattle.aj_printer.specs.declared.page.Lead.{Lead}
@@ -114,3 +114,14 @@ put page x = record {
 unfoldable pub writes : Page → List Lexeme → Page
 writes page [] = page
 writes page (x ∷ xs) = writes (put page x) xs
+
+-- the text that was there, and maybe bytes behind it
+pub record KeepsText (old new : List ℕ) : Type 0 where
+  pub behind : List ℕ
+  pub whole : new ≡ old ++ behind
+
+-- the page with maybe bytes behind its text
+pub record KeepsPage (old new : Page) : Type 0 where
+  pub text : KeepsText old.text new.text
+  pub depth : new.depth ≡ old.depth
+  pub place : new.place ≡ old.place

@@ -1,7 +1,7 @@
 //! Lays out tokens in lines, one after another.
 
-ghost use Rattle.std.specs.Prelude.{◌≡◌, ◌+◌, ◌<◌, ◌^◌, [], ◌++◌, ◌≤◌, OnOk, string_bytes, string_len};
-ghost use Rattle.aj_printer.specs.Layout.{Fixed, Named, Numeral, Page, depth_after, gap, indent, lead_of, line_end, place_after, put};
+ghost use Rattle.std.specs.Prelude.{◌≡◌, ◌+◌, ◌<◌, ◌^◌, [], ◌++◌, ◌≤◌, OnOk, OnErr, string_bytes, string_len};
+ghost use Rattle.aj_printer.specs.Layout.{Fixed, KeepsPage, KeepsText, Named, Numeral, Page, depth_after, gap, indent, lead_of, line_end, place_after, put};
 ghost use Rattle.aj_printer.specs.declared.page.Place.TheVariants as places;
 
 use aj_syntax::Terminal;
@@ -67,9 +67,10 @@ impl Printer {
     }
 
     /// Writes a terminal.
-    #[tactic(auto, unfolding(crate::specs::Layout::put))]
+    #[tactic(auto, unfolding(crate::specs::Layout::put), using(crate::proofs::Kept::kept_page, crate::proofs::Kept::kept_itself, crate::proofs::Kept::kept_more))]
     pub fn terminal(&mut self, terminal: Terminal) -> Result<(), NoMemory>
-        ensures { OnOk result (self.new ≡ put self.old (Fixed terminal)) }
+        ensures put { OnOk result (self.new ≡ put self.old (Fixed terminal)) }
+        ensures kept { OnErr result (KeepsPage self.old self.new) }
     {
         write_gap(&mut self.text, self.place, self.depth, lead_to(terminal))?;
         self.text.push_str(terminal.text())?;
@@ -80,9 +81,10 @@ impl Printer {
     }
 
     /// Writes a name.
-    #[tactic(auto, unfolding(crate::specs::Layout::put))]
+    #[tactic(auto, unfolding(crate::specs::Layout::put), using(crate::proofs::Kept::kept_page, crate::proofs::Kept::kept_itself, crate::proofs::Kept::kept_more))]
     pub fn name(&mut self, name: &str) -> Result<(), NoMemory>
-        ensures { OnOk result (self.new ≡ put self.old (Named name.now)) }
+        ensures put { OnOk result (self.new ≡ put self.old (Named name.now)) }
+        ensures kept { OnErr result (KeepsPage self.old self.new) }
     {
         write_gap(&mut self.text, self.place, self.depth, Lead::Spaced)?;
         self.text.push_str(name)?;
@@ -91,9 +93,10 @@ impl Printer {
     }
 
     /// Writes a number.
-    #[tactic(auto, unfolding(crate::specs::Layout::put))]
+    #[tactic(auto, unfolding(crate::specs::Layout::put), using(crate::proofs::Kept::kept_page, crate::proofs::Kept::kept_itself, crate::proofs::Kept::kept_more))]
     pub fn number(&mut self, number: u32) -> Result<(), NoMemory>
-        ensures { OnOk result (self.new ≡ put self.old (Numeral number)) }
+        ensures put { OnOk result (self.new ≡ put self.old (Numeral number)) }
+        ensures kept { OnErr result (KeepsPage self.old self.new) }
     {
         let mut digits = Buffer::new();
         write_gap(&mut self.text, self.place, self.depth, Lead::Spaced)?;
@@ -103,9 +106,10 @@ impl Printer {
     }
 }
 
-#[tactic(auto, using(crate::proofs::Indents::indent_more))]
+#[tactic(auto, using(crate::proofs::Indents::indent_more, crate::proofs::Kept::kept_itself, crate::proofs::Kept::kept_more))]
 fn write_indent(text: &mut String, depth: usize) -> Result<(), NoMemory>
     ensures text { OnOk result (string_bytes text.new ≡ string_bytes text.old ++ indent depth) }
+    ensures kept { OnErr result (KeepsText (string_bytes text.old) (string_bytes text.new)) }
     ensures longer { string_len text.old ≤ string_len text.new }
 {
     for _level in 0..depth {
@@ -114,8 +118,10 @@ fn write_indent(text: &mut String, depth: usize) -> Result<(), NoMemory>
     Ok(())
 }
 
+#[tactic(auto, using(crate::proofs::Kept::kept_itself))]
 fn write_gap(text: &mut String, place: Place, depth: usize, lead: Lead) -> Result<(), NoMemory>
     ensures text { OnOk result (string_bytes text.new ≡ string_bytes text.old ++ gap place depth lead) }
+    ensures kept { OnErr result (KeepsText (string_bytes text.old) (string_bytes text.new)) }
     ensures longer { string_len text.old ≤ string_len text.new }
 {
     match (place, lead) {
@@ -126,8 +132,10 @@ fn write_gap(text: &mut String, place: Place, depth: usize, lead: Lead) -> Resul
     }
 }
 
+#[tactic(auto, using(crate::proofs::Kept::kept_itself))]
 fn write_line_end(text: &mut String, terminal: Terminal) -> Result<(), NoMemory>
     ensures text { OnOk result (string_bytes text.new ≡ string_bytes text.old ++ line_end (Fixed terminal)) }
+    ensures kept { OnErr result (KeepsText (string_bytes text.old) (string_bytes text.new)) }
     ensures longer { string_len text.old ≤ string_len text.new }
 {
     match terminal {

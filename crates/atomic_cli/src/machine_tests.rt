@@ -14,7 +14,7 @@ use aj_deriv_check::{Checked, accept_text};
 use aj_held::Watched;
 use aj_machine::Machine;
 use aj_sources::{Source, read_source};
-use aj_state::{Address, Heap, Locks, StepKind};
+use aj_state::{Heap, Locks, StepKind};
 use aj_swap::{SwapEnd, swap_at};
 use aj_threads::ThreadCell;
 use std::alloc::Global;
@@ -113,57 +113,87 @@ pub fn machine_after<'p>(
     }
 }
 
-/// The copy of a heap has the main object, the cell and the workers.
-fn expect_heap_copied(rt: &impl Abort, alloc: Global, heap: &Heap) -> Result<(), Fail> {
-    let copied = heap.copy(alloc)?;
-    assert_eq!(rt; copied.len(), 4);
-    assert_eq!(rt; copied.made(0), 4);
-    Ok(())
+/// Copies of all that a machine has.
+struct Copied {
+    heap: Heap,
+    locks: Locks,
+    threads: Vec<ThreadCell>,
+    output: Vec<i32>,
 }
 
-/// In the copy of the locks the first worker has the lock of the cell, once.
-fn expect_locks_copied(rt: &impl Abort, alloc: Global, locks: &Locks) -> Result<(), Fail> {
-    let copied = locks.copy(alloc)?;
-    let cell = Address {
-        thread: 0,
-        count: 1,
-    };
-    assert!(rt; matches!(copied.find(cell), Some((1, 1))));
-    Ok(())
-}
-
-/// The copy of a thread has as much as the thread.
-fn expect_thread_copied(rt: &impl Abort, alloc: Global, thread: &ThreadCell) -> Result<(), Fail> {
-    let copied = thread.copy(alloc)?;
-    assert_eq!(rt; copied.frames(), thread.frames());
-    assert_eq!(rt; copied.slots(), thread.slots());
-    assert_eq!(rt; copied.operands(), thread.operands());
-    assert_eq!(rt; copied.taken(), thread.taken());
-    Ok(())
-}
-
-/// The copies of a machine's parts have what they copy.
-fn expect_copied(rt: &impl Abort, alloc: Global, machine: &Machine<'_>) -> Result<(), Fail> {
-    expect_heap_copied(rt, alloc, machine.heap())?;
-    expect_locks_copied(rt, alloc, machine.locks())?;
+fn copies_of(alloc: Global, machine: &Machine<'_>) -> Result<Copied, Fail> {
+    let mut threads = Vec::new(alloc);
     for thread in machine.threads() {
-        expect_thread_copied(rt, alloc, thread)?;
+        threads.push(thread.copy(alloc)?)?;
     }
-    Ok(())
+    Ok(Copied {
+        heap: machine.heap().copy(alloc)?,
+        locks: machine.locks().copy(alloc)?,
+        threads,
+        output: machine.output().to_vec(alloc)?,
+    })
 }
 
-/// Copies of heap, locks and threads, made while a thread is inside the call that holds the lock of the cell.
-#[test]
-fn copies_have_what_they_copy(rt: HostRuntime) -> Result<(), Fail> {
-    let alloc = rt.alloc();
-    let schedule = schedule_of(alloc, &[(0, 10), (1, 12)])?;
+/// A thread has what another has.
+fn expect_same_thread(rt: &impl Abort, given: &ThreadCell, wanted: &ThreadCell) {
+    assert!(rt; given.state() == wanted.state());
+    assert!(rt; given.waiting() == wanted.waiting());
+    assert_eq!(rt; given.frames(), wanted.frames());
+    for depth in 0..wanted.frames() {
+        assert!(rt; given.method_at(depth) == wanted.method_at(depth));
+    }
+    assert_eq!(rt; given.place(), wanted.place());
+    assert_eq!(rt; given.slots(), wanted.slots());
+    assert_eq!(rt; given.operands(), wanted.operands());
+    assert_eq!(rt; given.taken(), wanted.taken());
+}
+
+/// A machine has what was copied.
+fn expect_same(rt: &impl Abort, machine: &Machine<'_>, copied: &Copied) {
+    assert_eq!(rt; machine.heap().len(), copied.heap.len());
+    for place in 0..copied.heap.len() {
+        assert!(rt; machine.heap().at(place) == copied.heap.at(place));
+    }
+    assert_eq!(rt; machine.locks().len(), copied.locks.len());
+    for place in 0..copied.locks.len() {
+        assert!(rt; machine.locks().at(place) == copied.locks.at(place));
+    }
+    assert_eq!(rt; machine.threads().len(), copied.threads.len());
+    for (given, wanted) in machine.threads().iter().zip(copied.threads.iter()) {
+        expect_same_thread(rt, given, wanted);
+    }
+    assert_eq!(rt; machine.output(), copied.output.as_slice());
+}
+
+/// A machine that ran these groups.
+fn expect_copied(
+    rt: &impl Abort,
+    alloc: Global,
+    groups: &[(u32, u32)],
+    locks: usize,
+) -> Result<(), Fail> {
+    let schedule = schedule_of(alloc, groups)?;
     if schedule.len() > 200000 {
         return Err(Fail::new("a long schedule"));
     }
     let program = core_of(alloc, COUNTER)?;
     let code = compile(alloc, &program)?;
     let machine = machine_after(alloc, &program, &code, schedule.as_slice())?;
-    expect_copied(&rt, alloc, &machine)
+    let copied = copies_of(alloc, &machine)?;
+    assert_eq!(rt; copied.heap.len(), 4);
+    assert_eq!(rt; copied.heap.made(0), 4);
+    assert_eq!(rt; copied.locks.len(), locks);
+    assert_eq!(rt; copied.threads.len(), 3);
+    expect_same(rt, &machine, &copied);
+    Ok(())
+}
+
+/// Copies of heap, locks and threads, made while a thread is inside the call that holds the lock of the cell, and where the first
+/// worker has ended.
+#[test]
+fn copies_have_what_they_copy(rt: HostRuntime) -> Result<(), Fail> {
+    expect_copied(&rt, rt.alloc(), &[(0, 10), (1, 12)], 1)?;
+    expect_copied(&rt, rt.alloc(), &[(0, 10), (1, 15)], 0)
 }
 
 /// With the entry at this place and the next one exchanged, the groups of a schedule are the others.
@@ -306,6 +336,35 @@ fn watched_steps_have_their_kinds(rt: HostRuntime) -> Result<(), Fail> {
     let code = compile(alloc, checked.program())?;
     let mut watched = Watched::start(alloc, &checked, &code)?;
     expect_counter_steps(&rt, alloc, &mut watched)
+}
+
+/// The second worker waits for the lock of the first, `main` is done, and a thread is absent: none of them steps, and all is as it was.
+fn expect_refused(
+    rt: &impl Abort,
+    alloc: Global,
+    watched: &mut Watched<'_>,
+) -> Result<(), Fail> {
+    for (thread, count) in &[(0_u32, 10_u32), (1, 6), (2, 5)] {
+        for _ in 0..*count {
+            assert!(rt; step_of(alloc, watched, *thread)?.is_ok());
+        }
+    }
+    let copied = copies_of(alloc, watched.machine())?;
+    for thread in &[2_u32, 0, 5] {
+        assert!(rt; step_of(alloc, watched, *thread)?.is_err());
+        expect_same(rt, watched.machine(), &copied);
+    }
+    assert_eq!(rt; watched.steps().len(), 21);
+    Ok(())
+}
+
+#[test]
+fn a_refused_step_changes_nothing(rt: HostRuntime) -> Result<(), Fail> {
+    let alloc = rt.alloc();
+    let checked = checked_of(alloc, COUNTER, BOOK)?;
+    let code = compile(alloc, checked.program())?;
+    let mut watched = Watched::start(alloc, &checked, &code)?;
+    expect_refused(&rt, alloc, &mut watched)
 }
 
 /// The kinds of the steps of a thread that reads and writes what is guarded for writing only.

@@ -13,7 +13,7 @@ write_args-loop-arg-preserved t c =
     item_step (λ z. more_args_lexemes (exprs_from (map expr_of z))) (λ x. Fixed T.Comma ∷ expr_lexemes (expr_of x)) (λ x xs. refl)
     c.in-Some.rest.now c.loop-arg.arg-index c.arg-item.result c.loop-arg.to c.write_expr-in-loop-arg.new.to (writes c.args.to.now (args_lexemes (exprs_from (map expr_of c.args.args.now))))
     c.loop-arg-test.true c.arg-item.is c.loop-arg.invariant
-    (c.in_ok-write_expr-2.ensures ∙ ap (λ p. writes p (expr_lexemes (expr_of c.arg-item.result))) c.in_ok-terminal.ensures ∙ sym (writes_one c.loop-arg.to (Fixed T.Comma) (expr_lexemes (expr_of c.arg-item.result))))
+    (c.in_ok-write_expr-2.ensures ∙ ap (λ p. writes p (expr_lexemes (expr_of c.arg-item.result))) c.in_ok-terminal.ensures.put ∙ sym (writes_one c.loop-arg.to (Fixed T.Comma) (expr_lexemes (expr_of c.arg-item.result))))
 
 pub write_args-returns : goal.write_args-returns
 write_args-returns t c =

@@ -10,7 +10,7 @@ pub loop-lock-preserved : goal.loop-lock-preserved
 loop-lock-preserved c =
     item_step (λ z. further_lexemes lock_lexemes (map lock_of z)) (λ x. Fixed T.Comma ∷ lock_lexemes (lock_of x)) (λ x xs. refl)
     c.args.locks.now c.loop-lock.lock-index c.lock-item.result c.loop-lock.to c.write_lock.new.to (writes c.args.to.now (further_lexemes lock_lexemes (map lock_of c.args.locks.now)))
-    c.loop-lock-test.true c.lock-item.is c.loop-lock.invariant (c.in_ok-write_lock.ensures ∙ ap (λ p. writes p (lock_lexemes (lock_of c.lock-item.result))) c.in_ok-terminal.ensures ∙ sym (writes_one c.loop-lock.to (Fixed T.Comma) (lock_lexemes (lock_of c.lock-item.result))))
+    c.loop-lock-test.true c.lock-item.is c.loop-lock.invariant (c.in_ok-write_lock.ensures ∙ ap (λ p. writes p (lock_lexemes (lock_of c.lock-item.result))) c.in_ok-terminal.ensures.put ∙ sym (writes_one c.loop-lock.to (Fixed T.Comma) (lock_lexemes (lock_of c.lock-item.result))))
 
 pub returns : goal.returns
 returns c =

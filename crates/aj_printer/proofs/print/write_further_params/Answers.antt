@@ -9,7 +9,7 @@ pub loop-param-preserved : goal.loop-param-preserved
 loop-param-preserved c =
     item_step (λ z. further_lexemes (param_lexemes c.args.keeps_final) z) (λ x. Fixed T.Comma ∷ param_lexemes c.args.keeps_final x) (λ x xs. refl)
     c.args.params.now c.loop-param.param-index c.param-item.result c.loop-param.to c.write_param.new.to (writes c.args.to.now (further_lexemes (param_lexemes c.args.keeps_final) (c.args.params.now)))
-    c.loop-param-test.true c.param-item.is c.loop-param.invariant (c.in_ok-write_param.ensures ∙ ap (λ p. writes p (param_lexemes c.args.keeps_final c.param-item.result)) c.in_ok-terminal.ensures ∙ sym (writes_one c.loop-param.to (Fixed T.Comma) (param_lexemes c.args.keeps_final c.param-item.result)))
+    c.loop-param-test.true c.param-item.is c.loop-param.invariant (c.in_ok-write_param.ensures ∙ ap (λ p. writes p (param_lexemes c.args.keeps_final c.param-item.result)) c.in_ok-terminal.ensures.put ∙ sym (writes_one c.loop-param.to (Fixed T.Comma) (param_lexemes c.args.keeps_final c.param-item.result)))
 
 pub returns : goal.returns
 returns c =

@@ -8,4 +8,4 @@ use Rattle.aj_printer.proofs.print.write_method.Goals as goal
 pub returns : goal.returns
 returns c =
     added c.terminal-4.result c.args.to.now c.terminal-4.new.self (method_lexemes c.args.atomic c.args.result_type.now c.args.name.now c.args.params.now (map lock_of c.args.locks.now) (stmts_from (map stmt_of c.args.body.now))) (method_lexemes c.args.atomic c.args.result_type.now c.args.name.now c.args.params.now (map lock_of c.args.locks.now) (stmts_from (map stmt_of c.args.body.now))) refl
-    (writes_first (flag_lexemes T.Atomic c.args.atomic) c.in_ok-write_flag.ensures (put_first c.in_ok-write_result.ensures (put_first c.in_ok-write_name.ensures (put_first c.in_ok-terminal.ensures (writes_first (listed_lexemes (param_lexemes true) c.args.params.now) c.in_ok-write_params.ensures (put_first c.in_ok-terminal-2.ensures (writes_first (requires_lexemes (map lock_of c.args.locks.now)) c.in_ok-write_requires.ensures (put_first c.in_ok-terminal-3.ensures (writes_first (stmts_lexemes (stmts_from (map stmt_of c.args.body.now))) c.in_ok-write_stmts.ensures (put_last c.terminal-4.ensures))))))))))
+    (writes_first (flag_lexemes T.Atomic c.args.atomic) c.in_ok-write_flag.ensures (put_first c.in_ok-write_result.ensures (put_first c.in_ok-write_name.ensures (put_first c.in_ok-terminal.ensures.put (writes_first (listed_lexemes (param_lexemes true) c.args.params.now) c.in_ok-write_params.ensures (put_first c.in_ok-terminal-2.ensures.put (writes_first (requires_lexemes (map lock_of c.args.locks.now)) c.in_ok-write_requires.ensures (put_first c.in_ok-terminal-3.ensures.put (writes_first (stmts_lexemes (stmts_from (map stmt_of c.args.body.now))) c.in_ok-write_stmts.ensures (put_last c.terminal-4.ensures.put))))))))))

@@ -8,4 +8,4 @@ use Rattle.aj_printer.proofs.print.write_print.Goals as goal
 pub returns : goal.returns
 returns c =
     added c.terminal-8.result c.args.to.now c.terminal-8.new.self (stmt_lexemes (PrintS (expr_of c.args.value.now) 0)) (stmt_lexemes (PrintS (expr_of c.args.value.now) 0)) refl
-    (put_first c.in_ok-terminal.ensures (put_first c.in_ok-terminal-2.ensures (put_first c.in_ok-terminal-3.ensures (put_first c.in_ok-terminal-4.ensures (put_first c.in_ok-terminal-5.ensures (put_first c.in_ok-terminal-6.ensures (writes_first (expr_lexemes (expr_of c.args.value.now)) c.in_ok-write_expr.ensures (put_first c.in_ok-terminal-7.ensures (put_last c.terminal-8.ensures)))))))))
+    (put_first c.in_ok-terminal.ensures.put (put_first c.in_ok-terminal-2.ensures.put (put_first c.in_ok-terminal-3.ensures.put (put_first c.in_ok-terminal-4.ensures.put (put_first c.in_ok-terminal-5.ensures.put (put_first c.in_ok-terminal-6.ensures.put (writes_first (expr_lexemes (expr_of c.args.value.now)) c.in_ok-write_expr.ensures (put_first c.in_ok-terminal-7.ensures.put (put_last c.terminal-8.ensures.put)))))))))

@@ -1,0 +1,2 @@
+-- Rules that a book has beside its grammar, broken at a byte.
+pub mod Broken

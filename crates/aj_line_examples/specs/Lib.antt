@@ -1,0 +1,2 @@
+-- A small table of names, which the lines are written by.
+pub mod Names

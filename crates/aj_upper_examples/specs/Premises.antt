@@ -1,0 +1,70 @@
+-- Values of premises, parts of bodies, and derivations.
+use Rattle.std.specs.Prelude.{ℕ, pos, true, false, List, [], ◌∷◌, Some, None}
+use Rattle.aj_algebra.specs.declared.basic.Basic.{Basic}
+use Rattle.aj_algebra.specs.declared.basic.Basic.TheVariants.{Const, Mover, Atomic}
+use Rattle.aj_core.specs.declared.types.CoreOp.TheVariants.{Add}
+use Rattle.aj_core.specs.declared.types.CoreType.TheVariants as type
+use Rattle.aj_core.specs.Core.{Expr, Exprs, IntE, TruthE, NullE, ThisE, VarE, NotE, NegE, BinaryE, AndE, OrE, GetE, CallE, NewE, no_exprs, and_expr}
+use Rattle.aj_core.specs.Core.{Stmt, Stmts, EmptyS, BlockS, LocalS, SetVarS, SetFieldS, DoS, IfS, WhileS, SyncS, ReturnS, PrintS, StartS, no_stmts, and_stmt}
+use Rattle.aj_core.specs.Examples.{this_path, block_of, put_seven}
+use Rattle.aj_cond.specs.Conditions.{Cond, LeafC, TestC}
+use Rattle.aj_book_grammar.specs.declared.word.Word.TheVariants as w
+use Rattle.aj_book_grammar.specs.Derivations.{Node, node, no_nodes, and_node}
+use Rattle.aj_deriv_rules.specs.Parts.{Part, ExprP, StmtP, Place}
+use Rattle.aj_deriv_rules.specs.Rules.{Value}
+use Rattle.aj_examples.specs.Small.{one, two}
+
+-- a basic at every set
+abbrev pub always : Basic → Value
+always b H = b
+
+abbrev pub con : Value
+con = always Const
+
+abbrev pub mov : Value
+mov = always Mover
+
+abbrev pub ato : Value
+ato = always Atomic
+
+-- the arguments 1 and 2, and two statements
+abbrev pub two_arguments : Exprs
+two_arguments = and_expr one (and_expr two no_exprs)
+
+abbrev pub two_statements : Stmts
+two_statements = and_stmt EmptyS (and_stmt (PrintS one) no_stmts)
+
+-- a part of each kind, in the order of the rules
+abbrev pub expressions : List Part
+expressions =
+    ExprP (IntE (pos 1)) ∷ ExprP (TruthE true) ∷ ExprP NullE ∷ ExprP ThisE ∷ ExprP (VarE 1 true type.Int)
+    ∷ ExprP (NotE one) ∷ ExprP (NegE one) ∷ ExprP (BinaryE Add one two) ∷ ExprP (AndE one two) ∷ ExprP (OrE one two)
+    ∷ ExprP (GetE one 0) ∷ ExprP (CallE ThisE 0 two_arguments) ∷ ExprP (NewE 0 two_arguments) ∷ []
+
+abbrev pub statements : List Part
+statements =
+    StmtP EmptyS ∷ StmtP (BlockS two_statements) ∷ StmtP (LocalS 1 true type.Int one) ∷ StmtP (SetVarS 1 one) ∷ StmtP (SetFieldS one 0 two)
+    ∷ StmtP (DoS one true) ∷ StmtP (IfS one EmptyS (PrintS two)) ∷ StmtP (WhileS one EmptyS) ∷ StmtP (SyncS this_path EmptyS)
+    ∷ StmtP (ReturnS (Some one)) ∷ StmtP (ReturnS None) ∷ StmtP (PrintS one) ∷ StmtP (StartS one) ∷ []
+
+-- a mover where the lock of `this` is held, else atomic, and the second of these alone
+abbrev pub mover_or_atomic : Cond
+mover_or_atomic = TestC this_path (LeafC Mover) (LeafC Atomic)
+
+abbrev pub table : List Cond
+table = mover_or_atomic ∷ LeafC Const ∷ []
+
+-- a node with no premises
+abbrev pub leaf_node : Node
+leaf_node = node w.Lit 1 no_nodes
+
+-- the derivation of `synchronized (this) { this.v = 7; }`, and its part and premise
+abbrev pub put_node : Node
+put_node = node w.Put 0 (and_node (node w.This 1 no_nodes) (and_node leaf_node no_nodes))
+
+abbrev pub sync_node : Node
+sync_node = node w.Sync 0 (and_node put_node no_nodes)
+
+-- a part beside its node
+abbrev pub place : Part → Node → Place
+place part at = record { part = part; at = at }
