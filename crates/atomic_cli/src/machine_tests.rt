@@ -114,6 +114,7 @@ pub fn machine_after<'p>(
 }
 
 /// Copies of all that a machine has.
+#[derive(Drop)]
 struct Copied {
     heap: Heap,
     locks: Locks,
