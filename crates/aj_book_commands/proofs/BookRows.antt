@@ -20,7 +20,7 @@ use Rattle.aj_deriv_check.specs.declared.wrong.TextWrong.{TextWrong}
 use Rattle.aj_deriv_check.specs.declared.wrong.TextWrong.TheVariants as text
 use Rattle.aj_deriv_check.specs.declared.wrong.Wrong.TheVariants as wrong
 use Rattle.aj_derive.specs.Derived.{IsDerived, KeepsRules}
-use Rattle.aj_derive_rules.specs.Bases.{trees_assign}
+use Rattle.aj_derive.specs.Bases.{trees_assign}
 use Rattle.aj_infer.proofs.LeastLemmas.{least_accepts}
 use Rattle.aj_rules.specs.Effect.{effect}
 use Rattle.aj_rules.specs.Near.{MethodPaths, AreRelevant, rel_of}

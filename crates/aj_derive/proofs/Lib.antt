@@ -1,4 +1,7 @@
 -- The lemmas that several proofs share.
+mod Tables
+mod CalledLemmas
+mod OneRule
 mod Rows
 mod PoolLemmas
 mod ConcludeLemmas

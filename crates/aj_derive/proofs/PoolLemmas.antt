@@ -18,7 +18,7 @@ use Rattle.aj_derive.specs.declared.pool.Pool.{Pool}
 use Rattle.aj_derive.specs.Derived.{AreDistinct}
 use Rattle.aj_derive.specs.Pools.{pool_table, ArePooled, IsPool, IsAtMost}
 use Rattle.aj_derive.proofs.Rows.{get_pushed}
-use Rattle.aj_derive_rules.proofs.Tables.{there_pushed, there_on, trees_on}
+use Rattle.aj_derive.proofs.Tables.{there_pushed, there_on, trees_on}
 
 -- a canonical tree passes the test
 abbrev IsBehind : Option PathData → Cond → Type 0

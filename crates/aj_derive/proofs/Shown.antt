@@ -15,7 +15,7 @@ use Rattle.aj_infer.specs.Least.{IsLeast}
 use Rattle.aj_infer.specs.Verdicts.{HoldBounds}
 use Rattle.aj_deriv_rules.specs.Conclusions.{tree_value}
 use Rattle.aj_derive.specs.Derived.{KeepsRules}
-use Rattle.aj_derive_rules.specs.Bases.{trees_assign}
+use Rattle.aj_derive.specs.Bases.{trees_assign}
 use Rattle.aj_derive.proofs.ConcludeLemmas.{some_at}
 
 const_below : (b : Basic) → AtMost Const b

@@ -20,7 +20,7 @@ use Rattle.aj_deriv_rules.specs.Parts.{StmtP, places, Each}
 use Rattle.aj_deriv_rules.specs.Conclusions.{tree_value, table_value}
 use Rattle.aj_deriv_check.specs.Good.{line_value, book_assignment, cond_at, tests_only, Falls, IsExact, IsTabled, IsGoodLine, IsGoodBook}
 use Rattle.aj_derive.specs.Derived.{AreDistinct, IsDerived, KeepsRules}
-use Rattle.aj_derive_rules.specs.Bases.{trees_assign}
+use Rattle.aj_derive.specs.Bases.{trees_assign}
 use Rattle.aj_derive.specs.Lines.{AreLinesOf}
 use Rattle.aj_derive.proofs.ConcludeLemmas.{some_at, numbered, each_fits, each_exact, effect_is}
 use Rattle.aj_derive.proofs.PartSizes.{node_lower}

@@ -10,8 +10,8 @@ use Rattle.aj_book_grammar.specs.Derivations.{Node, node, Nodes, no_nodes, and_n
 use Rattle.aj_deriv_rules.specs.Parts.{Part, parts_of, Fits}
 use Rattle.aj_deriv_rules.specs.Conclusions.{table_value}
 use Rattle.aj_deriv_check.specs.Good.{IsExact}
-use Rattle.aj_derive_rules.specs.declared.basis.Basis.{Basis}
-use Rattle.aj_derive_rules.specs.Bases.{own_trees, trees_assign}
+use Rattle.aj_derive.specs.declared.basis.Basis.{Basis}
+use Rattle.aj_derive.specs.Bases.{own_trees, trees_assign}
 
 module _ (P : Program) (rel : ℕ → List PathData) (A : Assignment) (table : List Cond) where
   abbrev mutual

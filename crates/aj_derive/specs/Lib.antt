@@ -1,5 +1,7 @@
--- What the contracts of deriving books cite. To read the contract: Bases of aj_derive_rules, then Derived. The others are what the private
--- functions cite: Pools, Concluded, Moved, Lines.
+-- What the contracts of deriving books cite. To read the contract: Bases, then Derived. The others are what the private functions cite:
+-- Named, Pools, Concluded, Moved, Lines.
+pub mod Bases
+pub mod Named
 pub mod Derived
 pub mod Pools
 pub mod Concluded

@@ -6,7 +6,7 @@ use Rattle.aj_cond.specs.Conditions.{Cond}
 use Rattle.aj_book_grammar.specs.Books.{Line}
 use Rattle.aj_deriv_rules.specs.Parts.{StmtP}
 use Rattle.aj_derive.specs.Derived.{node_numbers, lines_numbers, AreInOrder}
-use Rattle.aj_derive_rules.specs.Bases.{trees_assign}
+use Rattle.aj_derive.specs.Bases.{trees_assign}
 use Rattle.aj_derive.specs.Concluded.{BeginsWith, Concludes}
 
 module _ (P : Program) (rel : ℕ → List PathData) (trees : List Cond) where

@@ -8,7 +8,7 @@ ghost use Rattle.aj_rules.specs.Effect.{Assignment};
 ghost use Rattle.aj_infer.specs.Least.{IsLeast};
 ghost use Rattle.aj_infer.specs.Verdicts.{HoldBounds};
 ghost use Rattle.aj_derive.specs.Derived.{KeepsRules};
-ghost use Rattle.aj_derive_rules.specs.Bases.{trees_assign};
+ghost use Rattle.aj_derive.specs.Bases.{trees_assign};
 
 /// Trees that show the least closed assignment keep the rules where it keeps every bound: so a good book is derived of them.
 pub fn shown_trees_law()

@@ -5,7 +5,7 @@ use Rattle.aj_deriv.specs.Memory.{nodes_at}
 use Rattle.aj_deriv_rules.specs.Conclusions.{conclusions, table_value}
 use Rattle.aj_nodes.specs.Shown.{AreThere, node_value, trees_at}
 use Rattle.aj_derive.proofs.PremiseLemmas.{values_more}
-use Rattle.aj_derive_rules.proofs.Tables.{there_pushed}
+use Rattle.aj_derive.proofs.Tables.{there_pushed}
 use Rattle.aj_derive.proofs.conclude.premises_of.Goals as goal
 
 pub loop-premise-preserved : goal.loop-premise-preserved

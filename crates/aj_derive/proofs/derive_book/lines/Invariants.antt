@@ -2,7 +2,7 @@ use Rattle.std.proofs.Common.{map}
 use Rattle.aj_core.specs.Views.{program_of}
 use Rattle.aj_deriv.specs.Memory.{line_of}
 use Rattle.aj_rules.specs.Near.{rel_of}
-use Rattle.aj_derive_rules.specs.Bases.{own_trees}
+use Rattle.aj_derive.specs.Bases.{own_trees}
 use Rattle.aj_derive.specs.Lines.{AreLinesOf}
 use Rattle.aj_derive.specs.Pools.{pool_table, IsPool}
 use Rattle.aj_derive.proofs.derive_book.lines.Given as goal

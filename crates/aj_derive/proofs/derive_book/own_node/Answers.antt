@@ -1,6 +1,6 @@
 -- A node with the values of a canonical tree stands for it.
 use Rattle.aj_cond.specs.Conditions.{cond_of}
-use Rattle.aj_derive_rules.proofs.Tables.{grows_by, stands_for}
+use Rattle.aj_derive.proofs.Tables.{grows_by, stands_for}
 use Rattle.aj_derive.proofs.derive_book.own_node.Goals as goal
 
 pub returns-clause-tree : goal.returns-clause-tree

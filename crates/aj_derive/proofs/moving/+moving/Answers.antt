@@ -9,8 +9,8 @@ use Rattle.aj_derive.specs.Moved.{IsMoved, AreMoved}
 use Rattle.aj_derive.specs.Pools.{pool_table}
 use Rattle.aj_derive.proofs.Rows.{pushed_more}
 use Rattle.aj_derive.proofs.MoveLemmas.{moved_node, moved_both, moved_end}
-use Rattle.aj_derive_rules.proofs.RuleLemmas.{there_at}
-use Rattle.aj_derive_rules.proofs.Tables.{below_length, tree_got}
+use Rattle.aj_derive.proofs.CalledLemmas.{there_at}
+use Rattle.aj_derive.proofs.Tables.{below_length, tree_got}
 use Rattle.aj_derive.proofs.moving.+moving.Goals as goal
 
 pub all_moved-premises-preserved : goal.all_moved-premises-preserved

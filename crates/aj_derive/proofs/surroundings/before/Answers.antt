@@ -7,8 +7,8 @@ use Rattle.aj_core.specs.Locks.{path_of}
 use Rattle.aj_core.specs.Views.{expr_of, stmt_of, program_of}
 use Rattle.aj_rules.specs.Effect.{after_local, after_stmt}
 use Rattle.aj_nodes.specs.Shown.{node_value}
-use Rattle.aj_derive_rules.proofs.RuleLemmas.{value_as, before_value}
-use Rattle.aj_derive_rules.proofs.rules.before.Goals as goal
+use Rattle.aj_derive.proofs.CalledLemmas.{value_as, before_value}
+use Rattle.aj_derive.proofs.surroundings.before.Goals as goal
 
 pub returns-clause-value : goal.returns-clause-value
 returns-clause-value c =

@@ -1,4 +1,4 @@
--- The rules on nodes.
+-- What callees give, and values before final locals, as nodes.
 use Rattle.std.proofs.Common.{◌≡◌, ℕ, ◌<◌, List, length, get_or, Option, Some, None, Result, Ok, Err, IfOk, IfSome, slice_get, if◌then◌else◌, refl, ◌∙◌, ap, subst}
 use Rattle.std.specs.List.{list_all}
 use Rattle.std.proofs.lemmas.Option.{slice_get-get_or}
@@ -15,7 +15,7 @@ use Rattle.aj_nodes.specs.Shown.{IsThere, AreThere, node_value}
 use Rattle.aj_deriv_rules.specs.Conclusions.{tree_value}
 use Rattle.aj_deriv_rules.specs.Judges.{named_set, local_name, call_name}
 use Rattle.aj_deriv_rules.proofs.NameLemmas.{local_value, call_value, call_all}
-use Rattle.aj_derive_rules.specs.Bases.{trees_assign}
+use Rattle.aj_derive.specs.Bases.{trees_assign}
 
 -- the value of a node that was made, in other words
 pub value_as : {E : Type 0} (new : Items) (r : Result Node E) (f g : Held → Basic) → ((H : Held) → f H ≡ g H) → IfOk r (λ n. (H : Held) → node_value new n H ≡ f H) →

@@ -5,8 +5,8 @@ use aj_rules::RelevantSets;
 
 /// A program with its relevant sets, and the trees that are assigned to its methods.
 #[derive(Clone, Copy)]
-pub struct Basis<'a> {
-    pub program: &'a CoreProgram,
-    pub sets: &'a RelevantSets,
-    pub own: &'a [Tree],
+pub(crate) struct Basis<'a> {
+    pub(crate) program: &'a CoreProgram,
+    pub(crate) sets: &'a RelevantSets,
+    pub(crate) own: &'a [Tree],
 }

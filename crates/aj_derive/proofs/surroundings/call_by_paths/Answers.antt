@@ -3,9 +3,9 @@ use Rattle.std.specs.Option.{option_copied}
 use Rattle.aj_core.specs.Views.{program_of}
 use Rattle.aj_rules.specs.Near.{rel_of}
 use Rattle.aj_nodes.specs.Shown.{node_value}
-use Rattle.aj_derive_rules.specs.Bases.{own_trees}
-use Rattle.aj_derive_rules.proofs.RuleLemmas.{value_as, call_made}
-use Rattle.aj_derive_rules.proofs.rules.call_by_paths.Goals as goal
+use Rattle.aj_derive.specs.Bases.{own_trees}
+use Rattle.aj_derive.proofs.CalledLemmas.{value_as, call_made}
+use Rattle.aj_derive.proofs.surroundings.call_by_paths.Goals as goal
 
 pub returns-clause-value : goal.returns-clause-value
 returns-clause-value c =

@@ -8,7 +8,8 @@ use Rattle.aj_cond.proofs.SameValues.{unique}
 use Rattle.aj_nodes.specs.declared.table.Node.{Node}
 use Rattle.aj_nodes.specs.Nodes.{Items, tree_at, IsTable, Grows}
 use Rattle.aj_nodes.specs.Shown.{IsThere, AreThere, node_tree, node_value, trees_at}
-use Rattle.aj_derive_rules.specs.Named.{Keeping}
+use Rattle.aj_effects.specs.Rules.{AreAllKnown}
+use Rattle.aj_derive.specs.Named.{Keeping}
 
 pub keeps_chain : {old mid new : Items} → Keeping old mid → Keeping mid new → Keeping old new
 keeps_chain first second = record {
@@ -19,12 +20,10 @@ keeps_chain first second = record {
 pub keeps_itself : (is : Items) → Keeping is is
 keeps_itself is = record { known = λ n there. there; same = λ n there H. refl }
 
--- the first of nodes that are there, and the others
-pub there_first : (count : ℕ) (ns : List Node) (n : Node) (others : List Node) → ns ≡ n ∷ others → AreThere count ns → IsThere count n
-there_first count ns n others e are = (subst (AreThere count) e are) 0
-
-pub there_others : (count : ℕ) (ns : List Node) (n : Node) (others : List Node) → ns ≡ n ∷ others → AreThere count ns → AreThere count others
-there_others count ns n others e are = λ m. (subst (AreThere count) e are) (suc m)
+-- nodes that are there are known to their table
+pub all_there : (is : Items) (ns : List Node) → AreThere (length is) ns → AreAllKnown (λ s n. IsThere (length s) n) is ns
+all_there is [] are = tt
+all_there is (n ∷ ns) are = (are 0, all_there is ns (λ m. are (suc m)))
 
 there_before : (count : ℕ) (n : Node) (ns : List Node) → IsThere count n → AreThere count ns → (m : ℕ) → IfSome (slice_get (n ∷ ns) m) (λ x. x.0 < count)
 there_before count n ns one are zero = one

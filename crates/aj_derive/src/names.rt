@@ -6,7 +6,7 @@ ghost use Rattle.aj_algebra.specs.HeldPaths.{Held};
 ghost use Rattle.aj_cond.specs.Conditions.{cond_of, value_of};
 ghost use Rattle.aj_nodes.specs.Shown.{IsThere, node_value};
 ghost use Rattle.aj_deriv_rules.specs.Judges.{named_set};
-ghost use Rattle.aj_derive_rules.specs.Named.{Keeping, name_under};
+ghost use Rattle.aj_derive.specs.Named.{Keeping, name_under};
 
 use aj_algebra::{Algebra, Basic};
 use aj_cond::Tree;
@@ -18,7 +18,7 @@ use std::alloc::{AllocError as NoMemory, Global};
 /// What paths are called: what they are, what they were before a final local was declared, or what a callee's relevant paths are at
 /// a call.
 #[derive(Clone, Copy)]
-pub enum Names<'a> {
+pub(crate) enum Names<'a> {
     Same,
     Before(u16, Option<&'a Path>),
     At(&'a [Path], Option<&'a Path>, &'a [Option<Path>]),
@@ -49,7 +49,7 @@ fn name_of(names: &Names<'_>, path: &Path) -> Option<Path>
 
 /// The node of a tree under these names.
 #[tactic(auto, using(crate::proofs::Tables::keeps_chain))]
-pub fn named(
+pub(crate) fn named(
     alloc: Global,
     table: &mut NodeTable,
     names: &Names<'_>,
