@@ -1,4 +1,3 @@
--- Lists of lines of which a test tells each (Lines), entries of maps that compute (Found), and places of derivations (Places).
+-- Lists of lines of which a test tells each (Lines), and entries of maps that compute (Found).
 mod Lines
 mod Found
-mod Places
