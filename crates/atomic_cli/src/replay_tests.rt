@@ -2,7 +2,7 @@
 
 use crate::machine_tests::{COUNTER, core_of, machine_after, schedule_of};
 use crate::schedule_tests::{expect, expect_inputs};
-use crate::tests::{LOCKED, expect_texts};
+use crate::tests::LOCKED;
 use aj_compile::compile;
 use aj_core::CoreProgram;
 use aj_evaluate::{EvalEnd, Plain, evaluate};
@@ -310,60 +310,4 @@ fn evaluation_waits_for_the_lock_of_another_thread(rt: HostRuntime) -> Result<()
         assert!(rt; given == *wanted);
     }
     Ok(())
-}
-
-/// A body that is as high as it may be, where the arguments of `g` stand within each other so often and a call of the method within
-/// them: a call of it, and one more until so many were made.
-fn deep_source(alloc: Global, nesting: u32, calls: &str) -> Result<String, Fail> {
-    let mut text = String::from_str(
-        alloc,
-        "class Main { int k; int f() { this.k = this.k + 1; if (this.k == ",
-    )?;
-    text.push_str(calls)?;
-    text.push_str(") { return 7; } return ")?;
-    for _ in 0..nesting {
-        text.push_str("this.g(")?;
-    }
-    text.push_str("this.f()")?;
-    for _ in 0..nesting {
-        text.push_str(")")?;
-    }
-    text.push_str("; } int g(int n) { return n; } void main() { } }")?;
-    Ok(text)
-}
-
-/// How many arguments may stand within each other in the body of `f`.
-const MOST_NESTING: u32 = 60;
-
-/// How many calls of `f` are made within each other, with what the first one gives.
-static CALLS_WITHIN: [(&str, Result<Option<Value>, EvalEnd>); 2] = [
-    ("100", Ok(Some(Value::Int(7)))),
-    ("101", Err(EvalEnd::Deep)),
-];
-
-/// At both limits the stack is deepest: as many calls within each other as there may be, each in a part as deep as a body may be.
-#[test]
-fn evaluation_has_stack_for_both_limits(rt: HostRuntime) -> Result<(), Fail> {
-    let alloc = rt.alloc();
-    let asked = Asked {
-        thread: 0,
-        on: Address {
-            thread: 0,
-            count: 0,
-        },
-        method: 0,
-        turns: 1000000,
-    };
-    for (calls, wanted) in &CALLS_WITHIN {
-        let source = deep_source(alloc, MOST_NESTING, calls)?;
-        assert!(rt; given_after(alloc, source.as_str(), &[], &asked)? == *wanted);
-    }
-    let higher = deep_source(alloc, MOST_NESTING + 1, "1")?;
-    expect_texts(
-        &rt,
-        alloc,
-        "check",
-        1,
-        &[(higher.as_str(), "refused at 1:521: too deep\n")],
-    )
 }
