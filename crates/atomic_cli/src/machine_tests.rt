@@ -340,11 +340,7 @@ fn watched_steps_have_their_kinds(rt: HostRuntime) -> Result<(), Fail> {
 }
 
 /// The second worker waits for the lock of the first, `main` is done, and a thread is absent: none of them steps, and all is as it was.
-fn expect_refused(
-    rt: &impl Abort,
-    alloc: Global,
-    watched: &mut Watched<'_>,
-) -> Result<(), Fail> {
+fn expect_refused(rt: &impl Abort, alloc: Global, watched: &mut Watched<'_>) -> Result<(), Fail> {
     for (thread, count) in &[(0_u32, 10_u32), (1, 6), (2, 5)] {
         for _ in 0..*count {
             assert!(rt; step_of(alloc, watched, *thread)?.is_ok());
