@@ -1,6 +1,7 @@
 //! Lines of refused sources, schedules, books, certificates and levels.
 ghost use Rattle.std.specs.Prelude.{◌≡◌, true, false, List, [], ◌∷◌, map, Some, None, codes};
 ghost use Rattle.aj_lexer.specs.declared.faults.LexFault.TheVariants as lex;
+ghost use Rattle.aj_lexer.specs.declared.tokens.TokenKind.TheVariants as token;
 ghost use Rattle.aj_parser.specs.declared.faults.ParseFault.TheVariants as parse;
 ghost use Rattle.aj_class_rules.specs.declared.fault.ClassFault.TheVariants as class;
 ghost use Rattle.aj_type_rules.specs.declared.fault.TypeFault.TheVariants as types;
@@ -27,7 +28,7 @@ pub fn where_faults_are_told()
     ensures stages { map offset_of (source.Text (record { at = 9 }) ∷ source.Lex (lex.OpenComment 4) ∷ source.Parse (parse.Unexpected 2) 7 ∷ source.Class (class.Twice 5) ∷ source.Types (types.NoRule 6) ∷ source.Locks 8 ∷ [])
         ≡ 9 ∷ 4 ∷ 7 ∷ 5 ∷ 6 ∷ 8 ∷ [] }
     ensures end_of_tokens { offset_at None 30 ≡ 30 }
-    ensures token { token_offset (codes "a b") (record { at = 0; text = codes "a" } ∷ record { at = 2; text = codes "b" } ∷ []) 1 ≡ 2 }
+    ensures token { token_offset (codes "a b") (record { kind = token.Name; at = 0; text = codes "a" } ∷ record { kind = token.Name; at = 2; text = codes "b" } ∷ []) 1 ≡ 2 }
     ensures no_token { token_offset (codes "a b") [] 1 ≡ 3 }
 {}
 
