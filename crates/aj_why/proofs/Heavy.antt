@@ -74,7 +74,7 @@ module _ (P : Program) (rel : ℕ → List PathData) (A : Assignment) where
     exprs_heavy (and_expr e es) n H loop = both (expr_heavy e n H loop) (exprs_heavy es (n + nodes_of e) H loop)
 
   mutual
-    stmt_heavy : (s : Stmt) (n : ℕ) (H : Held) (loop : Option ℕ) → Heavy (stmt_steps P rel A s n H loop)
+    pub stmt_heavy : (s : Stmt) (n : ℕ) (H : Held) (loop : Option ℕ) → Heavy (stmt_steps P rel A s n H loop)
     stmt_heavy EmptyS n H loop = none_heavy
     stmt_heavy (BlockS ss) n H loop = block_heavy ss (n + 1) H loop
     stmt_heavy (LocalS x is_final ty e) n H loop = expr_heavy e (n + 1) H loop

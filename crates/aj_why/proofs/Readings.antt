@@ -7,18 +7,18 @@ use Rattle.aj_algebra.specs.declared.basic.Basic.{Basic}
 use Rattle.aj_algebra.specs.declared.basic.Basic.TheVariants.{Const, Mover, Atomic, Cmpd, Error}
 use Rattle.aj_algebra.specs.Basics.{below_of, seq_of, star_of}
 use Rattle.aj_algebra.specs.HeldPaths.{Held}
-use Rattle.aj_core.specs.Core.{Program}
-use Rattle.aj_rules.specs.Effect.{Assignment}
+use Rattle.aj_core.specs.Core.{Program, Stmt}
+use Rattle.aj_rules.specs.Effect.{Assignment, effect}
 use Rattle.aj_rules.specs.Rules.{AtMost}
 use Rattle.aj_rules.proofs.BasicLemmas.{every, each, implies, follows}
 use Rattle.aj_deriv_rules.specs.Parts.{Part}
 use Rattle.aj_why.specs.Parts.{part_effect}
 use Rattle.aj_why.specs.Visits.{Visit}
-use Rattle.aj_why.specs.Steps.{steps}
+use Rattle.aj_why.specs.Steps.{steps, stmt_steps}
 use Rattle.aj_why.specs.Readings.{is_cmpd, is_error, own_at, are_many, IsOne}
 use Rattle.aj_why.proofs.Weights.{weight, repeated}
-use Rattle.aj_why.proofs.Totals.{charge, charged, part_weighs}
-use Rattle.aj_why.proofs.Heavy.{is_heavy, part_heavy}
+use Rattle.aj_why.proofs.Totals.{charge, charged, part_weighs, stmt_weighs}
+use Rattle.aj_why.proofs.Heavy.{is_heavy, part_heavy, stmt_heavy}
 
 abbrev is_atomic : Basic → Bool
 is_atomic Const = false
@@ -107,6 +107,11 @@ heavy_charge : (loop : Option ℕ) (b : Basic) → not (below_of b Mover) ≡ tr
 heavy_charge None b heavy = heavy
 heavy_charge (Some k) b heavy = follows _ _ (each (λ b. implies (not (below_of b Mover)) (not (below_of (star_of b) Mover))) refl b) heavy
 
+-- nor what can be moved heavier
+light_repeated : (loop : Option ℕ) (b : Basic) → below_of b Mover ≡ true → below_of (repeated loop b) Mover ≡ true
+light_repeated None b low = low
+light_repeated (Some k) b low = follows _ _ (each (λ b. implies (below_of b Mover) (below_of (star_of b) Mover)) refl b) low
+
 -- what begins with such a step can't be moved; two are compound or an error
 first_heavy : (a c : Basic) → not (below_of a Mover) ≡ true → below_of (seq_of a c) Mover ≡ true → ⊥
 first_heavy a c heavy low =
@@ -160,6 +165,12 @@ module _ (P : Program) (rel : ℕ → List PathData) (A : Assignment) where
   list_below : (xs : List Visit) → list_all (is_heavy P rel A) xs ≡ true → below_of (charged P rel A xs) Mover ≡ true → xs ≡ []
   list_below [] heavy low = refl
   list_below (v ∷ vs) heavy low = absurd (first_heavy (charge P rel A v) (charged P rel A vs) (heavy_charge v.loop (own_at P rel A v) (and_parts _ _ heavy).0) low)
+
+  -- a statement that can be moved has no steps, whether or not a loop repeats it
+  pub stmt_moved : (s : Stmt) (n : ℕ) (H : Held) (loop : Option ℕ) → AtMost (effect P rel A s H) Mover → stmt_steps P rel A s n H loop ≡ []
+  stmt_moved s n H loop low =
+      list_below (stmt_steps P rel A s n H loop) (stmt_heavy P rel A s n H loop).is
+      (sym (below_weight _) ∙ ap (λ w. below_of w Mover) (stmt_weighs P rel A s n H loop).is ∙ below_weight _ ∙ light_repeated loop (effect P rel A s H) low)
 
   module _ (x : Part) (n : ℕ) (H : Held) (good : part_effect P rel A x H ≢ Error) where
     weighs : weight (charged P rel A (steps P rel A x n H)) ≡ weight (part_effect P rel A x H)

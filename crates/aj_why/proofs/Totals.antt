@@ -116,7 +116,7 @@ module _ (P : Program) (rel : ℕ → List PathData) (A : Assignment) where
     exprs_weigh (and_expr e es) n H loop = both (expr_weighs e n H loop) (exprs_weigh es (n + nodes_of e) H loop)
 
   mutual
-    stmt_weighs : (s : Stmt) (n : ℕ) (H : Held) (loop : Option ℕ) → Weighs loop (stmt_steps P rel A s n H loop) (effect P rel A s H)
+    pub stmt_weighs : (s : Stmt) (n : ℕ) (H : Held) (loop : Option ℕ) → Weighs loop (stmt_steps P rel A s n H loop) (effect P rel A s H)
     stmt_weighs EmptyS n H loop = nothing loop
     stmt_weighs (BlockS ss) n H loop = block_weighs ss (n + 1) H loop
     stmt_weighs (LocalS x is_final ty e) n H loop = moved (expr_weighs e (n + 1) H loop)

@@ -1,0 +1,13 @@
+-- Explanations of refusals, in this order: the assignment that trees show (Shown), the basic of each part of a body (Basics), why a method is more than it may be (Explaining),
+-- what its steps do and which lock would help (Deeds), what is wrong with an error (Causes), and what a whole program's
+-- explanations are (Programs). Views and Walked have what the walk in code finds.
+pub mod Shown
+pub mod Basics
+pub mod Whys
+pub mod Views
+pub mod Walked
+pub mod Explaining
+pub mod Names
+pub mod Deeds
+pub mod Causes
+pub mod Programs

@@ -1,0 +1,49 @@
+-- What the walk in code finds, as plain data.
+use Rattle.std.specs.Prelude.{ℕ, List, [], ◌∷◌, map, filter}
+use Rattle.aj_paths.specs.Paths.{PathData}
+use Rattle.aj_algebra.specs.declared.basic.Basic.{Basic}
+use Rattle.aj_algebra.specs.HeldPaths.{has_path}
+use Rattle.aj_core.specs.Core.{Program}
+use Rattle.aj_core.specs.Views.{expr_of, stmt_of}
+use Rattle.aj_deriv_rules.specs.Parts.{Part, ExprP, StmtP}
+use Rattle.aj_explain.specs.declared.found.CorePart.{CorePart}
+use Rattle.aj_explain.specs.declared.found.CorePart.TheVariants as part
+use Rattle.aj_explain.specs.declared.found.Visited.{Visited}
+use Rattle.aj_explain.specs.declared.explaining.Why.{Why}
+use Rattle.aj_explain.specs.declared.explaining.Why.TheVariants as why
+use Rattle.aj_explain.specs.declared.program.Explained.{Explained}
+use Rattle.aj_explain.specs.Whys.{WhyData, Wrong, Looped, Compound, Two, Overridden, Nothing, ExplainedData}
+use Rattle.aj_rules.specs.Effect.{Assignment}
+use Rattle.aj_why.specs.Readings.{is_error, own_at}
+use Rattle.aj_why.specs.Visits.{Visit}
+
+abbrev pub part_of : CorePart → Part
+part_of (part.Expr e) = ExprP (expr_of e.now)
+part_of (part.Stmt s) = StmtP (stmt_of s.now)
+
+abbrev pub visit_of : Visited → Visit
+visit_of v = record { node = v.node; part = part_of v.part; held = has_path v.held.items; loop = v.looped }
+
+abbrev pub visits_of : List Visited → List Visit
+visits_of vs = map visit_of vs
+
+-- those of visits that are an error by themselves
+abbrev pub errors_in : Program → (ℕ → List PathData) → Assignment → List Visit → List Visit
+errors_in P rel A vs = filter (λ v. is_error (own_at P rel A v)) vs
+
+-- the basics behind the first, which is that of the whole part
+abbrev pub inner : List Basic → List Basic
+inner [] = []
+inner (b ∷ bs) = bs
+
+-- an explanation
+abbrev pub why_data : Why → WhyData
+why_data (why.Wrong v) = Wrong (visit_of v)
+why_data (why.Looped v n) = Looped (visit_of v) n
+why_data (why.Compound v) = Compound (visit_of v)
+why_data (why.Two v w) = Two (visit_of v) (visit_of w)
+why_data (why.Overridden m b) = Overridden m b
+why_data why.Nothing = Nothing
+
+abbrev pub explained_data : Explained → ExplainedData
+explained_data x = record { method = x.method; is_refused = x.is_refused; limit = x.limit; found = x.found; why = why_data x.why }

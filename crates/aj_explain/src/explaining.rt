@@ -1,0 +1,432 @@
+//! Why a method is more than it may be.
+
+ghost use Rattle.std.specs.Prelude.{◌≡◌, ◌∷◌, ◌++◌, List, [], map, slice_get, drop, filter, not, option_map, IfOk, OnOk, MatchOption, IsSome, None, if◌then◌else◌};
+ghost use Rattle.aj_algebra.specs.HeldPaths.{has_path};
+ghost use Rattle.aj_core.specs.Views.{expr_of, method_of, program_of, stmt_of};
+ghost use Rattle.aj_deriv_rules.specs.Parts.{ExprP, StmtP};
+ghost use Rattle.aj_rules.specs.Effect.{effect, required_paths};
+ghost use Rattle.aj_rules.specs.Near.{rel_of};
+ghost use Rattle.aj_why.specs.Parts.{own_of};
+ghost use Rattle.aj_why.specs.Readings.{first_where, is_cmpd, is_error, own_at};
+ghost use Rattle.aj_why.specs.Steps.{stmt_steps};
+ghost use Rattle.aj_why.specs.Visits.{Visit, stmt_visits};
+ghost use Rattle.aj_explain.specs.Basics.{stmt_basics};
+ghost use Rattle.aj_explain.specs.Explaining.{body_why, calls, compound_or, compound_why, first_wrong, is_own, lock_of, method_lock, only_lock, over_of, steps_of, steps_why, why_of, with_first, wrong_of};
+ghost use Rattle.aj_explain.specs.Views.{errors_in, part_of, visit_of, visits_of, why_data};
+
+use crate::found::{CorePart, Found, Visited};
+use crate::walk::{Walk, walk_stmt};
+use aj_algebra::Basic;
+use aj_core::{CoreExpr, CoreMethod, CoreProgram, CoreStmt};
+use aj_effect_at::{Assigned, call_effect};
+use aj_held_lists::{among, has_all, held_under};
+use aj_paths::{MethodId, Path};
+use std::alloc::{AllocError as NoMemory, Global};
+
+/// Why a method is more than it may be.
+#[derive(Drop)]
+pub enum Why<'p> {
+    /// This part is an error by itself.
+    Wrong(Visited<'p>),
+    /// This step, which the loop with this number repeats.
+    Looped(Visited<'p>, usize),
+    /// This step, which is compound by itself.
+    Compound(Visited<'p>),
+    /// These are two steps.
+    Two(Visited<'p>, Visited<'p>),
+    /// This method overrides it, and is this at its required paths.
+    Overridden(MethodId, Basic),
+    /// Nothing is found.
+    Nothing,
+}
+
+/// The required paths of a method; none where it isn't there.
+pub(crate) fn required_paths(program: &CoreProgram, method: MethodId) -> &[Path]
+    ensures { result.now ≡ required_paths (slice_get (program_of program.now).methods method) }
+{
+    match program.methods().get(method.0 as usize) {
+        Some(method) => method.requires_.as_slice(),
+        None => &[],
+    }
+}
+
+/// Whether an error comes from the part itself, and not from a method that is called and is an error where it has what it requires.
+fn is_own<A: Assigned>(
+    walk: &Walk<'_, A>,
+    part: CorePart<'_>,
+    held: &[Path],
+) -> Result<bool, NoMemory>
+    ensures { IfOk result (λ b. b ≡ is_own (program_of walk.now.program.now) (rel_of walk.now.sets.now) (part_of part.entry) (has_path held.now)) }
+{
+    match part {
+        CorePart::Expr(e) => is_own_expr(walk, e, held),
+        CorePart::Stmt(_) => Ok(true),
+    }
+}
+
+/// The same of an expression.
+fn is_own_expr<A: Assigned>(
+    walk: &Walk<'_, A>,
+    e: &CoreExpr,
+    held: &[Path],
+) -> Result<bool, NoMemory>
+    ensures { IfOk result (λ b. b ≡ is_own (program_of walk.now.program.now) (rel_of walk.now.sets.now) (ExprP (expr_of e.now)) (has_path held.now)) }
+{
+    match e {
+        CoreExpr::Call(receiver, callee, args) => {
+            let known = held_under(
+                walk.alloc,
+                walk.program,
+                walk.sets,
+                receiver,
+                *callee,
+                args.as_slice(),
+                held,
+            )?;
+            Ok(!has_all(known.as_slice(), required_paths(walk.program, *callee)))
+        }
+        _ => Ok(true),
+    }
+}
+
+/// The place of the first error that comes from its part itself; 0 where there is none.
+fn own_place<A: Assigned>(walk: &Walk<'_, A>, errors: &[Visited<'_>]) -> Result<usize, NoMemory>
+    ensures { IfOk result (λ place. first_wrong (drop place (visits_of errors.now)) ≡ wrong_of (program_of walk.now.program.now) (rel_of walk.now.sets.now) (visits_of errors.now)) }
+{
+    for (place, error) in errors.iter().enumerate() {
+        if is_own(walk, error.part, error.held.as_slice())? {
+            return Ok(place);
+        }
+    }
+    Ok(0)
+}
+
+/// The visit at a place, where there is one.
+fn taken<'p>(visits: Vec<Visited<'p>>, place: usize) -> Option<Visited<'p>>
+    ensures { option_map visit_of result ≡ slice_get (visits_of visits.entry.items) place }
+{
+    visits.into_iter().nth(place)
+}
+
+/// The first error that comes from its part itself; else the first.
+fn wrong<'p, A: Assigned>(walk: &Walk<'_, A>, errors: Vec<Visited<'p>>) -> Result<Why<'p>, NoMemory>
+    ensures { IfOk result (λ why. why_data why ≡ wrong_of (program_of walk.now.program.now) (rel_of walk.now.sets.now) (visits_of errors.entry.items)) }
+{
+    let place = own_place(walk, errors.as_slice())?;
+    match taken(errors, place) {
+        Some(error) => Ok(Why::Wrong(error)),
+        None => Ok(Why::Nothing),
+    }
+}
+
+/// Whether a step is compound by itself.
+fn is_compound<A: Assigned>(walk: &Walk<'_, A>, step: &Visited<'_>) -> Result<bool, NoMemory>
+    ensures { IfOk result (λ b. b ≡ is_cmpd (own_at (program_of walk.now.program.now) (rel_of walk.now.sets.now) (A.Assigned.assigned walk.now.assigned.now) (visit_of step.now))) }
+{
+    match step.part {
+        CorePart::Expr(e) => is_compound_call(walk, e, step.held.as_slice()),
+        CorePart::Stmt(_) => Ok(false),
+    }
+}
+
+/// Whether an expression is compound by itself: only a call can be.
+fn is_compound_call<A: Assigned>(
+    walk: &Walk<'_, A>,
+    e: &CoreExpr,
+    held: &[Path],
+) -> Result<bool, NoMemory>
+    ensures { IfOk result (λ b. b ≡ is_cmpd (own_of (program_of walk.now.program.now) (rel_of walk.now.sets.now) (A.Assigned.assigned walk.now.assigned.now) (ExprP (expr_of e.now)) (has_path held.now))) }
+{
+    match e {
+        CoreExpr::Call(receiver, callee, args) => {
+            let own = call_effect(
+                walk.alloc,
+                walk.program,
+                walk.sets,
+                walk.assigned,
+                receiver,
+                *callee,
+                args.as_slice(),
+                held,
+            )?;
+            Ok(is_cmpd(own))
+        }
+        _ => Ok(false),
+    }
+}
+
+/// Whether a basic is `cmpd`.
+fn is_cmpd(basic: Basic) -> bool
+    ensures { result ≡ is_cmpd basic }
+{
+    basic == Basic::Cmpd
+}
+
+/// The steps that aren't compound by themselves, and those that are.
+fn parted<'p, A: Assigned>(
+    walk: &Walk<'_, A>,
+    steps: Vec<Visited<'p>>,
+) -> Result<(Vec<Visited<'p>>, Vec<Visited<'p>>), NoMemory>
+    ensures own { IfOk result (λ parts. let P = program_of walk.now.program.now in let rel = rel_of walk.now.sets.now in let T = A.Assigned.assigned walk.now.assigned.now in
+        visits_of parts.0.items ≡ filter (λ v. not (is_cmpd (own_at P rel T v))) (visits_of steps.entry.items)) }
+    ensures compound { IfOk result (λ parts. let P = program_of walk.now.program.now in let rel = rel_of walk.now.sets.now in let T = A.Assigned.assigned walk.now.assigned.now in
+        visits_of parts.1.items ≡ filter (λ v. is_cmpd (own_at P rel T v)) (visits_of steps.entry.items)) }
+{
+    let mut own = Vec::new(walk.alloc);
+    let mut compounds = Vec::new(walk.alloc);
+    for step in steps {
+        let by_itself = is_compound(walk, &step)?;
+        put(step, by_itself, &mut own, &mut compounds)?;
+    }
+    Ok((own, compounds))
+}
+
+/// Puts a step behind those that aren't compound by themselves, or behind those that are.
+fn put<'p>(
+    step: Visited<'p>,
+    is_compound: bool,
+    own: &mut Vec<Visited<'p>>,
+    compounds: &mut Vec<Visited<'p>>,
+) -> Result<(), NoMemory>
+    ensures own { OnOk result (own.new.items ≡ own.old.items ++ (if is_compound then [] else step.entry ∷ [])) }
+    ensures compounds { OnOk result (compounds.new.items ≡ compounds.old.items ++ (if is_compound then step.entry ∷ [] else [])) }
+{
+    if is_compound {
+        compounds.push(step)?;
+    } else {
+        own.push(step)?;
+    }
+    Ok(())
+}
+
+/// Whether a part is a call of this method.
+fn calls(method: MethodId, part: CorePart<'_>) -> bool
+    ensures { result ≡ calls method (part_of part.entry) }
+{
+    match part {
+        CorePart::Expr(e) => is_call(method, e),
+        CorePart::Stmt(_) => false,
+    }
+}
+
+/// Whether an expression is one.
+fn is_call(method: MethodId, e: &CoreExpr) -> bool
+    ensures { result ≡ calls method (ExprP (expr_of e.now)) }
+{
+    match e {
+        CoreExpr::Call(_, callee, _) => *callee == method,
+        _ => false,
+    }
+}
+
+/// The place of the first step that doesn't call this method, where there is one.
+fn other_place(method: MethodId, steps: &[Visited<'_>]) -> Option<usize>
+    ensures { let vs = visits_of steps.now in let first = first_where (λ v. not (calls method v.part)) vs in
+        MatchOption result (first ≡ None) (λ place. IsSome first × (slice_get vs place ≡ first)) }
+{
+    for (place, step) in steps.iter().enumerate() {
+        if !calls(method, step.part) {
+            return Some(place);
+        }
+    }
+    None
+}
+
+/// A compound step, if there is one.
+fn compound<'p>(step: Option<Visited<'p>>) -> Why<'p>
+    ensures { why_data result ≡ compound_or (option_map visit_of step.entry) None [] }
+{
+    match step {
+        Some(step) => Why::Compound(step),
+        None => Why::Nothing,
+    }
+}
+
+/// A compound step, if there is one, behind another step if there is one.
+fn behind<'p>(own: Option<Visited<'p>>, compound: Option<Visited<'p>>) -> Why<'p>
+    ensures { (vs : List Visit) → option_map visit_of compound.entry ≡ slice_get vs 0 → why_data result ≡ with_first (option_map visit_of own.entry) vs }
+{
+    match (own, compound) {
+        (Some(first), Some(second)) => Why::Two(first, second),
+        (None, Some(step)) => Why::Compound(step),
+        (_, None) => Why::Nothing,
+    }
+}
+
+/// The first compound step that doesn't call the method itself; else the first, behind another step if there is one.
+fn compound_why<'p>(id: MethodId, own: Option<Visited<'p>>, compounds: Vec<Visited<'p>>) -> Why<'p>
+    ensures { why_data result ≡ compound_why id (option_map visit_of own.entry) (visits_of compounds.entry.items) }
+{
+    match other_place(id, compounds.as_slice()) {
+        Some(place) => compound(taken(compounds, place)),
+        None => behind(own, taken(compounds, 0)),
+    }
+}
+
+/// Why a body with these steps is compound: those that aren't compound by themselves, and those that are.
+fn steps_why<'p>(id: MethodId, own: Vec<Visited<'p>>, compounds: Vec<Visited<'p>>) -> Why<'p>
+    ensures { why_data result ≡ steps_why id (visits_of own.entry.items) (visits_of compounds.entry.items) }
+{
+    let mut rest = own.into_iter();
+    let Some(first) = rest.next() else {
+        return compound_why(id, None, compounds);
+    };
+    if let Some(around) = first.looped {
+        return Why::Looped(first, around);
+    }
+    match rest.next() {
+        Some(second) => Why::Two(first, second),
+        None => compound_why(id, Some(first), compounds),
+    }
+}
+
+/// Why a body with these steps is compound.
+fn compound_body<'p, A: Assigned>(
+    walk: &Walk<'_, A>,
+    id: MethodId,
+    steps: Vec<Visited<'p>>,
+) -> Result<Why<'p>, NoMemory>
+    ensures { IfOk result (λ why. why_data why ≡ steps_of (program_of walk.now.program.now) (rel_of walk.now.sets.now) (A.Assigned.assigned walk.now.assigned.now) id (visits_of steps.entry.items)) }
+{
+    let (own, compounds) = parted(walk, steps)?;
+    Ok(steps_why(id, own, compounds))
+}
+
+/// The first of these methods that is more than the limit where these paths are held.
+fn first_over<'p, A: Assigned>(
+    walk: &Walk<'_, A>,
+    overs: &[MethodId],
+    held: &[Path],
+    limit: Basic,
+) -> Result<Why<'p>, NoMemory>
+    ensures { IfOk result (λ why. why_data why ≡ over_of (rel_of walk.now.sets.now) (A.Assigned.assigned walk.now.assigned.now) limit overs.now (has_path held.now)) }
+{
+    for over in overs {
+        let known = among(walk.alloc, walk.sets.rel(*over), held)?;
+        let own = walk.assigned.at(*over, known.as_slice());
+        if !own.below(limit) {
+            return Ok(Why::Overridden(*over, own));
+        }
+    }
+    Ok(Why::Nothing)
+}
+
+/// What a walk through a method's body finds at its required paths, and its effect there.
+fn walk_method<'p, A: Assigned>(
+    walk: &Walk<'_, A>,
+    method: &'p CoreMethod,
+) -> Result<(Basic, Found<'p>), NoMemory>
+    ensures effect { IfOk result (λ walked. let P = program_of walk.now.program.now in let rel = rel_of walk.now.sets.now in let T = A.Assigned.assigned walk.now.assigned.now in let m = method_of method.now in
+        walked.0 ≡ effect P rel T m.body (has_path m.requires_)) }
+    ensures basics { IfOk result (λ walked. let P = program_of walk.now.program.now in let rel = rel_of walk.now.sets.now in let T = A.Assigned.assigned walk.now.assigned.now in let m = method_of method.now in
+        walked.1.basics.items ≡ stmt_basics P rel T m.body (has_path m.requires_)) }
+    ensures steps { IfOk result (λ walked. let P = program_of walk.now.program.now in let rel = rel_of walk.now.sets.now in let T = A.Assigned.assigned walk.now.assigned.now in let m = method_of method.now in
+        visits_of walked.1.steps.items ≡ stmt_steps P rel T m.body 0 (has_path m.requires_) None) }
+    ensures errors { IfOk result (λ walked. let P = program_of walk.now.program.now in let rel = rel_of walk.now.sets.now in let T = A.Assigned.assigned walk.now.assigned.now in let m = method_of method.now in
+        visits_of walked.1.errors.items ≡ errors_in P rel T (stmt_visits P m.body 0 (has_path m.requires_) None)) }
+{
+    let mut found = Found::new(walk.alloc);
+    let held = method.requires_.as_slice();
+    let effect = walk_stmt(walk, &method.body, held, None, &mut found)?;
+    Ok((effect, found))
+}
+
+/// Why a body with this effect, these errors and these steps is an error or compound.
+fn body_why<'p, A: Assigned>(
+    walk: &Walk<'_, A>,
+    id: MethodId,
+    effect: Basic,
+    found: Found<'p>,
+) -> Result<Why<'p>, NoMemory>
+    ensures { IfOk result (λ why. why_data why ≡ body_why (program_of walk.now.program.now) (rel_of walk.now.sets.now) (A.Assigned.assigned walk.now.assigned.now) id effect (visits_of found.entry.errors.items) (visits_of found.entry.steps.items)) }
+{
+    let Found { steps, errors, .. } = found;
+    if effect == Basic::Error {
+        wrong(walk, errors)
+    } else {
+        compound_body(walk, id, steps)
+    }
+}
+
+/// Why a method that these methods override is more than the limit at its required paths.
+pub(crate) fn why_more<'p, A: Assigned>(
+    walk: &Walk<'_, A>,
+    overs: &[MethodId],
+    id: MethodId,
+    method: &'p CoreMethod,
+    limit: Basic,
+) -> Result<Why<'p>, NoMemory>
+    ensures { IfOk result (λ why. why_data why ≡ why_of (program_of walk.now.program.now) (rel_of walk.now.sets.now) (A.Assigned.assigned walk.now.assigned.now) overs.now id (method_of method.now) limit) }
+{
+    let (effect, found) = walk_method(walk, method)?;
+    if effect.below(limit) {
+        first_over(walk, overs, method.requires_.as_slice(), limit)
+    } else {
+        body_why(walk, id, effect, found)
+    }
+}
+
+/// The basic of each part of a method at its required paths, by the parts' numbers.
+pub fn basics<A: Assigned>(walk: &Walk<'_, A>, method: &CoreMethod) -> Result<Vec<Basic>, NoMemory>
+    ensures { IfOk result (λ basics. let m = method_of method.now in
+        basics.items ≡ stmt_basics (program_of walk.now.program.now) (rel_of walk.now.sets.now) (A.Assigned.assigned walk.now.assigned.now) m.body (has_path m.requires_)) }
+{
+    let (_, found) = walk_method(walk, method)?;
+    let Found { basics, .. } = found;
+    Ok(basics)
+}
+
+/// The lock that a step takes, where it takes one.
+fn lock_of(part: CorePart<'_>) -> Option<Path>
+    ensures { result ≡ lock_of (part_of part.entry) }
+{
+    match part {
+        CorePart::Expr(_) => None,
+        CorePart::Stmt(s) => taken_lock(s),
+    }
+}
+
+/// That of a statement.
+fn taken_lock(s: &CoreStmt) -> Option<Path>
+    ensures { result ≡ lock_of (StmtP (stmt_of s.now)) }
+{
+    match s {
+        CoreStmt::Sync(path, _) => Some(path.copy()),
+        _ => None,
+    }
+}
+
+/// The lock of the only step, where there is one step and it takes a lock.
+fn only_lock(steps: &[Visited<'_>]) -> Option<Path>
+    ensures { result ≡ only_lock (visits_of steps.now) }
+{
+    let (step, rest) = steps.split_first()?;
+    if rest.is_empty() {
+        lock_of(step.part)
+    } else {
+        None
+    }
+}
+
+/// That of a method at its required paths.
+fn method_lock<A: Assigned>(
+    walk: &Walk<'_, A>,
+    method: &CoreMethod,
+) -> Result<Option<Path>, NoMemory>
+    ensures { IfOk result (λ lock. lock ≡ method_lock (program_of walk.now.program.now) (rel_of walk.now.sets.now) (A.Assigned.assigned walk.now.assigned.now) (method_of method.now)) }
+{
+    let (_, found) = walk_method(walk, method)?;
+    Ok(only_lock(found.steps.as_slice()))
+}
+
+/// For each method the lock of its only step, where it has one step at its required paths and that takes a lock.
+pub fn only_locks<A: Assigned>(walk: &Walk<'_, A>) -> Result<Vec<Option<Path>>, NoMemory>
+    ensures { IfOk result (λ locks. let P = program_of walk.now.program.now in
+        locks.items ≡ map (method_lock P (rel_of walk.now.sets.now) (A.Assigned.assigned walk.now.assigned.now)) P.methods) }
+{
+    let mut locks = Vec::new(walk.alloc);
+    for method in walk.program.methods() {
+        locks.push(method_lock(walk, method)?)?;
+    }
+    Ok(locks)
+}

@@ -1,0 +1,159 @@
+//! What a walk through a body finds.
+
+ghost use Rattle.std.specs.Prelude.{◌≡◌, ◌<◌, ◌∷◌, ◌++◌, [], OnOk, IfOk, length, slice_set, if◌then◌else◌};
+ghost use Rattle.aj_algebra.specs.Basics.{below_of};
+ghost use Rattle.aj_algebra.specs.HeldPaths.{has_path};
+ghost use Rattle.aj_algebra.specs.declared.basic.Basic.TheVariants as basic;
+ghost use Rattle.aj_why.specs.Readings.{is_error};
+ghost use Rattle.aj_why.specs.Visits.{visit};
+ghost use Rattle.aj_explain.specs.Views.{part_of, visits_of};
+
+use aj_algebra::Basic;
+use aj_core::{CoreExpr, CoreStmt};
+use aj_held_lists::copied;
+use aj_paths::Path;
+use std::alloc::{AllocError as NoMemory, Global};
+use std::mem::replace;
+
+/// A part of a body.
+#[derive(Clone, Copy)]
+pub enum CorePart<'p> {
+    Expr(&'p CoreExpr),
+    Stmt(&'p CoreStmt),
+}
+
+/// A part that the walk came to: its number, the paths that are held there, and the number of the innermost loop that repeats it.
+#[derive(Drop)]
+pub struct Visited<'p> {
+    pub node: usize,
+    pub part: CorePart<'p>,
+    pub held: Vec<Path>,
+    pub looped: Option<usize>,
+}
+
+/// What the walk found so far: the basic of each part by its number, the steps that can't be moved, and the parts that are an error by
+/// themselves.
+#[derive(Drop)]
+pub(crate) struct Found<'p> {
+    pub(crate) basics: Vec<Basic>,
+    pub(crate) steps: Vec<Visited<'p>>,
+    pub(crate) errors: Vec<Visited<'p>>,
+}
+
+impl<'p> Found<'p> {
+    /// Nothing yet.
+    pub(crate) fn new(alloc: Global) -> Found<'p>
+        ensures basics { result.basics.items ≡ [] }
+        ensures steps { result.steps.items ≡ [] }
+        ensures errors { result.errors.items ≡ [] }
+    {
+        Found {
+            basics: Vec::new(alloc),
+            steps: Vec::new(alloc),
+            errors: Vec::new(alloc),
+        }
+    }
+
+    /// Makes room for the next part, whose basic isn't known yet, and gives its number.
+    pub(crate) fn enter(&mut self) -> Result<usize, NoMemory>
+        ensures place { IfOk result (λ place. place ≡ length self.old.basics.items) }
+        ensures basics { OnOk result (self.new.basics.items ≡ self.old.basics.items ++ basic.Const ∷ []) }
+        ensures steps { self.new.steps ≡ self.old.steps }
+        ensures errors { self.new.errors ≡ self.old.errors }
+    {
+        let place = self.basics.as_slice().len();
+        self.basics.push(Basic::Const)?;
+        Ok(place)
+    }
+
+    /// Keeps the basic of a part.
+    pub(crate) fn leave(&mut self, place: usize, effect: Basic) -> Basic
+        requires { place < length self.old.basics.items }
+        ensures effect { result ≡ effect }
+        ensures basics { self.new.basics.items ≡ slice_set self.old.basics.items place effect }
+        ensures steps { self.new.steps ≡ self.old.steps }
+        ensures errors { self.new.errors ≡ self.old.errors }
+    {
+        self.basics[place] = effect;
+        effect
+    }
+
+    /// Notes a part that is this by itself: as a step where it can't be moved, and as an error where it is one.
+    pub(crate) fn note(
+        &mut self,
+        alloc: Global,
+        own: Basic,
+        node: usize,
+        part: CorePart<'p>,
+        held: &[Path],
+        looped: Option<usize>,
+    ) -> Result<(), NoMemory>
+        ensures basics { self.new.basics ≡ self.old.basics }
+        ensures steps { OnOk result (visits_of self.new.steps.items ≡ visits_of self.old.steps.items
+            ++ (if below_of own basic.Mover then [] else visit node (part_of part.entry) (has_path held.now) looped)) }
+        ensures errors { OnOk result (visits_of self.new.errors.items ≡ visits_of self.old.errors.items
+            ++ (if is_error own then visit node (part_of part.entry) (has_path held.now) looped else [])) }
+    {
+        if own.below(Basic::Mover) {
+            return Ok(());
+        }
+        self.steps
+            .push(with_held(alloc, node, part, held, looped)?)?;
+        if own == Basic::Error {
+            self.errors
+                .push(with_held(alloc, node, part, held, looped)?)?;
+        }
+        Ok(())
+    }
+
+    /// Takes the steps so far away.
+    pub(crate) fn set_aside(&mut self, alloc: Global) -> Vec<Visited<'p>>
+        ensures result { result ≡ self.old.steps }
+        ensures basics { self.new.basics ≡ self.old.basics }
+        ensures steps { self.new.steps.items ≡ [] }
+        ensures errors { self.new.errors ≡ self.old.errors }
+    {
+        replace(&mut self.steps, Vec::new(alloc))
+    }
+
+    /// Puts these steps in the place of those so far, where `keeps_first` is true.
+    pub(crate) fn choose(&mut self, first: Vec<Visited<'p>>, keeps_first: bool)
+        ensures basics { self.new.basics ≡ self.old.basics }
+        ensures steps { self.new.steps.items ≡ (if keeps_first then first.entry.items else self.old.steps.items) }
+        ensures errors { self.new.errors ≡ self.old.errors }
+    {
+        if keeps_first {
+            self.steps = first;
+        }
+    }
+
+    /// Puts these steps before those so far.
+    pub(crate) fn put_before(&mut self, before: Vec<Visited<'p>>) -> Result<(), NoMemory>
+        ensures basics { self.new.basics ≡ self.old.basics }
+        ensures steps { OnOk result (self.new.steps.items ≡ before.entry.items ++ self.old.steps.items) }
+        ensures errors { self.new.errors ≡ self.old.errors }
+    {
+        let mut all = before;
+        all.append(&mut self.steps)?;
+        self.steps = all;
+        Ok(())
+    }
+}
+
+/// A part that the walk came to with these paths held.
+fn with_held<'p>(
+    alloc: Global,
+    node: usize,
+    part: CorePart<'p>,
+    held: &[Path],
+    looped: Option<usize>,
+) -> Result<Visited<'p>, NoMemory>
+    ensures { IfOk result (λ v. visits_of (v ∷ []) ≡ visit node (part_of part.entry) (has_path held.now) looped) }
+{
+    Ok(Visited {
+        node,
+        part,
+        held: copied(alloc, held)?,
+        looped,
+    })
+}

@@ -1,0 +1,49 @@
+//! What explanations are worth. Nothing is asked of the assignment or the overriding methods.
+
+ghost use Rattle.std.specs.Prelude.{◌≡◌, ◌==◌, ℕ, List, Contains, Option, Some, true, filter, slice_get};
+ghost use Rattle.std.specs.List.{IsDistinct};
+ghost use Rattle.aj_algebra.specs.HeldPaths.{Held, has_path, with_path};
+ghost use Rattle.aj_algebra.specs.declared.basic.Basic.TheVariants.{Error, Mover};
+ghost use Rattle.aj_deriv_rules.specs.Parts.{Part};
+ghost use Rattle.aj_paths.specs.Paths.{PathData};
+ghost use Rattle.aj_core.specs.Core.{Method, Program};
+ghost use Rattle.aj_rules.specs.Effect.{Assignment, required_paths};
+ghost use Rattle.aj_rules.specs.Rules.{AtMost, IsPart};
+ghost use Rattle.aj_why.specs.Helping.{help};
+ghost use Rattle.aj_why.specs.Parts.{own_of};
+ghost use Rattle.aj_explain.specs.Causes.{cause_of, IsReason};
+ghost use Rattle.aj_explain.specs.declared.deeds.Help.TheVariants.{Hold};
+ghost use Rattle.aj_explain.specs.declared.names.Alias.{Alias};
+ghost use Rattle.aj_explain.specs.Deeds.{help_of};
+ghost use Rattle.aj_explain.specs.Names.{second_name};
+ghost use Rattle.aj_explain.specs.Programs.{compound, explanations, keeps, led_to, methods_of, refused_from, IsExplained};
+ghost use Rattle.aj_explain.specs.Whys.{ExplainedData};
+
+/// The refused methods are told in source order, exactly those that break their bounds. No method is told twice, and none is left out
+/// to which an explanation leads.
+pub fn explanation_laws()
+    ensures refused { (P : Program) (rel : ℕ → List PathData) (A : Assignment) (overs : ℕ → List ℕ) →
+        filter (λ x. x.is_refused) (explanations P rel A overs) ≡ refused_from P rel A overs 0 P.methods }
+    ensures once { (P : Program) (rel : ℕ → List PathData) (A : Assignment) (overs : ℕ → List ℕ) → IsDistinct (λ m k. m == k) (methods_of (explanations P rel A overs)) }
+    ensures explained { (P : Program) (rel : ℕ → List PathData) (A : Assignment) (overs : ℕ → List ℕ) (x : ExplainedData) →
+        Contains (explanations P rel A overs) x → IsExplained P rel A overs x }
+    ensures led { (P : Program) (rel : ℕ → List PathData) (A : Assignment) (overs : ℕ → List ℕ) (x : ExplainedData) → Contains (explanations P rel A overs) x →
+        (m : ℕ) (method : Method) → led_to x.why ≡ Some m → slice_get P.methods m ≡ Some method → keeps A m method ≡ true →
+        Contains (explanations P rel A overs) (compound P rel A overs m method) }
+{}
+
+/// A part that is an error by itself is told a reason, and that is so, wherever what a method requires is relevant to it.
+pub fn cause_laws()
+    ensures { (P : Program) (rel : ℕ → List PathData) (A : Assignment) (aliases : List Alias) (H : Held) (x : Part) →
+        ((m : ℕ) → IsPart (has_path (required_paths (slice_get P.methods m))) (has_path (rel m))) →
+        own_of P rel A x H ≡ Error → IsReason P A H (cause_of P rel aliases H x) }
+{}
+
+/// With the lock that is told held, the step can be moved. A lock is told wherever one helps, and another name that is told is held.
+pub fn hold_laws()
+    ensures moves { (P : Program) (rel : ℕ → List PathData) (A : Assignment) (aliases : List Alias) (x : Part) (H : Held) (p : PathData) (second : Option PathData) →
+        help_of P rel A aliases x H ≡ Hold p second → AtMost (own_of P rel A x (with_path p H)) Mover }
+    ensures told { (P : Program) (rel : ℕ → List PathData) (A : Assignment) (aliases : List Alias) (x : Part) (H : Held) (p : PathData) →
+        help P rel A x H ≡ Some p → help_of P rel A aliases x H ≡ Hold p (second_name aliases H p) }
+    ensures held { (aliases : List Alias) (H : Held) (p q : PathData) → second_name aliases H p ≡ Some q → H q ≡ true }
+{}

@@ -1,0 +1,9 @@
+-- The texts of explanations, in this order: what a text is written with (Pages), names in it (Words), what is wrong (CauseTexts), what a
+-- step does and which lock would help (DeedTexts), the lines of a method (Blocks), and the basics of its parts (Listings).
+pub mod Pages
+pub mod Words
+pub mod CauseTexts
+pub mod DeedTexts
+pub mod Blocks
+pub mod Listings
+pub mod Views

@@ -1,0 +1,28 @@
+-- What the lines of a method are written with, and how a line begins and ends.
+use Rattle.std.specs.Prelude.{ℕ, List, ◌++◌, codes, slice_get, unwrap_or}
+use Rattle.aj_classes.specs.Table.{TableData}
+use Rattle.aj_lexer.specs.Places.{line_of, column_of, place_text}
+
+-- the name of the file and its text, the class table, and of the method that is told the names of its slots and the offsets of its nodes
+pub record PageData : Type 0 where
+  pub file : List ℕ
+  pub text : List ℕ
+  pub table : TableData
+  pub slots : List (List ℕ)
+  pub offsets : List ℕ
+
+-- the offset of a node; 0 where the method has no such node
+abbrev pub offset_of : PageData → ℕ → ℕ
+offset_of page node = unwrap_or (slice_get page.offsets node) 0
+
+-- `FILE:LINE:COLUMN: `
+abbrev pub place_front : PageData → ℕ → List ℕ
+place_front page at = page.file ++ codes ":" ++ place_text (line_of page.text at) (column_of page.text at) ++ codes ": "
+
+-- `FILE:LINE:COLUMN: KIND: `
+abbrev pub front : PageData → ℕ → List ℕ → List ℕ
+front page at kind = place_front page at ++ kind ++ codes ": "
+
+-- `FILE:LINE:COLUMN: note: TEXT`
+abbrev pub note_line : PageData → ℕ → List ℕ → List ℕ
+note_line page at text = front page at (codes "note") ++ text ++ codes "\n"

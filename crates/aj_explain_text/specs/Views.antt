@@ -1,0 +1,7 @@
+-- What the lines are written with, as plain data.
+use Rattle.aj_classes.specs.Views.{table_data}
+use Rattle.aj_explain_text.specs.declared.page.Page.{Page}
+use Rattle.aj_explain_text.specs.Pages.{PageData}
+
+abbrev pub page_data : Page → PageData
+page_data p = record { file = p.file.now; text = p.index.now; table = table_data p.table.now; slots = p.slots.now; offsets = p.offsets.now }

@@ -1,0 +1,130 @@
+//! What a step does and which lock would help it, in words.
+
+ghost use Rattle.std.specs.Prelude.{◌≡◌, ◌++◌, string_bytes, OnOk};
+ghost use Rattle.aj_explain_text.specs.DeedTexts.{deed_text, guard_text, help_text, second_text, takes_text};
+ghost use Rattle.aj_explain_text.specs.Views.{page_data};
+
+use crate::page::Page;
+use crate::words::{write_access, write_lack, write_path};
+use aj_algebra::Basic;
+use aj_explain::{Deed, Help, Takes};
+use aj_paths::Path;
+use aj_report::write_title;
+use aj_rules::Guard;
+use std::alloc::AllocError as NoMemory;
+
+/// Writes how the field of an access is guarded.
+fn write_guard(out: &mut String, page: &Page<'_, '_>, guard: &Guard) -> Result<(), NoMemory>
+    ensures { OnOk result (string_bytes out.new ≡ string_bytes out.old ++ guard_text (page_data page.now) guard.now) }
+{
+    match guard {
+        Guard::Free => out.push_str(", which nothing guards"),
+        Guard::WriteNamed(path) => {
+            out.push_str(", which is guarded for writing only by ")?;
+            write_path(out, page, path)
+        }
+        Guard::WriteUnnamed => out.push_str(", which is guarded for writing only"),
+        Guard::Final | Guard::Named(_) | Guard::Unnamed => Ok(()),
+    }
+}
+
+/// Writes what a called method does, as far as it is known.
+fn write_takes(
+    out: &mut String,
+    page: &Page<'_, '_>,
+    own: Basic,
+    takes: &Takes,
+) -> Result<(), NoMemory>
+    ensures { OnOk result (string_bytes out.new ≡ string_bytes out.old ++ takes_text (page_data page.now) own takes.now) }
+{
+    match takes {
+        Takes::Named(path) => {
+            out.push_str(", which takes the lock of ")?;
+            write_path(out, page, path)?;
+            out.push_str(" and gives it back")
+        }
+        Takes::Unnamed => out.push_str(", which takes a lock and gives it back"),
+        Takes::Unknown => {
+            out.push_str(", which is ")?;
+            out.push_str(own.name())
+        }
+    }
+}
+
+/// Writes what a step does.
+pub(crate) fn write_deed(out: &mut String, page: &Page<'_, '_>, deed: &Deed) -> Result<(), NoMemory>
+    ensures { OnOk result (string_bytes out.new ≡ string_bytes out.old ++ deed_text (page_data page.now) deed.now) }
+{
+    match deed {
+        Deed::Reads(receiver, field, guard) => {
+            out.push_str("reads ")?;
+            write_access(out, page, receiver, *field)?;
+            write_guard(out, page, guard)
+        }
+        Deed::Writes(receiver, field, guard) => {
+            out.push_str("writes ")?;
+            write_access(out, page, receiver, *field)?;
+            write_guard(out, page, guard)
+        }
+        Deed::Calls(callee, own, takes) => {
+            out.push_str("calls ")?;
+            write_title(out, page.table, *callee)?;
+            write_takes(out, page, *own, takes)
+        }
+        Deed::Locks(path) => {
+            out.push_str("takes the lock of ")?;
+            write_path(out, page, path)?;
+            out.push_str(" and gives it back")
+        }
+        Deed::Prints => out.push_str("prints"),
+        Deed::Starts => out.push_str("starts a thread"),
+        Deed::Other => out.push_str("a step"),
+    }
+}
+
+/// Writes the other name under which a lock is held, if there is one.
+fn write_second(
+    out: &mut String,
+    page: &Page<'_, '_>,
+    second: &Option<Path>,
+) -> Result<(), NoMemory>
+    ensures { OnOk result (string_bytes out.new ≡ string_bytes out.old ++ second_text (page_data page.now) second.now) }
+{
+    match second {
+        Some(other) => {
+            out.push_str("; it is held here under another name only, ")?;
+            write_path(out, page, other)
+        }
+        None => Ok(()),
+    }
+}
+
+/// What is written where the field is guarded for writing only.
+const WRITES_ONLY: &str =
+    "no lock helps this step: the field is guarded for writing only, so it may be read at any time";
+
+/// Writes which lock would help a step.
+pub(crate) fn write_help(out: &mut String, page: &Page<'_, '_>, help: &Help) -> Result<(), NoMemory>
+    ensures { OnOk result (string_bytes out.new ≡ string_bytes out.old ++ help_text (page_data page.now) help.now) }
+{
+    match help {
+        Help::Hold(path, second) => {
+            out.push_str("with the lock of ")?;
+            write_path(out, page, path)?;
+            out.push_str(" held, this step can be moved")?;
+            write_second(out, page, second)
+        }
+        Help::Unguarded => out.push_str("no lock helps this step: nothing guards the field"),
+        Help::WritesOnly => out.push_str(WRITES_ONLY),
+        Help::Unnamed(lack) => {
+            out.push_str("the lock that would help this step has no name here, since ")?;
+            write_lack(out, page, *lack)
+        }
+        Help::ReceiverUnnamed(lack) => {
+            out.push_str("no one lock that has a name here helps this step, and ")?;
+            write_lack(out, page, *lack)
+        }
+        Help::NoneNamed => out.push_str("no one lock that has a name here helps this step"),
+        Help::Seen => out.push_str("no lock helps this step"),
+    }
+}

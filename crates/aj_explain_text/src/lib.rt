@@ -1,0 +1,13 @@
+//! The lines of explanations, each a place, a kind and a text, as compilers write them.
+#![tactic(auto)]
+
+mod blocks;
+mod causes;
+mod deeds;
+mod listing;
+mod page;
+mod words;
+
+pub use blocks::write_block;
+pub use listing::write_listing;
+pub use page::Page;

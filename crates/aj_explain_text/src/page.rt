@@ -1,0 +1,92 @@
+//! What the lines of a method are written with, and how a line begins and ends.
+
+ghost use Rattle.std.specs.Prelude.{◌≡◌, ◌++◌, codes, decimal, string_bytes, OnOk};
+ghost use Rattle.aj_lexer.specs.Places.{place_text};
+ghost use Rattle.aj_explain_text.specs.Pages.{front, note_line, offset_of, place_front};
+ghost use Rattle.aj_explain_text.specs.Views.{page_data};
+
+use aj_classes::ClassTable;
+use aj_lexer::Place;
+use aj_places::{LineIndex, SlotNames};
+use itoa::Buffer;
+use std::alloc::AllocError as NoMemory;
+
+/// The name of the file, where its lines are, the class table, and of the method that is told the names of its slots and the offsets of
+/// its nodes.
+#[derive(Clone, Copy)]
+pub struct Page<'t, 'a> {
+    pub file: &'t str,
+    pub index: &'t LineIndex<'a>,
+    pub table: &'t ClassTable<'a>,
+    pub slots: &'t SlotNames<'a>,
+    pub offsets: &'t [u32],
+}
+
+/// The offset of a node; 0 where the method has no such node.
+pub(crate) fn offset_of(page: &Page<'_, '_>, node: usize) -> u32
+    ensures { result ≡ offset_of (page_data page.now) node }
+{
+    page.offsets.get(node).copied().unwrap_or(0)
+}
+
+/// Writes a number.
+fn write_number(out: &mut String, number: u32) -> Result<(), NoMemory>
+    ensures { OnOk result (string_bytes out.new ≡ string_bytes out.old ++ decimal number) }
+{
+    let mut digits = Buffer::new();
+    out.push_str(digits.format(number))
+}
+
+/// Writes a place.
+fn write_place(out: &mut String, place: Place) -> Result<(), NoMemory>
+    ensures { OnOk result (string_bytes out.new ≡ string_bytes out.old ++ place_text place.line place.column) }
+{
+    write_number(out, place.line)?;
+    out.push_str(":")?;
+    write_number(out, place.column)
+}
+
+/// Begins a line with a place.
+pub(crate) fn write_front(out: &mut String, page: &Page<'_, '_>, at: u32) -> Result<(), NoMemory>
+    ensures { OnOk result (string_bytes out.new ≡ string_bytes out.old ++ place_front (page_data page.now) at) }
+{
+    out.push_str(page.file)?;
+    out.push_str(":")?;
+    write_place(out, page.index.place(at))?;
+    out.push_str(": ")
+}
+
+/// Begins a line with a place and a kind.
+pub(crate) fn begin_line(
+    out: &mut String,
+    page: &Page<'_, '_>,
+    at: u32,
+    kind: &str,
+) -> Result<(), NoMemory>
+    ensures { OnOk result (string_bytes out.new ≡ string_bytes out.old ++ front (page_data page.now) at kind.now) }
+{
+    write_front(out, page, at)?;
+    out.push_str(kind)?;
+    out.push_str(": ")
+}
+
+/// Begins a note at a node.
+pub(crate) fn begin_note(out: &mut String, page: &Page<'_, '_>, node: usize) -> Result<(), NoMemory>
+    ensures { OnOk result (string_bytes out.new ≡ string_bytes out.old ++ front (page_data page.now) (offset_of (page_data page.now) node) (codes "note")) }
+{
+    begin_line(out, page, offset_of(page, node), "note")
+}
+
+/// Writes a note of fixed words at a node.
+pub(crate) fn write_note(
+    out: &mut String,
+    page: &Page<'_, '_>,
+    node: usize,
+    text: &str,
+) -> Result<(), NoMemory>
+    ensures { OnOk result (string_bytes out.new ≡ string_bytes out.old ++ note_line (page_data page.now) (offset_of (page_data page.now) node) text.now) }
+{
+    begin_note(out, page, node)?;
+    out.push_str(text)?;
+    out.push_str("\n")
+}
