@@ -1,9 +1,9 @@
 -- Values of classes that are put one after the other, each class after the one above it.
-use Rattle.std.proofs.Common.{◌≡◌, ◌≢◌, ◌<◌, ◌≤◌, ◌+◌, ◌==◌, ◌⊎◌, inl, inr, ℕ, zero, suc, Bool, true, false, List, [], ◌∷◌, ◌++◌, length, map, take, get_or, Option, Some, None, refl, sym, ap, subst, ◌∙◌, arith, slice_get, slice_set, option_map}
-use Rattle.std.proofs.lemmas.List.{length-map, length-set}
+use Rattle.std.proofs.Common.{◌≡◌, ◌<◌, ◌≤◌, ◌+◌, ◌==◌, ◌⊎◌, inl, inr, ℕ, zero, suc, Bool, true, false, List, [], ◌∷◌, length, take, get_or, Option, Some, None, refl, sym, ap, subst, ◌∙◌, arith, slice_get, slice_set, option_map}
+use Rattle.std.proofs.lemmas.List.{length-set}
 use Rattle.std.proofs.lemmas.Bool.{eqb-true, eq-eqb}
-use Rattle.std.proofs.lemmas.Option.{none-some, same_Some, slice_get-map, slice_get_within}
-use Rattle.aj_elaborate.specs.Order.{stands_in, ComeAfter, IsFromAbove}
+use Rattle.std.proofs.lemmas.Option.{none-some, same_Some}
+use Rattle.aj_elaborate.specs.Order.{stands_in, IsFromAbove}
 use Rattle.aj_elaborate.proofs.Ordering.{stands_before, after_at, next_take, take_all, set_at, set_other}
 
 module _ {X V : Type 0} (view : X → V) (value : ℕ → Option V) where
@@ -49,14 +49,6 @@ module _ {X V : Type 0} (view : X → V) (value : ℕ → Option V) where
 pub plain_known : {X : Type 0} (o : Option X) (x : X) → option_map (λ x. x) o ≡ Some x → o ≡ Some x
 plain_known None x h = h
 plain_known (Some y) x h = h
-
--- a value that is known is there
-pub known_within : {X V : Type 0} (view : X → V) (known : List X) (c : ℕ) (v : V) → option_map view (slice_get known c) ≡ Some v → c < length known
-known_within view known c v h = by_place (slice_get known c) refl h
-  where
-    by_place : (o : Option _) → slice_get known c ≡ o → option_map view o ≡ Some v → c < length known
-    by_place None is k = absurd (none-some v k)
-    by_place (Some x) is k = slice_get_within known c x is
 
 -- a value that is known where one stands in another list is there
 pub known_below : {X A V : Type 0} (view : X → V) (f : A → V) (known : List X) (xs : List A) (d : ℕ) → d < length xs → option_map view (slice_get known d) ≡ option_map f (slice_get xs d) → d < length known

@@ -1,15 +1,15 @@
 -- What a class has from above, from what the class above it has.
-use Rattle.std.proofs.Common.{◌≡◌, ◌<◌, ◌≤◌, ◌+◌, ◌-◌, ℕ, zero, suc, List, [], ◌∷◌, ◌++◌, length, map, replicate, Option, Some, None, refl, sym, ap, ap₂, subst, ◌∙◌, arith, slice_get, option_map, option_and_then}
+use Rattle.std.proofs.Common.{◌≡◌, ◌<◌, ◌+◌, ◌-◌, ℕ, suc, List, [], ◌∷◌, ◌++◌, length, map, Option, Some, None, refl, sym, ap, ap₂, ◌∙◌, arith, slice_get, option_map, option_and_then}
 use Rattle.std.specs.Prelude.{codes}
 use Rattle.std.specs.List.{range_with_len}
 use Rattle.std.specs.Option.{option_or}
-use Rattle.std.proofs.lemmas.List.{append_assoc, append-nil, length-map}
+use Rattle.std.proofs.lemmas.List.{append_assoc, length-map}
 use Rattle.std.proofs.lemmas.Option.{same_Some, slice_get-map}
 use Rattle.aj_core.specs.Core.{Class}
 use Rattle.aj_classes.specs.Table.{TableData, ClassData, above_in_table, own_method, method_number}
 use Rattle.aj_classes.proofs.Parts.{mapped_at}
 use Rattle.aj_elaborate.specs.declared.lineage.Lineage.{Lineage}
-use Rattle.aj_elaborate.specs.Classes.{numbers_in, inherited_count, targets_from, field_numbers, class_core, class_of_number, all_classes}
+use Rattle.aj_elaborate.specs.Classes.{numbers_in, inherited_count, class_core, class_of_number, all_classes}
 use Rattle.aj_elaborate.specs.Lineages.{lineage_of}
 use Rattle.aj_elaborate.specs.Merged.{class_over}
 use Rattle.aj_elaborate.specs.Order.{IsLined}
@@ -83,8 +83,3 @@ range_step f items more whole next after count done so within is counted =
     ∙ append_assoc items (f next ∷ []) (map f (range_with_len (next + 1) (count - (done + 1))))
     ∙ ap (λ n. items ++ map f (range_with_len next n)) (sym left)
     ∙ so
-
-pub range_end : {A : Type 0} (f : ℕ → A) (items whole : List A) (next count done : ℕ) → items ++ map f (range_with_len next (count - done)) ≡ whole → count ≤ done → items ≡ whole
-range_end f items whole next count done so enough =
-    let left : count - done ≡ 0 = omega (arith, enough) in
-    sym (append-nil items) ∙ ap (λ n. items ++ map f (range_with_len next n)) (sym left) ∙ so

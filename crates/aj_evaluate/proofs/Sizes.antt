@@ -30,7 +30,3 @@ stmt_in (x ∷ ss) (suc i) s below is = let h = stmt_in ss i s (omega (arith, be
 -- a body with one turn less is smaller than a part with all turns
 pub one_turn_less : (turns less all body part : ℕ) → turns ≡ less + 1 → body ≤ all → less * (4 * all) + 4 * body < turns * (4 * all) + 1
 one_turn_less turns less all body part is low = subst (λ t. less * (4 * all) + 4 * body < t * (4 * all) + 1) (sym is) (omega (arith, low))
-
--- fewer turns are no more
-pub fewer_turns : (turns less all : ℕ) → less ≤ turns → less * (4 * all) ≤ turns * (4 * all)
-fewer_turns turns less all low = Rattle.std.proofs.Math.Nat.mul-le-mul_right (4 * all) low

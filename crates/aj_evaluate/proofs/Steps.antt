@@ -1,5 +1,5 @@
 -- One step of the loops.
-use Rattle.std.proofs.Common.{◌≡◌, ℕ, zero, suc, ◌+◌, ◌≤◌, ◌<◌, true, false, ◌++◌, List, [], ◌∷◌, Some, refl, sym, ap, subst, ◌∙◌, arith, length, get_or, drop, append_assoc, append-nil}
+use Rattle.std.proofs.Common.{◌≡◌, ℕ, zero, suc, ◌+◌, ◌≤◌, ◌<◌, true, false, ◌++◌, List, [], ◌∷◌, refl, sym, ap, subst, ◌∙◌, arith, length, get_or, drop, append_assoc, append-nil}
 use Rattle.std.specs.Prelude.{Option, nat_lt, if◌then◌else◌}
 use Rattle.aj_core.specs.declared.tree.CoreExpr.{CoreExpr}
 use Rattle.aj_core.specs.declared.tree.CoreStmt.{CoreStmt}
@@ -112,9 +112,6 @@ module _ (P : Program) (t n d : ℕ) where
 -- what is known with a turn left
 abbrev pub lower_at : Program → (t n : ℕ) → Lower
 lower_at P t n = λ d s slots q. stmt P t (lower_of P t n) d s slots q
-
-pub lower_is : (P : Program) (t n less : ℕ) → n ≡ suc less → lower_of P t n ≡ Some (lower_at P t less)
-lower_is P t n less is = ap (lower_of P t) is
 
 -- Loops: the condition, and a turn.
 module _ (P : Program) (t d : ℕ) (c : Expr) (s : Stmt) where

@@ -1,27 +1,25 @@
 -- What the code keeps while it reads lines, and what it is at their end.
-use Rattle.std.proofs.Common.{◌≡◌, ◌≢◌, ℕ, zero, suc, ◌+◌, ◌-◌, ◌<◌, ◌≤◌, ◌^◌, ◌==◌, ◌⊎◌, Bool, true, false, List, [], ◌∷◌, ◌++◌, length, length-append, map, option_map, position, cond, nat_lt, Option, Some, None, Result, Ok, Err, Contains, slice_get, get_or, set, replicate, unwrap_or, decimal, if◌then◌else◌, refl, sym, ◌∙◌, ap, subst, arith, append_assoc, append-nil, inl, inr}
-use Rattle.std.proofs.lemmas.Bool.{cases_lt, cases_eq, eqb-true, eqb-false, eq-eqb, ne_eqb, ltb-false, not-true, not-false}
+use Rattle.std.proofs.Common.{◌≡◌, ℕ, zero, suc, ◌+◌, ◌-◌, ◌<◌, ◌≤◌, ◌==◌, ◌⊎◌, Bool, true, false, List, [], ◌∷◌, ◌++◌, length, map, option_map, position, cond, nat_lt, Option, Some, None, Result, Ok, Err, Contains, slice_get, get_or, set, replicate, unwrap_or, decimal, if◌then◌else◌, refl, sym, ◌∙◌, ap, subst, arith, append_assoc, inl, inr}
+use Rattle.std.proofs.lemmas.Bool.{cases_lt, cases_eq, eqb-true, eqb-false, ne_eqb, ltb-false, not-false}
 use Rattle.std.proofs.lemmas.List.{length-set, length-replicate, get_or-set_same, get_or-set_other, get_or-replicate}
 use Rattle.std.proofs.lemmas.List.Quantifiers.{position-Some}
 use Rattle.std.proofs.lemmas.List.Sums.{fails_before_first}
 use Rattle.std.specs.List.{position_or_len}
-use Rattle.std.proofs.lemmas.Option.{slice_get-map, slice_get_read, slice_get_within, slice_get_past, unwrap_or-slice_get, get_or_from_slice_get, same_Some}
+use Rattle.std.proofs.lemmas.Option.{slice_get-map, slice_get_read, slice_get_within, slice_get_past, unwrap_or-slice_get, same_Some}
 use Rattle.std.proofs.lemmas.List.Elements.{Contains-append_right}
 use Rattle.aj_lemmas.proofs.Lists.{contains_later}
-use Rattle.aj_book_grammar.specs.declared.stop.Kind.{Kind}
 use Rattle.aj_classes.specs.Table.{TableData, class_number}
 use Rattle.aj_core.specs.Core.{Program, Class}
 use Rattle.aj_core.specs.Dispatch.{above_of, above_in}
 use Rattle.aj_levels.specs.Walks.{level_in}
 use Rattle.aj_typed_runs.specs.SlotTypes.{AreMarked}
-use Rattle.aj_level_text.specs.declared.lines.Flaw.{Flaw}
 use Rattle.aj_level_text.specs.declared.lines.Flaw.TheVariants as flaw
 use Rattle.aj_levels.specs.declared.levels.Levels.{Levels}
 use Rattle.aj_level_text.specs.declared.reader.LevelsFault.{LevelsFault}
 use Rattle.aj_level_text.specs.declared.reader.LevelsFault.TheVariants as faults
 use Rattle.aj_level_text.specs.Texts.{LevelLine, line_text, lines_text, IsLine}
 use Rattle.aj_level_text.specs.Reading.{name_at, level_at}
-use Rattle.aj_level_text.specs.Faults.{HasStood, IsNew, AreNew, Begins, Stops, HasFlaw, HasLevel, AreTold, IsMissing, Differs, IsUnequal, IsFirstFault}
+use Rattle.aj_level_text.specs.Faults.{HasStood, IsNew, AreNew, HasLevel, AreTold, IsMissing, Differs, IsUnequal, IsFirstFault}
 use Rattle.aj_level_text.specs.Kept.{is_at, level_on, differs, Keeps, HasRead, IsRead, IsAnswer}
 use Rattle.aj_level_text.proofs.Parts.{sound_name, sound_level}
 use Rattle.aj_level_text.proofs.Fronts.{text_more, new_more}
@@ -139,18 +137,7 @@ line_read t before old text name behind c place n rest keeps named class is_new 
       keeps = more_kept t before old (set old place n) line c keeps is is_new class (ap (λ k. set old k n) e);
     }
 
--- it takes a byte
-pub read_shorter : (t : TableData) (before : List LevelLine) (text rest levels : List ℕ) → IsRead t before text rest levels → length rest < length text
-read_shorter t before text rest levels r =
-    let e = ap length r.whole in
-    let f = length-append (line_text r.line) rest in
-    let g = length-append r.line.name (32 ∷ (decimal r.line.level ++ (10 ∷ []))) in
-    omega (arith, e, f, g)
-
 -- ---- all lines
-
-pub nothing_read : (t : TableData) (bytes levels : List ℕ) → Keeps t [] levels → HasRead t bytes bytes levels
-nothing_read t bytes levels keeps = record { lines = []; begins = record { whole = refl; are_new = tt }; keeps = keeps }
 
 pub more_read : (t : TableData) (bytes rest levels left new : List ℕ) → (h : HasRead t bytes rest levels) → IsRead t h.lines rest left new → HasRead t bytes left new
 more_read t bytes rest levels left new h r = record {
@@ -162,19 +149,7 @@ more_read t bytes rest levels left new h r = record {
   keeps = r.keeps;
 }
 
-pub flawed : (t : TableData) (bytes rest levels wrong : List ℕ) (kind : Flaw) → (h : HasRead t bytes rest levels) → 0 < length rest → Stops t h.lines rest kind wrong → HasFlaw t bytes kind (length bytes - length wrong)
-flawed t bytes rest levels wrong kind h some stops = record { lines = h.lines; rest = rest; wrong = wrong; begins = h.begins; goes_on = some; stops = stops; place_is = refl }
-
 -- ---- classes that extend others
-
-differs_from : (level : ℕ → ℕ) (c : ℕ) (o : Option ℕ) → differs level c o ≡ true → (d : ℕ) × (o ≡ Some d) × (level c ≢ level d)
-differs_from level c None e = absurd (let no : false ≡ true = e in cc)
-differs_from level c (Some d) e = (d, refl, eqb-false (level c) (level d) (not-true (level c == level d) e))
-
-pub differs_is : (P : Program) (levels : List ℕ) (c : ℕ) (class : Class) → slice_get P.classes c ≡ Some class → differs (level_in levels) c class.above ≡ true → Differs P levels c
-differs_is P levels c class there e =
-    let d = differs_from (level_in levels) c class.above e in
-    (d.0, ap above_in there ∙ d.1, d.2)
 
 pub differs_not : (P : Program) (levels : List ℕ) (c : ℕ) (class : Class) → slice_get P.classes c ≡ Some class → differs (level_in levels) c class.above ≡ false → Differs P levels c → ⊥
 differs_not P levels c class there e (d, above, other) = by class.above (sym (ap above_in there) ∙ above) e
