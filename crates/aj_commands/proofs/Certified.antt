@@ -12,7 +12,7 @@ use Rattle.aj_commands.specs.Answers.{Belongs, too_large, ended, IsExact}
 use Rattle.aj_commands.specs.Said.{WritesAnswer}
 use Rattle.aj_book_commands.specs.Derive.{DeriveAnswer, not_accepted, derived}
 use Rattle.aj_book_commands.specs.Verify.{VerifyFact}
-use Rattle.aj_commands.specs.Headline.{Call, IsCalm}
+use Rattle.aj_outcomes.specs.Calls.{Call, IsCalm}
 use Rattle.aj_commands.specs.Books.{IsVerifyOf, Books}
 use Rattle.aj_book_commands.proofs.BookEndings.{verify_caused, verify_apart}
 use Rattle.aj_commands.proofs.Headlines.{within_both, none_some}

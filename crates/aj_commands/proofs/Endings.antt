@@ -19,7 +19,8 @@ use Rattle.aj_blame_commands.proofs.Endings.{blame_caused, blame_apart, verify_b
 use Rattle.aj_level_commands.proofs.LevelEndings.{levels_caused, levels_apart}
 use Rattle.aj_replay_commands.proofs.ReplayEndings.{replay_caused, replay_apart}
 use Rattle.aj_schedule_commands.proofs.GenerateEndings.{generate_caused, generate_apart}
-use Rattle.aj_commands.specs.Answers.{Answer, Fact, Belongs, too_large, ended, Yields, IsExact}
+use Rattle.aj_outcomes.specs.Said.{Yields}
+use Rattle.aj_commands.specs.Answers.{Answer, Fact, Belongs, too_large, ended, IsExact}
 
 -- `check`: each ending has its fact, and one alone
 refused_fact : (file : List ℕ) (ending : Ending) → RefusedAs file ending → CheckFact file ending

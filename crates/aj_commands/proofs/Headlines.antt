@@ -28,7 +28,8 @@ use Rattle.aj_source_commands.specs.Check.{CheckAnswer, not_accepted as not_chec
 use Rattle.aj_schedule_commands.specs.Serialise.{SerialiseAnswer, SerialiseFact, not_accepted, no_schedule, no_order, serialised}
 use Rattle.aj_commands.specs.Answers.{Belongs, too_large, ended}
 use Rattle.aj_commands.specs.Said.{WritesAnswer}
-use Rattle.aj_commands.specs.Headline.{Call, IsCalm, WritesRearrangement, NamesBroken, RefusesExactly, Headline}
+use Rattle.aj_outcomes.specs.Calls.{Call, IsCalm}
+use Rattle.aj_commands.specs.Headline.{WritesRearrangement, NamesBroken, RefusesExactly, Headline}
 use Rattle.aj_schedule_commands.proofs.ScheduleEndings.{serialise_caused, serialise_apart, refused_text, order_ends}
 
 -- a file within its limit isn't the first over it

@@ -1,5 +1,5 @@
 -- What `serialise-open` is for, from what the call answers.
-use Rattle.std.proofs.Common.{◌≡◌, ℕ, ◌≤◌, List, [], ◌∷◌, Some, None, length, is_some, refl, sym, subst, ap, ◌∙◌, inl, inr, ◌⊎◌}
+use Rattle.std.proofs.Common.{◌≡◌, ℕ, ◌≤◌, List, [], ◌∷◌, Some, length, is_some, refl, sym, subst, ap, ◌∙◌, inl, inr, ◌⊎◌}
 use Rattle.std.specs.Io.KnownBytes.{Appends}
 use Rattle.aj_core.specs.Core.{Program}
 use Rattle.aj_open.specs.OpenOrder.{open_order}
@@ -23,7 +23,7 @@ use Rattle.aj_commands.specs.Files.{IsAsked}
 use Rattle.aj_schedule_commands.specs.SerialiseOpen.{SerialiseOpenAnswer, SerialiseOpenFact, not_accepted, no_schedule, no_run, in_order}
 use Rattle.aj_commands.specs.Answers.{Belongs, too_large, ended}
 use Rattle.aj_commands.specs.Said.{WritesAnswer}
-use Rattle.aj_commands.specs.Headline.{Call, IsCalm}
+use Rattle.aj_outcomes.specs.Calls.{Call, IsCalm}
 use Rattle.aj_commands.specs.OpenCalls.{WritesGathered, OpenCalls}
 use Rattle.aj_schedule_commands.proofs.ScheduleEndings.{refused_text, refused_run}
 use Rattle.aj_schedule_commands.proofs.OpenEndings.{open_caused, open_apart}

@@ -1,6 +1,5 @@
 -- What `levels` is for, from what the call answers.
 use Rattle.std.proofs.Common.{◌≡◌, ℕ, List, [], ◌∷◌, refl, ap, inl, inr, ◌⊎◌}
-use Rattle.aj_sources.specs.declared.refusal.Ending.{Ending}
 use Rattle.aj_sources.specs.declared.refusal.Ending.TheVariants as ending
 use Rattle.aj_sources.specs.Refusals.{code_of}
 use Rattle.aj_level_commands.specs.Levels.{LevelsFact}
@@ -10,7 +9,7 @@ use Rattle.aj_commands.specs.Rows.{Row}
 use Rattle.aj_commands.specs.Files.{IsAsked}
 use Rattle.aj_commands.specs.Answers.{Belongs, too_large, ended, IsExact}
 use Rattle.aj_commands.specs.Said.{WritesAnswer}
-use Rattle.aj_commands.specs.Headline.{Call, IsCalm}
+use Rattle.aj_outcomes.specs.Calls.{Call, IsCalm}
 use Rattle.aj_commands.specs.NoCircles.{IsLevelsOf, NoCircles}
 use Rattle.aj_commands.proofs.Headlines.{within_both, none_some}
 

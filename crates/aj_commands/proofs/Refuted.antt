@@ -11,7 +11,7 @@ use Rattle.aj_commands.specs.Answers.{Belongs, too_large, ended, IsExact}
 use Rattle.aj_commands.specs.Said.{WritesAnswer}
 use Rattle.aj_blame_commands.specs.Blames.{BlameAnswer, no_source, accepted, blamed}
 use Rattle.aj_blame_commands.specs.Verifying.{VerifyBlameFact}
-use Rattle.aj_commands.specs.Headline.{Call, IsCalm}
+use Rattle.aj_outcomes.specs.Calls.{Call, IsCalm}
 use Rattle.aj_commands.specs.Refutations.{IsVerifyBlameOf, Refutations}
 use Rattle.aj_blame_commands.proofs.Endings.{verify_blame_caused, verify_blame_apart}
 use Rattle.aj_commands.proofs.Headlines.{within_both, none_some}

@@ -29,7 +29,7 @@ use Rattle.aj_commands.specs.Rows.{Row}
 use Rattle.aj_commands.specs.Files.{IsAsked}
 use Rattle.aj_commands.specs.Answers.{Belongs, too_large, ended}
 use Rattle.aj_commands.specs.Said.{WritesAnswer}
-use Rattle.aj_commands.specs.Headline.{Call, IsCalm}
+use Rattle.aj_outcomes.specs.Calls.{Call, IsCalm}
 use Rattle.aj_commands.specs.ReplayedCalls.{IsOrderOf, WritesCalls, NamesDeep, ReplayedCalls}
 use Rattle.aj_commands.proofs.Headlines.{within_both, none_some}
 

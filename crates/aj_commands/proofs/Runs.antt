@@ -1,5 +1,5 @@
 -- What the clauses of the top call say, from what was done and what was said.
-use Rattle.std.proofs.Common.{◌≡◌, ℕ, List, ◌∷◌, Option, Some, None, if◌then◌else◌, codes, refl, sym, subst, ap, ◌∙◌, arith, inl, inr, ◌⊎◌, Contains}
+use Rattle.std.proofs.Common.{◌≡◌, ℕ, List, Option, refl, sym, subst, ◌∙◌, arith, inl, inr, ◌⊎◌, Contains}
 use Rattle.aj_edge.specs.Faults.{Rose}
 use Rattle.aj_sources.specs.declared.refusal.Ending.{Ending}
 use Rattle.aj_sources.specs.Refusals.{code_of}
@@ -9,8 +9,9 @@ use Rattle.aj_commands.specs.Rows.{Row, IsRow, limits_of}
 use Rattle.aj_commands.proofs.OneRow.{one_row}
 use Rattle.aj_commands.specs.Files.{IsAsked, AreBounded}
 use Rattle.aj_commands.specs.Reading.{AreTheirs, IsQuiet}
-use Rattle.aj_commands.specs.Answers.{Answer, Belongs, too_large, ended, Yields, IsExact}
-use Rattle.aj_commands.specs.Said.{Says, IsUnread, WritesUnread, WritesTooLarge, WritesAnswer, WritesAnswerToBytes, WritesFront}
+use Rattle.aj_outcomes.specs.Said.{Yields, Says}
+use Rattle.aj_commands.specs.Answers.{Answer, Belongs, too_large, ended, IsExact}
+use Rattle.aj_commands.specs.Said.{IsUnread, WritesUnread, WritesTooLarge, WritesAnswer, WritesAnswerToBytes, WritesFront}
 use Rattle.aj_commands.specs.Commands.{status_of}
 use Rattle.aj_commands.specs.Outcomes.{IsAnswer, IsOutcome}
 use Rattle.aj_commands.proofs.Endings.{exact_answer, exact_yield, no_ending}

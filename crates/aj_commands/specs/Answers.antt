@@ -1,10 +1,11 @@
 -- What the program answers to a row, for the bytes of the files that it names.
-use Rattle.std.specs.Prelude.{◌≡◌, ℕ, List, Some, IsSome, ◌⊎◌}
+use Rattle.std.specs.Prelude.{◌≡◌, ℕ, List, Some, IsSome}
 use Rattle.aj_sources.specs.declared.refusal.Ending.{Ending}
 use Rattle.aj_sources.specs.Refusals.{code_of}
 use Rattle.aj_commands.specs.declared.command.Command.{Command}
 use Rattle.aj_commands.specs.declared.command.Command.TheVariants.{Check, Print, Run, Serialise, Derive, Verify, SerialiseOpen, Blame, VerifyBlame, Levels, Replay, Generate}
-use Rattle.aj_commands.specs.Lines.{too_large_line}
+use Rattle.aj_outcomes.specs.Lines.{too_large_line}
+use Rattle.aj_outcomes.specs.Said.{Exactly}
 use Rattle.aj_commands.specs.Rows.{Row}
 use Rattle.aj_commands.specs.Files.{first_too_large, AreWithin, file_at}
 use Rattle.aj_source_commands.specs.Check.{CheckAnswer}
@@ -55,15 +56,6 @@ Fact (Generate n) files = GenerateFact n
 pub data Belongs (row : Row) (files : List (List ℕ)) : ℕ → List ℕ → Type 0 where
   too_large : (name : List ℕ) → first_too_large row files ≡ Some name → Belongs row files 10 (too_large_line name)
   ended : (ending : Ending) (text : List ℕ) → AreWithin row files → Answer row.command files ending text → Belongs row files (code_of ending) text
-
--- the answers that come before a status, or in its place: a file that can't be read, a sink that fails, want of memory
-abbrev pub Yields : ℕ → Type 0
-Yields status = (status ≡ 6) ⊎ ((status ≡ 7) ⊎ (status ≡ 8))
-
--- the status comes exactly where the fact holds, but for those answers
-pub record Exactly (result status : ℕ) (fact : Type 0) : Type 0 where
-  pub only : result ≡ status → fact
-  pub all : fact → (result ≡ status) ⊎ Yields result
 
 -- which status comes for a row and the bytes of its files
 pub record IsExact (row : Row) (files : List (List ℕ)) (result : ℕ) : Type 0 where

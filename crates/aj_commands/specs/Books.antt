@@ -4,7 +4,7 @@ use Rattle.std.specs.Prelude.{◌≡◌, ℕ, ◌≤◌, List, [], ◌∷◌, So
 use Rattle.aj_sources.specs.declared.refusal.Ending.TheVariants.{Done}
 use Rattle.aj_sources.specs.Facts.{IsAcceptedSource}
 use Rattle.aj_book_commands.specs.Derive.{DeriveAnswer}
-use Rattle.aj_commands.specs.Headline.{Call, IsCalm}
+use Rattle.aj_outcomes.specs.Calls.{Call, IsCalm}
 
 -- the words are `verify` and the names of two files, which are told and within their limits
 pub record IsVerifyOf (call : Call) (source_name book_name file bytes : List ℕ) : Type 0 where

@@ -3,15 +3,15 @@
 -- writes, unless memory is refused, a rearrangement of that schedule that runs to the same heap, locks, threads and output and
 -- interrupts no atomic call; and `check` refuses a well-formed source exactly where no assignment of atomicities is admissible,
 -- naming a method whose bound every closed assignment breaks.
-use Rattle.std.specs.Prelude.{◌≡◌, ℕ, ◌≤◌, List, [], ◌∷◌, Option, Some, None, Contains, length, codes, ◌⊎◌}
+use Rattle.std.specs.Prelude.{◌≡◌, ℕ, ◌≤◌, List, [], ◌∷◌, Some, None, length, codes, ◌⊎◌}
 use Rattle.std.specs.Io.KnownBytes.{Appends}
 use Rattle.aj_algebra.specs.declared.basic.Basic.{Basic}
 use Rattle.aj_algebra.specs.HeldPaths.{has_path}
 use Rattle.aj_classes.specs.Table.{TableData, table_of}
 use Rattle.aj_core.specs.Core.{Program}
-use Rattle.aj_edge.specs.Faults.{Rose}
 use Rattle.aj_infer.specs.Least.{IsLeast}
 use Rattle.aj_infer.specs.Verdicts.{IsBrokenByAll}
+use Rattle.aj_outcomes.specs.Calls.{Call, IsCalm}
 use Rattle.aj_report.specs.Verdicts.{broken_line}
 use Rattle.aj_rules.specs.Effect.{Assignment}
 use Rattle.aj_rules.specs.Near.{MethodPaths, AreRelevant, rel_of}
@@ -21,38 +21,6 @@ use Rattle.aj_sources.specs.Checking.{IsWellFormedSource}
 use Rattle.aj_state.specs.States.{State}
 use Rattle.aj_steps.specs.Run.{run, open_thread, IsRearrangement, IsUninterrupted}
 use Rattle.aj_syntax.specs.Trees.{ProgramTree}
-
--- a call of the program: its words, what the folder tells, the counts of faults of each file and of the sink before and after,
--- what the sink has written before and after, and the exit status
-pub record Call : Type 0 where
-  pub words : List (List ℕ)
-  pub told : List ℕ → Option (List ℕ)
-  pub files_before : List ℕ → ℕ
-  pub files_after : List ℕ → ℕ
-  pub sink_before : ℕ
-  pub sink_after : ℕ
-  pub written_before : Option (List ℕ)
-  pub written_after : Option (List ℕ)
-  pub status : ℕ
-
--- the call with these parts
-abbrev pub call_of : List (List ℕ) → (List ℕ → Option (List ℕ)) → (files_before files_after : List ℕ → ℕ) → (sink_before sink_after : ℕ) → (written_before written_after : Option (List ℕ)) → ℕ → Call
-call_of words told files_before files_after sink_before sink_after written_before written_after status = record {
-  words = words;
-  told = told;
-  files_before = files_before;
-  files_after = files_after;
-  sink_before = sink_before;
-  sink_after = sink_after;
-  written_before = written_before;
-  written_after = written_after;
-  status = status;
-}
-
--- no count of these files rose or stands at its last value, nor does the sink's
-pub record IsCalm (call : Call) (names : List (List ℕ)) : Type 0 where
-  pub files : (name : List ℕ) → Contains names name → Rose (call.files_before name) (call.files_after name) → ⊥
-  pub sink : Rose call.sink_before call.sink_after → ⊥
 
 -- the bytes that the call wrote are the text of a rearrangement of the schedule, which runs to the same heap, locks, threads and
 -- output and interrupts no atomic call

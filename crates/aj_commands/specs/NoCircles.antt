@@ -9,7 +9,7 @@ use Rattle.aj_sources.specs.Checking.{IsWellFormedSource}
 use Rattle.aj_state.specs.States.{State}
 use Rattle.aj_steps.specs.Run.{run}
 use Rattle.aj_syntax.specs.Trees.{ProgramTree}
-use Rattle.aj_commands.specs.Headline.{Call, IsCalm}
+use Rattle.aj_outcomes.specs.Calls.{Call, IsCalm}
 
 -- the words are `levels` and the names of two files, which are told and within their limits
 pub record IsLevelsOf (call : Call) (source_name levels_name file bytes : List ℕ) : Type 0 where

@@ -12,7 +12,7 @@ use Rattle.aj_state.specs.States.{State}
 use Rattle.aj_steps.specs.Run.{run, open_thread, IsRearrangement}
 use Rattle.aj_steps.specs.Units.{written_order}
 use Rattle.aj_syntax.specs.Trees.{ProgramTree}
-use Rattle.aj_commands.specs.Headline.{Call, IsCalm}
+use Rattle.aj_outcomes.specs.Calls.{Call, IsCalm}
 
 -- the bytes that the call wrote are the text of a rearrangement of the schedule, which runs to the same heap, locks, threads and
 -- output and is whole; where no thread stands inside an atomic call at the end, it is the one that `serialise` writes

@@ -16,7 +16,7 @@ use Rattle.aj_steps.specs.Units.{written_order}
 use Rattle.aj_syntax.specs.Trees.{ProgramTree}
 use Rattle.aj_replay_commands.specs.Evaluated.{AreEvaluated}
 use Rattle.aj_replay_commands.specs.Lines.{calls_text, too_deep_line}
-use Rattle.aj_commands.specs.Headline.{Call, IsCalm}
+use Rattle.aj_outcomes.specs.Calls.{Call, IsCalm}
 
 -- the order is the rearrangement of the schedule that `serialise` writes: it runs to the same heap, locks, threads and output, and
 -- interrupts no atomic call

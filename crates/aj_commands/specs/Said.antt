@@ -1,16 +1,11 @@
 -- A text that the program writes with a status.
 use Rattle.std.specs.Prelude.{◌≡◌, ℕ, List, Option, ◌⊎◌}
 use Rattle.std.specs.Io.KnownBytes.{Appends}
-use Rattle.aj_edge.specs.Faults.{Rose}
 use Rattle.aj_edge.specs.Pieces.{AppendsFront}
-use Rattle.aj_commands.specs.Lines.{cannot_read_line, too_large_line}
+use Rattle.aj_outcomes.specs.Lines.{cannot_read_line, too_large_line}
 use Rattle.aj_commands.specs.Rows.{Row, limits_of}
 use Rattle.aj_commands.specs.Reading.{AreTheirs, IsFirstUnread, IsFirstOver}
 use Rattle.aj_commands.specs.Answers.{Belongs}
-
--- the whole text was written, with its status; or a front of it, and the sink's count of faults rose or stands at its last value
-abbrev pub Says : ℕ → ℕ → List ℕ → Option (List ℕ) → Option (List ℕ) → ℕ → ℕ → Type 0
-Says result status text old new before now = ((result ≡ status) × Appends old new text) ⊎ ((result ≡ 7) × AppendsFront old new text × Rose before now)
 
 -- the line of the first file of the row that couldn't be read
 pub record IsUnread (row : Row) (told : List ℕ → Option (List ℕ)) (before now : List ℕ → ℕ) (line : List ℕ) : Type 0 where

@@ -1,36 +1,5 @@
-//! The lines that the program writes.
-
-ghost use Rattle.std.specs.Prelude.{◌≡◌, map, string_bytes, IfOk};
-ghost use Rattle.aj_commands.specs.Lines as lines;
-
-use std::alloc::{AllocError as NoMemory, Global};
+//! The line that the program writes for words that are no row.
 
 /// What is written for words that are no row.
 pub const USAGE: &[u8] =
     b"usage: atomic check FILE | run FILE SCHEDULE | serialise FILE SCHEDULE | derive FILE | verify FILE BOOK | print FILE | generate N | serialise-open FILE SCHEDULE | blame FILE | verify-blame FILE CERT | levels FILE LEVELS | replay FILE SCHEDULE\n";
-
-/// What ends a line.
-const LINE_END: &str = "\n";
-
-/// The texts one after the other.
-fn joined(alloc: Global, texts: &[&str]) -> Result<String, NoMemory>
-    ensures { IfOk result (λ all. string_bytes all ≡ lines.joined (map (λ text. text.now) texts.now)) }
-{
-    let mut all = String::new(alloc);
-    for text in texts {
-        all.push_str(text)?;
-    }
-    Ok(all)
-}
-
-pub fn cannot_read_line(alloc: Global, name: &str) -> Result<String, NoMemory>
-    ensures { IfOk result (λ text. string_bytes text ≡ lines.cannot_read_line name.now) }
-{
-    joined(alloc, &["cannot read ", name, LINE_END])
-}
-
-pub fn too_large_line(alloc: Global, name: &str) -> Result<String, NoMemory>
-    ensures { IfOk result (λ text. string_bytes text ≡ lines.too_large_line name.now) }
-{
-    joined(alloc, &[name, " is too large", LINE_END])
-}

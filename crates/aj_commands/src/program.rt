@@ -8,11 +8,13 @@ ghost use Rattle.aj_sources.specs.declared.refusal.Ending.{Ending as EndingData}
 ghost use Rattle.aj_commands.specs.Lines.{usage_line};
 ghost use Rattle.aj_commands.specs.Rows.{Row, IsRow, IsNoRow, IsWithin, limits_of};
 ghost use Rattle.aj_commands.specs.Files.{IsAsked, AreBounded};
-ghost use Rattle.aj_commands.specs.Answers.{Answer, Yields, IsExact};
+ghost use Rattle.aj_outcomes.specs.Said.{Yields, Says};
+ghost use Rattle.aj_commands.specs.Answers.{Answer, IsExact};
 ghost use Rattle.aj_commands.specs.Reading.{IsQuiet};
-ghost use Rattle.aj_commands.specs.Said.{Says, WritesUnread, WritesTooLarge, WritesAnswer, WritesAnswerToBytes, WritesFront};
+ghost use Rattle.aj_commands.specs.Said.{WritesUnread, WritesTooLarge, WritesAnswer, WritesAnswerToBytes, WritesFront};
 ghost use Rattle.aj_commands.specs.Commands.{row_of, status_of};
-ghost use Rattle.aj_commands.specs.Headline.{Headline, call_of};
+ghost use Rattle.aj_outcomes.specs.Calls.{call_of};
+ghost use Rattle.aj_commands.specs.Headline.{Headline};
 ghost use Rattle.aj_commands.specs.Books.{Books};
 ghost use Rattle.aj_commands.specs.OpenCalls.{OpenCalls};
 ghost use Rattle.aj_commands.specs.Refutations.{Refutations};
@@ -22,12 +24,13 @@ ghost use Rattle.aj_commands.specs.Outcomes.{IsUnreadFor, IsOutcome};
 
 use crate::command::{Command, Words, words_of};
 use crate::files::{Unread, file_at, read_files};
-use crate::lines::{USAGE, cannot_read_line, too_large_line};
+use crate::lines::USAGE;
 use crate::status::Status;
 use aj_blame_commands::{blame_source, verify_blame};
 use aj_book_commands::{derive_book, verify_book};
-use aj_edge::{Fault, Folder, Sink, write_all};
+use aj_edge::{Folder, Sink};
 use aj_level_commands::order_levels;
+use aj_outcomes::{cannot_read_line, too_large_line};
 use aj_replay_commands::replay_calls;
 use aj_schedule_commands::{generate_figures, run_schedule, serialise, serialise_open};
 use aj_source_commands::{check, print};
@@ -116,10 +119,7 @@ fn perform<F: Folder>(alloc: Global, folder: &mut F, words: Words<'_>) -> Result
 fn say<K: Sink>(sink: &mut K, status: Status, text: &[u8]) -> u8
     ensures { Says result (status_of status) text.now (K.written sink.old) (K.written sink.new) (K.faults sink.old) (K.faults sink.new) }
 {
-    match write_all(sink, text) {
-        Ok(()) => status.code(),
-        Err(Fault) => Status::CannotWrite.code(),
-    }
+    aj_outcomes::say(sink, status.code(), text)
 }
 
 /// Does what the words say, over this folder and this sink, and answers the exit status.

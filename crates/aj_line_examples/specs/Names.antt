@@ -4,7 +4,7 @@ use Rattle.aj_classes.specs.Table.{TableData}
 use Rattle.aj_core.specs.declared.types.CoreType.TheVariants.{Class, Int}
 use Rattle.aj_paths.specs.Paths.{PathData}
 use Rattle.aj_state.specs.declared.value.Address.{Address}
-use Rattle.aj_commands.specs.Headline.{Call, call_of}
+use Rattle.aj_outcomes.specs.Calls.{Call, call_of}
 
 -- the names of `class Cell { int v; } class Main { final Cell c; void put(final Cell to, int n) { .. } void main() { .. } }`
 abbrev pub names : TableData

@@ -3,7 +3,7 @@ ghost use Rattle.std.specs.Prelude.{◌≡◌, ℕ, pos, negsuc, List, [], ◌�
 ghost use Rattle.aj_state.specs.declared.value.Value.TheVariants.{Int};
 ghost use Rattle.aj_edge.specs.Faults.{next_count};
 ghost use Rattle.aj_replay_commands.specs.Lines.{result_text, prints_text, call_line, calls_text, too_deep_line};
-ghost use Rattle.aj_commands.specs.Lines.{joined, cannot_read_line, too_large_line};
+ghost use Rattle.aj_outcomes.specs.Lines.{joined, cannot_read_line, too_large_line};
 ghost use Rattle.aj_line_examples.specs.Names.{names, one_call, third};
 
 /// What is told of each call that is evaluated by itself.

@@ -1,6 +1,6 @@
 use Rattle.std.proofs.Common.{map, string_bytes, subst, inl, inr}
 use Rattle.aj_commands.specs.Commands.{row_of, status_of}
-use Rattle.aj_commands.specs.Said.{Says}
+use Rattle.aj_outcomes.specs.Said.{Says}
 use Rattle.aj_commands.proofs.Headlines.{headline_of}
 use Rattle.aj_commands.proofs.Certified.{books_of}
 use Rattle.aj_commands.proofs.OpenCalled.{open_calls_of}

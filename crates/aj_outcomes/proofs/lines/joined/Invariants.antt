@@ -1,6 +1,6 @@
 use Rattle.std.proofs.Common.{◌≡◌, ◌++◌, map, drop, string_bytes}
-use Rattle.aj_commands.specs.Lines as lines
-use Rattle.aj_commands.proofs.lines.joined.Given as goal
+use Rattle.aj_outcomes.specs.Lines as lines
+use Rattle.aj_outcomes.proofs.lines.joined.Given as goal
 
 -- what was joined so far, and then the rest, is the whole
 abbrev pub invariant-loop-text : goal.invariant-loop-text
