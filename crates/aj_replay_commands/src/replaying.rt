@@ -20,7 +20,7 @@ use aj_compile::{CodeTable, compile};
 use aj_core::CoreProgram;
 use aj_replay::{CallRecord, ReplayEnd, replay};
 use aj_schedule_commands::{order_of, schedule_of};
-use aj_sources::{Ending, Refusal, Source, accepted, read_source};
+use aj_sources::{Ending, Refusal, Source, judge, read_source};
 use std::alloc::{AllocError as NoMemory, Global};
 use std::mem::forget;
 
@@ -85,7 +85,7 @@ fn replayed(alloc: Global, source: &Source, text: &[u8]) -> Result<Vec<u8>, Refu
     ensures { (file : List ℕ) → IsSourceOf file source.now →
         MatchResult result (λ out. ReplayAnswer file text.now Ending.Done out.items) (IsRight (ReplayAnswer file text.now)) }
 {
-    accepted(alloc, source)?;
+    judge(alloc, source)?;
     let schedule = schedule_of(alloc, text)?;
     let code = compile(alloc, &source.program)?;
     let found = order_of(alloc, &source.program, &code, schedule.as_slice())?;

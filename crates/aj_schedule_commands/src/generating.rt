@@ -14,7 +14,7 @@ use crate::serialising::order_of;
 use aj_compile::compile;
 use aj_generate::generate;
 use aj_serialise::Serialised;
-use aj_sources::{Ending, Refusal, Source, accepted, read_source};
+use aj_sources::{Ending, Refusal, Source, judge, read_source};
 use aj_state::{Address, Heap, Value};
 use aj_state_report::write_number;
 use itoa::Integer;
@@ -92,7 +92,7 @@ fn counted_up(alloc: Global, n: u32, source: &Source, schedule: &[u32]) -> Resul
     requires generated { IsGenerated n schedule.now }
     ensures { MatchResult result (λ out. GenerateAnswer n Ending.Done out.items) (IsRight (GenerateAnswer n)) }
 {
-    accepted(alloc, source)?;
+    judge(alloc, source)?;
     let code = compile(alloc, &source.program)?;
     let found = order_of(alloc, &source.program, &code, schedule)?;
     let text = figures(alloc, n, &found)?;

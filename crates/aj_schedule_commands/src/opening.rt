@@ -26,7 +26,7 @@ use aj_classes::ClassTable;
 use aj_compile::{CodeTable, compile};
 use aj_core::CoreProgram;
 use aj_open::{InOrder, OpenEnd, opened_with_machine};
-use aj_sources::{Ending, Refusal, Source, accepted, read_source};
+use aj_sources::{Ending, Refusal, Source, judge, read_source};
 use aj_state_report::state_text;
 use std::alloc::{AllocError as NoMemory, Global};
 use std::mem::forget;
@@ -80,7 +80,7 @@ fn in_order(alloc: Global, source: &Source, text: &[u8]) -> Result<Vec<u8>, Refu
     ensures { (file : List ℕ) → IsSourceOf file source.now →
         MatchResult result (λ out. SerialiseOpenAnswer file text.now Ending.Done out.items) (IsRight (SerialiseOpenAnswer file text.now)) }
 {
-    accepted(alloc, source)?;
+    judge(alloc, source)?;
     let schedule = schedule_of(alloc, text)?;
     let code = compile(alloc, &source.program)?;
     let found = order_of(alloc, &source.program, &code, schedule.as_slice())?;

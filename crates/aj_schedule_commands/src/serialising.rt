@@ -27,7 +27,7 @@ use aj_compile::{CodeTable, compile};
 use aj_core::CoreProgram;
 use aj_schedule::{add_comments, comment_laws, write_schedule};
 use aj_serialise::{SerialEnd, Serialised, rewritten_with_machine};
-use aj_sources::{Ending, Refusal, Source, accepted, read_source};
+use aj_sources::{Ending, Refusal, Source, judge, read_source};
 use aj_state_report::{open_text, state_text};
 use std::alloc::{AllocError as NoMemory, Global};
 use std::mem::forget;
@@ -106,7 +106,7 @@ fn serialised(alloc: Global, source: &Source, text: &[u8]) -> Result<Vec<u8>, Re
     ensures { (file : List ℕ) → IsSourceOf file source.now →
         MatchResult result (λ out. SerialiseAnswer file text.now Ending.Done out.items) (IsRight (SerialiseAnswer file text.now)) }
 {
-    accepted(alloc, source)?;
+    judge(alloc, source)?;
     let schedule = schedule_of(alloc, text)?;
     let code = compile(alloc, &source.program)?;
     let found = order_of(alloc, &source.program, &code, schedule.as_slice())?;

@@ -14,7 +14,7 @@ use Rattle.aj_core.specs.Core.{Program}
 use Rattle.aj_core.specs.Typed.{IsTyped}
 use Rattle.aj_core.specs.Views.{program_of}
 use Rattle.aj_infer.specs.Least.{IsLeast}
-use Rattle.aj_infer.specs.Verdicts.{assignment_of, basic_at, IsFirstBroken, IsBrokenByAll}
+use Rattle.aj_infer.specs.Verdicts.{basic_at, IsFirstBroken, IsBrokenByAll}
 use Rattle.aj_report.specs.Verdicts.{broken_line}
 use Rattle.aj_rules.specs.Effect.{Assignment}
 use Rattle.aj_rules.specs.Near.{MethodPaths, AreRelevant, AreFew, rel_of}
@@ -25,16 +25,13 @@ use Rattle.aj_sources.specs.declared.refusal.Ending.TheVariants.{Inadmissible}
 use Rattle.aj_sources.specs.declared.refusal.Refusal.{Refusal}
 use Rattle.aj_sources.specs.Refusals.{IsRight, Tells}
 use Rattle.aj_sources.specs.Checking.{IsSource, IsWellFormedSource}
+use Rattle.aj_sources.specs.Judged.{IsJudged, by_nodes}
 use Rattle.aj_sources.specs.Verdicts.{Show, IsShownLeast, NoAccepted, refuted}
 use Rattle.aj_sources.proofs.Told.{right_refusal}
 
 -- what was read as a source is a well-formed one
 pub well_formed_source : (file : List ℕ) (tree : ProgramTree) (source : Source) → IsSource file tree source → IsWellFormedSource file tree (program_of source.program)
 well_formed_source file tree source is = record { has_core = is.has_core; well_formed = (source.sets, is.relevant, is.few) }
-
--- what the nodes of a table assign to the methods
-abbrev pub by_nodes : Items → List Node → Assignment
-by_nodes is nodes = assignment_of node_value is nodes
 
 -- the trees of nodes show what the nodes assign
 shows : (P : Program) (is : Items) (nodes : List Node) → IsTable is → length nodes ≡ length P.methods → AreThere (length is) nodes → Show P (by_nodes is nodes) (trees_at is nodes)
@@ -53,16 +50,26 @@ shows P is nodes table count known = record {
     value m tree H None at = absurd cc
 
 -- where every bound is kept
-pub shown_least : {E : Type 0} (P : Program) (sets : List MethodPaths) (is : Items) (nodes : List Node) (trees : List Cond) (r : Result Unit E) → AreRelevant P sets → AreFew sets
-    → length nodes ≡ length P.methods → AreThere (length is) nodes → IsTable is → trees ≡ trees_at is nodes
+pub judged : {E : Type 0} (P : Program) (sets : List MethodPaths) (is : Items) (nodes : List Node) (r : Result Unit E) → AreRelevant P sets → AreFew sets
+    → length nodes ≡ length P.methods → AreThere (length is) nodes
     → IsLeast P (rel_of sets) (by_nodes is nodes) → (is_ok r ≡ true) ↔ IsAccepted P → is_ok r ≡ true
-    → IsShownLeast P trees
-shown_least P sets is nodes trees r relevant few count known table same least accepts ok = record {
+    → IsJudged P is nodes
+judged P sets is nodes r relevant few count known least accepts ok = record {
   sets = sets;
-  assignment = by_nodes is nodes;
   least = record { relevant = relevant; few = few; least = least };
   accepted = accepts.0 ok;
-  shown = subst (Show P (by_nodes is nodes)) (sym same) (shows P is nodes table count known);
+  count = count;
+  known = known;
+}
+
+-- the trees of what was judged
+pub shown_least : (P : Program) (is : Items) (nodes : List Node) (trees : List Cond) → IsTable is → IsJudged P is nodes → trees ≡ trees_at is nodes → IsShownLeast P trees
+shown_least P is nodes trees table judged same = record {
+  sets = judged.sets;
+  assignment = by_nodes is nodes;
+  least = judged.least;
+  accepted = judged.accepted;
+  shown = subst (Show P (by_nodes is nodes)) (sym same) (shows P is nodes table judged.count judged.known);
 }
 
 -- where a bound is broken

@@ -5,7 +5,9 @@ ghost use Rattle.aj_classes.specs.Views.{table_data};
 ghost use Rattle.aj_cond.specs.Conditions.{cond_of};
 ghost use Rattle.aj_core.specs.Views.{program_of};
 ghost use Rattle.aj_report.specs.Verdicts.{broken_line};
+ghost use Rattle.aj_rules.specs.Rules.{IsAccepted};
 ghost use Rattle.aj_sources.specs.Checking.{IsSourceOf};
+ghost use Rattle.aj_sources.specs.Judged.{IsJudged};
 ghost use Rattle.aj_sources.specs.Refusals.{IsRight, Tells};
 ghost use Rattle.aj_sources.specs.Verdicts.{IsShownLeast, NoAccepted};
 
@@ -14,7 +16,7 @@ use crate::refusal::{Ending, Refusal};
 use aj_classes::ClassTable;
 use aj_cond::Tree;
 use aj_infer::{Broken, Inferred, infer, verdict};
-use aj_nodes::NodeTable;
+use aj_nodes::{Node, NodeTable};
 use aj_report::broken_text;
 use std::alloc::{AllocError as NoMemory, Global};
 
@@ -29,22 +31,32 @@ fn refuse_broken(alloc: Global, table: &ClassTable, broken: &Broken) -> Refusal
 }
 
 /// The least closed assignment of an accepted source, found in this table of nodes; else the first method whose bound it breaks.
-fn accepted_in(
+fn judged_in(
     alloc: Global,
     source: &Source,
     nodes: &mut NodeTable,
-) -> Result<Inferred<Tree>, Refusal>
+) -> Result<Inferred<Node>, Refusal>
     requires { (file : List ℕ) × IsSourceOf file source.now }
     ensures { (file : List ℕ) → IsSourceOf file source.now →
-        MatchResult result (λ inferred. IsShownLeast (program_of source.now.program) (map cond_of inferred.methods.items)) (IsRight (NoAccepted file)) }
+        MatchResult result (λ inferred. IsJudged (program_of source.now.program) nodes.new inferred.methods.items) (IsRight (NoAccepted file)) }
 {
     let inferred = infer(alloc, &source.program, &source.sets, nodes)?;
     match verdict(&source.program, &inferred, nodes) {
-        Ok(()) => {
-            let methods = nodes.trees_of(alloc, inferred.methods.as_slice())?;
-            Ok(Inferred { methods })
-        }
+        Ok(()) => Ok(inferred),
         Err(broken) => Err(refuse_broken(alloc, &source.table, &broken)),
+    }
+}
+
+/// Whether the rules accept a source; else the first method whose bound its least closed assignment breaks.
+pub fn judge(alloc: Global, source: &Source) -> Result<(), Refusal>
+    requires { (file : List ℕ) × IsSourceOf file source.now }
+    ensures { (file : List ℕ) → IsSourceOf file source.now →
+        MatchResult result (λ _. IsAccepted (program_of source.now.program)) (IsRight (NoAccepted file)) }
+{
+    let mut nodes = NodeTable::new(alloc);
+    match judged_in(alloc, source, &mut nodes) {
+        Ok(_) => Ok(()),
+        Err(refusal) => Err(refusal),
     }
 }
 
@@ -55,5 +67,7 @@ pub fn accepted(alloc: Global, source: &Source) -> Result<Inferred<Tree>, Refusa
         MatchResult result (λ inferred. IsShownLeast (program_of source.now.program) (map cond_of inferred.methods.items)) (IsRight (NoAccepted file)) }
 {
     let mut nodes = NodeTable::new(alloc);
-    accepted_in(alloc, source, &mut nodes)
+    let inferred = judged_in(alloc, source, &mut nodes)?;
+    let methods = nodes.trees_of(alloc, inferred.methods.as_slice())?;
+    Ok(Inferred { methods })
 }

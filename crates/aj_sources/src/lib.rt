@@ -8,7 +8,7 @@ mod laws;
 mod reading;
 mod refusal;
 
-pub use accepting::accepted;
+pub use accepting::{accepted, judge};
 pub use checking::{Source, read_source, well_formed};
 pub use laws::refusal_laws;
 pub use reading::{text_of, tree_of};

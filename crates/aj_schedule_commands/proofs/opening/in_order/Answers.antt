@@ -18,30 +18,30 @@ use Rattle.aj_sources.proofs.Told.{more_refused}
 use Rattle.aj_schedule_commands.proofs.OpenRows.{not_accepted_open, unread_open, refused_open, opened_text}
 use Rattle.aj_schedule_commands.proofs.opening.in_order.Goals as goal
 
-pub returns-in_err-accepted : goal.returns-in_err-accepted
-returns-in_err-accepted c = λ file is.
+pub returns-in_err-judge : goal.returns-in_err-judge
+returns-in_err-judge c = λ file is.
     let p = err_from_is_err_and c.from_residual.result c.from_residual.ensures.1 in
-    more_refused (NoAccepted file) (SerialiseOpenAnswer file c.args.text.now) _ c.from_residual.result p.0 c.in_err-accepted.field-0.0 p.1 p.2
-    (not_accepted_open file c.args.text.now) (c.in_err-accepted.ensures file is)
+    more_refused (NoAccepted file) (SerialiseOpenAnswer file c.args.text.now) _ c.from_residual.result p.0 c.in_err-judge.field-0.0 p.1 p.2
+    (not_accepted_open file c.args.text.now) (c.in_err-judge.ensures file is)
 
 pub returns-in_err-schedule : goal.returns-in_err-schedule
 returns-in_err-schedule c = λ file is.
     let p = err_from_is_err_and c.from_residual-in_err-schedule.result c.from_residual-in_err-schedule.ensures.1 in
     more_refused (NoSchedule c.args.text.now) (SerialiseOpenAnswer file c.args.text.now) _ c.from_residual-in_err-schedule.result p.0 c.in_err-schedule.field-0.0 p.1 p.2
-    (unread_open file c.args.text.now c.args.source.now is (c.in_ok-accepted.ensures file is).accepted) c.in_err-schedule.ensures
+    (unread_open file c.args.text.now c.args.source.now is (c.in_ok-judge.ensures file is)) c.in_err-schedule.ensures
 
 pub order_of-requires-clause-short : goal.order_of-requires-clause-short
 order_of-requires-clause-short c = subst (λ s. length s ≤ 200000) (sym c.as_slice.ensures.value) (short_schedule c.args.text.now c.in_ok-schedule.schedule.items c.in_ok-schedule.ensures)
 
 pub order_of-requires-clause-accepted : goal.order_of-requires-clause-accepted
-order_of-requires-clause-accepted c = (c.in_ok-accepted.ensures c.requires.source.0 c.requires.source.1).accepted
+order_of-requires-clause-accepted c = c.in_ok-judge.ensures c.requires.source.0 c.requires.source.1
 
 pub returns-in_err-found : goal.returns-in_err-found
 returns-in_err-found c = λ file is.
     let p = err_from_is_err_and c.from_residual-in_err-found.result c.from_residual-in_err-found.ensures.1 in
     let P = program_of c.args.source.now.program in
     more_refused (NoRun P c.as_slice.result.now) (SerialiseOpenAnswer file c.args.text.now) _ c.from_residual-in_err-found.result p.0 c.in_err-found.field-0.0 p.1 p.2
-    (λ ended line told. refused_open file c.args.text.now c.args.source.now c.in_ok-schedule.schedule.items is (c.in_ok-accepted.ensures file is).accepted c.in_ok-schedule.ensures ended line
+    (λ ended line told. refused_open file c.args.text.now c.args.source.now c.in_ok-schedule.schedule.items is (c.in_ok-judge.ensures file is) c.in_ok-schedule.ensures ended line
     (subst (λ s. NoRun P s ended line) c.as_slice.ensures.value told)) c.in_err-found.ensures.order
 
 pub returns : goal.returns
@@ -53,7 +53,7 @@ returns c = λ file is.
     let opened = subst (λ s. IsOpened P s order) c.as_slice.ensures.value found.order in
     let stands = subst (λ s. (q : State) → run P s ≡ Some q → StandsFor c.in_ok-found.found.machine q) c.as_slice.ensures.value found.stands opened.end opened.ran in
     opened_text file c.args.text.now source c.in_ok-schedule.schedule.items order (state_text P (table_data source.table) opened.end) c.in_ok-out.out.items
-    is (c.in_ok-accepted.ensures file is).accepted c.in_ok-schedule.ensures (opened.end, opened.ran, refl)
+    is (c.in_ok-judge.ensures file is) c.in_ok-schedule.ensures (opened.end, opened.ran, refl)
     opened (short_schedule c.args.text.now c.in_ok-schedule.schedule.items c.in_ok-schedule.ensures)
     (c.in_ok-out.ensures.text opened.end stands ∙ ap (λ p. written order ++ commented (state_text p (table_data source.table) opened.end)) (ap program_of found.program))
     c.in_ok-out.ensures.spells

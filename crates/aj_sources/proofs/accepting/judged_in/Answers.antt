@@ -1,19 +1,16 @@
-use Rattle.std.proofs.Common.{ap, map, ◌∙◌, is_ok}
-use Rattle.aj_cond.specs.Conditions.{cond_of}
+use Rattle.std.proofs.Common.{ap, is_ok}
 use Rattle.aj_core.specs.Views.{program_of}
-use Rattle.aj_sources.proofs.Verdicts.{by_nodes, shown_least, refuted_source}
-use Rattle.aj_nodes.specs.Shown.{trees_at}
-use Rattle.aj_sources.proofs.accepting.accepted_in.Goals as goal
+use Rattle.aj_sources.specs.Judged.{by_nodes}
+use Rattle.aj_sources.proofs.Verdicts.{judged, refuted_source}
+use Rattle.aj_sources.proofs.accepting.judged_in.Goals as goal
 
 pub returns-in-Ok : goal.returns-in-Ok
 returns-in-Ok c = λ file is.
     let source = c.args.source.now in
     let s = is.1 in
     let least = c.in_ok-inferred.ensures.least s.typed in
-    let nodes = c.in_ok-inferred.inferred.methods.items in
-    shown_least (program_of source.program) source.sets c.infer.new.algebra nodes (map cond_of c.in_ok-methods-in-Ok.methods.items) c.verdict.result s.relevant s.few c.in_ok-inferred.ensures.count c.in_ok-inferred.ensures.known
-    c.in_ok-methods-in-Ok.ensures.table (c.in_ok-methods-in-Ok.ensures.trees ∙ ap (trees_at c.infer.new.algebra) c.as_slice.ensures.value) least
-    (c.verdict.ensures.accepted source.sets s.typed s.relevant s.few least) (ap is_ok c.in-Ok.is)
+    judged (program_of source.program) source.sets c.infer.new.algebra c.in_ok-inferred.inferred.methods.items c.verdict.result s.relevant s.few c.in_ok-inferred.ensures.count c.in_ok-inferred.ensures.known
+    least (c.verdict.ensures.accepted source.sets s.typed s.relevant s.few least) (ap is_ok c.in-Ok.is)
 
 pub returns : goal.returns
 returns c = λ file is.
