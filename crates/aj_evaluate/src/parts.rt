@@ -24,23 +24,24 @@ use aj_paths::{ClassId, MethodId, Path};
 use aj_state::{Address, Fault, Value};
 use std::alloc::Global;
 
+/// Where parts are evaluated: over which program, for which thread, with how many turns left, and inside how many open calls.
+#[derive(Clone, Copy)]
+struct Within<'p> {
+    alloc: Global,
+    program: &'p CoreProgram,
+    thread: u32,
+    turns: u32,
+    depth: u32,
+}
+
 /// The value of an expression.
 #[tactic(auto, using(crate::proofs::EndLemmas::end_then))]
 #[cycle(parts)]
-fn expr(
-    alloc: Global,
-    program: &CoreProgram,
-    plain: &mut Plain,
-    thread: u32,
-    slots: &[Value],
-    e: &CoreExpr,
-    turns: u32,
-    depth: u32,
-) -> Result<Value, EvalEnd>
-    requires { depth ≤ 100 }
+fn expr(at: &Within<'_>, plain: &mut Plain, slots: &[Value], e: &CoreExpr) -> Result<Value, EvalEnd>
+    requires { at.now.depth ≤ 100 }
     ensures { MatchResult result
-        (λ v. expr_answer (program_of program.now) thread turns depth slots.now (expr_of e.now) plain.old ≡ Gives v plain.new)
-        (λ x. IsEnd x (expr_answer (program_of program.now) thread turns depth slots.now (expr_of e.now) plain.old)) }
+        (λ v. expr_answer (program_of at.now.program.now) at.now.thread at.now.turns at.now.depth slots.now (expr_of e.now) plain.old ≡ Gives v plain.new)
+        (λ x. IsEnd x (expr_answer (program_of at.now.program.now) at.now.thread at.now.turns at.now.depth slots.now (expr_of e.now) plain.old)) }
 {
     match e {
         CoreExpr::Int(n) => Ok(Value::Int(*n)),
@@ -49,61 +50,40 @@ fn expr(
         CoreExpr::This => slot(slots, 0),
         CoreExpr::Var { slot: x, .. } => slot(slots, *x),
         CoreExpr::Not(a) => {
-            let v = expr(alloc, program, plain, thread, slots, a, turns, depth)?;
+            let v = expr(at, plain, slots, a)?;
             Ok(unary_value(UnaryOp::Not, v))
         }
         CoreExpr::Neg(a) => {
-            let v = expr(alloc, program, plain, thread, slots, a, turns, depth)?;
+            let v = expr(at, plain, slots, a)?;
             Ok(unary_value(UnaryOp::Neg, v))
         }
         CoreExpr::Binary(op, a, b) => {
-            let v = expr(alloc, program, plain, thread, slots, a, turns, depth)?;
-            let w = expr(alloc, program, plain, thread, slots, b, turns, depth)?;
+            let v = expr(at, plain, slots, a)?;
+            let w = expr(at, plain, slots, b)?;
             computed(binary_value(*op, v, w))
         }
         CoreExpr::And(a, b) => {
-            let v = expr(alloc, program, plain, thread, slots, a, turns, depth)?;
+            let v = expr(at, plain, slots, a)?;
             if as_truth(v) {
-                expr(alloc, program, plain, thread, slots, b, turns, depth)
+                expr(at, plain, slots, b)
             } else {
                 Ok(Value::Truth(false))
             }
         }
         CoreExpr::Or(a, b) => {
-            let v = expr(alloc, program, plain, thread, slots, a, turns, depth)?;
+            let v = expr(at, plain, slots, a)?;
             if as_truth(v) {
                 Ok(Value::Truth(true))
             } else {
-                expr(alloc, program, plain, thread, slots, b, turns, depth)
+                expr(at, plain, slots, b)
             }
         }
         CoreExpr::Get(a, field) => {
-            let v = expr(alloc, program, plain, thread, slots, a, turns, depth)?;
-            read(program, plain, *field, address_of(v))
+            let v = expr(at, plain, slots, a)?;
+            read(at.program, plain, *field, address_of(v))
         }
-        CoreExpr::Call(a, method, args) => called(
-            alloc,
-            program,
-            plain,
-            thread,
-            slots,
-            a,
-            *method,
-            args.as_slice(),
-            turns,
-            depth,
-        ),
-        CoreExpr::New(class, args) => made(
-            alloc,
-            program,
-            plain,
-            thread,
-            slots,
-            *class,
-            args.as_slice(),
-            turns,
-            depth,
-        ),
+        CoreExpr::Call(a, method, args) => called(at, plain, slots, a, *method, args.as_slice()),
+        CoreExpr::New(class, args) => made(at, plain, slots, *class, args.as_slice()),
     }
 }
 
@@ -111,113 +91,84 @@ fn expr(
 #[tactic(auto, using(crate::proofs::EndLemmas::end_then))]
 #[cycle(parts)]
 fn called(
-    alloc: Global,
-    program: &CoreProgram,
+    at: &Within<'_>,
     plain: &mut Plain,
-    thread: u32,
     slots: &[Value],
     receiver: &CoreExpr,
     method: MethodId,
     args: &[CoreExpr],
-    turns: u32,
-    depth: u32,
 ) -> Result<Value, EvalEnd>
-    requires { depth ≤ 100 }
+    requires { at.now.depth ≤ 100 }
     ensures { MatchResult result
-        (λ v. expr_answer (program_of program.now) thread turns depth slots.now (CallE (expr_of receiver.now) method (exprs_from args.now)) plain.old ≡ Gives v plain.new)
-        (λ x. IsEnd x (expr_answer (program_of program.now) thread turns depth slots.now (CallE (expr_of receiver.now) method (exprs_from args.now)) plain.old)) }
+        (λ v. expr_answer (program_of at.now.program.now) at.now.thread at.now.turns at.now.depth slots.now (CallE (expr_of receiver.now) method (exprs_from args.now)) plain.old ≡ Gives v plain.new)
+        (λ x. IsEnd x (expr_answer (program_of at.now.program.now) at.now.thread at.now.turns at.now.depth slots.now (CallE (expr_of receiver.now) method (exprs_from args.now)) plain.old)) }
 {
-    let on = expr(alloc, program, plain, thread, slots, receiver, turns, depth)?;
-    let values = all_arguments(alloc, program, plain, thread, slots, args, turns, depth)?;
-    enter(
-        alloc,
-        program,
-        plain,
-        thread,
-        method,
-        address_of(on),
-        values.as_slice(),
-        turns,
-        depth,
-    )
+    let on = expr(at, plain, slots, receiver)?;
+    let values = all_arguments(at, plain, slots, args)?;
+    enter(at, plain, method, address_of(on), values.as_slice())
 }
 
 /// The value of a `new`.
 #[tactic(auto, using(crate::proofs::EndLemmas::end_then))]
 #[cycle(parts)]
 fn made(
-    alloc: Global,
-    program: &CoreProgram,
+    at: &Within<'_>,
     plain: &mut Plain,
-    thread: u32,
     slots: &[Value],
     class: ClassId,
     args: &[CoreExpr],
-    turns: u32,
-    depth: u32,
 ) -> Result<Value, EvalEnd>
-    requires { depth ≤ 100 }
+    requires { at.now.depth ≤ 100 }
     ensures { MatchResult result
-        (λ v. expr_answer (program_of program.now) thread turns depth slots.now (NewE class (exprs_from args.now)) plain.old ≡ Gives v plain.new)
-        (λ x. IsEnd x (expr_answer (program_of program.now) thread turns depth slots.now (NewE class (exprs_from args.now)) plain.old)) }
+        (λ v. expr_answer (program_of at.now.program.now) at.now.thread at.now.turns at.now.depth slots.now (NewE class (exprs_from args.now)) plain.old ≡ Gives v plain.new)
+        (λ x. IsEnd x (expr_answer (program_of at.now.program.now) at.now.thread at.now.turns at.now.depth slots.now (NewE class (exprs_from args.now)) plain.old)) }
 {
-    let values = all_arguments(alloc, program, plain, thread, slots, args, turns, depth)?;
-    make(alloc, program, plain, thread, class, values.as_slice())
+    let values = all_arguments(at, plain, slots, args)?;
+    make(
+        at.alloc,
+        at.program,
+        plain,
+        at.thread,
+        class,
+        values.as_slice(),
+    )
 }
 
 /// The values of arguments, in order.
 #[tactic(auto, using(crate::proofs::EndLemmas::end_then))]
 #[cycle(parts)]
 fn all_arguments(
-    alloc: Global,
-    program: &CoreProgram,
+    at: &Within<'_>,
     plain: &mut Plain,
-    thread: u32,
     slots: &[Value],
     args: &[CoreExpr],
-    turns: u32,
-    depth: u32,
 ) -> Result<Vec<Value>, EvalEnd>
-    requires { depth ≤ 100 }
+    requires { at.now.depth ≤ 100 }
     ensures { MatchResult result
-        (λ v. exprs (program_of program.now) thread (lower_of (program_of program.now) thread turns) depth slots.now (exprs_from args.now) plain.old ≡ Gives v.items plain.new)
-        (λ x. IsEnd x (exprs (program_of program.now) thread (lower_of (program_of program.now) thread turns) depth slots.now (exprs_from args.now) plain.old)) }
+        (λ v. exprs (program_of at.now.program.now) at.now.thread (lower_of (program_of at.now.program.now) at.now.thread at.now.turns) at.now.depth slots.now (exprs_from args.now) plain.old ≡ Gives v.items plain.new)
+        (λ x. IsEnd x (exprs (program_of at.now.program.now) at.now.thread (lower_of (program_of at.now.program.now) at.now.thread at.now.turns) at.now.depth slots.now (exprs_from args.now) plain.old)) }
 {
-    let mut values = Vec::with_capacity(alloc, args.len())?;
-    arguments(
-        alloc,
-        program,
-        plain,
-        thread,
-        slots,
-        args,
-        &mut values,
-        turns,
-        depth,
-    )?;
+    let mut values = Vec::with_capacity(at.alloc, args.len())?;
+    arguments(at, plain, slots, args, &mut values)?;
     Ok(values)
 }
 
 /// The values of arguments, put behind others.
 #[cycle(parts)]
 fn arguments(
-    alloc: Global,
-    program: &CoreProgram,
+    at: &Within<'_>,
     plain: &mut Plain,
-    thread: u32,
     slots: &[Value],
     args: &[CoreExpr],
     values: &mut Vec<Value>,
-    turns: u32,
-    depth: u32,
 ) -> Result<(), EvalEnd>
-    requires { depth ≤ 100 }
+    requires { at.now.depth ≤ 100 }
     ensures { MatchResult result
-        (λ _. exprs_answer (program_of program.now) thread turns depth slots.now values.old.items (exprs_from args.now) plain.old ≡ Gives values.new.items plain.new)
-        (λ x. IsEnd x (exprs_answer (program_of program.now) thread turns depth slots.now values.old.items (exprs_from args.now) plain.old)) }
+        (λ _. exprs_answer (program_of at.now.program.now) at.now.thread at.now.turns at.now.depth slots.now values.old.items (exprs_from args.now) plain.old ≡ Gives values.new.items plain.new)
+        (λ x. IsEnd x (exprs_answer (program_of at.now.program.now) at.now.thread at.now.turns at.now.depth slots.now values.old.items (exprs_from args.now) plain.old)) }
 {
     for e in args {
-        let value = expr(alloc, program, plain, thread, slots, e, turns, depth)?;
+        let value = expr(at, plain, slots, e)?;
         values.push(value)?;
     }
     Ok(())
@@ -250,25 +201,19 @@ fn chosen<'p>(
 /// The value of a call of a method on what a receiver refers to.
 #[cycle(parts)]
 fn enter(
-    alloc: Global,
-    program: &CoreProgram,
+    at: &Within<'_>,
     plain: &mut Plain,
-    thread: u32,
     method: MethodId,
     on: Option<Address>,
     values: &[Value],
-    turns: u32,
-    depth: u32,
 ) -> Result<Value, EvalEnd>
-    requires { depth ≤ 100 }
+    requires { at.now.depth ≤ 100 }
     ensures { MatchResult result
-        (λ v. call_answer (program_of program.now) thread turns depth method on values.now plain.old ≡ Gives v plain.new)
-        (λ x. IsEnd x (call_answer (program_of program.now) thread turns depth method on values.now plain.old)) }
+        (λ v. call_answer (program_of at.now.program.now) at.now.thread at.now.turns at.now.depth method on values.now plain.old ≡ Gives v plain.new)
+        (λ x. IsEnd x (call_answer (program_of at.now.program.now) at.now.thread at.now.turns at.now.depth method on values.now plain.old)) }
 {
-    match chosen(program, plain, method, on) {
-        Some((address, found)) => run_body(
-            alloc, program, plain, thread, found, address, values, turns, depth,
-        ),
+    match chosen(at.program, plain, method, on) {
+        Some((address, found)) => run_body(at, plain, found, address, values),
         None => Err(EvalEnd::Faults(Fault::Null)),
     }
 }
@@ -276,39 +221,31 @@ fn enter(
 /// The value that the body of a method ends with; it takes a turn.
 #[cycle(parts)]
 fn run_body(
-    alloc: Global,
-    program: &CoreProgram,
+    at: &Within<'_>,
     plain: &mut Plain,
-    thread: u32,
     method: &CoreMethod,
     this: Address,
     values: &[Value],
-    turns: u32,
-    depth: u32,
 ) -> Result<Value, EvalEnd>
-    requires few { depth ≤ 100 }
-    requires listed { (m : ℕ) × (slice_get program.now.methods.items m ≡ Some method.now) }
+    requires few { at.now.depth ≤ 100 }
+    requires listed { (m : ℕ) × (slice_get at.now.program.now.methods.items m ≡ Some method.now) }
     ensures { MatchResult result
-        (λ v. body_answer (program_of program.now) thread turns depth (method_of method.now) this values.now plain.old ≡ Gives v plain.new)
-        (λ x. IsEnd x (body_answer (program_of program.now) thread turns depth (method_of method.now) this values.now plain.old)) }
+        (λ v. body_answer (program_of at.now.program.now) at.now.thread at.now.turns at.now.depth (method_of method.now) this values.now plain.old ≡ Gives v plain.new)
+        (λ x. IsEnd x (body_answer (program_of at.now.program.now) at.now.thread at.now.turns at.now.depth (method_of method.now) this values.now plain.old)) }
 {
-    if turns == 0 {
+    if at.turns == 0 {
         return Err(EvalEnd::Short);
     }
-    if depth == 100 {
+    if at.depth == 100 {
         return Err(EvalEnd::Deep);
     }
-    let mut slots = fresh_slots(alloc, method, this, values)?;
-    let flow = statement(
-        alloc,
-        program,
-        plain,
-        thread,
-        slots.as_mut_slice(),
-        &method.body,
-        turns - 1,
-        depth + 1,
-    )?;
+    let mut slots = fresh_slots(at.alloc, method, this, values)?;
+    let inside = Within {
+        turns: at.turns - 1,
+        depth: at.depth + 1,
+        ..*at
+    };
+    let flow = statement(&inside, plain, slots.as_mut_slice(), &method.body)?;
     Ok(ended_value(flow))
 }
 
@@ -340,81 +277,60 @@ fn store(slots: &mut [Value], x: u16, v: Value) -> Result<Flow, EvalEnd>
 #[tactic(auto, using(crate::proofs::EndLemmas::end_then))]
 #[cycle(parts)]
 fn statement(
-    alloc: Global,
-    program: &CoreProgram,
+    at: &Within<'_>,
     plain: &mut Plain,
-    thread: u32,
     slots: &mut [Value],
     s: &CoreStmt,
-    turns: u32,
-    depth: u32,
 ) -> Result<Flow, EvalEnd>
-    requires { depth ≤ 100 }
+    requires { at.now.depth ≤ 100 }
     ensures { MatchResult result
-        (λ f. stmt_answer (program_of program.now) thread turns depth slots.old (stmt_of s.now) plain.old ≡ Gives (ended f slots.new) plain.new)
-        (λ x. IsEnd x (stmt_answer (program_of program.now) thread turns depth slots.old (stmt_of s.now) plain.old)) }
+        (λ f. stmt_answer (program_of at.now.program.now) at.now.thread at.now.turns at.now.depth slots.old (stmt_of s.now) plain.old ≡ Gives (ended f slots.new) plain.new)
+        (λ x. IsEnd x (stmt_answer (program_of at.now.program.now) at.now.thread at.now.turns at.now.depth slots.old (stmt_of s.now) plain.old)) }
 {
     match s {
         CoreStmt::Empty => Ok(Flow::GoesOn),
-        CoreStmt::Block(body) => block(
-            alloc,
-            program,
-            plain,
-            thread,
-            slots,
-            body.as_slice(),
-            turns,
-            depth,
-        ),
+        CoreStmt::Block(body) => block(at, plain, slots, body.as_slice()),
         CoreStmt::Local { slot, value, .. } => {
-            let v = expr(alloc, program, plain, thread, slots, value, turns, depth)?;
+            let v = expr(at, plain, slots, value)?;
             store(slots, *slot, v)
         }
         CoreStmt::SetVar(slot, value) => {
-            let v = expr(alloc, program, plain, thread, slots, value, turns, depth)?;
+            let v = expr(at, plain, slots, value)?;
             store(slots, *slot, v)
         }
         CoreStmt::SetField(receiver, field, value) => {
-            let on = expr(alloc, program, plain, thread, slots, receiver, turns, depth)?;
-            let v = expr(alloc, program, plain, thread, slots, value, turns, depth)?;
-            write(program, plain, *field, address_of(on), v)?;
+            let on = expr(at, plain, slots, receiver)?;
+            let v = expr(at, plain, slots, value)?;
+            write(at.program, plain, *field, address_of(on), v)?;
             Ok(Flow::GoesOn)
         }
         CoreStmt::Do(e, _) => {
-            let _ = expr(alloc, program, plain, thread, slots, e, turns, depth)?;
+            let _ = expr(at, plain, slots, e)?;
             Ok(Flow::GoesOn)
         }
         CoreStmt::If(condition, one, other) => {
-            let v = expr(
-                alloc, program, plain, thread, slots, condition, turns, depth,
-            )?;
+            let v = expr(at, plain, slots, condition)?;
             if as_truth(v) {
-                statement(alloc, program, plain, thread, slots, one, turns, depth)
+                statement(at, plain, slots, one)
             } else {
-                statement(alloc, program, plain, thread, slots, other, turns, depth)
+                statement(at, plain, slots, other)
             }
         }
-        CoreStmt::While(condition, body) => looped(
-            alloc, program, plain, thread, slots, condition, body, turns, depth,
-        ),
-        CoreStmt::Sync(path, body) => {
-            synchronized(
-                alloc, program, plain, thread, slots, path, body, turns, depth,
-            )
-        }
+        CoreStmt::While(condition, body) => looped(at, plain, slots, condition, body),
+        CoreStmt::Sync(path, body) => synchronized(at, plain, slots, path, body),
         CoreStmt::Return(None) => Ok(Flow::Returns(None)),
         CoreStmt::Return(Some(e)) => {
-            let v = expr(alloc, program, plain, thread, slots, e, turns, depth)?;
+            let v = expr(at, plain, slots, e)?;
             Ok(Flow::Returns(Some(v)))
         }
         CoreStmt::Print(e) => {
-            let v = expr(alloc, program, plain, thread, slots, e, turns, depth)?;
+            let v = expr(at, plain, slots, e)?;
             print(plain, as_int(v))?;
             Ok(Flow::GoesOn)
         }
         CoreStmt::Start(e) => {
-            let v = expr(alloc, program, plain, thread, slots, e, turns, depth)?;
-            start(program, plain, address_of(v))?;
+            let v = expr(at, plain, slots, e)?;
+            start(at.program, plain, address_of(v))?;
             Ok(Flow::GoesOn)
         }
     }
@@ -423,22 +339,18 @@ fn statement(
 /// Evaluates the statements of a block, up to one that returns.
 #[cycle(parts)]
 fn block(
-    alloc: Global,
-    program: &CoreProgram,
+    at: &Within<'_>,
     plain: &mut Plain,
-    thread: u32,
     slots: &mut [Value],
     body: &[CoreStmt],
-    turns: u32,
-    depth: u32,
 ) -> Result<Flow, EvalEnd>
-    requires { depth ≤ 100 }
+    requires { at.now.depth ≤ 100 }
     ensures { MatchResult result
-        (λ f. block_answer (program_of program.now) thread turns depth slots.old (stmts_from body.now) plain.old ≡ Gives (ended f slots.new) plain.new)
-        (λ x. IsEnd x (block_answer (program_of program.now) thread turns depth slots.old (stmts_from body.now) plain.old)) }
+        (λ f. block_answer (program_of at.now.program.now) at.now.thread at.now.turns at.now.depth slots.old (stmts_from body.now) plain.old ≡ Gives (ended f slots.new) plain.new)
+        (λ x. IsEnd x (block_answer (program_of at.now.program.now) at.now.thread at.now.turns at.now.depth slots.old (stmts_from body.now) plain.old)) }
 {
     for s in body {
-        match statement(alloc, program, plain, thread, slots, s, turns, depth)? {
+        match statement(at, plain, slots, s)? {
             Flow::GoesOn => {}
             Flow::Returns(v) => return Ok(Flow::Returns(v)),
         }
@@ -449,24 +361,21 @@ fn block(
 /// Evaluates a loop; each of its turns takes one.
 #[cycle(parts)]
 fn looped(
-    alloc: Global,
-    program: &CoreProgram,
+    at: &Within<'_>,
     plain: &mut Plain,
-    thread: u32,
     slots: &mut [Value],
     condition: &CoreExpr,
     body: &CoreStmt,
-    turns: u32,
-    depth: u32,
 ) -> Result<Flow, EvalEnd>
-    requires { depth ≤ 100 }
+    requires { at.now.depth ≤ 100 }
     ensures { MatchResult result
-        (λ f. stmt_answer (program_of program.now) thread turns depth slots.old (WhileS (expr_of condition.now) (stmt_of body.now)) plain.old ≡ Gives (ended f slots.new) plain.new)
-        (λ x. IsEnd x (stmt_answer (program_of program.now) thread turns depth slots.old (WhileS (expr_of condition.now) (stmt_of body.now)) plain.old)) }
+        (λ f. stmt_answer (program_of at.now.program.now) at.now.thread at.now.turns at.now.depth slots.old (WhileS (expr_of condition.now) (stmt_of body.now)) plain.old ≡ Gives (ended f slots.new) plain.new)
+        (λ x. IsEnd x (stmt_answer (program_of at.now.program.now) at.now.thread at.now.turns at.now.depth slots.old (WhileS (expr_of condition.now) (stmt_of body.now)) plain.old)) }
 {
-    let mut left = turns;
+    let mut left = at.turns;
     'turn: loop {
-        let v = expr(alloc, program, plain, thread, slots, condition, left, depth)?;
+        let here = Within { turns: left, ..*at };
+        let v = expr(&here, plain, slots, condition)?;
         if !as_truth(v) {
             return Ok(Flow::GoesOn);
         }
@@ -474,7 +383,8 @@ fn looped(
             return Err(EvalEnd::Short);
         }
         left -= 1;
-        match statement(alloc, program, plain, thread, slots, body, left, depth)? {
+        let next = Within { turns: left, ..*at };
+        match statement(&next, plain, slots, body)? {
             Flow::GoesOn => {}
             Flow::Returns(v) => return Ok(Flow::Returns(v)),
         }
@@ -484,29 +394,25 @@ fn looped(
 /// Evaluates a block while the lock of a path is held, and gives the lock back, also where the block returns.
 #[cycle(parts)]
 fn synchronized(
-    alloc: Global,
-    program: &CoreProgram,
+    at: &Within<'_>,
     plain: &mut Plain,
-    thread: u32,
     slots: &mut [Value],
     path: &Path,
     body: &CoreStmt,
-    turns: u32,
-    depth: u32,
 ) -> Result<Flow, EvalEnd>
-    requires { depth ≤ 100 }
+    requires { at.now.depth ≤ 100 }
     ensures { MatchResult result
-        (λ f. stmt_answer (program_of program.now) thread turns depth slots.old (SyncS path.now (stmt_of body.now)) plain.old ≡ Gives (ended f slots.new) plain.new)
-        (λ x. IsEnd x (stmt_answer (program_of program.now) thread turns depth slots.old (SyncS path.now (stmt_of body.now)) plain.old)) }
+        (λ f. stmt_answer (program_of at.now.program.now) at.now.thread at.now.turns at.now.depth slots.old (SyncS path.now (stmt_of body.now)) plain.old ≡ Gives (ended f slots.new) plain.new)
+        (λ x. IsEnd x (stmt_answer (program_of at.now.program.now) at.now.thread at.now.turns at.now.depth slots.old (SyncS path.now (stmt_of body.now)) plain.old)) }
 {
     let v = slot(slots, path.root)?;
-    let w = follow(program, plain, path.fields.as_slice(), v)?;
+    let w = follow(at.program, plain, path.fields.as_slice(), v)?;
     let Some(address) = address_of(w) else {
         return Err(EvalEnd::Faults(Fault::Null));
     };
-    take(alloc, plain, thread, address)?;
-    let flow = statement(alloc, program, plain, thread, slots, body, turns, depth)?;
-    give(plain, thread, address)?;
+    take(at.alloc, plain, at.thread, address)?;
+    let flow = statement(at, plain, slots, body)?;
+    give(plain, at.thread, address)?;
     Ok(flow)
 }
 
@@ -530,39 +436,39 @@ pub fn evaluate(
     let Some(found) = program.methods.get(method.0 as usize) else {
         return Err(EvalEnd::Faults(Fault::Null));
     };
-    let result = asked(alloc, program, &mut state, thread, found, on, args, turns)?;
+    let at = Within {
+        alloc,
+        program,
+        thread,
+        turns,
+        depth: 0,
+    };
+    let result = asked(&at, &mut state, found, on, args)?;
     Ok((state, result))
 }
 
-/// What a method that is asked for gives.
+/// What a method that is asked for gives: no call is open around it.
 fn asked(
-    alloc: Global,
-    program: &CoreProgram,
+    at: &Within<'_>,
     plain: &mut Plain,
-    thread: u32,
     method: &CoreMethod,
     on: Address,
     args: &[Value],
-    turns: u32,
 ) -> Result<Option<Value>, EvalEnd>
     ensures { MatchResult result
-        (λ v. asked_body (program_of program.now) thread (Some (method_of method.now)) on args.now plain.old turns ≡ Gives v plain.new)
-        (λ x. IsEnd x (asked_body (program_of program.now) thread (Some (method_of method.now)) on args.now plain.old turns)) }
+        (λ v. asked_body (program_of at.now.program.now) at.now.thread (Some (method_of method.now)) on args.now plain.old at.now.turns ≡ Gives v plain.new)
+        (λ x. IsEnd x (asked_body (program_of at.now.program.now) at.now.thread (Some (method_of method.now)) on args.now plain.old at.now.turns)) }
 {
-    if turns == 0 {
+    if at.turns == 0 {
         return Err(EvalEnd::Short);
     }
-    let mut slots = fresh_slots(alloc, method, on, args)?;
-    let flow = statement(
-        alloc,
-        program,
-        plain,
-        thread,
-        slots.as_mut_slice(),
-        &method.body,
-        turns - 1,
-        1,
-    )?;
+    let mut slots = fresh_slots(at.alloc, method, on, args)?;
+    let inside = Within {
+        turns: at.turns - 1,
+        depth: 1,
+        ..*at
+    };
+    let flow = statement(&inside, plain, slots.as_mut_slice(), &method.body)?;
     match method.result {
         Some(_) => Ok(Some(ended_value(flow))),
         None => Ok(None),
