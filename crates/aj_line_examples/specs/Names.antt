@@ -1,6 +1,7 @@
 -- A table of names, an address, and a call of the program.
 use Rattle.std.specs.Prelude.{ℕ, true, false, List, [], ◌∷◌, Some, None, codes}
 use Rattle.aj_classes.specs.Table.{TableData}
+use Rattle.aj_core.specs.Core.{Program}
 use Rattle.aj_core.specs.declared.types.CoreType.TheVariants.{Class, Int}
 use Rattle.aj_paths.specs.Paths.{PathData}
 use Rattle.aj_state.specs.declared.value.Address.{Address}
@@ -15,6 +16,16 @@ names = record {
   methods =
       record { class = 1; name = codes "put"; params = record { name = codes "to"; is_final = true; ty = Class 0 } ∷ record { name = codes "n"; is_final = false; ty = Int } ∷ []; returns = None }
       ∷ record { class = 1; name = codes "main"; params = []; returns = None } ∷ [];
+}
+
+-- the classes of that source, each with its field
+abbrev pub program : Program
+program = record {
+  classes = record { fields = 0 ∷ []; finals = []; run = None; above = None; targets = [] } ∷ record { fields = 1 ∷ []; finals = 1 ∷ []; run = None; above = None; targets = [] } ∷ [];
+  fields = [];
+  methods = [];
+  main_class = 1;
+  main = 1;
 }
 
 abbrev pub path : ℕ → List ℕ → PathData

@@ -2,6 +2,7 @@
 //! the parts of a call that its clauses speak of. The check computes them.
 #![tactic(auto)]
 
+pub mod books;
 pub mod calls;
 pub mod faults;
 pub mod states;

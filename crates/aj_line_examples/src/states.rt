@@ -3,8 +3,8 @@ ghost use Rattle.std.specs.Prelude.{◌≡◌, pos, negsuc, true, false, List, [
 ghost use Rattle.aj_state.specs.declared.value.Value.TheVariants.{Int, Truth, Null, Ref};
 ghost use Rattle.aj_state.specs.declared.value.Fault.TheVariants as fault;
 ghost use Rattle.aj_state.specs.declared.value.ThreadState.TheVariants as status;
-ghost use Rattle.aj_state_report.specs.States.{address_text, value_text, fault_text, class_text, print_line, field_values_text, lock_line, status_text, thread_line, threads_text};
-ghost use Rattle.aj_line_examples.specs.Names.{names, third};
+ghost use Rattle.aj_state_report.specs.States.{address_text, value_text, fault_text, class_text, print_line, field_values_text, object_line, lock_line, status_text, thread_line, threads_text};
+ghost use Rattle.aj_line_examples.specs.Names.{names, program, third};
 
 /// Addresses, values, and why a thread faulted.
 pub fn how_values_are_written()
@@ -15,12 +15,14 @@ pub fn how_values_are_written()
     ensures classes { map (class_text names) (0 ∷ 1 ∷ 2 ∷ []) ≡ codes "Cell" ∷ codes "Main" ∷ [] ∷ [] }
 {}
 
-/// A line for each printed number, each held lock and each thread; the fields of an object with their values.
+/// A line for each printed number, each object, each held lock and each thread; the fields of an object with their values.
 pub fn how_lines_of_a_state_are_written()
     ensures print { map print_line (pos 3 ∷ negsuc 0 ∷ []) ≡ codes "print 3\n" ∷ codes "print -1\n" ∷ [] }
     ensures fields { field_values_text names (0 ∷ 1 ∷ []) (Int (pos 5) ∷ Null ∷ []) ≡ codes " v=5 c=null" }
     ensures values_without_fields { field_values_text names [] (Null ∷ []) ≡ [] }
     ensures fields_without_values { field_values_text names (0 ∷ []) [] ≡ [] }
+    ensures object { object_line program names (third, record { class = 1; values = Ref third ∷ [] }) ≡ codes "object 1:2 Main c=1:2\n" }
+    ensures object_of_no_class { object_line program names (third, record { class = 2; values = Null ∷ [] }) ≡ codes "object 1:2 \n" }
     ensures lock { lock_line (third, record { holder = 4; count = 5 }) ≡ codes "lock 1:2 thread 4 count 5\n" }
     ensures statuses { map (status_text names (Some 0) 3) (status.Ready ∷ status.Running ∷ status.Done ∷ status.Faulted fault.Depth ∷ [])
         ≡ codes "ready" ∷ codes "running Main.put 3" ∷ codes "done" ∷ codes "faulted depth" ∷ [] }
