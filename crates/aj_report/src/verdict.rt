@@ -1,6 +1,6 @@
 //! The lines of verdicts: a method's atomicity, and a bound that is broken.
 
-ghost use Rattle.std.specs.Prelude.{◌≡◌, ◌++◌, [], codes, option_map, string_bytes, unwrap_or, IfOk, OnOk};
+ghost use Rattle.std.specs.Prelude.{◌≡◌, ◌++◌, ℕ, List, [], codes, option_map, string_bytes, unwrap_or, IfOk, OnOk, OnErr};
 ghost use Rattle.aj_classes.specs.Views.{table_data};
 ghost use Rattle.aj_cond.specs.Conditions.{cond_of};
 ghost use Rattle.aj_report.specs.Verdicts.{title_text, field_text, fields_text, path_text, branch_text, condition_text, atomicity_line, broken_line};
@@ -42,9 +42,11 @@ pub fn broken_text(alloc: Global, table: &ClassTable, broken: &Broken) -> Result
     Ok(line)
 }
 
-/// Writes a method's class and name with a point between, or nothing for a method that the table hasn't.
+/// Writes a method's class and name with a point between, or nothing for a method that the table hasn't. After want of memory the
+/// line is what it was, and maybe bytes behind it.
 pub fn write_title(line: &mut String, table: &ClassTable, method: MethodId) -> Result<(), NoMemory>
-    ensures { OnOk result (string_bytes line.new ≡ string_bytes line.old ++ title_text (table_data table.now) method) }
+    ensures title { OnOk result (string_bytes line.new ≡ string_bytes line.old ++ title_text (table_data table.now) method) }
+    ensures kept { OnErr result ((behind : List ℕ) × (string_bytes line.new ≡ string_bytes line.old ++ behind)) }
 {
     let Some((class, name)) = table.method_name(method) else {
         return Ok(());

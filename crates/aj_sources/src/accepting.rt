@@ -67,7 +67,11 @@ pub fn accepted(alloc: Global, source: &Source) -> Result<Inferred<Tree>, Refusa
         MatchResult result (λ inferred. IsShownLeast (program_of source.now.program) (map cond_of inferred.methods.items)) (IsRight (NoAccepted file)) }
 {
     let mut nodes = NodeTable::new(alloc);
-    let inferred = judged_in(alloc, source, &mut nodes)?;
-    let methods = nodes.trees_of(alloc, inferred.methods.as_slice())?;
-    Ok(Inferred { methods })
+    match judged_in(alloc, source, &mut nodes) {
+        Ok(inferred) => {
+            let methods = nodes.trees_of(alloc, inferred.methods.as_slice())?;
+            Ok(Inferred { methods })
+        }
+        Err(refusal) => Err(refusal),
+    }
 }

@@ -108,8 +108,8 @@ looped-returns-in_err-statement t c =
 pub run_body-statement-requires : goal.run_body-statement-requires
 run_body-statement-requires t c =
     let few = c.requires.few in
-    let deep = c.if-depth-eq100.false in
-    let some = c.if-turns-eq0.false in
+    let deep = c.if-at-eq100.false in
+    let some = c.if-at-eq0.false in
     let body = body_in c.args.at.now.program.now.methods.items c.requires.listed.0 c.args.method.now c.requires.listed.1 in
     let less = one_turn_less c.args.at.now.turns (c.args.at.now.turns - 1) (all_nodes c.args.at.now.program.now.methods.items) (stmt_nodes (stmt_of c.args.method.now.body)) 0 (omega (arith, some)) body in
     (omega (arith, less, c.decreases), omega (arith, few, deep))
@@ -117,8 +117,8 @@ run_body-statement-requires t c =
 pub run_body-returns-in_err-flow : goal.run_body-returns-in_err-flow
 run_body-returns-in_err-flow t c =
     let few = c.requires.few in
-    let deep = c.if-depth-eq100.false in
-    let some = c.if-turns-eq0.false in
+    let deep = c.if-at-eq100.false in
+    let some = c.if-at-eq0.false in
     let one_less : c.args.at.now.turns ≡ suc (c.args.at.now.turns - 1) = omega (arith, some) in
     let one_more : c.args.at.now.depth + 1 ≡ suc c.args.at.now.depth = omega arith in
     let p = err_from_is_err_and c.from_residual-in_err-flow.result c.from_residual-in_err-flow.ensures.1 in

@@ -29,3 +29,11 @@ returns-clause-thread c = refl
 pub returns-clause-threads : goal.returns-clause-threads
 unfolding digits
 returns-clause-threads c = refl
+
+pub returns-clause-object : goal.returns-clause-object
+unfolding digits
+returns-clause-object c = refl
+
+pub returns-clause-object_of_no_class : goal.returns-clause-object_of_no_class
+unfolding digits
+returns-clause-object_of_no_class c = refl

@@ -1,11 +1,14 @@
-use Rattle.std.proofs.Common.{ap, map, ◌∙◌}
+use Rattle.std.proofs.Common.{map, length, sym, subst, ap, ◌∙◌}
 use Rattle.aj_cond.specs.Conditions.{cond_of}
 use Rattle.aj_core.specs.Views.{program_of}
-use Rattle.aj_nodes.specs.Shown.{trees_at}
+use Rattle.aj_nodes.specs.Shown.{AreThere, trees_at}
 use Rattle.aj_sources.proofs.Verdicts.{shown_least}
 use Rattle.aj_sources.proofs.accepting.accepted.Goals as goal
 
-pub returns : goal.returns
-returns c = λ file is.
-    shown_least (program_of c.args.source.now.program) c.judged_in.new.nodes c.in_ok-inferred.inferred.methods.items (map cond_of c.in_ok-methods.methods.items) c.in_ok-methods.ensures.table (c.in_ok-inferred.ensures file is)
-    (c.in_ok-methods.ensures.trees ∙ ap (trees_at c.judged_in.new.nodes) c.as_slice.ensures.value)
+pub trees_of-requires : goal.trees_of-requires
+trees_of-requires c = subst (AreThere (length c.judged_in.new.nodes)) (sym c.as_slice.ensures.value) (c.in-Ok.ensures c.requires.0 c.requires.1).known
+
+pub returns-in-Ok : goal.returns-in-Ok
+returns-in-Ok c = λ file is.
+    shown_least (program_of c.args.source.now.program) c.judged_in.new.nodes c.in-Ok.inferred.methods.items (map cond_of c.in_ok-methods-in-Ok.methods.items) c.in_ok-methods-in-Ok.ensures.table (c.in-Ok.ensures file is)
+    (c.in_ok-methods-in-Ok.ensures.trees ∙ ap (trees_at c.judged_in.new.nodes) c.as_slice.ensures.value)

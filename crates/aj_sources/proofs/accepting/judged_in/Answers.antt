@@ -12,8 +12,8 @@ returns-in-Ok c = λ file is.
     judged (program_of source.program) source.sets c.infer.new.algebra c.in_ok-inferred.inferred.methods.items c.verdict.result s.relevant s.few c.in_ok-inferred.ensures.count c.in_ok-inferred.ensures.known
     least (c.verdict.ensures.accepted source.sets s.typed s.relevant s.few least) (ap is_ok c.in-Ok.is)
 
-pub returns : goal.returns
-returns c = λ file is.
+pub returns-in-Err : goal.returns-in-Err
+returns-in-Err c = λ file is.
     let source = c.args.source.now in
     let s = is.1 in
     let least = c.in_ok-inferred.ensures.least s.typed in
