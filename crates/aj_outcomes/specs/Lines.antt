@@ -1,0 +1,17 @@
+-- The lines that tell of a file that it wasn't read.
+use Rattle.std.specs.Prelude.{ℕ, List, [], ◌∷◌, ◌++◌, codes}
+
+-- texts one after the other
+abbrev pub joined : List (List ℕ) → List ℕ
+joined [] = []
+joined (x ∷ xs) = x ++ joined xs
+
+-- what ends a line
+abbrev pub line_end : List ℕ
+line_end = 10 ∷ []
+
+abbrev pub cannot_read_line : List ℕ → List ℕ
+cannot_read_line name = joined (codes "cannot read " ∷ name ∷ line_end ∷ [])
+
+abbrev pub too_large_line : List ℕ → List ℕ
+too_large_line name = joined (name ∷ codes " is too large" ∷ line_end ∷ [])
