@@ -102,3 +102,8 @@ pub fn run<F: Folder, K: Sink>(alloc: Global, words: &[String], folder: &mut F, 
     let Some((order, name)) = row_of(words) else {
         return say(sink, 9, USAGE);
     };
+    match perform(alloc, folder, order, name) {
+        Ok(outcome) => say(sink, outcome.status, outcome.text.as_bytes()),
+        Err(NoMemory) => 8,
+    }
+}
