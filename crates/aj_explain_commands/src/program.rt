@@ -21,7 +21,7 @@ use aj_outcomes::{cannot_read_line, say, too_large_line};
 use std::alloc::{AllocError as NoMemory, Global};
 
 /// The most bytes that a source may have.
-const LARGEST_SOURCE: usize = 262_144;
+const LARGEST_SOURCE: u32 = 262_144;
 
 /// The status and the text with which it ends.
 struct Outcome {
@@ -42,7 +42,7 @@ fn perform<F: Folder>(
         Ok(bytes) => {
             let said = explain(alloc, order, name, bytes.as_slice())?;
             Ok(Outcome {
-                status: said.ending.status(),
+                status: said.ending.code(),
                 text: said.text,
             })
         }
