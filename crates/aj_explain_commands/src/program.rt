@@ -24,6 +24,7 @@ use std::alloc::{AllocError as NoMemory, Global};
 const LARGEST_SOURCE: u32 = 262_144;
 
 /// The status and the text with which it ends.
+#[derive(Drop)]
 struct Outcome {
     status: u8,
     text: String,
