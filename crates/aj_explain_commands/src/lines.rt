@@ -22,3 +22,5 @@ pub fn in_form(alloc: Global, name: &str, line: &str) -> Result<String, NoMemory
     match rest.split_once(' ') {
         Some((place, kind)) => joined(alloc, &[name, ":", place, " error: ", kind]),
         None => joined(alloc, &[line]),
+    }
+}

@@ -21,9 +21,10 @@ use aj_outcomes::{cannot_read_line, say, too_large_line};
 use std::alloc::{AllocError as NoMemory, Global};
 
 /// The most bytes that a source may have.
-const LARGEST_SOURCE: usize = 262_144;
+const LARGEST_SOURCE: u32 = 262_144;
 
 /// The status and the text with which it ends.
+#[derive(Drop)]
 struct Outcome {
     status: u8,
     text: String,
@@ -42,7 +43,7 @@ fn perform<F: Folder>(
         Ok(bytes) => {
             let said = explain(alloc, order, name, bytes.as_slice())?;
             Ok(Outcome {
-                status: said.ending.status(),
+                status: said.ending.code(),
                 text: said.text,
             })
         }
@@ -102,3 +103,8 @@ pub fn run<F: Folder, K: Sink>(alloc: Global, words: &[String], folder: &mut F, 
     let Some((order, name)) = row_of(words) else {
         return say(sink, 9, USAGE);
     };
+    match perform(alloc, folder, order, name) {
+        Ok(outcome) => say(sink, outcome.status, outcome.text.as_bytes()),
+        Err(NoMemory) => 8,
+    }
+}
