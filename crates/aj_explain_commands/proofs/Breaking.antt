@@ -1,5 +1,5 @@
 -- Explanations tell as refused exactly the methods that break their bounds, and only methods that are there.
-use Rattle.std.proofs.Common.{◌≡◌, ◌<◌, ◌≤◌, ℕ, zero, suc, ◌+◌, Bool, true, false, not, ◌||◌, List, [], ◌∷◌, ◌++◌, map, Option, Some, None, if◌then◌else◌, length, slice_get, slice_set, unwrap_or, refl, sym, ap, subst, ◌∙◌, arith}
+use Rattle.std.proofs.Common.{◌≡◌, ◌<◌, ◌≤◌, ℕ, zero, suc, ◌+◌, Bool, true, false, not, ◌||◌, List, [], ◌∷◌, ◌++◌, map, Option, Some, None, if◌then◌else◌, length, replicate, slice_get, slice_set, unwrap_or, refl, sym, ap, subst, ◌∙◌, arith}
 use Rattle.std.proofs.lemmas.Option.{slice_get_within}
 use Rattle.aj_core.specs.Core.{Program, Method}
 use Rattle.aj_explain.specs.Programs.{explanations, explanations_from, led, led_to, if_untold, compound, refused, marked, methods_of, keeps}
@@ -11,6 +11,11 @@ use Rattle.aj_rules.specs.Effect.{Assignment}
 use Rattle.aj_sources.specs.declared.refusal.Ending.TheVariants.{Done, Inadmissible}
 use Rattle.aj_explain_commands.specs.Broken.{broken_from, broken_methods, refused_in, ending_for}
 use Rattle.aj_explain_commands.specs.Explained.{AreWithin}
+
+-- of fewer methods, so of more
+pub within_more : (n k : ℕ) (xs : List ExplainedData) → n ≤ k → AreWithin n xs → AreWithin k xs
+within_more n k [] le w = tt
+within_more n k (x ∷ xs) le w = (let below = w.0 in omega (arith, below, le), within_more n k xs le w.1)
 
 -- none of them is told as refused, and all of them are there
 abbrev AreLed : ℕ → List ExplainedData → Type 0
@@ -75,11 +80,11 @@ module _ (P : Program) (rel : ℕ → List PathData) (A : Assignment) (overs : �
 
   -- the explanations are of exactly the methods that break their bounds
   pub exactly_broken : refused_in (explanations P rel A overs) ≡ broken_methods P A
-  exactly_broken = refused_from (map (λ method. false) P.methods) 0 P.methods
+  exactly_broken = refused_from (replicate (length P.methods) false) 0 P.methods
 
   -- and all their methods are there
   pub all_there : AreWithin (length P.methods) (explanations P rel A overs)
-  all_there = within_from (map (λ method. false) P.methods) 0 P.methods (omega arith)
+  all_there = within_from (replicate (length P.methods) false) 0 P.methods (omega arith)
 
 -- where no method breaks its bound, nothing is explained
 none_explained : (b : Bool) (m : ℕ) (ms : List ℕ) (x : ExplainedData) (xs later : List ExplainedData) → (ms ≡ [] → later ≡ []) → (if b then ms else m ∷ ms) ≡ [] → (if b then later else (x ∷ xs)) ≡ []
@@ -95,7 +100,7 @@ module _ (P : Program) (rel : ℕ → List PathData) (A : Assignment) (overs : �
       (more ++ explanations_from P rel A overs (marked told (methods_of more)) (m + 1) methods) (explanations_from P rel A overs told (m + 1) methods) (nothing_from told (m + 1) methods) e
 
   pub nothing_explained : broken_methods P A ≡ [] → explanations P rel A overs ≡ []
-  nothing_explained e = nothing_from (map (λ method. false) P.methods) 0 P.methods e
+  nothing_explained e = nothing_from (replicate (length P.methods) false) 0 P.methods e
 
 -- where every method keeps its bound, none breaks it
 kept : (A : Assignment) (m : ℕ) (methods : List Method) → ((k j : ℕ) (method : Method) → j ≡ m + k → slice_get methods k ≡ Some method → keeps A j method ≡ true) → broken_from A m methods ≡ []

@@ -63,23 +63,3 @@ judged_text order name tree file source trees ending text table members least sa
 pub source_answer : (order : Order) (name file : List ℕ) (tree : ProgramTree) (source : Source) (ending : Ending) (text : List ℕ) → IsSource file tree source
     → IsJudged order (program_of source.program) (pages_of name file tree) ending text → ExplainAnswer order name file ending text
 source_answer order name file tree source ending text is j = judged tree (program_of source.program) (well_formed_source file tree source is) j
-
--- the lines of one method more
-module _ (P : Program) (rel : ℕ → List PathData) (A : Assignment) (pages : ℕ → PageData) where
-  pub one_more : (x : ExplainedData) (xs all : List ExplainedData) (old mid new : List ℕ) → all ≡ x ∷ xs
-      → ((lines : List ℕ) × (mid ≡ old ++ lines) × IsMethodText P rel A pages x lines)
-      → {E : Type 0} (r : Result Unit E) → OnOk r ((lines : List ℕ) × (new ≡ mid ++ lines) × AreTexts P rel A pages xs lines)
-      → OnOk r ((lines : List ℕ) × (new ≡ old ++ lines) × AreTexts P rel A pages all lines)
-  one_more x xs all old mid new is one {E} (Err e) rest = tt
-  one_more x xs all old mid new is one {E} (Ok u) rest = (
-    one.0 ++ rest.0,
-    rest.1 ∙ ap (λ t. t ++ rest.0) one.1 ∙ append_assoc old one.0 rest.0,
-    subst (λ ys. AreTexts P rel A pages ys (one.0 ++ rest.0)) (sym is) (more x xs one.0 rest.0 one.2 rest.2),
-  )
-
-  -- the lines of the parts of one method more
-  pub lines_more : (k : ℕ) (method : Method) (old new whole : List ℕ) → drop k P.methods ≡ method ∷ drop (k + 1) P.methods
-      → old ++ lines_from P rel A pages k (drop k P.methods) ≡ whole → new ≡ old ++ method_lines P rel A pages k method → new ++ lines_from P rel A pages (k + 1) (drop (k + 1) P.methods) ≡ whole
-  lines_more k method old new whole dropped so is =
-      let rest = lines_from P rel A pages (k + 1) (drop (k + 1) P.methods) in
-      ap (λ t. t ++ rest) is ∙ append_assoc old (method_lines P rel A pages k method) rest ∙ sym (ap (λ ms. old ++ lines_from P rel A pages k ms) dropped) ∙ so

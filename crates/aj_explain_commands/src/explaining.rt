@@ -1,11 +1,11 @@
 //! The lines of explanations.
 
-ghost use Rattle.std.specs.Prelude.{◌≡◌, ◌++◌, ◌<◌, ◌≤◌, ℕ, List, IfOk, OnOk, length, map, slice_get, string_bytes};
+ghost use Rattle.std.specs.Prelude.{◌≡◌, ◌++◌, ◌<◌, ◌≤◌, ◌^◌, ℕ, List, IfOk, OnOk, length, map, slice_get, string_bytes};
 ghost use Rattle.aj_classes.specs.Views.{table_data};
 ghost use Rattle.aj_core.specs.Views.{program_of};
 ghost use Rattle.aj_explain.specs.Views.{explained_data};
 ghost use Rattle.aj_explain_commands.specs.Answers.{Explains};
-ghost use Rattle.aj_explain_commands.specs.Explained.{AreTexts, AreWithin, aliases_at, only_locks, page_of};
+ghost use Rattle.aj_explain_commands.specs.Explained.{AreTexts, AreWithin, aliases_at, page_of};
 ghost use Rattle.aj_explain_text.specs.Blocks.{IsBlock};
 ghost use Rattle.aj_rules.specs.Near.{rel_of};
 ghost use Rattle.aj_syntax.specs.Views.{member_of};
@@ -62,26 +62,27 @@ fn add_block<A: Assigned>(
     write_block(text, &page, walk, locks, known.as_slice(), x)
 }
 
-/// Adds the lines of methods, one after the other.
-fn add_blocks<A: Assigned>(
+/// The lines of these methods, one after the other.
+fn lines_of<A: Assigned>(
     told: &Told<'_, '_, '_>,
     walk: &Walk<'_, A>,
-    locks: &[Option<Path>],
     all: &[Explained<'_>],
-    text: &mut String,
-) -> Result<(), NoMemory>
-    requires there { AreWithin (length told.now.methods.now) (map explained_data all.now) }
-    requires locks { locks.now ≡ only_locks (program_of walk.now.program.now) (rel_of walk.now.sets.now) (A.Assigned.assigned walk.now.assigned.now) }
-    ensures { OnOk result ((lines : List ℕ) × (string_bytes text.new ≡ string_bytes text.old ++ lines)
-        × AreTexts (program_of walk.now.program.now) (rel_of walk.now.sets.now) (A.Assigned.assigned walk.now.assigned.now)
+) -> Result<String, NoMemory>
+    requires { AreWithin (length told.now.methods.now) (map explained_data all.now) }
+    ensures { IfOk result (λ text. AreTexts (program_of walk.now.program.now) (rel_of walk.now.sets.now) (A.Assigned.assigned walk.now.assigned.now)
         (page_of told.now.file.now told.now.index.now (table_data told.now.source.now.table) (map (λ m. member_of m.now) told.now.methods.now))
-        (map explained_data all.now) lines) }
+        (map explained_data all.now) (string_bytes text)) }
 {
-    let Some((x, rest)) = all.split_first() else {
-        return Ok(());
-    };
-    add_block(told, walk, locks, x, text)?;
-    add_blocks(told, walk, locks, rest, text)
+    let mut text = String::new(walk.alloc);
+    if all.is_empty() {
+        return Ok(text);
+    }
+    let found = only_locks(walk)?;
+    let locks = found.as_slice();
+    for x in all {
+        add_block(told, walk, locks, x, &mut text)?;
+    }
+    Ok(text)
 }
 
 /// The explanations of the methods that break their bounds.
@@ -89,16 +90,12 @@ pub(crate) fn explained<A: Assigned>(
     told: &Told<'_, '_, '_>,
     walk: &Walk<'_, A>,
 ) -> Result<String, NoMemory>
-    requires { length (program_of walk.now.program.now).methods ≤ length told.now.methods.now }
+    requires there { length (program_of walk.now.program.now).methods ≤ length told.now.methods.now }
+    requires few { length (program_of walk.now.program.now).methods ≤ 2 ^ 32 }
     ensures { IfOk result (λ text. Explains (program_of walk.now.program.now) (rel_of walk.now.sets.now) (A.Assigned.assigned walk.now.assigned.now)
         (page_of told.now.file.now told.now.index.now (table_data told.now.source.now.table) (map (λ m. member_of m.now) told.now.methods.now)) (string_bytes text)) }
 {
     let over = overriders(walk.alloc, walk.program)?;
     let all = explanations(walk, &over)?;
-    let mut text = String::new(walk.alloc);
-    if !all.is_empty() {
-        let locks = only_locks(walk)?;
-        add_blocks(told, walk, locks.as_slice(), all.as_slice(), &mut text)?;
-    }
-    Ok(text)
+    lines_of(told, walk, all.as_slice())
 }
