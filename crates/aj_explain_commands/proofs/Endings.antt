@@ -51,7 +51,7 @@ low_code file CallTooDeep f = absurd f
 
 -- a status that isn't the one of a fact that can't hold beside
 never : (result status : ℕ) (fact : Type 0) → (result ≡ status → ⊥) → (fact → ⊥) → Exactly result status fact
-never result status fact other no = record { only = λ e. absurd (other e); all = λ f. absurd (no f) }
+never result status fact other not = record { only = λ e. absurd (other e); all = λ f. absurd (not f) }
 
 exactly : (status : ℕ) (fact : Type 0) → fact → Exactly status status fact
 exactly status fact f = record { only = λ e. f; all = λ g. inl refl }

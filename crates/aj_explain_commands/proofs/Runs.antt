@@ -41,7 +41,7 @@ record HasOver (told : Option (List ℕ)) : Type 0 where
   is_over : longest_file < length file
 
 some_over : (told : Option (List ℕ)) → IfSome told (λ file. longest_file < length file) → HasOver told
-some_over None is = record { file = replicate (suc longest_file) 0; its = tt; is_over = let e : length {A = ℕ} (replicate (suc longest_file) 0) ≡ suc longest_file = length-replicate (suc longest_file) 0 in omega (arith, e) }
+some_over None is = record { file = replicate (suc longest_file) 0; its = tt; is_over = let e : length {A = ℕ} (replicate (suc longest_file) 0) ≡ suc longest_file = length-replicate {A = ℕ} (suc longest_file) 0 in omega (arith, e) }
 some_over (Some file) is = record { file = file; its = refl; is_over = is }
 
 -- the words ask for something: its status and text, and what was said
@@ -90,7 +90,7 @@ module _ (told : List ℕ → Option (List ℕ)) (before now : List ℕ → ℕ)
   -- of a file that is told: that it can't be read, or what belongs to its bytes
   to_told : (file : List ℕ) → told name ≡ Some file → (status : ℕ) (text : List ℕ) → IsOutcome order name told before now status text
       → (IsUnread told before now name × (status ≡ 6) × (text ≡ cannot_read_line name)) ⊎ Belongs order name file status text
-  to_told file is _ _ (unread no) = inl (no, refl, refl)
+  to_told file is _ _ (unread gone) = inl (gone, refl, refl)
   to_told file is _ _ (over large) = inr (too_large (told_over (told name) file is large.over))
   to_told file is _ _ (read bytes ending text has answer) =
       let same = told_is (told name) file bytes is has.its in
@@ -152,7 +152,7 @@ module _ (words : List (List ℕ)) (result : ℕ) (told : List ℕ → Option (L
         by : Says result d.status d.text old new sink_before sink_now → (IsUnread told before now name × (d.status ≡ 6) × (d.text ≡ cannot_read_line name)) ⊎ Belongs order name file d.status d.text
             → Yields result ⊎ WritesAnswer order name file result old new
         by (inr s) a = inl (inr (inl s.0))
-        by (inl s) (inl no) = inl (inl (s.0 ∙ no.1))
+        by (inl s) (inl gone) = inl (inl (s.0 ∙ gone.1))
         by (inl s) (inr a) = inr (record { text = d.text; belongs = subst (λ n. Belongs order name file n d.text) (sym s.0) a; written = s.1 })
 
     pub exact : IsExact file result
@@ -166,7 +166,7 @@ module _ (words : List (List ℕ)) (result : ℕ) (told : List ℕ → Option (L
     front seven = by d.said found
       where
         some : (IsUnread told before now name × (d.status ≡ 6) × (d.text ≡ cannot_read_line name)) ⊎ Belongs order name file d.status d.text → IsSomeText order name file told before now d.text
-        some (inl no) = subst (IsSomeText order name file told before now) (sym no.2) (some_unread no.0)
+        some (inl gone) = subst (IsSomeText order name file told before now) (sym gone.2) (some_unread gone.0)
         some (inr a) = some_answer d.status d.text a
 
         by : Says result d.status d.text old new sink_before sink_now → (IsUnread told before now name × (d.status ≡ 6) × (d.text ≡ cannot_read_line name)) ⊎ Belongs order name file d.status d.text
@@ -180,5 +180,5 @@ module _ (words : List (List ℕ)) (result : ℕ) (told : List ℕ → Option (L
         by : Says result d.status d.text old new sink_before sink_now → (IsUnread told before now name × (d.status ≡ 6) × (d.text ≡ cannot_read_line name)) ⊎ Belongs order name file d.status d.text
             → (result ≡ 8) ⊎ WritesAnswer order name file result old new
         by (inr s) a = absurd (sink_calm s.2)
-        by (inl s) (inl no) = absurd (calm no.0.rose)
+        by (inl s) (inl gone) = absurd (calm gone.0.rose)
         by (inl s) (inr a) = inr (record { text = d.text; belongs = subst (λ n. Belongs order name file n d.text) (sym s.0) a; written = s.1 })

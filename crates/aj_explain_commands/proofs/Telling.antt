@@ -86,7 +86,7 @@ module _ (call : Call) (name file : List ℕ) where
 
   by_answer : (ending : Ending) (text : List ℕ) → ExplainAnswer Why name file ending text → call.status ≡ code_of ending → Appends call.written_before call.written_after text
       → (tree : ProgramTree) (P : Program) → IsWellFormedSource file tree P → TellsBroken call name file tree P
-  by_answer _ _ (no_source {ending = ending} {line = line} no) status written tree P is = absurd (no_source_is_none file ending _ no.refused tree P is)
+  by_answer _ _ (no_source {ending = ending} {line = line} faulty) status written tree P is = absurd (no_source_is_none file ending _ faulty.refused tree P is)
   by_answer _ _ (judged {ending = ending} {text = text} its Q are j) status written tree P is = same_source its tree Q P are is (tells its Q ending text j status written)
 
   by_belongs : (status : ℕ) (text : List ℕ) → Belongs Why name file status text → call.status ≡ status → Appends call.written_before call.written_after text → length file ≤ longest_file

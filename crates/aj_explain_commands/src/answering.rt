@@ -134,6 +134,7 @@ fn answered_tree<'a>(
 }
 
 /// What is said of bytes, or the refusal of those that are no well-formed source.
+#[tactic(auto, using(aj_sources::proofs::Told::refused_source))]
 fn answered(alloc: Global, order: Order, file: &str, bytes: &[u8]) -> Result<Said, Refusal>
     requires { length bytes.now ≤ longest_source }
     ensures { MatchResult result (λ said. ExplainAnswer order file.now bytes.now said.ending (string_bytes said.text)) (IsRight (NoSource bytes.now)) }

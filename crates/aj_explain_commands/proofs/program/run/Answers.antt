@@ -18,7 +18,7 @@ the_row g c = record {
   text = string_bytes c.in-Ok.outcome.text;
   outcome = c.in-Ok.ensures;
   said = subst (λ text. Says c.say-in-Ok.result c.in-Ok.outcome.status text (g.K.Sink.written c.args.sink.now) (g.K.Sink.written c.say-in-Ok.new.sink) (g.K.Sink.faults c.args.sink.now) (g.K.Sink.faults c.say-in-Ok.new.sink))
-      c.as_bytes.ensures c.say-in-Ok.ensures;
+      c.as_bytes.ensures.value c.say-in-Ok.ensures;
 }
 
 pub returns-in-Ok-clause-usage : goal.returns-in-Ok-clause-usage
