@@ -60,6 +60,10 @@ module _ (P : Program) (rel : ℕ → List PathData) (A : Assignment) (pages : �
 
 -- ---- explanations
 
+-- what was found, seen in another list that is the same
+pub seen_in : (xs ys : List Explained) (all : List ExplainedData) → xs ≡ ys → map explained_data ys ≡ all → map explained_data xs ≡ all
+seen_in xs ys all same are = ap (map explained_data) same ∙ are
+
 -- each of them is one of so many methods
 pub within_at : (n : ℕ) (xs : List Explained) (i : ℕ) (x : Explained) → i < length xs → x ≡ get_or xs i x → AreWithin n (map explained_data xs) → (explained_data x).method < n
 within_at n [] i x below is w = absurd (omega (arith, below))
@@ -82,12 +86,12 @@ module _ (P : Program) (rel : ℕ → List PathData) (A : Assignment) (pages : �
   pub none_so_far : (all : List Explained) (text : List ℕ) → text ≡ [] → AreSoFar all 0 text
   none_so_far all text is rest texts = subst (λ t. AreTexts P rel A pages (map explained_data all) (t ++ rest)) (sym is) texts
 
-  pub more_so_far : (all : List Explained) (i : ℕ) (x : Explained) (locks : List (Option PathData)) (old new lines : List ℕ) → i < length all → x ≡ get_or all i x → locks ≡ only_locks P rel A
-      → new ≡ old ++ lines → IsBlock P rel A (pages (explained_data x).method) locks (aliases_at P (slice_get P.methods (explained_data x).method)) (explained_data x) lines
+  pub more_so_far : (all : List Explained) (i : ℕ) (x : Explained) (locks found : List (Option PathData)) (old new lines : List ℕ) → i < length all → x ≡ get_or all i x → locks ≡ found
+      → found ≡ only_locks P rel A → new ≡ old ++ lines → IsBlock P rel A (pages (explained_data x).method) locks (aliases_at P (slice_get P.methods (explained_data x).method)) (explained_data x) lines
       → AreSoFar all i old → AreSoFar all (i + 1) new
-  more_so_far all i x locks old new lines below is locks_are added block so_far rest texts =
+  more_so_far all i x locks found old new lines below is locks_are found_are added block so_far rest texts =
       let known = aliases_at P (slice_get P.methods (explained_data x).method) in
-      let text = subst (λ ls. IsBlock P rel A (pages (explained_data x).method) ls known (explained_data x) lines) locks_are block in
+      let text = subst (λ ls. IsBlock P rel A (pages (explained_data x).method) ls known (explained_data x) lines) (locks_are ∙ found_are) block in
       let here = subst (λ ys. AreTexts P rel A pages (map explained_data ys) (lines ++ rest)) (sym (next_drop all i x below is))
       (more (explained_data x) (map explained_data (drop (i + 1) all)) lines rest text texts) in
       subst (AreTexts P rel A pages (map explained_data all)) (sym (append_assoc old lines rest) ∙ ap (λ t. t ++ rest) (sym added)) (so_far (lines ++ rest) here)
