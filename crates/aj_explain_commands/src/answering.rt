@@ -41,10 +41,10 @@ fn text_for<A: Assigned>(
     told: &Told<'_, '_, '_>,
     walk: &Walk<'_, A>,
 ) -> Result<String, NoMemory>
-    requires there { length (program_of walk.now.program.now).methods ≤ length told.now.methods.now }
+    requires there { length (program_of walk.now.program.now).methods ≤ length told.now.methods.now.items }
     requires few { length (program_of walk.now.program.now).methods ≤ 2 ^ 32 }
     ensures { IfOk result (λ text. IsText order (program_of walk.now.program.now) (rel_of walk.now.sets.now) (A.Assigned.assigned walk.now.assigned.now)
-        (page_of told.now.file.now told.now.index.now (table_data told.now.source.now.table) (map (λ m. member_of m.now) told.now.methods.now)) (string_bytes text)) }
+        (page_of told.now.file.now told.now.index.now (table_data told.now.source.now.table) (map (λ m. member_of m.now) told.now.methods.now.items)) (string_bytes text)) }
 {
     match order {
         Order::Why => explained(told, walk),
@@ -60,12 +60,12 @@ fn text_of_source<'t, 'p, 'a>(
     index: &'t LineIndex<'a>,
     source: &'t Source<'a>,
     shown: &'t Shown<'t>,
-    methods: &'t [&'p Member<'a>],
+    methods: &'t Vec<&'p Member<'a>>,
 ) -> Result<String, NoMemory>
-    requires there { length (program_of source.now.program).methods ≤ length methods.now }
+    requires there { length (program_of source.now.program).methods ≤ length methods.now.items }
     requires few { length (program_of source.now.program).methods ≤ 2 ^ 32 }
     ensures { IfOk result (λ text. IsText order (program_of source.now.program) (rel_of source.now.sets) (shown_by (map cond_of shown.now.trees.now))
-        (page_of file.now index.now (table_data source.now.table) (map (λ m. member_of m.now) methods.now)) (string_bytes text)) }
+        (page_of file.now index.now (table_data source.now.table) (map (λ m. member_of m.now) methods.now.items)) (string_bytes text)) }
 {
     let walk = Walk {
         alloc,
@@ -106,7 +106,7 @@ fn judged<'t, 'p, 'a>(
         &*index,
         &*source,
         &shown,
-        methods.as_slice(),
+        &methods,
     )?;
     Ok(Said {
         ending: judged.ending,

@@ -42,10 +42,10 @@ fn add_block<A: Assigned>(
     x: &Explained<'_>,
     text: &mut String,
 ) -> Result<(), NoMemory>
-    requires { x.now.method < length told.now.methods.now }
+    requires { x.now.method < length told.now.methods.now.items }
     ensures { OnOk result ((lines : List ℕ) × (string_bytes text.new ≡ string_bytes text.old ++ lines)
         × IsBlock (program_of walk.now.program.now) (rel_of walk.now.sets.now) (A.Assigned.assigned walk.now.assigned.now)
-        (page_of told.now.file.now told.now.index.now (table_data told.now.source.now.table) (map (λ m. member_of m.now) told.now.methods.now) x.now.method)
+        (page_of told.now.file.now told.now.index.now (table_data told.now.source.now.table) (map (λ m. member_of m.now) told.now.methods.now.items) x.now.method)
         locks.now (aliases_at (program_of walk.now.program.now) (slice_get (program_of walk.now.program.now).methods x.now.method)) (explained_data x.now) lines) }
 {
     let member = told.methods[x.method.0 as usize];
@@ -68,9 +68,9 @@ fn lines_of<A: Assigned>(
     walk: &Walk<'_, A>,
     all: &[Explained<'_>],
 ) -> Result<String, NoMemory>
-    requires { AreWithin (length told.now.methods.now) (map explained_data all.now) }
+    requires { AreWithin (length told.now.methods.now.items) (map explained_data all.now) }
     ensures { IfOk result (λ text. AreTexts (program_of walk.now.program.now) (rel_of walk.now.sets.now) (A.Assigned.assigned walk.now.assigned.now)
-        (page_of told.now.file.now told.now.index.now (table_data told.now.source.now.table) (map (λ m. member_of m.now) told.now.methods.now))
+        (page_of told.now.file.now told.now.index.now (table_data told.now.source.now.table) (map (λ m. member_of m.now) told.now.methods.now.items))
         (map explained_data all.now) (string_bytes text)) }
 {
     let mut text = String::new(walk.alloc);
@@ -90,10 +90,10 @@ pub(crate) fn explained<A: Assigned>(
     told: &Told<'_, '_, '_>,
     walk: &Walk<'_, A>,
 ) -> Result<String, NoMemory>
-    requires there { length (program_of walk.now.program.now).methods ≤ length told.now.methods.now }
+    requires there { length (program_of walk.now.program.now).methods ≤ length told.now.methods.now.items }
     requires few { length (program_of walk.now.program.now).methods ≤ 2 ^ 32 }
     ensures { IfOk result (λ text. Explains (program_of walk.now.program.now) (rel_of walk.now.sets.now) (A.Assigned.assigned walk.now.assigned.now)
-        (page_of told.now.file.now told.now.index.now (table_data told.now.source.now.table) (map (λ m. member_of m.now) told.now.methods.now)) (string_bytes text)) }
+        (page_of told.now.file.now told.now.index.now (table_data told.now.source.now.table) (map (λ m. member_of m.now) told.now.methods.now.items)) (string_bytes text)) }
 {
     let over = overriders(walk.alloc, walk.program)?;
     let all = explanations(walk, &over)?;

@@ -25,10 +25,10 @@ fn add_lines<A: Assigned>(
     method: &CoreMethod,
     text: &mut String,
 ) -> Result<(), NoMemory>
-    requires { id < length told.now.methods.now }
+    requires { id < length told.now.methods.now.items }
     ensures { OnOk result (string_bytes text.new ≡ string_bytes text.old
         ++ method_lines (program_of walk.now.program.now) (rel_of walk.now.sets.now) (A.Assigned.assigned walk.now.assigned.now)
-        (page_of told.now.file.now told.now.index.now (table_data told.now.source.now.table) (map (λ m. member_of m.now) told.now.methods.now)) id (method_of method.now)) }
+        (page_of told.now.file.now told.now.index.now (table_data told.now.source.now.table) (map (λ m. member_of m.now) told.now.methods.now.items)) id (method_of method.now)) }
 {
     let member = told.methods[id.0 as usize];
     let offsets = method_places(walk.alloc, member)?;
@@ -49,10 +49,10 @@ pub(crate) fn listed<A: Assigned>(
     told: &Told<'_, '_, '_>,
     walk: &Walk<'_, A>,
 ) -> Result<String, NoMemory>
-    requires there { length (program_of walk.now.program.now).methods ≤ length told.now.methods.now }
+    requires there { length (program_of walk.now.program.now).methods ≤ length told.now.methods.now.items }
     requires few { length (program_of walk.now.program.now).methods ≤ 2 ^ 32 }
     ensures { IfOk result (λ text. string_bytes text ≡ all_lines (program_of walk.now.program.now) (rel_of walk.now.sets.now) (A.Assigned.assigned walk.now.assigned.now)
-        (page_of told.now.file.now told.now.index.now (table_data told.now.source.now.table) (map (λ m. member_of m.now) told.now.methods.now))) }
+        (page_of told.now.file.now told.now.index.now (table_data told.now.source.now.table) (map (λ m. member_of m.now) told.now.methods.now.items))) }
 {
     let mut text = String::new(walk.alloc);
     for (k, method) in walk.program.methods().iter().enumerate() {

@@ -10,5 +10,5 @@ pub(crate) struct Told<'t, 'p, 'a> {
     pub(crate) file: &'t str,
     pub(crate) index: &'t LineIndex<'a>,
     pub(crate) source: &'t Source<'a>,
-    pub(crate) methods: &'t [&'p Member<'a>],
+    pub(crate) methods: &'t Vec<&'p Member<'a>>,
 }

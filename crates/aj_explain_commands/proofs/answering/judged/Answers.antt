@@ -1,5 +1,5 @@
 -- What is said of a well-formed source.
-use Rattle.std.proofs.Common.{◌∙◌, ap, length, map, string_bytes, subst, sym}
+use Rattle.std.proofs.Common.{map, string_bytes, subst, sym}
 use Rattle.std.proofs.lemmas.List.{length-map}
 use Rattle.aj_classes.specs.Views.{table_data}
 use Rattle.aj_cond.specs.Conditions.{cond_of}
@@ -19,7 +19,7 @@ judge-requires c = (c.args.index.now, (tree_of c.args.tree.now, c.requires))
 pub text_of_source-requires-clause-there : goal.text_of_source-requires-clause-there
 text_of_source-requires-clause-there c =
     found_there (tree_of c.args.tree.now) (program_of c.args.source.now.program) (map (λ m. member_of m.now) c.in_ok-methods.methods.items) _ c.requires.has_core.core.core c.in_ok-methods.ensures
-    (ap length c.as_slice-2.ensures.value ∙ sym (length-map c.in_ok-methods.methods.items (λ m. member_of m.now)))
+    (sym (length-map c.in_ok-methods.methods.items (λ m. member_of m.now)))
 
 pub text_of_source-requires-clause-few : goal.text_of_source-requires-clause-few
 text_of_source-requires-clause-few c = few_methods (program_of c.args.source.now.program) c.requires.typed
@@ -31,8 +31,5 @@ returns c =
     let methods = c.in_ok-methods.methods.items in
     judged_text c.args.order c.args.file.now (tree_of c.args.tree.now) c.args.index.now source (map cond_of trees) c.in_ok-judged.judged.ending (string_bytes c.in_ok-text.text)
     (table_data source.table) (map (λ m. member_of m.now) methods) c.in_ok-judged.ensures c.requires.table c.in_ok-methods.ensures
-    (subst (λ ms. IsText c.args.order (program_of source.program) (rel_of source.sets) (shown (map cond_of trees))
-        (page_of c.args.file.now c.args.index.now (table_data source.table) (map (λ m. member_of m.now) ms)) (string_bytes c.in_ok-text.text)) c.as_slice-2.ensures.value
     (subst (λ ts. IsText c.args.order (program_of source.program) (rel_of source.sets) (shown (map cond_of ts))
-        (page_of c.args.file.now c.args.index.now (table_data source.table) (map (λ m. member_of m.now) c.as_slice-2.result.now)) (string_bytes c.in_ok-text.text)) c.as_slice.ensures.value
-    c.in_ok-text.ensures))
+        (page_of c.args.file.now c.args.index.now (table_data source.table) (map (λ m. member_of m.now) methods)) (string_bytes c.in_ok-text.text)) c.as_slice.ensures.value c.in_ok-text.ensures)

@@ -11,5 +11,5 @@ use Rattle.aj_explain_commands.proofs.explaining.lines_of.Given as goal
 abbrev pub invariant-loop-x : goal.invariant-loop-x
 invariant-loop-x g l =
     AreSoFar (program_of l.walk.program.now) (rel_of l.walk.sets.now) (g.A.Assigned.assigned l.walk.assigned.now)
-    (page_of l.told.file.now l.told.index.now (table_data l.told.source.now.table) (map (λ m. member_of m.now) l.told.methods.now))
+    (page_of l.told.file.now l.told.index.now (table_data l.told.source.now.table) (map (λ m. member_of m.now) l.told.methods.now.items))
     l.all l.x-index (string_bytes l.text)

@@ -12,5 +12,5 @@ returns g c =
     let told = c.args.told.now in
     let walk = c.args.walk.now in
     all_listed (program_of walk.program.now) (rel_of walk.sets.now) (g.A.Assigned.assigned walk.assigned.now)
-    (page_of told.file.now told.index.now (table_data told.source.now.table) (map (λ m. member_of m.now) told.methods.now))
+    (page_of told.file.now told.index.now (table_data told.source.now.table) (map (λ m. member_of m.now) told.methods.now.items))
     c.methods-method-items.result.now c.loop-k.k (string_bytes c.loop-k.text) c.loop-k-test.false c.methods-method-items.ensures c.loop-k.invariant
