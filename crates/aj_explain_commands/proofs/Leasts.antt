@@ -1,5 +1,5 @@
 -- The least closed assignment that nodes of a table stand for is the one that their trees show.
-use Rattle.std.proofs.Common.{◌≡◌, ◌↔◌, ℕ, true, false, List, Option, Some, None, Result, is_ok, map, refl, sym, ap, subst, ◌∙◌, slice_get, option_map}
+use Rattle.std.proofs.Common.{◌≡◌, ◌↔◌, ℕ, true, false, List, Option, Some, None, Result, is_ok, refl, sym, ap, subst, ◌∙◌, slice_get, option_map}
 use Rattle.std.proofs.lemmas.Option.{slice_get-map}
 use Rattle.aj_algebra.specs.declared.basic.Basic.{Basic}
 use Rattle.aj_algebra.specs.HeldPaths.{Held}

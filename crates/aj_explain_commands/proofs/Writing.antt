@@ -1,58 +1,28 @@
 -- The lines of methods, one behind the other.
-use Rattle.std.proofs.Common.{◌≡◌, ℕ, zero, suc, ◌+◌, ◌<◌, ◌≤◌, List, [], ◌∷◌, ◌++◌, map, drop, get_or, length, slice_get, Some, None, Option, Result, OnOk, option_map, refl, sym, ap, subst, ◌∙◌, append_assoc, append-nil, arith}
+use Rattle.std.proofs.Common.{◌≡◌, ℕ, zero, suc, ◌+◌, ◌<◌, ◌≤◌, List, [], ◌∷◌, ◌++◌, map, drop, get_or, length, slice_get, Option, sym, ap, subst, ◌∙◌, append_assoc, append-nil, arith}
 use Rattle.std.proofs.Math.ListN.{drop_of_length-le}
 use Rattle.std.proofs.lemmas.List.{drop_more}
-use Rattle.std.proofs.lemmas.Option.{slice_get-map, slice_get_read}
-use Rattle.std.proofs.lemmas.Result.{on_ok_weaker}
-use Rattle.aj_classes.specs.Table.{TableData}
 use Rattle.aj_core.specs.Core.{Program}
 use Rattle.aj_core.specs.declared.program.CoreMethod.{CoreMethod}
 use Rattle.aj_core.specs.Views.{method_of}
-use Rattle.aj_explain.specs.declared.names.Alias.{Alias}
 use Rattle.aj_explain.specs.declared.program.Explained.{Explained}
 use Rattle.aj_explain.specs.Views.{explained_data}
 use Rattle.aj_explain.specs.Whys.{ExplainedData}
 use Rattle.aj_explain_text.specs.Blocks.{IsBlock}
 use Rattle.aj_explain_text.specs.Pages.{PageData}
 use Rattle.aj_paths.specs.Paths.{PathData}
-use Rattle.aj_places.specs.Slots.{member_slots}
-use Rattle.aj_places.specs.Sources.{member_places}
 use Rattle.aj_rules.specs.Effect.{Assignment}
-use Rattle.aj_syntax.specs.Trees.{MemberTree}
-use Rattle.aj_explain_commands.specs.Explained.{AreTexts, AreWithin, aliases_at, more, none, only_locks, page_of, places_at, slots_at}
-use Rattle.aj_explain_commands.specs.Listed.{all_lines, lines_from, method_lines}
-
--- an item of a list, as it is seen
-pub seen_at : {A B : Type 0} (view : A → B) (xs : List A) (i : ℕ) (x : A) → i < length xs → x ≡ get_or xs i x → slice_get (map view xs) i ≡ Some (view x)
-seen_at view xs i x below is = slice_get-map view xs i ∙ ap (option_map view) (slice_get_read xs (length xs) i x refl below is)
+use Rattle.aj_explain_commands.specs.Explained.{AreTexts, AreWithin, aliases_at, more, none, only_locks}
+use Rattle.aj_explain_commands.specs.Listed.{all_lines, lines_from}
 
 -- the item at a place, and those after it
 next_drop : {A : Type 0} (xs : List A) (i : ℕ) (x : A) → i < length xs → x ≡ get_or xs i x → drop i xs ≡ x ∷ drop (i + 1) xs
 next_drop xs i x below is = drop_more xs i x below ∙ ap (λ y. y ∷ drop (i + 1) xs) (sym is)
 
--- what lines are written with, where these are the names of slots and the offsets of nodes
-abbrev pub page_with : (name text : List ℕ) → TableData → (slots : List (List ℕ)) → (offsets : List ℕ) → PageData
-page_with name text table slots offsets = record { file = name; text = text; table = table; slots = slots; offsets = offsets }
-
--- those of a method that is there
-pub page_is : (name text : List ℕ) (table : TableData) (members : List MemberTree) (m : ℕ) (member : MemberTree) (slots : List (List ℕ)) (offsets : List ℕ) → slice_get members m ≡ Some member
-    → slots ≡ member_slots member → offsets ≡ member_places member → page_with name text table slots offsets ≡ page_of name text table members m
-page_is name text table members m member slots offsets is slots_are offsets_are =
-    (λ i. page_with name text table ((slots_are ∙ ap slots_at (sym is)) i) ((offsets_are ∙ ap places_at (sym is)) i))
-
 -- ---- the listing
 
 module _ (P : Program) (rel : ℕ → List PathData) (A : Assignment) (pages : ℕ → PageData) where
-  -- the lines so far and those of the rest, after one method more
-  pub one_listed : (methods : List CoreMethod) (k : ℕ) (method : CoreMethod) (old new whole : List ℕ) → k < length methods → method ≡ get_or methods k method
-      → new ≡ old ++ method_lines P rel A pages k (method_of method) → old ++ lines_from P rel A pages k (map method_of (drop k methods)) ≡ whole
-      → new ++ lines_from P rel A pages (k + 1) (map method_of (drop (k + 1) methods)) ≡ whole
-  one_listed methods k method old new whole below is added so_far =
-      let rest = lines_from P rel A pages (k + 1) (map method_of (drop (k + 1) methods)) in
-      ap (λ t. t ++ rest) added ∙ append_assoc old (method_lines P rel A pages k (method_of method)) rest
-      ∙ ap (λ ms. old ++ lines_from P rel A pages k (map method_of ms)) (sym (next_drop methods k method below is)) ∙ so_far
-
-  -- and those of all
+  -- at the end the lines so far are those of all
   pub all_listed : (methods : List CoreMethod) (k : ℕ) (text : List ℕ) → length methods ≤ k → map method_of methods ≡ P.methods
       → text ++ lines_from P rel A pages k (map method_of (drop k methods)) ≡ lines_from P rel A pages 0 (map method_of methods) → text ≡ all_lines P rel A pages
   all_listed methods k text past are so_far =
@@ -60,19 +30,15 @@ module _ (P : Program) (rel : ℕ → List PathData) (A : Assignment) (pages : �
 
 -- ---- explanations
 
+-- what was found, seen in another list that is the same
+pub seen_in : (xs ys : List Explained) (all : List ExplainedData) → xs ≡ ys → map explained_data ys ≡ all → map explained_data xs ≡ all
+seen_in xs ys all same are = ap (map explained_data) same ∙ are
+
 -- each of them is one of so many methods
 pub within_at : (n : ℕ) (xs : List Explained) (i : ℕ) (x : Explained) → i < length xs → x ≡ get_or xs i x → AreWithin n (map explained_data xs) → (explained_data x).method < n
 within_at n [] i x below is w = absurd (omega (arith, below))
 within_at n (y ∷ ys) zero x below is w = subst (λ z. (explained_data z).method < n) (sym is) w.0
 within_at n (y ∷ ys) (suc i) x below is w = within_at n ys i x (omega (arith, below)) is w.1
-
-module _ (P : Program) (rel : ℕ → List PathData) (A : Assignment) where
-  -- the lines of a method over another page and other names of locals
-  pub block_over : {E : Type 0} (r : Result Unit E) (page other : PageData) (locks : List (Option PathData)) (aliases known : List Alias) (x : ExplainedData) (old new : List ℕ) → page ≡ other → aliases ≡ known
-      → OnOk r ((lines : List ℕ) × (new ≡ old ++ lines) × IsBlock P rel A page locks aliases x lines)
-      → OnOk r ((lines : List ℕ) × (new ≡ old ++ lines) × IsBlock P rel A other locks known x lines)
-  block_over r page other locks aliases known x old new same names =
-      on_ok_weaker r (λ w. (w.0, w.1, subst (λ a. IsBlock P rel A other locks a x w.0) names (subst (λ p. IsBlock P rel A p locks aliases x w.0) same w.2)))
 
 module _ (P : Program) (rel : ℕ → List PathData) (A : Assignment) (pages : ℕ → PageData) where
   -- whatever lines of the rest complete the lines so far to those of all
@@ -82,12 +48,12 @@ module _ (P : Program) (rel : ℕ → List PathData) (A : Assignment) (pages : �
   pub none_so_far : (all : List Explained) (text : List ℕ) → text ≡ [] → AreSoFar all 0 text
   none_so_far all text is rest texts = subst (λ t. AreTexts P rel A pages (map explained_data all) (t ++ rest)) (sym is) texts
 
-  pub more_so_far : (all : List Explained) (i : ℕ) (x : Explained) (locks : List (Option PathData)) (old new lines : List ℕ) → i < length all → x ≡ get_or all i x → locks ≡ only_locks P rel A
-      → new ≡ old ++ lines → IsBlock P rel A (pages (explained_data x).method) locks (aliases_at P (slice_get P.methods (explained_data x).method)) (explained_data x) lines
+  pub more_so_far : (all : List Explained) (i : ℕ) (x : Explained) (locks found : List (Option PathData)) (old new lines : List ℕ) → i < length all → x ≡ get_or all i x → locks ≡ found
+      → found ≡ only_locks P rel A → new ≡ old ++ lines → IsBlock P rel A (pages (explained_data x).method) locks (aliases_at P (slice_get P.methods (explained_data x).method)) (explained_data x) lines
       → AreSoFar all i old → AreSoFar all (i + 1) new
-  more_so_far all i x locks old new lines below is locks_are added block so_far rest texts =
+  more_so_far all i x locks found old new lines below is locks_are found_are added block so_far rest texts =
       let known = aliases_at P (slice_get P.methods (explained_data x).method) in
-      let text = subst (λ ls. IsBlock P rel A (pages (explained_data x).method) ls known (explained_data x) lines) locks_are block in
+      let text = subst (λ ls. IsBlock P rel A (pages (explained_data x).method) ls known (explained_data x) lines) (locks_are ∙ found_are) block in
       let here = subst (λ ys. AreTexts P rel A pages (map explained_data ys) (lines ++ rest)) (sym (next_drop all i x below is))
       (more (explained_data x) (map explained_data (drop (i + 1) all)) lines rest text texts) in
       subst (AreTexts P rel A pages (map explained_data all)) (sym (append_assoc old lines rest) ∙ ap (λ t. t ++ rest) (sym added)) (so_far (lines ++ rest) here)

@@ -1,5 +1,5 @@
 -- The methods that break their bounds.
-use Rattle.std.specs.Prelude.{◌≡◌, ℕ, ◌+◌, List, [], ◌∷◌, map, filter, if◌then◌else◌}
+use Rattle.std.specs.Prelude.{ℕ, ◌+◌, List, [], ◌∷◌, map, filter, if◌then◌else◌}
 use Rattle.aj_core.specs.Core.{Program, Method}
 use Rattle.aj_explain.specs.Programs.{keeps}
 use Rattle.aj_explain.specs.Whys.{ExplainedData}
