@@ -1,12 +1,11 @@
 -- When it ends how.
-use Rattle.std.proofs.Common.{◌≡◌, ℕ, ◌<◌, ◌≤◌, List, length, refl, sym, subst, ◌∙◌, arith, inl, inr, ◌⊎◌}
+use Rattle.std.proofs.Common.{◌≡◌, ℕ, ◌<◌, ◌≤◌, List, length, refl, sym, subst, arith, inl, inr}
 use Rattle.aj_core.specs.Core.{Program}
 use Rattle.aj_outcomes.specs.Said.{Exactly, Yields}
-use Rattle.aj_rules.specs.Rules.{IsAccepted}
 use Rattle.aj_sources.specs.declared.refusal.Ending.{Ending}
 use Rattle.aj_sources.specs.declared.refusal.Ending.TheVariants.{Done, Refused, Inadmissible, NoSchedule, Stopped, Open, BookRefused, NothingToBlame, BlameRefused, LevelsRefused, CallTooDeep}
-use Rattle.aj_sources.specs.Checking.{IsWellFormedSource, NoSource}
-use Rattle.aj_sources.specs.Facts.{CheckFact, IsNotWellFormed, HasNoAssignment, IsAcceptedSource}
+use Rattle.aj_sources.specs.Checking.{IsWellFormedSource}
+use Rattle.aj_sources.specs.Facts.{CheckFact}
 use Rattle.aj_sources.specs.Refusals.{code_of}
 use Rattle.aj_sources.proofs.Apart.{no_source_is_none, no_source_ends, accepted_or_none}
 use Rattle.aj_syntax.specs.Trees.{ProgramTree}

@@ -1,13 +1,11 @@
 -- The line of a source that isn't well-formed, made from the line of `check`.
-use Rattle.std.proofs.Common.{Bor, ◌≡◌, ◌≢◌, ◌<◌, ◌≤◌, ◌^◌, ◌+◌, ℕ, zero, suc, List, [], ◌∷◌, ◌++◌, Option, Some, None, MatchOption, codes, decimal, length, take, drop, min, count_by, not, get_or, refl, sym, ap, subst, ◌∙◌, append_assoc, append-nil, arith}
+use Rattle.std.proofs.Common.{Bor, ◌≡◌, ◌≢◌, ◌<◌, ◌≤◌, ◌^◌, ◌+◌, ℕ, zero, suc, List, [], ◌∷◌, ◌++◌, Option, Some, None, MatchOption, codes, decimal, length, take, drop, not, get_or, refl, sym, ap, subst, ◌∙◌, append_assoc, append-nil, arith}
 use Rattle.std.proofs.Math.Seq.{drop-append_seam}
 use Rattle.std.proofs.lemmas.Fmt.{decimal_is_IsNumeral}
 use Rattle.std.proofs.lemmas.List.{length-take}
 use Rattle.std.proofs.lemmas.List.Sums.{count_by-le-length, suffix_len-le-length}
 use Rattle.std.proofs.lemmas.Str.Parse.{digit_at}
-use Rattle.std.specs.Str.Parse.{AllDigits}
 use Rattle.std.specs.Str.Pattern.{FindsTextPrefix}
-use Rattle.aj_core.specs.Core.{Method, Program}
 use Rattle.aj_lexer.specs.Limits.{longest_source}
 use Rattle.aj_lexer.specs.Places.{is_line_feed, line_of, column_of, place_text}
 use Rattle.aj_report.specs.SourceFaults.{refused_line, lex_offset_of, lex_kind, class_offset_of, class_kind, type_offset_of, type_kind, locks_kind}

@@ -1,17 +1,15 @@
 -- What the clauses of the top call say, from what was found and what was said.
-use Rattle.std.proofs.Common.{◌≡◌, ◌<◌, ◌≤◌, ℕ, suc, List, [], ◌∷◌, Option, Some, None, IfSome, length, replicate, unwrap_or, refl, sym, subst, ap, ◌∙◌, arith, inl, inr, ◌⊎◌}
+use Rattle.std.proofs.Common.{◌≡◌, ◌<◌, ℕ, suc, List, [], ◌∷◌, Option, Some, None, IfSome, length, replicate, refl, sym, subst, ◌∙◌, arith, inl, inr, ◌⊎◌}
 use Rattle.std.proofs.lemmas.List.{length-replicate}
 use Rattle.std.specs.Io.KnownBytes.{Appends}
 use Rattle.aj_edge.specs.Faults.{Rose}
 use Rattle.aj_outcomes.specs.Lines.{cannot_read_line, too_large_line}
 use Rattle.aj_outcomes.specs.Said.{Says, Yields}
-use Rattle.aj_sources.specs.declared.refusal.Ending.{Ending}
 use Rattle.aj_sources.specs.Refusals.{code_of}
 use Rattle.aj_explain_commands.specs.declared.words.Order.{Order}
 use Rattle.aj_explain_commands.specs.declared.words.Order.TheVariants.{Why, All}
-use Rattle.aj_explain_commands.specs.Answers.{ExplainAnswer}
 use Rattle.aj_explain_commands.specs.Outcomes.{IsOutcome, unread, over, read}
-use Rattle.aj_explain_commands.specs.Reading.{longest_file, IsQuiet, IsRead, IsUnread, IsOver}
+use Rattle.aj_explain_commands.specs.Reading.{longest_file, IsQuiet, IsUnread, IsOver}
 use Rattle.aj_explain_commands.specs.Words.{IsRow, all_word}
 use Rattle.aj_explain_commands.specs.Written.{IsAsked, Belongs, too_large, ended, IsExact, WritesAnswer, WritesAnswerToBytes, IsSomeText, some_unread, some_answer, WritesFront}
 use Rattle.aj_explain_commands.proofs.Endings.{caused, low_code, exact_answer, exact_yield}

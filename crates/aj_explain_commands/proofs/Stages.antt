@@ -1,20 +1,15 @@
 -- What is answered to the bytes of a file, from what the stages give.
-use Rattle.std.proofs.Common.{◌≡◌, ◌<◌, ◌≤◌, ◌⊎◌, inl, inr, ℕ, List, [], ◌∷◌, ◌++◌, ◌+◌, drop, Option, Some, None, Result, Ok, Err, MatchResult, OnOk, length, map, refl, sym, ap, subst, ◌∙◌, append_assoc, slice_get, arith, string_bytes}
+use Rattle.std.proofs.Common.{◌≡◌, ◌≤◌, inl, inr, ℕ, List, Some, length, map, ap, subst, ◌∙◌, arith}
 use Rattle.std.proofs.lemmas.List.{length-map}
 use Rattle.std.proofs.lemmas.Option.{slice_get_cases, slice_get_within}
 use Rattle.aj_classes.specs.Table.{TableData, table_of}
-use Rattle.aj_classes.specs.Views.{table_data}
 use Rattle.aj_cond.specs.Conditions.{Cond}
-use Rattle.aj_core.specs.Core.{Program, Method}
+use Rattle.aj_core.specs.Core.{Program}
 use Rattle.aj_core.specs.Views.{program_of}
 use Rattle.aj_elaborate.specs.Programs.{core_of}
 use Rattle.aj_explain.specs.Shown.{shown}
-use Rattle.aj_explain.specs.Whys.{ExplainedData}
-use Rattle.aj_explain_text.specs.Pages.{PageData}
-use Rattle.aj_paths.specs.Paths.{PathData}
 use Rattle.aj_place_laws.proofs.InPrograms.{method_made}
 use Rattle.aj_places.specs.Sources.{methods_in}
-use Rattle.aj_rules.specs.Effect.{Assignment}
 use Rattle.aj_rules.specs.Near.{rel_of}
 use Rattle.aj_sources.specs.declared.checking.Source.{Source}
 use Rattle.aj_sources.specs.declared.refusal.Ending.{Ending}
@@ -23,9 +18,8 @@ use Rattle.aj_sources.proofs.Verdicts.{well_formed_source}
 use Rattle.aj_syntax.specs.Trees.{MemberTree, MethodM, ProgramTree}
 use Rattle.aj_explain_commands.specs.declared.words.Order.{Order}
 use Rattle.aj_explain_commands.specs.Answers.{ExplainAnswer, judged, IsJudged, IsText, pages_of}
-use Rattle.aj_explain_commands.specs.Explained.{page_of, AreTexts, none, more, IsMethodText}
+use Rattle.aj_explain_commands.specs.Explained.{page_of}
 use Rattle.aj_explain_commands.specs.Least.{IsLeastJudged}
-use Rattle.aj_explain_commands.specs.Listed.{lines_from, method_lines}
 
 -- each method of the core program is one of the tree
 pub methods_there : (tree : ProgramTree) (P : Program) → core_of tree ≡ Some P → length P.methods ≤ length (methods_in tree)

@@ -1,5 +1,5 @@
 -- The sentence, from what the call answers.
-use Rattle.std.proofs.Common.{◌≡◌, ◌≢◌, ◌↔◌, ℕ, ◌<◌, ◌≤◌, List, [], ◌∷◌, Some, length, refl, sym, subst, ap, ◌∙◌, arith, inl, inr, ◌⊎◌, Contains}
+use Rattle.std.proofs.Common.{◌≡◌, ◌≢◌, ◌↔◌, ℕ, ◌≤◌, List, [], ◌∷◌, length, refl, subst, ap, ◌∙◌, arith, inl, inr, ◌⊎◌}
 use Rattle.std.specs.Io.KnownBytes.{Appends}
 use Rattle.aj_core.specs.Core.{Program}
 use Rattle.aj_edge.specs.Faults.{Rose}
@@ -18,14 +18,12 @@ use Rattle.aj_sources.specs.Checking.{IsWellFormedSource}
 use Rattle.aj_sources.specs.Refusals.{code_of}
 use Rattle.aj_sources.proofs.Apart.{same_core, same_tree, no_source_is_none}
 use Rattle.aj_syntax.specs.Trees.{ProgramTree}
-use Rattle.aj_explain_commands.specs.declared.words.Order.{Order}
 use Rattle.aj_explain_commands.specs.declared.words.Order.TheVariants.{Why}
 use Rattle.aj_explain_commands.specs.Answers.{ExplainAnswer, no_source, judged, IsJudged, pages_of}
-use Rattle.aj_explain_commands.specs.Broken.{broken_methods, ending_for, refused_in, IsVerdict}
+use Rattle.aj_explain_commands.specs.Broken.{broken_methods, ending_for, IsVerdict}
 use Rattle.aj_explain_commands.specs.Explained.{AreTexts, none, more}
 use Rattle.aj_explain_commands.specs.Reading.{longest_file}
 use Rattle.aj_explain_commands.specs.Sentence.{TellsBroken, ExplainsBroken}
-use Rattle.aj_explain_commands.specs.Words.{all_word}
 use Rattle.aj_explain_commands.specs.Written.{IsAsked, Belongs, too_large, ended, WritesAnswer}
 use Rattle.aj_explain_commands.proofs.Breaking.{exactly_broken, nothing_explained}
 

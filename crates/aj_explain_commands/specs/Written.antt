@@ -1,5 +1,5 @@
 -- What is written, and with which status.
-use Rattle.std.specs.Prelude.{◌≡◌, ℕ, ◌<◌, ◌≤◌, List, Option, Some, IfSome, length, ◌⊎◌}
+use Rattle.std.specs.Prelude.{◌≡◌, ℕ, ◌<◌, ◌≤◌, List, Option, Some, IfSome, length}
 use Rattle.std.specs.Io.KnownBytes.{Appends}
 use Rattle.aj_edge.specs.Pieces.{AppendsFront}
 use Rattle.aj_outcomes.specs.Lines.{cannot_read_line, too_large_line}

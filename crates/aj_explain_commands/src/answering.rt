@@ -99,15 +99,7 @@ fn judged<'t, 'p, 'a>(
         trees: judged.trees.as_slice(),
     };
     let methods = methods_in(alloc, tree)?;
-    let text = text_of_source(
-        alloc,
-        order,
-        &*file,
-        &*index,
-        &*source,
-        &shown,
-        &methods,
-    )?;
+    let text = text_of_source(alloc, order, &*file, &*index, &*source, &shown, &methods)?;
     Ok(Said {
         ending: judged.ending,
         text,

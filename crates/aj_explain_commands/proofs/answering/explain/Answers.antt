@@ -1,5 +1,5 @@
 -- The answer where the file is no well-formed source.
-use Rattle.std.proofs.Common.{◌∙◌, string_bytes, subst, sym}
+use Rattle.std.proofs.Common.{◌∙◌, string_bytes, subst}
 use Rattle.aj_sources.specs.Checking.{NoSource}
 use Rattle.aj_sources.specs.Refusals.{IsRight}
 use Rattle.aj_explain_commands.specs.Answers.{no_source}

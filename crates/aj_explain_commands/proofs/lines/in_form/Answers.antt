@@ -1,5 +1,5 @@
 -- The line in the form of compilers.
-use Rattle.std.proofs.Common.{◌≡◌, ◌≤◌, [], ◌∷◌, ◌++◌, ◌∙◌, ℕ, List, Some, None, codes, length, ap, string_bytes, arith}
+use Rattle.std.proofs.Common.{◌≡◌, [], ◌∷◌, ◌++◌, ◌∙◌, Some, None, codes, ap, string_bytes, arith}
 use Rattle.std.proofs.lemmas.Result.{IfOk-weaker}
 use Rattle.std.proofs.lemmas.Str.Pattern.{split_after}
 use Rattle.aj_explain_commands.specs.Faults.{fault_line}
@@ -12,7 +12,7 @@ returns-in-Some-split_once c text at kind small is =
     let cut = split_after 32 c.in-Some.rest.now (place_front text at) (kind ++ codes "\n") (Some (c.in-Some-split_once.place, c.in-Some-split_once.kind)) c.in-Some-split_once.ensures.cases (omega arith) rest (place_blankless text at small) in
     IfOk-weaker c.joined-in-Some-split_once.result _ (λ whole. string_bytes whole ≡ fault_line c.args.name.now text at kind)
     (λ whole h. h ∙ ap (λ p. c.args.name.now ++ (codes ":" ++ (p ++ (codes " error: " ++ (c.in-Some-split_once.kind.now ++ []))))) cut.0
-        ∙ ap (λ k. c.args.name.now ++ (codes ":" ++ (place_front text at ++ (codes " error: " ++ (k ++ []))))) cut.1 ∙ in_form c.args.name.now text at kind)
+    ∙ ap (λ k. c.args.name.now ++ (codes ":" ++ (place_front text at ++ (codes " error: " ++ (k ++ []))))) cut.1 ∙ in_form c.args.name.now text at kind)
     c.joined-in-Some-split_once.ensures
 
 pub returns-in-None : goal.returns-in-None

@@ -1,8 +1,7 @@
 -- Each clause from one record of what was found and said.
-use Rattle.std.proofs.Common.{map, string_bytes, subst, refl, inl, inr}
+use Rattle.std.proofs.Common.{map, string_bytes, subst, refl, inl}
 use Rattle.aj_outcomes.specs.Said.{Says}
 use Rattle.aj_explain_commands.specs.declared.words.Order.TheVariants.{Why}
-use Rattle.aj_explain_commands.proofs.Endings.{exact_yield}
 use Rattle.aj_explain_commands.proofs.Runs.{IsDone, exact, answered, front, unreadable, over_limit, quiet, to_bytes, complete}
 use Rattle.aj_explain_commands.proofs.Telling.{sentence_of, calm_file}
 use Rattle.aj_explain_commands.proofs.program.run.Given.{Over}
