@@ -1,0 +1,69 @@
+-- The lines of methods, one behind the other.
+use Rattle.std.proofs.Common.{◌≡◌, ℕ, zero, suc, ◌+◌, ◌<◌, ◌≤◌, List, [], ◌∷◌, ◌++◌, map, drop, get_or, length, slice_get, Option, sym, ap, subst, ◌∙◌, append_assoc, append-nil, arith}
+use Rattle.std.proofs.Math.ListN.{drop_of_length-le}
+use Rattle.std.proofs.lemmas.List.{drop_more}
+use Rattle.aj_core.specs.Core.{Program}
+use Rattle.aj_core.specs.declared.program.CoreMethod.{CoreMethod}
+use Rattle.aj_core.specs.Views.{method_of}
+use Rattle.aj_explain.specs.declared.program.Explained.{Explained}
+use Rattle.aj_explain.specs.Views.{explained_data}
+use Rattle.aj_explain.specs.Whys.{ExplainedData}
+use Rattle.aj_explain_text.specs.Blocks.{IsBlock}
+use Rattle.aj_explain_text.specs.Pages.{PageData}
+use Rattle.aj_paths.specs.Paths.{PathData}
+use Rattle.aj_rules.specs.Effect.{Assignment}
+use Rattle.aj_explain_commands.specs.Explained.{AreTexts, AreWithin, aliases_at, more, none, only_locks}
+use Rattle.aj_explain_commands.specs.Listed.{all_lines, lines_from}
+
+-- the item at a place, and those after it
+next_drop : {A : Type 0} (xs : List A) (i : ℕ) (x : A) → i < length xs → x ≡ get_or xs i x → drop i xs ≡ x ∷ drop (i + 1) xs
+next_drop xs i x below is = drop_more xs i x below ∙ ap (λ y. y ∷ drop (i + 1) xs) (sym is)
+
+-- ---- the listing
+
+module _ (P : Program) (rel : ℕ → List PathData) (A : Assignment) (pages : ℕ → PageData) where
+  -- at the end the lines so far are those of all
+  pub all_listed : (methods : List CoreMethod) (k : ℕ) (text : List ℕ) → length methods ≤ k → map method_of methods ≡ P.methods
+      → text ++ lines_from P rel A pages k (map method_of (drop k methods)) ≡ lines_from P rel A pages 0 (map method_of methods) → text ≡ all_lines P rel A pages
+  all_listed methods k text past are so_far =
+      sym (append-nil text) ∙ ap (λ ms. text ++ lines_from P rel A pages k (map method_of ms)) (sym (drop_of_length-le methods past)) ∙ so_far ∙ ap (lines_from P rel A pages 0) are
+
+-- ---- explanations
+
+-- what was found, seen in another list that is the same
+pub seen_in : (xs ys : List Explained) (all : List ExplainedData) → xs ≡ ys → map explained_data ys ≡ all → map explained_data xs ≡ all
+seen_in xs ys all same are = ap (map explained_data) same ∙ are
+
+-- each of them is one of so many methods
+pub within_at : (n : ℕ) (xs : List Explained) (i : ℕ) (x : Explained) → i < length xs → x ≡ get_or xs i x → AreWithin n (map explained_data xs) → (explained_data x).method < n
+within_at n [] i x below is w = absurd (omega (arith, below))
+within_at n (y ∷ ys) zero x below is w = subst (λ z. (explained_data z).method < n) (sym is) w.0
+within_at n (y ∷ ys) (suc i) x below is w = within_at n ys i x (omega (arith, below)) is w.1
+
+module _ (P : Program) (rel : ℕ → List PathData) (A : Assignment) (pages : ℕ → PageData) where
+  -- whatever lines of the rest complete the lines so far to those of all
+  abbrev pub AreSoFar : List Explained → ℕ → List ℕ → Type 0
+  AreSoFar all i text = (rest : List ℕ) → AreTexts P rel A pages (map explained_data (drop i all)) rest → AreTexts P rel A pages (map explained_data all) (text ++ rest)
+
+  pub none_so_far : (all : List Explained) (text : List ℕ) → text ≡ [] → AreSoFar all 0 text
+  none_so_far all text is rest texts = subst (λ t. AreTexts P rel A pages (map explained_data all) (t ++ rest)) (sym is) texts
+
+  pub more_so_far : (all : List Explained) (i : ℕ) (x : Explained) (locks found : List (Option PathData)) (old new lines : List ℕ) → i < length all → x ≡ get_or all i x → locks ≡ found
+      → found ≡ only_locks P rel A → new ≡ old ++ lines → IsBlock P rel A (pages (explained_data x).method) locks (aliases_at P (slice_get P.methods (explained_data x).method)) (explained_data x) lines
+      → AreSoFar all i old → AreSoFar all (i + 1) new
+  more_so_far all i x locks found old new lines below is locks_are found_are added block so_far rest texts =
+      let known = aliases_at P (slice_get P.methods (explained_data x).method) in
+      let text = subst (λ ls. IsBlock P rel A (pages (explained_data x).method) ls known (explained_data x) lines) (locks_are ∙ found_are) block in
+      let here = subst (λ ys. AreTexts P rel A pages (map explained_data ys) (lines ++ rest)) (sym (next_drop all i x below is))
+      (more (explained_data x) (map explained_data (drop (i + 1) all)) lines rest text texts) in
+      subst (AreTexts P rel A pages (map explained_data all)) (sym (append_assoc old lines rest) ∙ ap (λ t. t ++ rest) (sym added)) (so_far (lines ++ rest) here)
+
+  pub all_so_far : (all : List Explained) (i : ℕ) (text : List ℕ) → length all ≤ i → AreSoFar all i text → AreTexts P rel A pages (map explained_data all) text
+  all_so_far all i text past so_far =
+      let last = subst (λ ys. AreTexts P rel A pages (map explained_data ys) []) (sym (drop_of_length-le all past)) none in
+      subst (AreTexts P rel A pages (map explained_data all)) (append-nil text) (so_far [] last)
+
+  -- of none there are no lines
+  pub no_lines : (all : List Explained) (text : List ℕ) → length all ≡ 0 → text ≡ [] → AreTexts P rel A pages (map explained_data all) text
+  no_lines [] text none_there is = subst (AreTexts P rel A pages []) (sym is) none
+  no_lines (x ∷ all) text none_there is = absurd (omega (arith, none_there))

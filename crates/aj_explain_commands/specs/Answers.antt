@@ -1,0 +1,56 @@
+-- What is answered to the bytes of a file.
+use Rattle.std.specs.Prelude.{◌≡◌, ℕ, List, map}
+use Rattle.aj_classes.specs.Table.{table_of}
+use Rattle.aj_core.specs.Core.{Program}
+use Rattle.aj_explain.specs.Programs.{explanations}
+use Rattle.aj_explain_text.specs.Pages.{PageData}
+use Rattle.aj_paths.specs.Paths.{PathData}
+use Rattle.aj_places.specs.Sources.{methods_in}
+use Rattle.aj_rules.specs.Effect.{Assignment}
+use Rattle.aj_rules.specs.Near.{MethodPaths, rel_of}
+use Rattle.aj_rules.specs.Overriding.{AreOverriders}
+use Rattle.aj_rules.specs.Search.{row_at}
+use Rattle.aj_sources.specs.declared.refusal.Ending.{Ending}
+use Rattle.aj_sources.specs.Checking.{IsWellFormedSource}
+use Rattle.aj_sources.specs.Verdicts.{HasLeast}
+use Rattle.aj_syntax.specs.Trees.{ProgramTree, MethodM}
+use Rattle.aj_explain_commands.specs.declared.words.Order.{Order}
+use Rattle.aj_explain_commands.specs.declared.words.Order.TheVariants.{Why, All}
+use Rattle.aj_explain_commands.specs.Broken.{broken_methods, ending_for, IsVerdict}
+use Rattle.aj_explain_commands.specs.Explained.{page_of, AreTexts}
+use Rattle.aj_explain_commands.specs.Faults.{IsFaultLine}
+use Rattle.aj_explain_commands.specs.Listed.{all_lines}
+
+-- the text has the lines of the explanations of a program
+pub record Explains (P : Program) (rel : ℕ → List PathData) (A : Assignment) (pages : ℕ → PageData) (text : List ℕ) : Type 0 where
+  -- for each method those that override it
+  pub overs : List (List ℕ)
+  pub are_overs : AreOverriders P overs
+  pub texts : AreTexts P rel A pages (explanations P rel A (row_at overs)) text
+
+-- the text that belongs to what is asked for
+abbrev pub IsText : Order → Program → (ℕ → List PathData) → Assignment → (ℕ → PageData) → List ℕ → Type 0
+IsText Why P rel A pages text = Explains P rel A pages text
+IsText All P rel A pages text = text ≡ all_lines P rel A pages
+
+-- what the lines of each method of a source are written with
+abbrev pub pages_of : (name file : List ℕ) → ProgramTree → ℕ → PageData
+pages_of name file tree = page_of name file (table_of tree) (map MethodM (methods_in tree))
+
+-- how it ends for a program, by its least closed assignment, and the text
+pub record IsJudged (order : Order) (P : Program) (pages : ℕ → PageData) (ending : Ending) (text : List ℕ) : Type 0 where
+  pub sets : List MethodPaths
+  pub assignment : Assignment
+  pub least : HasLeast P sets assignment
+  -- it ends as refused where some method breaks its bound in that assignment, and as done where none does
+  pub ending_is : ending ≡ ending_for (broken_methods P assignment)
+  -- as the rules have it
+  pub verdict : IsVerdict P ending
+  pub text_is : IsText order P (rel_of sets) assignment pages text
+
+-- what is answered to what is asked of a file: the line for one that is no well-formed source; or, of a well-formed source, how its
+-- program is judged
+pub data ExplainAnswer (order : Order) (name file : List ℕ) : Ending → List ℕ → Type 0 where
+  no_source : {ending : Ending} {line : List ℕ} → IsFaultLine name file ending line → ExplainAnswer order name file ending line
+  judged : {ending : Ending} {text : List ℕ} (tree : ProgramTree) (P : Program) → IsWellFormedSource file tree P → IsJudged order P (pages_of name file tree) ending text
+      → ExplainAnswer order name file ending text

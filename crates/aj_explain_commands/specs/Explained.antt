@@ -1,0 +1,59 @@
+-- The lines of explanations.
+use Rattle.std.specs.Prelude.{ℕ, ◌<◌, List, [], ◌∷◌, ◌++◌, map, Option, Some, None, slice_get}
+use Rattle.aj_classes.specs.Table.{TableData}
+use Rattle.aj_core.specs.Core.{Program, Method}
+use Rattle.aj_explain.specs.declared.names.Alias.{Alias}
+use Rattle.aj_explain.specs.Explaining.{method_lock}
+use Rattle.aj_explain.specs.Names.{aliases_after}
+use Rattle.aj_explain.specs.Whys.{ExplainedData}
+use Rattle.aj_explain_text.specs.Blocks.{IsBlock}
+use Rattle.aj_explain_text.specs.Pages.{PageData}
+use Rattle.aj_paths.specs.Paths.{PathData}
+use Rattle.aj_places.specs.Slots.{member_slots}
+use Rattle.aj_places.specs.Sources.{member_places}
+use Rattle.aj_rules.specs.Effect.{Assignment}
+use Rattle.aj_syntax.specs.Trees.{MemberTree}
+
+-- the names of a method's slots, and the offsets of its nodes; none of a method that isn't there
+abbrev pub slots_at : Option MemberTree → List (List ℕ)
+slots_at None = []
+slots_at (Some m) = member_slots m
+
+abbrev pub places_at : Option MemberTree → List ℕ
+places_at None = []
+places_at (Some m) = member_places m
+
+-- what the lines of the method with this number are written with: the name of the file and its text, the class table, and of the method of
+-- the tree with this number, which is among these, the names of its slots and the offsets of its nodes
+abbrev pub page_of : (name text : List ℕ) → TableData → List MemberTree → ℕ → PageData
+page_of name text table methods m = record {
+  file = name;
+  text = text;
+  table = table;
+  slots = slots_at (slice_get methods m);
+  offsets = places_at (slice_get methods m);
+}
+
+-- each of the explained methods is one of the first so many
+abbrev pub AreWithin : ℕ → List ExplainedData → Type 0
+AreWithin n [] = Unit {0}
+AreWithin n (x ∷ xs) = (x.method < n) × AreWithin n xs
+
+-- the final locals of a method's body that have paths; none of a method that isn't there
+abbrev pub aliases_at : Program → Option Method → List Alias
+aliases_at P None = []
+aliases_at P (Some method) = aliases_after P [] method.body
+
+-- for each method the lock of its only step, where it has one step and that takes a lock
+abbrev pub only_locks : Program → (ℕ → List PathData) → Assignment → List (Option PathData)
+only_locks P rel A = map (method_lock P rel A) P.methods
+
+module _ (P : Program) (rel : ℕ → List PathData) (A : Assignment) (pages : ℕ → PageData) where
+  -- the lines of one method
+  abbrev pub IsMethodText : ExplainedData → List ℕ → Type 0
+  IsMethodText x text = IsBlock P rel A (pages x.method) (only_locks P rel A) (aliases_at P (slice_get P.methods x.method)) x text
+
+  -- the lines of one method after the other
+  pub data AreTexts : List ExplainedData → List ℕ → Type 0 where
+    none : AreTexts [] []
+    more : (x : ExplainedData) (xs : List ExplainedData) (text rest : List ℕ) → IsMethodText x text → AreTexts xs rest → AreTexts (x ∷ xs) (text ++ rest)

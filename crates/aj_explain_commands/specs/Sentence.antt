@@ -1,0 +1,48 @@
+-- The sentence that the program is for: the lines are those of the explanations of exactly the methods whose bound the least closed
+-- assignment breaks, and status 2 comes exactly where there is one; which is exactly where no assignment of atomicities is admissible.
+use Rattle.std.specs.Prelude.{◌≡◌, ◌≢◌, ◌↔◌, ℕ, ◌≤◌, List, [], ◌∷◌, Some, length, ◌⊎◌}
+use Rattle.std.specs.Io.KnownBytes.{Appends}
+use Rattle.aj_core.specs.Core.{Program}
+use Rattle.aj_explain.specs.Programs.{explanations}
+use Rattle.aj_outcomes.specs.Calls.{Call, IsCalm}
+use Rattle.aj_rules.specs.Effect.{Assignment}
+use Rattle.aj_rules.specs.Near.{MethodPaths, rel_of}
+use Rattle.aj_rules.specs.Overriding.{AreOverriders}
+use Rattle.aj_rules.specs.Rules.{IsAccepted}
+use Rattle.aj_rules.specs.Search.{row_at}
+use Rattle.aj_sources.specs.Checking.{IsWellFormedSource}
+use Rattle.aj_sources.specs.Verdicts.{HasLeast}
+use Rattle.aj_syntax.specs.Trees.{ProgramTree}
+use Rattle.aj_explain_commands.specs.Answers.{pages_of}
+use Rattle.aj_explain_commands.specs.Broken.{broken_methods, refused_in}
+use Rattle.aj_explain_commands.specs.Explained.{AreTexts}
+use Rattle.aj_explain_commands.specs.Words.{all_word}
+
+-- what the call wrote of the program of a well-formed source
+pub record TellsBroken (call : Call) (name file : List ℕ) (tree : ProgramTree) (P : Program) : Type 0 where
+  -- the relevant sets of the program, its least closed assignment, and for each method those that override it
+  pub sets : List MethodPaths
+  pub assignment : Assignment
+  pub least : HasLeast P sets assignment
+  pub overs : List (List ℕ)
+  pub are_overs : AreOverriders P overs
+  -- the lines are those of the explanations
+  pub text : List ℕ
+  pub texts : AreTexts P (rel_of sets) assignment (pages_of name file tree) (explanations P (rel_of sets) assignment (row_at overs)) text
+  pub written : Appends call.written_before call.written_after text
+  -- which are those of exactly the methods whose bound the assignment breaks, in source order
+  pub methods : refused_in (explanations P (rel_of sets) assignment (row_at overs)) ≡ broken_methods P assignment
+  -- status 2 comes exactly where there is one; else it is 0, and nothing is written
+  pub refused : (call.status ≡ 2) ↔ (broken_methods P assignment ≢ [])
+  pub accepted : (call.status ≡ 0) ↔ (broken_methods P assignment ≡ [])
+  pub silent : call.status ≡ 0 → text ≡ []
+  -- which is exactly where no assignment is admissible
+  pub inadmissible : (call.status ≡ 2) ↔ (IsAccepted P → ⊥)
+  pub admissible : (call.status ≡ 0) ↔ IsAccepted P
+
+-- where the words are the name of a file that is told and within its limit, and nothing failed: of a well-formed source, unless memory
+-- is refused, the call writes that
+abbrev pub ExplainsBroken : Call → Type 0
+ExplainsBroken call =
+    (name file : List ℕ) → call.words ≡ name ∷ [] → name ≢ all_word → call.told name ≡ Some file → length file ≤ 262144 → IsCalm call (name ∷ [])
+    → (tree : ProgramTree) (P : Program) → IsWellFormedSource file tree P → (call.status ≡ 8) ⊎ TellsBroken call name file tree P

@@ -1,0 +1,116 @@
+//! What the program answers, over a folder and a sink in memory.
+
+use aj_edge::{MemFolder, MemSink};
+use aj_explain_commands::run;
+use std::alloc::Global;
+use std::process::Abort;
+use std::test::Fail;
+
+/// A source that the rules accept.
+const LOCKED: &str =
+    "class Main { int v guarded_by this; atomic void main() { synchronized (this) { this.v = 7; } } }";
+
+/// What is written for words that ask for nothing.
+const USAGE: &str = "usage: atomic_why FILE | --all FILE\n";
+
+/// Sources, each with its status and text: an error, two steps, a loop, a compound step with the method that it calls, an overriding
+/// method, a source that is refused as it stands, one that is accepted.
+static EXPLAINED: [(&str, u8, &str); 7] = [
+    (
+        "class Main { int v guarded_by this; void main() { this.v = 7; } }",
+        2,
+        "a:1:42: error: Main.main is declared cmpd, found error\na:1:51: note: this.v is guarded by this, which isn't held here; held: nothing\n",
+    ),
+    (
+        "class Main { int u; atomic void main() { this.u = 1; this.u = 2; } }",
+        2,
+        "a:1:33: error: Main.main is declared atomic, found cmpd\na:1:42: note: atomic step: writes this.u, which nothing guards\na:1:54: note: a second one: writes this.u, which nothing guards\na:1:54: note: between the two another thread may come in\na:1:42: note: no lock helps this step: nothing guards the field\na:1:54: note: no lock helps this step: nothing guards the field\n",
+    ),
+    (
+        "class Main { int u; atomic void main() { while (true) { this.u = 1; } } }",
+        2,
+        "a:1:33: error: Main.main is declared atomic, found cmpd\na:1:57: note: atomic step: writes this.u, which nothing guards\na:1:42: note: this loop makes it each time round, and between two times another thread may come in\na:1:57: note: no lock helps this step: nothing guards the field\n",
+    ),
+    (
+        "class Main { int u; void main() { this.u = 1; this.u = 2; } atomic void f() { this.main(); } }",
+        2,
+        "a:1:73: error: Main.f is declared atomic, found cmpd\na:1:84: note: compound step: calls Main.main, which is cmpd\na:1:84: note: inside it another thread may come in\na:1:84: note: no one lock that has a name here helps this step\na:1:26: note: Main.main is cmpd\na:1:35: note: atomic step: writes this.u, which nothing guards\na:1:47: note: a second one: writes this.u, which nothing guards\na:1:47: note: between the two another thread may come in\na:1:35: note: no lock helps this step: nothing guards the field\na:1:47: note: no lock helps this step: nothing guards the field\n",
+    ),
+    (
+        "class A { int u; atomic void f() { } } class B extends A { atomic void f() { this.u = 1; this.u = 2; } } class Main { void main() { } }",
+        2,
+        "a:1:30: error: A.f is declared atomic, found cmpd\na:1:72: note: B.f overrides it, and is cmpd\na:1:72: error: B.f is declared atomic, found cmpd\na:1:78: note: atomic step: writes this.u, which nothing guards\na:1:90: note: a second one: writes this.u, which nothing guards\na:1:90: note: between the two another thread may come in\na:1:78: note: no lock helps this step: nothing guards the field\na:1:90: note: no lock helps this step: nothing guards the field\n",
+    ),
+    ("class Main { }", 1, "a:1:1: error: no main\n"),
+    (LOCKED, 0, ""),
+];
+
+/// Words, each with its status and text, where the file `a` is the accepted source.
+static ASKED: [(&[&str], u8, &str); 5] = [
+    (
+        &["--all", "a"],
+        0,
+        "a:1:49: atomic: Main.main 0\na:1:58: atomic: Main.main 1\na:1:58: mover: Main.main 2\na:1:80: mover: Main.main 3\n",
+    ),
+    (&[], 9, USAGE),
+    (&["--all"], 9, USAGE),
+    (&["a", "a"], 9, USAGE),
+    (&["b"], 6, "cannot read b\n"),
+];
+
+/// The status and the text of the words, where the file `a` has these bytes.
+fn answer(alloc: Global, words: &[&str], bytes: Vec<u8>) -> Result<(u8, Vec<u8>), Fail> {
+    let mut list = Vec::new(alloc);
+    for word in words {
+        list.push(String::from_str(alloc, word)?)?;
+    }
+    let mut files = Vec::new(alloc);
+    files.push((String::from_str(alloc, "a")?, bytes))?;
+    let mut folder = MemFolder::new(alloc, files, 4096, Vec::new(alloc))?;
+    let mut sink = MemSink::new(alloc, 1048576, Vec::new(alloc), 1048576)?;
+    let status = run(alloc, list.as_slice(), &mut folder, &mut sink);
+    let text = sink.bytes().to_vec(alloc)?;
+    Ok((status, text))
+}
+
+/// The words have this status and this text, where the file `a` has these bytes.
+fn expect(
+    rt: &impl Abort,
+    alloc: Global,
+    words: &[&str],
+    bytes: Vec<u8>,
+    status: u8,
+    text: &str,
+) -> Result<(), Fail> {
+    let given = answer(alloc, words, bytes)?;
+    assert_eq!(rt; given.0, status);
+    assert_eq!(rt; given.1.as_slice(), text.as_bytes());
+    Ok(())
+}
+
+#[test]
+fn sources_are_explained(rt: HostRuntime) -> Result<(), Fail> {
+    for (source, status, text) in &EXPLAINED {
+        let bytes = source.as_bytes().to_vec(rt.alloc())?;
+        expect(&rt, rt.alloc(), &["a"], bytes, *status, text)?;
+    }
+    Ok(())
+}
+
+#[test]
+fn words_are_answered(rt: HostRuntime) -> Result<(), Fail> {
+    for (words, status, text) in &ASKED {
+        let bytes = LOCKED.as_bytes().to_vec(rt.alloc())?;
+        expect(&rt, rt.alloc(), words, bytes, *status, text)?;
+    }
+    Ok(())
+}
+
+#[test]
+fn a_file_over_its_limit_is_too_large(rt: HostRuntime) -> Result<(), Fail> {
+    let mut bytes = Vec::new(rt.alloc());
+    for _ in 0..262145 {
+        bytes.push(b' ')?;
+    }
+    expect(&rt, rt.alloc(), &["a"], bytes, 10, "a is too large\n")
+}
