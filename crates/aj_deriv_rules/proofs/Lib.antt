@@ -1,4 +1,3 @@
 -- The lemmas that several proofs share.
 pub mod NameLemmas
-pub mod RuleLemmas
 pub mod BlockLemmas

@@ -61,6 +61,15 @@ fn check_small(work: Work<'_>, t: &Tree, u: &Tree) -> Result<(), NoMemory> {
     }
 }
 
+/// Want of memory, where a look at the two trees, which takes no memory, would pass the work that is left.
+fn check_left(work: Work<'_>, t: &Tree, u: &Tree) -> Result<(), NoMemory> {
+    let most = work.all();
+    match visited(t, u, MOST_DEPTH, most) {
+        Some(left) => work.charge(most.saturating_sub(left)),
+        None => Err(NoMemory),
+    }
+}
+
 /// The tree of a basic.
 pub fn leaf(basic: Basic) -> Tree
     ensures known { IsCanonical (cond_of result) }
@@ -74,14 +83,6 @@ pub(crate) fn copied(alloc: Global, work: Work<'_>, t: &Tree) -> Result<Tree, No
     requires { IsCanonical (cond_of t.now) }
     ensures known { IfOk result (λ r. IsCanonical (cond_of r)) }
     ensures value { IfOk result (λ r. (H : Held) → value_of (cond_of r) H ≡ value_of (cond_of t.now) H) }
-{
-    check_small(work, t, t)?;
-    t.copy(alloc)
-}
-
-/// A copy, node by node.
-pub fn same_copy(alloc: Global, work: Work<'_>, t: &Tree) -> Result<Tree, NoMemory>
-    ensures { IfOk result (λ r. cond_of r ≡ cond_of t.now) }
 {
     check_small(work, t, t)?;
     t.copy(alloc)
@@ -163,6 +164,6 @@ pub fn below(work: Work<'_>, t: &Tree, u: &Tree) -> Result<bool, NoMemory>
     requires second { IsCanonical (cond_of u.now) }
     ensures { IfOk result (λ b. (b ≡ true) ↔ ((H : Held) → AtMost (value_of (cond_of t.now) H) (value_of (cond_of u.now) H))) }
 {
-    check_small(work, t, u)?;
+    check_left(work, t, u)?;
     Ok(Trees.below(t, u))
 }

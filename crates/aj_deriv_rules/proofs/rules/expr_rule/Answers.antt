@@ -4,7 +4,7 @@ use Rattle.aj_core.specs.Core.{CallE}
 use Rattle.aj_core.specs.Views.{expr_of, exprs_from}
 use Rattle.aj_core.proofs.ViewLemmas.{expr_of-Call}
 use Rattle.aj_deriv_rules.specs.Judges.{judge_assignment, judge_program, judge_rel, judge_value}
-use Rattle.aj_deriv_rules.specs.Rules.{expr_rule}
+use Rattle.aj_effects.specs.Rules.{expr_rule}
 use Rattle.aj_deriv_rules.proofs.NameLemmas.{value_as}
 use Rattle.aj_deriv_rules.proofs.rules.expr_rule.Goals as goal
 
