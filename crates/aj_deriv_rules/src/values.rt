@@ -6,7 +6,7 @@ ghost use Rattle.std.specs.List.{list_all};
 ghost use Rattle.aj_paths.specs.Paths.{PathData};
 ghost use Rattle.aj_algebra.specs.declared.basic.Basic.TheVariants.{Error};
 ghost use Rattle.aj_algebra.specs.Basics.{seq_of, join_of, star_of};
-ghost use Rattle.aj_algebra.specs.HeldPaths.{Held, holds_at};
+ghost use Rattle.aj_algebra.specs.HeldPaths.{Held, holds_at, renamed as renamed_set};
 ghost use Rattle.aj_algebra.specs.Values.{sync_of};
 ghost use Rattle.aj_cond.specs.Conditions.{cond_of, value_of, IsCanonical};
 ghost use Rattle.aj_rules.specs.Rules.{AtMost};
@@ -14,7 +14,7 @@ ghost use Rattle.aj_rules.specs.Rules.{AtMost};
 use crate::work::{MOST_DEPTH, Work};
 use aj_algebra::{Algebra, Basic};
 use aj_cond::{Tree, Trees};
-use aj_paths::{Path, order};
+use aj_paths::{Path, Renaming, order};
 use std::alloc::{AllocError as NoMemory, Global};
 use std::cmp::Ordering;
 
@@ -134,6 +134,23 @@ pub(crate) fn sync(alloc: Global, work: Work<'_>, p: &Path, t: &Tree) -> Result<
     check_small(work, t, t)?;
     let mut trees = Trees;
     trees.sync(alloc, p, t)
+}
+
+/// Under the names that a map has for paths. Where two paths are told apart no more, this takes more than the visit of the tree, so
+/// the rules give names to trees in ways of their own.
+pub(crate) fn renamed(
+    alloc: Global,
+    work: Work<'_>,
+    map: &Renaming,
+    t: &Tree,
+) -> Result<Tree, NoMemory>
+    requires { IsCanonical (cond_of t.now) }
+    ensures known { IfOk result (λ r. IsCanonical (cond_of r)) }
+    ensures value { IfOk result (λ r. (H : Held) → value_of (cond_of r) H ≡ value_of (cond_of t.now) (renamed_set map.now H)) }
+{
+    check_small(work, t, t)?;
+    let mut trees = Trees;
+    trees.rename(alloc, map, t)
 }
 
 /// The first where there is a path and it is held, else the second.

@@ -52,11 +52,6 @@ impl<'a> Work<'a> {
         Work { free: 0, left }
     }
 
-    /// The work for any method.
-    pub(crate) fn ample(left: &'a Cell<u32>) -> Work<'a> {
-        Work::new(MOST_NEAR, left)
-    }
-
     /// How many pairs one operation may visit.
     pub(crate) fn most(self) -> u32 {
         self.free.max(SMALL)

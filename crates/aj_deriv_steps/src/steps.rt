@@ -14,7 +14,7 @@ use crate::sequences::{expr_below, stmt_below};
 use crate::stuck::Stuck;
 use aj_book_grammar::Nodes;
 use aj_cond::Tree;
-use aj_deriv_rules::{Judge, Work, below, rule_within, tree_at};
+use aj_deriv_rules::{Judge, Work, below, rule, tree_at};
 use aj_effects::BodyPart;
 use std::alloc::{AllocError as NoMemory, Global};
 use std::cell::Cell;
@@ -50,7 +50,7 @@ fn is_step_by_value(
     ensures { IfOk result (λ b. (b ≡ true) ↔ ((H : Held) →
         AtMost (rule_of (judge_program judge.now) (judge_rel judge.now) (judge_assignment judge.now) (part_of part.entry) (map (judge_value judge.now) numbers.now) H) (value_of (cond_of d.now) H))) }
 {
-    let value = rule_within(alloc, work, judge, part, numbers)?;
+    let value = rule(alloc, work, judge, part, numbers)?;
     below(work, &value, d)
 }
 
