@@ -301,7 +301,6 @@ fn value_below(value: &Branching, d: &Tree) -> Option<bool>
 }
 
 /// Whether a tree is at or above the value of a part's rule, where it can be told with no tree for that value.
-#[tactic(auto, using(crate::proofs::BranchLemmas::rule_below))]
 pub(crate) fn plain_step<F: Nodes>(
     program: &CoreProgram,
     table: &[Tree],

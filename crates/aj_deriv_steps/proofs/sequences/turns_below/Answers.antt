@@ -1,5 +1,5 @@
 -- Two turns as a sequence.
-use Rattle.std.proofs.Common.{map, refl, subst, [], ◌∷◌}
+use Rattle.std.proofs.Common.{map, refl, [], ◌∷◌}
 use Rattle.aj_algebra.specs.declared.basic.Basic.TheVariants.{Const}
 use Rattle.aj_algebra.specs.Basics.{seq_of, star_of}
 use Rattle.aj_cond.specs.Conditions.{cond_of, value_of}
