@@ -1,20 +1,20 @@
 -- Where every conclusion is at or above its rule's value, the body's conclusion is at or above the body's effect; where every one is
 -- exactly its rule's value, it is exactly the effect.
-use Rattle.std.proofs.Common.{◌≡◌, ℕ, Bool, true, false, List, [], ◌∷◌, length, Some, None, if◌then◌else◌, refl, ◌∙◌, ap, subst, arith}
+use Rattle.std.proofs.Common.{◌≡◌, ℕ, Bool, true, false, List, [], ◌∷◌, length, if◌then◌else◌, refl, subst, arith}
 use Rattle.aj_paths.specs.Paths.{PathData}
 use Rattle.aj_algebra.specs.declared.basic.Basic.{Basic}
 use Rattle.aj_algebra.specs.declared.basic.Basic.TheVariants.{Const, Mover, Atomic}
 use Rattle.aj_algebra.specs.Basics.{seq_of, join_of, star_of, lift_of}
 use Rattle.aj_algebra.specs.HeldPaths.{Held, with_path}
-use Rattle.aj_core.specs.Core.{Program, Expr, Exprs, IntE, TruthE, NullE, ThisE, VarE, NotE, NegE, BinaryE, AndE, OrE, GetE, CallE, NewE, no_exprs, and_expr}
+use Rattle.aj_core.specs.Core.{Program, IntE, TruthE, NullE, ThisE, VarE, NotE, NegE, BinaryE, AndE, OrE, GetE, CallE, NewE}
 use Rattle.aj_core.specs.Core.{Stmts, EmptyS, BlockS, LocalS, SetVarS, SetFieldS, DoS, IfS, WhileS, SyncS, ReturnS, PrintS, StartS, no_stmts, and_stmt}
 use Rattle.aj_core.specs.Locks.{path_of}
 use Rattle.aj_rules.specs.Mentions.{paths_of}
-use Rattle.aj_rules.specs.Effect.{Assignment, sync_effect, access_of, call_of, after_stmt, expr_effect, exprs_effect, effect, block_effect}
+use Rattle.aj_rules.specs.Effect.{Assignment, access_of, call_of, after_stmt}
 use Rattle.aj_rules.specs.Rules.{AtMost}
 use Rattle.aj_rules.proofs.BasicLemmas.{below_itself, below_chain, seq_mono, join_mono, star_mono, lift_mono}
 use Rattle.aj_book_grammar.specs.Derivations.{Node, node, Nodes, no_nodes, and_node, number_of, count_nodes}
-use Rattle.aj_effects.specs.Parts.{Part, ExprP, StmtP, parts_of, args_parts, block_parts}
+use Rattle.aj_effects.specs.Parts.{Part, ExprP, StmtP, parts_of}
 use Rattle.aj_deriv_rules.specs.Parts.{places, places_of, Fits, Each}
 use Rattle.aj_effects.specs.Rules.{Value, in_sequence, choice_value, loop_value, lock_value, block_value, rule_of}
 use Rattle.aj_deriv_rules.specs.Conclusions.{conclusions}

@@ -7,7 +7,7 @@ use Rattle.aj_cond.specs.Conditions.{value_of}
 use Rattle.aj_core.specs.Views.{method_of}
 use Rattle.aj_book_grammar.specs.Derivations.{node}
 use Rattle.aj_rules.specs.Rules.{declared_bound}
-use Rattle.aj_deriv_check.specs.Good.{IsStep, IsStepped, IsTabled, IsUnder, cond_at}
+use Rattle.aj_deriv_check.specs.Good.{IsStep, IsTabled, IsUnder, cond_at}
 use Rattle.aj_deriv_rules.specs.Judges.{judge_assignment, judge_program, judge_rel, judge_table, judge_value}
 use Rattle.aj_effects.specs.Parts.{StmtP}
 use Rattle.aj_deriv_rules.specs.Parts.{places}
