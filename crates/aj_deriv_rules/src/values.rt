@@ -52,16 +52,20 @@ fn visited(t: &Tree, u: &Tree, depth: u32, left: u32) -> Option<u32> {
     }
 }
 
-/// Want of memory, where an operation on the two trees would pass the bounds.
+/// Want of memory, where an operation on the two trees would pass the bounds. Then the visit that told so is taken from what is left,
+/// so that a book can't ask for many of these.
 fn check_small(work: Work<'_>, t: &Tree, u: &Tree) -> Result<(), NoMemory> {
     let most = work.most();
     match visited(t, u, MOST_DEPTH, most) {
         Some(left) => work.charge(most.saturating_sub(left)),
-        None => Err(NoMemory),
+        None => {
+            work.take(most)?;
+            Err(NoMemory)
+        }
     }
 }
 
-/// Want of memory, where a look at the two trees, which takes no memory, would pass the work that is left.
+/// Want of memory, where a look at the two trees, which takes no memory, would pass the work that is left. Nothing is tried behind it.
 fn check_left(work: Work<'_>, t: &Tree, u: &Tree) -> Result<(), NoMemory> {
     let most = work.all();
     match visited(t, u, MOST_DEPTH, most) {

@@ -36,7 +36,8 @@ fn numbers<F: Nodes>(alloc: Global, nodes: F) -> Result<Vec<u32>, NoMemory>
     Ok(numbers)
 }
 
-/// Whether a tree is at or above the value that a part's rule gives, which is made.
+/// Whether a tree is at or above the value that a part's rule gives, which is made. Undecided where it isn't made: it would be too
+/// large a tree, or memory is refused, which pairs don't ask for.
 fn is_step_by_value(
     alloc: Global,
     work: Work<'_>,
@@ -44,14 +45,16 @@ fn is_step_by_value(
     part: BodyPart<'_>,
     numbers: &[u32],
     d: &Tree,
-) -> Result<bool, NoMemory>
+) -> Result<bool, Stuck>
     requires canonical { AreCanonical (judge_table judge.now) }
     requires known { IsCanonical (cond_of d.now) }
     ensures { IfOk result (λ b. (b ≡ true) ↔ ((H : Held) →
         AtMost (rule_of (judge_program judge.now) (judge_rel judge.now) (judge_assignment judge.now) (part_of part.entry) (map (judge_value judge.now) numbers.now) H) (value_of (cond_of d.now) H))) }
 {
-    let value = rule(alloc, work, judge, part, numbers)?;
-    below(work, &value, d)
+    let Ok(value) = rule(alloc, work, judge, part, numbers) else {
+        return Err(Stuck::Undecided);
+    };
+    Ok(below(work, &value, d)?)
 }
 
 /// Whether a tree is at or above the value that a part's rule gives, with no tree for that value: within the work for pairs.
@@ -92,7 +95,8 @@ fn is_step_by_work(
 {
     match is_step_by_value(alloc, work, judge, part, numbers, d) {
         Ok(is) => Ok(is),
-        Err(_) => is_step_by_pairs(alloc, work, work, judge, part, numbers, d),
+        Err(Stuck::NoMemory) => Err(Stuck::NoMemory),
+        Err(Stuck::Undecided) => is_step_by_pairs(alloc, work, work, judge, part, numbers, d),
     }
 }
 
