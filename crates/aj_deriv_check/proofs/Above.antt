@@ -1,24 +1,26 @@
 -- Where every conclusion is at or above its rule's value, the body's conclusion is at or above the body's effect; where every one is
 -- exactly its rule's value, it is exactly the effect.
-use Rattle.std.proofs.Common.{◌≡◌, ℕ, Bool, true, false, List, [], ◌∷◌, length, Some, None, if◌then◌else◌, refl, ◌∙◌, ap, subst, arith}
+use Rattle.std.proofs.Common.{◌≡◌, ℕ, Bool, true, false, List, [], ◌∷◌, length, if◌then◌else◌, refl, subst, arith}
 use Rattle.aj_paths.specs.Paths.{PathData}
 use Rattle.aj_algebra.specs.declared.basic.Basic.{Basic}
 use Rattle.aj_algebra.specs.declared.basic.Basic.TheVariants.{Const, Mover, Atomic}
 use Rattle.aj_algebra.specs.Basics.{seq_of, join_of, star_of, lift_of}
 use Rattle.aj_algebra.specs.HeldPaths.{Held, with_path}
-use Rattle.aj_core.specs.Core.{Program, Expr, Exprs, IntE, TruthE, NullE, ThisE, VarE, NotE, NegE, BinaryE, AndE, OrE, GetE, CallE, NewE, no_exprs, and_expr}
+use Rattle.aj_core.specs.Core.{Program, IntE, TruthE, NullE, ThisE, VarE, NotE, NegE, BinaryE, AndE, OrE, GetE, CallE, NewE}
 use Rattle.aj_core.specs.Core.{Stmts, EmptyS, BlockS, LocalS, SetVarS, SetFieldS, DoS, IfS, WhileS, SyncS, ReturnS, PrintS, StartS, no_stmts, and_stmt}
 use Rattle.aj_core.specs.Locks.{path_of}
 use Rattle.aj_rules.specs.Mentions.{paths_of}
-use Rattle.aj_rules.specs.Effect.{Assignment, sync_effect, access_of, call_of, after_stmt, expr_effect, exprs_effect, effect, block_effect}
+use Rattle.aj_rules.specs.Effect.{Assignment, access_of, call_of, after_stmt}
 use Rattle.aj_rules.specs.Rules.{AtMost}
 use Rattle.aj_rules.proofs.BasicLemmas.{below_itself, below_chain, seq_mono, join_mono, star_mono, lift_mono}
 use Rattle.aj_book_grammar.specs.Derivations.{Node, node, Nodes, no_nodes, and_node, number_of, count_nodes}
-use Rattle.aj_deriv_rules.specs.Parts.{Part, ExprP, StmtP, places, places_of, parts_of, args_parts, block_parts, Fits, Each}
-use Rattle.aj_deriv_rules.specs.Rules.{Value, in_sequence, choice_value, loop_value, lock_value, block_value, rule_of}
+use Rattle.aj_effects.specs.Parts.{Part, ExprP, StmtP, parts_of}
+use Rattle.aj_deriv_rules.specs.Parts.{places, places_of, Fits, Each}
+use Rattle.aj_effects.specs.Rules.{Value, in_sequence, choice_value, loop_value, lock_value, block_value, rule_of}
 use Rattle.aj_deriv_rules.specs.Conclusions.{conclusions}
 use Rattle.aj_deriv_check.specs.Good.{IsStep}
-use Rattle.aj_deriv_steps.proofs.Laws.{unit_after, associative}
+use Rattle.aj_effects.specs.Effects.{part_effect, effects_of}
+use Rattle.aj_effects.proofs.Effects.{rule_is}
 use Rattle.aj_deriv_check.proofs.Lists.{each_left, each_right}
 
 -- each value is at most the other in its place
@@ -107,81 +109,21 @@ module _ (P : Program) (rel : ℕ → List PathData) (A : Assignment) where
   rule_rises (StmtP (PrintS e)) vs ws all H = then_rises vs ws all Atomic H
   rule_rises (StmtP (StartS e)) vs ws all H = then_rises vs ws all Atomic H
 
-  -- the effect of a part
-  abbrev pub part_effect : Part → Value
-  part_effect (ExprP e) = expr_effect P rel A e
-  part_effect (StmtP s) = effect P rel A s
-
-  abbrev pub effects_of : List Part → List Value
-  effects_of [] = []
-  effects_of (x ∷ xs) = part_effect x ∷ effects_of xs
-
-  args_is : (es : Exprs) (H : Held) → in_sequence (effects_of (args_parts es)) H ≡ exprs_effect P rel A es H
-  args_is no_exprs H = refl
-  args_is (and_expr e es) H = ap (λ z. seq_of (expr_effect P rel A e H) z) (args_is es H)
-
-  block_is : (ss : Stmts) (H : Held) → block_value P ss (effects_of (block_parts ss)) H ≡ block_effect P rel A ss H
-  block_is no_stmts H = refl
-  block_is (and_stmt s ss) H = ap (λ z. seq_of (effect P rel A s H) z) (block_is ss (after_stmt P s H))
-
-  lock_is : (held : Bool) (a b : Basic) → (if held then a else lift_of b) ≡ sync_effect held a b
-  lock_is true a b = refl
-  lock_is false a b = refl
-
-  one : (e : Expr) (H : Held) → seq_of (expr_effect P rel A e H) Const ≡ expr_effect P rel A e H
-  one e H = unit_after (expr_effect P rel A e H)
-
-  two : (a b : Expr) (H : Held) → seq_of (expr_effect P rel A a H) (seq_of (expr_effect P rel A b H) Const) ≡ seq_of (expr_effect P rel A a H) (expr_effect P rel A b H)
-  two a b H = ap (λ z. seq_of (expr_effect P rel A a H) z) (one b H)
-
-  -- the rule over the effects of the parts is the effect
-  pub rule_is : (x : Part) (H : Held) → rule_of P rel A x (effects_of (parts_of x)) H ≡ part_effect x H
-  rule_is (ExprP (IntE n)) H = refl
-  rule_is (ExprP (TruthE b)) H = refl
-  rule_is (ExprP NullE) H = refl
-  rule_is (ExprP ThisE) H = refl
-  rule_is (ExprP (VarE x is_final ty)) H = refl
-  rule_is (ExprP (NotE e)) H = one e H
-  rule_is (ExprP (NegE e)) H = one e H
-  rule_is (ExprP (BinaryE op a b)) H = two a b H
-  rule_is (ExprP (AndE a b)) H = two a b H
-  rule_is (ExprP (OrE a b)) H = two a b H
-  rule_is (ExprP (GetE e f)) H = ap (λ z. seq_of z (access_of P false f (path_of P e) H)) (one e H)
-  rule_is (ExprP (CallE e m args)) H =
-      ap (λ z. seq_of (seq_of (expr_effect P rel A e H) z) (call_of P rel A m (path_of P e) (paths_of P args) H)) (args_is args H)
-      ∙ associative (expr_effect P rel A e H) (exprs_effect P rel A args H) (call_of P rel A m (path_of P e) (paths_of P args) H)
-  rule_is (ExprP (NewE c args)) H = ap (λ z. seq_of z Mover) (args_is args H)
-  rule_is (StmtP EmptyS) H = refl
-  rule_is (StmtP (BlockS ss)) H = block_is ss H
-  rule_is (StmtP (LocalS x is_final ty e)) H = ap (λ z. seq_of z Mover) (one e H)
-  rule_is (StmtP (SetVarS x e)) H = ap (λ z. seq_of z Mover) (one e H)
-  rule_is (StmtP (SetFieldS e f g)) H =
-      ap (λ z. seq_of z (access_of P true f (path_of P e) H)) (two e g H)
-      ∙ associative (expr_effect P rel A e H) (expr_effect P rel A g H) (access_of P true f (path_of P e) H)
-  rule_is (StmtP (DoS e drops)) H = one e H
-  rule_is (StmtP (IfS c s t)) H = refl
-  rule_is (StmtP (WhileS c s)) H = refl
-  rule_is (StmtP (SyncS p s)) H = lock_is (H p) (effect P rel A s H) (effect P rel A s (with_path p H))
-  rule_is (StmtP (ReturnS None)) H = refl
-  rule_is (StmtP (ReturnS (Some e))) H = one e H
-  rule_is (StmtP (PrintS e)) H = ap (λ z. seq_of z Atomic) (one e H)
-  rule_is (StmtP (StartS e)) H = ap (λ z. seq_of z Atomic) (one e H)
-
   module _ (V : ℕ → Value) where
     mutual
       -- where every conclusion is at or above its rule's value, it is at or above the effect
-      pub above : (x : Part) (d : Node) → Each Fits (places x d) → Each (IsStep P rel V A) (places x d) → (H : Held) → AtMost (part_effect x H) (V (number_of d) H)
+      pub above : (x : Part) (d : Node) → Each Fits (places x d) → Each (IsStep P rel V A) (places x d) → (H : Held) → AtMost (part_effect P rel A x H) (V (number_of d) H)
       above x (node w n ds) fits steps H =
           let here : Fits (record { part = x; at = node w n ds }) = fits 0 (record { part = x; at = node w n ds }) refl in
           let all = all_above (parts_of x) ds here.count
           (each_right Fits (record { part = x; at = node w n ds } ∷ []) (places_of (parts_of x) ds) fits)
           (each_right (IsStep P rel V A) (record { part = x; at = node w n ds } ∷ []) (places_of (parts_of x) ds) steps) in
-          below_chain (part_effect x H) (rule_of P rel A x (conclusions V ds) H) (V n H)
-          (subst (λ z. AtMost z (rule_of P rel A x (conclusions V ds) H)) (rule_is x H) (rule_rises x (effects_of (parts_of x)) (conclusions V ds) all H))
+          below_chain (part_effect P rel A x H) (rule_of P rel A x (conclusions V ds) H) (V n H)
+          (subst (λ z. AtMost z (rule_of P rel A x (conclusions V ds) H)) (rule_is P rel A x H) (rule_rises x (effects_of P rel A (parts_of x)) (conclusions V ds) all H))
           (steps 0 (record { part = x; at = node w n ds }) refl H)
 
       all_above : (xs : List Part) (ds : Nodes) → count_nodes ds ≡ length xs → Each Fits (places_of xs ds) → Each (IsStep P rel V A) (places_of xs ds) →
-          AllBelow (effects_of xs) (conclusions V ds)
+          AllBelow (effects_of P rel A xs) (conclusions V ds)
       all_above [] no_nodes count fits steps = tt
       all_above [] (and_node d ds) count fits steps = absurd (omega (arith, count))
       all_above (x ∷ xs) no_nodes count fits steps = absurd (omega (arith, count))

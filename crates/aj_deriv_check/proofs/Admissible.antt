@@ -13,7 +13,7 @@ use Rattle.aj_rules.specs.Rules.{IsPart, AtMost, held_in, AreBodiesBelow, AreOve
 use Rattle.aj_rules.proofs.BasicLemmas.{below_itself, below_chain}
 use Rattle.aj_book_grammar.specs.Derivations.{number_of}
 use Rattle.aj_book_grammar.specs.Books.{Line, Book}
-use Rattle.aj_deriv_rules.specs.Parts.{StmtP}
+use Rattle.aj_effects.specs.Parts.{StmtP}
 use Rattle.aj_deriv_rules.specs.Conclusions.{table_value, tree_value}
 use Rattle.aj_deriv_check.specs.Good.{line_value, book_assignment, cond_at, tests_only, Falls, IsGoodBook}
 use Rattle.aj_deriv_check.proofs.Above.{above}

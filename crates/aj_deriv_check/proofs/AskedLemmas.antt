@@ -3,7 +3,8 @@ use Rattle.std.proofs.Common.{◌≡◌, ℕ, ◌==◌, ◌&&◌, ◌↔◌, Boo
 use Rattle.std.proofs.lemmas.Bool.{and_from, and_parts, eq-eqb, eqb-true}
 use Rattle.aj_book_grammar.specs.declared.word.Word.{Word}
 use Rattle.aj_book_grammar.specs.Derivations.{node, Nodes, count_nodes}
-use Rattle.aj_deriv_rules.specs.Parts.{Part, Fits, word_of, parts_of}
+use Rattle.aj_effects.specs.Parts.{Part, parts_of}
+use Rattle.aj_deriv_rules.specs.Parts.{Fits, word_of}
 
 -- both tests together say that a node fits
 pub fits_is : (x : Part) (w : Word) (n : ℕ) (ds : Nodes) (same_word same_size : Bool) (parts : List Part) → (same_word ≡ true) ↔ (w ≡ word_of x) → parts ≡ parts_of x →

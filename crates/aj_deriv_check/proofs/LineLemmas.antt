@@ -15,7 +15,7 @@ use Rattle.aj_core.specs.Dispatch.{Overrides}
 use Rattle.aj_rules.specs.Effect.{Assignment}
 use Rattle.aj_rules.specs.Overriding.{AreOverriders}
 use Rattle.aj_rules.specs.Search.{row_at}
-use Rattle.aj_deriv_rules.specs.Rules.{Value}
+use Rattle.aj_effects.specs.Rules.{Value}
 use Rattle.aj_cond.specs.Conditions.{Cond, LeafC, TestC, value_of, IsCanonical}
 use Rattle.aj_cond.proofs.PathLemmas.{put}
 use Rattle.aj_cond.proofs.NodeLemmas.{parts-test, parts-high, parts-low}
@@ -138,11 +138,20 @@ under_in_is rel required x y z w u over own same = (
       (under K (λ q has. (and_parts (has_path rel q) (H q) has).0) (held_all K required e)))))),
 )
 
-pub tabled_is : (rel : List PathData) (t : Cond) (relevant falls : Bool) → relevant ≡ tests_only rel t → (falls ≡ true) ↔ Falls (value_of t) →
-    ((relevant && falls) ≡ true) ↔ IsTabled rel t
-tabled_is rel t relevant falls is test = (
-  (λ e. let both = and_parts relevant falls e in record { relevant = sym is ∙ both.0; falls = test.0 both.1 }),
-  (λ tabled. and_from relevant falls (is ∙ tabled.relevant) (test.1 tabled.falls)),
+-- a tree that tests relevant paths only is a method's tree where it falls
+pub tabled_by : {E : Type 0} (r : Result Bool E) (rel : List PathData) (t : Cond) (relevant : Bool) → relevant ≡ tests_only rel t → relevant ≡ true → IfOk r (λ b. (b ≡ true) ↔ Falls (value_of t)) →
+    IfOk r (λ b. (b ≡ true) ↔ IsTabled rel t)
+tabled_by (Ok b) rel t relevant is holds test = (
+  (λ e. record { relevant = sym is ∙ holds; falls = test.0 e }),
+  (λ tabled. test.1 tabled.falls),
+)
+tabled_by (Err e) rel t relevant is holds test = tt
+
+-- and one that tests others is none
+pub not_tabled : (rel : List PathData) (t : Cond) (relevant : Bool) → relevant ≡ tests_only rel t → relevant ≡ false → (false ≡ true) ↔ IsTabled rel t
+not_tabled rel t relevant is fails = (
+  (λ e. absurd (let wrong : false ≡ true = e in cc)),
+  (λ tabled. sym fails ∙ is ∙ tabled.relevant),
 )
 
 -- Of what holds of each of some methods.

@@ -8,7 +8,8 @@ use Rattle.aj_rules.specs.Effect.{Assignment}
 use Rattle.aj_book_grammar.specs.Books.{Line, Book}
 use Rattle.aj_deriv_check.specs.declared.wrong.Wrong.{Wrong}
 use Rattle.aj_deriv_check.specs.declared.wrong.Wrong.TheVariants as wrong
-use Rattle.aj_deriv_rules.specs.Parts.{StmtP, places, Fits}
+use Rattle.aj_effects.specs.Parts.{StmtP}
+use Rattle.aj_deriv_rules.specs.Parts.{places, Fits}
 use Rattle.aj_deriv_rules.specs.Conclusions.{table_value}
 use Rattle.aj_deriv_check.specs.Good.{book_assignment, IsStep, IsStepped, IsGoodLine, IsGoodBook}
 use Rattle.aj_deriv_check.specs.Faults.{IsShapedAt, HasShapeFault, HasStepFault, IsLineVerdict, AreShaped, IsFirstMisshaped, IsFirstWrong, IsWrong}

@@ -5,7 +5,8 @@ use Rattle.aj_book_grammar.specs.Books.{Line}
 use Rattle.aj_deriv_check.specs.declared.wrong.Wrong.{Wrong}
 use Rattle.aj_deriv_check.specs.declared.wrong.Wrong.TheVariants as wrong
 use Rattle.aj_deriv_check.specs.declared.walk.End.TheVariants.{Good, Bad}
-use Rattle.aj_deriv_rules.specs.Parts.{StmtP, Place, places, Fits, IsLeastBad}
+use Rattle.aj_effects.specs.Parts.{StmtP}
+use Rattle.aj_deriv_rules.specs.Parts.{Place, places, Fits, IsLeastBad}
 use Rattle.aj_deriv_check.specs.Walks.{IsEnd}
 use Rattle.aj_deriv_rules.specs.declared.judge.Judge.{Judge}
 use Rattle.aj_deriv_rules.specs.Judges.{judge_assignment, judge_program, judge_rel, judge_table}

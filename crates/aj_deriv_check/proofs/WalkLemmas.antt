@@ -4,7 +4,8 @@ use Rattle.aj_book_grammar.specs.declared.word.Word.{Word}
 use Rattle.aj_book_grammar.specs.Derivations.{Node, node, Nodes, no_nodes, and_node}
 use Rattle.aj_deriv_check.specs.declared.walk.End.{End}
 use Rattle.aj_deriv_check.specs.declared.walk.End.TheVariants.{Good, Bad}
-use Rattle.aj_deriv_rules.specs.Parts.{Part, Place, places, places_of, parts_of}
+use Rattle.aj_effects.specs.Parts.{Part, parts_of}
+use Rattle.aj_deriv_rules.specs.Parts.{Place, places, places_of}
 use Rattle.aj_deriv_check.specs.Walks.{IsEnd}
 use Rattle.aj_deriv_check.proofs.Lists.{each_both, each_none, each_one, bad_left, bad_right}
 

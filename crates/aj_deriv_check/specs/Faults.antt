@@ -6,7 +6,8 @@ use Rattle.aj_core.specs.Core.{Program, Method}
 use Rattle.aj_book_grammar.specs.Books.{Line, Book}
 use Rattle.aj_deriv_check.specs.declared.wrong.Wrong.{Wrong}
 use Rattle.aj_deriv_check.specs.declared.wrong.Wrong.TheVariants as wrong
-use Rattle.aj_deriv_rules.specs.Parts.{StmtP, places, Fits, IsLeastBad}
+use Rattle.aj_effects.specs.Parts.{StmtP}
+use Rattle.aj_deriv_rules.specs.Parts.{places, Fits, IsLeastBad}
 use Rattle.aj_deriv_rules.specs.Conclusions.{table_value}
 use Rattle.aj_deriv_check.specs.Good.{book_assignment, cond_at, IsStep, IsUnderOwn, IsShaped, IsTabled, IsStepped, IsOverBelow, IsBounded, IsGoodLine}
 use Rattle.aj_rules.specs.Effect.{Assignment}

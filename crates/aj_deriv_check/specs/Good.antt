@@ -10,8 +10,9 @@ use Rattle.aj_rules.specs.Effect.{Assignment}
 use Rattle.aj_rules.specs.Rules.{IsPart, AtMost, declared_bound}
 use Rattle.aj_book_grammar.specs.Derivations.{number_of, premises_of}
 use Rattle.aj_book_grammar.specs.Books.{Line, Book}
-use Rattle.aj_deriv_rules.specs.Parts.{StmtP, Place, places, Fits, Each}
-use Rattle.aj_deriv_rules.specs.Rules.{Value, rule_of}
+use Rattle.aj_effects.specs.Parts.{StmtP}
+use Rattle.aj_deriv_rules.specs.Parts.{Place, places, Fits, Each}
+use Rattle.aj_effects.specs.Rules.{Value, rule_of}
 use Rattle.aj_deriv_rules.specs.Conclusions.{table_value, conclusions}
 
 -- the number of a method line's tree, where there is one

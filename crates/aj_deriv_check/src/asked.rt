@@ -1,15 +1,16 @@
 //! What is asked of each node: first its shape, then its step.
 ghost use Rattle.std.specs.Prelude.{◌≡◌, ◌↔◌, true};
 ghost use Rattle.aj_book_grammar.specs.Derivations.{node};
-ghost use Rattle.aj_deriv_rules.specs.Bodies.{part_of};
+ghost use Rattle.aj_effects.specs.Bodies.{part_of};
 ghost use Rattle.aj_deriv_rules.specs.Judges.{judge_assignment, judge_program, judge_rel, judge_table, judge_value, AreCanonical};
 ghost use Rattle.aj_deriv_rules.specs.Parts.{Fits};
 ghost use Rattle.aj_deriv_check.specs.Good.{IsStep};
 
 use crate::walk::Asked;
 use aj_book_grammar::{Nodes, Word};
-use aj_deriv_rules::{BodyPart, Judge, Work, inner_parts, part_word, same_length};
+use aj_deriv_rules::{Judge, Work, part_word, same_length};
 use aj_deriv_steps::is_step;
+use aj_effects::{BodyPart, inner_parts};
 use std::alloc::{AllocError as NoMemory, Global};
 
 /// Asks whether a node has the word and the number of premises of its part.

@@ -1,14 +1,16 @@
 //! The judgement of one method line beside its method.
-ghost use Rattle.std.specs.Prelude.{◌≡◌, ◌↔◌, ◌&&◌, ℕ, true, slice_get, Contains, IfOk};
+ghost use Rattle.std.specs.Prelude.{◌≡◌, ◌↔◌, ◌&&◌, ℕ, true, map, slice_get, Contains, IfOk};
+ghost use Rattle.aj_algebra.specs.declared.basic.Basic.TheVariants.{Const};
 ghost use Rattle.aj_algebra.specs.Basics.{below_of};
-ghost use Rattle.aj_algebra.specs.HeldPaths.{has_path};
-ghost use Rattle.aj_cond.specs.Conditions.{cond_of, value_of, IsCanonical};
+ghost use Rattle.aj_algebra.specs.HeldPaths.{Held, has_path};
+ghost use Rattle.aj_cond.specs.Conditions.{cond_of, value_of, IsCanonical, LeafC};
 ghost use Rattle.aj_core.specs.Views.{method_of};
 ghost use Rattle.aj_book_grammar.specs.Derivations.{node};
 ghost use Rattle.aj_rules.specs.Rules.{declared_bound};
 ghost use Rattle.aj_rules.specs.Overriding.{AreOverriders};
 ghost use Rattle.aj_deriv_check.specs.Faults.{IsLineVerdict};
 ghost use Rattle.aj_deriv_check.specs.Good.{cond_at, tests_only as tests_only_of, Falls, IsTabled, IsUnder, IsUnderIn};
+ghost use Rattle.aj_deriv_rules.specs.Conclusions.{table_value};
 ghost use Rattle.aj_deriv_rules.specs.Judges.{judge_assignment, judge_program, judge_rel, judge_table, judge_value, AreCanonical};
 
 use crate::asked::Steps;
@@ -19,9 +21,9 @@ use aj_book_grammar::{Nodes, Word};
 use aj_cond::{Tree, Trees};
 use aj_core::CoreMethod;
 use aj_deriv_rules::{
-    BodyPart, Judge, Work, assigned, below, conclusion, holds, same_copy, tree_at, where_held,
-    within,
+    Judge, Work, assigned, below, conclusion, holds, tree_at, where_held, within,
 };
+use aj_effects::BodyPart;
 use aj_paths::{MethodId, Path};
 use aj_rules::{OverridingMethods, RelevantSets};
 use std::alloc::{AllocError as NoMemory, Global};
@@ -63,15 +65,30 @@ fn falls(work: Work<'_>, t: &Tree) -> Result<bool, NoMemory>
     }
 }
 
-/// Whether a method's tree tests relevant paths only, and falls.
-#[tactic(auto, using(crate::proofs::LineLemmas::tabled_is))]
+/// Whether a method's tree tests relevant paths only, and falls. A tree that tests others isn't looked at twice.
+#[tactic(auto, using(crate::proofs::LineLemmas::tabled_by, crate::proofs::LineLemmas::not_tabled))]
 fn is_tabled(work: Work<'_>, rel: &[Path], t: &Tree) -> Result<bool, NoMemory>
     requires { IsCanonical (cond_of t.now) }
     ensures { IfOk result (λ b. (b ≡ true) ↔ IsTabled rel.now (cond_of t.now)) }
 {
-    let relevant = tests_only(rel, t);
-    let falls = falls(work, t)?;
-    Ok(relevant && falls)
+    if !tests_only(rel, t) {
+        return Ok(false);
+    }
+    falls(work, t)
+}
+
+/// The tree with this number; `none`, which is const, where there is none.
+fn tree_or<'a>(table: &'a [Tree], number: u32, none: &'a Tree) -> &'a Tree
+    requires canonical { AreCanonical (map cond_of table.now) }
+    requires none { cond_of none.now ≡ LeafC Const }
+    ensures known { IsCanonical (cond_of result.now) }
+    ensures tree { cond_of result.now ≡ cond_at (slice_get (map cond_of table.now) number) }
+    ensures value { (H : Held) → value_of (cond_of result.now) H ≡ table_value (map cond_of table.now) number H }
+{
+    match tree_at(table, number) {
+        Some(tree) => tree,
+        None => none,
+    }
 }
 
 /// Whether the body's conclusion is at or below the method's tree wherever the required paths are held.
@@ -86,10 +103,11 @@ fn is_under(
     requires { AreCanonical (judge_table judge.now) }
     ensures { IfOk result (λ b. (b ≡ true) ↔ IsUnder required.now (judge_value judge.now body) (judge_value judge.now own)) }
 {
-    let body = conclusion(alloc, work, judge, body)?;
+    let none = Tree::Leaf(Basic::Const);
+    let body = tree_or(judge.table, body, &none);
     let own = conclusion(alloc, work, judge, own)?;
     let wherever = where_held(alloc, work, required, own)?;
-    below(work, &body, &wherever)
+    below(work, body, &wherever)
 }
 
 /// Whether the tree of a method is at or below this one, at each part of these paths that has the required ones.
@@ -155,18 +173,6 @@ fn is_bounded(t: &Tree, method: &CoreMethod) -> bool
     found.below(bound(method.annotated))
 }
 
-/// The tree with this number; const where there is none.
-fn own_tree(alloc: Global, work: Work<'_>, judge: &Judge<'_>, number: u32) -> Result<Tree, NoMemory>
-    requires { AreCanonical (judge_table judge.now) }
-    ensures known { IfOk result (λ r. IsCanonical (cond_of r)) }
-    ensures tree { IfOk result (λ r. cond_of r ≡ cond_at (slice_get (judge_table judge.now) number)) }
-{
-    match tree_at(judge.table, number) {
-        Some(tree) => same_copy(alloc, work, tree),
-        None => Ok(Tree::Leaf(Basic::Const)),
-    }
-}
-
 /// The work for a method, by how many near paths it has.
 fn work_for<'a>(sets: &RelevantSets, m: MethodId, left: &'a Cell<u32>) -> Work<'a> {
     let near = sets.rel(m).len().saturating_add(sets.loc(m).len());
@@ -194,8 +200,9 @@ pub(crate) fn line_verdict<F: Nodes>(
         (method_of method.now) (record { id = id; number = own; body = node word number (F.nodes premises) })) }
 {
     let work = work_for(judge.sets, m, left);
-    let tree = own_tree(alloc, work, judge, own)?;
-    if !is_tabled(work, judge.sets.rel(m), &tree)? {
+    let none = Tree::Leaf(Basic::Const);
+    let tree = tree_or(judge.table, own, &none);
+    if !is_tabled(work, judge.sets.rel(m), tree)? {
         return Ok(Some(Wrong::Table { method: m.0 }));
     }
     let required = method.requires_.as_slice();
@@ -222,7 +229,7 @@ pub(crate) fn line_verdict<F: Nodes>(
     )? {
         return Ok(Some(Wrong::Override { method: m.0 }));
     }
-    if !is_bounded(&tree, method) {
+    if !is_bounded(tree, method) {
         return Ok(Some(Wrong::Bound { method: m.0 }));
     }
     Ok(None)

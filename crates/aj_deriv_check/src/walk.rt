@@ -2,11 +2,11 @@
 ghost use Rattle.std.specs.Prelude.{◌≡◌, ◌↔◌, ◌+◌, true, IfOk};
 ghost use Rattle.aj_book_grammar.specs.Derivations.{node};
 ghost use Rattle.aj_deriv_rules.specs.Parts.{places, places_of};
-ghost use Rattle.aj_deriv_rules.specs.Bodies.{list_of, part_of};
+ghost use Rattle.aj_effects.specs.Bodies.{list_of, part_of};
 ghost use Rattle.aj_deriv_check.specs.Walks.{IsEnd};
 
 use aj_book_grammar::{Nodes, Word};
-use aj_deriv_rules::{BodyPart, Parts, inner_parts};
+use aj_effects::{BodyPart, Parts, inner_parts};
 use std::alloc::{AllocError as NoMemory, Global};
 
 /// Where a walk ends: all nodes are good, and this number comes next; or this is the least that is not.

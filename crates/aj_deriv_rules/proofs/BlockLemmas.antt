@@ -6,7 +6,7 @@ use Rattle.aj_algebra.specs.Basics.{seq_of}
 use Rattle.aj_algebra.specs.HeldPaths.{Held}
 use Rattle.aj_core.specs.Core.{Program, Stmt, EmptyS, BlockS, LocalS, SetVarS, SetFieldS, DoS, IfS, WhileS, SyncS, ReturnS, PrintS, StartS}
 use Rattle.aj_rules.specs.Effect.{after_stmt}
-use Rattle.aj_deriv_rules.specs.Rules.{Value}
+use Rattle.aj_effects.specs.Rules.{Value}
 use Rattle.aj_deriv_rules.specs.Blocks.{IsAbsorbed, AreAbsorbed, keeps_paths}
 
 -- two values that are equal at every set

@@ -1,4 +1,4 @@
 -- The lemmas that several proofs share.
 pub mod NameLemmas
-pub mod RuleLemmas
 pub mod BlockLemmas
+pub mod PremiseLemmas

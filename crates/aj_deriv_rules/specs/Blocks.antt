@@ -3,7 +3,7 @@ use Rattle.std.specs.Prelude.{◌≡◌, ℕ, List, [], ◌∷◌, Bool, true, f
 use Rattle.aj_algebra.specs.Basics.{seq_of}
 use Rattle.aj_algebra.specs.HeldPaths.{Held}
 use Rattle.aj_core.specs.Core.{Stmt, LocalS}
-use Rattle.aj_deriv_rules.specs.Rules.{Value}
+use Rattle.aj_effects.specs.Rules.{Value}
 
 -- whether the paths that are held behind a statement are those before it, which is so unless it declares a final local
 abbrev pub keeps_paths : Stmt → Bool

@@ -3,7 +3,7 @@ use Rattle.std.specs.Prelude.{ℕ, List, [], ◌∷◌, Option, Some, None, slic
 use Rattle.aj_algebra.specs.declared.basic.Basic.TheVariants.{Const}
 use Rattle.aj_cond.specs.Conditions.{Cond, value_of}
 use Rattle.aj_book_grammar.specs.Derivations.{Nodes, no_nodes, and_node, number_of}
-use Rattle.aj_deriv_rules.specs.Rules.{Value}
+use Rattle.aj_effects.specs.Rules.{Value}
 
 -- the value of a tree; const where there is none
 abbrev pub tree_value : Option Cond → Value

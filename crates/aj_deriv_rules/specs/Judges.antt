@@ -10,7 +10,7 @@ use Rattle.aj_core.specs.Views.{program_of}
 use Rattle.aj_rules.specs.Near.{rel_of}
 use Rattle.aj_rules.specs.Effect.{Assignment}
 use Rattle.aj_deriv_rules.specs.declared.judge.Judge.{Judge}
-use Rattle.aj_deriv_rules.specs.Rules.{Value}
+use Rattle.aj_effects.specs.Rules.{Value}
 use Rattle.aj_deriv_rules.specs.Conclusions.{table_value}
 
 -- the program

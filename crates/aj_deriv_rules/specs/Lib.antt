@@ -1,8 +1,7 @@
--- What the contracts of the rules cite. To read the contracts: Parts, Bodies, Rules, Conclusions, Judges, Branches, Blocks.
+-- What the contracts of the rules cite. To read the contracts: Parts, Conclusions, Judges, Blocks, Charges; Works is about bounds.
 pub mod Parts
-pub mod Bodies
-pub mod Rules
 pub mod Conclusions
 pub mod Judges
-pub mod Branches
 pub mod Blocks
+pub mod Charges
+pub mod Works

@@ -1,17 +1,13 @@
--- The parts of a body, beside the nodes of a derivation.
-use Rattle.std.specs.Prelude.{◌≡◌, ℕ, ◌<◌, List, [], ◌∷◌, ◌++◌, length, Option, Some, None, slice_get}
-use Rattle.aj_core.specs.Core.{Expr, Exprs, IntE, TruthE, NullE, ThisE, VarE, NotE, NegE, BinaryE, AndE, OrE, GetE, CallE, NewE, no_exprs, and_expr}
-use Rattle.aj_core.specs.Core.{Stmt, Stmts, EmptyS, BlockS, LocalS, SetVarS, SetFieldS, DoS, IfS, WhileS, SyncS, ReturnS, PrintS, StartS, no_stmts, and_stmt}
+-- The nodes of a derivation at the parts of a body that they stand for.
+use Rattle.std.specs.Prelude.{◌≡◌, ℕ, ◌<◌, List, [], ◌∷◌, ◌++◌, length, Some, slice_get}
+use Rattle.aj_core.specs.Core.{IntE, TruthE, NullE, ThisE, VarE, NotE, NegE, BinaryE, AndE, OrE, GetE, CallE, NewE}
+use Rattle.aj_core.specs.Core.{EmptyS, BlockS, LocalS, SetVarS, SetFieldS, DoS, IfS, WhileS, SyncS, ReturnS, PrintS, StartS}
 use Rattle.aj_book_grammar.specs.declared.word.Word.{Word}
 use Rattle.aj_book_grammar.specs.declared.word.Word.TheVariants as w
 use Rattle.aj_book_grammar.specs.Derivations.{Node, node, Nodes, and_node, word_at, premises_of, count_nodes}
+pub use Rattle.aj_effects.specs.Parts.{Part, ExprP, StmtP, args_parts, block_parts, parts_of}
 
--- a part of a body that a node of a derivation stands for
-pub data Part : Type 0 where
-  ExprP : Expr → Part
-  StmtP : Stmt → Part
-
--- the word of its node
+-- the word of a part's node
 abbrev pub word_of : Part → Word
 word_of (ExprP (IntE n)) = w.Lit
 word_of (ExprP (TruthE b)) = w.Lit
@@ -38,49 +34,6 @@ word_of (StmtP (SyncS p s)) = w.Sync
 word_of (StmtP (ReturnS e)) = w.Return
 word_of (StmtP (PrintS e)) = w.Print
 word_of (StmtP (StartS e)) = w.Start
-
--- arguments as parts
-abbrev pub args_parts : Exprs → List Part
-args_parts no_exprs = []
-args_parts (and_expr e es) = ExprP e ∷ args_parts es
-
--- the statements of a block as parts
-abbrev pub block_parts : Stmts → List Part
-block_parts no_stmts = []
-block_parts (and_stmt s ss) = StmtP s ∷ block_parts ss
-
--- the value of a `return`, if any
-abbrev pub value_parts : Option Expr → List Part
-value_parts None = []
-value_parts (Some e) = ExprP e ∷ []
-
--- the parts of a part that its node's premises stand for, in order
-abbrev pub parts_of : Part → List Part
-parts_of (ExprP (IntE n)) = []
-parts_of (ExprP (TruthE b)) = []
-parts_of (ExprP NullE) = []
-parts_of (ExprP ThisE) = []
-parts_of (ExprP (VarE x is_final ty)) = []
-parts_of (ExprP (NotE e)) = ExprP e ∷ []
-parts_of (ExprP (NegE e)) = ExprP e ∷ []
-parts_of (ExprP (BinaryE op a b)) = ExprP a ∷ ExprP b ∷ []
-parts_of (ExprP (AndE a b)) = ExprP a ∷ ExprP b ∷ []
-parts_of (ExprP (OrE a b)) = ExprP a ∷ ExprP b ∷ []
-parts_of (ExprP (GetE e f)) = ExprP e ∷ []
-parts_of (ExprP (CallE e m args)) = ExprP e ∷ args_parts args
-parts_of (ExprP (NewE c args)) = args_parts args
-parts_of (StmtP EmptyS) = []
-parts_of (StmtP (BlockS ss)) = block_parts ss
-parts_of (StmtP (LocalS x is_final ty e)) = ExprP e ∷ []
-parts_of (StmtP (SetVarS x e)) = ExprP e ∷ []
-parts_of (StmtP (SetFieldS e f g)) = ExprP e ∷ ExprP g ∷ []
-parts_of (StmtP (DoS e drops)) = ExprP e ∷ []
-parts_of (StmtP (IfS c s t)) = ExprP c ∷ StmtP s ∷ StmtP t ∷ []
-parts_of (StmtP (WhileS c s)) = ExprP c ∷ StmtP s ∷ []
-parts_of (StmtP (SyncS p s)) = StmtP s ∷ []
-parts_of (StmtP (ReturnS e)) = value_parts e
-parts_of (StmtP (PrintS e)) = ExprP e ∷ []
-parts_of (StmtP (StartS e)) = ExprP e ∷ []
 
 -- a node at the part that it stands for
 pub record Place : Type 0 where

@@ -3,6 +3,7 @@
 #![tactic(auto)]
 
 mod accesses;
+mod charged;
 mod judge;
 mod lookups;
 mod names;
@@ -11,11 +12,11 @@ mod rules;
 mod values;
 mod work;
 
-pub use accesses::{Branching, access, access_value};
+pub use accesses::access;
 pub use judge::Judge;
 pub use lookups::{assigned, conclusion, line_number, required, tree_at};
 pub use names::{call_name, holds, where_held, within};
-pub use parts::{BodyPart, Parts, inner_parts, part_word, same_length};
-pub use rules::{call, keeps_paths, paths, rule, rule_within};
-pub use values::{below, leaf, same_copy};
+pub use parts::{part_word, same_length};
+pub use rules::{call, keeps_paths, paths, rule};
+pub use values::{below, leaf};
 pub use work::{MOST_DEPTH, Work};

@@ -3,7 +3,7 @@ ghost use Rattle.std.specs.Prelude.{◌≡◌, ◌==◌, ◌&&◌, ℕ, true, If
 ghost use Rattle.std.specs.List.{list_any};
 ghost use Rattle.std.specs.Option.{option_copied};
 ghost use Rattle.aj_algebra.specs.declared.basic.Basic.TheVariants.{Const};
-ghost use Rattle.aj_algebra.specs.Basics.{join_of, seq_of, star_of};
+ghost use Rattle.aj_algebra.specs.Basics.{seq_of};
 ghost use Rattle.aj_algebra.specs.HeldPaths.{Held};
 ghost use Rattle.aj_cond.specs.Conditions.{cond_of, value_of, IsCanonical};
 ghost use Rattle.aj_core.specs.Locks.{path_of};
@@ -12,23 +12,23 @@ ghost use Rattle.aj_rules.specs.Effect.{after_stmt, call_of, required_paths};
 ghost use Rattle.aj_rules.specs.Mentions.{paths_of};
 ghost use Rattle.aj_rules.specs.Near.{rel_of};
 ghost use Rattle.aj_deriv_rules.specs.Judges.{judge_assignment, judge_program, judge_rel, judge_table, judge_value, AreCanonical};
-ghost use Rattle.aj_deriv_rules.specs.Rules.{block_value, choice_value, expr_rule as expr_rule_of, in_sequence, lock_value, loop_value, rule_of, stmt_rule as stmt_rule_of, Value};
+ghost use Rattle.aj_effects.specs.Rules.{block_value, rule_of, stmt_rule as stmt_rule_of, AreAllKnown, Value};
+ghost use Rattle.aj_deriv_rules.specs.Charges.{known_value, IsKnownTree};
 ghost use Rattle.aj_deriv_rules.specs.Blocks.{keeps_paths as keeps_paths_of, AreAbsorbed, IsAbsorbed};
-ghost use Rattle.aj_deriv_rules.specs.Bodies.{part_of};
+ghost use Rattle.aj_effects.specs.Bodies.{part_of};
 
-use crate::accesses::access;
+use crate::charged::Charged;
 use crate::judge::Judge;
 use crate::lookups::{assigned, conclusion, required};
 use crate::names::{at_call, before, with_required};
-use crate::parts::BodyPart;
-use crate::values::{join, leaf, seq, star, sync};
+use crate::values::seq;
 use crate::work::Work;
 use aj_algebra::Basic;
 use aj_cond::Tree;
 use aj_core::{CoreExpr, CoreProgram, CoreStmt, path_of};
+use aj_effects::BodyPart;
 use aj_paths::{MethodId, Path};
 use std::alloc::{AllocError as NoMemory, Global};
-use std::cell::Cell;
 
 /// How many numbers are noted at most.
 const MOST_NOTED: usize = 16;
@@ -48,42 +48,6 @@ fn conclusion_then(
 {
     let first = conclusion(alloc, work, judge, number)?;
     seq(alloc, work, &first, later)
-}
-
-/// Premises one after another. Their number is that of a call's arguments at most, so the recursion isn't deep.
-fn sequence(
-    alloc: Global,
-    work: Work<'_>,
-    judge: &Judge<'_>,
-    numbers: &[u32],
-) -> Result<Tree, NoMemory>
-    requires { AreCanonical (judge_table judge.now) }
-    ensures known { IfOk result (λ r. IsCanonical (cond_of r)) }
-    ensures value { IfOk result (λ r. (H : Held) → value_of (cond_of r) H ≡ in_sequence (map (judge_value judge.now) numbers.now) H) }
-{
-    let Some((number, others)) = numbers.split_first() else {
-        return Ok(leaf(Basic::Const));
-    };
-    let rest = sequence(alloc, work, judge, others)?;
-    conclusion_then(alloc, work, judge, *number, &rest)
-}
-
-/// Premises one after another, and then a last value.
-fn sequence_then(
-    alloc: Global,
-    work: Work<'_>,
-    judge: &Judge<'_>,
-    numbers: &[u32],
-    last: &Tree,
-) -> Result<Tree, NoMemory>
-    requires canonical { AreCanonical (judge_table judge.now) }
-    requires last { IsCanonical (cond_of last.now) }
-    ensures known { IfOk result (λ r. IsCanonical (cond_of r)) }
-    ensures value { IfOk result (λ r. (H : Held) → value_of (cond_of r) H ≡
-        seq_of (in_sequence (map (judge_value judge.now) numbers.now) H) (value_of (cond_of last.now) H)) }
-{
-    let parts = sequence(alloc, work, judge, numbers)?;
-    seq(alloc, work, &parts, last)
 }
 
 /// The path of each argument, or none.
@@ -154,141 +118,6 @@ pub fn call(
         receiver.as_ref(),
         args.as_slice(),
     )
-}
-
-/// The value of an expression's node.
-fn expr_rule(
-    alloc: Global,
-    work: Work<'_>,
-    judge: &Judge<'_>,
-    e: &CoreExpr,
-    numbers: &[u32],
-) -> Result<Tree, NoMemory>
-    requires { AreCanonical (judge_table judge.now) }
-    ensures known { IfOk result (λ r. IsCanonical (cond_of r)) }
-    ensures value { IfOk result (λ r. (H : Held) → value_of (cond_of r) H ≡
-        expr_rule_of (judge_program judge.now) (judge_rel judge.now) (judge_assignment judge.now) (expr_of e.now) (map (judge_value judge.now) numbers.now) H) }
-{
-    match e {
-        CoreExpr::Int(_) | CoreExpr::Truth(_) | CoreExpr::Null | CoreExpr::This => {
-            Ok(leaf(Basic::Const))
-        }
-        CoreExpr::Var { is_final: true, .. } => Ok(leaf(Basic::Const)),
-        CoreExpr::Var { .. } => Ok(leaf(Basic::Mover)),
-        CoreExpr::Not(_)
-        | CoreExpr::Neg(_)
-        | CoreExpr::Binary(_, _, _)
-        | CoreExpr::And(_, _)
-        | CoreExpr::Or(_, _) => sequence(alloc, work, judge, numbers),
-        CoreExpr::Get(receiver, field) => {
-            let access = access(alloc, work, judge.program, receiver, *field, false)?;
-            sequence_then(alloc, work, judge, numbers, &access)
-        }
-        CoreExpr::Call(receiver, callee, args) => {
-            let call = call(alloc, work, judge, *callee, receiver, args.as_slice())?;
-            sequence_then(alloc, work, judge, numbers, &call)
-        }
-        CoreExpr::New(_, _) => sequence_then(alloc, work, judge, numbers, &leaf(Basic::Mover)),
-    }
-}
-
-/// Either of two branches.
-fn either(
-    alloc: Global,
-    work: Work<'_>,
-    judge: &Judge<'_>,
-    first: u32,
-    second: u32,
-) -> Result<Tree, NoMemory>
-    requires { AreCanonical (judge_table judge.now) }
-    ensures known { IfOk result (λ r. IsCanonical (cond_of r)) }
-    ensures value { IfOk result (λ r. (H : Held) → value_of (cond_of r) H ≡ join_of (judge_value judge.now first H) (judge_value judge.now second H)) }
-{
-    let first = conclusion(alloc, work, judge, first)?;
-    let second = conclusion(alloc, work, judge, second)?;
-    join(alloc, work, &first, &second)
-}
-
-/// The condition, then either branch.
-fn choice(
-    alloc: Global,
-    work: Work<'_>,
-    judge: &Judge<'_>,
-    numbers: &[u32],
-) -> Result<Tree, NoMemory>
-    requires { AreCanonical (judge_table judge.now) }
-    ensures known { IfOk result (λ r. IsCanonical (cond_of r)) }
-    ensures value { IfOk result (λ r. (H : Held) → value_of (cond_of r) H ≡ choice_value (map (judge_value judge.now) numbers.now) H) }
-{
-    let Some((condition, branches)) = numbers.split_first() else {
-        return Ok(leaf(Basic::Const));
-    };
-    let Some((first, others)) = branches.split_first() else {
-        return Ok(leaf(Basic::Const));
-    };
-    let Some((second, _)) = others.split_first() else {
-        return Ok(leaf(Basic::Const));
-    };
-    let either = either(alloc, work, judge, *first, *second)?;
-    conclusion_then(alloc, work, judge, *condition, &either)
-}
-
-/// A loop's body and then its condition, any number of times.
-fn turns(
-    alloc: Global,
-    work: Work<'_>,
-    judge: &Judge<'_>,
-    body: u32,
-    condition: &Tree,
-) -> Result<Tree, NoMemory>
-    requires canonical { AreCanonical (judge_table judge.now) }
-    requires condition { IsCanonical (cond_of condition.now) }
-    ensures known { IfOk result (λ r. IsCanonical (cond_of r)) }
-    ensures value { IfOk result (λ r. (H : Held) → value_of (cond_of r) H ≡ star_of (seq_of (judge_value judge.now body H) (value_of (cond_of condition.now) H))) }
-{
-    let turn = conclusion_then(alloc, work, judge, body, condition)?;
-    star(alloc, work, &turn)
-}
-
-/// The condition, then the body and the condition again, any number of times.
-fn repetition(
-    alloc: Global,
-    work: Work<'_>,
-    judge: &Judge<'_>,
-    numbers: &[u32],
-) -> Result<Tree, NoMemory>
-    requires { AreCanonical (judge_table judge.now) }
-    ensures known { IfOk result (λ r. IsCanonical (cond_of r)) }
-    ensures value { IfOk result (λ r. (H : Held) → value_of (cond_of r) H ≡ loop_value (map (judge_value judge.now) numbers.now) H) }
-{
-    let Some((condition, bodies)) = numbers.split_first() else {
-        return Ok(leaf(Basic::Const));
-    };
-    let Some((body, _)) = bodies.split_first() else {
-        return Ok(leaf(Basic::Const));
-    };
-    let condition = conclusion(alloc, work, judge, *condition)?;
-    let turns = turns(alloc, work, judge, *body, &condition)?;
-    seq(alloc, work, &condition, &turns)
-}
-
-/// A synchronized part.
-fn locked(
-    alloc: Global,
-    work: Work<'_>,
-    judge: &Judge<'_>,
-    path: &Path,
-    numbers: &[u32],
-) -> Result<Tree, NoMemory>
-    requires { AreCanonical (judge_table judge.now) }
-    ensures known { IfOk result (λ r. IsCanonical (cond_of r)) }
-    ensures value { IfOk result (λ r. (H : Held) → value_of (cond_of r) H ≡ lock_value path.now (map (judge_value judge.now) numbers.now) H) }
-{
-    let Some((body, _)) = numbers.split_first() else {
-        return Ok(leaf(Basic::Const));
-    };
-    let body = conclusion(alloc, work, judge, *body)?;
-    sync(alloc, work, path, &body)
 }
 
 /// The value of the rest of a block, and the numbers of trees that are known to change nothing before it.
@@ -404,7 +233,44 @@ fn block(
     Ok(rest.value)
 }
 
-/// The value of a statement's node.
+/// The trees that these numbers have.
+fn premises(
+    alloc: Global,
+    trees: &Charged<'_>,
+    judge: &Judge<'_>,
+    numbers: &[u32],
+) -> Result<Vec<Tree>, NoMemory>
+    requires { AreCanonical (judge_table judge.now) }
+    ensures known { IfOk result (λ found. AreAllKnown IsKnownTree trees.now found.items) }
+    ensures values { IfOk result (λ found. map (known_value trees.now) found.items ≡ map (judge_value judge.now) numbers.now) }
+{
+    let mut found = Vec::with_capacity(alloc, numbers.len())?;
+    for number in numbers {
+        let tree = conclusion(alloc, trees.work, judge, *number)?;
+        found.push(tree)?;
+    }
+    Ok(found)
+}
+
+/// The value that a part's rule gives, by the rule of any algebra.
+fn part_rule(
+    alloc: Global,
+    work: Work<'_>,
+    judge: &Judge<'_>,
+    part: BodyPart<'_>,
+    numbers: &[u32],
+) -> Result<Tree, NoMemory>
+    requires { AreCanonical (judge_table judge.now) }
+    ensures known { IfOk result (λ r. IsCanonical (cond_of r)) }
+    ensures value { IfOk result (λ r. (H : Held) → value_of (cond_of r) H ≡
+        rule_of (judge_program judge.now) (judge_rel judge.now) (judge_assignment judge.now) (part_of part.entry) (map (judge_value judge.now) numbers.now) H) }
+{
+    let mut trees = Charged { work };
+    let values = premises(alloc, &trees, judge, numbers)?;
+    aj_effects::rule(alloc, judge, &mut trees, part, values.as_slice())
+}
+
+/// The value of a statement's node. A block passes over statements that change nothing, so no tree is made for these.
 fn stmt_rule(
     alloc: Global,
     work: Work<'_>,
@@ -418,43 +284,13 @@ fn stmt_rule(
         stmt_rule_of (judge_program judge.now) (judge_rel judge.now) (judge_assignment judge.now) (stmt_of s.now) (map (judge_value judge.now) numbers.now) H) }
 {
     match s {
-        CoreStmt::Empty => Ok(leaf(Basic::Const)),
         CoreStmt::Block(body) => block(alloc, work, judge, body.as_slice(), numbers),
-        CoreStmt::Local { .. } | CoreStmt::SetVar(_, _) => {
-            sequence_then(alloc, work, judge, numbers, &leaf(Basic::Mover))
-        }
-        CoreStmt::SetField(receiver, field, _) => {
-            let access = access(alloc, work, judge.program, receiver, *field, true)?;
-            sequence_then(alloc, work, judge, numbers, &access)
-        }
-        CoreStmt::Do(_, _) | CoreStmt::Return(_) => sequence(alloc, work, judge, numbers),
-        CoreStmt::If(_, _, _) => choice(alloc, work, judge, numbers),
-        CoreStmt::While(_, _) => repetition(alloc, work, judge, numbers),
-        CoreStmt::Sync(path, _) => locked(alloc, work, judge, path, numbers),
-        CoreStmt::Print(_) | CoreStmt::Start(_) => {
-            sequence_then(alloc, work, judge, numbers, &leaf(Basic::Atomic))
-        }
+        _ => part_rule(alloc, work, judge, BodyPart::Stmt(s), numbers),
     }
 }
 
-/// The value that a part's rule gives, from the numbers of its premises' conclusions.
+/// The value that a part's rule gives, from the numbers of its premises' conclusions, within so much work.
 pub fn rule(
-    alloc: Global,
-    judge: &Judge<'_>,
-    part: BodyPart<'_>,
-    numbers: &[u32],
-) -> Result<Tree, NoMemory>
-    requires { AreCanonical (judge_table judge.now) }
-    ensures known { IfOk result (λ r. IsCanonical (cond_of r)) }
-    ensures value { IfOk result (λ r. (H : Held) → value_of (cond_of r) H ≡
-        rule_of (judge_program judge.now) (judge_rel judge.now) (judge_assignment judge.now) (part_of part.entry) (map (judge_value judge.now) numbers.now) H) }
-{
-    let left = Cell::new(u32::MAX);
-    rule_within(alloc, Work::ample(&left), judge, part, numbers)
-}
-
-/// The value that a part's rule gives, within so much work.
-pub fn rule_within(
     alloc: Global,
     work: Work<'_>,
     judge: &Judge<'_>,
@@ -467,7 +303,7 @@ pub fn rule_within(
         rule_of (judge_program judge.now) (judge_rel judge.now) (judge_assignment judge.now) (part_of part.entry) (map (judge_value judge.now) numbers.now) H) }
 {
     match part {
-        BodyPart::Expr(e) => expr_rule(alloc, work, judge, e, numbers),
+        BodyPart::Expr(_) => part_rule(alloc, work, judge, part, numbers),
         BodyPart::Stmt(s) => stmt_rule(alloc, work, judge, s, numbers),
     }
 }

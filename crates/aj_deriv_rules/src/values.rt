@@ -6,7 +6,7 @@ ghost use Rattle.std.specs.List.{list_all};
 ghost use Rattle.aj_paths.specs.Paths.{PathData};
 ghost use Rattle.aj_algebra.specs.declared.basic.Basic.TheVariants.{Error};
 ghost use Rattle.aj_algebra.specs.Basics.{seq_of, join_of, star_of};
-ghost use Rattle.aj_algebra.specs.HeldPaths.{Held, holds_at};
+ghost use Rattle.aj_algebra.specs.HeldPaths.{Held, holds_at, renamed as renamed_set};
 ghost use Rattle.aj_algebra.specs.Values.{sync_of};
 ghost use Rattle.aj_cond.specs.Conditions.{cond_of, value_of, IsCanonical};
 ghost use Rattle.aj_rules.specs.Rules.{AtMost};
@@ -14,7 +14,7 @@ ghost use Rattle.aj_rules.specs.Rules.{AtMost};
 use crate::work::{MOST_DEPTH, Work};
 use aj_algebra::{Algebra, Basic};
 use aj_cond::{Tree, Trees};
-use aj_paths::{Path, order};
+use aj_paths::{Path, Renaming, order};
 use std::alloc::{AllocError as NoMemory, Global};
 use std::cmp::Ordering;
 
@@ -52,9 +52,22 @@ fn visited(t: &Tree, u: &Tree, depth: u32, left: u32) -> Option<u32> {
     }
 }
 
-/// Want of memory, where an operation on the two trees would pass the bounds.
+/// Want of memory, where an operation on the two trees would pass the bounds. Then the visit that told so is taken from what is left,
+/// so that a book can't ask for many of these.
 fn check_small(work: Work<'_>, t: &Tree, u: &Tree) -> Result<(), NoMemory> {
     let most = work.most();
+    match visited(t, u, MOST_DEPTH, most) {
+        Some(left) => work.charge(most.saturating_sub(left)),
+        None => {
+            work.take(most)?;
+            Err(NoMemory)
+        }
+    }
+}
+
+/// Want of memory, where a look at the two trees, which takes no memory, would pass the work that is left. Nothing is tried behind it.
+fn check_left(work: Work<'_>, t: &Tree, u: &Tree) -> Result<(), NoMemory> {
+    let most = work.all();
     match visited(t, u, MOST_DEPTH, most) {
         Some(left) => work.charge(most.saturating_sub(left)),
         None => Err(NoMemory),
@@ -74,14 +87,6 @@ pub(crate) fn copied(alloc: Global, work: Work<'_>, t: &Tree) -> Result<Tree, No
     requires { IsCanonical (cond_of t.now) }
     ensures known { IfOk result (λ r. IsCanonical (cond_of r)) }
     ensures value { IfOk result (λ r. (H : Held) → value_of (cond_of r) H ≡ value_of (cond_of t.now) H) }
-{
-    check_small(work, t, t)?;
-    t.copy(alloc)
-}
-
-/// A copy, node by node.
-pub fn same_copy(alloc: Global, work: Work<'_>, t: &Tree) -> Result<Tree, NoMemory>
-    ensures { IfOk result (λ r. cond_of r ≡ cond_of t.now) }
 {
     check_small(work, t, t)?;
     t.copy(alloc)
@@ -135,6 +140,23 @@ pub(crate) fn sync(alloc: Global, work: Work<'_>, p: &Path, t: &Tree) -> Result<
     trees.sync(alloc, p, t)
 }
 
+/// Under the names that a map has for paths. Where two paths are told apart no more, this takes more than the visit of the tree, so
+/// the rules give names to trees in ways of their own.
+pub(crate) fn renamed(
+    alloc: Global,
+    work: Work<'_>,
+    map: &Renaming,
+    t: &Tree,
+) -> Result<Tree, NoMemory>
+    requires { IsCanonical (cond_of t.now) }
+    ensures known { IfOk result (λ r. IsCanonical (cond_of r)) }
+    ensures value { IfOk result (λ r. (H : Held) → value_of (cond_of r) H ≡ value_of (cond_of t.now) (renamed_set map.now H)) }
+{
+    check_small(work, t, t)?;
+    let mut trees = Trees;
+    trees.rename(alloc, map, t)
+}
+
 /// The first where there is a path and it is held, else the second.
 pub(crate) fn held_or(
     alloc: Global,
@@ -163,6 +185,6 @@ pub fn below(work: Work<'_>, t: &Tree, u: &Tree) -> Result<bool, NoMemory>
     requires second { IsCanonical (cond_of u.now) }
     ensures { IfOk result (λ b. (b ≡ true) ↔ ((H : Held) → AtMost (value_of (cond_of t.now) H) (value_of (cond_of u.now) H))) }
 {
-    check_small(work, t, u)?;
+    check_left(work, t, u)?;
     Ok(Trees.below(t, u))
 }

@@ -1,4 +1,8 @@
-//! How much work on trees the judgement of a book may make. Whoever wrote the book, the judgement comes to an end soon.
+//! How much work on trees the judgement of a book may make. Whoever wrote the book, the judgement comes to an end soon. No clause can
+//! say what a cell holds, so none says how much is left.
+ghost use Rattle.std.specs.Prelude.{◌≡◌, ◌≤◌, IsOk};
+ghost use Rattle.aj_deriv_rules.specs.Works.{free_pairs};
+
 use std::alloc::AllocError as NoMemory;
 use std::cell::Cell;
 
@@ -22,13 +26,18 @@ pub struct Work<'a> {
 }
 
 /// More than the pairs of subtrees that an operation visits on two trees over so many paths, or over those of a callee.
-fn pairs_over(paths: u32) -> u32 {
+fn pairs_over(paths: u32) -> u32
+    ensures { result ≡ free_pairs paths }
+{
     2u32 << paths.max(MOST_RELEVANT).min(MOST_NEAR)
 }
 
 impl<'a> Work<'a> {
     /// The work for a method with so many near paths.
-    pub fn new(near: u32, left: &'a Cell<u32>) -> Work<'a> {
+    pub fn new(near: u32, left: &'a Cell<u32>) -> Work<'a>
+        ensures free { result.free ≡ free_pairs near }
+        ensures left { result.left ≡ left.entry }
+    {
         Work {
             free: pairs_over(near),
             left,
@@ -36,13 +45,11 @@ impl<'a> Work<'a> {
     }
 
     /// This little work, none of which is free.
-    pub fn little(left: &'a Cell<u32>) -> Work<'a> {
+    pub fn little(left: &'a Cell<u32>) -> Work<'a>
+        ensures free { result.free ≡ 0 }
+        ensures left { result.left ≡ left.entry }
+    {
         Work { free: 0, left }
-    }
-
-    /// The work for any method.
-    pub(crate) fn ample(left: &'a Cell<u32>) -> Work<'a> {
-        Work::new(MOST_NEAR, left)
     }
 
     /// How many pairs one operation may visit.
@@ -50,16 +57,25 @@ impl<'a> Work<'a> {
         self.free.max(SMALL)
     }
 
+    /// How many pairs an operation that takes no memory may visit.
+    pub(crate) fn all(self) -> u32 {
+        self.free.max(self.left.get())
+    }
+
     /// Takes the pairs that an operation visits from what is left, where they are more than trees over near paths ask for.
-    pub(crate) fn charge(self, pairs: u32) -> Result<(), NoMemory> {
+    pub(crate) fn charge(self, pairs: u32) -> Result<(), NoMemory>
+        ensures { pairs ≤ self.entry.free → IsOk result }
+    {
         if pairs <= self.free {
             return Ok(());
         }
         self.take(pairs)
     }
 
-    /// Takes these pairs from what is left.
-    pub fn take(self, pairs: u32) -> Result<(), NoMemory> {
+    /// Takes these pairs from what is left. Want of memory where less is left, and then nothing is taken.
+    pub fn take(self, pairs: u32) -> Result<(), NoMemory>
+        ensures { pairs ≡ 0 → IsOk result }
+    {
         match self.left.get().checked_sub(pairs) {
             Some(left) => {
                 self.left.set(left);

@@ -10,13 +10,13 @@ use Rattle.aj_algebra.specs.Values.{sync_of}
 use Rattle.aj_cond.specs.Conditions.{Cond, LeafC, TestC, value_of}
 use Rattle.aj_rules.specs.Rules.{AtMost}
 use Rattle.aj_book_grammar.specs.Derivations.{Nodes}
-use Rattle.aj_deriv_rules.specs.declared.accesses.Branching.{Branching}
+use Rattle.aj_effects.specs.declared.accesses.Branching.{Branching}
 use Rattle.aj_deriv_rules.specs.Conclusions.{conclusions}
-use Rattle.aj_deriv_rules.specs.Branches.{branching_value}
+use Rattle.aj_effects.specs.Accesses.{branching_value}
 use Rattle.aj_deriv_steps.specs.Merges.{IsFirstValue}
 use Rattle.aj_deriv_steps.specs.Pairs.{held_branch, free_branch}
-use Rattle.aj_deriv_rules.specs.Rules.{Value, choice_value, in_sequence, lock_value, loop_value}
-use Rattle.aj_deriv_steps.proofs.Laws.{associative}
+use Rattle.aj_effects.specs.Rules.{Value, choice_value, in_sequence, lock_value, loop_value}
+use Rattle.aj_effects.proofs.Laws.{associative}
 
 -- two values made one, where the path is held or isn't
 

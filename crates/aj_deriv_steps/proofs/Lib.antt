@@ -1,5 +1,4 @@
 -- The lemmas that several proofs share.
-pub mod Laws
 mod PairLemmas
 mod BranchLemmas
 mod ChainLemmas

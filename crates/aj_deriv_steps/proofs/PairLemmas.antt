@@ -7,8 +7,8 @@ use Rattle.std.specs.declared.cmp.Ordering.TheVariants.{Less, Equal, Greater}
 use Rattle.aj_paths.specs.Paths.{PathData, path_order, path_eq}
 use Rattle.aj_paths.proofs.PathOrder.{equal_is, greater_turned, less_chain, eq_is, eq_itself}
 use Rattle.aj_algebra.specs.declared.basic.Basic.{Basic}
-use Rattle.aj_algebra.specs.declared.basic.Basic.TheVariants.{Const}
-use Rattle.aj_algebra.specs.Basics.{below_of, join_of, seq_of}
+use Rattle.aj_algebra.specs.declared.basic.Basic.TheVariants.{Const, Mover, Atomic, Cmpd, Error}
+use Rattle.aj_algebra.specs.Basics.{below_of, join_of, seq_of, star_of}
 use Rattle.aj_algebra.specs.HeldPaths.{Held}
 use Rattle.aj_cond.specs.Conditions.{Cond, LeafC, TestC, value_of, IsCanonical}
 use Rattle.aj_cond.specs.Operations.{by_order}
@@ -20,9 +20,9 @@ use Rattle.std.specs.List.{list_all}
 use Rattle.aj_core.specs.Core.{Program}
 use Rattle.aj_core.specs.declared.tree.CoreStmt.{CoreStmt}
 use Rattle.aj_core.specs.Views.{stmt_of, stmts_from}
-use Rattle.aj_deriv_rules.specs.Rules.{Value, in_sequence, block_value, choice_value}
+use Rattle.aj_effects.specs.Rules.{Value, in_sequence, block_value, choice_value, loop_value}
 use Rattle.aj_deriv_rules.specs.Conclusions.{tree_value, table_value}
-use Rattle.aj_deriv_steps.proofs.Laws.{unit_after}
+use Rattle.aj_effects.proofs.Laws.{unit_after}
 use Rattle.aj_deriv_rules.specs.Blocks.{keeps_paths}
 use Rattle.aj_deriv_rules.proofs.BlockLemmas.{Same, kept_set}
 use Rattle.aj_deriv_steps.specs.Pairs.{IsPairBelow, ArePairsBelow, IsSequenceBelow, root_of, lesser_of, held_branch, free_branch}
@@ -331,12 +331,6 @@ block_step (Ok b) vs block l d same const test =
     )
 block_step (Err e) vs block l d same const test = tt
 
-pub block_below : {E : Type 0} (P : Program) (V : ℕ → Value) (body : List CoreStmt) (numbers : List ℕ) (l d : Value) (kept : Bool) (r : Result Bool E) → length body ≡ length numbers →
-    kept ≡ list_all (λ s. keeps_paths (stmt_of s)) body → kept ≡ true → ((H : Held) → l H ≡ Const) → IfOk r (λ b. (b ≡ true) ↔ IsSequenceBelow (map V numbers) l d) →
-    IfOk r (λ b. (b ≡ true) ↔ ((H : Held) → AtMost (block_value P (stmts_from body) (map V numbers) H) (d H)))
-block_below P V body numbers l d kept r same is holds const test =
-    block_step r (map V numbers) (λ H. block_value P (stmts_from body) (map V numbers) H) l d (λ H. block_kept P V body numbers H same (sym is ∙ holds)) const test
-
 -- a rule that is a sequence before a last value
 pub sequence_step : {E : Type 0} (r : Result Bool E) (vs : List Value) (l last d rule : Value) → ((H : Held) → rule H ≡ seq_of (in_sequence vs H) (last H)) →
     ((H : Held) → l H ≡ last H) → IfOk r (λ b. (b ≡ true) ↔ IsSequenceBelow vs l d) → IfOk r (λ b. (b ≡ true) ↔ ((H : Held) → AtMost (rule H) (d H)))
@@ -374,3 +368,35 @@ choice_below V numbers branches others none c v w d a b both first second third 
       (λ e. let parts = and_parts a b (sym is ∙ e) in λ H. either_both (V c H) (V v H) (V w H) (d H) (in_first.0 parts.0 H) (in_second.0 parts.1 H)),
       (λ all. is ∙ and_from a b (in_first.1 (λ H. either_first (V c H) (V v H) (V w H) (d H) (all H))) (in_second.1 (λ H. either_second (V c H) (V v H) (V w H) (d H) (all H)))),
     )
+
+-- any number of turns are as much as two
+turn_twice : (a b : Basic) → seq_of a (star_of (seq_of b a)) ≡ seq_of (seq_of a (seq_of b (seq_of a (seq_of b (seq_of a Const))))) Const
+turn_twice Const Const = refl
+turn_twice Const Mover = refl
+turn_twice Const Atomic = refl
+turn_twice Const Cmpd = refl
+turn_twice Const Error = refl
+turn_twice Mover Const = refl
+turn_twice Mover Mover = refl
+turn_twice Mover Atomic = refl
+turn_twice Mover Cmpd = refl
+turn_twice Mover Error = refl
+turn_twice Atomic Const = refl
+turn_twice Atomic Mover = refl
+turn_twice Atomic Atomic = refl
+turn_twice Atomic Cmpd = refl
+turn_twice Atomic Error = refl
+turn_twice Cmpd Const = refl
+turn_twice Cmpd Mover = refl
+turn_twice Cmpd Atomic = refl
+turn_twice Cmpd Cmpd = refl
+turn_twice Cmpd Error = refl
+turn_twice Error b = refl
+
+pub turns_are : (V : ℕ → Value) (c b : ℕ) (turns : List ℕ) (H : Held) → turns ≡ c ∷ b ∷ c ∷ b ∷ c ∷ [] →
+    seq_of (V c H) (star_of (seq_of (V b H) (V c H))) ≡ seq_of (in_sequence (map V turns) H) Const
+turns_are V c b turns H is = turn_twice (V c H) (V b H) ∙ ap (λ ns. seq_of (in_sequence (map V ns) H) Const) (sym is)
+
+pub loop_as : (V : ℕ → Value) (numbers bodies others : List ℕ) (c b : ℕ) (H : Held) → numbers ≡ c ∷ bodies → bodies ≡ b ∷ others →
+    seq_of (V c H) (star_of (seq_of (V b H) (V c H))) ≡ loop_value (map V numbers) H
+loop_as V numbers bodies others c b H first second = sym (ap (λ ns. loop_value (map V ns) H) (first ∙ ap (λ ns. c ∷ ns) second))

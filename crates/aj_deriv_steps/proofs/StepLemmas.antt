@@ -2,7 +2,7 @@
 use Rattle.std.proofs.Common.{◌≡◌, ◌↔◌, Bool, true, Result, Ok, Err, IfOk, sym, subst}
 use Rattle.aj_algebra.specs.HeldPaths.{Held}
 use Rattle.aj_rules.specs.Rules.{AtMost}
-use Rattle.aj_deriv_rules.specs.Rules.{Value}
+use Rattle.aj_effects.specs.Rules.{Value}
 
 -- a comparison of two trees, in other words
 pub step_is : {E : Type 0} (r : Result Bool E) (a b c d : Value) → ((H : Held) → a H ≡ c H) → ((H : Held) → b H ≡ d H) →

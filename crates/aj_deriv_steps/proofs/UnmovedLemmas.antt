@@ -10,7 +10,7 @@ use Rattle.aj_core.specs.declared.tree.CoreStmt.{CoreStmt}
 use Rattle.aj_core.specs.Views.{stmt_of, stmts_from}
 use Rattle.aj_rules.specs.Effect.{after_local, after_stmt}
 use Rattle.aj_deriv_steps.specs.Pairs.{avoids}
-use Rattle.aj_deriv_rules.specs.Rules.{Value, block_value, in_sequence}
+use Rattle.aj_effects.specs.Rules.{Value, block_value, in_sequence}
 
 elsewhere : (b : Bool) (x : ℕ) (o : Option PathData) (p : PathData) (H : Held) → (p.root == x) ≡ b → not b ≡ true → after_local H x o p ≡ H p
 elsewhere true x o p H e n = absurd (cc)
@@ -33,24 +33,22 @@ pub avoid_none : (V : ℕ → Value) (numbers : List ℕ) (x : ℕ) (o : Option 
 avoid_none V [] x o H e = refl
 avoid_none V (n ∷ ns) x o H e = absurd (omega (arith, e))
 
-pub avoid_more : (V : ℕ → Value) (numbers others : List ℕ) (n : ℕ) (t : Cond) (x : ℕ) (here rest all : Bool) → numbers ≡ n ∷ others → ((H : Held) → value_of t H ≡ V n H) → here ≡ avoids x t →
-    (rest ≡ true → (o : Option PathData) (H : Held) → in_sequence (map V others) (after_local H x o) ≡ in_sequence (map V others) H) → all ≡ (here && rest) → all ≡ true →
-    (o : Option PathData) (H : Held) → in_sequence (map V numbers) (after_local H x o) ≡ in_sequence (map V numbers) H
-avoid_more V numbers others n t x here rest all is same test more both e o H =
-    let parts = and_parts here rest (sym both ∙ e) in
-    let first : V n (after_local H x o) ≡ V n H = sym (same (after_local H x o)) ∙ avoided x o H t (sym test ∙ parts.0) ∙ same H in
-    let later = more parts.1 o H in
+-- one value more
+pub avoid_more : (V : ℕ → Value) (numbers others : List ℕ) (n : ℕ) (t : Cond) (x : ℕ) (here : Bool) (o : Option PathData) (H : Held) → numbers ≡ n ∷ others → ((K : Held) → value_of t K ≡ V n K) →
+    here ≡ avoids x t → here ≡ true → in_sequence (map V others) (after_local H x o) ≡ in_sequence (map V others) H →
+    in_sequence (map V numbers) (after_local H x o) ≡ in_sequence (map V numbers) H
+avoid_more V numbers others n t x here o H is same test holds later =
+    let first : V n (after_local H x o) ≡ V n H = sym (same (after_local H x o)) ∙ avoided x o H t (sym test ∙ holds) ∙ same H in
     ap (λ ns. in_sequence (map V ns) (after_local H x o)) is ∙ (λ i. seq_of (first i) (later i)) ∙ ap (λ ns. in_sequence (map V ns) H) (sym is)
 
 -- statements that keep the later values are a sequence
-pub unmoved_more : (P : Program) (V : ℕ → Value) (body statements : List CoreStmt) (numbers later : List ℕ) (s : CoreStmt) (n : ℕ) (here rest all : Bool) → body ≡ s ∷ statements → numbers ≡ n ∷ later →
-    (here ≡ true → (H : Held) → in_sequence (map V later) (after_stmt P (stmt_of s) H) ≡ in_sequence (map V later) H) →
-    (rest ≡ true → (H : Held) → block_value P (stmts_from statements) (map V later) H ≡ in_sequence (map V later) H) → all ≡ (here && rest) → all ≡ true →
+pub unmoved_more : (P : Program) (V : ℕ → Value) (body statements : List CoreStmt) (numbers later : List ℕ) (s : CoreStmt) (n : ℕ) → body ≡ s ∷ statements → numbers ≡ n ∷ later →
+    ((H : Held) → in_sequence (map V later) (after_stmt P (stmt_of s) H) ≡ in_sequence (map V later) H) →
+    ((H : Held) → block_value P (stmts_from statements) (map V later) H ≡ in_sequence (map V later) H) →
     (H : Held) → block_value P (stmts_from body) (map V numbers) H ≡ in_sequence (map V numbers) H
-unmoved_more P V body statements numbers later s n here rest all are is kept more both e H =
-    let parts = and_parts here rest (sym both ∙ e) in
+unmoved_more P V body statements numbers later s n are is kept more H =
     (λ i. block_value P (stmts_from (are i)) (map V (is i)) H)
-    ∙ ap (λ z. seq_of (V n H) z) (more parts.1 (after_stmt P (stmt_of s) H) ∙ kept parts.0 H)
+    ∙ ap (λ z. seq_of (V n H) z) (more (after_stmt P (stmt_of s) H) ∙ kept H)
     ∙ ap (λ ns. in_sequence (map V ns) H) (sym is)
 
 pub unmoved_none : (P : Program) (V : ℕ → Value) (body : List CoreStmt) (numbers : List ℕ) → length body ≡ 0 → length body ≡ length numbers →

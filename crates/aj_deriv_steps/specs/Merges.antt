@@ -4,10 +4,10 @@ use Rattle.aj_algebra.specs.declared.basic.Basic.{Basic}
 use Rattle.aj_algebra.specs.Basics.{join_of, seq_of}
 use Rattle.aj_algebra.specs.HeldPaths.{Held}
 use Rattle.aj_book_grammar.specs.Derivations.{Nodes}
-use Rattle.aj_deriv_rules.specs.declared.accesses.Branching.{Branching}
-use Rattle.aj_deriv_rules.specs.Branches.{branching_value}
+use Rattle.aj_effects.specs.declared.accesses.Branching.{Branching}
+use Rattle.aj_effects.specs.Accesses.{branching_value}
 use Rattle.aj_deriv_rules.specs.Conclusions.{conclusions}
-use Rattle.aj_deriv_rules.specs.Rules.{Value}
+use Rattle.aj_effects.specs.Rules.{Value}
 use Rattle.aj_deriv_steps.specs.declared.branching.Way.{Way}
 use Rattle.aj_deriv_steps.specs.declared.branching.Way.TheVariants.{Seq, Join}
 

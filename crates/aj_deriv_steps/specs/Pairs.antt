@@ -6,7 +6,7 @@ use Rattle.aj_algebra.specs.HeldPaths.{Held}
 use Rattle.aj_cond.specs.Conditions.{Cond, LeafC, TestC}
 use Rattle.aj_cond.specs.Operations.{by_order}
 use Rattle.aj_rules.specs.Rules.{AtMost}
-use Rattle.aj_deriv_rules.specs.Rules.{Value, in_sequence}
+use Rattle.aj_effects.specs.Rules.{Value, in_sequence}
 
 -- two values one after the other are at most a third, at every set
 abbrev pub IsPairBelow : Value → Value → Value → Type 0

@@ -9,17 +9,18 @@ ghost use Rattle.aj_core.specs.Views.{expr_of, program_of, stmt_of};
 ghost use Rattle.aj_rules.specs.Effect.{Assignment};
 ghost use Rattle.aj_rules.specs.Rules.{AtMost};
 ghost use Rattle.aj_deriv_rules.specs.Conclusions.{conclusions, table_value};
-ghost use Rattle.aj_deriv_rules.specs.Branches.{branching_value};
+ghost use Rattle.aj_effects.specs.Accesses.{branching_value};
 ghost use Rattle.aj_deriv_steps.specs.Merges.{combined_of, IsFirstValue};
-ghost use Rattle.aj_deriv_rules.specs.Rules.{choice_value, expr_rule, in_sequence, lock_value, loop_value, rule_of, stmt_rule};
-ghost use Rattle.aj_deriv_rules.specs.Bodies.{part_of};
+ghost use Rattle.aj_effects.specs.Rules.{choice_value, expr_rule, in_sequence, lock_value, loop_value, rule_of, stmt_rule};
+ghost use Rattle.aj_effects.specs.Bodies.{part_of};
 
 use crate::pairs::{both, branches, leaf_of};
 use aj_algebra::Basic;
 use aj_book_grammar::Nodes;
 use aj_cond::Tree;
 use aj_core::{CoreExpr, CoreProgram, CoreStmt};
-use aj_deriv_rules::{BodyPart, Branching, access_value, tree_at};
+use aj_deriv_rules::tree_at;
+use aj_effects::{BodyPart, Branching, access_value};
 use aj_paths::Path;
 
 /// How two values make one.
@@ -300,7 +301,6 @@ fn value_below(value: &Branching, d: &Tree) -> Option<bool>
 }
 
 /// Whether a tree is at or above the value of a part's rule, where it can be told with no tree for that value.
-#[tactic(auto, using(crate::proofs::BranchLemmas::rule_below))]
 pub(crate) fn plain_step<F: Nodes>(
     program: &CoreProgram,
     table: &[Tree],

@@ -15,16 +15,15 @@ ghost use Rattle.aj_rules.specs.Mentions.{paths_of};
 ghost use Rattle.aj_rules.specs.Rules.{AtMost};
 ghost use Rattle.aj_deriv_steps.specs.Chains.{EndsAt, HoldsAll};
 ghost use Rattle.aj_deriv_rules.specs.Judges.{call_name as call_name_of, judge_assignment, judge_program, judge_rel, judge_value, named_set};
-ghost use Rattle.aj_deriv_rules.specs.Rules.{block_value, expr_rule as expr_rule_of, in_sequence, lock_value, rule_of, stmt_rule as stmt_rule_of};
-ghost use Rattle.aj_deriv_rules.specs.Bodies.{part_of};
+ghost use Rattle.aj_effects.specs.Rules.{block_value, expr_rule as expr_rule_of, in_sequence, lock_value, rule_of, stmt_rule as stmt_rule_of};
+ghost use Rattle.aj_effects.specs.Bodies.{part_of};
 
 use crate::pairs::all_keep_paths;
 use aj_algebra::Basic;
 use aj_cond::Tree;
 use aj_core::{CoreExpr, CoreProgram, CoreStmt, path_of};
-use aj_deriv_rules::{
-    BodyPart, Branching, Judge, access_value, call_name, line_number, paths, required, tree_at,
-};
+use aj_deriv_rules::{Judge, call_name, line_number, paths, required, tree_at};
+use aj_effects::{BodyPart, Branching, access_value};
 use aj_paths::{FieldId, MethodId, Path};
 use std::alloc::Global;
 

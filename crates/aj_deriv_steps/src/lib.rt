@@ -7,6 +7,7 @@ mod chain;
 mod pairs;
 mod sequences;
 mod steps;
+mod stuck;
 mod unmoved;
 
 pub use steps::is_step;

@@ -9,12 +9,12 @@ ghost use Rattle.aj_deriv_rules.specs.Judges.{judge_table, judge_value, AreCanon
 ghost use Rattle.aj_deriv_rules.specs.Blocks.{keeps_paths as keeps_paths_of};
 ghost use Rattle.aj_deriv_steps.specs.Pairs.{free_branch, held_branch, lesser_of, root_of, ArePairsBelow, IsPairBelow, IsSequenceBelow};
 
+use crate::stuck::{Stuck, visit};
 use aj_algebra::Basic;
 use aj_cond::Tree;
 use aj_core::CoreStmt;
 use aj_deriv_rules::{Judge, MOST_DEPTH, Work, keeps_paths, leaf, tree_at};
 use aj_paths::{Path, order};
-use std::alloc::AllocError as NoMemory;
 use std::cmp::Ordering;
 
 /// The path that a tree tests first.
@@ -92,21 +92,21 @@ pub(crate) fn pair_below(
     t: &Tree,
     u: &Tree,
     d: &Tree,
-) -> Result<bool, NoMemory>
+) -> Result<bool, Stuck>
     requires first { IsCanonical (cond_of t.now) }
     requires second { IsCanonical (cond_of u.now) }
     requires third { IsCanonical (cond_of d.now) }
     ensures { IfOk result (λ b. (b ≡ true) ↔ IsPairBelow (value_of (cond_of t.now)) (value_of (cond_of u.now)) (value_of (cond_of d.now))) }
 {
     if depth == 0 {
-        return Err(NoMemory);
+        return Err(Stuck::Undecided);
     }
-    work.take(1)?;
+    visit(work)?;
     if let Some(is) = at_leaves(t, u, d) {
         return Ok(is);
     }
     let Some(path) = least(t, u, d) else {
-        return Err(NoMemory);
+        return Err(Stuck::Undecided);
     };
     let first = branches(path, t);
     let second = branches(path, u);
@@ -117,15 +117,15 @@ pub(crate) fn pair_below(
     pair_below(work, depth - 1, first.1, second.1, third.1)
 }
 
-/// Whether a tree before each of the trees with these numbers is at most another. Want of memory where a number has no tree, which
-/// no book has.
+/// Whether a tree before each of the trees with these numbers is at most another. Undecided where a number has no tree, which no
+/// book has.
 fn pairs_below(
     work: Work<'_>,
     judge: &Judge<'_>,
     first: &Tree,
     numbers: &[u32],
     d: &Tree,
-) -> Result<bool, NoMemory>
+) -> Result<bool, Stuck>
     requires canonical { AreCanonical (judge_table judge.now) }
     requires first { IsCanonical (cond_of first.now) }
     requires third { IsCanonical (cond_of d.now) }
@@ -134,7 +134,7 @@ fn pairs_below(
     let mut rest = numbers;
     'numbers: while let Some((number, others)) = rest.split_first() {
         let Some(next) = tree_at(judge.table, *number) else {
-            return Err(NoMemory);
+            return Err(Stuck::Undecided);
         };
         if !pair_below(work, MOST_DEPTH, first, next, d)? {
             return Ok(false);
@@ -151,7 +151,7 @@ pub(crate) fn sequence_below(
     numbers: &[u32],
     last: &Tree,
     d: &Tree,
-) -> Result<bool, NoMemory>
+) -> Result<bool, Stuck>
     requires canonical { AreCanonical (judge_table judge.now) }
     requires last { IsCanonical (cond_of last.now) }
     requires third { IsCanonical (cond_of d.now) }
@@ -160,7 +160,7 @@ pub(crate) fn sequence_below(
     let mut rest = numbers;
     'numbers: while let Some((number, others)) = rest.split_first() {
         let Some(first) = tree_at(judge.table, *number) else {
-            return Err(NoMemory);
+            return Err(Stuck::Undecided);
         };
         if !pairs_below(work, judge, first, others, d)? {
             return Ok(false);

@@ -2,20 +2,20 @@
 ghost use Rattle.std.specs.Prelude.{◌≡◌, ◌↔◌, ℕ, List, map, true, IfOk};
 ghost use Rattle.aj_algebra.specs.HeldPaths.{Held};
 ghost use Rattle.aj_cond.specs.Conditions.{cond_of, value_of, IsCanonical};
-ghost use Rattle.aj_core.specs.Views.{stmt_of, stmts_from};
 ghost use Rattle.aj_rules.specs.Rules.{AtMost};
-ghost use Rattle.aj_deriv_rules.specs.Bodies.{part_of};
+ghost use Rattle.aj_effects.specs.Bodies.{part_of};
 ghost use Rattle.aj_deriv_rules.specs.Conclusions.{conclusions};
 ghost use Rattle.aj_deriv_rules.specs.Judges.{judge_assignment, judge_program, judge_rel, judge_table, judge_value, AreCanonical};
-ghost use Rattle.aj_deriv_rules.specs.Rules.{block_value, rule_of, stmt_rule as stmt_rule_of, Value};
+ghost use Rattle.aj_effects.specs.Rules.{rule_of, Value};
 
 use crate::branching::plain_step;
 use crate::chain::is_step_at_end;
-use crate::sequences::{block_below, expr_below, stmt_below};
+use crate::sequences::{expr_below, stmt_below};
+use crate::stuck::Stuck;
 use aj_book_grammar::Nodes;
 use aj_cond::Tree;
-use aj_core::CoreStmt;
-use aj_deriv_rules::{BodyPart, Judge, Work, below, rule_within, tree_at};
+use aj_deriv_rules::{Judge, Work, below, rule, tree_at};
+use aj_effects::BodyPart;
 use std::alloc::{AllocError as NoMemory, Global};
 use std::cell::Cell;
 
@@ -36,48 +36,8 @@ fn numbers<F: Nodes>(alloc: Global, nodes: F) -> Result<Vec<u32>, NoMemory>
     Ok(numbers)
 }
 
-/// Whether a tree is at or above the value that a statement's rule gives, with no tree for that value. Only for blocks; want of
-/// memory elsewhere.
-fn stmt_by_pairs(
-    work: Work<'_>,
-    judge: &Judge<'_>,
-    s: &CoreStmt,
-    numbers: &[u32],
-    d: &Tree,
-) -> Result<bool, NoMemory>
-    requires canonical { AreCanonical (judge_table judge.now) }
-    requires known { IsCanonical (cond_of d.now) }
-    ensures { IfOk result (λ b. (b ≡ true) ↔ ((H : Held) →
-        AtMost (stmt_rule_of (judge_program judge.now) (judge_rel judge.now) (judge_assignment judge.now) (stmt_of s.now) (map (judge_value judge.now) numbers.now) H) (value_of (cond_of d.now) H))) }
-{
-    match s {
-        CoreStmt::Block(body) => block_below(work, judge, body.as_slice(), numbers, d),
-        _ => Err(NoMemory),
-    }
-}
-
-/// Whether a tree is at or above the value that a part's rule gives, with no tree for that value, where it can be told so.
-fn is_step_by_pairs(
-    work: Work<'_>,
-    judge: &Judge<'_>,
-    part: BodyPart<'_>,
-    numbers: &[u32],
-    d: &Tree,
-) -> Result<bool, NoMemory>
-    requires canonical { AreCanonical (judge_table judge.now) }
-    requires known { IsCanonical (cond_of d.now) }
-    ensures { IfOk result (λ b. (b ≡ true) ↔ ((H : Held) →
-        AtMost (rule_of (judge_program judge.now) (judge_rel judge.now) (judge_assignment judge.now) (part_of part.entry) (map (judge_value judge.now) numbers.now) H) (value_of (cond_of d.now) H))) }
-{
-    match part {
-        BodyPart::Stmt(s) => stmt_by_pairs(work, judge, s, numbers, d),
-        BodyPart::Expr(_) => Err(NoMemory),
-    }
-}
-
-/// Whether a tree is at or above the value that a part's rule gives. Where that value would be too large a tree, a block is judged
-/// by pairs of its statements.
-#[tactic(auto, using(crate::proofs::StepLemmas::step_is))]
+/// Whether a tree is at or above the value that a part's rule gives, which is made. Undecided where it isn't made: it would be too
+/// large a tree, or memory is refused, which pairs don't ask for.
 fn is_step_by_value(
     alloc: Global,
     work: Work<'_>,
@@ -85,40 +45,62 @@ fn is_step_by_value(
     part: BodyPart<'_>,
     numbers: &[u32],
     d: &Tree,
-) -> Result<bool, NoMemory>
+) -> Result<bool, Stuck>
     requires canonical { AreCanonical (judge_table judge.now) }
     requires known { IsCanonical (cond_of d.now) }
     ensures { IfOk result (λ b. (b ≡ true) ↔ ((H : Held) →
         AtMost (rule_of (judge_program judge.now) (judge_rel judge.now) (judge_assignment judge.now) (part_of part.entry) (map (judge_value judge.now) numbers.now) H) (value_of (cond_of d.now) H))) }
 {
-    match rule_within(alloc, work, judge, part, numbers) {
-        Ok(value) => below(work, &value, d),
-        Err(_) => is_step_by_pairs(work, judge, part, numbers, d),
-    }
+    let Ok(value) = rule(alloc, work, judge, part, numbers) else {
+        return Err(Stuck::Undecided);
+    };
+    Ok(below(work, &value, d)?)
 }
 
-/// Whether a tree is at or above the value that a part's rule gives, where that takes little work and no tree for the value.
-fn is_step_at_once(
+/// Whether a tree is at or above the value that a part's rule gives, with no tree for that value: within the work for pairs.
+fn is_step_by_pairs(
     alloc: Global,
     work: Work<'_>,
-    little: Work<'_>,
+    pairs: Work<'_>,
     judge: &Judge<'_>,
     part: BodyPart<'_>,
     numbers: &[u32],
     d: &Tree,
-) -> Result<bool, NoMemory>
+) -> Result<bool, Stuck>
     requires canonical { AreCanonical (judge_table judge.now) }
     requires known { IsCanonical (cond_of d.now) }
     ensures { IfOk result (λ b. (b ≡ true) ↔ ((H : Held) →
         AtMost (rule_of (judge_program judge.now) (judge_rel judge.now) (judge_assignment judge.now) (part_of part.entry) (map (judge_value judge.now) numbers.now) H) (value_of (cond_of d.now) H))) }
 {
     match part {
-        BodyPart::Expr(e) => expr_below(alloc, work, little, judge, e, numbers, d),
-        BodyPart::Stmt(s) => stmt_below(alloc, work, little, judge, s, numbers, d),
+        BodyPart::Expr(e) => expr_below(alloc, work, pairs, judge, e, numbers, d),
+        BodyPart::Stmt(s) => stmt_below(alloc, work, pairs, judge, s, numbers, d),
     }
 }
 
-/// Whether a tree is at or above the value that a part's rule gives.
+/// Whether a tree is at or above the value that a part's rule gives, where that takes more than a little work: by the value, and by
+/// pairs where the value would be too large a tree.
+fn is_step_by_work(
+    alloc: Global,
+    work: Work<'_>,
+    judge: &Judge<'_>,
+    part: BodyPart<'_>,
+    numbers: &[u32],
+    d: &Tree,
+) -> Result<bool, Stuck>
+    requires canonical { AreCanonical (judge_table judge.now) }
+    requires known { IsCanonical (cond_of d.now) }
+    ensures { IfOk result (λ b. (b ≡ true) ↔ ((H : Held) →
+        AtMost (rule_of (judge_program judge.now) (judge_rel judge.now) (judge_assignment judge.now) (part_of part.entry) (map (judge_value judge.now) numbers.now) H) (value_of (cond_of d.now) H))) }
+{
+    match is_step_by_value(alloc, work, judge, part, numbers, d) {
+        Ok(is) => Ok(is),
+        Err(Stuck::NoMemory) => Err(Stuck::NoMemory),
+        Err(Stuck::Undecided) => is_step_by_pairs(alloc, work, work, judge, part, numbers, d),
+    }
+}
+
+/// Whether a tree is at or above the value that a part's rule gives. Want of memory is also the answer where the work ends.
 fn is_above_rule(
     alloc: Global,
     work: Work<'_>,
@@ -136,9 +118,15 @@ fn is_above_rule(
         return Ok(true);
     }
     let left = Cell::new(LITTLE);
-    match is_step_at_once(alloc, work, Work::little(&left), judge, part, numbers, d) {
+    let little = Work::little(&left);
+    match is_step_by_pairs(alloc, work, little, judge, part, numbers, d) {
+        Ok(is) => return Ok(is),
+        Err(Stuck::NoMemory) => return Err(NoMemory),
+        Err(Stuck::Undecided) => {}
+    }
+    match is_step_by_work(alloc, work, judge, part, numbers, d) {
         Ok(is) => Ok(is),
-        Err(_) => is_step_by_value(alloc, work, judge, part, numbers, d),
+        Err(_) => Err(NoMemory),
     }
 }
 

@@ -1,5 +1,5 @@
 //! Blocks whose statements are judged as a sequence: behind each of them the later values are what they are before it.
-ghost use Rattle.std.specs.Prelude.{◌≡◌, ◌≤◌, ◌==◌, ◌&&◌, not, length, map, true, Option, IfOk};
+ghost use Rattle.std.specs.Prelude.{◌≡◌, ◌==◌, ◌&&◌, not, length, map, true, Option, IfOk};
 ghost use Rattle.aj_algebra.specs.HeldPaths.{Held};
 ghost use Rattle.aj_cond.specs.Conditions.{cond_of};
 ghost use Rattle.aj_core.specs.Views.{stmt_of, stmts_from};
@@ -7,14 +7,13 @@ ghost use Rattle.aj_paths.specs.Paths.{PathData};
 ghost use Rattle.aj_rules.specs.Effect.{after_local, after_stmt};
 ghost use Rattle.aj_deriv_rules.specs.Judges.{judge_program, judge_value};
 ghost use Rattle.aj_deriv_steps.specs.Pairs.{avoids as avoids_of};
-ghost use Rattle.aj_deriv_rules.specs.Rules.{block_value, in_sequence};
+ghost use Rattle.aj_effects.specs.Rules.{block_value, in_sequence};
 
-use crate::pairs::both;
+use crate::stuck::{Stuck, visit};
 use aj_cond::Tree;
 use aj_core::CoreStmt;
 use aj_deriv_rules::{Judge, Work, keeps_paths, tree_at};
 use aj_paths::Path;
-use std::alloc::AllocError as NoMemory;
 
 /// Whether a path begins at this slot.
 fn is_rooted(path: &Path, slot: u16) -> bool
@@ -31,10 +30,10 @@ fn not_but_both(first: bool, second: bool, third: bool) -> bool
 }
 
 /// Whether a tree tests no path of this slot.
-fn avoids(work: Work<'_>, slot: u16, t: &Tree) -> Result<bool, NoMemory>
+fn avoids(work: Work<'_>, slot: u16, t: &Tree) -> Result<bool, Stuck>
     ensures { IfOk result (λ b. b ≡ avoids_of slot (cond_of t.now)) }
 {
-    work.take(1)?;
+    visit(work)?;
     match t {
         Tree::Leaf(_) => Ok(true),
         Tree::Test(path, a, b) => {
@@ -45,36 +44,31 @@ fn avoids(work: Work<'_>, slot: u16, t: &Tree) -> Result<bool, NoMemory>
     }
 }
 
-/// Whether none of the trees with these few numbers tests a path of this slot. Want of memory where a number has no tree, which no
-/// book has.
-#[tactic(auto, using(crate::proofs::UnmovedLemmas::avoid_none))]
-fn all_avoid(
-    work: Work<'_>,
-    judge: &Judge<'_>,
-    slot: u16,
-    numbers: &[u32],
-) -> Result<bool, NoMemory>
+/// Whether none of the trees with these numbers tests a path of this slot. Undecided where a number has no tree, which no book has.
+fn all_avoid(work: Work<'_>, judge: &Judge<'_>, slot: u16, numbers: &[u32]) -> Result<bool, Stuck>
     ensures { IfOk result (λ b. b ≡ true → (o : Option PathData) (H : Held) →
         in_sequence (map (judge_value judge.now) numbers.now) (after_local H slot o) ≡ in_sequence (map (judge_value judge.now) numbers.now) H) }
 {
-    let Some((number, others)) = numbers.split_first() else {
-        return Ok(true);
-    };
-    let Some(tree) = tree_at(judge.table, *number) else {
-        return Err(NoMemory);
-    };
-    let here = avoids(work, slot, tree)?;
-    let rest = all_avoid(work, judge, slot, others)?;
-    Ok(both(here, rest))
+    let mut rest = numbers;
+    'numbers: while let Some((number, others)) = rest.split_first() {
+        let Some(tree) = tree_at(judge.table, *number) else {
+            return Err(Stuck::Undecided);
+        };
+        if !avoids(work, slot, tree)? {
+            return Ok(false);
+        }
+        rest = others;
+    }
+    Ok(true)
 }
 
-/// Whether the values with these few numbers, one after another, are the same behind a statement as before it.
+/// Whether the values with these numbers, one after another, are the same behind a statement as before it.
 fn keeps_values(
     work: Work<'_>,
     judge: &Judge<'_>,
     s: &CoreStmt,
     numbers: &[u32],
-) -> Result<bool, NoMemory>
+) -> Result<bool, Stuck>
     ensures { IfOk result (λ b. b ≡ true → (H : Held) →
         in_sequence (map (judge_value judge.now) numbers.now) (after_stmt (judge_program judge.now) (stmt_of s.now) H) ≡ in_sequence (map (judge_value judge.now) numbers.now) H) }
 {
@@ -87,25 +81,28 @@ fn keeps_values(
     all_avoid(work, judge, *slot, numbers)
 }
 
-/// Whether each of a few statements keeps the values of the later ones, so that they are a sequence.
-#[tactic(auto, using(crate::proofs::UnmovedLemmas::unmoved_none))]
+/// Whether each of the statements keeps the values of the later ones, so that they are a sequence.
 pub(crate) fn is_sequence(
     work: Work<'_>,
     judge: &Judge<'_>,
     body: &[CoreStmt],
     numbers: &[u32],
-) -> Result<bool, NoMemory>
+) -> Result<bool, Stuck>
     requires { length body.now ≡ length numbers.now }
     ensures { IfOk result (λ b. b ≡ true → (H : Held) →
         block_value (judge_program judge.now) (stmts_from body.now) (map (judge_value judge.now) numbers.now) H ≡ in_sequence (map (judge_value judge.now) numbers.now) H) }
 {
-    let Some((s, statements)) = body.split_first() else {
-        return Ok(true);
-    };
-    let Some((_, later)) = numbers.split_first() else {
-        return Ok(true);
-    };
-    let here = keeps_values(work, judge, s, later)?;
-    let rest = is_sequence(work, judge, statements, later)?;
-    Ok(both(here, rest))
+    let mut statements = body;
+    let mut rest = numbers;
+    'statements: while let Some((s, others)) = statements.split_first() {
+        let Some((_, later)) = rest.split_first() else {
+            return Err(Stuck::Undecided);
+        };
+        if !keeps_values(work, judge, s, later)? {
+            return Ok(false);
+        }
+        statements = others;
+        rest = later;
+    }
+    Ok(true)
 }

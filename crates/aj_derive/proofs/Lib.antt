@@ -1,7 +1,6 @@
 -- The lemmas that several proofs share.
 mod Tables
 mod CalledLemmas
-mod OneRule
 mod Rows
 mod PoolLemmas
 mod ConcludeLemmas

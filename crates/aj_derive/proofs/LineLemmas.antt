@@ -7,7 +7,7 @@ use Rattle.aj_cond.specs.declared.tree.Tree.{Tree}
 use Rattle.aj_cond.specs.Conditions.{Cond, cond_of}
 use Rattle.aj_book_grammar.specs.Derivations.{Node}
 use Rattle.aj_book_grammar.specs.Books.{Line}
-use Rattle.aj_deriv_rules.specs.Parts.{StmtP}
+use Rattle.aj_effects.specs.Parts.{StmtP}
 use Rattle.aj_derive.specs.Derived.{node_numbers, lines_numbers, AreInOrder}
 use Rattle.aj_derive.specs.Bases.{trees_assign}
 use Rattle.aj_derive.specs.Concluded.{BeginsWith, Concludes}

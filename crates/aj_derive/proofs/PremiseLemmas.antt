@@ -7,7 +7,7 @@ use Rattle.aj_deriv.specs.declared.derivation.Derivation.{Derivation}
 use Rattle.aj_book_grammar.specs.Derivations.{number_of}
 use Rattle.aj_deriv.specs.Memory.{node_of, nodes_at}
 use Rattle.aj_deriv_rules.specs.Conclusions.{conclusions}
-use Rattle.aj_deriv_rules.specs.Rules.{Value}
+use Rattle.aj_effects.specs.Rules.{Value}
 use Rattle.aj_derive.proofs.Rows.{pushed_more}
 
 next_conclusion : (V : ℕ → Value) (ds : List Derivation) (i : ℕ) (d : Derivation) → i < length ds → d ≡ get_or ds i d →

@@ -7,7 +7,8 @@ use Rattle.aj_cond.specs.Conditions.{Cond}
 use Rattle.aj_rules.specs.Effect.{Assignment}
 use Rattle.aj_rules.specs.Near.{rel_of}
 use Rattle.aj_book_grammar.specs.Derivations.{Node, node, Nodes, no_nodes, and_node}
-use Rattle.aj_deriv_rules.specs.Parts.{Part, parts_of, Fits}
+use Rattle.aj_effects.specs.Parts.{Part, parts_of}
+use Rattle.aj_deriv_rules.specs.Parts.{Fits}
 use Rattle.aj_deriv_rules.specs.Conclusions.{table_value}
 use Rattle.aj_deriv_check.specs.Good.{IsExact}
 use Rattle.aj_derive.specs.declared.basis.Basis.{Basis}

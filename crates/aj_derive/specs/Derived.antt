@@ -8,7 +8,8 @@ use Rattle.aj_rules.specs.Effect.{Assignment}
 use Rattle.aj_rules.specs.Rules.{IsFalling, IsClosed, HoldsBound}
 use Rattle.aj_book_grammar.specs.Derivations.{Node, node, Nodes, no_nodes, and_node}
 use Rattle.aj_book_grammar.specs.Books.{Line, Book}
-use Rattle.aj_deriv_rules.specs.Parts.{StmtP, places, Each}
+use Rattle.aj_effects.specs.Parts.{StmtP}
+use Rattle.aj_deriv_rules.specs.Parts.{places, Each}
 use Rattle.aj_deriv_rules.specs.Conclusions.{table_value}
 use Rattle.aj_deriv_check.specs.Good.{book_assignment, IsExact, IsShaped}
 

@@ -4,7 +4,7 @@ use Rattle.aj_paths.specs.Paths.{PathData}
 use Rattle.aj_core.specs.Core.{Program, Method}
 use Rattle.aj_cond.specs.Conditions.{Cond}
 use Rattle.aj_book_grammar.specs.Books.{Line}
-use Rattle.aj_deriv_rules.specs.Parts.{StmtP}
+use Rattle.aj_effects.specs.Parts.{StmtP}
 use Rattle.aj_derive.specs.Derived.{node_numbers, lines_numbers, AreInOrder}
 use Rattle.aj_derive.specs.Bases.{trees_assign}
 use Rattle.aj_derive.specs.Concluded.{BeginsWith, Concludes}

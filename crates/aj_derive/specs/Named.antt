@@ -1,4 +1,4 @@
--- Names of paths, what a table of nodes keeps, and parts.
+-- Names of paths, and what a table of nodes keeps.
 use Rattle.std.specs.Prelude.{length, Option, Some}
 use Rattle.std.specs.Option.{option_copied}
 use Rattle.aj_paths.specs.Paths.{PathData}
@@ -6,8 +6,6 @@ use Rattle.aj_algebra.specs.Values.{Keeps}
 use Rattle.aj_nodes.specs.Nodes.{Items}
 use Rattle.aj_nodes.specs.Shown.{IsThere, node_value}
 use Rattle.aj_deriv_rules.specs.Judges.{local_name, call_name}
-use Rattle.aj_deriv_rules.specs.Parts.{Part, ExprP, StmtP}
-use Rattle.aj_effects.specs.Parts as rules
 use Rattle.aj_derive.specs.declared.names.Names.{Names}
 use Rattle.aj_derive.specs.declared.names.Names.TheVariants.{Same, Before, At}
 
@@ -20,8 +18,3 @@ name_under (At rel receiver args) q = call_name rel.now (option_copied receiver)
 -- nodes that were there stay, with their values
 abbrev pub Keeping : Items → Items → Type 0
 Keeping old new = Keeps (λ s. IsThere (length s)) node_value old new
-
--- a part of a body, as the rules of atomicity have it
-abbrev pub same_part : Part → rules.Part
-same_part (ExprP e) = rules.ExprP e
-same_part (StmtP s) = rules.StmtP s

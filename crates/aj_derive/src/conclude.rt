@@ -4,21 +4,19 @@ ghost use Rattle.aj_algebra.specs.HeldPaths.{Held};
 ghost use Rattle.aj_core.specs.Views.{program_of};
 ghost use Rattle.aj_deriv.specs.Memory.{node_of, nodes_at};
 ghost use Rattle.aj_deriv_rules.specs.Conclusions.{conclusions, table_value};
-ghost use Rattle.aj_deriv_rules.specs.Rules.{rule_of};
-ghost use Rattle.aj_deriv_rules.specs.Bodies.{list_of, part_of};
-ghost use Rattle.aj_effects.specs.Bodies.{part_of as rule_part_of};
+ghost use Rattle.aj_effects.specs.Rules.{rule_of};
+ghost use Rattle.aj_effects.specs.Bodies.{list_of, part_of};
 ghost use Rattle.aj_rules.specs.Near.{rel_of};
 ghost use Rattle.aj_nodes.specs.Nodes.{Grows, IsTable};
 ghost use Rattle.aj_nodes.specs.Shown.{IsThere, AreThere, node_value, trees_at};
 ghost use Rattle.aj_derive.specs.Bases.{own_trees, trees_assign};
 ghost use Rattle.aj_derive.specs.Concluded.{BeginsWith, ConcludesOn, ConcludeAllOn};
-ghost use Rattle.aj_derive.specs.Named.{same_part};
 
 use crate::basis::Basis;
 use aj_algebra::Basic;
 use aj_deriv::Derivation;
-use aj_deriv_rules::{BodyPart, Parts, inner_parts, part_word};
-use aj_effects::{BodyPart as RulePart, rule};
+use aj_deriv_rules::part_word;
+use aj_effects::{BodyPart, Parts, inner_parts, rule};
 use aj_nodes::{Node, NodeTable};
 use std::alloc::{AllocError as NoMemory, Global};
 
@@ -62,16 +60,6 @@ fn next_number(nodes: &[Node]) -> Result<u32, NoMemory>
     Ok(nodes.len() as u32)
 }
 
-/// A part, as the rules of atomicity have it.
-fn rule_part(part: BodyPart<'_>) -> RulePart<'_>
-    ensures { rule_part_of result ≡ same_part (part_of part.entry) }
-{
-    match part {
-        BodyPart::Expr(e) => RulePart::Expr(e),
-        BodyPart::Stmt(s) => RulePart::Stmt(s),
-    }
-}
-
 /// The node of a part, from what its premises conclude.
 fn value(
     alloc: Global,
@@ -89,13 +77,13 @@ fn value(
 {
     let premises = premises_of(alloc, table, nodes, premises)?;
     let _before = table.count();
-    let node = rule(alloc, basis, table, rule_part(part), premises.as_slice())?;
+    let node = rule(alloc, basis, table, part, premises.as_slice())?;
     let _after = table.count();
     Ok(node)
 }
 
 /// The derivation of a part. What its nodes conclude goes behind the nodes.
-#[tactic(auto, using(crate::proofs::PartSizes::parts_smaller))]
+#[tactic(auto, using(aj_effects::proofs::Sizes::parts_smaller))]
 #[cycle(concluding)]
 pub(crate) fn concluded(
     alloc: Global,

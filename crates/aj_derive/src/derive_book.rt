@@ -22,7 +22,7 @@ use crate::pool::Pool;
 use aj_cond::Tree;
 use aj_core::{CoreMethod, CoreProgram};
 use aj_deriv::{DerivBook, Derivation};
-use aj_deriv_rules::BodyPart;
+use aj_effects::BodyPart;
 use aj_infer::Inferred;
 use aj_nodes::{Node, NodeTable};
 use aj_paths::MethodId;

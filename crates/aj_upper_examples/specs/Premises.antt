@@ -11,7 +11,7 @@ use Rattle.aj_cond.specs.Conditions.{Cond, LeafC, TestC}
 use Rattle.aj_book_grammar.specs.declared.word.Word.TheVariants as w
 use Rattle.aj_book_grammar.specs.Derivations.{Node, node, no_nodes, and_node}
 use Rattle.aj_deriv_rules.specs.Parts.{Part, ExprP, StmtP, Place}
-use Rattle.aj_deriv_rules.specs.Rules.{Value}
+use Rattle.aj_effects.specs.Rules.{Value}
 use Rattle.aj_examples.specs.Small.{one, two}
 
 -- a basic at every set

@@ -10,7 +10,7 @@ ghost use Rattle.aj_core.specs.Examples.{this_path, put_seven};
 ghost use Rattle.aj_book_grammar.specs.declared.word.Word.TheVariants as w;
 ghost use Rattle.aj_book_grammar.specs.Derivations.{node, no_nodes, and_node};
 ghost use Rattle.aj_deriv_rules.specs.Parts.{ExprP, StmtP, word_of, parts_of, places, places_of};
-ghost use Rattle.aj_deriv_rules.specs.Rules.{in_sequence, choice_value, loop_value, lock_value, block_value, expr_rule, stmt_rule, rule_of};
+ghost use Rattle.aj_effects.specs.Rules.{in_sequence, choice_value, loop_value, lock_value, block_value, expr_rule, stmt_rule, rule_of};
 ghost use Rattle.aj_deriv_rules.specs.Conclusions.{tree_value, table_value, conclusions};
 ghost use Rattle.aj_deriv_rules.specs.Judges.{number_value, named_set, local_name, own_name, call_name};
 ghost use Rattle.aj_deriv_check.specs.Good.{line_value, book_assignment, tests_only, cond_at, rule_at};

@@ -278,7 +278,7 @@ fn derive_writes_the_book_of_the_least_assignment(rt: HostRuntime) -> Result<(),
 }
 
 /// What is derived for the source is verified.
-fn expect_derived(rt: &impl Abort, alloc: Global, source: &str) -> Result<(), Fail> {
+pub fn expect_derived(rt: &impl Abort, alloc: Global, source: &str) -> Result<(), Fail> {
     let derived = written(rt, alloc, "derive", source.as_bytes())?;
     expect(
         rt,

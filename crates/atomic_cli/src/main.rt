@@ -14,6 +14,8 @@ mod family_tests;
 #[cfg(test)]
 mod generate_tests;
 #[cfg(test)]
+mod hard_book_tests;
+#[cfg(test)]
 mod large_tests;
 #[cfg(test)]
 mod level_tests;

@@ -1,5 +1,5 @@
 -- One method more, and all of them.
-use Rattle.std.proofs.Common.{ℕ, refl}
+use Rattle.std.proofs.Common.{refl}
 use Rattle.aj_deriv_check.specs.Good.{IsUnderIn}
 use Rattle.aj_deriv_rules.specs.Judges.{judge_assignment, judge_value}
 use Rattle.aj_deriv_check.proofs.LineLemmas.{each_more, each_all}

@@ -7,9 +7,10 @@ use Rattle.aj_cond.specs.Conditions.{value_of}
 use Rattle.aj_core.specs.Views.{method_of}
 use Rattle.aj_book_grammar.specs.Derivations.{node}
 use Rattle.aj_rules.specs.Rules.{declared_bound}
-use Rattle.aj_deriv_check.specs.Good.{IsStep, IsStepped, IsTabled, IsUnder, cond_at}
+use Rattle.aj_deriv_check.specs.Good.{IsStep, IsTabled, IsUnder, cond_at}
 use Rattle.aj_deriv_rules.specs.Judges.{judge_assignment, judge_program, judge_rel, judge_table, judge_value}
-use Rattle.aj_deriv_rules.specs.Parts.{StmtP, places}
+use Rattle.aj_effects.specs.Parts.{StmtP}
+use Rattle.aj_deriv_rules.specs.Parts.{places}
 use Rattle.aj_deriv_check.specs.Walks.{IsEnd}
 use Rattle.aj_deriv_check.proofs.Admissible.{cond_is}
 use Rattle.aj_deriv_check.proofs.LineLemmas.{overs_below}
@@ -20,7 +21,7 @@ pub returns-then-not-branch-2 : goal.returns-then-not-branch-2
 returns-then-not-branch-2 g c = λ id.
     let j = c.args.judge.now in
     let tabled = subst (λ z. IsTabled z (cond_at (slice_get (judge_table j) c.args.own))) c.rel.ensures
-    (subst (λ t. IsTabled c.rel.result.now t) c.in_ok-tree.ensures.tree (c.in_ok-is_tabled.ensures.0 c.if-not-branch.false)) in (
+    (subst (λ t. IsTabled c.rel.result.now t) c.tree_or-tree.ensures.tree (c.in_ok-is_tabled.ensures.0 c.if-not-branch.false)) in (
       c.m.view_is,
       tabled,
       inl (
@@ -36,7 +37,7 @@ returns-in-Bad g c = λ id.
     let d = node c.args.word c.args.number (g.F.Nodes.nodes c.args.premises) in
     let body = StmtP (method_of c.args.method.now).body in
     let tabled = subst (λ z. IsTabled z (cond_at (slice_get (judge_table j) c.args.own))) c.rel.ensures
-    (subst (λ t. IsTabled c.rel.result.now t) c.in_ok-tree.ensures.tree (c.in_ok-is_tabled.ensures.0 c.if-not-branch.false)) in
+    (subst (λ t. IsTabled c.rel.result.now t) c.tree_or-tree.ensures.tree (c.in_ok-is_tabled.ensures.0 c.if-not-branch.false)) in
     let under = subst (λ ps. IsUnder ps (judge_value j c.args.number) (judge_value j c.args.own)) c.as_slice-required.ensures.value (c.in_ok-is_under.ensures.0 c.if-not-branch-2.false) in (
       c.m.view_is,
       tabled,
@@ -57,7 +58,7 @@ returns-then-not-branch-3 g c = λ id.
     let d = node c.args.word c.args.number (g.F.Nodes.nodes c.args.premises) in
     let xs = places (StmtP method.body) d in
     let tabled = subst (λ z. IsTabled z (cond_at (slice_get (judge_table j) c.args.own))) c.rel.ensures
-    (subst (λ t. IsTabled c.rel.result.now t) c.in_ok-tree.ensures.tree (c.in_ok-is_tabled.ensures.0 c.if-not-branch.false)) in
+    (subst (λ t. IsTabled c.rel.result.now t) c.tree_or-tree.ensures.tree (c.in_ok-is_tabled.ensures.0 c.if-not-branch.false)) in
     let under = subst (λ ps. IsUnder ps (V c.args.number) (V c.args.own)) c.as_slice-required.ensures.value (c.in_ok-is_under.ensures.0 c.if-not-branch-2.false) in
     let steps = (subst (λ e. IsEnd (IsStep P (judge_rel j) V A) xs 0 e) c.in-Good.is c.in_ok-walk_node.ensures).0 in
     let overs = overs_below P c.args.over.now c.requires.overriders c.args.m c.of.result.now (judge_rel j c.args.m) c.rel-2.result.now method.requires_ c.as_slice-required.result.now A (V c.args.own)
@@ -78,7 +79,7 @@ returns-then-not-is_bounded g c = λ id.
     let d = node c.args.word c.args.number (g.F.Nodes.nodes c.args.premises) in
     let xs = places (StmtP method.body) d in
     let tabled = subst (λ z. IsTabled z (cond_at (slice_get (judge_table j) c.args.own))) c.rel.ensures
-    (subst (λ t. IsTabled c.rel.result.now t) c.in_ok-tree.ensures.tree (c.in_ok-is_tabled.ensures.0 c.if-not-branch.false)) in
+    (subst (λ t. IsTabled c.rel.result.now t) c.tree_or-tree.ensures.tree (c.in_ok-is_tabled.ensures.0 c.if-not-branch.false)) in
     let under = subst (λ ps. IsUnder ps (V c.args.number) (V c.args.own)) c.as_slice-required.ensures.value (c.in_ok-is_under.ensures.0 c.if-not-branch-2.false) in
     let steps = (subst (λ e. IsEnd (IsStep P (judge_rel j) V A) xs 0 e) c.in-Good.is c.in_ok-walk_node.ensures).0 in
     let overs = overs_below P c.args.over.now c.requires.overriders c.args.m c.of.result.now (judge_rel j c.args.m) c.rel-2.result.now method.requires_ c.as_slice-required.result.now A (V c.args.own)
@@ -86,7 +87,7 @@ returns-then-not-is_bounded g c = λ id.
     let tree = slice_get (judge_table j) c.args.own in
     let limit = declared_bound method.annotated in
     let held = has_path method.requires_ in
-    let same = ap (λ t. below_of (value_of t held) limit) c.in_ok-tree.ensures.tree ∙ ap (λ b. below_of b limit) (sym (cond_is tree held)) in (
+    let same = ap (λ t. below_of (value_of t held) limit) c.tree_or-tree.ensures.tree ∙ ap (λ b. below_of b limit) (sym (cond_is tree held)) in (
       c.m-2.view_is,
       tabled,
       record { under = under; steps = steps },
@@ -104,7 +105,7 @@ returns g c = λ id.
     let d = node c.args.word c.args.number (g.F.Nodes.nodes c.args.premises) in
     let xs = places (StmtP method.body) d in
     let tabled = subst (λ z. IsTabled z (cond_at (slice_get (judge_table j) c.args.own))) c.rel.ensures
-    (subst (λ t. IsTabled c.rel.result.now t) c.in_ok-tree.ensures.tree (c.in_ok-is_tabled.ensures.0 c.if-not-branch.false)) in
+    (subst (λ t. IsTabled c.rel.result.now t) c.tree_or-tree.ensures.tree (c.in_ok-is_tabled.ensures.0 c.if-not-branch.false)) in
     let under = subst (λ ps. IsUnder ps (V c.args.number) (V c.args.own)) c.as_slice-required.ensures.value (c.in_ok-is_under.ensures.0 c.if-not-branch-2.false) in
     let steps = (subst (λ e. IsEnd (IsStep P (judge_rel j) V A) xs 0 e) c.in-Good.is c.in_ok-walk_node.ensures).0 in
     let overs = overs_below P c.args.over.now c.requires.overriders c.args.m c.of.result.now (judge_rel j c.args.m) c.rel-2.result.now method.requires_ c.as_slice-required.result.now A (V c.args.own)
@@ -112,7 +113,7 @@ returns g c = λ id.
     let tree = slice_get (judge_table j) c.args.own in
     let limit = declared_bound method.annotated in
     let held = has_path method.requires_ in
-    let same = ap (λ t. below_of (value_of t held) limit) c.in_ok-tree.ensures.tree ∙ ap (λ b. below_of b limit) (sym (cond_is tree held)) in
+    let same = ap (λ t. below_of (value_of t held) limit) c.tree_or-tree.ensures.tree ∙ ap (λ b. below_of b limit) (sym (cond_is tree held)) in
     record {
       tabled = tabled;
       stepped = record { under = under; steps = steps };

@@ -3,7 +3,8 @@ use Rattle.std.proofs.Common.{subst}
 use Rattle.aj_core.specs.Views.{method_of}
 use Rattle.aj_book_grammar.specs.Books.{Line}
 use Rattle.aj_book_grammar.specs.Derivations.{node}
-use Rattle.aj_deriv_rules.specs.Parts.{StmtP, places, Fits}
+use Rattle.aj_effects.specs.Parts.{StmtP}
+use Rattle.aj_deriv_rules.specs.Parts.{places, Fits}
 use Rattle.aj_deriv_check.specs.Walks.{IsEnd}
 use Rattle.aj_deriv_check.proofs.VerdictLemmas.{shape_bad}
 use Rattle.aj_deriv_check.proofs.passes.next_shape.Goals as goal

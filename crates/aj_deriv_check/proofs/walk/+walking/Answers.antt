@@ -3,7 +3,7 @@ use Rattle.std.proofs.Common.{ap, subst, arith}
 use Rattle.aj_book_grammar.specs.Derivations.{node}
 use Rattle.aj_deriv_check.specs.declared.walk.End.TheVariants.{Good, Bad}
 use Rattle.aj_deriv_rules.specs.Parts.{places}
-use Rattle.aj_deriv_rules.specs.Bodies.{list_of, part_of}
+use Rattle.aj_effects.specs.Bodies.{list_of, part_of}
 use Rattle.aj_deriv_check.specs.Walks.{IsEnd}
 use Rattle.aj_deriv_check.proofs.WalkLemmas.{ok_as, size_nodes, node_good, premise_good, premise_bad, nodes_end, parts_end}
 use Rattle.aj_deriv_check.proofs.walk.+walking.Goals as goal

@@ -1,7 +1,7 @@
 use Rattle.std.proofs.Common.{◌+◌, ◌*◌, ◌≤◌}
 use Rattle.aj_deriv_check.specs.declared.walk.End.{End}
 use Rattle.aj_deriv_rules.specs.Parts.{places_of}
-use Rattle.aj_deriv_rules.specs.Bodies.{list_of}
+use Rattle.aj_effects.specs.Bodies.{list_of}
 use Rattle.aj_deriv_check.specs.Walks.{IsEnd}
 use Rattle.aj_deriv_check.proofs.WalkLemmas.{size_nodes}
 use Rattle.aj_deriv_check.proofs.walk.+walking.Given as goal

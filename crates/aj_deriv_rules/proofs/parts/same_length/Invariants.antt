@@ -1,6 +1,6 @@
 use Rattle.std.proofs.Common.{◌≡◌, ◌==◌, length}
 use Rattle.aj_book_grammar.specs.Derivations.{count_nodes}
-use Rattle.aj_deriv_rules.specs.Bodies.{list_of}
+use Rattle.aj_effects.specs.Bodies.{list_of}
 use Rattle.aj_deriv_rules.proofs.parts.same_length.Given as goal
 
 abbrev pub invariant-loop-first : goal.invariant-loop-first

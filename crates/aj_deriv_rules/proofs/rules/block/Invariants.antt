@@ -3,7 +3,8 @@ use Rattle.aj_algebra.specs.HeldPaths.{Held}
 use Rattle.aj_cond.specs.Conditions.{cond_of, value_of, IsCanonical}
 use Rattle.aj_deriv_rules.specs.Judges.{judge_program, judge_value}
 use Rattle.aj_deriv_rules.specs.Blocks.{AreAbsorbed}
-use Rattle.aj_deriv_rules.proofs.RuleLemmas.{block_from}
+use Rattle.aj_rules.specs.Effect.{after_stmt}
+use Rattle.aj_effects.proofs.Blocks.{block_from}
 use Rattle.aj_deriv_rules.proofs.rules.block.Given as goal
 
 abbrev pub invariant-loop-place : goal.invariant-loop-place
@@ -12,7 +13,7 @@ invariant-loop-place l = record {
   counted : l.place ≤ length l.numbers;
   known : IsCanonical (cond_of l.rest.value);
   absorbed : AreAbsorbed (judge_value l.judge) (value_of (cond_of l.rest.value)) l.rest.absorbed.items;
-  value : (H : Held) → value_of (cond_of l.rest.value) H ≡ block_from (judge_program l.judge) (judge_value l.judge) l.body l.numbers l.place H;
+  value : (H : Held) → value_of (cond_of l.rest.value) H ≡ block_from (after_stmt (judge_program l.judge)) (judge_value l.judge) l.body l.numbers l.place H;
 }
 
 abbrev pub decreases-loop-place : goal.decreases-loop-place

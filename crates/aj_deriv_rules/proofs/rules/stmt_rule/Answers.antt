@@ -4,7 +4,7 @@ use Rattle.aj_core.specs.Core.{BlockS}
 use Rattle.aj_core.specs.Views.{stmt_of, stmts_from}
 use Rattle.aj_core.proofs.ViewLemmas.{stmt_of-Block}
 use Rattle.aj_deriv_rules.specs.Judges.{judge_assignment, judge_program, judge_rel, judge_value}
-use Rattle.aj_deriv_rules.specs.Rules.{stmt_rule}
+use Rattle.aj_effects.specs.Rules.{stmt_rule}
 use Rattle.aj_deriv_rules.proofs.NameLemmas.{value_as}
 use Rattle.aj_deriv_rules.proofs.rules.stmt_rule.Goals as goal
 

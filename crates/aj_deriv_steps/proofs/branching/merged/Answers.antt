@@ -1,7 +1,7 @@
 -- Two values made one, where the path is held and where it isn't.
 use Rattle.std.proofs.Common.{sym, ◌∙◌}
 use Rattle.aj_paths.proofs.PathOrder.{eq_is}
-use Rattle.aj_deriv_rules.specs.Branches.{branching_value}
+use Rattle.aj_effects.specs.Accesses.{branching_value}
 use Rattle.aj_deriv_steps.specs.Merges.{combined_of}
 use Rattle.aj_deriv_steps.proofs.BranchLemmas.{always_where, where_always, where_both}
 use Rattle.aj_deriv_steps.proofs.branching.merged.Goals as goal

@@ -3,10 +3,10 @@ use Rattle.std.proofs.Common.{◌≡◌, IfSome, map, subst, sym}
 use Rattle.aj_algebra.specs.HeldPaths.{Held}
 use Rattle.aj_cond.specs.Conditions.{cond_of}
 use Rattle.aj_core.specs.Views.{program_of}
-use Rattle.aj_deriv_rules.specs.Branches.{branching_value}
+use Rattle.aj_effects.specs.Accesses.{branching_value}
 use Rattle.aj_deriv_rules.specs.Conclusions.{conclusions, table_value}
-use Rattle.aj_deriv_rules.specs.Rules.{rule_of}
-use Rattle.aj_deriv_rules.specs.Bodies.{part_of}
+use Rattle.aj_effects.specs.Rules.{rule_of}
+use Rattle.aj_effects.specs.Bodies.{part_of}
 use Rattle.aj_deriv_steps.proofs.branching.part_value.Goals as goal
 
 pub returns-in-Expr : goal.returns-in-Expr

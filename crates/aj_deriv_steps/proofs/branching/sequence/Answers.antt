@@ -1,7 +1,7 @@
 -- One value more.
 use Rattle.std.proofs.Common.{ap, map}
 use Rattle.aj_cond.specs.Conditions.{cond_of}
-use Rattle.aj_deriv_rules.specs.Branches.{branching_value}
+use Rattle.aj_effects.specs.Accesses.{branching_value}
 use Rattle.aj_deriv_rules.specs.Conclusions.{conclusions, table_value}
 use Rattle.aj_deriv_steps.proofs.BranchLemmas.{sequence_more}
 use Rattle.aj_deriv_steps.proofs.branching.sequence.Goals as goal

@@ -3,9 +3,9 @@ use Rattle.aj_algebra.specs.Basics.{seq_of}
 use Rattle.aj_algebra.specs.HeldPaths.{Held}
 use Rattle.aj_cond.specs.Conditions.{cond_of}
 use Rattle.aj_book_grammar.specs.Derivations.{count_nodes}
-use Rattle.aj_deriv_rules.specs.Branches.{branching_value}
+use Rattle.aj_effects.specs.Accesses.{branching_value}
 use Rattle.aj_deriv_rules.specs.Conclusions.{conclusions, table_value}
-use Rattle.aj_deriv_rules.specs.Rules.{in_sequence}
+use Rattle.aj_effects.specs.Rules.{in_sequence}
 use Rattle.aj_deriv_steps.proofs.branching.sequence.Given as goal
 
 -- the values so far, and then what is left, are all

@@ -2,8 +2,8 @@
 use Rattle.std.proofs.Common.{sym, ◌∙◌, map}
 use Rattle.aj_cond.specs.Conditions.{cond_of}
 use Rattle.aj_deriv_rules.specs.Judges.{judge_assignment, judge_program, judge_rel, judge_value}
-use Rattle.aj_deriv_rules.specs.Rules.{rule_of}
-use Rattle.aj_deriv_rules.specs.Bodies.{part_of}
+use Rattle.aj_effects.specs.Rules.{rule_of}
+use Rattle.aj_effects.specs.Bodies.{part_of}
 use Rattle.aj_deriv_steps.proofs.ChainLemmas.{below_at}
 use Rattle.aj_deriv_steps.proofs.chain.is_step_at_end.Goals as goal
 

@@ -3,7 +3,7 @@ use Rattle.std.proofs.Common.{sym, ap, ◌∙◌, map}
 use Rattle.aj_algebra.specs.Values.{sync_of}
 use Rattle.aj_cond.specs.Conditions.{cond_of}
 use Rattle.aj_deriv_rules.specs.Judges.{judge_table, judge_value}
-use Rattle.aj_deriv_rules.specs.Rules.{lock_value}
+use Rattle.aj_effects.specs.Rules.{lock_value}
 use Rattle.aj_deriv_steps.proofs.ChainLemmas.{sync_held}
 use Rattle.aj_deriv_steps.proofs.PairLemmas.{tabled_same}
 use Rattle.aj_deriv_steps.proofs.chain.locked_at.Goals as goal

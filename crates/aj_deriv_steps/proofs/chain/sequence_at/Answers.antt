@@ -1,7 +1,7 @@
 -- One value more.
 use Rattle.std.proofs.Common.{map}
 use Rattle.aj_deriv_rules.specs.Judges.{judge_value}
-use Rattle.aj_deriv_rules.specs.Rules.{in_sequence}
+use Rattle.aj_effects.specs.Rules.{in_sequence}
 use Rattle.aj_deriv_steps.proofs.ChainLemmas.{more_at}
 use Rattle.aj_deriv_steps.proofs.chain.sequence_at.Goals as goal
 

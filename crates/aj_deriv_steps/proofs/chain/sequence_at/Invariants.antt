@@ -4,7 +4,7 @@ use Rattle.aj_algebra.specs.HeldPaths.{Held}
 use Rattle.aj_cond.specs.Conditions.{cond_of}
 use Rattle.aj_deriv_steps.specs.Chains.{HoldsAll}
 use Rattle.aj_deriv_rules.specs.Judges.{judge_value}
-use Rattle.aj_deriv_rules.specs.Rules.{in_sequence}
+use Rattle.aj_effects.specs.Rules.{in_sequence}
 use Rattle.aj_deriv_steps.proofs.chain.sequence_at.Given as goal
 
 -- the values so far, and then what is left, are all

@@ -4,7 +4,7 @@ use Rattle.std.proofs.lemmas.Option.{IfSome_then}
 use Rattle.aj_core.specs.Views.{stmt_of, stmts_from}
 use Rattle.aj_core.proofs.ViewLemmas.{stmt_of-Block}
 use Rattle.aj_deriv_rules.specs.Judges.{judge_assignment, judge_program, judge_rel, judge_value}
-use Rattle.aj_deriv_rules.specs.Rules.{block_value, stmt_rule}
+use Rattle.aj_effects.specs.Rules.{block_value, stmt_rule}
 use Rattle.aj_deriv_steps.proofs.chain.stmt_at.Goals as goal
 
 pub returns-in-Block : goal.returns-in-Block

@@ -7,7 +7,7 @@ use Rattle.aj_core.proofs.ViewLemmas.{expr_of-Call}
 use Rattle.aj_rules.specs.Effect.{call_of}
 use Rattle.aj_rules.specs.Mentions.{paths_of}
 use Rattle.aj_deriv_rules.specs.Judges.{judge_assignment, judge_program, judge_rel, judge_value}
-use Rattle.aj_deriv_rules.specs.Rules.{expr_rule}
+use Rattle.aj_effects.specs.Rules.{expr_rule}
 use Rattle.aj_deriv_steps.proofs.PairLemmas.{sequence_step}
 use Rattle.aj_deriv_steps.proofs.sequences.expr_below.Goals as goal
 

@@ -3,7 +3,7 @@ use Rattle.std.proofs.Common.{map}
 use Rattle.aj_cond.specs.Conditions.{cond_of, value_of}
 use Rattle.aj_core.specs.Views.{stmt_of}
 use Rattle.aj_deriv_rules.specs.Judges.{judge_assignment, judge_program, judge_rel, judge_value}
-use Rattle.aj_deriv_rules.specs.Rules.{stmt_rule}
+use Rattle.aj_effects.specs.Rules.{stmt_rule}
 use Rattle.aj_deriv_steps.proofs.PairLemmas.{sequence_step}
 use Rattle.aj_deriv_steps.proofs.sequences.plain_stmt_below.Goals as goal
 

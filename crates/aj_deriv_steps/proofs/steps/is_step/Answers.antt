@@ -4,8 +4,8 @@ use Rattle.aj_cond.specs.Conditions.{cond_of, value_of}
 use Rattle.aj_rules.specs.Rules.{AtMost}
 use Rattle.aj_deriv_rules.specs.Conclusions.{conclusions}
 use Rattle.aj_deriv_rules.specs.Judges.{judge_assignment, judge_program, judge_rel, judge_table, judge_value}
-use Rattle.aj_deriv_rules.specs.Rules.{rule_of}
-use Rattle.aj_deriv_rules.specs.Bodies.{part_of}
+use Rattle.aj_effects.specs.Rules.{rule_of}
+use Rattle.aj_effects.specs.Bodies.{part_of}
 use Rattle.aj_deriv_steps.proofs.StepLemmas.{step_is}
 use Rattle.aj_deriv_steps.proofs.PairLemmas.{tabled_same}
 use Rattle.aj_deriv_steps.proofs.steps.is_step.Goals as goal

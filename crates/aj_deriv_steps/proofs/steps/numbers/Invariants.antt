@@ -1,7 +1,7 @@
 use Rattle.std.proofs.Common.{◌≡◌, ◌++◌, ℕ, map}
 use Rattle.aj_book_grammar.specs.Derivations.{count_nodes}
 use Rattle.aj_deriv_rules.specs.Conclusions.{conclusions}
-use Rattle.aj_deriv_rules.specs.Rules.{Value}
+use Rattle.aj_effects.specs.Rules.{Value}
 use Rattle.aj_deriv_steps.proofs.steps.numbers.Given as goal
 
 abbrev pub invariant-loop-first : goal.invariant-loop-first

@@ -7,12 +7,12 @@ use Rattle.aj_nodes.specs.Shown.{AreThere, node_tree, trees_at}
 use Rattle.aj_nodes.proofs.Tables.{grows_itself, grows_chain}
 use Rattle.aj_deriv.specs.Memory.{nodes_at}
 use Rattle.aj_deriv_rules.specs.Conclusions.{conclusions, table_value}
-use Rattle.aj_deriv_rules.specs.Rules.{rule_of}
-use Rattle.aj_deriv_rules.specs.Bodies.{list_of, part_of}
+use Rattle.aj_effects.specs.Rules.{rule_of}
+use Rattle.aj_effects.specs.Bodies.{list_of, part_of}
 use Rattle.aj_derive.specs.Concluded.{ConcludesOn, ConcludeAllOn}
 use Rattle.aj_derive.specs.Bases.{own_trees, trees_assign}
 use Rattle.aj_derive.proofs.Rows.{pushed_more, begins_itself, begins_chain, begins_one}
-use Rattle.aj_derive.proofs.PartSizes.{size_parts, parts_smaller}
+use Rattle.aj_effects.proofs.Sizes.{size_parts, parts_smaller}
 use Rattle.aj_derive.proofs.Tables.{there_on, there_pushed, trees_pushed}
 use Rattle.aj_derive.proofs.ConcludeLemmas.{all_more, all_none, concluded_node}
 use Rattle.aj_derive.proofs.conclude.+concluding.Goals as goal

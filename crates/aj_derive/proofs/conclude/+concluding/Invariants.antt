@@ -4,9 +4,9 @@ use Rattle.aj_nodes.specs.Nodes.{Grows}
 use Rattle.aj_nodes.specs.Shown.{AreThere, trees_at}
 use Rattle.aj_deriv.specs.Memory.{nodes_at}
 use Rattle.aj_deriv.specs.declared.derivation.Derivation.{Derivation}
-use Rattle.aj_deriv_rules.specs.Bodies.{list_of, part_of}
+use Rattle.aj_effects.specs.Bodies.{list_of, part_of}
 use Rattle.aj_derive.specs.Concluded.{BeginsWith, ConcludeAllOn}
-use Rattle.aj_derive.proofs.PartSizes.{size_part, size_parts}
+use Rattle.aj_effects.proofs.Sizes.{size_part, size_parts}
 use Rattle.aj_derive.proofs.conclude.+concluding.Given as goal
 
 abbrev pub decreases-concluded : goal.decreases-concluded

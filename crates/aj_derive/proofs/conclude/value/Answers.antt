@@ -3,11 +3,9 @@ use Rattle.std.proofs.Common.{◌∙◌, ap, map, length, subst, sym}
 use Rattle.aj_core.specs.Views.{program_of}
 use Rattle.aj_rules.specs.Near.{rel_of}
 use Rattle.aj_nodes.specs.Shown.{AreThere, node_value}
-use Rattle.aj_effects.specs.Rules as rules
-use Rattle.aj_deriv_rules.specs.Rules.{rule_of}
-use Rattle.aj_deriv_rules.specs.Bodies.{part_of}
+use Rattle.aj_effects.specs.Rules.{rule_of}
+use Rattle.aj_effects.specs.Bodies.{part_of}
 use Rattle.aj_derive.specs.Bases.{own_trees, trees_assign}
-use Rattle.aj_derive.proofs.OneRule.{one_rule}
 use Rattle.aj_derive.proofs.Tables.{all_there, grows_by}
 use Rattle.aj_derive.proofs.conclude.value.Goals as goal
 
@@ -22,12 +20,8 @@ returns-clause-value c = λ H.
     let P = program_of g.program.now in
     let rel = rel_of g.sets.now in
     let A = trees_assign (own_trees g) in
-    let x = part_of c.args.part in
-    let vs = map (node_value c.args.table.now) c.as_slice.result.now in
     c.in_ok-node.ensures.value H
-    ∙ ap (λ y. rules.rule_of P rel A y vs H) c.rule_part.ensures
-    ∙ one_rule P rel A x vs H
-    ∙ ap (λ ws. rule_of P rel A x ws H) (ap (map (node_value c.args.table.now)) c.as_slice.ensures.value ∙ c.in_ok-premises.ensures.values)
+    ∙ ap (λ ws. rule_of P rel A (part_of c.args.part) ws H) (ap (map (node_value c.args.table.now)) c.as_slice.ensures.value ∙ c.in_ok-premises.ensures.values)
 
 pub returns-clause-grows : goal.returns-clause-grows
 returns-clause-grows c = grows_by c.args.table.now c.rule.new.algebra c.count-before.ensures.table c.count-after.ensures.table c.rule.ensures.keeps

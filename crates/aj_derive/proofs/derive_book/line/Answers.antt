@@ -7,7 +7,7 @@ use Rattle.aj_nodes.specs.Shown.{trees_at}
 use Rattle.aj_nodes.proofs.Tables.{grows_chain}
 use Rattle.aj_book_grammar.specs.Books.{IsNumbered}
 use Rattle.aj_deriv.specs.Memory.{node_of}
-use Rattle.aj_deriv_rules.specs.Parts.{StmtP}
+use Rattle.aj_effects.specs.Parts.{StmtP}
 use Rattle.aj_derive.specs.Bases.{own_trees, trees_assign}
 use Rattle.aj_derive.specs.Moved.{IsMoved}
 use Rattle.aj_derive.specs.Pools.{pool_table, IsNumberIn}

@@ -1,5 +1,0 @@
-use Rattle.std.proofs.Common.{length}
-use Rattle.aj_deriv_rules.proofs.rules.+sequence.Given as goal
-
-abbrev pub decreases-sequence : goal.decreases-sequence
-decreases-sequence l = length l.numbers.now
