@@ -8,14 +8,17 @@ It reads the tables of docs/repairs.md and docs/tutorial.md (a line in the first
 and of examples/README.md (a file, the lines, the status), the blocks of lines in docs/tutorial.md, and the blocks in
 docs/machine.md and docs/levels.md that begin with a command line. Where crates/atomic_cli has a test of the examples, it is held against
 examples/as_test.py. The book that `derive` writes of each accepted example has to be good, and changed books of it are
-refused with their lines. Each file that README.md and the documents name has to be there. The exit status is 0 where
-all of them hold.
+refused with their lines. Each file that README.md and the documents name has to be there. Where there is an `atomic_why`,
+as the scripts of tools/ find it, check_tools.py then does the same for what they make. The exit status is 0 where all of
+them hold.
 """
 import os
 import re
 import subprocess
 import sys
 import tempfile
+
+import check_tools
 
 TOP = os.path.join(os.path.dirname(os.path.abspath(__file__)), "..")
 TEXT = re.compile(r"(?:(\d+) times )?`([^`]*)`")
@@ -195,7 +198,9 @@ def main():
     checker.examples_test()
     checker.books()
     print(f"{checker.count} answers, {checker.wrong} wrong")
-    sys.exit(1 if checker.wrong else 0)
+    tools = check_tools.checked(sys.argv[1])
+    print("there is no atomic_why" if tools is None else f"{tools[0]} answers of scripts, {tools[1]} wrong")
+    sys.exit(1 if checker.wrong or tools and tools[1] else 0)
 
 
 main()
