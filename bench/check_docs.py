@@ -19,29 +19,7 @@ import sys
 import tempfile
 
 import check_tools
-
-TOP = os.path.join(os.path.dirname(os.path.abspath(__file__)), "..")
-TEXT = re.compile(r"(?:(\d+) times )?`([^`]*)`")
-
-
-def read(*names):
-    with open(os.path.join(TOP, *names), encoding="utf-8") as file:
-        return file.read()
-
-
-def table_rows(text):
-    for line in text.splitlines():
-        if line.startswith("| "):
-            yield [cell.strip() for cell in line.strip("|").split(" | ")]
-
-
-def source_of(cell):
-    """The bytes that a cell describes: texts in backquotes, some of them several times; `nothing`; one byte."""
-    byte = re.fullmatch(r"the byte ([0-9A-F]{2})", cell)
-    if byte:
-        return bytes([int(byte[1], 16)])
-    return "".join(text * int(times or 1) for times, text in TEXT.findall(cell)).encode()
-
+from documents import TEXT, TOP, read, source_of, table_rows
 
 def with_tree(book, tree, change):
     """The book with one tree more, whose number is handed to a change of the method lines."""
@@ -97,7 +75,7 @@ class Checker:
         """Each row with a line of `check`, or the lines that `print` writes, and a source."""
         with tempfile.TemporaryDirectory() as folder:
             path = os.path.join(folder, "source")
-            for row in table_rows(read(*names)):
+            for row in table_rows(*names):
                 line = re.fullmatch(r"`((?:refused at|[A-Z]\w*\.\w+).*)`", row[0])
                 printed = row[0].startswith("`print` writes ")
                 if line or printed:
@@ -126,7 +104,7 @@ class Checker:
 
     def examples(self):
         files = {name for name in os.listdir(os.path.join(TOP, "examples")) if name.endswith(".java")}
-        for name, cell, status in (row for row in table_rows(read("examples", "README.md")) if len(row) == 3):
+        for name, cell, status in (row for row in table_rows("examples", "README.md") if len(row) == 3):
             name = name.strip("`")
             if name in files:
                 files.remove(name)
@@ -162,7 +140,7 @@ class Checker:
         """The derived book of each accepted example, and what is said of it where it is changed."""
         with tempfile.TemporaryDirectory() as folder:
             path = os.path.join(folder, "book")
-            for name, _, status in (row for row in table_rows(read("examples", "README.md")) if len(row) == 3):
+            for name, _, status in (row for row in table_rows("examples", "README.md") if len(row) == 3):
                 source = os.path.join(TOP, "examples", name.strip("`"))
                 if status.strip() != "0" or not os.path.exists(source):
                     continue

@@ -19,26 +19,15 @@ import xml.etree.ElementTree
 from html.parser import HTMLParser
 
 HERE = os.path.dirname(os.path.abspath(__file__))
-TOP = os.path.join(HERE, "..")
-sys.path[:0] = [os.path.join(TOP, "tools"), HERE]
+sys.path[:0] = [os.path.join(HERE, "..", "tools"), HERE]
 
+from documents import TOP, blocks, read, source_of, table_rows
 from pictures import PICTURES, digest_in, digest_of_page
 from programs import LINE, program
 
 EXAMPLES = os.path.join(TOP, "examples")
 GCC = re.compile(r"^(.*?):(\d+):(\d*):?\s+(?:fatal\s+)?(warning|error):\s+(.*)$")
 SCRIPTS = {"atomic-page": "page.py", "atomic-witness": "witness.py", "atomic-sarif": "sarif.py"}
-
-
-def read(*names):
-    with open(os.path.join(TOP, *names), encoding="utf-8") as file:
-        return file.read()
-
-
-def blocks(kind, *names):
-    """The blocks of a document that begin with this word."""
-    found = re.findall(r"^```(\w*)\n(.*?)^```$", read(*names), re.MULTILINE | re.DOTALL)
-    return [text for word, text in found if word == kind]
 
 
 class Balanced(HTMLParser):
@@ -93,6 +82,30 @@ class ToolsChecker:
         """The blocks that begin with a command line."""
         for command, text in re.findall(r"^```\n\$ (atomic[-_].*)\n((?:.*\n)*?)```$", read(*names), re.MULTILINE):
             self.expect(f"{os.path.join(*names)}: {command}", text, self.run(command)[1])
+
+    def why_rows(self):
+        """Each row of docs/why.md with a line, and the source for it."""
+        path = os.path.join(self.folder, "source")
+        for row in table_rows("docs", "why.md"):
+            line = re.fullmatch(r"`(\d+:\d+: .*)`", row[0])
+            if line:
+                with open(path, "wb") as file:
+                    file.write(source_of(row[-1]))
+                given = self.run("atomic_why source", self.folder)[1]
+                self.expect(f"docs/why.md: {line[1]}", True, f"source:{line[1]}" in given.splitlines() or given)
+
+    def explanations(self):
+        """Each source of docs/repairs.md that is refused for its promises, and each such example, has its explanation there."""
+        shown = re.findall(r"^```\n\$ cat f\.java; atomic_why f\.java\n(.*\n)((?:f\.java:.*\n)*)```$", read("docs", "repairs.md"), re.MULTILINE)
+        for source, text in shown:
+            with open(os.path.join(self.folder, "f.java"), "w", encoding="ascii") as file:
+                file.write(source)
+            self.expect(f"docs/repairs.md: {source}", text, self.run("atomic_why f.java", self.folder)[1])
+        refused = {source_of(row[-1]).decode() for row in table_rows("docs", "repairs.md") if re.fullmatch(r"`.*: declared \w+, found \w+`", row[0])}
+        self.expect("docs/repairs.md: sources with an explanation", refused, {source.strip() for source, _ in shown})
+        named = re.findall(r"^\$ atomic_why (\w+\.java)$", read("docs", "repairs.md"), re.MULTILINE)
+        examples = [row[0].strip("`") for row in table_rows("examples", "README.md") if row[-1] == "2"]
+        self.expect("docs/repairs.md: examples with an explanation", examples, named)
 
     def vim(self):
         """`:make` and `:clist` with the settings as they stand."""
@@ -264,9 +277,10 @@ class ToolsChecker:
             self.expect(f"{name} without words", (2, "", True), (status, said, usage.startswith(f"usage: {file}")))
 
     def all(self):
-        for name in ("editors.md", "many.md"):
+        self.commands("README.md")
+        for name in ("tutorial.md", "repairs.md", "why.md", "editors.md", "many.md"):
             self.commands("docs", name)
-        for check in (self.vim, self.code, self.hook, self.make, self.builds, self.many):
+        for check in (self.why_rows, self.explanations, self.vim, self.code, self.hook, self.make, self.builds, self.many):
             check()
         for check in (self.witnesses, self.pages, self.pictures, self.completion, self.usages):
             check()

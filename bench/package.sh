@@ -4,7 +4,7 @@
 # the programs, the scripts of tools/, manual pages, completion for bash, examples and documents. It then installs the package into
 # an empty root and runs it there. docs/formats.md says how the version is made.
 #
-# With --unproved it takes what quick.sh and quick_why.sh build, or what ATOMIC and ATOMIC_WHY name; the version says so. A proved
+# With --unproved it takes what quick.sh builds, or what ATOMIC and ATOMIC_WHY name; the version says so. A proved
 # program that is older than a file of the crates is refused.
 set -eu
 top=$(cd "$(dirname "$0")/.." && pwd)
