@@ -83,6 +83,13 @@ class ToolsChecker:
         for command, text in re.findall(r"^```\n\$ (atomic[-_].*)\n((?:.*\n)*?)```$", read(*names), re.MULTILINE):
             self.expect(f"{os.path.join(*names)}: {command}", text, self.run(command)[1])
 
+    def manuals(self):
+        """The examples of the manual pages, in the folder above the examples and in it."""
+        for name, folder in (("atomic.1", self.folder), ("atomic_why.1", self.examples)):
+            text = "".join(re.findall(r"^\.nf\n(.*?)^\.fi$", read("docs", name), re.MULTILINE | re.DOTALL))
+            for command, wanted in re.findall(r"^\$ (.*)\n((?:[^$].*\n)*)", text, re.MULTILINE):
+                self.expect(f"docs/{name}: {command}", wanted, self.run(command, folder)[1])
+
     def why_rows(self):
         """Each row of docs/why.md with a line, and the source for it."""
         path = os.path.join(self.folder, "source")
@@ -280,7 +287,7 @@ class ToolsChecker:
         self.commands("README.md")
         for name in ("tutorial.md", "repairs.md", "why.md", "editors.md", "many.md"):
             self.commands("docs", name)
-        for check in (self.why_rows, self.explanations, self.vim, self.code, self.hook, self.make, self.builds, self.many):
+        for check in (self.manuals, self.why_rows, self.explanations, self.vim, self.code, self.hook, self.make, self.builds, self.many):
             check()
         for check in (self.witnesses, self.pages, self.pictures, self.completion, self.usages):
             check()
