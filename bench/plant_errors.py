@@ -7,7 +7,7 @@ ones, each of them ten such sources together. In each of the former each possibl
 larger ones one that is drawn: a `synchronized` loses its lock, a method loses its `requires`, a field loses its guard, a `synchronized`
 block is split in two between two of its statements. What is still accepted, or no longer well-formed, doesn't count.
 
-Named is the place of the first explanation that doesn't hand on to another refused method. It is right where it lies
+Named is the place of the first explanation that doesn't hand on to that of another method. It is right where it lies
   lock      in the block that lost its lock
   requires  in the method that lost its `requires`
   guard     at an access to the field that lost its guard
@@ -27,7 +27,8 @@ from random_source import Generator
 EXAMPLES = os.path.join(os.path.dirname(os.path.abspath(__file__)), "..", "examples")
 TOKEN = re.compile(r"//[^\n]*|/\*.*?\*/|[A-Za-z_]\w*|\d+|\S", re.S)
 LINE = re.compile(r"(.*?):(\d+):(\d+): (error|note): (.*)")
-HANDS_ON = re.compile(r"(?:atomic step: |compound step: |a second one: )?calls ([\w.]+), which is (?:an error itself|cmpd)")
+# a second step that is cmpd is a call of the method itself, and hands on to nothing
+HANDS_ON = re.compile(r"(?:atomic step: |compound step: )?calls ([\w.]+), which is (?:an error itself|cmpd)")
 NAMES_A_PLACE = re.compile(r"atomic step|compound step|a second one|calls |.* is guarded ")
 KINDS = ["lock", "split", "requires", "guard"]
 LARGER, TOGETHER = 10, 10
@@ -114,28 +115,28 @@ def errors_of(text):
 
 
 def blocks_of(lines):
-    """The explanations: of each whether it is a refused method's, the method, and its notes."""
+    """The explanations: of each the method, and its notes."""
     blocks = []
     for line in lines:
         _, row, column, kind, text = LINE.fullmatch(line).groups()
         if kind == "error" or re.fullmatch(r"[\w.]+ is cmpd", text):
-            blocks.append((kind == "error", text.split()[0], []))
+            blocks.append((text.split()[0], []))
         else:
-            blocks[-1][2].append((int(row), int(column), text))
+            blocks[-1][1].append((int(row), int(column), text))
     return blocks
 
 
 def named(text, lines):
-    """The places and texts that the first explanation names which doesn't hand on to another refused method."""
+    """The places and texts that the first explanation names which doesn't hand on to that of another method."""
     starts = [0]
     for line in text.split("\n"):
         starts.append(starts[-1] + len(line) + 1)
     blocks = blocks_of(lines)
-    refused = {method for is_error, method, _ in blocks if is_error}
-    for is_error, _, notes in blocks:
+    explained = {method for method, _ in blocks}
+    for _, notes in blocks:
         own = [note for note in notes if NAMES_A_PLACE.match(note[2])]
         hands = [HANDS_ON.match(note[2]) for note in own]
-        if is_error and own and not any(found and found[1] in refused for found in hands):
+        if own and not any(found and found[1] in explained for found in hands):
             return [starts[row - 1] + column - 1 for row, column, _ in own], [words for _, _, words in own]
     return None
 
