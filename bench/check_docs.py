@@ -96,7 +96,7 @@ class Checker:
     def files(self):
         """The files that README.md and the documents name."""
         for names in [("README.md",)] + [("docs", name) for name in sorted(os.listdir(os.path.join(TOP, "docs"))) if name.endswith(".md")]:
-            for path in re.findall(r"`(?:crates/)?((?:aj_\w+|atomic_cli)/(?:src|specs|proofs)/[\w/]+\.\w+)`", read(*names)):
+            for path in re.findall(r"`(?:crates/)?((?:aj_\w+|atomic_cli|atomic_why)/(?:src|specs|proofs)/[\w/]+\.\w+)`", read(*names)):
                 self.count += 1
                 if not os.path.exists(os.path.join(TOP, "crates", path)):
                     self.wrong += 1
