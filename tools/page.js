@@ -114,6 +114,12 @@ function lineText(number) {
   return line ? line.textContent.trim() : "";
 }
 
+// Scrolls lanes so far that the last of these cells that isn't folded away can be seen.
+function bringUp(lanes, cells) {
+  const cell = cells.reverse().find(one => one.offsetWidth > 0);
+  if (cell) lanes.scrollLeft = Math.min(Math.max(lanes.scrollLeft, cell.offsetLeft + cell.offsetWidth - lanes.clientWidth + 40), cell.offsetLeft - 120);
+}
+
 function showFront(order, front, follow) {
   const run = runs.orders[order];
   const at = place => run.states[Math.max(0, place)].map(number => runs.lines[number]);
@@ -121,13 +127,12 @@ function showFront(order, front, follow) {
   [["object ", "lock "], ["thread "], ["print "]].forEach((words, k) =>
     groups[k].querySelector("ul").replaceWith(listOf(words, at(front), at(front - 1))));
   for (const lanes of document.querySelectorAll(".lanes")) {
-    const shown = Number(lanes.dataset.order) === order;
-    for (const cell of lanes.querySelectorAll(".cell")) {
+    const shown = Number(lanes.dataset.order) === order, cells = [...lanes.querySelectorAll(".cell")];
+    for (const cell of cells) {
       cell.classList.toggle("after-now", shown && Number(cell.dataset.k) >= front);
-      const now = shown && Number(cell.dataset.k) === front - 1;
-      cell.classList.toggle("now", now);
-      if (now && follow) lanes.scrollLeft = Math.min(Math.max(lanes.scrollLeft, cell.offsetLeft + cell.offsetWidth - lanes.clientWidth + 40), cell.offsetLeft - 120);
+      cell.classList.toggle("now", shown && Number(cell.dataset.k) === front - 1);
     }
+    if (shown && follow) bringUp(lanes, cells.filter(cell => Number(cell.dataset.k) < front));
   }
   const step = run.steps[front - 1];
   document.getElementById("where").textContent = step ? `${run.bounds[front]} entries: thread ${step[0]}, line ${step[1]}: ${lineText(step[1])}` : "no entry";
@@ -160,5 +165,5 @@ if (slider) {
     show(false);
   });
   foldLanes();
-  show(slider.value < slider.max);
+  show(Number(slider.value) < Number(slider.max));
 }
