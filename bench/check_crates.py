@@ -180,7 +180,7 @@ def differences(parts, crates):
     for name in sorted(os.listdir(path("crates"))):
         if name not in crates and any(files(name)):
             yield f"{name}: has a folder, and no line in crates.txt"
-    for names in [("README.md",)] + [("docs", name) for name in sorted(os.listdir(path("docs")))]:
+    for names in [("README.md",)] + [("docs", name) for name in sorted(os.listdir(path("docs"))) if not name.endswith(".png")]:
         gone = sorted({name for name in re.findall(r"`(aj_\w+)", read(*names)) if name not in crates and name != "aj_"})
         if gone:
             yield f"{os.path.join(*names)}: names what is no crate: {' '.join(gone)}"

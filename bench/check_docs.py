@@ -8,8 +8,9 @@ It reads the tables of docs/repairs.md and docs/tutorial.md (a line in the first
 and of examples/README.md (a file, the lines, the status), the blocks of lines in docs/tutorial.md, and the blocks in
 docs/machine.md and docs/levels.md that begin with a command line. Where crates/atomic_cli has a test of the examples, it is held against
 examples/as_test.py. The book that `derive` writes of each accepted example has to be good, and changed books of it are
-refused with their lines. Each file that README.md and the documents name has to be there. The exit status is 0 where
-all of them hold.
+refused with their lines. Each file that README.md and the documents name has to be there. Where there is an `atomic_why`,
+as the scripts of tools/ find it, check_tools.py then does the same for what they make. The exit status is 0 where all of
+them hold.
 """
 import os
 import re
@@ -17,28 +18,8 @@ import subprocess
 import sys
 import tempfile
 
-TOP = os.path.join(os.path.dirname(os.path.abspath(__file__)), "..")
-TEXT = re.compile(r"(?:(\d+) times )?`([^`]*)`")
-
-
-def read(*names):
-    with open(os.path.join(TOP, *names), encoding="utf-8") as file:
-        return file.read()
-
-
-def table_rows(text):
-    for line in text.splitlines():
-        if line.startswith("| "):
-            yield [cell.strip() for cell in line.strip("|").split(" | ")]
-
-
-def source_of(cell):
-    """The bytes that a cell describes: texts in backquotes, some of them several times; `nothing`; one byte."""
-    byte = re.fullmatch(r"the byte ([0-9A-F]{2})", cell)
-    if byte:
-        return bytes([int(byte[1], 16)])
-    return "".join(text * int(times or 1) for times, text in TEXT.findall(cell)).encode()
-
+import check_tools
+from documents import TEXT, TOP, read, source_of, table_rows
 
 def with_tree(book, tree, change):
     """The book with one tree more, whose number is handed to a change of the method lines."""
@@ -94,7 +75,7 @@ class Checker:
         """Each row with a line of `check`, or the lines that `print` writes, and a source."""
         with tempfile.TemporaryDirectory() as folder:
             path = os.path.join(folder, "source")
-            for row in table_rows(read(*names)):
+            for row in table_rows(*names):
                 line = re.fullmatch(r"`((?:refused at|[A-Z]\w*\.\w+).*)`", row[0])
                 printed = row[0].startswith("`print` writes ")
                 if line or printed:
@@ -115,7 +96,7 @@ class Checker:
     def files(self):
         """The files that README.md and the documents name."""
         for names in [("README.md",)] + [("docs", name) for name in sorted(os.listdir(os.path.join(TOP, "docs"))) if name.endswith(".md")]:
-            for path in re.findall(r"`(?:crates/)?((?:aj_\w+|atomic_cli)/(?:src|specs|proofs)/[\w/]+\.\w+)`", read(*names)):
+            for path in re.findall(r"`(?:crates/)?((?:aj_\w+|atomic_cli|atomic_why)/(?:src|specs|proofs)/[\w/]+\.\w+)`", read(*names)):
                 self.count += 1
                 if not os.path.exists(os.path.join(TOP, "crates", path)):
                     self.wrong += 1
@@ -123,7 +104,7 @@ class Checker:
 
     def examples(self):
         files = {name for name in os.listdir(os.path.join(TOP, "examples")) if name.endswith(".java")}
-        for name, cell, status in (row for row in table_rows(read("examples", "README.md")) if len(row) == 3):
+        for name, cell, status in (row for row in table_rows("examples", "README.md") if len(row) == 3):
             name = name.strip("`")
             if name in files:
                 files.remove(name)
@@ -159,7 +140,7 @@ class Checker:
         """The derived book of each accepted example, and what is said of it where it is changed."""
         with tempfile.TemporaryDirectory() as folder:
             path = os.path.join(folder, "book")
-            for name, _, status in (row for row in table_rows(read("examples", "README.md")) if len(row) == 3):
+            for name, _, status in (row for row in table_rows("examples", "README.md") if len(row) == 3):
                 source = os.path.join(TOP, "examples", name.strip("`"))
                 if status.strip() != "0" or not os.path.exists(source):
                     continue
@@ -195,7 +176,9 @@ def main():
     checker.examples_test()
     checker.books()
     print(f"{checker.count} answers, {checker.wrong} wrong")
-    sys.exit(1 if checker.wrong else 0)
+    tools = check_tools.checked(sys.argv[1])
+    print("there is no atomic_why" if tools is None else f"{tools[0]} answers of scripts, {tools[1]} wrong")
+    sys.exit(1 if checker.wrong or tools and tools[1] else 0)
 
 
 main()

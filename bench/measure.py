@@ -83,4 +83,5 @@ def books(program):
         print(kind, *(shown(cost, 8) for cost in costs), len(book), said, flush=True)
 
 
-main()
+if __name__ == "__main__":
+    main()

@@ -1,20 +1,23 @@
 #!/usr/bin/env python3
-"""usage: refuse_allocations.py PROGRAM [--all] [--rest] [--jobs N]
+"""usage: refuse_allocations.py PROGRAM [--all | --why] [--rest] [--jobs N]
 
 Refuses each allocation of rows of every command in turn: the k-th, for k from 1 up to the first run in which none is refused.
 Each answer has to be status 8 with nothing written, or the row's. PROGRAM is the built `atomic`, proved or not; refuse.c is
 compiled by `cc` and preloaded into it. Without --all there is a row for each command and status, with it come all rows of
-rows.py. With --rest all allocations behind the k-th are refused too. The exit status is 0 where no answer is wrong.
+rows.py. With --why PROGRAM is the built `atomic_why`, and the rows are those of docs/why.md and some more. With --rest all allocations
+behind the k-th are refused too. The exit status is 0 where no answer is wrong.
 """
 import argparse
 import collections
 import concurrent.futures
 import os
+import re
 import subprocess
 import sys
 import tempfile
 
 import rows
+from documents import source_of, table_rows
 
 HERE = os.path.dirname(os.path.abspath(__file__))
 WANTED = {"check": (0, 1, 2), "print": (0, 1), "run": (0, 3, 4), "serialise": (0, 1, 2, 3, 4, 5)}
@@ -78,6 +81,18 @@ def more_rows():
     yield "other", [], 9
 
 
+def why_rows():
+    """Rows of `atomic_why`: the sources of docs/why.md, examples, and words and files that end a call early."""
+    yield from (("", [source_of(row[-1])], 2) for row in table_rows("docs", "why.md") if re.fullmatch(r"`\d+:\d+: .*`", row[0]))
+    for command in ("", "--all"):
+        yield command, [example("account.java")], 2
+        yield command, [example("account_repaired.java")], 0
+        yield command, [b"?"], 1
+        yield command, [None], 6
+        yield command, [b" " * 262145], 10
+        yield command, [], 9
+
+
 class Trial:
     def __init__(self, program, folder, rest):
         self.program, self.folder, self.rest = program, folder, rest
@@ -121,18 +136,18 @@ class Trial:
             if not is_row and not (refused and (ended, text) == (8, b"")):
                 wrong.append(f"{command} {files}: allocation {k}: {ended} {text!r}")
         counts["the row's answer"] = counts["refused"] - counts["status 8"]
-        return command.split()[0], counts, wrong
+        return (command.split() or ["a file alone"])[0], counts, wrong
 
 
 def main():
     asked = argparse.ArgumentParser(usage=__doc__.split("\n")[0].removeprefix("usage: "), description=__doc__.split("\n\n")[1])
     asked.add_argument("program")
     asked.add_argument("--all", action="store_true")
+    asked.add_argument("--why", action="store_true")
     asked.add_argument("--rest", action="store_true")
     asked.add_argument("--jobs", type=int, default=2)
     given = asked.parse_args()
-    tried = fixed_rows() if given.all else list(one_of_each(fixed_rows()))
-    tried += more_rows()
+    tried = list(why_rows()) if given.why else (fixed_rows() if given.all else list(one_of_each(fixed_rows()))) + list(more_rows())
     counts, wrong = collections.defaultdict(collections.Counter), []
     with tempfile.TemporaryDirectory() as folder:
         trial = Trial(os.path.abspath(given.program), folder, given.rest)

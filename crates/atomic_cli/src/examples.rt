@@ -1,7 +1,7 @@
 //! The files of `examples/`, with the lines that its README states. Written by `examples/as_test.py`.
 
 /// Name, text, status and lines.
-pub const EXAMPLES: [(&str, &str, u8, &str); 25] = [
+pub const EXAMPLES: [(&str, &str, u8, &str); 27] = [
     (
         "locked.java",
         "class Main { int v guarded_by this; atomic void main() { synchronized (this) { this.v = 7; } } }\n",
@@ -45,6 +45,12 @@ pub const EXAMPLES: [(&str, &str, u8, &str); 25] = [
         "Tickets.draw this ? mover : atomic\nGuest.run this.tickets ? atomic : cmpd\nMain.main cmpd\n",
     ),
     (
+        "tickets_race.java",
+        "class Tickets {\n    int last;\n    atomic int draw() {\n        this.last = this.last + 1;\n        return this.last;\n    }\n}\n\nclass Guest implements Runnable {\n    final Tickets tickets;\n    Guest(Tickets tickets) { this.tickets = tickets; }\n    public void run() {\n        System.out.println(this.tickets.draw());\n    }\n}\n\nclass Main {\n    void main() {\n        final Tickets tickets = new Tickets();\n        new Thread(new Guest(tickets)).start();\n        new Thread(new Guest(tickets)).start();\n    }\n}\n",
+        2,
+        "Tickets.draw: declared atomic, found cmpd\n",
+    ),
+    (
         "twice.java",
         "class Cell {\n    int v guarded_by this;\n    atomic void inc() {\n        synchronized (this) {\n            this.v = this.v + 1;\n        }\n    }\n    atomic void twice() {\n        this.inc();\n        this.inc();\n    }\n}\n\nclass W implements Runnable {\n    final Cell c;\n    W(Cell c) { this.c = c; }\n    public void run() {\n        this.c.twice();\n    }\n}\n\nclass Main {\n    void main() {\n        final Cell c = new Cell();\n        new Thread(new W(c)).start();\n        new Thread(new W(c)).start();\n    }\n}\n",
         2,
@@ -67,6 +73,12 @@ pub const EXAMPLES: [(&str, &str, u8, &str); 25] = [
         "class Buf {\n    int n guarded_by this;\n    atomic int length() {\n        synchronized (this) { return this.n; }\n    }\n    atomic int get(int k) {\n        synchronized (this) { return this.n - k; }\n    }\n    atomic void append(final Buf sb) {\n        synchronized (this) {\n            synchronized (sb) {\n                int k = sb.length();\n                this.n = this.n + sb.get(k);\n            }\n        }\n    }\n}\n\nclass Main {\n    void main() { }\n}\n",
         0,
         "Buf.length this ? mover : atomic\nBuf.get this ? mover : atomic\nBuf.append this ? (sb ? mover : atomic) : atomic\nMain.main const\n",
+    ),
+    (
+        "append_race.java",
+        "class Buf {\n    int n guarded_by this;\n    atomic int length() {\n        synchronized (this) { return this.n; }\n    }\n    atomic int get(int k) {\n        synchronized (this) { return this.n - k; }\n    }\n    atomic void set(int n) {\n        synchronized (this) { this.n = n; }\n    }\n    atomic void append(final Buf sb) {\n        synchronized (this) {\n            int k = sb.length();\n            this.n = this.n + sb.get(k);\n        }\n    }\n}\n\nclass Appender implements Runnable {\n    final Buf to;\n    final Buf from;\n    Appender(Buf to, Buf from) { this.to = to; this.from = from; }\n    public void run() {\n        this.to.append(this.from);\n    }\n}\n\nclass Cutter implements Runnable {\n    final Buf buf;\n    Cutter(Buf buf) { this.buf = buf; }\n    public void run() {\n        this.buf.set(0);\n    }\n}\n\nclass Main {\n    void main() {\n        final Buf first = new Buf();\n        final Buf second = new Buf();\n        first.set(3);\n        second.set(5);\n        new Thread(new Appender(first, second)).start();\n        new Thread(new Cutter(second)).start();\n    }\n}\n",
+        2,
+        "Buf.append: declared atomic, found cmpd\n",
     ),
     (
         "no_rule.java",

@@ -1,0 +1,33 @@
+"""The documents as check_docs.py and check_tools.py read them: tables, the sources that their cells describe, and blocks."""
+import os
+import re
+
+TOP = os.path.join(os.path.dirname(os.path.abspath(__file__)), "..")
+TEXT = re.compile(r"(?:(\d+) times )?`([^`]*)`")
+
+
+def read(*names):
+    """A file of the repository."""
+    with open(os.path.join(TOP, *names), encoding="utf-8") as file:
+        return file.read()
+
+
+def blocks(kind, *names):
+    """The blocks of a document that begin with this word."""
+    found = re.findall(r"^```(\w*)\n(.*?)^```$", read(*names), re.MULTILINE | re.DOTALL)
+    return [text for word, text in found if word == kind]
+
+
+def table_rows(*names):
+    """The rows of a document's tables, each a list of cells."""
+    for line in read(*names).splitlines():
+        if line.startswith("| "):
+            yield [cell.strip() for cell in line.strip("|").split(" | ")]
+
+
+def source_of(cell):
+    """The bytes that a cell describes: texts in backquotes, some of them several times; `nothing`; one byte."""
+    byte = re.fullmatch(r"the byte ([0-9A-F]{2})", cell)
+    if byte:
+        return bytes([int(byte[1], 16)])
+    return "".join(text * int(times or 1) for times, text in TEXT.findall(cell)).encode()

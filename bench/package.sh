@@ -1,0 +1,82 @@
+#!/bin/sh
+# usage: package.sh [--unproved] FOLDER
+# Makes FOLDER/atomic_VERSION_amd64.deb of the proved programs crates/atomic_cli/out/atomic_cli and crates/atomic_why/out/atomic_why:
+# the programs, the scripts of tools/, manual pages, completion for bash, examples and documents. It then installs the package into
+# an empty root and runs it there. docs/formats.md says how the version is made.
+#
+# With --unproved it takes what quick.sh builds, or what ATOMIC and ATOMIC_WHY name; the version says so. A proved
+# program that is older than a file of the crates is refused.
+set -eu
+top=$(cd "$(dirname "$0")/.." && pwd)
+here=$(cd "$(dirname "$0")" && pwd)
+proved=yes
+if [ "${1-}" = --unproved ]; then proved=no; shift; fi
+case ${1--} in -*) sed -n '2,8s/^# \{0,1\}//p' "$0"; exit 2 ;; esac
+mkdir -p "$1"
+to=$(cd "$1" && pwd)
+work=$(mktemp -d)
+trap 'rm -rf "$work"' EXIT
+umask 022
+
+# The programs.
+if [ $proved = yes ]; then
+    atomic=$top/crates/atomic_cli/out/atomic_cli why=$top/crates/atomic_why/out/atomic_why
+else
+    atomic=${ATOMIC-$top/crates/atomic_cli/out/atomic-unproved} why=${ATOMIC_WHY-$top/crates/atomic_why/out/atomic-why-unproved}
+fi
+for program in "$atomic" "$why"; do
+    [ -x "$program" ] || { echo "package.sh: there is no $program" >&2; exit 1; }
+    if [ $proved = yes ] && [ -n "$(find "$top/crates" -path '*/out' -prune -o -type f -newer "$program" -print | head -n 1)" ]; then
+        echo "package.sh: $program is older than its crates" >&2
+        exit 1
+    fi
+done
+
+# The version, and the time of all files: those of the commit.
+version=0.$(git -C "$top" rev-list --count HEAD)+g$(git -C "$top" rev-parse --short=12 HEAD)
+[ -z "$(git -C "$top" status --porcelain)" ] || version=$version.changed
+[ $proved = yes ] || version=$version~unproved
+SOURCE_DATE_EPOCH=$(git -C "$top" log -1 --format=%ct)
+export SOURCE_DATE_EPOCH
+
+# The files.
+root=$work/package
+share=$root/usr/share
+mkdir -p "$root/DEBIAN" "$root/usr/bin" "$share/atomic/tools" "$share/man/man1" "$share/bash-completion/completions" "$share/doc/atomic/docs" "$share/doc/atomic/examples"
+install -m 755 -s "$atomic" "$root/usr/bin/atomic"
+install -m 755 -s "$why" "$root/usr/bin/atomic_why"
+for tool in page witness sarif; do ln -s "../share/atomic/tools/$tool.py" "$root/usr/bin/atomic-$tool"; done
+git -C "$top" ls-files tools | while read -r file; do install -m 644 "$top/$file" "$share/atomic/$file"; done
+chmod 755 "$share/atomic/tools/page.py" "$share/atomic/tools/witness.py" "$share/atomic/tools/sarif.py"
+mv "$share/atomic/tools/atomic.bash" "$share/bash-completion/completions/atomic"
+for name in atomic_why atomic-page atomic-witness atomic-sarif; do ln -s atomic "$share/bash-completion/completions/$name"; done
+for name in witness sarif; do ln -s atomic-page.1.gz "$share/man/man1/atomic-$name.1.gz"; done
+for page in "$top"/docs/*.1; do gzip -9n < "$page" > "$share/man/man1/$(basename "$page").gz"; done
+install -m 644 "$top"/README.md "$share/doc/atomic"
+install -m 644 "$top"/docs/* "$share/doc/atomic/docs"
+install -m 644 "$top"/examples/* "$share/doc/atomic/examples"
+echo "The repository that this package was made of has no licence file, and nothing in it says under which licence it stands." > "$share/doc/atomic/copyright"
+
+# What dpkg wants to know.
+size=$(du -sk --apparent-size "$root/usr" | cut -f 1)
+cat > "$root/DEBIAN/control" <<END
+Package: atomic
+Version: $version
+Architecture: amd64
+Maintainer: nobody <nobody@localhost>
+Installed-Size: $size
+Depends: libc6 (>= 2.34)
+Recommends: python3 (>= 3.9)
+Section: devel
+Priority: optional
+Description: static checker for atomicity in a small Java-like language
+ atomic says whether the locking of a source keeps what its methods promise,
+ atomic_why which statements are why not. atomic-page, atomic-witness and
+ atomic-sarif show it.
+END
+(cd "$root" && find usr -type f | sort | xargs md5sum > DEBIAN/md5sums)
+find "$root" -exec touch -h -d "@$SOURCE_DATE_EPOCH" {} +
+deb=$to/atomic_${version}_amd64.deb
+dpkg-deb --root-owner-group --build "$root" "$deb" > /dev/null
+"$here/try_package.sh" "$deb"
+echo "$deb"

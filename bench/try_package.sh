@@ -1,0 +1,47 @@
+#!/bin/sh
+# usage: try_package.sh PACKAGE.deb
+# Installs the package into an empty root in which there is nothing but the C library, runs it there, and takes it away again. Nothing
+# outside of that root is changed. The scripts of tools/ need Python, which the root hasn't: they run from there with this machine's.
+set -eu
+[ -f "${1-}" ] || { sed -n '2,4s/^# \{0,1\}//p' "$0"; exit 2; }
+if [ "$(id -u)" != 0 ]; then exec unshare --user --map-root-user "$0" "$@"; fi
+root=$(mktemp -d)
+trap 'rm -rf "$root"' EXIT
+wrong() { echo "try_package.sh: $*" >&2; exit 1; }
+
+# An empty root: dpkg's own folder, which knows of the C library alone, and that library.
+mkdir -p "$root/var/lib/dpkg/info" "$root/var/lib/dpkg/updates"
+dpkg-query --status libc6 | sed 's/^Multi-Arch:.*/Multi-Arch: no/; /^Conffiles:/,/^[A-Z]/{/^Conffiles:/d; /^ /d}; /^Depends:/d; /^Recommends:/d' > "$root/var/lib/dpkg/status"
+echo >> "$root/var/lib/dpkg/status"
+ldd /bin/true | grep -o '/[^ ]*' | while read -r library; do
+    mkdir -p "$root$(dirname "$library")"
+    cp -L "$library" "$root$library"
+done
+find "$root" -path "$root/var" -prune -o -type f -print | sort > "$root.before"
+dpkg --root="$root" --log=/dev/null --install "$1" > "$root.said" 2>&1 || { cat "$root.said" >&2; rm -f "$root.before" "$root.said"; wrong "dpkg doesn't install it"; }
+
+# The programs, in the root.
+examples=/usr/share/doc/atomic/examples
+said=$(chroot "$root" /usr/bin/atomic check $examples/repaired.java) || wrong "atomic check ended with $?"
+[ "$said" = "Main.main this ? mover : atomic" ] || wrong "atomic check says $said"
+status=0
+said=$(chroot "$root" /usr/bin/atomic_why $examples/unguarded.java) || status=$?
+[ $status = 2 ] || wrong "atomic_why ended with $status"
+case $said in "$examples/unguarded.java:4:17: error: Main.main is declared atomic, found cmpd"*) ;; *) wrong "atomic_why says $said" ;; esac
+
+# The scripts, the manual page, the completion: from the root, with this machine's programs.
+ATOMIC=$root/usr/bin/atomic ATOMIC_WHY=$root/usr/bin/atomic_why
+export ATOMIC ATOMIC_WHY
+"$root/usr/bin/atomic-page" "$root$examples/account.java" | grep -q '</html>' || wrong "atomic-page writes no page"
+[ "$("$root/usr/bin/atomic-witness" "$root$examples/tickets_race.java" | tail -n 1)" = "0*10 1*7 2*15 1*8" ] || wrong "atomic-witness"
+"$root/usr/bin/atomic-sarif" "$root$examples/account.java" | grep -q '"ruleId": "two-steps"' || wrong "atomic-sarif"
+gzip -dc "$root/usr/share/man/man1/atomic.1.gz" | grep -q '^.TH ATOMIC 1' || wrong "the manual page"
+gzip -dc "$root/usr/share/man/man1/atomic-witness.1.gz" | grep -q '^.TH ATOMIC-PAGE 1' || wrong "the manual page of the scripts"
+bash -c '. "$1"; COMP_WORDS=(atomic se); COMP_CWORD=1; _atomic; [ "${COMPREPLY[*]}" = "serialise serialise-open" ]' - \
+    "$root/usr/share/bash-completion/completions/atomic" || wrong "the completion"
+find "$root" -name __pycache__ -prune -exec rm -rf {} +
+
+# Nothing stays.
+dpkg --root="$root" --log=/dev/null --purge atomic > "$root.said" 2>&1 || { cat "$root.said" >&2; wrong "dpkg doesn't take it away"; }
+find "$root" -path "$root/var" -prune -o -type f -print | sort | cmp -s "$root.before" - || wrong "files stay behind"
+rm -f "$root.before" "$root.said"
