@@ -219,6 +219,15 @@ fn given_after(
     given_in(alloc, &program, &machine, asked)
 }
 
+/// Methods that call themselves from a part nearly as high as a part may be: in blocks, loops, branches, locks and signs.
+static DEEP_AND_HIGH: [&str; 5] = [
+    "class Main { int f() { { { { { { { { { { { { { { { { { { { { { { { { { { { { { { { { { { { { { { { { { { { { { { { { { { { { { { { { { { { { { return this.f(); } } } } } } } } } } } } } } } } } } } } } } } } } } } } } } } } } } } } } } } } } } } } } } } } } } } } } } } } } } } } } void main() { } }",
+    "class Main { int f() { boolean b = true; while (b) while (b) while (b) while (b) while (b) while (b) while (b) while (b) while (b) while (b) while (b) while (b) while (b) while (b) while (b) while (b) while (b) while (b) while (b) while (b) while (b) while (b) while (b) while (b) while (b) while (b) while (b) while (b) while (b) while (b) while (b) while (b) while (b) while (b) while (b) while (b) while (b) while (b) while (b) while (b) while (b) while (b) while (b) while (b) while (b) while (b) while (b) while (b) while (b) while (b) while (b) while (b) while (b) while (b) while (b) while (b) while (b) while (b) while (b) while (b) return this.f(); return 0; } void main() { } }",
+    "class Main { int f() { boolean b = true; if (b) if (b) if (b) if (b) if (b) if (b) if (b) if (b) if (b) if (b) if (b) if (b) if (b) if (b) if (b) if (b) if (b) if (b) if (b) if (b) if (b) if (b) if (b) if (b) if (b) if (b) if (b) if (b) if (b) if (b) if (b) if (b) if (b) if (b) if (b) if (b) if (b) if (b) if (b) if (b) if (b) if (b) if (b) if (b) if (b) if (b) if (b) if (b) if (b) if (b) if (b) if (b) if (b) if (b) if (b) if (b) if (b) if (b) if (b) if (b) return this.f(); return 0; } void main() { } }",
+    "class Main { int f() { synchronized (this) { synchronized (this) { synchronized (this) { synchronized (this) { synchronized (this) { synchronized (this) { synchronized (this) { synchronized (this) { synchronized (this) { synchronized (this) { synchronized (this) { synchronized (this) { synchronized (this) { synchronized (this) { synchronized (this) { synchronized (this) { synchronized (this) { synchronized (this) { synchronized (this) { synchronized (this) { synchronized (this) { synchronized (this) { synchronized (this) { synchronized (this) { synchronized (this) { synchronized (this) { synchronized (this) { synchronized (this) { synchronized (this) { synchronized (this) { return this.f(); } } } } } } } } } } } } } } } } } } } } } } } } } } } } } } } void main() { } }",
+    "class Main { int f() { return - - - - - - - - - - - - - - - - - - - - - - - - - - - - - - - - - - - - - - - - - - - - - - - - - - this.f(); } void main() { } }",
+];
+
 /// Sources, each with the turns and what the call of its first method gives at the start.
 static AT_THE_START: [(&str, u32, Result<Option<Value>, EvalEnd>); 7] = [
     (
@@ -274,6 +283,24 @@ fn evaluation_gives_a_result_or_tells_why_not(rt: HostRuntime) -> Result<(), Fai
             turns: *turns,
         };
         assert!(rt; given_after(rt.alloc(), source, &[], &asked)? == *wanted);
+    }
+    Ok(())
+}
+
+#[test]
+fn evaluation_has_room_for_both_of_its_limits(rt: HostRuntime) -> Result<(), Fail> {
+    let on = Address {
+        thread: 0,
+        count: 0,
+    };
+    let asked = Asked {
+        thread: 0,
+        on,
+        method: 0,
+        turns: 7000,
+    };
+    for source in &DEEP_AND_HIGH {
+        assert!(rt; given_after(rt.alloc(), source, &[], &asked)? == Err(EvalEnd::Deep));
     }
     Ok(())
 }
