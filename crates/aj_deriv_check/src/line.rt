@@ -1,16 +1,18 @@
 //! The judgement of one method line beside its method.
-ghost use Rattle.std.specs.Prelude.{◌≡◌, ◌↔◌, ◌&&◌, ℕ, true, map, slice_get, Contains, IfOk};
+ghost use Rattle.std.specs.Prelude.{◌≡◌, ◌↔◌, ◌&&◌, ◌+◌, ℕ, true, length, map, min, slice_get, Contains, IfOk};
 ghost use Rattle.aj_algebra.specs.declared.basic.Basic.TheVariants.{Const};
 ghost use Rattle.aj_algebra.specs.Basics.{below_of};
 ghost use Rattle.aj_algebra.specs.HeldPaths.{Held, has_path};
 ghost use Rattle.aj_cond.specs.Conditions.{cond_of, value_of, IsCanonical, LeafC};
 ghost use Rattle.aj_core.specs.Views.{method_of};
 ghost use Rattle.aj_book_grammar.specs.Derivations.{node};
+ghost use Rattle.aj_rules.specs.Near.{loc_of, rel_of};
 ghost use Rattle.aj_rules.specs.Rules.{declared_bound};
 ghost use Rattle.aj_rules.specs.Overriding.{AreOverriders};
 ghost use Rattle.aj_deriv_check.specs.Faults.{IsLineVerdict};
 ghost use Rattle.aj_deriv_check.specs.Good.{cond_at, tests_only as tests_only_of, Falls, IsTabled, IsUnder, IsUnderIn};
 ghost use Rattle.aj_deriv_rules.specs.Conclusions.{table_value};
+ghost use Rattle.aj_deriv_rules.specs.Works.{free_of, free_pairs};
 ghost use Rattle.aj_deriv_rules.specs.Judges.{judge_assignment, judge_program, judge_rel, judge_table, judge_value, AreCanonical};
 
 use crate::asked::Steps;
@@ -174,7 +176,9 @@ fn is_bounded(t: &Tree, method: &CoreMethod) -> bool
 }
 
 /// The work for a method, by how many near paths it has.
-fn work_for<'a>(sets: &RelevantSets, m: MethodId, left: &'a Cell<u32>) -> Work<'a> {
+fn work_for<'a>(sets: &RelevantSets, m: MethodId, left: &'a Cell<u32>) -> Work<'a>
+    ensures { free_of result ≡ free_pairs (min (length (rel_of sets.now m) + length (loc_of sets.now m)) 16) }
+{
     let near = sets.rel(m).len().saturating_add(sets.loc(m).len());
     Work::new(near.min(16) as u32, left)
 }

@@ -2,3 +2,4 @@
 pub mod NameLemmas
 pub mod BlockLemmas
 pub mod PremiseLemmas
+mod NearLemmas

@@ -19,4 +19,4 @@ pub use names::{call_name, holds, where_held, within};
 pub use parts::{part_word, same_length};
 pub use rules::{call, keeps_paths, paths, rule};
 pub use values::{below, leaf};
-pub use work::{MOST_DEPTH, Work};
+pub use work::{MOST_DEPTH, Work, free_laws};

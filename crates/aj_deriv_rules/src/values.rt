@@ -1,6 +1,6 @@
 //! Operations on trees, each with its value at every set of held paths. An operation whose work would pass a bound answers want of
 //! memory.
-ghost use Rattle.std.specs.Prelude.{◌≡◌, ◌↔◌, true, IfOk, if◌then◌else◌};
+ghost use Rattle.std.specs.Prelude.{◌≡◌, ◌↔◌, ◌+◌, ◌*◌, ◌^◌, ◌<◌, ◌≤◌, List, length, true, IfOk, IfSome, IsOk, MatchOption, if◌then◌else◌};
 ghost use Rattle.std.specs.Option.{option_copied};
 ghost use Rattle.std.specs.List.{list_all};
 ghost use Rattle.aj_paths.specs.Paths.{PathData};
@@ -10,6 +10,7 @@ ghost use Rattle.aj_algebra.specs.HeldPaths.{Held, holds_at, renamed as renamed_
 ghost use Rattle.aj_algebra.specs.Values.{sync_of};
 ghost use Rattle.aj_cond.specs.Conditions.{cond_of, value_of, IsCanonical};
 ghost use Rattle.aj_rules.specs.Rules.{AtMost};
+ghost use Rattle.aj_deriv_rules.specs.Works.{free_of, AreHalves, IsNear};
 
 use crate::work::{MOST_DEPTH, Work};
 use aj_algebra::{Algebra, Basic};
@@ -18,43 +19,85 @@ use aj_paths::{Path, Renaming, order};
 use std::alloc::{AllocError as NoMemory, Global};
 use std::cmp::Ordering;
 
-/// What is left of `left` after a visit of the pairs of subtrees that an operation on two trees visits; `None` where it is too
-/// little, or the pairs go too deep.
-fn visited(t: &Tree, u: &Tree, depth: u32, left: u32) -> Option<u32> {
-    if depth == 0 {
-        return None;
-    }
-    let left = left.checked_sub(1)?;
+/// Two trees where the first path that either of them tests is held, and then where it isn't.
+#[derive(Clone, Copy)]
+struct Pairs<'a> {
+    first: &'a Tree,
+    second: &'a Tree,
+    third: &'a Tree,
+    fourth: &'a Tree,
+}
+
+/// The halves of two trees, by the first path that either of them tests; `None` for two leaves.
+#[inline(always)]
+fn halves<'a>(t: &'a Tree, u: &'a Tree) -> Option<Pairs<'a>>
+    ensures { IfSome result (λ h. (ps : List PathData) → IsNear ps (cond_of t.now) → IsNear ps (cond_of u.now) →
+        AreHalves ps (cond_of h.first.now) (cond_of h.second.now) (cond_of h.third.now) (cond_of h.fourth.now)) }
+{
     match (t, u) {
-        (Tree::Leaf(_), Tree::Leaf(_)) => Some(left),
-        (Tree::Leaf(_), Tree::Test(_, c, d)) => {
-            let left = visited(t, c, depth - 1, left)?;
-            visited(t, d, depth - 1, left)
-        }
-        (Tree::Test(_, a, b), Tree::Leaf(_)) => {
-            let left = visited(a, u, depth - 1, left)?;
-            visited(b, u, depth - 1, left)
-        }
+        (Tree::Leaf(_), Tree::Leaf(_)) => None,
+        (Tree::Leaf(_), Tree::Test(_, c, d)) => Some(Pairs {
+            first: t,
+            second: c,
+            third: t,
+            fourth: d,
+        }),
+        (Tree::Test(_, a, b), Tree::Leaf(_)) => Some(Pairs {
+            first: a,
+            second: u,
+            third: b,
+            fourth: u,
+        }),
         (Tree::Test(p, a, b), Tree::Test(q, c, d)) => match order(p, q) {
-            Ordering::Less => {
-                let left = visited(a, u, depth - 1, left)?;
-                visited(b, u, depth - 1, left)
-            }
-            Ordering::Equal => {
-                let left = visited(a, c, depth - 1, left)?;
-                visited(b, d, depth - 1, left)
-            }
-            Ordering::Greater => {
-                let left = visited(t, c, depth - 1, left)?;
-                visited(t, d, depth - 1, left)
-            }
+            Ordering::Less => Some(Pairs {
+                first: a,
+                second: u,
+                third: b,
+                fourth: u,
+            }),
+            Ordering::Equal => Some(Pairs {
+                first: a,
+                second: c,
+                third: b,
+                fourth: d,
+            }),
+            Ordering::Greater => Some(Pairs {
+                first: t,
+                second: c,
+                third: t,
+                fourth: d,
+            }),
         },
     }
 }
 
+/// What is left of `left` after a visit of the pairs of subtrees that an operation on two trees visits; `None` where it is too
+/// little, or the pairs go too deep. Of trees that test paths of one list alone few pairs are visited.
+fn visited(t: &Tree, u: &Tree, depth: u32, left: u32) -> Option<u32>
+    ensures { (ps : List PathData) → IsNear ps (cond_of t.now) → IsNear ps (cond_of u.now) → length ps < depth → 2 * 2 ^ length ps ≤ left →
+        MatchOption result ⊥ (λ n. left < n + 2 * 2 ^ length ps) }
+{
+    if depth == 0 {
+        return None;
+    }
+    if left == 0 {
+        return None;
+    }
+    let less = left - 1;
+    let Some(pairs) = halves(t, u) else {
+        return Some(less);
+    };
+    let Some(later) = visited(pairs.first, pairs.second, depth - 1, less) else {
+        return None;
+    };
+    visited(pairs.third, pairs.fourth, depth - 1, later)
+}
+
 /// Want of memory, where an operation on the two trees would pass the bounds. Then the visit that told so is taken from what is left,
 /// so that a book can't ask for many of these.
-fn check_small(work: Work<'_>, t: &Tree, u: &Tree) -> Result<(), NoMemory> {
+fn check_small(work: Work<'_>, t: &Tree, u: &Tree) -> Result<(), NoMemory>
+    ensures { (ps : List PathData) → IsNear ps (cond_of t.now) → IsNear ps (cond_of u.now) → length ps ≤ 16 → 2 * 2 ^ length ps ≤ free_of work.entry → IsOk result }
+{
     let most = work.most();
     match visited(t, u, MOST_DEPTH, most) {
         Some(left) => work.charge(most.saturating_sub(left)),
@@ -66,7 +109,9 @@ fn check_small(work: Work<'_>, t: &Tree, u: &Tree) -> Result<(), NoMemory> {
 }
 
 /// Want of memory, where a look at the two trees, which takes no memory, would pass the work that is left. Nothing is tried behind it.
-fn check_left(work: Work<'_>, t: &Tree, u: &Tree) -> Result<(), NoMemory> {
+fn check_left(work: Work<'_>, t: &Tree, u: &Tree) -> Result<(), NoMemory>
+    ensures { (ps : List PathData) → IsNear ps (cond_of t.now) → IsNear ps (cond_of u.now) → length ps ≤ 16 → 2 * 2 ^ length ps ≤ free_of work.entry → IsOk result }
+{
     let most = work.all();
     match visited(t, u, MOST_DEPTH, most) {
         Some(left) => work.charge(most.saturating_sub(left)),
@@ -183,7 +228,8 @@ pub(crate) fn held_or(
 pub fn below(work: Work<'_>, t: &Tree, u: &Tree) -> Result<bool, NoMemory>
     requires first { IsCanonical (cond_of t.now) }
     requires second { IsCanonical (cond_of u.now) }
-    ensures { IfOk result (λ b. (b ≡ true) ↔ ((H : Held) → AtMost (value_of (cond_of t.now) H) (value_of (cond_of u.now) H))) }
+    ensures below { IfOk result (λ b. (b ≡ true) ↔ ((H : Held) → AtMost (value_of (cond_of t.now) H) (value_of (cond_of u.now) H))) }
+    ensures near { (ps : List PathData) → IsNear ps (cond_of t.now) → IsNear ps (cond_of u.now) → length ps ≤ 16 → 2 * 2 ^ length ps ≤ free_of work.entry → IsOk result }
 {
     check_left(work, t, u)?;
     Ok(Trees.below(t, u))

@@ -1,7 +1,7 @@
 //! How much work on trees the judgement of a book may make. Whoever wrote the book, the judgement comes to an end soon. No clause can
-//! say what a cell holds, so none says how much is left.
-ghost use Rattle.std.specs.Prelude.{◌≡◌, ◌≤◌, IsOk};
-ghost use Rattle.aj_deriv_rules.specs.Works.{free_pairs};
+//! say what a cell holds, so none says how much is left; but none is wanted for trees over near paths.
+ghost use Rattle.std.specs.Prelude.{◌≡◌, ◌≤◌, ◌*◌, ◌^◌, ℕ, IsOk};
+ghost use Rattle.aj_deriv_rules.specs.Works.{free_of, free_pairs};
 
 use std::alloc::AllocError as NoMemory;
 use std::cell::Cell;
@@ -35,7 +35,7 @@ fn pairs_over(paths: u32) -> u32
 impl<'a> Work<'a> {
     /// The work for a method with so many near paths.
     pub fn new(near: u32, left: &'a Cell<u32>) -> Work<'a>
-        ensures free { result.free ≡ free_pairs near }
+        ensures free { free_of result ≡ free_pairs near }
         ensures left { result.left ≡ left.entry }
     {
         Work {
@@ -46,25 +46,29 @@ impl<'a> Work<'a> {
 
     /// This little work, none of which is free.
     pub fn little(left: &'a Cell<u32>) -> Work<'a>
-        ensures free { result.free ≡ 0 }
+        ensures free { free_of result ≡ 0 }
         ensures left { result.left ≡ left.entry }
     {
         Work { free: 0, left }
     }
 
     /// How many pairs one operation may visit.
-    pub(crate) fn most(self) -> u32 {
+    pub(crate) fn most(self) -> u32
+        ensures { free_of self.entry ≤ result }
+    {
         self.free.max(SMALL)
     }
 
     /// How many pairs an operation that takes no memory may visit.
-    pub(crate) fn all(self) -> u32 {
+    pub(crate) fn all(self) -> u32
+        ensures { free_of self.entry ≤ result }
+    {
         self.free.max(self.left.get())
     }
 
     /// Takes the pairs that an operation visits from what is left, where they are more than trees over near paths ask for.
     pub(crate) fn charge(self, pairs: u32) -> Result<(), NoMemory>
-        ensures { pairs ≤ self.entry.free → IsOk result }
+        ensures { pairs ≤ free_of self.entry → IsOk result }
     {
         if pairs <= self.free {
             return Ok(());
@@ -85,3 +89,9 @@ impl<'a> Work<'a> {
         }
     }
 }
+
+/// The free work for a method is enough for trees over its near paths, and for those of a callee.
+pub fn free_laws()
+    ensures near { (near k : ℕ) → k ≤ near → k ≤ 16 → 2 * 2 ^ k ≤ free_pairs near }
+    ensures called { (near k : ℕ) → k ≤ 8 → 2 * 2 ^ k ≤ free_pairs near }
+{}

@@ -17,7 +17,7 @@ returns-in_ok-free-in-Test t c =
     let free = c.in_ok-free-in-Test.free in
     let first : (here ≡ true) ↔ ((H : Held) → AtMost (value_of (cond_of a) H) (value_of (cond_of b) H)) =
     subst (λ z. (here ≡ true) ↔ ((H : Held) → AtMost (value_of (cond_of a) H) (value_of (cond_of z) H))) c.deref-in-Test.ensures
-    (subst (λ z. (here ≡ true) ↔ ((H : Held) → AtMost (value_of (cond_of z) H) (value_of (cond_of c.deref-in-Test.result.now) H))) c.deref.ensures c.in_ok-here-in-Test.ensures) in
+    (subst (λ z. (here ≡ true) ↔ ((H : Held) → AtMost (value_of (cond_of z) H) (value_of (cond_of c.deref-in-Test.result.now) H))) c.deref.ensures c.in_ok-here-in-Test.ensures.below) in
     let second : (held ≡ true) ↔ Falls (value_of (cond_of a)) = subst (λ z. (held ≡ true) ↔ Falls (value_of (cond_of z))) c.deref-in-Test-2.ensures c.in_ok-held-in-Test.ensures in
     let third : (free ≡ true) ↔ Falls (value_of (cond_of b)) = subst (λ z. (free ≡ true) ↔ Falls (value_of (cond_of z))) c.deref-in-Test-3.ensures c.in_ok-free-in-Test.ensures in
     let whole = falls_test p (cond_of a) (cond_of b) here held free (subst (λ z. IsCanonical (cond_of z)) c.in-Test.is c.requires) first second third in

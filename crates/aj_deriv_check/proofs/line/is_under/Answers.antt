@@ -15,4 +15,4 @@ returns c =
     let V = judge_value c.args.judge.now in
     ok_iff c.below.result ((H : Held) → AtMost (body H) (wherever H)) (IsUnder c.args.required.now (V c.args.body) (V c.args.own))
     (under_is c.args.required.now body wherever own (V c.args.body) (V c.args.own) (λ H. c.tree_or-body.ensures.value H) (λ H. c.in_ok-wherever.ensures.value H) (λ H. c.in_ok-own.ensures.value H))
-    c.below.ensures
+    c.below.ensures.below
