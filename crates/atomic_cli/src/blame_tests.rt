@@ -293,4 +293,4 @@ fn each_other_example_has_no_certificate(rt: HostRuntime) -> Result<(), Fail> {
     Ok(())
 }
 
-static EXAMPLE_ROWS: [(&str, &str, u8, &str); 25] = EXAMPLES;
+static EXAMPLE_ROWS: [(&str, &str, u8, &str); 27] = EXAMPLES;

@@ -149,7 +149,7 @@ pub fn counter(alloc: Global, in_cell: &str, in_main: &str, behind: &str) -> Res
 }
 
 /// The examples. A `static` is lent, where a `const` is copied into the function that names it.
-static EXAMPLE_ROWS: [(&str, &str, u8, &str); 25] = EXAMPLES;
+static EXAMPLE_ROWS: [(&str, &str, u8, &str); 27] = EXAMPLES;
 
 /// Each file of `examples/` that `check` judges gets the lines that the README there states.
 #[test]
