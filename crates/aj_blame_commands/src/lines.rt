@@ -1,19 +1,11 @@
 //! The lines of `blame` and `verify-blame`.
-ghost use Rattle.std.specs.Prelude.{◌≡◌, ◌≢◌, ◌++◌, decimal, string_bytes, IfOk, OnOk};
+ghost use Rattle.std.specs.Prelude.{◌≡◌, ◌≢◌, string_bytes, IfOk};
 ghost use Rattle.aj_blame.specs.declared.check.BlameWrong.TheVariants as wrongs;
 ghost use Rattle.aj_blame_commands.specs.Lines.{form_line, line_line, wrong_line};
 
 use aj_blame::BlameWrong;
-use itoa::Buffer;
+use aj_numbers::write_number;
 use std::alloc::{AllocError as NoMemory, Global};
-
-/// Writes a number.
-fn write_number(line: &mut String, number: u32) -> Result<(), NoMemory>
-    ensures { OnOk result (string_bytes line.new ≡ string_bytes line.old ++ decimal number) }
-{
-    let mut digits = Buffer::new();
-    line.push_str(digits.format(number))
-}
 
 /// The line for a text that goes wrong at this byte.
 pub(crate) fn form_text(alloc: Global, place: u32) -> Result<String, NoMemory>

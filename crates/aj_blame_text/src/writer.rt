@@ -7,8 +7,8 @@ ghost use Rattle.aj_blame.specs.Lines.{AreAscending};
 ghost use Rattle.aj_blame_text.specs.Texts.{IsLine, IsTextOf, held_text, line_text, lines_text};
 
 use aj_blame::{Blame, Line, ShortPath};
+use aj_numbers::write_number;
 use aj_paths::{FieldId, Path};
-use itoa::Buffer;
 use std::alloc::{AllocError as NoMemory, Global};
 
 /// Where the range of 32 bits ends.
@@ -53,13 +53,6 @@ fn lines_fit(lines: &[Line]) -> bool
         }
     }
     true
-}
-
-fn write_number(text: &mut String, number: u32) -> Result<(), NoMemory>
-    ensures { OnOk result (string_bytes text.new ≡ string_bytes text.old ++ decimal number) }
-{
-    let mut digits = Buffer::new();
-    text.push_str(digits.format(number))
 }
 
 fn write_field(text: &mut String, field: FieldId) -> Result<(), NoMemory>

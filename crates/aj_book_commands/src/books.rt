@@ -1,10 +1,10 @@
 //! The lines for books that are refused.
 
-ghost use Rattle.std.specs.Prelude.{◌≡◌, ◌≢◌, ◌++◌, decimal, is_some, string_bytes, IfOk, OnOk};
+ghost use Rattle.std.specs.Prelude.{◌≡◌, ◌≢◌, ◌++◌, is_some, string_bytes, IfOk, OnOk};
 ghost use Rattle.aj_book_commands.specs.Books.{refused_book_line, book_fault_line, names_node, at_node, kind_text, wrong_line};
 
 use aj_book_grammar::BookFault;
-use itoa::Buffer;
+use aj_numbers::write_number;
 use std::alloc::{AllocError as NoMemory, Global};
 
 /// What is wrong with a book for a program.
@@ -20,14 +20,6 @@ pub enum WrongKind {
     Bound,
     /// The tree of a method that overrides it is greater than the method's tree.
     Override,
-}
-
-/// Writes a number.
-fn write_number(line: &mut String, number: u32) -> Result<(), NoMemory>
-    ensures { OnOk result (string_bytes line.new ≡ string_bytes line.old ++ decimal number) }
-{
-    let mut digits = Buffer::new();
-    line.push_str(digits.format(number))
 }
 
 /// The line for a text that is no book, at this byte.

@@ -1,5 +1,5 @@
 //! Books as texts.
-ghost use Rattle.std.specs.Prelude.{◌≡◌, ◌++◌, ◌∷◌, [], codes, decimal, map, IfOk, OnOk, string_bytes};
+ghost use Rattle.std.specs.Prelude.{◌≡◌, ◌++◌, ◌∷◌, [], map, IfOk, OnOk, string_bytes};
 ghost use Rattle.aj_cond.specs.Conditions.{cond_of};
 ghost use Rattle.aj_cond.specs.Texts.{text_of};
 ghost use Rattle.aj_deriv.specs.Memory.{book_of, line_of, node_of, nodes_at};
@@ -8,16 +8,9 @@ ghost use Rattle.aj_book_grammar.specs.Texts.{book_text, line_text, lines_text, 
 use crate::books::DerivBook;
 use crate::derivation::Derivation;
 use aj_cond::{Tree, tree_text};
+use aj_numbers::write_number;
 use aj_paths::MethodId;
-use itoa::Buffer;
 use std::alloc::{AllocError as NoMemory, Global};
-
-fn write_number(text: &mut String, number: u32) -> Result<(), NoMemory>
-    ensures { OnOk result (string_bytes text.new ≡ string_bytes text.old ++ decimal number) }
-{
-    let mut digits = Buffer::new();
-    text.push_str(digits.format(number))
-}
 
 #[cycle(writing)]
 fn write_node(text: &mut String, node: &Derivation) -> Result<(), NoMemory>

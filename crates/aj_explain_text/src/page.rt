@@ -1,14 +1,14 @@
 //! What the lines of a method are written with, and how a line begins and ends.
 
-ghost use Rattle.std.specs.Prelude.{◌≡◌, ◌++◌, codes, decimal, string_bytes, OnOk};
+ghost use Rattle.std.specs.Prelude.{◌≡◌, ◌++◌, codes, string_bytes, OnOk};
 ghost use Rattle.aj_lexer.specs.Places.{place_text};
 ghost use Rattle.aj_explain_text.specs.Pages.{front, note_line, offset_of, place_front};
 ghost use Rattle.aj_explain_text.specs.Views.{page_data};
 
 use aj_classes::ClassTable;
 use aj_lexer::Place;
+use aj_numbers::write_number;
 use aj_places::{LineIndex, SlotNames};
-use itoa::Buffer;
 use std::alloc::AllocError as NoMemory;
 
 /// The name of the file, where its lines are, the class table, and of the method that is told the names of its slots and the offsets of
@@ -27,14 +27,6 @@ pub(crate) fn offset_of(page: &Page<'_, '_>, node: usize) -> u32
     ensures { result ≡ offset_of (page_data page.now) node }
 {
     page.offsets.get(node).copied().unwrap_or(0)
-}
-
-/// Writes a number.
-fn write_number(out: &mut String, number: u32) -> Result<(), NoMemory>
-    ensures { OnOk result (string_bytes out.new ≡ string_bytes out.old ++ decimal number) }
-{
-    let mut digits = Buffer::new();
-    out.push_str(digits.format(number))
 }
 
 /// Writes a place.

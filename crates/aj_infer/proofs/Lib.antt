@@ -1,9 +1,7 @@
 -- Lemmas on inference.
-pub mod Weights
 pub mod Answers
 pub mod Calls
 pub mod Locals
-pub mod Blocks
 pub mod Walks
 pub mod TableParts
 pub mod RunLemmas
@@ -16,6 +14,4 @@ pub mod RiseLemmas
 pub mod ValueLemmas
 pub mod StartLemmas
 pub mod VerdictLemmas
-pub mod CallsSame
 pub mod OtherLemmas
-pub mod CalleeLemmas

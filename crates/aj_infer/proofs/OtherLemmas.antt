@@ -10,7 +10,7 @@ use Rattle.aj_algebra.specs.HeldPaths.{Held, has_path}
 use Rattle.aj_core.specs.Core.{Program, Method}
 use Rattle.aj_rules.proofs.SetLemmas.{second}
 use Rattle.aj_fix.proofs.NoteLemmas.{set_at, set_here}
-use Rattle.aj_infer.specs.Called.{method_calls, calls}
+use Rattle.aj_callers.specs.Called.{method_calls, calls}
 use Rattle.aj_infer.specs.Tables.{chosen, table_of, assigned}
 use Rattle.aj_infer.specs.Cells.{at_parts, demands_of, demands_at, are_below, joined, table_falls, is_met_by, AreTables}
 use Rattle.aj_infer.proofs.RunLemmas.{run_same}

@@ -5,7 +5,7 @@ use Rattle.aj_paths.specs.Paths.{PathData}
 use Rattle.aj_algebra.specs.declared.basic.Basic.{Basic}
 use Rattle.aj_core.specs.Core.{Program, Method}
 use Rattle.aj_fix.specs.Assignments.{IsAbove, IsClosed}
-use Rattle.aj_infer.specs.Called.{calls}
+use Rattle.aj_callers.specs.Called.{calls}
 use Rattle.aj_infer.specs.Tables.{table_of, assigned}
 use Rattle.aj_infer.specs.Cells.{numbers_of, demands_of, demands_at, are_below, joined, is_met_by, is_met, rooms_of, AreTables, AreCells}
 use Rattle.aj_infer.proofs.OtherLemmas.{joined_covers, others_met}

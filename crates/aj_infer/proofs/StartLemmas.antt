@@ -10,7 +10,7 @@ use Rattle.aj_fix.specs.Assignments as fix
 use Rattle.aj_rules.specs.Near.{MethodPaths, AreRelevant, AreFew, rel_of}
 use Rattle.aj_rules.specs.Search.{row_at as overs_at}
 use Rattle.aj_rules.specs.Overriding.{AreOverriders}
-use Rattle.aj_infer.specs.Called.{AreCallers}
+use Rattle.aj_callers.specs.Called.{AreCallers}
 use Rattle.aj_infer.specs.Tables.{assigned}
 use Rattle.aj_infer.specs.Cells.{numbers_of, tables_in, all_const, is_met, rooms_of, AreTables, AreCells}
 use Rattle.aj_infer.specs.Least.{IsLeast}

@@ -17,7 +17,7 @@ use Rattle.aj_rules.specs.Rules.{HoldsBound, IsAccepted, declared_bound}
 use Rattle.aj_infer.specs.Least.{IsLeast}
 use Rattle.aj_infer.specs.Verdicts.{basic_at, assignment_of, IsFirstBroken, IsBrokenByAll, HoldBounds}
 use Rattle.aj_infer.proofs.LeastLemmas.{least_bound, least_accepts}
-use Rattle.aj_infer.proofs.Lookups.{found_method}
+use Rattle.aj_callers.proofs.Lookups.{found_method}
 use Rattle.aj_rules.proofs.Required.{required_in_rel}
 use Rattle.aj_infer.proofs.StartLemmas.{same_count}
 

@@ -8,7 +8,7 @@ use Rattle.aj_algebra.specs.HeldPaths.{Held, has_path}
 use Rattle.aj_core.specs.Core.{Program, Method}
 use Rattle.aj_rules.specs.Effect.{Assignment, effect}
 use Rattle.aj_rules.specs.Rules.{held_in}
-use Rattle.aj_infer.specs.Called.{AreCallers}
+use Rattle.aj_callers.specs.Called.{AreCallers}
 use Rattle.aj_infer.specs.Tables.{half, table_of, assigned}
 
 -- the basic of a number; error for all numbers past its own

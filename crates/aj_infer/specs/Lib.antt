@@ -5,4 +5,3 @@ pub mod Verdicts
 pub mod Bodies
 pub mod Least
 pub mod Cells
-pub mod Called

@@ -7,16 +7,16 @@ ghost use Rattle.aj_rules.specs.Near.{AreRelevant, rel_of};
 ghost use Rattle.aj_rules.specs.Search.{row_at as overs_at};
 ghost use Rattle.aj_fix.specs.Assignments.{IsClosed, IsBetween};
 ghost use Rattle.aj_infer.specs.Bodies.{program_at, rel_at, assigned_at};
-ghost use Rattle.aj_infer.specs.Called.{calls};
+ghost use Rattle.aj_callers.specs.Called.{calls};
 ghost use Rattle.aj_infer.specs.Tables.{assigned};
 ghost use Rattle.aj_infer.specs.Cells.{AreCells, numbers_of, greatest_of, run_effect, demands_of, demands_at, is_met};
 
-use crate::callers::Row;
 use crate::judged::Judged;
 use crate::rows::{are_below, joined, put_parts};
 use crate::table::{Table, table_at, value_of};
 use crate::walk::{Walk, stmt_value};
 use aj_algebra::{Algebra, Basic};
+use aj_callers::Row;
 use aj_core::CoreMethod;
 use aj_fix::{Rising, least};
 use aj_paths::{MethodId, Path};
@@ -174,7 +174,7 @@ impl<'a, 'b, G: Algebra> Rising for Cells<'a, 'b, G> {
 
     fn readers(&self, cell: usize) -> Option<&[usize]> {
         let row = self.callers.get(cell)?;
-        Some(row.callers.as_slice())
+        Some(row.callers())
     }
 
     fn raise(&mut self, alloc: Global, cell: usize) -> Result<bool, NoMemory> {

@@ -12,12 +12,12 @@ ghost use Rattle.aj_infer.specs.Least.{IsLeast};
 ghost use Rattle.aj_infer.specs.Verdicts.{AreKnown, assignment_of};
 
 use crate::bounds::Inferred;
-use crate::callers::callers_of;
 use crate::cells::{Cells, settle};
 use crate::judged::Judged;
 use crate::rows::repeat_from;
 use crate::table::{Table, value_of};
 use aj_algebra::{Algebra, Basic};
+use aj_callers::callers_of;
 use aj_core::CoreProgram;
 use aj_paths::{MethodId, Path};
 use aj_rules::{RelevantSets, overriders};

@@ -3,7 +3,6 @@
 
 mod bounds;
 mod call;
-mod callers;
 mod cells;
 mod inference;
 mod judged;

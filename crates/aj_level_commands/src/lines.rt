@@ -1,23 +1,15 @@
 //! The lines for levels that are refused.
 
-ghost use Rattle.std.specs.Prelude.{◌≡◌, ◌≢◌, ◌++◌, [], decimal, option_map, string_bytes, unwrap_or, IfOk, OnOk};
+ghost use Rattle.std.specs.Prelude.{◌≡◌, ◌≢◌, [], option_map, string_bytes, unwrap_or, IfOk};
 ghost use Rattle.aj_classes.specs.Views.{table_data};
 ghost use Rattle.aj_level_commands.specs.Lines.{class_text, refused_at_line, refused_class_line, fault_line, takes_line};
 
 use aj_classes::ClassTable;
 use aj_level_text::LevelsFault;
+use aj_numbers::write_number;
 use aj_paths::{ClassId, MethodId};
 use aj_report::write_title;
-use itoa::Buffer;
 use std::alloc::{AllocError as NoMemory, Global};
-
-/// Writes a number.
-fn write_number(line: &mut String, number: u32) -> Result<(), NoMemory>
-    ensures { OnOk result (string_bytes line.new ≡ string_bytes line.old ++ decimal number) }
-{
-    let mut digits = Buffer::new();
-    line.push_str(digits.format(number))
-}
 
 /// The name, or nothing where there is none.
 fn name_or_nothing(name: Option<&str>) -> &str

@@ -1,15 +1,15 @@
 //! The line for the first fault of a source.
 
-ghost use Rattle.std.specs.Prelude.{◌≡◌, ◌++◌, ◌≤◌, length, codes, decimal, string_bytes, IfOk, OnOk};
+ghost use Rattle.std.specs.Prelude.{◌≡◌, ◌≤◌, length, string_bytes, IfOk};
 ghost use Rattle.aj_lexer.specs.Limits.{longest_source};
 ghost use Rattle.aj_lexer.specs.Places.{line_of, column_of};
 ghost use Rattle.aj_report.specs.SourceFaults.{IsTold, offset_of, lex_offset_of, class_offset_of, type_offset_of, kind_of, lex_kind, parse_kind, class_kind, type_kind, source_fault_line};
 
 use aj_class_rules::ClassFault;
 use aj_lexer::{LexFault, NotText, Place, place_of};
+use aj_numbers::write_number;
 use aj_parser::ParseFault;
 use aj_type_rules::TypeFault;
-use itoa::Buffer;
 use std::alloc::{AllocError as NoMemory, Global};
 
 /// Why a source is refused as it stands, with the offset in bytes, from 0, at which that is told.
@@ -162,13 +162,6 @@ fn place_in(text: &str, at: u32) -> Place
     ensures column { result.column ≡ column_of text.now at }
 {
     place_of(text, at.min(text.len() as u32))
-}
-
-fn write_number(line: &mut String, number: u32) -> Result<(), NoMemory>
-    ensures { OnOk result (string_bytes line.new ≡ string_bytes line.old ++ decimal number) }
-{
-    let mut digits = Buffer::new();
-    line.push_str(digits.format(number))
 }
 
 /// The line for a fault of this source, or, for bytes that aren't UTF-8, of their longest front that is.

@@ -4,7 +4,8 @@ use Rattle.aj_rules.specs.Search.{row_at as overs_at}
 use Rattle.aj_infer.specs.declared.walk.Walk.{Walk}
 use Rattle.aj_infer.specs.Bodies.{program_at, rel_at, assigned_at}
 use Rattle.aj_infer.specs.Cells.{demands_of}
-use Rattle.aj_infer.proofs.Lookups.{found_method, no_method}
+use Rattle.aj_callers.proofs.Lookups.{found_method}
+use Rattle.aj_infer.proofs.Lookups.{no_method}
 use Rattle.aj_infer.proofs.cells.walk_demands.Goals as goal
 
 pub returns-in-Some-clause-row : goal.returns-in-Some-clause-row

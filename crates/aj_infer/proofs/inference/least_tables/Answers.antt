@@ -19,7 +19,7 @@ invariant_of-cells-2 g c =
     let o = c.in_ok-tables.tables.ok in
     let len : c.len-count.result ≡ length tables = omega (arith, o, c.len-count.ensures) in
     record {
-      sound = start_cells P c.args.sets.now tables (length c.methods.result.now) c.in_ok-tables.ensures all c.in_ok-over.over c.requires.count c.few.ensures c.len-count.result (1024 * c.len-count.result) c.in_ok-callers.callers.items len refl c.in_ok-callers.ensures;
+      sound = start_cells P c.args.sets.now tables (length c.methods.result.now) c.in_ok-tables.ensures all c.in_ok-over.over c.requires.count c.few.ensures c.len-count.result (1024 * c.len-count.result) c.in_ok-callers.callers.items len refl c.in_ok-callers.ensures.callers;
     }
 
 pub returns-clause-count : goal.returns-clause-count
