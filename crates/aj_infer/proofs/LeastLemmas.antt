@@ -24,7 +24,7 @@ use Rattle.aj_rules.proofs.BasicLemmas.{below_chain}
 use Rattle.aj_rules.proofs.SetLemmas.{first, second}
 use Rattle.aj_rules.proofs.UniqueSets.{unique_sets}
 use Rattle.aj_infer.specs.Tables.{chosen, table_of, assigned}
-use Rattle.aj_infer.specs.Cells.{basic_of, numbers_of, table_in, tables_in, all_const, count_of_parts, greatest_of, run_effect, demands_of, demands_at, are_below, table_falls, is_met_by, is_met, room_of, rooms_of, AreTables}
+use Rattle.aj_infer.specs.Cells.{basic_of, numbers_of, table_in, tables_in, all_const, count_of_parts, run_effect, demands_of, demands_at, are_below, table_falls, is_met_by, is_met, room_of, rooms_of, AreTables}
 use Rattle.aj_infer.specs.Least.{IsLeast}
 use Rattle.aj_infer.specs.Verdicts.{HoldBounds}
 use Rattle.aj_infer.proofs.RunLemmas.{greatest_first, greatest_of_each, greatest_least, run_falls, run_rises}

@@ -12,7 +12,7 @@ use Rattle.aj_core.specs.Core.{Program, Method}
 use Rattle.aj_rules.specs.Effect.{Assignment, effect}
 use Rattle.aj_rules.specs.Rules.{IsPart, AtMost, IsFalling, held_in}
 use Rattle.aj_rules.proofs.BasicLemmas.{every, each, below_itself, below_chain, join_mono}
-use Rattle.aj_rules.proofs.SetLemmas.{first, second}
+use Rattle.aj_rules.proofs.SetLemmas.{first}
 use Rattle.aj_rules.proofs.Falling.{stmt_falls}
 use Rattle.aj_rules.proofs.EffectRises.{stmt_rises}
 use Rattle.aj_fix.proofs.NoteLemmas.{contains_none}

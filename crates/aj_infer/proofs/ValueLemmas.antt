@@ -11,7 +11,6 @@ use Rattle.aj_algebra.specs.HeldPaths.{Held}
 use Rattle.aj_algebra.specs.Values.{Keeps}
 use Rattle.aj_rules.specs.Effect.{Assignment}
 use Rattle.aj_infer.specs.Tables.{chosen, table_of, assigned}
-use Rattle.aj_infer.specs.Names.{held_partners}
 use Rattle.aj_infer.specs.Cells.{table_in, tables_in}
 use Rattle.aj_infer.specs.Verdicts.{AreKnown, basic_at, assignment_of}
 use Rattle.aj_infer.proofs.TableParts.{chosen_none}

@@ -1,12 +1,12 @@
 -- The rule of a part from the values that are put for its parts, and one value more.
-use Rattle.std.proofs.Common.{◌≡◌, ◌++◌, ◌∷◌, [], List, length, map, drop, append-nil, append_assoc, refl, sym, ap, subst, ◌∙◌, arith}
+use Rattle.std.proofs.Common.{◌≡◌, ◌++◌, ◌∷◌, [], map, drop, append-nil, append_assoc, refl, sym, ap, subst, ◌∙◌, arith}
 use Rattle.std.specs.Prelude.{Contains}
 use Rattle.std.proofs.lemmas.List.Elements.{Contains-append_left, Contains-append_right}
 use Rattle.aj_effects.specs.Bodies.{list_of, part_of}
 use Rattle.aj_effects.specs.Rules.{AreAllKnown}
 use Rattle.aj_effects.specs.Effects.{effects_of}
 use Rattle.aj_effects.proofs.Sizes.{size_parts, parts_smaller}
-use Rattle.aj_effects.proofs.Values.{value_same, keeps_both, keeps_itself}
+use Rattle.aj_effects.proofs.Values.{keeps_both, keeps_itself}
 use Rattle.aj_infer.specs.Bodies.{program_at, rel_at, assigned_at, part_mentions, parts_mentions}
 use Rattle.aj_infer.proofs.Walks.{inner_in, known_on, known_more, effects_more, behind_is, before_is, part_is}
 use Rattle.aj_infer.proofs.walk.+parts.Goals as goal

@@ -1,5 +1,4 @@
 -- The callers of a method are in its row.
-use Rattle.std.proofs.Common.{◌∙◌}
 use Rattle.aj_core.specs.Views.{program_of}
 use Rattle.aj_rules.specs.Search.{row_at as overs_at}
 use Rattle.aj_callers.proofs.CalleeLemmas.{reading}
