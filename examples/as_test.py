@@ -30,13 +30,21 @@ def rows():
         yield name, read(name), status, lines
 
 
+def table(what, name, found):
+    """A table of rows, each with name, text, status and lines."""
+    out = ["", f"/// {what}: name, text, status and lines.", f"pub const {name}: [(&str, &str, u8, &str); {len(found)}] = ["]
+    for file, text, status, lines in found:
+        out += ["    (", f'        "{file}",', f"        {literal(text)},", f"        {status},", f"        {literal(lines)},", "    ),"]
+    return out + ["];"]
+
+
 def test_file():
-    out = ["//! The files of `examples/`, with the lines that its README states. Written by `examples/as_test.py`.", ""]
+    """Two tables, since one of all examples is more than the check of a test that names it takes in."""
     found = list(rows())
-    out += ["/// Name, text, status and lines.", f"pub const EXAMPLES: [(&str, &str, u8, &str); {len(found)}] = ["]
-    for name, text, status, lines in found:
-        out += ["    (", f'        "{name}",', f"        {literal(text)},", f"        {status},", f"        {literal(lines)},", "    ),"]
-    return "\n".join(out + ["];", ""])
+    out = ["//! The files of `examples/`, with the lines that its README states. Written by `examples/as_test.py`."]
+    out += table("Those that are accepted", "ACCEPTED", [row for row in found if row[2] == "0"])
+    out += table("Those that are refused", "REFUSED", [row for row in found if row[2] != "0"])
+    return "\n".join(out + [""])
 
 
 if sys.argv[1:2] == ["--check"]:

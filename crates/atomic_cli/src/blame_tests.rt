@@ -1,6 +1,6 @@
 //! What the program answers to the rows on certificates of refusal.
 
-use crate::examples::EXAMPLES;
+use crate::examples::{ACCEPTED, REFUSED};
 use crate::schedule_tests::{expect, expect_inputs};
 use crate::tests::{LOCKED, answer, counter, expect_rows, written};
 use std::alloc::Global;
@@ -274,7 +274,7 @@ fn expect_blamed(rt: &impl Abort, alloc: Global, source: &str) -> Result<(), Fai
 
 #[test]
 fn the_certificate_of_each_refused_example_is_verified(rt: HostRuntime) -> Result<(), Fail> {
-    for (_, source, status, _) in &EXAMPLE_ROWS {
+    for (_, source, status, _) in &REFUSED_ROWS {
         if *status == 2 {
             expect_blamed(&rt, rt.alloc(), source)?;
         }
@@ -283,14 +283,27 @@ fn the_certificate_of_each_refused_example_is_verified(rt: HostRuntime) -> Resul
 }
 
 #[test]
-fn each_other_example_has_no_certificate(rt: HostRuntime) -> Result<(), Fail> {
-    for (_, source, status, _) in &EXAMPLE_ROWS {
+fn an_accepted_example_has_no_certificate(rt: HostRuntime) -> Result<(), Fail> {
+    for (_, source, _, _) in &ACCEPTED_ROWS {
+        let given = answer(rt.alloc(), &["blame", "a"], source.as_bytes())?;
+        assert_eq!(rt; given.0, 12);
+    }
+    Ok(())
+}
+
+#[test]
+fn an_example_that_is_not_well_formed_has_no_certificate(rt: HostRuntime) -> Result<(), Fail> {
+    for (_, source, status, _) in &REFUSED_ROWS {
         if *status != 2 {
             let given = answer(rt.alloc(), &["blame", "a"], source.as_bytes())?;
-            assert_eq!(rt; given.0, if *status == 0 { 12 } else { *status });
+            assert_eq!(rt; given.0, *status);
         }
     }
     Ok(())
 }
 
-static EXAMPLE_ROWS: [(&str, &str, u8, &str); 27] = EXAMPLES;
+/// The examples that are accepted.
+static ACCEPTED_ROWS: [(&str, &str, u8, &str); 14] = ACCEPTED;
+
+/// The examples that are refused.
+static REFUSED_ROWS: [(&str, &str, u8, &str); 13] = REFUSED;

@@ -1,6 +1,6 @@
 //! What the program answers, over a folder and a sink in memory.
 
-use crate::examples::EXAMPLES;
+use crate::examples::{ACCEPTED, REFUSED};
 use aj_commands::run;
 use aj_edge::{MemFolder, MemSink};
 use itoa::Buffer;
@@ -148,23 +148,32 @@ pub fn counter(alloc: Global, in_cell: &str, in_main: &str, behind: &str) -> Res
     Ok(source)
 }
 
-/// The examples. A `static` is lent, where a `const` is copied into the function that names it.
-static EXAMPLE_ROWS: [(&str, &str, u8, &str); 27] = EXAMPLES;
-
 /// Each file of `examples/` that `check` judges gets the lines that the README there states.
-#[test]
-fn examples_say_what_their_readme_states(rt: HostRuntime) -> Result<(), Fail> {
-    for (_, source, status, text) in &EXAMPLE_ROWS {
-        expect(
-            &rt,
-            rt.alloc(),
-            &["check", "a"],
-            source.as_bytes(),
-            *status,
-            text,
-        )?;
+fn expect_examples(
+    rt: &impl Abort,
+    alloc: Global,
+    rows: &[(&str, &str, u8, &str)],
+) -> Result<(), Fail> {
+    for (_, source, status, text) in rows {
+        expect(rt, alloc, &["check", "a"], source.as_bytes(), *status, text)?;
     }
     Ok(())
+}
+
+/// The examples that are accepted. A `static` is lent, where a `const` is copied into the function that names it.
+static ACCEPTED_ROWS: [(&str, &str, u8, &str); 14] = ACCEPTED;
+
+/// The examples that are refused.
+static REFUSED_ROWS: [(&str, &str, u8, &str); 13] = REFUSED;
+
+#[test]
+fn accepted_examples_say_what_their_readme_states(rt: HostRuntime) -> Result<(), Fail> {
+    expect_examples(&rt, rt.alloc(), &ACCEPTED_ROWS)
+}
+
+#[test]
+fn refused_examples_say_what_their_readme_states(rt: HostRuntime) -> Result<(), Fail> {
+    expect_examples(&rt, rt.alloc(), &REFUSED_ROWS)
 }
 
 /// What is put into the counter program, in the order of `counter`, with the status of `check` and its text.
