@@ -40,6 +40,8 @@ pub struct Book {
 struct Reader<'a> {
     text: &'a [u8],
     at: usize,
+    /// Whether some tree of this line of the table isn't canonical.
+    is_bent: bool,
     book: Book,
 }
 
@@ -120,7 +122,6 @@ impl Reader<'_> {
         if self.text.get(self.at) != Some(&b'(') {
             return Ok(u32::from(self.one_of(&BASICS)?));
         }
-        let start = self.at;
         self.open(height)?;
         let path = self.path()?;
         self.expect(" ")?;
@@ -129,9 +130,7 @@ impl Reader<'_> {
         let free = self.tree(height + 1)?;
         self.expect(")")?;
         let ascends = |tree| self.root(tree).is_none_or(|root| path < root);
-        if held == free || !ascends(held) || !ascends(free) {
-            return self.form(start);
-        }
+        self.is_bent |= held == free || !ascends(held) || !ascends(free);
         let next = self.book.tests.len() as u32 + 5;
         let tree = *self.book.known.entry((path, held, free)).or_insert(next);
         if tree == next {
@@ -159,7 +158,12 @@ impl Reader<'_> {
         let count = self.number(1 << 32)?;
         self.expect("\n")?;
         for _ in 0..count {
+            let start = self.at;
+            self.is_bent = false;
             let tree = self.tree(0)?;
+            if self.is_bent {
+                return self.form(start);
+            }
             self.expect("\n")?;
             self.book.trees.push(tree);
         }
@@ -182,6 +186,7 @@ pub fn read(text: &[u8]) -> Result<Book, Fault> {
     let mut reader = Reader {
         text,
         at: 0,
+        is_bent: false,
         book: Book::default(),
     };
     reader.book()?;
