@@ -133,24 +133,26 @@ fn blocks_with_many_paths_are_judged(rt: HostRuntime) -> Result<(), Fail> {
     )
 }
 
-/// A tree with a test on every so manieth path from this one on: atomic where an even number of them is held, and a mover elsewhere.
-fn write_parity(
-    alloc: Global,
-    text: &mut String,
-    path: u32,
-    step: u32,
-    end: u32,
-    even: bool,
-) -> Result<(), Fail> {
-    if path >= end {
+/// Paths of one loop's condition, and of its body.
+static EVEN_PATHS: [u32; 7] = [0, 2, 4, 6, 8, 10, 12];
+
+static ODD_PATHS: [u32; 7] = [1, 3, 5, 7, 9, 11, 13];
+
+/// Paths of others.
+static OTHER_PATHS: [u32; 14] = [1, 2, 3, 4, 5, 6, 7, 8, 9, 10, 11, 12, 13, 14];
+
+/// A tree with a test on each of these paths: atomic where an even number of them is held, and a mover elsewhere.
+fn write_parity(alloc: Global, text: &mut String, paths: &[u32], even: bool) -> Result<(), Fail> {
+    let Some((path, rest)) = paths.split_first() else {
         text.push_str(if even { "atomic" } else { "mover" })?;
         return Ok(());
-    }
+    };
+    let path = *path;
     let test = format!(in alloc; "({path} ")?;
     text.push_str(test.as_str())?;
-    write_parity(alloc, text, path + step, step, end, !even)?;
+    write_parity(alloc, text, rest, !even)?;
     text.push_str(" ")?;
-    write_parity(alloc, text, path + step, step, end, even)?;
+    write_parity(alloc, text, rest, even)?;
     text.push_str(")")?;
     Ok(())
 }
@@ -160,9 +162,9 @@ fn turns(alloc: Global, own: &str) -> Result<String, Fail> {
     let mut text = String::from_str(alloc, "book 3\n")?;
     text.push_str(own)?;
     text.push_str("\n")?;
-    write_parity(alloc, &mut text, 0, 2, 14, true)?;
+    write_parity(alloc, &mut text, &EVEN_PATHS, true)?;
     text.push_str("\n")?;
-    write_parity(alloc, &mut text, 1, 2, 14, true)?;
+    write_parity(alloc, &mut text, &ODD_PATHS, true)?;
     text.push_str("\nmethod 0 0\n(block 0 (while 0 (lit 1) (skip 2)))\nend\n")?;
     Ok(text)
 }
@@ -194,7 +196,7 @@ fn loops_with_many_paths_are_judged(rt: HostRuntime) -> Result<(), Fail> {
 /// A book of one tree over 14 paths that aren't the method's, and a body that does nothing.
 fn foreign(alloc: Global) -> Result<String, Fail> {
     let mut text = String::from_str(alloc, "book 2\n")?;
-    write_parity(alloc, &mut text, 1, 1, 15, true)?;
+    write_parity(alloc, &mut text, &OTHER_PATHS, true)?;
     text.push_str("\nconst\nmethod 0 0\n(block 1)\nend\n")?;
     Ok(text)
 }
