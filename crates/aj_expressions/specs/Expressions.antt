@@ -10,6 +10,7 @@ use Rattle.aj_syntax.specs.Views.{exprs_from}
 use Rattle.aj_expressions.specs.Combine.{Res, ◌>>=◌, starts, first, take_one, allow, beyond, loop, separated}
 use Rattle.aj_expressions.specs.Words.{a_name, is_name, a_number, is_number, is_least, a_least, an_op, is_op, field_name}
 
+-- whether an expression without parts begins with this token: a number, `true`, `false`, `null`, `this` or a name
 abbrev pub is_leaf : Token → Bool
 is_leaf x = is_number x || is T.True x || is T.False x || is T.Null x || is T.This x || is_name x
 
@@ -17,6 +18,7 @@ is_leaf x = is_number x || is T.True x || is T.False x || is T.Null x || is T.Th
 unfoldable pub begins_expression : Token → Bool
 begins_expression x = is T.OpenParen x || is T.New x || is T.Bang x || is T.Minus x || is_leaf x
 
+-- an expression without parts
 unfoldable pub leaf : List Token → Res ExprTree
 leaf ts =
     if starts is_number ts then (first a_number ts >>= λ n ts. Ok (NumberE n.0 n.1, ts))

@@ -14,6 +14,7 @@ use Rattle.aj_expressions.specs.Words.{a_name, is_name, type_name}
 use Rattle.aj_syntax.specs.Offsets.{first_at}
 use Rattle.aj_expressions.specs.Expressions.{is_leaf, new_rest, primary, dots, below}
 
+-- whether a token begins a declaration by itself: `final`, `int` or `boolean`; one that begins with a class name takes two tokens to tell
 abbrev pub begins_local : Token → Bool
 begins_local x = is T.Final x || is T.Int x || is T.Boolean x
 

@@ -41,6 +41,7 @@ module _ (h : ℕ) (inner : Bool → List Token → Res StmtTree) (block : List 
       else if starts (is T.Synchronized) ts then sync_statement ts
       else plain_statement h in_block ts
 
+-- Statements and blocks of a height that is allowed, each read through the other.
 unfoldable mutual
   -- a statement of at most h nodes in height; in a block it may be a declaration
   pub statement_at : ℕ → Bool → List Token → Res StmtTree
