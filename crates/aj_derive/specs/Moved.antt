@@ -23,6 +23,7 @@ pub record IsMoved (from old new : List Cond) (d e : Node) : Type 0 where
   pub same : IsSame from new d e
   pub in_order : AreInOrder (length old) (node_numbers e) (length new)
 
+-- the same of several derivations, in order
 pub record AreMoved (from old new : List Cond) (ds es : Nodes) : Type 0 where
   pub begins : BeginsWith old new
   pub same : AreSame from new ds es
