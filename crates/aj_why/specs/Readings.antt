@@ -10,6 +10,7 @@ use Rattle.aj_deriv_rules.specs.Parts.{Part}
 use Rattle.aj_why.specs.Parts.{own_of}
 use Rattle.aj_why.specs.Visits.{Visit}
 
+-- whether a basic is compound
 abbrev pub is_cmpd : Basic → Bool
 is_cmpd Const = false
 is_cmpd Mover = false
@@ -17,6 +18,7 @@ is_cmpd Atomic = false
 is_cmpd Cmpd = true
 is_cmpd Error = false
 
+-- whether a basic is an error
 abbrev pub is_error : Basic → Bool
 is_error Const = false
 is_error Mover = false

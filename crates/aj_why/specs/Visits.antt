@@ -24,6 +24,7 @@ abbrev pub by_lock : Bool → List Visit → List Visit → List Visit
 by_lock true held taken = held
 by_lock false held taken = taken
 
+-- The parts that a walk comes to in expressions and in arguments.
 abbrev mutual
   -- the parts of an expression with this number, each behind its own parts: the order in which they are done
   pub expr_visits : Expr → ℕ → Held → Option ℕ → List Visit
