@@ -98,6 +98,7 @@ abbrev pub give_held : Address → Hold → (mine : Bool) → Plain → Answer (
 give_held a hold false q = Fails fault.Null
 give_held a hold true q = Gives tt (changed (LockIs a (given_back hold)) q)
 
+-- gives back the lock that may be held so; a fault where nobody holds it
 abbrev pub give_lock : ℕ → Address → Option Hold → Plain → Answer (Unit {0})
 give_lock t a None q = Fails fault.Null
 give_lock t a (Some hold) q = give_held a hold (hold.holder == t) q
