@@ -18,6 +18,7 @@ module _ (test : ℕ → Bool) where
     expr_calls (NewE c args) = exprs_call args
     expr_calls _ = false
 
+    -- whether one of some arguments does
     pub exprs_call : Exprs → Bool
     exprs_call no_exprs = false
     exprs_call (and_expr e es) = expr_calls e || exprs_call es
@@ -39,6 +40,7 @@ module _ (test : ℕ → Bool) where
     stmt_calls (PrintS e) = expr_calls e
     stmt_calls (StartS e) = expr_calls e
 
+    -- whether one of the statements of a block does
     pub block_calls : Stmts → Bool
     block_calls no_stmts = false
     block_calls (and_stmt s ss) = stmt_calls s || block_calls ss

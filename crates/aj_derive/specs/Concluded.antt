@@ -22,6 +22,7 @@ module _ (P : Program) (rel : ℕ → List PathData) (A : Assignment) (table : L
         (n < length table) × Fits (record { part = part; at = node w n ds }) × IsExact P rel (table_value table) A (record { part = part; at = node w n ds })
         × ConcludeAll (parts_of part) ds
 
+    -- there are as many nodes as parts, and each concludes so at the part beside it
     pub ConcludeAll : List Part → Nodes → Type 0
     ConcludeAll [] no_nodes = Unit {0}
     ConcludeAll [] (and_node d ds) = ⊥

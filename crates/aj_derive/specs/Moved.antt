@@ -11,6 +11,7 @@ module _ (from to : List Cond) where
     pub IsSame : Node → Node → Type 0
     IsSame (node w n ds) (node x k es) = (w ≡ x) × ((t : Cond) × (slice_get from n ≡ Some t) × (slice_get to k ≡ Some t)) × AreSame ds es
 
+    -- the same of two lists of nodes, which are of one length
     pub AreSame : Nodes → Nodes → Type 0
     AreSame no_nodes no_nodes = Unit {0}
     AreSame no_nodes (and_node e es) = ⊥
