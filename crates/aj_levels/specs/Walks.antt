@@ -71,6 +71,7 @@ module _ (P : Program) (rel : ℕ → List PathData) where
     expr_visits (NewE c args) H under = exprs_visits args H under
     expr_visits _ H under = []
 
+    -- the parts of some arguments, one argument after the other
     pub exprs_visits : Exprs → Held → ℕ → List Visit
     exprs_visits no_exprs H under = []
     exprs_visits (and_expr e es) H under = expr_visits e H under ++ exprs_visits es H under

@@ -56,6 +56,7 @@ module _ (P : Program) where
     TidyE (NewE c args) = TidyEach args × (finals_of (slice_get P.classes c) ≡ count_of args)
     TidyE _ = Unit {0}
 
+    -- the same of arguments, each of which leaves an operand
     pub TidyEach : Exprs → Type 0
     TidyEach no_exprs = Unit {0}
     TidyEach (and_expr e es) = (valued e ≡ true) × TidyE e × TidyEach es
@@ -100,6 +101,7 @@ module _ (P : Program) where
     TidyS (PrintS e) = (valued P e ≡ true) × TidyE P e
     TidyS (StartS e) = (valued P e ≡ true) × TidyE P e
 
+    -- the same of the statements of a block, of which none stores a final local that one before it declares
     pub TidyBlock : Stmts → Type 0
     TidyBlock no_stmts = Unit {0}
     TidyBlock (and_stmt s ss) = TidyS s × Apart s ss × TidyBlock ss

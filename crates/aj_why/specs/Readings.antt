@@ -75,6 +75,7 @@ module _ (P : Program) (rel : ℕ → List PathData) (A : Assignment) where
   abbrev pub first_error : List Visit → Option Visit
   first_error vs = first_where (λ v. is_error (own_at v)) vs
 
+  -- a visit of the list is an error by itself, and none before it is
   pub record IsFirstError (vs : List Visit) (v : Visit) : Type 0 where
     pub error : own_at v ≡ Error
     pub first : IsFirst (λ w. is_error (own_at w)) vs v
