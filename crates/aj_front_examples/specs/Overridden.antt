@@ -35,7 +35,7 @@ reach slot fields class = record { slot = slot; fields = fields; class = class }
 abbrev pub first_params : List Param
 first_params = param true (class_type (codes "L") 0) (name (codes "p") 0) ∷ param true (class_type (codes "B") 0) (name (codes "q") 0) ∷ param false (class_type (codes "L") 0) (name (codes "s") 0) ∷ []
 
--- the signature of `int m(final int n) requires this`, in the class B
+-- the signature of an `int` method of the class B with the parameter `final int n`, which requires `this`
 abbrev pub signature : Signature
 signature = record { atomic = false; returns = Some Y.Int; params = n_param ∷ []; locks = Some (reach 0 [] 1 ∷ []) }
 
