@@ -28,6 +28,7 @@ abbrev pub bound_of : Option Method → Basic
 bound_of None = Error
 bound_of (Some method) = declared_bound method.annotated
 
+-- whether a basic is at most the bound of method m
 abbrev pub keeps_bound : Program → ℕ → Basic → Bool
 keeps_bound P m b = below_of b (bound_of (slice_get P.methods m))
 

@@ -1,4 +1,6 @@
--- What the contracts of certificates cite: lines and their floor, certificates, the passes that write one, and what the calls answer.
+-- What the contracts of certificates cite, in this order: lines and their floor (Lines), certificates (Certificates), why lines are no
+-- certificate (Wrongs), the passes that write one (Passes), and why there is none (Ends). Tables, Waiting and ShortPaths serve the
+-- private functions.
 pub mod Lines
 pub mod Certificates
 pub mod Passes

@@ -150,6 +150,7 @@ fn const_tables(alloc: Global, sets: &RelevantSets, count: usize) -> Result<Vec<
 fn place_of(method: MethodId) -> usize
     ensures { result ≡ method }
 {
+    // Only the proof needs a function for this: its clause tells what the number of an id is.
     method.0 as usize
 }
 

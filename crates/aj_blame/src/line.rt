@@ -45,6 +45,7 @@ impl Blame {
     pub fn ascends(&self)
         ensures { AreAscending self.now }
     {
+        // Only the proof needs this: the invariant of a struct is known where one of its fields is used.
         let _ = &self.lines;
     }
 

@@ -41,6 +41,7 @@ count_at ts = expect (codes "blame ") ts >>= λ u ts. number_at (2 ^ 32) ts >>= 
 unfoldable pub end_at : List ℕ → Res (Unit {0})
 end_at ts = expect (codes "end" ++ (newline ∷ [])) ts >>= λ u ts. nothing ts
 
+-- a whole certificate: the count of its lines, the lines, and `end`
 unfoldable pub blame_at : List ℕ → Res (List LineData)
 blame_at ts = count_at ts >>= λ n ts. exactly n line_at ts >>= λ ls ts. end_at ts >>= λ u ts. Ok (ls, ts)
 

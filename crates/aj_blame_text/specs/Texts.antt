@@ -18,6 +18,7 @@ held_text (p ∷ ps) = (codes " " ++ path_text p) ++ held_text ps
 abbrev pub line_text : LineData → List ℕ
 line_text l = decimal l.method ++ (codes " " ++ (name_of l.found ++ (held_text l.held ++ (newline ∷ []))))
 
+-- the texts of lines, one after the other
 abbrev pub lines_text : List LineData → List ℕ
 lines_text [] = []
 lines_text (l ∷ ls) = line_text l ++ lines_text ls

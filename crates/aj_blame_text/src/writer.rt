@@ -25,6 +25,7 @@ fn fields_fit(fields: &[FieldId]) -> bool
 fn path_fits(path: &Path) -> bool
     ensures { result ≡ true → IsPath path.now }
 {
+    // Only the proof needs this: that a slot's number fits 16 bits is known where the slot is read.
     let _root = path.root;
     fields_fit(path.fields.as_slice())
 }
@@ -47,6 +48,7 @@ fn lines_fit(lines: &[Line]) -> bool
     ensures { result ≡ true → AllByRecursion IsLine lines.now }
 {
     for line in lines {
+        // Only the proof needs this: that a method's number fits 32 bits is known where it is read.
         let _method = line.method.0;
         if !paths_fit(line.held.as_slice()) {
             return false;
@@ -112,6 +114,7 @@ pub fn write_blame(alloc: Global, blame: &Blame) -> Result<Vec<u8>, NoMemory>
     requires { length blame.now < 2 ^ 32 }
     ensures { IfOk result (λ bytes. IsTextOf bytes.items blame.now) }
 {
+    // Only the proof needs this: the paths of each line ascend.
     blame.ascends();
     let lines = blame.lines();
     if !lines_fit(lines) {

@@ -36,6 +36,7 @@ abbrev pub at_node : Option ℕ → List ℕ
 at_node (Some node) = codes " node " ++ decimal node
 at_node None = codes ""
 
+-- the word for what is wrong with a book
 abbrev pub kind_text : WrongKind → List ℕ
 kind_text kinds.Shape = codes "shape"
 kind_text kinds.Step = codes "step"

@@ -13,6 +13,7 @@ pub record Line : Type 0 where
   pub number : ℕ
   pub body : Node
 
+-- a book: the trees that conclusions are numbered by, and a line for each method
 pub record Book : Type 0 where
   pub table : List Cond
   pub lines : List Line
@@ -37,6 +38,7 @@ abbrev pub tests_high : Cond → ℕ
 tests_high (LeafC b) = 0
 tests_high (TestC p a b) = suc (max (tests_high a) (tests_high b))
 
+-- whether a comparison says that the first comes before the second
 abbrev pub is_less : Ordering → Bool
 is_less Less = true
 is_less Equal = false
@@ -53,6 +55,7 @@ is_canonical_below above (LeafC b) = true
 is_canonical_below above (TestC p a b) =
     comes_after above p && (not (cond_eq a b) && (is_canonical_below (Some p) a && is_canonical_below (Some p) b))
 
+-- whether a tree is the one canonical tree of its value: tests ascend to each leaf, and no test has equal branches
 abbrev pub is_canonical : Cond → Bool
 is_canonical = is_canonical_below None
 
@@ -62,25 +65,30 @@ pub record IsTree (t : Cond) : Type 0 where
   pub high : tests_high t ≤ most_height
   pub canonical : is_canonical t ≡ true
 
+-- each of these trees may stand in a table
 abbrev pub AreTrees : List Cond → Type 0
 AreTrees [] = Unit {0}
 AreTrees (t ∷ ts) = IsTree t × AreTrees ts
 
+-- Heights of derivations: of a node, and of its premises.
 abbrev mutual
   -- how many nodes stand within each other
   pub node_high : Node → ℕ
   node_high (node w n ds) = suc (nodes_high ds)
 
+  -- the height of the highest of some premises, or 0
   pub nodes_high : Nodes → ℕ
   nodes_high no_nodes = 0
   nodes_high (and_node d ds) = max (node_high d) (nodes_high ds)
 
+-- Numbers that are in a table, in a node and in its premises.
 abbrev mutual
   -- each conclusion's number is in the table of so many trees
   pub AreNumbered : ℕ → Nodes → Type 0
   AreNumbered count no_nodes = Unit {0}
   AreNumbered count (and_node d ds) = IsNumbered count d × AreNumbered count ds
 
+  -- the numbers of a node's conclusion and of all below it are in the table of so many trees
   pub IsNumbered : ℕ → Node → Type 0
   IsNumbered count (node w n ds) = (n < count) × AreNumbered count ds
 
@@ -91,6 +99,7 @@ pub record IsLine (count : ℕ) (line : Line) : Type 0 where
   pub numbered : IsNumbered count line.body
   pub high : node_high line.body ≤ most_height
 
+-- each of these is a method line that a book with so many trees may have
 abbrev pub AreLines : ℕ → List Line → Type 0
 AreLines count [] = Unit {0}
 AreLines count (line ∷ lines) = IsLine count line × AreLines count lines

@@ -3,6 +3,7 @@ use Rattle.std.specs.Prelude.{ℕ, zero, suc, ◌==◌, Bool, false, List, [], �
 use Rattle.aj_book_grammar.specs.declared.stop.Kind.{Kind}
 use Rattle.aj_book_grammar.specs.declared.stop.Kind.TheVariants.{Form}
 
+-- what reading a part of a text gives: its value and the bytes behind it, or the kind of a fault and the bytes from the faulty one on
 abbrev pub Res : Type 0 → Type 0
 Res A = Result (A × List ℕ) (Kind × List ℕ)
 

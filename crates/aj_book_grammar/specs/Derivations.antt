@@ -3,6 +3,7 @@ use Rattle.std.specs.Prelude.{ℕ, suc, List, [], ◌∷◌, codes}
 use Rattle.aj_book_grammar.specs.declared.word.Word.{Word}
 use Rattle.aj_book_grammar.specs.declared.word.Word.TheVariants as w
 
+-- Nodes and lists of premises, which hold each other.
 mutual
   -- a node: its word, the number of its conclusion, its premises
   pub data Node : Type 0 where

@@ -11,6 +11,7 @@ abbrev pub HasFewFields : Cond → Type 0
 HasFewFields (LeafC b) = Unit {0}
 HasFewFields (TestC p a b) = (length p.fields ≤ most_fields) × HasFewFields a × HasFewFields b
 
+-- each path of each of these trees has at most two fields
 abbrev pub HaveFewFields : List Cond → Type 0
 HaveFewFields [] = Unit {0}
 HaveFewFields (t ∷ ts) = HasFewFields t × HaveFewFields ts

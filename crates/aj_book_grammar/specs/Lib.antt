@@ -1,6 +1,7 @@
--- What a book and its text are: Derivations, Books, Texts, then Reading, which says production by production what a text is read as and
--- where its first fault stands (Faults), over Combine. Passing has the same seen by less, as the readers do that take no memory; Views
--- says how a book's parts are seen in place.
+-- What a book and its text are, in this order: Derivations, Books, Texts, then Reading, which says production by production what a
+-- text is read as, over Combine, and where its first fault stands (Faults). Fronts says what a book's text may begin with, for the
+-- laws of the fault. Passing has the same as Reading seen by less, as the readers do that take no memory; Views says how a book's
+-- parts are seen in place.
 pub mod Views
 pub mod Fronts
 pub mod Derivations

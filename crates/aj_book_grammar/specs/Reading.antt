@@ -21,6 +21,7 @@ abbrev pub number_digits : List ℕ → List ℕ
 number_digits [] = []
 number_digits (b ∷ ts) = if b == 48 then b ∷ [] else take_while is_ascii_digit (b ∷ ts)
 
+-- whether a text is at its end
 abbrev pub is_empty : List ℕ → Bool
 is_empty [] = true
 is_empty (b ∷ ts) = false
@@ -37,12 +38,15 @@ fields_at zero ts = Ok ([], ts)
 fields_at (suc most) ts =
     if begins 46 ts then (number_at (2 ^ 32) (drop 1 ts) >>= λ f ts. fields_at most ts >>= λ fs ts. Ok (f ∷ fs, ts)) else Ok ([], ts)
 
+-- a lock path: the number of its slot, and at most two fields
 unfoldable pub path_at : List ℕ → Res PathData
 path_at ts = number_at (2 ^ 16) ts >>= λ root ts. fields_at most_fields ts >>= λ fields ts. Ok (record { root = root; fields = fields }, ts)
 
+-- the five basics, in their order
 abbrev pub basics : List Basic
 basics = Const ∷ Mover ∷ Atomic ∷ Cmpd ∷ Error ∷ []
 
+-- the name of a basic
 unfoldable pub leaf_at : List ℕ → Res Basic
 leaf_at ts = one_of name_of basics ts
 
@@ -61,6 +65,7 @@ tree_at (suc room) ts = if begins 40 ts then test_with (tree_at room) ts else (l
 unfoldable pub canonical_at : List ℕ → Res Cond
 canonical_at ts = tree_at most_height ts >>= λ t rest. if is_canonical t then Ok (t, rest) else Err (Form, ts)
 
+-- a line of the table: a canonical tree
 abbrev pub table_line : List ℕ → Res Cond
 table_line ts = canonical_at ts >>= λ t ts. expect (newline ∷ []) ts >>= λ u ts. Ok (t, ts)
 
@@ -79,6 +84,7 @@ node_at count (suc room) ts =
     expect (codes "(") ts >>= λ u ts. word_at_front ts >>= λ w ts. number_at count ts >>= λ n ts.
     several 32 (premise_with (node_at count room)) ts >>= λ ds ts. expect (codes ")") ts >>= λ u ts. Ok (node w n (nodes_from ds), ts)
 
+-- a method's line, in a book with so many trees: its number, the number of its conclusion, and its derivation
 unfoldable pub line_at : ℕ → List ℕ → Res Line
 line_at count ts =
     expect (codes "method ") ts >>= λ u ts. number_at (2 ^ 32) ts >>= λ id ts. expect (codes " ") ts >>= λ u ts.
@@ -99,6 +105,7 @@ unfoldable pub lines_at : ℕ → List ℕ → Res (List Line)
 lines_at count ts =
     several 109 (line_at count) ts >>= λ lines ts. expect (codes "end" ++ (newline ∷ [])) ts >>= λ u ts. nothing ts >>= λ u ts. Ok (lines, ts)
 
+-- a whole book: the count of its trees, the trees, and the lines of the methods
 unfoldable pub book_at : List ℕ → Res Book
 book_at ts =
     count_at ts >>= λ n ts. exactly n table_line ts >>= λ trees ts. lines_at n ts >>= λ lines ts.

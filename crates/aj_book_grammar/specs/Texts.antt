@@ -9,6 +9,7 @@ use Rattle.aj_book_grammar.specs.Books.{Line, Book, IsBook}
 abbrev pub newline : ℕ
 newline = 10
 
+-- The texts of a node and of its premises.
 abbrev mutual
   -- a node: its word, its number and its premises, in brackets
   pub node_text : Node → List ℕ
@@ -23,6 +24,7 @@ abbrev mutual
 abbrev pub line_text : Line → List ℕ
 line_text line = codes "method " ++ (decimal line.id ++ (codes " " ++ (decimal line.number ++ ((newline ∷ []) ++ (node_text line.body ++ (newline ∷ []))))))
 
+-- the lines of methods, one after the other
 abbrev pub lines_text : List Line → List ℕ
 lines_text [] = []
 lines_text (line ∷ lines) = line_text line ++ lines_text lines
@@ -32,6 +34,7 @@ abbrev pub table_text : List Cond → List ℕ
 table_text [] = []
 table_text (t ∷ ts) = (text_of t ++ (newline ∷ [])) ++ table_text ts
 
+-- a book as it is written
 abbrev pub book_text : Book → List ℕ
 book_text book =
     (codes "book " ++ (decimal (length book.table) ++ (newline ∷ []))) ++

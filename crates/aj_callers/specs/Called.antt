@@ -18,6 +18,7 @@ module _ (test : ℕ → Bool) where
     expr_calls (NewE c args) = exprs_call args
     expr_calls _ = false
 
+    -- whether one of some arguments does
     pub exprs_call : Exprs → Bool
     exprs_call no_exprs = false
     exprs_call (and_expr e es) = expr_calls e || exprs_call es
@@ -39,10 +40,12 @@ module _ (test : ℕ → Bool) where
     stmt_calls (PrintS e) = expr_calls e
     stmt_calls (StartS e) = expr_calls e
 
+    -- whether one of the statements of a block does
     pub block_calls : Stmts → Bool
     block_calls no_stmts = false
     block_calls (and_stmt s ss) = stmt_calls s || block_calls ss
 
+-- The called methods of expressions and of lists of arguments; one that is called twice stands twice.
 abbrev mutual
   -- the methods that an expression calls
   pub expr_callees : Expr → List ℕ
@@ -56,10 +59,12 @@ abbrev mutual
   expr_callees (NewE c args) = exprs_callees args
   expr_callees _ = []
 
+  -- the methods that a list of arguments calls
   pub exprs_callees : Exprs → List ℕ
   exprs_callees no_exprs = []
   exprs_callees (and_expr e es) = expr_callees e ++ exprs_callees es
 
+-- The called methods of statements and of blocks.
 abbrev mutual
   -- those that a statement calls
   pub stmt_callees : Stmt → List ℕ
@@ -77,6 +82,7 @@ abbrev mutual
   stmt_callees (PrintS e) = expr_callees e
   stmt_callees (StartS e) = expr_callees e
 
+  -- those that the statements of a block call
   pub block_callees : Stmts → List ℕ
   block_callees no_stmts = []
   block_callees (and_stmt s ss) = stmt_callees s ++ block_callees ss
@@ -86,6 +92,7 @@ abbrev pub row_of : Option (List ℕ) → List ℕ
 row_of None = []
 row_of (Some row) = row
 
+-- the row of method m; an empty one where there is none
 abbrev pub row_at : List (List ℕ) → ℕ → List ℕ
 row_at rows m = row_of (slice_get rows m)
 
@@ -115,6 +122,7 @@ abbrev pub method_calls : Option Method → (overs : List ℕ) → ℕ → Bool
 method_calls None overs callee = false
 method_calls (Some method) overs callee = stmt_calls (λ m. m == callee) method.body || has_method overs callee
 
+-- whether the first method counts as a caller of the second: it calls it in its body, or is overridden by it
 abbrev pub calls : Program → (overs : ℕ → List ℕ) → (caller callee : ℕ) → Bool
 calls P overs caller callee = method_calls (slice_get P.methods caller) (overs caller) callee
 

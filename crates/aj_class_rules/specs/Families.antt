@@ -43,18 +43,23 @@ pub record IsFamily (f : Family) : Type 0 where
   pub firsts : f.firsts.items ≡ first_places (class_names (tree_of f))
   pub above : f.above.items ≡ all_above (tree_of f)
 
+-- where a field stands, as plain data: the number of its class, and its place among the fields of that class
 abbrev pub place_data : code.FieldPlace → FieldPlace
 place_data p = record { class = p.class; place = p.place }
 
+-- a field that was found in a class or above it, as plain data
 abbrev pub field_data : Field → FoundField
 field_data f = record { at = place_data f.at; is_final = f.is_final; ty = f.ty.now }
 
+-- what a lock means, as plain data: the slot that it begins at, the places of its fields, and the class of the object that is reached
 abbrev pub reach_data : LockReach → Reach
 reach_data r = record { slot = r.slot; fields = map place_data r.fields.items; class = r.class }
 
+-- what all locks of `requires` mean, as plain data; none where some lock means nothing
 abbrev pub locks_data : Option (Vec LockReach Global) → Option (List Reach)
 locks_data locks = option_map (λ rs. map reach_data rs.items) locks
 
+-- a method's heading as plain data: its name, and what an overriding method has to share with it
 abbrev pub heading_data : code_heading.Heading → Heading
 heading_data h = record {
   name = h.name.now;
@@ -65,6 +70,7 @@ heading_data h = record {
 abbrev pub rows_data : List (Vec code_heading.Heading Global) → List (List Heading)
 rows_data rows = map (λ row. map heading_data row.items) rows
 
+-- the headings of a class that may be missing, which then has none
 abbrev pub row_in : Option (List Heading) → List Heading
 row_in None = []
 row_in (Some row) = row

@@ -38,6 +38,7 @@ is_on_circle tree k = is_circular (above tree) (length tree) k
 abbrev pub line : ProgramTree → ℕ → List ℕ
 line tree k = if is_on_circle tree k then [] else ancestors_of tree k
 
+-- the members of a class that may be missing, which then has none
 abbrev pub members_in : Option ClassTree → List MemberTree
 members_in None = []
 members_in (Some c) = c.members
@@ -54,6 +55,7 @@ inherited tree k = flat_map (members_at tree) (reverse (line tree k))
 abbrev pub all_members : ProgramTree → ℕ → List MemberTree
 all_members tree k = inherited tree k ++ members_at tree k
 
+-- whether a class that may be missing is there and says `implements Runnable`
 abbrev pub says_in : Option ClassTree → Bool
 says_in None = false
 says_in (Some c) = c.runnable

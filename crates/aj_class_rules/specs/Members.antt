@@ -6,6 +6,7 @@ use Rattle.aj_syntax.specs.declared.tree.TypeName.{TypeName}
 use Rattle.aj_syntax.specs.declared.tree.TypeName.TheVariants as Y
 use Rattle.aj_syntax.specs.Trees.{MethodTree, MemberTree, FieldM, CtorM, MethodM, ProgramTree}
 
+-- whether a list has nothing in it
 abbrev pub is_empty : {A : Type 0} → List A → Bool
 is_empty [] = true
 is_empty (x ∷ xs) = false

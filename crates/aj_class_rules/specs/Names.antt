@@ -3,6 +3,7 @@ use Rattle.std.specs.Prelude.{ℕ, Bool, List, [], ◌∷◌, ◌++◌, map, byt
 use Rattle.std.specs.List.{list_any}
 use Rattle.aj_syntax.specs.declared.tree.Name.{Name}
 
+-- the texts of names, without their offsets
 abbrev pub texts_of : List Name → List (List ℕ)
 texts_of names = map (λ n. n.text) names
 

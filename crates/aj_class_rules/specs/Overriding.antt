@@ -105,6 +105,7 @@ meanings_of tree k params (l ∷ ls) =
 
 -- ---- the same
 
+-- whether two lists of fields are equal: place by place the same class and the same field of it
 abbrev pub are_same_places : List FieldPlace → List FieldPlace → Bool
 are_same_places [] [] = true
 are_same_places [] (g ∷ gs) = false

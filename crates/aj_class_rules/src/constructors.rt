@@ -72,6 +72,7 @@ fn final_fields<'m, 'a>(
     Ok(finals)
 }
 
+/// Whether two types are the same: a class by its name.
 pub(crate) fn is_same(one: &TypeName, other: &TypeName) -> bool
     ensures { result ≡ is_same_type one.now other.now }
 {

@@ -105,6 +105,7 @@ fn note_fields_after<'a>(
     Ok(found)
 }
 
+/// The first fault so far, or a method's name that stands a second time in its class, whichever comes first.
 pub(crate) fn note_methods(
     alloc: Global,
     members: &[Member],
@@ -172,6 +173,7 @@ fn note_types(classes: &NameSet, params: &[Param], first: Option<ClassFault>) ->
     found
 }
 
+/// The first fault so far, or that there are too many where this name stands; without a name there are not.
 pub(crate) fn note_excess(name: Option<&Name>, first: Option<ClassFault>) -> Option<ClassFault>
     ensures { result ≡ noted first (too_many_faults (option_map (λ n. n.now) name.entry)) }
 {
@@ -229,6 +231,7 @@ fn note_member(
     }
 }
 
+/// The first fault so far, or the first one of these members, whichever comes first.
 pub(crate) fn note_members(
     alloc: Global,
     classes: &NameSet,

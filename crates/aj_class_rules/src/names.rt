@@ -51,6 +51,7 @@ fn place_in(names: &[&str], text: &str) -> Option<usize>
 }
 
 impl<'a> NameSet<'a> {
+    /// A set with no name in it.
     pub fn new(alloc: Global) -> NameSet<'a>
         ensures { result ≡ [] }
     {
@@ -76,6 +77,7 @@ impl<'a> NameSet<'a> {
         Ok(self.more.insert(text)?)
     }
 
+    /// Whether a name is in the set.
     pub fn contains(&self, text: &str) -> bool
         ensures { result ≡ has_text self.now text.now }
     {
@@ -89,6 +91,7 @@ impl<'a> NameSet<'a> {
         match place_in(&self.few, text) {
             Some(place) => Some(place),
             None => {
+                // Only the proof needs this: the length bounds the sum below.
                 let _ = self.more.len();
                 let place = self.more.get_index_of(text)?;
                 Some(self.few.len() + place)
@@ -108,6 +111,7 @@ impl<'a> NameSet<'a> {
         }
     }
 
+    /// How many names there are.
     pub fn len(&self) -> usize
         ensures { result ≡ length self.now }
     {

@@ -10,11 +10,13 @@ use Rattle.aj_classes.specs.Seen.{FieldData}
 use Rattle.aj_classes.specs.Table.{ClassData, MethodData, fields_of, methods_of}
 use Rattle.aj_classes.specs.Views.{class_data, method_data}
 
+-- what a table has so far: the entries of its classes, fields and methods, in the order of their numbers
 pub record PartsData : Type 0 where
   pub classes : List ClassData
   pub fields : List FieldData
   pub methods : List MethodData
 
+-- the parts of a table in memory as plain data
 abbrev pub parts_data : Parts → PartsData
 parts_data p = record {
   classes = map class_data p.classes.items;
@@ -62,6 +64,7 @@ abbrev pub with_classes : ProgramTree → List (Option ℕ) → List (List ℕ) 
 with_classes tree aboves names p [] = p
 with_classes tree aboves names p (c ∷ cs) = with_classes tree aboves names (with_class tree aboves names c p) cs
 
+-- a table before its first class
 abbrev pub no_parts : PartsData
 no_parts = record { classes = []; fields = []; methods = [] }
 

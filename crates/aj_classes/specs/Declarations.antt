@@ -15,6 +15,7 @@ declared_fields tree = flat_map (λ c. field_names c.members) tree
 abbrev pub declared_methods : ProgramTree → List Name
 declared_methods tree = flat_map (λ c. method_names c.members) tree
 
+-- the parameters of each method of a class, in the order of its methods
 abbrev pub method_params : List MemberTree → List (List Param)
 method_params [] = []
 method_params (FieldM f ∷ ms) = method_params ms

@@ -46,6 +46,7 @@ type_of classes Y.Int = T.Int
 type_of classes Y.Boolean = T.Boolean
 type_of classes (Y.Class n) = T.Class (unwrap_or (position (bytes_eq n.text) classes) 0)
 
+-- a parameter of a method, its type by the numbers of these classes
 abbrev pub param_of : List (List ℕ) → Param → ParamData
 param_of classes p = record { name = p.name.text; is_final = p.is_final; ty = type_of classes p.ty }
 
@@ -156,5 +157,6 @@ method_title t m = option_and_then (λ d. option_map (λ c. (c, d.name)) (slice_
 abbrev pub slot_of : ℕ → MethodData → Option (List ℕ)
 slot_of slot d = if slot == 0 then Some (codes "this") else option_map (λ p. p.name) (slice_get d.params (slot - 1))
 
+-- the name of a slot of method m: `this` for the first, else that of a parameter
 abbrev pub slot_title : TableData → ℕ → ℕ → Option (List ℕ)
 slot_title t m slot = option_and_then (slot_of slot) (slice_get t.methods m)

@@ -5,6 +5,7 @@ use Rattle.aj_classes.specs.declared.entries.MethodEntry.{MethodEntry}
 use Rattle.aj_classes.specs.declared.entries.ClassTable.{ClassTable}
 use Rattle.aj_classes.specs.Table.{ClassData, MethodData, TableData}
 
+-- a class's entry in the table as plain data
 abbrev pub class_data : ClassEntry → ClassData
 class_data c = record {
   above = c.above;
@@ -15,9 +16,11 @@ class_data c = record {
   method_names = c.method_names;
 }
 
+-- a method's entry in the table as plain data
 abbrev pub method_data : MethodEntry → MethodData
 method_data m = record { class = m.class; name = m.name.now; params = m.params.items; returns = m.returns }
 
+-- a class table as plain data: the names of its classes, and the entries of classes, fields and methods
 abbrev pub table_data : ClassTable → TableData
 table_data t = record {
   names = t.names;

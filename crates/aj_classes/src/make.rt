@@ -28,6 +28,7 @@ fn build<'a>(
     requires names { names ≡ distinct (class_names (program_of program.now)) }
     ensures { IfOk result (λ t. table_data t ≡ table_of (program_of program.now)) }
 {
+    // A program with more classes than ids is refused before anything is built.
     let _count = number(names.len())?;
     let parts = parts_of(alloc, &names, program.classes.as_slice())?;
     let Parts {

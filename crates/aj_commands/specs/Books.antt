@@ -14,6 +14,7 @@ pub record IsVerifyOf (call : Call) (source_name book_name file bytes : List ℕ
   pub small : length file ≤ 262144
   pub short : length bytes ≤ 16777216
 
+-- what `verify` says over any book, and over the book that `derive` wrote
 pub record Books (call : Call) : Type 0 where
   -- status 0 only where the source is accepted
   pub sound : (source_name book_name file bytes : List ℕ) → IsVerifyOf call source_name book_name file bytes → call.status ≡ 0 → IsAcceptedSource file

@@ -6,6 +6,7 @@ use Rattle.aj_commands.specs.declared.status.Status.{Status}
 use Rattle.aj_commands.specs.declared.status.Status.TheVariants.{Ended, CannotRead, CannotWrite, NoMemory, Usage, TooLarge}
 use Rattle.aj_commands.specs.Rows.{Row}
 
+-- a row of words as plain data: its command, and the bytes of the names of its files
 abbrev pub row_of : Words → Row
 row_of words = record { command = words.command; names = map string_bytes words.names.now }
 

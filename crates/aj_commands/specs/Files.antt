@@ -19,6 +19,7 @@ abbrev pub first_over : List ℕ → List (List ℕ) → List (List ℕ) → Opt
 first_over (limit ∷ limits) (name ∷ names) (file ∷ files) = if nat_lt limit (length file) then Some name else first_over limits names files
 first_over _ _ _ = None
 
+-- the name of the first file of a row that is longer than its command allows
 abbrev pub first_too_large : Row → List (List ℕ) → Option (List ℕ)
 first_too_large row files = first_over (limits_of row.command) row.names files
 

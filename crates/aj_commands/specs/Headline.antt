@@ -59,6 +59,7 @@ pub record RefusesExactly (call : Call) (P : Program) (table : TableData) : Type
   pub all : (IsAccepted P → ⊥) → call.status ≡ 2
   pub names : call.status ≡ 2 → NamesBroken call P table
 
+-- what `serialise` and `check` promise of a call, both over the bytes of their files
 pub record Headline (call : Call) : Type 0 where
   -- `serialise`, on files that are told and within their limits, where nothing failed
   pub serialise : (source_name schedule_name file text : List ℕ) → call.words ≡ codes "serialise" ∷ source_name ∷ schedule_name ∷ []

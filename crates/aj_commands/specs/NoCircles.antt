@@ -27,6 +27,7 @@ pub record ReachesNoCircle (file : List ℕ) : Type 0 where
   pub source : IsWellFormedSource file tree program
   pub none : (s : List ℕ) (q : State) → run program s ≡ Some q → Circle q → ⊥
 
+-- what `levels` says over any levels, and over levels that order the program
 pub record NoCircles (call : Call) : Type 0 where
   -- status 0 only where no circle is reached
   pub sound : (source_name levels_name file bytes : List ℕ) → IsLevelsOf call source_name levels_name file bytes → call.status ≡ 0 → ReachesNoCircle file

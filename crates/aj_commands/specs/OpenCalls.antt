@@ -27,6 +27,7 @@ pub record WritesGathered (call : Call) (P : Program) (s : List ℕ) (q : State)
   pub whole : IsWhole P order
   pub closed : open_thread P q ≡ None → order ≡ written_order P s
 
+-- what `serialise-open` writes for an accepted source and a schedule that runs on it
 pub record OpenCalls (call : Call) : Type 0 where
   -- `serialise-open`, on files that are told and within their limits, where nothing failed
   pub opens : (source_name schedule_name file text : List ℕ) → call.words ≡ codes "serialise-open" ∷ source_name ∷ schedule_name ∷ []

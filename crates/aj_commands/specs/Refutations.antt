@@ -14,6 +14,7 @@ pub record IsVerifyBlameOf (call : Call) (source_name certificate_name file byte
   pub small : length file ≤ 262144
   pub short : length bytes ≤ 16777216
 
+-- what `verify-blame` says over any certificate, and over the certificate that `blame` wrote
 pub record Refutations (call : Call) : Type 0 where
   -- status 0 only where the source is well-formed and no assignment is admissible
   pub sound : (source_name certificate_name file bytes : List ℕ) → IsVerifyBlameOf call source_name certificate_name file bytes → call.status ≡ 0 → HasNoAssignment file

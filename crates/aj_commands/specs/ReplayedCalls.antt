@@ -45,6 +45,7 @@ pub record NamesDeep (call : Call) (P : Program) (s : List ℕ) (q : State) : Ty
   pub deep : IsTooDeep P order entry
   pub written : Appends call.written_before call.written_after (too_deep_line entry)
 
+-- what `replay` writes for an accepted source and a schedule that runs on it
 pub record ReplayedCalls (call : Call) : Type 0 where
   -- `replay`, on files that are told and within their limits, where nothing failed
   pub replays : (source_name schedule_name file text : List ℕ) → call.words ≡ codes "replay" ∷ source_name ∷ schedule_name ∷ []

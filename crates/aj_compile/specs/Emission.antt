@@ -15,6 +15,7 @@ line instr next = record { instr = instr; next = next }
 
 -- How many lines.
 abbrev mutual
+  -- the lines of an expression: one for each value, operator, access, call and `new`
   pub weight : Expr → ℕ
   weight (NotE e) = 1 + weight e
   weight (NegE e) = 1 + weight e
@@ -26,11 +27,14 @@ abbrev mutual
   weight (NewE c args) = 1 + weights args
   weight _ = 1
 
+  -- the lines of all arguments
   pub weights : Exprs → ℕ
   weights no_exprs = 0
   weights (and_expr e es) = weights es + weight e
 
+-- How many lines statements and blocks have.
 abbrev mutual
+  -- the lines of a statement; a `return` has none of its own, since it goes on at the one line of its method that returns
   pub stmt_weight : Stmt → ℕ
   stmt_weight EmptyS = 0
   stmt_weight (BlockS ss) = stmts_weight ss
@@ -47,12 +51,14 @@ abbrev mutual
   stmt_weight (PrintS e) = 1 + weight e
   stmt_weight (StartS e) = 1 + weight e
 
+  -- the lines of the statements of a block
   pub stmts_weight : Stmts → ℕ
   stmts_weight no_stmts = 0
   stmts_weight (and_stmt s ss) = stmts_weight ss + stmt_weight s
 
 -- Where a part begins.
 abbrev mutual
+  -- the place of the line that an expression begins with, which is that of its first part, or its own where it has none
   pub expr_entry : Expr → (at next : ℕ) → ℕ
   expr_entry (NotE e) at next = expr_entry e (at + 1) at
   expr_entry (NegE e) at next = expr_entry e (at + 1) at
@@ -64,6 +70,7 @@ abbrev mutual
   expr_entry (NewE c args) at next = exprs_entry args (at + 1) at
   expr_entry _ at next = at
 
+  -- the place at which the first argument begins; without arguments it goes on at `next` at once
   pub exprs_entry : Exprs → (at next : ℕ) → ℕ
   exprs_entry no_exprs at next = next
   exprs_entry (and_expr e es) at next = expr_entry e (at + weights es) (exprs_entry es at next)
@@ -73,7 +80,9 @@ abbrev pub gets_entry : List ℕ → (at next : ℕ) → ℕ
 gets_entry [] at next = next
 gets_entry (f ∷ fs) at next = at + length fs
 
+-- Where a statement and a block begin.
 abbrev mutual
+  -- the place at which a statement begins; an empty one begins where it goes on, and a `return` without a value at `ret`
   pub stmt_entry : Stmt → (at next ret : ℕ) → ℕ
   stmt_entry EmptyS at next ret = next
   stmt_entry (BlockS ss) at next ret = stmts_entry ss at next ret
@@ -90,12 +99,14 @@ abbrev mutual
   stmt_entry (PrintS e) at next ret = expr_entry e (at + 1) at
   stmt_entry (StartS e) at next ret = expr_entry e (at + 1) at
 
+  -- the place at which the first statement of a block begins
   pub stmts_entry : Stmts → (at next ret : ℕ) → ℕ
   stmts_entry no_stmts at next ret = next
   stmts_entry (and_stmt s ss) at next ret = stmt_entry s (at + stmts_weight ss) (stmts_entry ss at next ret) ret
 
 -- The lines.
 abbrev mutual
+  -- the lines of an expression, from its last action to its first
   pub emitted : Expr → (at next : ℕ) → List Code
   emitted (IntE n) at next = line (i.Push (value.Int n)) next ∷ []
   emitted (TruthE b) at next = line (i.Push (value.Truth b)) next ∷ []
@@ -115,6 +126,7 @@ abbrev mutual
       line (i.Call m) next ∷ (emitted_args args (at + 1) at ++ emitted e (at + 1 + weights args) (exprs_entry args (at + 1) at))
   emitted (NewE c args) at next = line (i.New c) next ∷ emitted_args args (at + 1) at
 
+  -- the lines of arguments, those of the last one first
   pub emitted_args : Exprs → (at next : ℕ) → List Code
   emitted_args no_exprs at next = []
   emitted_args (and_expr e es) at next = emitted_args es at next ++ emitted e (at + weights es) (exprs_entry es at next)
@@ -124,7 +136,9 @@ abbrev pub emitted_gets : List ℕ → (at next : ℕ) → List Code
 emitted_gets [] at next = []
 emitted_gets (f ∷ fs) at next = emitted_gets fs at next ++ (line (i.Get f) (gets_entry fs at next) ∷ [])
 
+-- The lines of a statement and of a block.
 abbrev mutual
+  -- the lines of a statement
   pub emitted_stmt : Stmt → (at next ret : ℕ) → List Code
   emitted_stmt EmptyS at next ret = []
   emitted_stmt (BlockS ss) at next ret = emitted_stmts ss at next ret
@@ -154,6 +168,7 @@ abbrev mutual
   emitted_stmt (PrintS e) at next ret = line i.Print next ∷ emitted e (at + 1) at
   emitted_stmt (StartS e) at next ret = line i.Start next ∷ emitted e (at + 1) at
 
+  -- the lines of the statements of a block, those of the last one first
   pub emitted_stmts : Stmts → (at next ret : ℕ) → List Code
   emitted_stmts no_stmts at next ret = []
   emitted_stmts (and_stmt s ss) at next ret =
@@ -163,9 +178,11 @@ abbrev mutual
 abbrev pub emitted_method : Method → (at : ℕ) → List Code
 emitted_method m at = line (i.Ret (is_some m.result)) 0 ∷ emitted_stmt m.body (at + 1) at at
 
+-- the lines of a method: its return, and those of its body
 abbrev pub method_weight : Method → ℕ
 method_weight m = 1 + stmt_weight m.body
 
+-- the place at which a method begins whose lines stand from `at` on
 abbrev pub method_entry : Method → (at : ℕ) → ℕ
 method_entry m at = stmt_entry m.body (at + 1) at at
 
@@ -174,6 +191,7 @@ abbrev pub emitted_methods : List Method → (at : ℕ) → List Code
 emitted_methods [] at = []
 emitted_methods (m ∷ ms) at = emitted_method m at ++ emitted_methods ms (at + method_weight m)
 
+-- the place at which each method begins, where the lines of the first one stand from `at` on
 abbrev pub method_entries : List Method → (at : ℕ) → List ℕ
 method_entries [] at = []
 method_entries (m ∷ ms) at = method_entry m at ∷ method_entries ms (at + method_weight m)

@@ -85,6 +85,7 @@ abbrev mutual
   exprs_room no_exprs = 0
   exprs_room (and_expr e es) = max (expr_room e) (1 + exprs_room es)
 
+-- The same of statements and blocks.
 abbrev mutual
   -- of a statement
   pub stmt_room : Stmt → ℕ

@@ -40,6 +40,7 @@ impl Tree {
     }
 }
 
+/// Whether two trees have the same tests and leaves.
 pub(crate) fn same_tree(t: &Tree, u: &Tree) -> bool
     ensures { result ≡ cond_eq (cond_of t.now) (cond_of u.now) }
 {

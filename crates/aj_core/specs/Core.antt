@@ -4,6 +4,7 @@ use Rattle.aj_paths.specs.Paths.{PathData}
 use Rattle.aj_core.specs.declared.types.CoreType.{CoreType}
 use Rattle.aj_core.specs.declared.types.CoreOp.{CoreOp}
 
+-- Expressions and lists of arguments, which hold each other.
 mutual
   -- an expression; a variable has its slot, whether that is final, and its type
   pub data Expr : Type 0 where
@@ -26,6 +27,7 @@ mutual
     no_exprs : Exprs
     and_expr : Expr → Exprs → Exprs
 
+-- Statements and lists of them, which hold each other.
 mutual
   -- a statement; a local has its slot, whether it is final, its type and its value
   pub data Stmt : Type 0 where

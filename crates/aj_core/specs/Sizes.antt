@@ -3,6 +3,7 @@ use Rattle.std.specs.Prelude.{ℕ, ◌+◌, Option, Some, None, max}
 use Rattle.aj_core.specs.Core.{Expr, Exprs, NotE, NegE, BinaryE, AndE, OrE, GetE, CallE, NewE, no_exprs, and_expr}
 use Rattle.aj_core.specs.Core.{Stmt, Stmts, EmptyS, BlockS, LocalS, SetVarS, SetFieldS, DoS, IfS, WhileS, SyncS, ReturnS, PrintS, StartS, no_stmts, and_stmt}
 
+-- Heights of expressions and of lists of arguments.
 abbrev mutual
   -- the height of an expression: 1 more than that of its highest part, and 1 where it has none
   pub height_of : Expr → ℕ
@@ -16,10 +17,12 @@ abbrev mutual
   height_of (NewE c args) = 1 + highest_of args
   height_of _ = 1
 
+  -- the height of the highest of some arguments, or 0
   pub highest_of : Exprs → ℕ
   highest_of no_exprs = 0
   highest_of (and_expr e es) = max (height_of e) (highest_of es)
 
+-- How many nodes expressions and lists of arguments have.
 abbrev mutual
   -- how many nodes an expression has
   pub nodes_of : Expr → ℕ
@@ -33,6 +36,7 @@ abbrev mutual
   nodes_of (NewE c args) = 1 + nodes_of_each args
   nodes_of _ = 1
 
+  -- how many nodes some arguments have together
   pub nodes_of_each : Exprs → ℕ
   nodes_of_each no_exprs = 0
   nodes_of_each (and_expr e es) = nodes_of e + nodes_of_each es
@@ -47,6 +51,7 @@ abbrev pub value_nodes : Option Expr → ℕ
 value_nodes None = 0
 value_nodes (Some e) = nodes_of e
 
+-- Heights of statements and of blocks.
 abbrev mutual
   -- the height of a statement
   pub stmt_height : Stmt → ℕ
@@ -63,10 +68,12 @@ abbrev mutual
   stmt_height (PrintS e) = 1 + height_of e
   stmt_height (StartS e) = 1 + height_of e
 
+  -- the height of the highest statement of a block, or 0
   pub highest_stmt : Stmts → ℕ
   highest_stmt no_stmts = 0
   highest_stmt (and_stmt s ss) = max (stmt_height s) (highest_stmt ss)
 
+-- How many nodes statements and blocks have.
 abbrev mutual
   -- how many nodes a statement has
   pub stmt_nodes : Stmt → ℕ
@@ -83,6 +90,7 @@ abbrev mutual
   stmt_nodes (PrintS e) = 1 + nodes_of e
   stmt_nodes (StartS e) = 1 + nodes_of e
 
+  -- how many nodes the statements of a block have together
   pub stmt_nodes_each : Stmts → ℕ
   stmt_nodes_each no_stmts = 0
   stmt_nodes_each (and_stmt s ss) = stmt_nodes s + stmt_nodes_each ss

@@ -74,6 +74,7 @@ abbrev pub scope_after : Stmt → List Variable → List Variable
 scope_after (LocalS x is_final ty e) scope = record { slot = x; is_final = is_final; ty = ty } ∷ scope
 scope_after _ scope = scope
 
+-- The locals of a statement and of a block.
 abbrev mutual
   -- how many locals a statement declares
   pub declared_in : Stmt → ℕ
@@ -84,6 +85,7 @@ abbrev mutual
   declared_in (SyncS p s) = declared_in s
   declared_in _ = 0
 
+  -- how many locals the statements of a block declare together
   pub declared_in_each : Stmts → ℕ
   declared_in_each no_stmts = 0
   declared_in_each (and_stmt s ss) = declared_in s + declared_in_each ss
@@ -146,6 +148,7 @@ abbrev pub is_true_literal : Expr → Bool
 is_true_literal (TruthE b) = b
 is_true_literal _ = false
 
+-- What can be reached behind a statement and behind a block.
 abbrev mutual
   -- whether what stands after a statement can be reached
   pub completes : Stmt → Bool
@@ -156,6 +159,7 @@ abbrev mutual
   completes (ReturnS e) = false
   completes _ = true
 
+  -- whether what stands after these statements can be reached, which is so where each of them completes
   pub completes_each : Stmts → Bool
   completes_each no_stmts = true
   completes_each (and_stmt s ss) = completes s && completes_each ss

@@ -12,6 +12,7 @@ use Rattle.aj_core.specs.Core.{Expr, IntE, TruthE, NullE, ThisE, VarE, NotE, Neg
 use Rattle.aj_core.specs.Core.{Stmt, EmptyS, BlockS, LocalS, SetVarS, SetFieldS, DoS, IfS, WhileS, SyncS, ReturnS, PrintS, StartS, Stmts, no_stmts, and_stmt}
 use Rattle.aj_core.specs.Core.{Class, Field, Method, Program}
 
+-- Expressions and rows of arguments as plain data.
 abbrev mutual
   -- an expression as plain data
   pub expr_of : CoreExpr → Expr
@@ -34,6 +35,7 @@ abbrev mutual
   exprs_of end_of-CoreExpr = no_exprs
   exprs_of (more_of-CoreExpr a rest) = and_expr (expr_of a) (exprs_of rest)
 
+-- Statements and rows of them as plain data.
 abbrev mutual
   -- a statement as plain data
   pub stmt_of : CoreStmt → Stmt

@@ -36,10 +36,12 @@ abbrev pub pushes : (next : ℕ) → Option Value → Deed
 pushes next None = deed.Fails fault.Null
 pushes next (Some v) = deed.Goes 0 (Some v) next
 
+-- the top operand becomes the value of local `x`, where the frame has a slot of this number
 abbrev pub stores : (next : ℕ) → Value → ℕ → Option Value → Deed
 stores next v x None = deed.Fails fault.Null
 stores next v x (Some old) = deed.Stores x v next
 
+-- a binary operator takes its two operands and gives its value; without a value, as where the divisor is 0, the thread faults
 abbrev pub combines : (next : ℕ) → Option Value → Deed
 combines next None = deed.Fails fault.Zero
 combines next (Some v) = deed.Goes 2 (Some v) next
@@ -49,91 +51,113 @@ abbrev pub and_then : (next other : ℕ) → Bool → Deed
 and_then next other true = deed.Goes 1 None other
 and_then next other false = deed.Goes 1 (Some (value.Truth false)) next
 
+-- `||`: where the left part is true, the right one isn't evaluated and the answer is true; else the right part follows
 abbrev pub or_else : (next other : ℕ) → Bool → Deed
 or_else next other true = deed.Goes 1 (Some (value.Truth true)) next
 or_else next other false = deed.Goes 1 None other
 
+-- the condition of `if` or `while` decides: on with the next line where it is true, else at the other place
 abbrev pub branches : (next other : ℕ) → Bool → Deed
 branches next other true = deed.Goes 1 None next
 branches next other false = deed.Goes 1 None other
 
+-- the value of field `x` of this object in place of its address; a fault where the object has no such value
 abbrev pub reads_value : (next : ℕ) → Address → ℕ → Option Value → Deed
 reads_value next a x None = deed.Fails fault.Null
 reads_value next a x (Some v) = deed.Reads a x v next
 
+-- a field is read of the top operand's object, and a fault where that is no address, as with `null`
 abbrev pub reads : Program → Shared → (t next x : ℕ) → Option Address → Deed
 reads P see t next x None = deed.Fails fault.Null
 reads P see t next x (Some a) = reads_value next a x (value_at P see t a x)
 
+-- field `x`, which stands at this index in its object, becomes `v`, where the object has a value of it already; else a fault
 abbrev pub writes_value : (next : ℕ) → Value → Address → (x index : ℕ) → Option Value → Deed
 writes_value next v a x index None = deed.Fails fault.Null
 writes_value next v a x index (Some old) = deed.Writes a x index v next
 
+-- a field is written in the object of the operand below the top one; a fault where that is no address, and where the field is final
 abbrev pub writes : Program → Shared → (t next : ℕ) → Value → ℕ → Option Address → Deed
 writes P see t next v x None = deed.Fails fault.Null
 writes P see t next v x (Some a) = writes_value next v a x (index_of (slice_get P.fields x)) (unless_final (slice_get P.fields x) (value_at P see t a x))
 
+-- a new object of class `c`, whose final fields get their values from the operands, as many as there are of them
 abbrev pub makes : (next c : ℕ) → Option Class → Deed
 makes next c None = deed.Fails fault.Null
 makes next c (Some class) = deed.Makes c (class_finals class) next
 
+-- the method's first line and the room for its operands are looked up; with both there, a frame with `arity` arguments is entered
 abbrev pub enters_at : (arity next m : ℕ) → Address → Option ℕ → Option ℕ → Deed
 enters_at arity next m a None most = deed.Fails fault.Null
 enters_at arity next m a (Some place) None = deed.Fails fault.Null
 enters_at arity next m a (Some place) (Some most) = deed.Enters m arity a next place most
 
+-- a method is entered only where the thread may have one more frame; else the call is too deep
 abbrev pub enters : (entry room : List ℕ) → (arity next m : ℕ) → Address → Bool → Deed
 enters entry room arity next m a false = deed.Fails fault.Depth
 enters entry room arity next m a true = enters_at arity next m a (slice_get entry m) (slice_get room m)
 
+-- the method is entered where there is one, for a thread that has `depth` frames
 abbrev pub enters_some : (entry room : List ℕ) → (depth arity next m : ℕ) → Option Method → Address → Deed
 enters_some entry room depth arity next m None a = deed.Fails fault.Null
 enters_some entry room depth arity next m (Some method) a = enters entry room arity next m a (nat_lt depth most_frames)
 
+-- the method that the receiver's class chooses is entered, and a fault where it chooses none
 abbrev pub dispatches : Program → (entry room : List ℕ) → (depth arity next : ℕ) → Option ℕ → Address → Deed
 dispatches P entry room depth arity next None a = deed.Fails fault.Null
 dispatches P entry room depth arity next (Some m) a = enters_some entry room depth arity next m (slice_get P.methods m) a
 
+-- method `m` is called on the receiver at this address, whose class chooses what runs; a fault where there is no address
 abbrev pub calls_on : Program → Shared → (entry room : List ℕ) → (depth arity next m : ℕ) → Option Address → Deed
 calls_on P see entry room depth arity next m None = deed.Fails fault.Null
 calls_on P see entry room depth arity next m (Some a) = dispatches P entry room depth arity next (target_at P m (object_class (see.object_at a))) a
 
+-- a call of method `m`: its receiver is the operand below its arguments
 abbrev pub calls : Program → Shared → (entry room : List ℕ) → (depth next : ℕ) → List Value → ℕ → Option Method → Deed
 calls P see entry room depth next operands m None = deed.Fails fault.Null
 calls P see entry room depth next operands m (Some method) = calls_on P see entry room depth (length method.params) next m (address_of (top (dropped (length method.params) operands)))
 
+-- a lock that is held is taken once more by its holder, and waited for by all others
 abbrev pub takes_held : (next : ℕ) → Address → Hold → Bool → Deed
 takes_held next a hold true = deed.Takes a true next
 takes_held next a hold false = deed.Waits a hold.holder
 
+-- a free lock is taken; a held one is taken once more or waited for
 abbrev pub takes : (t next : ℕ) → Address → Option Hold → Deed
 takes t next a None = deed.Takes a false next
 takes t next a (Some hold) = takes_held next a hold (hold.holder == t)
 
+-- `synchronized` begins: the lock of the top operand's object is asked for, and a fault where that is no address
 abbrev pub acquires : Shared → (t next : ℕ) → Option Address → Deed
 acquires see t next None = deed.Fails fault.Null
 acquires see t next (Some a) = takes t next a (see.lock_at a)
 
+-- a thread gives back one hold of a lock that it holds itself, which frees the lock where it was the last one
 abbrev pub gives_held : (next : ℕ) → Address → Hold → Bool → Deed
 gives_held next a hold false = deed.Fails fault.Null
 gives_held next a hold true = deed.Gives a (not (nat_lt 1 hold.count)) next
 
+-- a hold of this lock is given back; a fault where nobody holds it
 abbrev pub gives : (t next : ℕ) → Address → Option Hold → Deed
 gives t next a None = deed.Fails fault.Null
 gives t next a (Some hold) = gives_held next a hold (hold.holder == t)
 
+-- `synchronized` ends: the lock that the frame took last is given back
 abbrev pub releases : Shared → (t next : ℕ) → Option Address → Deed
 releases see t next None = deed.Fails fault.Null
 releases see t next (Some a) = gives t next a (see.lock_at a)
 
+-- a frame returns the top operand, or nothing where its method has no result
 abbrev pub returns : Value → Bool → Deed
 returns v true = deed.Returns (Some v)
 returns v false = deed.Returns None
 
+-- a thread is started that will run method `m` on this object; a fault where its class has no `run`
 abbrev pub starts_run : (next : ℕ) → Address → Option ℕ → Deed
 starts_run next a None = deed.Fails fault.Null
 starts_run next a (Some m) = deed.Starts a m next
 
+-- `new Thread(e).start()`: the class of the top operand's object says which `run` the new thread begins with
 abbrev pub starts : Program → Shared → (next : ℕ) → Option Address → Deed
 starts P see next None = deed.Fails fault.Null
 starts P see next (Some a) = starts_run next a (run_of P (object_class (see.object_at a)))

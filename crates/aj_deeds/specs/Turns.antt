@@ -28,6 +28,7 @@ abbrev pub placed_deed : Program → List Code → (entry room : List ℕ) → S
 placed_deed P code entry room see t thread None = deed.Fails fault.Null
 placed_deed P code entry room see t thread (Some place) = line_deed P entry room see t thread (slice_get code place)
 
+-- what a running thread does next, by the place of its top frame
 abbrev pub cell_deed : Program → List Code → (entry room : List ℕ) → Shared → ℕ → ThreadOf CellFrame → Deed
 cell_deed P code entry room see t thread = placed_deed P code entry room see t thread (option_map (λ f. f.place) (top_frame thread))
 

@@ -8,6 +8,7 @@ use Rattle.aj_deriv.specs.declared.derivation.Derivation.TheVariants as d
 use Rattle.aj_book_grammar.specs.Derivations.{Node, node, Nodes, no_nodes, and_node}
 use Rattle.aj_book_grammar.specs.Books.{Line, Book}
 
+-- Derivations in memory as plain data: a node, and a row of nodes.
 abbrev mutual
   -- a node in memory as plain data
   pub node_of : Derivation → Node

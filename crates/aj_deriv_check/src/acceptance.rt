@@ -194,6 +194,7 @@ pub fn accept_text(
     ensures only_good { (book : Book) → IsTextOf bytes.now book → IsGoodBook (program_of program) (rel_of sets) book →
         IfErr result (λ refused. refused.why ≡ TextWrong.Wrong Wrong.Memory) }
 {
+    // Only the proof needs this: no method has too many paths.
     sets.few();
     match judged(alloc, &program, &sets, bytes) {
         Ok(()) => Ok(Checked { program, sets }),
@@ -224,6 +225,7 @@ pub fn accept(
         MatchResult result (λ _. ⊥) (λ refused. (refused.why ≡ fault) ⊎ (refused.why ≡ Wrong.Memory)) }
     ensures only_good { IsGoodBook (program_of program) (rel_of sets) (book_of book.now) → IfErr result (λ refused. refused.why ≡ Wrong.Memory) }
 {
+    // Only the proof needs this: no method has too many paths.
     sets.few();
     match judged_memory(alloc, &program, &sets, book) {
         Ok(()) => Ok(Checked { program, sets }),

@@ -26,6 +26,7 @@ pub(crate) trait Asked {
     /// What holds of whoever asks.
     ghost IsReady: { Self → Type 0 };
 
+    /// Whether a node with this word, this number and these premises is right at this part.
     fn is_good<F: Nodes>(
         &self,
         alloc: Global,

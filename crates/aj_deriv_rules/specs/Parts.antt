@@ -40,6 +40,7 @@ pub record Place : Type 0 where
   pub part : Part
   pub at : Node
 
+-- A node at the part that it stands for, and its premises at that part's own parts.
 abbrev mutual
   -- the places of a derivation, numbered from 0 in the order in which its nodes are written
   pub places : Part → Node → List Place

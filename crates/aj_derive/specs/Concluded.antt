@@ -22,6 +22,7 @@ module _ (P : Program) (rel : ℕ → List PathData) (A : Assignment) (table : L
         (n < length table) × Fits (record { part = part; at = node w n ds }) × IsExact P rel (table_value table) A (record { part = part; at = node w n ds })
         × ConcludeAll (parts_of part) ds
 
+    -- there are as many nodes as parts, and each concludes so at the part beside it
     pub ConcludeAll : List Part → Nodes → Type 0
     ConcludeAll [] no_nodes = Unit {0}
     ConcludeAll [] (and_node d ds) = ⊥
@@ -37,5 +38,6 @@ pub record BeginsWith (front table : List Cond) : Type 0 where
 abbrev pub ConcludesOn : Basis → List Cond → Part → Node → Type 0
 ConcludesOn basis table part d = Concludes (program_of basis.program.now) (rel_of basis.sets.now) (trees_assign (own_trees basis)) table part d
 
+-- each of these nodes concludes exactly its rule's value at the part beside it, by the program, the relevant sets and the trees of a basis
 abbrev pub ConcludeAllOn : Basis → List Cond → List Part → Nodes → Type 0
 ConcludeAllOn basis table parts ds = ConcludeAll (program_of basis.program.now) (rel_of basis.sets.now) (trees_assign (own_trees basis)) table parts ds

@@ -13,11 +13,13 @@ use Rattle.aj_deriv_rules.specs.Parts.{places, Each}
 use Rattle.aj_deriv_rules.specs.Conclusions.{table_value}
 use Rattle.aj_deriv_check.specs.Good.{book_assignment, IsExact, IsShaped}
 
+-- The conclusions' numbers in a derivation and in a list of them.
 abbrev mutual
   -- the numbers of the nodes of a derivation, as they are written
   pub node_numbers : Node → List ℕ
   node_numbers (node w n ds) = n ∷ nodes_numbers ds
 
+  -- the numbers of the nodes of several derivations, one derivation after the other
   pub nodes_numbers : Nodes → List ℕ
   nodes_numbers no_nodes = []
   nodes_numbers (and_node d ds) = node_numbers d ++ nodes_numbers ds

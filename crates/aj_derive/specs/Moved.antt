@@ -11,6 +11,7 @@ module _ (from to : List Cond) where
     pub IsSame : Node → Node → Type 0
     IsSame (node w n ds) (node x k es) = (w ≡ x) × ((t : Cond) × (slice_get from n ≡ Some t) × (slice_get to k ≡ Some t)) × AreSame ds es
 
+    -- the same of two lists of nodes, which are of one length
     pub AreSame : Nodes → Nodes → Type 0
     AreSame no_nodes no_nodes = Unit {0}
     AreSame no_nodes (and_node e es) = ⊥
@@ -23,6 +24,7 @@ pub record IsMoved (from old new : List Cond) (d e : Node) : Type 0 where
   pub same : IsSame from new d e
   pub in_order : AreInOrder (length old) (node_numbers e) (length new)
 
+-- the same of several derivations, in order
 pub record AreMoved (from old new : List Cond) (ds es : Nodes) : Type 0 where
   pub begins : BeginsWith old new
   pub same : AreSame from new ds es

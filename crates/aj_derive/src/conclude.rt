@@ -76,6 +76,7 @@ fn value(
     ensures grows { OnOk result (Grows table.old table.new) }
 {
     let premises = premises_of(alloc, table, nodes, premises)?;
+    // Only the proof needs this and the second count: they tell that the table is in order, before and after.
     let _before = table.count();
     let node = rule(alloc, basis, table, part, premises.as_slice())?;
     let _after = table.count();

@@ -36,6 +36,7 @@ fn own_node(alloc: Global, table: &mut NodeTable, tree: &Tree) -> Result<Node, N
     ensures tree { IfOk result (λ r. node_tree table.new r ≡ cond_of tree.now) }
     ensures grows { OnOk result (Grows table.old table.new) }
 {
+    // Only the proof needs this and the second count: they tell that the table is in order, before and after.
     let _before = table.count();
     let node = named(alloc, table, &Names::Same, tree)?;
     let _after = table.count();

@@ -37,6 +37,7 @@ fn fields_fit(fields: &[FieldId]) -> bool
 fn path_fits(path: &Path) -> bool
     ensures { result ≡ true → IsPath path.now }
 {
+    // Only the proof needs this: that a slot's number fits 16 bits is known where the slot is read.
     let _root = path.root;
     fields_fit(path.fields.as_slice())
 }
@@ -83,6 +84,7 @@ impl Pool {
         if number >= u32::MAX as usize {
             return Err(NoMemory);
         }
+        // Only the proof needs this: the count tells that the table is in order.
         let _count = table.count();
         let (place, is_new) = self.nodes.insert_full(*node)?;
         if !is_new {

@@ -1,4 +1,5 @@
--- The definitions that the contracts of reading and writing cite.
+-- The definitions that the contracts of reading and writing cite, in this order: counts of faults (Faults), what a read gives and a
+-- write leaves (Pieces), and a folder and a sink in memory (InMemory).
 pub mod Faults
 pub mod Pieces
 pub mod InMemory

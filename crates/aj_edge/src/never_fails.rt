@@ -87,6 +87,7 @@ impl Sink for NeverFailsSink {
         ensures never_fails { is_err result ≡ false }
         ensures all { IfOk result (λ n. n ≡ length piece.now) }
     {
+        // Nothing is kept: the field, which holds nothing, is only named.
         let _ = &self.taken;
         Ok(piece.len())
     }

@@ -91,12 +91,15 @@ abbrev pub block_value : Program → Stmts → List Value → Held → Basic
 block_value P = block_in (after_stmt P)
 
 module _ (P : Program) (rel : ℕ → List PathData) (A : Assignment) where
+  -- the rule of an expression, for the values of its parts
   abbrev pub expr_rule : Expr → List Value → Held → Basic
   expr_rule = expr_rule_in P (call_of P rel A)
 
+  -- the rule of a statement, for the values of its parts
   abbrev pub stmt_rule : Stmt → List Value → Held → Basic
   stmt_rule = stmt_rule_in P (after_stmt P)
 
+  -- the rule of a part, whichever it is
   abbrev pub rule_of : Part → List Value → Held → Basic
   rule_of = rule_in P (call_of P rel A) (after_stmt P)
 

@@ -1,5 +1,6 @@
--- For a reader of the contract: Classes, what a core class is made of, Programs, which goes on from the rules of `aj_type_rules`, and Alone, for
--- programs in which no class extends another. The others serve the code.
+-- For a reader of the contract, in this order: what a core class is made of (Classes), programs, whose rules go on from those of
+-- `aj_type_rules` (Programs), and programs in which no class extends another (Alone). The others serve the code: Order, Lineages and
+-- Merged that of classes, Inside, Gathered, Making and Views that of members.
 pub mod Inside
 pub mod Classes
 pub mod Programs

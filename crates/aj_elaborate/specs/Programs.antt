@@ -74,6 +74,7 @@ module _ (t : TableData) where
     body = BlockS p.1;
   }
 
+  -- the core method, where each of its locks is one and each statement of its body has a core node
   abbrev pub method_core : ℕ → MethodTree → Option Method
   method_core k m =
       option_map (method_node k m)
@@ -149,6 +150,7 @@ module _ (t : TableData) where
   abbrev pub main_method : ℕ
   main_method = unwrap_or (method_number t main_class (codes "main")) 0
 
+  -- the core program of these fields and methods, whose classes the class table tells
   abbrev pub program_node : List Field × List Method → Program
   program_node p = record {
     classes = all_classes t 0 t.classes;

@@ -8,11 +8,14 @@ use Rattle.aj_core.specs.declared.tree.CoreStmt.{CoreStmt}
 use Rattle.aj_elaborate.specs.declared.members.Parts.{Parts}
 use Rattle.aj_elaborate.specs.Gathered.{gathered}
 
+-- the core statement in a box
 abbrev pub boxed_stmt : Box CoreStmt Global → Stmt
 boxed_stmt b = stmt_of b.value
 
+-- the core fields that were gathered, or none where one of them is missing
 abbrev pub fields_data : Parts → Option (List Field)
 fields_data p = option_map (map field_of) (gathered p.fields)
 
+-- the core methods that were gathered, or none where one of them is missing
 abbrev pub methods_data : Parts → Option (List Method)
 methods_data p = option_map (map method_of) (gathered p.methods)

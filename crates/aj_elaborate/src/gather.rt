@@ -13,6 +13,7 @@ pub(crate) struct Gathered<T> {
 }
 
 impl<T: Drop> Gathered<T> {
+    /// No part so far, and none missing.
     pub(crate) fn new(alloc: Global) -> Gathered<T>
         ensures { gathered result ≡ Some [] }
     {
@@ -22,6 +23,7 @@ impl<T: Drop> Gathered<T> {
         }
     }
 
+    /// Adds a part behind the others, or notes that it is missing.
     pub(crate) fn add(&mut self, part: Option<T>) -> Result<(), NoMemory>
         ensures { OnOk result (gathered self.new ≡ one_more (gathered self.old) part) }
     {

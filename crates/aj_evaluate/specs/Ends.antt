@@ -20,5 +20,6 @@ abbrev pub end_of : Flow → End
 end_of flow.GoesOn = GoesOn
 end_of (flow.Returns v) = Returns v
 
+-- how a statement ended, with the values of the slots at its end
 abbrev pub ended : Flow → List Value → Ended
 ended f slots = record { end = end_of f; slots = slots }

@@ -14,12 +14,15 @@ use Rattle.aj_examples.specs.Seen.{four_fields}
 abbrev pub nothing_held : Held
 nothing_held = has_path []
 
+-- the lock of `this` is held, and no other
 abbrev pub this_held : Held
 this_held = has_path (this_path ∷ [])
 
+-- the path of the slot 1, which is that of the first parameter or local
 abbrev pub one_path : PathData
 one_path = record { root = 1; fields = [] }
 
+-- the lock of the slot 1 is held, and no other
 abbrev pub one_held : Held
 one_held = has_path (one_path ∷ [])
 
@@ -39,6 +42,7 @@ with_required = record four_fields { methods = record (plain_method 0 0 false Em
 abbrev pub this_relevant : ℕ → List PathData
 this_relevant m = this_path ∷ []
 
+-- an assignment in which each method is a mover, whatever is held
 abbrev pub all_movers : Assignment
 all_movers m H = Mover
 
@@ -46,6 +50,7 @@ all_movers m H = Mover
 abbrev pub read_of : ℕ → Expr
 read_of f = GetE ThisE f
 
+-- `this.f = 1;` for the field of this number
 abbrev pub write_of : ℕ → Stmt
 write_of f = SetFieldS ThisE f (IntE (pos 1))
 
@@ -53,6 +58,7 @@ write_of f = SetFieldS ThisE f (IntE (pos 1))
 abbrev pub plain_local : Expr
 plain_local = VarE 1 false (type.Class 0)
 
+-- a final local of the slot 1, which is a lock
 abbrev pub final_local : Expr
 final_local = VarE 1 true (type.Class 0)
 

@@ -16,6 +16,8 @@ class_with fields above targets = record { fields = fields; finals = []; run = N
 abbrev pub free_field : (class index : ℕ) → Field
 free_field class index = record { class = class; index = index; is_final = false; ty = type.Int; guard = None; writes_only = false }
 
+-- three classes, each of which extends the one before it and has one field more, and one that stands alone; the second overrides the first method of
+-- the first one
 abbrev pub family : Program
 family = record {
   classes = class_with (0 ∷ []) None ((0, 0) ∷ (1, 1) ∷ [])

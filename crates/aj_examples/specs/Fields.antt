@@ -18,9 +18,11 @@ abbrev pub field_of : (index : ℕ) → (is_final : Bool) → CoreType → Optio
 field_of index is_final ty guard writes_only =
     record { class = 0; index = index; is_final = is_final; ty = ty; guard = guard; writes_only = writes_only }
 
+-- the type `Node`
 abbrev pub node_type : CoreType
 node_type = type.Class 0
 
+-- the fields of the class `Node`: `left`, `next`, `size`, `right`, `v`, `w`, `x` and `y`
 abbrev pub node_fields : List Field
 node_fields =
     field_of 0 true node_type None false
@@ -32,6 +34,7 @@ node_fields =
     ∷ field_of 6 false type.Int (Some (path 0 (0 ∷ []))) true
     ∷ field_of 7 false type.Int (Some (path 0 (0 ∷ 3 ∷ []))) false ∷ []
 
+-- the class `Node` as a program, with an empty method
 abbrev pub nodes : Program
 nodes = record {
   classes = plain_class (0 ∷ 1 ∷ 2 ∷ 3 ∷ 4 ∷ 5 ∷ 6 ∷ 7 ∷ []) (0 ∷ 2 ∷ 3 ∷ []) None 0 ∷ [];

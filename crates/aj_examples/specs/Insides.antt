@@ -23,5 +23,6 @@ with_threads threads = record { heap = map.empty; locks = map.empty; threads = t
 abbrev pub two_ready : State
 two_ready = with_threads (Ready here 0 ∷ Ready here 0 ∷ [])
 
+-- the frame that such a thread enters: its object and two parameters that are 0, and an empty body to do before it returns
 abbrev pub entered : Frame
 entered = record { method = 0; slots = Ref here ∷ Int (pos 0) ∷ Int (pos 0) ∷ []; operands = []; work = St EmptyS ∷ Act Ret ∷ [] }

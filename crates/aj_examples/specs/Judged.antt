@@ -20,6 +20,7 @@ call e m = DoS (CallE e m no_exprs) false
 abbrev pub of_node : Stmt → Method
 of_node body = plain_method 0 0 false body
 
+-- a method of the class `Node` with one final parameter of that class, and this body
 abbrev pub of_one : Stmt → Method
 of_one body = record (of_node body) { params = (true, node_type) ∷ []; slots = 2 }
 
@@ -64,6 +65,7 @@ meetings = record {
 abbrev pub just : List PathData → MethodPaths
 just rel = record { rel = rel; loc = [] }
 
+-- the relevant paths of each method of `meetings`, in order; `second` has a path of its own local besides
 abbrev pub meeting_sets : List MethodPaths
 meeting_sets =
     just (path 1 [] ∷ [])

@@ -15,15 +15,19 @@ use Rattle.aj_state.specs.States.{Frame, Running, Faulted}
 use Rattle.aj_state.specs.Work.{Action, Item, Act, Ret}
 use Rattle.aj_steps.specs.Step.{Shared, Change, Nothing, Outcome, Moves, act}
 
+-- the number 7 as a value
 abbrev pub seven : Value
 seven = Int (pos 7)
 
+-- the number -2 as a value
 abbrev pub minus_two : Value
 minus_two = Int (negsuc 1)
 
+-- `true` as a value
 abbrev pub yes_value : Value
 yes_value = Truth true
 
+-- `false` as a value
 abbrev pub no_value : Value
 no_value = Truth false
 
@@ -31,6 +35,7 @@ no_value = Truth false
 abbrev pub here : Address
 here = record { thread = 0; count = 0 }
 
+-- an address at which the thread 1 would have its first object
 abbrev pub there : Address
 there = record { thread = 1; count = 0 }
 
@@ -43,6 +48,7 @@ field_at index is_final guard writes_only = record { class = 0; index = index; i
 abbrev pub two_parameters : Method
 two_parameters = record (plain_method 0 0 false EmptyS) { params = (false, type.Int) ∷ (false, type.Int) ∷ []; result = Some type.Int; slots = 3 }
 
+-- this class, and one that extends it with a method of its own and no field more
 abbrev pub four_fields : Program
 four_fields = record {
   classes = plain_class (0 ∷ 1 ∷ 2 ∷ 3 ∷ []) (0 ∷ []) (Some 0) 0

@@ -11,12 +11,15 @@ use Rattle.aj_state.specs.States.{Thread, Ready, Done, State}
 use Rattle.aj_steps.specs.Step.{Shared}
 use Rattle.aj_examples.specs.Seen.{here, there, object_of, held_by}
 
+-- the literal `1`
 abbrev pub one : Expr
 one = IntE (pos 1)
 
+-- the literal `2`
 abbrev pub two : Expr
 two = IntE (pos 2)
 
+-- the literal `3`
 abbrev pub three : Expr
 three = IntE (pos 3)
 
@@ -28,6 +31,7 @@ next = record { thread = 0; count = 1 }
 abbrev pub three_entries : List (Address × Object)
 three_entries = (here, object_of 0) ∷ (next, object_of 0) ∷ (there, object_of 1) ∷ []
 
+-- these three objects as a heap
 abbrev pub three_objects : Heap
 three_objects = map.from_sorted three_entries
 

@@ -8,5 +8,6 @@ abbrev pub AreFinal : Program → List ℕ → Type 0
 AreFinal P [] = Unit {0}
 AreFinal P (x ∷ xs) = (f : Field) × (slice_get P.fields x ≡ Some f) × (f.is_final ≡ true) × AreFinal P xs
 
+-- of each field that has a guard, the guard's path leads through final fields alone
 abbrev pub HasFinalGuards : Program → Type 0
 HasFinalGuards P = (x : ℕ) (f : Field) (guard : PathData) → slice_get P.fields x ≡ Some f → f.guard ≡ Some guard → AreFinal P guard.fields

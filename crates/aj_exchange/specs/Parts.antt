@@ -7,19 +7,23 @@ use Rattle.aj_state.specs.Memory.{Object, Hold, Heap, Locks, address_cmp, with_v
 use Rattle.aj_state.specs.States.{Thread, Ready}
 use Rattle.aj_steps.specs.Step.{Change, FieldIs, ObjectIs, LockIs, Prints, Starts}
 
+-- the heap after a change: a field of one object, or one object more
 abbrev pub on_heap : Change → Heap → Heap
 on_heap (FieldIs a i v) heap = with_field a i v heap
 on_heap (ObjectIs a o) heap = map.insert heap a o
 on_heap _ heap = heap
 
+-- the held locks after a change
 abbrev pub on_locks : Change → Locks → Locks
 on_locks (LockIs a hold) locks = with_lock a hold locks
 on_locks _ locks = locks
 
+-- the threads after a change: one more at the end, where a thread was started
 abbrev pub on_threads : Change → List Thread → List Thread
 on_threads (Starts a m) threads = threads ++ Ready a m ∷ []
 on_threads _ threads = threads
 
+-- what is printed after a change: one number more, where one was printed
 abbrev pub on_output : Change → List ℤ → List ℤ
 on_output (Prints n) output = output ++ n ∷ []
 on_output _ output = output

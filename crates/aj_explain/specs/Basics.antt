@@ -56,6 +56,7 @@ module _ (P : Program) (rel : ℕ → List PathData) (A : Assignment) where
     stmt_basics (PrintS e) H = effect P rel A (PrintS e) H ∷ expr_basics e H
     stmt_basics (StartS e) H = effect P rel A (StartS e) H ∷ expr_basics e H
 
+    -- the basics of the statements of a block, each statement with the set that those before it leave
     pub block_basics : Stmts → Held → List Basic
     block_basics no_stmts H = []
     block_basics (and_stmt s ss) H = stmt_basics s H ++ block_basics ss (after_stmt P s H)

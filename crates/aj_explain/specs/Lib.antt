@@ -1,6 +1,7 @@
--- Explanations of refusals, in this order: the assignment that trees show (Shown), the basic of each part of a body (Basics), why a method is more than it may be (Explaining),
--- what its steps do and which lock would help (Deeds), what is wrong with an error (Causes), and what a whole program's
--- explanations are (Programs). Views and Walked have what the walk in code finds.
+-- Explanations of refusals, in this order: the assignment that trees show (Shown), the basic of each part of a body (Basics),
+-- explanations as plain data (Whys), why a method is more than it may be (Explaining), names of locks (Names), what a step does and
+-- which lock would help (Deeds), what is wrong with an error (Causes), and what a whole program's explanations are (Programs). Views
+-- and Walked have what the walk in code finds.
 pub mod Shown
 pub mod Basics
 pub mod Whys

@@ -55,6 +55,7 @@ module _ (P : Program) where
     aliases_after known (SyncS p s) = aliases_after known s
     aliases_after known _ = known
 
+    -- the same after the statements of a block, one after the other
     pub aliases_after_each : List Alias → Stmts → List Alias
     aliases_after_each known no_stmts = known
     aliases_after_each known (and_stmt s ss) = aliases_after_each (aliases_after known s) ss

@@ -17,13 +17,16 @@ use Rattle.aj_rules.specs.Effect.{Assignment}
 use Rattle.aj_why.specs.Readings.{is_error, own_at}
 use Rattle.aj_why.specs.Visits.{Visit}
 
+-- a part of a body, lent by the walk, as plain data
 abbrev pub part_of : CorePart → Part
 part_of (part.Expr e) = ExprP (expr_of e.now)
 part_of (part.Stmt s) = StmtP (stmt_of s.now)
 
+-- a part that the walk came to, as plain data: its node, the paths that are held there, and whether it stands in a loop
 abbrev pub visit_of : Visited → Visit
 visit_of v = record { node = v.node; part = part_of v.part; held = has_path v.held.items; loop = v.looped }
 
+-- all parts that the walk came to, in order
 abbrev pub visits_of : List Visited → List Visit
 visits_of vs = map visit_of vs
 
@@ -45,5 +48,6 @@ why_data (why.Two v w) = Two (visit_of v) (visit_of w)
 why_data (why.Overridden m b) = Overridden m b
 why_data why.Nothing = Nothing
 
+-- the explanation of a method as plain data: its bound, what was found in place of it, and why
 abbrev pub explained_data : Explained → ExplainedData
 explained_data x = record { method = x.method; is_refused = x.is_refused; limit = x.limit; found = x.found; why = why_data x.why }

@@ -30,10 +30,12 @@ module _ (P : Program) (rel : ℕ → List PathData) (A : Assignment) where
   WalkedExpr e H loop old given new =
       Walked P rel A (expr_visits e (next old) H loop) (expr_steps P rel A e (next old) H loop) (expr_basics P rel A e H) (expr_effect P rel A e H) old given new
 
+  -- the walk through the parts of an expression of this number, whose own basic has its place already
   abbrev pub InsideExpr : Expr → ℕ → Held → Option ℕ → Found → Basic → Found → Type 0
   InsideExpr e n H loop old given new =
       Walked P rel A (expr_visits e n H loop) (expr_steps P rel A e n H loop) (inner (expr_basics P rel A e H)) (expr_effect P rel A e H) old given new
 
+  -- the walk through arguments, one after the other
   abbrev pub WalkedExprs : Exprs → Held → Option ℕ → Found → Basic → Found → Type 0
   WalkedExprs es H loop old given new =
       Walked P rel A (exprs_visits es (next old) H loop) (exprs_steps P rel A es (next old) H loop) (exprs_basics P rel A es H) (exprs_effect P rel A es H) old given new
@@ -43,14 +45,17 @@ module _ (P : Program) (rel : ℕ → List PathData) (A : Assignment) where
   WalkedStmt s H loop old given new =
       Walked P rel A (stmt_visits P s (next old) H loop) (stmt_steps P rel A s (next old) H loop) (stmt_basics P rel A s H) (effect P rel A s H) old given new
 
+  -- the walk through the parts of a statement of this number, whose own basic has its place already
   abbrev pub InsideStmt : Stmt → ℕ → Held → Option ℕ → Found → Basic → Found → Type 0
   InsideStmt s n H loop old given new =
       Walked P rel A (stmt_visits P s n H loop) (stmt_steps P rel A s n H loop) (inner (stmt_basics P rel A s H)) (effect P rel A s H) old given new
 
+  -- the walk through the statements of a block, one after the other
   abbrev pub WalkedBlock : Stmts → Held → Option ℕ → Found → Basic → Found → Type 0
   WalkedBlock ss H loop old given new =
       Walked P rel A (block_visits P ss (next old) H loop) (block_steps P rel A ss (next old) H loop) (block_basics P rel A ss H) (block_effect P rel A ss H) old given new
 
+  -- the walk through both branches of an `if`, which keeps the steps of the greater one alone
   abbrev pub WalkedBranches : Stmt → Stmt → Held → Option ℕ → Found → Basic → Found → Type 0
   WalkedBranches s t H loop old given new =
       Walked P rel A

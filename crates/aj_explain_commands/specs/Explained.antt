@@ -19,6 +19,7 @@ abbrev pub slots_at : Option MemberTree → List (List ℕ)
 slots_at None = []
 slots_at (Some m) = member_slots m
 
+-- the offsets of a method's nodes, where the method is there
 abbrev pub places_at : Option MemberTree → List ℕ
 places_at None = []
 places_at (Some m) = member_places m

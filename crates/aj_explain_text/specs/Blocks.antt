@@ -25,6 +25,7 @@ abbrev pub is_words : (is_refused : Bool) → Basic → List ℕ
 is_words true limit = codes " is declared " ++ name_of limit ++ codes ", found "
 is_words false limit = codes " is "
 
+-- the word by which a line says how grave it is: `error` where the method is refused for it, else `note`
 abbrev pub kind_word : (is_refused : Bool) → List ℕ
 kind_word true = codes "error"
 kind_word false = codes "note"

@@ -1,5 +1,6 @@
--- The texts of explanations, in this order: what a text is written with (Pages), names in it (Words), what is wrong (CauseTexts), what a
--- step does and which lock would help (DeedTexts), the lines of a method (Blocks), and the basics of its parts (Listings).
+-- The texts of explanations, in this order: what a text is written with (Pages), names in it (Words), what is wrong (CauseTexts), what
+-- a step does and which lock would help (DeedTexts), the lines of a method (Blocks), and the basics of its parts (Listings). Views
+-- says what a page in memory is.
 pub mod Pages
 pub mod Words
 pub mod CauseTexts

@@ -7,6 +7,7 @@ use Rattle.aj_syntax.specs.Tokens.{is}
 use Rattle.aj_expressions.specs.declared.stop.Fault.{Fault}
 use Rattle.aj_expressions.specs.declared.stop.Fault.TheVariants as F
 
+-- what reading a part gives: its value and the tokens behind it, or a fault and the tokens from the faulty one on
 abbrev pub Res : Type 0 → Type 0
 Res A = Result (A × List Token) (Fault × List Token)
 
@@ -21,6 +22,7 @@ abbrev pub starts : (Token → Bool) → List Token → Bool
 starts test [] = false
 starts test (x ∷ xs) = test x
 
+-- what a first token means, with the tokens behind it; unexpected where it means nothing here
 abbrev pub got : {A : Type 0} → Option A → Token → List Token → Res A
 got (Some a) x xs = Ok (a, xs)
 got None x xs = Err (F.Unexpected, x ∷ xs)
@@ -30,6 +32,7 @@ abbrev pub first : {A : Type 0} → (Token → Option A) → List Token → Res 
 first test [] = Err (F.Unexpected, [])
 first test (x ∷ xs) = got (test x) x xs
 
+-- a value where a condition holds, else none
 abbrev pub when : {A : Type 0} → Bool → A → Option A
 when true a = Some a
 when false a = None
@@ -38,6 +41,7 @@ when false a = None
 abbrev pub at_of : Terminal → Token → Option ℕ
 at_of t x = when (is t x) x.at
 
+-- one terminal, which has to stand first; its offset
 abbrev pub take_one : Terminal → List Token → Res ℕ
 take_one t ts = first (at_of t) ts
 
@@ -47,6 +51,7 @@ flagged b [] = (false, [])
 flagged true (x ∷ xs) = (true, xs)
 flagged false (x ∷ xs) = (false, x ∷ xs)
 
+-- whether a terminal stands first, which is then passed over
 abbrev pub flag : Terminal → List Token → Bool × List Token
 flag t ts = flagged (starts (is t) ts) ts
 

@@ -252,6 +252,7 @@ fn parenthesised<'t, 'a>(
     })
 }
 
+/// Reads an expression in parentheses, a `new`, or an expression without parts, of at most this height.
 #[cycle(expression)]
 #[tactic(auto, unfolding(crate::specs::Expressions::primary))]
 pub fn primary<'t, 'a>(

@@ -19,6 +19,7 @@ use crate::tokens::{accept, begins, begins_name, name, take};
 use aj_syntax::{Expr, Lock, Name, Stmt, Terminal, TypeName};
 use std::alloc::Global;
 
+/// Reads `int`, `boolean` or the name of a class.
 #[tactic(auto, unfolding(crate::specs::Words::type_name))]
 pub fn type_name<'t, 'a>(
     tokens: &'t [Lexeme<'a>],
@@ -64,6 +65,7 @@ fn fields<'t, 'a>(
     Ok(list)
 }
 
+/// Reads a lock: `this` or a name, and the fields behind it.
 #[tactic(auto, unfolding(crate::specs::Words::lock))]
 pub fn lock<'t, 'a>(
     alloc: Global,

@@ -5,6 +5,7 @@ ghost use Rattle.std.specs.Prelude.{◌≡◌};
 use crate::lexeme::Lexeme;
 use std::alloc::{AllocError, AllocFailed};
 
+/// Why tokens can't be read: one is not expected where it stands, or a node would be too high.
 #[derive(Clone, Copy, Debug, PartialEq, Eq)]
 pub enum Fault {
     Unexpected,

@@ -102,6 +102,7 @@ fn is_least_token(token: &Lexeme) -> bool
     }
 }
 
+/// Whether a name stands first.
 pub fn begins_name(tokens: &[Lexeme]) -> bool
     ensures { result ≡ starts is_name tokens.now }
 {
@@ -111,6 +112,7 @@ pub fn begins_name(tokens: &[Lexeme]) -> bool
     }
 }
 
+/// Whether a number up to 2147483647 stands first.
 pub fn begins_number(tokens: &[Lexeme]) -> bool
     ensures { result ≡ starts is_number tokens.now }
 {
@@ -130,6 +132,7 @@ pub fn begins_least(tokens: &[Lexeme]) -> bool
     }
 }
 
+/// Takes a name.
 pub fn name<'t, 'a>(tokens: &'t [Lexeme<'a>]) -> Result<(Name<'a>, &'t [Lexeme<'a>]), Stop<'t, 'a>>
     ensures { Gives (λ x. (x.0, x.1.now)) result (first a_name tokens.now) }
 {
@@ -157,6 +160,7 @@ pub fn number<'t, 'a>(
     }
 }
 
+/// Takes the number 2147483648, and gives its offset.
 pub fn least<'t, 'a>(tokens: &'t [Lexeme<'a>]) -> Result<(u32, &'t [Lexeme<'a>]), Stop<'t, 'a>>
     ensures { Gives (λ x. (x.0, x.1.now)) result (first a_least tokens.now) }
 {

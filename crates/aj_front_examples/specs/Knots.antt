@@ -6,10 +6,12 @@ use Rattle.aj_classes.specs.Table.{TableData, table_of}
 use Rattle.aj_type_rules.specs.Scopes.{Scope}
 use Rattle.aj_front_examples.specs.Written.{name, class_type, field, class_tree}
 
+-- the class table of the program with the class `Knot` alone
 abbrev pub knots_table : TableData
 knots_table = table_of (class_tree (name (codes "Knot") 0)
     (field true (class_type (codes "Knot") 1) (name (codes "left") 2) ∷ field true (class_type (codes "Knot") 3) (name (codes "right") 4) ∷ field false (class_type (codes "Knot") 5) (name (codes "next") 6) ∷ []) ∷ [])
 
+-- the variable `k` in scope: it isn't final, and has the slot 1
 abbrev pub knots_scope : Scope
 knots_scope = record { name = codes "k"; variable = record { slot = 1; is_final = false; ty = T.Class 0 } } ∷ []
 

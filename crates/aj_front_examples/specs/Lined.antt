@@ -12,24 +12,31 @@ use Rattle.aj_syntax.specs.declared.tree.TypeName.TheVariants as Y
 use Rattle.aj_syntax.specs.Trees.{MemberTree, ProgramTree}
 use Rattle.aj_front_examples.specs.Written.{name, field, bare_method, class_tree, class_below}
 
+-- `int a;` of the class A
 abbrev pub a_field : MemberTree
 a_field = field false Y.Int (name (codes "a") 2)
 
+-- `void m() { }` of the class A
 abbrev pub m_method : MemberTree
 m_method = bare_method (name (codes "m") 4)
 
+-- `final int b;` of the class B
 abbrev pub b_field : MemberTree
 b_field = field true Y.Int (name (codes "b") 13)
 
+-- a field `a` of the class C, which has the name of one in A
 abbrev pub other_a_field : MemberTree
 other_a_field = field false Y.Boolean (name (codes "a") 22)
 
+-- `int c;` of the class C
 abbrev pub c_field : MemberTree
 c_field = field false Y.Int (name (codes "c") 24)
 
+-- `int g;` of the class G
 abbrev pub g_field : MemberTree
 g_field = field false Y.Int (name (codes "g") 62)
 
+-- the program: E and F stand above each other, D extends a class that isn't there, and the last class has the name of the first
 abbrev pub lined : ProgramTree
 lined =
     class_tree (name (codes "A") 0) (a_field ∷ m_method ∷ [])

@@ -12,18 +12,22 @@ use Rattle.aj_class_rules.specs.Overriding.{FieldPlace, FoundField, Reach, Signa
 use Rattle.aj_front_examples.specs.Written.{name, class_type, param, field, class_tree, class_below, method_tree, this_lock, lock_of}
 use Rattle.aj_front_examples.specs.Shop.{n_param}
 
+-- the program of these three classes
 abbrev pub locked : ProgramTree
 locked =
     class_tree (name (codes "A") 1) (field true (class_type (codes "L") 2) (name (codes "lock") 3) ∷ field false (class_type (codes "L") 4) (name (codes "open") 5) ∷ [])
     ∷ class_below (name (codes "B") 21) (name (codes "A") 22) (field true (class_type (codes "L") 24) (name (codes "lock") 25) ∷ field true Y.Int (name (codes "num") 26) ∷ [])
     ∷ class_tree (name (codes "L") 31) (field true (class_type (codes "L") 32) (name (codes "next") 33) ∷ []) ∷ []
 
+-- where a field stands: the number of its class, and its place in it
 abbrev pub place : ℕ → ℕ → FieldPlace
 place class at = record { class = class; place = at }
 
+-- a field as it was found, in a class or above it
 abbrev pub found : (class at : ℕ) → Bool → TypeName → FoundField
 found class at is_final ty = record { at = place class at; is_final = is_final; ty = ty }
 
+-- what a lock means: the slot that it begins at, the places of its fields, and the class that it ends at
 abbrev pub reach : ℕ → List FieldPlace → ℕ → Reach
 reach slot fields class = record { slot = slot; fields = fields; class = class }
 
@@ -31,9 +35,11 @@ reach slot fields class = record { slot = slot; fields = fields; class = class }
 abbrev pub first_params : List Param
 first_params = param true (class_type (codes "L") 0) (name (codes "p") 0) ∷ param true (class_type (codes "B") 0) (name (codes "q") 0) ∷ param false (class_type (codes "L") 0) (name (codes "s") 0) ∷ []
 
+-- the signature of an `int` method of the class B with the parameter `final int n`, which requires `this`
 abbrev pub signature : Signature
 signature = record { atomic = false; returns = Some Y.Int; params = n_param ∷ []; locks = Some (reach 0 [] 1 ∷ []) }
 
+-- the heading of a method with this name, which stands at 7, and this signature
 abbrev pub heading : List ℕ → Signature → Heading
 heading text its = record { name = name text 7; signature = its }
 

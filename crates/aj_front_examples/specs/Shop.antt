@@ -14,12 +14,15 @@ use Rattle.aj_front_examples.specs.Written.{name, class_type, param, field_tree,
 abbrev pub two_finals : List (TypeName × Name)
 two_finals = (Y.Int, name (codes "low") 3) ∷ (class_type (codes "A") 5, name (codes "up") 6) ∷ []
 
+-- the parameters of that constructor
 abbrev pub two_params : List Param
 two_params = param false Y.Int (name (codes "low") 11) ∷ param false (class_type (codes "A") 12) (name (codes "up") 13) ∷ []
 
+-- its two lines, each of which sets a field to the parameter of the same name
 abbrev pub two_sets : List (Name × Name)
 two_sets = (name (codes "low") 14, name (codes "low") 15) ∷ (name (codes "up") 16, name (codes "up") 17) ∷ []
 
+-- the constructor `Pair`, which takes and sets each final field in order
 abbrev pub right_constructor : MemberTree
 right_constructor = CtorM (name (codes "Pair") 9) two_params two_sets
 
@@ -37,6 +40,7 @@ right_constructor = CtorM (name (codes "Pair") 9) two_params two_sets
 abbrev pub price : Name
 price = name (codes "price") 2
 
+-- `final int n`
 abbrev pub n_param : Param
 n_param = param true Y.Int (name (codes "n") 6)
 
@@ -44,6 +48,7 @@ n_param = param true Y.Int (name (codes "n") 6)
 abbrev pub take_at : ℕ → ExprTree → MemberTree
 take_at at e = MethodM (record (method_tree (name (codes "take") at) (n_param ∷ []) (Some Y.Int) (one_stmt (ReturnS (Some e) (at + 3)))) { locks = this_lock ∷ []; end = at + 9 })
 
+-- the class Item: a final field with its constructor, a guarded field, and the methods `take` and `log`
 abbrev pub item : ClassTree
 item = class_tree (name (codes "Item") 1)
     (field true Y.Int price
@@ -52,6 +57,7 @@ item = class_tree (name (codes "Item") 1)
     ∷ take_at 10 (GetE (ThisE 13) (name (codes "left") 14))
     ∷ bare_method (name (codes "log") 20) ∷ [])
 
+-- the class Rare, which extends Item with two fields and overrides `take`
 abbrev pub rare : ClassTree
 rare = class_below (name (codes "Rare") 30) (name (codes "Item") 31)
     (field true (class_type (codes "Item") 32) (name (codes "twin") 33)
@@ -60,15 +66,19 @@ rare = class_below (name (codes "Rare") 30) (name (codes "Item") 31)
     ((name (codes "price") 39, name (codes "price") 39) ∷ (name (codes "twin") 39, name (codes "twin") 39) ∷ [])
     ∷ take_at 40 (GetE (GetE (ThisE 43) (name (codes "twin") 44)) (name (codes "left") 45)) ∷ [])
 
+-- the class Main with an empty `main`
 abbrev pub main_class : ClassTree
 main_class = class_tree (name (codes "Main") 60) (bare_method (name (codes "main") 61) ∷ [])
 
+-- the class Job, which implements Runnable
 abbrev pub job : ClassTree
 job = record (class_tree (name (codes "Job") 70) (bare_method (name (codes "run") 71) ∷ [])) { runnable = true }
 
+-- the whole program, in which Item is the class 0, Rare 1, Main 2 and Job 3
 abbrev pub shop : ProgramTree
 shop = item ∷ rare ∷ main_class ∷ job ∷ []
 
+-- its class table
 abbrev pub shop_table : TableData
 shop_table = table_of shop
 

@@ -9,9 +9,11 @@ use Rattle.aj_syntax.specs.Tokens.{token, name_token, number_token}
 use Rattle.aj_syntax.specs.Trees.{ExprTree, BinaryE, StmtTree, EmptyS, MethodTree}
 use Rattle.aj_front_examples.specs.Written.{name, x_name, x, seven, param, method_tree, this_lock, lock_of, one_stmt}
 
+-- the token of the name `x`, at 9
 abbrev pub x_token : Token
 x_token = name_token x_name
 
+-- the token of the number 7, at 8
 abbrev pub seven_token : Token
 seven_token = number_token 7 (codes "7") 8
 
@@ -19,6 +21,7 @@ seven_token = number_token 7 (codes "7") 8
 abbrev pub f : Name
 f = name (codes "f") 11
 
+-- the token of the name `f`, at 11
 abbrev pub f_token : Token
 f_token = name_token f
 
@@ -30,6 +33,7 @@ sum = BinaryE O.Add x seven 10
 abbrev pub empty : StmtTree
 empty = EmptyS 8
 
+-- the token `;`, at 8
 abbrev pub empty_token : Token
 empty_token = token T.Semicolon 8
 

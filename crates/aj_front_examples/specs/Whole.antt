@@ -47,6 +47,7 @@ jobs =
     (field true Y.Int (name (codes "c") 23) ∷ CtorM (name (codes "Late") 24) (param false Y.Int (name (codes "c") 25) ∷ []) ((name (codes "c") 26, name (codes "c") 27) ∷ []) ∷ bare_method (name (codes "m") 28) ∷ [])
     ∷ main_class ∷ []
 
+-- the class table of this program
 abbrev pub jobs_table : TableData
 jobs_table = table_of jobs
 

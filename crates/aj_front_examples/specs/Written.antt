@@ -26,9 +26,11 @@ variable_at text at = VarE (name text at)
 abbrev pub x_name : Name
 x_name = name (codes "x") 9
 
+-- the variable `x` as an expression
 abbrev pub x : ExprTree
 x = VarE x_name
 
+-- the number 7, at 8
 abbrev pub seven : ExprTree
 seven = NumberE 7 8
 
@@ -36,6 +38,7 @@ seven = NumberE 7 8
 abbrev pub this_lock : LockTree
 this_lock = record { root = None; fields = []; at = 5 }
 
+-- a lock with this root, or `this` without one, and these fields behind it
 abbrev pub lock_of : Option Name → List Name → ℕ → LockTree
 lock_of root fields at = record { root = root; fields = fields; at = at }
 
@@ -62,15 +65,19 @@ param is_final ty n = record { is_final = is_final; ty = ty; name = n }
 abbrev pub field_tree : Bool → TypeName → Name → FieldTree
 field_tree is_final ty n = record { is_final = is_final; ty = ty; name = n; guard = None; writes_only = false }
 
+-- a field that nothing guards, as a member
 abbrev pub field : Bool → TypeName → Name → MemberTree
 field is_final ty n = FieldM (field_tree is_final ty n)
 
+-- a method without `atomic` and `requires`
 abbrev pub method_tree : Name → List Param → Option TypeName → StmtTrees → MethodTree
 method_tree n params returns body = record { atomic = false; returns = returns; name = n; params = params; locks = []; body = body; end = 99 }
 
+-- such a method as a member
 abbrev pub method : Name → List Param → Option TypeName → StmtTrees → MemberTree
 method n params returns body = MethodM (method_tree n params returns body)
 
+-- `void m() { }` with this name
 abbrev pub bare_method : Name → MemberTree
 bare_method n = method n [] None no_stmts
 
@@ -78,6 +85,7 @@ bare_method n = method n [] None no_stmts
 abbrev pub class_tree : Name → List MemberTree → ClassTree
 class_tree n members = record { name = n; above = None; runnable = false; members = members }
 
+-- a class that extends another, and doesn't say `implements Runnable`
 abbrev pub class_below : Name → Name → List MemberTree → ClassTree
 class_below n above members = record { name = n; above = Some above; runnable = false; members = members }
 
@@ -85,5 +93,6 @@ class_below n above members = record { name = n; above = Some above; runnable = 
 abbrev pub one_expr : ExprTree → ExprTrees
 one_expr e = more_exprs e no_exprs
 
+-- a block of one statement
 abbrev pub one_stmt : StmtTree → StmtTrees
 one_stmt s = more_stmts s no_stmts

@@ -18,6 +18,7 @@ calls = 0 ∷ 1 ∷ 2 ∷ 3 ∷ 4 ∷ 5 ∷ 6 ∷ 7 ∷ []
 abbrev pub acquire_of : ℕ → ℕ
 acquire_of call = 6 + 13 * call
 
+-- the step by which a worker gives the lock back in a call, seven steps after it took it
 abbrev pub release_of : ℕ → ℕ
 release_of call = 13 + 13 * call
 

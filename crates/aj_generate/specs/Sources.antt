@@ -18,5 +18,6 @@ worker_line = codes "class W implements Runnable { final Cell c; W(Cell c) { thi
 abbrev pub main_line : ℕ → List ℕ
 main_line n = codes "class Main { void main() { final Cell c = new Cell();" ++ repeated n (codes " new Thread(new W(c)).start();") ++ codes " } }\n"
 
+-- the three lines as one text: the cell, the worker, and a main class that starts n workers
 abbrev pub generated_source : ℕ → List ℕ
 generated_source n = cell_line ++ worker_line ++ main_line n

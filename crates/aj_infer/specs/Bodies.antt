@@ -40,6 +40,7 @@ abbrev pub part_mentions : Part → List Mention
 part_mentions (ExprP e) = []
 part_mentions (StmtP s) = mentions s
 
+-- the fields and calls that several parts mention, one part after the other
 abbrev pub parts_mentions : List Part → List Mention
 parts_mentions [] = []
 parts_mentions (x ∷ xs) = part_mentions x ++ parts_mentions xs

@@ -23,6 +23,7 @@ basic_of (suc (suc (suc (suc n)))) = Error
 abbrev pub numbers_of : List (List Basic) → List (List ℕ)
 numbers_of tables = map (λ table. map rank_of table) tables
 
+-- the tables as basics, which the fixpoint keeps as numbers
 abbrev pub tables_of : List (List ℕ) → List (List Basic)
 tables_of rows = map (λ row. map basic_of row) rows
 
@@ -63,6 +64,7 @@ abbrev pub demands_of : Program → (overs : ℕ → List ℕ) → (ℕ → List
 demands_of P overs rel A m None = []
 demands_of P overs rel A m (Some method) = at_parts (λ held. run_effect P rel A (overs m) method (has_path held)) method.requires_ (rel m)
 
+-- what method m asks of its table: the effect of its body, or what is assigned to a method that overrides it, where that is more
 abbrev pub demands_at : Program → (overs : ℕ → List ℕ) → (ℕ → List PathData) → Assignment → ℕ → List Basic
 demands_at P overs rel A m = demands_of P overs rel A m (slice_get P.methods m)
 
@@ -105,6 +107,7 @@ is_met P overs rel x m = is_met_by P overs rel (tables_of x) m
 abbrev pub room_of : List Basic → ℕ
 room_of table = sum_by (λ b. 4 - rank_of b) table
 
+-- how often all tables together can rise, at most
 abbrev pub rooms_of : List (List Basic) → ℕ
 rooms_of tables = sum_by room_of tables
 

@@ -63,6 +63,7 @@ fn least_tables<'a, G: Algebra>(
         IsLeast (program_of program.now) (rel_of sets.now) (assigned (rel_of sets.now) tables.items)) }
     ensures keeps { Keeps G.IsKnown G.value algebra.old algebra.new }
 {
+    // Only the proof needs this: no method has too many paths.
     sets.few();
     let tables = const_tables(alloc, sets, program.methods().len())?;
     let count = tables.len();
@@ -78,6 +79,8 @@ fn least_tables<'a, G: Algebra>(
         callers,
     };
     let done = settle(alloc, &mut cells);
+    // Only the proof needs that the struct is taken apart whole and the algebra is read: so it is told what is left behind
+    // the reference.
     let Cells {
         judged: _judged,
         algebra,

@@ -14,6 +14,7 @@ abbrev pub are_met : List ℕ → ℕ → List Link → Bool
 are_met x from [] = true
 are_met x from (l ∷ ls) = has_level (slice_get x l.to) (max from l.level) && are_met x from ls
 
+-- the same of the links of a cell that may be missing, which then ask nothing
 abbrev pub are_met_from : List ℕ → Option ℕ → List Link → Bool
 are_met_from x None ls = true
 are_met_from x (Some from) ls = are_met x from ls
@@ -29,6 +30,7 @@ abbrev pub all_raised : List ℕ → ℕ → List Link → List ℕ
 all_raised x from [] = x
 all_raised x from (l ∷ ls) = all_raised (raised x l.to (max from l.level)) from ls
 
+-- the same for a cell that may be missing, which then raises nothing
 abbrev pub raised_from : List ℕ → Option ℕ → List Link → List ℕ
 raised_from x None ls = x
 raised_from x (Some from) ls = all_raised x from ls
@@ -37,10 +39,12 @@ raised_from x (Some from) ls = all_raised x from ls
 abbrev pub marks_of : List ℕ → Assignment
 marks_of x = map (λ u. u ∷ []) x
 
+-- the level that a cell's list has; 0 where the list is empty
 abbrev pub number_of : List ℕ → ℕ
 number_of [] = 0
 number_of (n ∷ ns) = n
 
+-- the levels of all cells, out of an assignment
 abbrev pub numbers_of : Assignment → List ℕ
 numbers_of marks = map number_of marks
 

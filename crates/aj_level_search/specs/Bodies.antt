@@ -19,5 +19,6 @@ told_in P rel level over (Some method) H under = told over (body_visits P rel le
 abbrev pub told_by : Judged → Option Method → Held → ℕ → List Told
 told_by j method H under = told_in (program_of j.program.now) (rel_of j.sets.now) (level_in j.levels.now) (row_at j.over.now) method H under
 
+-- the same of the method of this number, walked through with these held paths and under this level
 abbrev pub told_from : Judged → ℕ → Held → ℕ → List Told
 told_from j m H under = told_by j (slice_get (program_of j.program.now).methods m) H under

@@ -17,6 +17,7 @@ pub record Queue : Type 0 where
   pub cells : List Cell
   pub levels : List ℕ
 
+-- the cells that the search has found, and their levels, as plain data
 abbrev pub queue_of : Cells → Queue
 queue_of s = record { cells = s.known.keys; levels = s.levels.items }
 

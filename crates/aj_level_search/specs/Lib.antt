@@ -1,4 +1,5 @@
--- What the search for the first bad `synchronized` cites: what walks tell, the cells that are reached over calls, and which bad one comes first.
+-- What the search for the first bad `synchronized` cites, in this order: what walks tell (Bodies), the cells that are reached over
+-- calls (Cells), and which bad one comes first (Bad).
 pub mod Bodies
 pub mod Cells
 pub mod Bad

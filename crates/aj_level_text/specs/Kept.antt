@@ -12,6 +12,7 @@ use Rattle.aj_level_text.specs.declared.reader.LevelsFault.TheVariants as faults
 use Rattle.aj_level_text.specs.Texts.{LevelLine, line_text, IsLine}
 use Rattle.aj_level_text.specs.Faults.{IsNew, AreNew, Begins, AreTold, AreLevels, IsFirstFault}
 
+-- whether a class that may be unknown is the one of this number
 abbrev pub is_at : Option ℕ → ℕ → Bool
 is_at None c = false
 is_at (Some d) c = d == c

@@ -1,4 +1,5 @@
--- What the laws of lock levels cite: walks through bodies, the contexts that methods are called in, ordered programs, and circles of threads.
+-- What the laws of lock levels cite, in this order: walks through bodies (Walks), the contexts that methods are called in and ordered
+-- programs (Contexts), and circles of threads (Circles).
 pub mod Walks
 pub mod Contexts
 pub mod Circles

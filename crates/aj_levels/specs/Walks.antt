@@ -37,6 +37,7 @@ last_type P t (f ∷ fs) = last_type P (field_type (slice_get P.fields f)) fs
 abbrev pub lock_class : Program → List CoreType → PathData → ℕ
 lock_class P slots p = class_in (last_type P (slice_get slots p.root) p.fields)
 
+-- How many `synchronized` a statement and a block have.
 abbrev mutual
   -- how many `synchronized` a statement has
   pub syncs_in : Stmt → ℕ
@@ -46,6 +47,7 @@ abbrev mutual
   syncs_in (SyncS p s) = 1 + syncs_in s
   syncs_in _ = 0
 
+  -- how many the statements of a block have together
   pub syncs_in_each : Stmts → ℕ
   syncs_in_each no_stmts = 0
   syncs_in_each (and_stmt s ss) = syncs_in s + syncs_in_each ss
@@ -69,6 +71,7 @@ module _ (P : Program) (rel : ℕ → List PathData) where
     expr_visits (NewE c args) H under = exprs_visits args H under
     expr_visits _ H under = []
 
+    -- the parts of some arguments, one argument after the other
     pub exprs_visits : Exprs → Held → ℕ → List Visit
     exprs_visits no_exprs H under = []
     exprs_visits (and_expr e es) H under = expr_visits e H under ++ exprs_visits es H under

@@ -44,6 +44,7 @@ abbrev pub signs : List (List ℕ)
 signs = codes "(" ∷ codes ")" ∷ codes "{" ∷ codes "}" ∷ codes ";" ∷ codes "," ∷ codes "." ∷ codes "=" ∷ codes "==" ∷ codes "!=" ∷ codes "<" ∷ codes "<="
     ∷ codes ">" ∷ codes ">=" ∷ codes "+" ∷ codes "-" ∷ codes "--" ∷ codes "*" ∷ codes "/" ∷ codes "%" ∷ codes "!" ∷ codes "&&" ∷ codes "||" ∷ []
 
+-- whether bytes are one of the signs
 abbrev pub is_sign : List ℕ → Bool
 is_sign p = list_any (bytes_eq p) signs
 

@@ -9,6 +9,7 @@ use Rattle.aj_lexer.specs.declared.tokens.TokenKind.{TokenKind}
 use Rattle.aj_lexer.specs.Pieces.{is_blank, is_letter, is_digit, is_word_byte, is_in_line, is_sign, starts_close}
 use Rattle.aj_lexer.specs.Tokens.{Longest, meaning}
 
+-- a piece of this kind and length at the start of a text
 abbrev pub front_of : Piece → ℕ → Front
 front_of kind len = record { kind = kind; len = len }
 
@@ -22,6 +23,7 @@ abbrev pub block_by : ℕ → Option ℕ → Front
 block_by rest None = front_of OpenComment (2 + rest)
 block_by rest (Some n) = front_of Comment (2 + n)
 
+-- the front of a text that begins with `/*`, by the bytes behind that
 abbrev pub block_front : List ℕ → Front
 block_front cs = block_by (length cs) (close_end cs)
 

@@ -13,5 +13,6 @@ reserved = codes "abstract" ∷ codes "assert" ∷ codes "boolean" ∷ codes "br
     ∷ codes "volatile" ∷ codes "while" ∷ codes "true" ∷ codes "false" ∷ codes "null" ∷ codes "atomic" ∷ codes "guarded_by" ∷ codes "requires"
     ∷ codes "write_guarded_by" ∷ codes "System" ∷ codes "Thread" ∷ codes "Runnable" ∷ []
 
+-- whether a word is one of these
 abbrev pub is_reserved : List ℕ → Bool
 is_reserved word = list_any (λ other. bytes_eq other word) reserved

@@ -4,6 +4,7 @@ ghost use Rattle.std.specs.Prelude.{◌≡◌, ◌++◌, codes};
 ghost use Rattle.aj_lexer.specs.Reserved.{is_reserved};
 
 // Whether the bytes after a first letter make a reserved word with it, for each letter that begins one.
+// Only the proof needs a function for each letter: all words in one are too many cases for it.
 
 fn from_a(rest: &[u8]) -> bool
     ensures { result ≡ is_reserved (codes "a" ++ rest.now) }

@@ -28,6 +28,7 @@ program = record {
   main = 1;
 }
 
+-- the path of a slot and the fields behind it
 abbrev pub path : ℕ → List ℕ → PathData
 path root fields = record { root = root; fields = fields }
 

@@ -41,6 +41,7 @@ abbrev pub first_operands : List CodeFrame → List Value
 first_operands [] = []
 first_operands (f ∷ fs) = f.operands
 
+-- the operands of a thread's top frame; none where it has no frame
 abbrev pub operands_in : ThreadOf CodeFrame → List Value
 operands_in thread = first_operands (frames_in thread)
 
@@ -72,11 +73,13 @@ deed_heap P see t ops (deed.Writes a x index v place) heap = with_field a index 
 deed_heap P see t ops (deed.Makes c n place) heap = map.insert heap (next_object see t) (record { class = c; values = new_values P (fields_of (slice_get P.classes c)) (listed n ops) })
 deed_heap P see t ops _ heap = heap
 
+-- the held locks after a deed: one that is taken, or one that is given back
 abbrev pub deed_locks : Shared → ℕ → Deed → Locks → Locks
 deed_locks see t (deed.Takes a again place) locks = map.insert locks a (taken_by t (see.lock_at a))
 deed_locks see t (deed.Gives a frees place) locks = with_lock a (given_back (see.lock_at a)) locks
 deed_locks see t _ locks = locks
 
+-- what is printed after a deed: one number more, where one is printed
 abbrev pub deed_output : Deed → List ℤ → List ℤ
 deed_output (deed.Prints n place) output = output ++ n ∷ []
 deed_output _ output = output

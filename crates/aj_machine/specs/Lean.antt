@@ -15,6 +15,7 @@ takes_memory W.Print = true
 takes_memory W.Start = true
 takes_memory _ = false
 
+-- whether the next action may take memory, where there is one
 abbrev pub next_takes : Option Next → Bool
 next_takes None = false
 next_takes (Some next) = takes_memory next.0

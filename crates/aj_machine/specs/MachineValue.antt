@@ -11,6 +11,7 @@ use Rattle.aj_state.specs.Codes.{object_code, hold_code}
 use Rattle.aj_threads.specs.ThreadCodes.{thread_code}
 use Rattle.aj_compile.specs.declared.stack.CodeTable.{CodeTable}
 
+-- a machine as plain data: its program with its code, the state that it has come to, and how many steps it made
 pub record MachineValue : Type 0 where
   pub program : CoreProgram
   pub code : CodeTable

@@ -30,10 +30,13 @@ module _ (P : Program) (code : List Code) (entry room : List ℕ) where
   AreReached [] = Unit {0}
   AreReached (f ∷ below) = HasReached f (length f.operands) × BelowReached (slice_get P.methods f.method) below
 
+  -- and so of each thread
   abbrev pub AllReached : List (ThreadOf CodeFrame) → Type 0
   AllReached [] = Unit {0}
   AllReached (c ∷ cs) = AreReached (frames_in c) × AllReached cs
 
+  -- what is so of every state that the machine comes to: in a typed program each frame is reached with its operands, each has room for those that its
+  -- method may have, and the state stands for one of the definition's
   pub record IsKept (s : StateOf CellFrame) : Type 0 where
     pub reached : IsTyped P → AllReached (map code_thread s.threads)
     pub roomy : AllRoomy room s.threads

@@ -11,6 +11,7 @@ use Rattle.aj_deeds.specs.declared.deed.Turn.TheVariants as turn
 abbrev pub IsRoomy : List ℕ → CellFrame → Type 0
 IsRoomy rooms f = (most : ℕ) → slice_get rooms f.method ≡ Some most → most ≤ length f.operands + f.room
 
+-- and so of each of these frames
 abbrev pub AreRoomy : List ℕ → List CellFrame → Type 0
 AreRoomy rooms [] = Unit {0}
 AreRoomy rooms (f ∷ fs) = IsRoomy rooms f × AreRoomy rooms fs

@@ -222,6 +222,7 @@ impl<'p> Machine<'p> {
         requires { turn.now ≡ turn_of self.now thread }
         ensures { (q : State) (kind : StepKind) → StandsFor self.now q → kind_of (program_run self.now) q thread ≡ Some kind → result ≡ kind }
     {
+        // Only the proof needs this: the invariant of a struct is known where one of its fields is used.
         let _ = &self.code;
         turn_kind(&self.seen(thread), *turn)
     }

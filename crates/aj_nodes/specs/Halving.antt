@@ -16,6 +16,7 @@ pub record Halves : Type 0 where
   pub second_held : Cond
   pub second_free : Cond
 
+-- such halves, of the first tree where the path is held and where it isn't, and of the second
 abbrev pub halves : PathData → Cond → Cond → Cond → Cond → Option Halves
 halves p a b c d = Some (record { path = p; first_held = a; first_free = b; second_held = c; second_free = d })
 

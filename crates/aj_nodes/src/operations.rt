@@ -184,6 +184,7 @@ impl NodeTable {
         ensures stands { IfOk result (λ r. Stands self.new r (hold_partners pairs.now q.now (tree_at self.old m) (tree_at self.old n))) }
         ensures grows { Grows self.old self.new }
     {
+        // Only the proof needs this: the number of a basic tells that the table is in order.
         let _ = self.number(Basic::Const);
         match pairs.split_first() {
             None => Ok(n),
@@ -255,6 +256,7 @@ impl NodeTable {
         ensures stands { IfOk result (λ r. Stands self.new r (rename_tree pairs.now (tree_at self.old n))) }
         ensures grows { Grows self.old self.new }
     {
+        // Only the proof needs this: the number of a basic tells that the table is in order.
         let _ = self.number(Basic::Const);
         if pairs.is_empty() {
             return Ok(n);

@@ -75,6 +75,7 @@ impl Rows {
     pub fn leaf(&self, b: Basic) -> usize
         ensures { Stands self.now result (LeafC b) }
     {
+        // Only the proof needs this: the invariant of a struct is known where one of its fields is used.
         let _ = &self.decisions;
         match b {
             Basic::Const => 0,
@@ -90,6 +91,7 @@ impl Rows {
         ensures basic { IfSome result (λ b. tree_at self.now n ≡ LeafC b) }
         ensures table { IsTable self.now }
     {
+        // Only the proof needs this: the invariant of a struct is known where one of its fields is used.
         let _ = &self.decisions;
         match n {
             0 => Some(Basic::Const),
@@ -126,6 +128,7 @@ impl Rows {
         ensures stands { IfOk result (λ n. Stands self.new n (node p.now (tree_at self.old held) (tree_at self.old free))) }
         ensures grows { Grows self.old self.new }
     {
+        // Only the proof needs this: the invariant of a struct is known where one of its fields is used.
         let _decisions = &self.decisions;
         if held == free {
             return Ok(held);
@@ -151,6 +154,7 @@ impl Rows {
         ensures table { IsTable self.now }
     {
         let at = self.hints[hint];
+        // Only the proof needs this: the length bounds the sum below.
         let _len = self.decisions.len();
         let decision = self.decisions.get_index(at)?;
         if decision.held == held && decision.free == free && decision.path.same(p) {
@@ -169,6 +173,7 @@ impl Rows {
         ensures stands { IfOk result (λ n. Stands self.new n (TestC decision.path (tree_at self.old decision.held) (tree_at self.old decision.free))) }
         ensures grows { Grows self.old self.new }
     {
+        // Only the proof needs this: the length bounds the sum below.
         let _len = self.decisions.len();
         let (n, _) = self.decisions.insert_full(decision)?;
         self.hints[hint] = n;

@@ -81,6 +81,7 @@ impl NodeTable {
         ensures canonical { IfOk result (λ t. IsCanonical (cond_of t)) }
         ensures value { IfOk result (λ t. (H : Held) → value_of (cond_of t) H ≡ value_of (tree_at self.now a.now.0) H) }
     {
+        // Only the proof needs this: the count tells that the table is in order.
         let _count = self.rows.count();
         self.rows.tree(alloc, a.0)
     }
@@ -91,6 +92,7 @@ impl NodeTable {
         ensures trees { IfOk result (λ trees. map cond_of trees.items ≡ trees_at self.now nodes.now) }
         ensures table { IsTable self.now }
     {
+        // Only the proof needs this: the count tells that the table is in order.
         let _count = self.rows.count();
         let mut trees = Vec::with_capacity(alloc, nodes.len())?;
         for node in nodes {
@@ -106,6 +108,7 @@ impl NodeTable {
         ensures value { (result ≡ true) ↔ ((H : Held) → value_of (tree_at self.now a.now.0) H ≡ value_of (tree_at self.now b.now.0) H) }
         ensures number { (result ≡ true) ↔ (a.now ≡ b.now) }
     {
+        // Only the proof needs this: the count tells that the table is in order.
         let _count = self.rows.count();
         a == b
     }
@@ -115,6 +118,7 @@ impl NodeTable {
         ensures stands { Stands self.now result (LeafC b) }
         ensures table { IsTable self.now }
     {
+        // Only the proof needs this: the count tells that the table is in order.
         let _count = self.rows.count();
         self.rows.leaf(b)
     }
@@ -154,6 +158,7 @@ impl NodeTable {
         ensures below { result ≡ below_tree (tree_at self.now m) (tree_at self.now n) }
         ensures table { IsTable self.now }
     {
+        // Only the proof needs this: the count tells that the table is in order.
         let _count = self.rows.count();
         self.rows.below(m, n)
     }
@@ -237,6 +242,7 @@ impl NodeTable {
         requires { AreRenamed self.now pairs.now done.now.entries }
         ensures { IfSome result (λ r. Stands self.now r (rename_tree pairs.now (tree_at self.now n))) }
     {
+        // Only the proof needs this: the count tells that the table is in order.
         let _count = self.rows.count();
         done.get(&n).copied()
     }
@@ -254,6 +260,7 @@ impl NodeTable {
         requires stands { Stands self.now renamed (rename_tree pairs.now (tree_at self.now n)) }
         ensures { OnOk result (AreRenamed self.now pairs.now done.new.entries) }
     {
+        // Only the proof needs the pairs: the clauses say what was renamed by them.
         let _pairs = pairs;
         done.insert(n, renamed)?;
         Ok(())

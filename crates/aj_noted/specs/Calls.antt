@@ -19,6 +19,7 @@ abbrev pub with_call : Bool → ℕ → ℕ
 with_call true calls = calls + 1
 with_call false calls = calls
 
+-- the calls that are left when a frame goes: one less where its method is annotated
 abbrev pub without_call : Bool → ℕ → ℕ
 without_call true calls = calls - 1
 without_call false calls = calls
@@ -41,6 +42,7 @@ abbrev pub first_method : List ℕ → Option ℕ
 first_method [] = None
 first_method (m ∷ ms) = Some m
 
+-- what is seen of frames whose methods are these
 abbrev pub frames_seen : List ℕ → Frames
 frames_seen ms = record { count = length ms; top = first_method ms }
 

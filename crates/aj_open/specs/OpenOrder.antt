@@ -9,6 +9,7 @@ use Rattle.aj_steps.specs.Units.{Entry, entries, units, is_whole, is_commit, in_
 abbrev pub commits : List Entry → Bool
 commits u = is_whole u || list_any (λ e. is_commit e.kind) u
 
+-- whether a unit doesn't commit: a call that is left open before its first Left or Other step
 abbrev pub is_uncommitted : List Entry → Bool
 is_uncommitted u = not (commits u)
 

@@ -13,6 +13,7 @@ stays_open step = step.inside && not (is_commit step.kind)
 abbrev pub committed_size : (sizes : ℕ → ℕ) → (place : ℕ) → Step → ℕ
 committed_size sizes place step = if stays_open step then 0 else sizes place
 
+-- how many steps the unit at a place has, where it doesn't commit; else 0
 abbrev pub left_size : (sizes : ℕ → ℕ) → (place : ℕ) → Step → ℕ
 left_size sizes place step = if stays_open step then sizes place else 0
 

@@ -38,11 +38,14 @@ told_of (seen.Bad place class under) = Wrong place class under
 abbrev pub expr_told : Walk → Expr → Held → ℕ → List Told
 expr_told w e H under = told (row_at w.over.now) (expr_visits (program_of w.program.now) (rel_of w.sets.now) e H under)
 
+-- what the arguments of a call or of `new` tell in this walk
 abbrev pub exprs_told : Walk → Exprs → Held → ℕ → List Told
 exprs_told w es H under = told (row_at w.over.now) (exprs_visits (program_of w.program.now) (rel_of w.sets.now) es H under)
 
+-- what a statement tells, whose first `synchronized` has this place
 abbrev pub stmt_told : Walk → Stmt → ℕ → Held → ℕ → List Told
 stmt_told w s place H under = told (row_at w.over.now) (visits (program_of w.program.now) (rel_of w.sets.now) (level_in w.levels.now) w.slots.now s place H under)
 
+-- what the statements of a block tell, whose first `synchronized` has this place
 abbrev pub block_told : Walk → Stmts → ℕ → Held → ℕ → List Told
 block_told w ss place H under = told (row_at w.over.now) (block_visits (program_of w.program.now) (rel_of w.sets.now) (level_in w.levels.now) w.slots.now ss place H under)

@@ -10,8 +10,10 @@ joined (x ∷ xs) = x ++ joined xs
 abbrev pub line_end : List ℕ
 line_end = 10 ∷ []
 
+-- the line on a file that could not be read
 abbrev pub cannot_read_line : List ℕ → List ℕ
 cannot_read_line name = joined (codes "cannot read " ∷ name ∷ line_end ∷ [])
 
+-- the line on a file that is longer than its limit
 abbrev pub too_large_line : List ℕ → List ℕ
 too_large_line name = joined (name ∷ codes " is too large" ∷ line_end ∷ [])

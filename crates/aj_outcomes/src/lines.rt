@@ -19,12 +19,14 @@ pub fn joined(alloc: Global, texts: &[&str]) -> Result<String, NoMemory>
     Ok(all)
 }
 
+/// The line on a file that could not be read.
 pub fn cannot_read_line(alloc: Global, name: &str) -> Result<String, NoMemory>
     ensures { IfOk result (λ text. string_bytes text ≡ lines.cannot_read_line name.now) }
 {
     joined(alloc, &["cannot read ", name, LINE_END])
 }
 
+/// The line on a file that is longer than its limit.
 pub fn too_large_line(alloc: Global, name: &str) -> Result<String, NoMemory>
     ensures { IfOk result (λ text. string_bytes text ≡ lines.too_large_line name.now) }
 {

@@ -15,24 +15,30 @@ braces item ts = take_one T.OpenBrace ts >>= λ b ts. several goes_on item ts >>
 
 -- branches are read by inner, the block of a `synchronized` by block
 module _ (h : ℕ) (inner : Bool → List Token → Res StmtTree) (block : List Token → Res (ℕ × List StmtTree × ℕ)) where
+  -- what may follow the first branch of an `if`: an `else` belongs to the innermost one
   unfoldable pub else_part : ℕ → ExprTree → StmtTree → List Token → Res StmtTree
   else_part at e s ts =
       if starts (is T.Else) ts then (take_one T.Else ts >>= λ d ts. inner false ts >>= λ t ts. Ok (IfElseS e s t at, ts)) else Ok (IfS e s at, ts)
 
+  -- an `if` with one branch or two
   unfoldable pub if_statement : List Token → Res StmtTree
   if_statement ts = take_one T.If ts >>= λ d ts. condition h ts >>= λ e ts. inner false ts >>= λ s ts. else_part d e s ts
 
+  -- a `while` with its body
   unfoldable pub while_statement : List Token → Res StmtTree
   while_statement ts = take_one T.While ts >>= λ d ts. condition h ts >>= λ e ts. inner false ts >>= λ s ts. Ok (WhileS e s d, ts)
 
+  -- a `synchronized` with its lock and block
   unfoldable pub sync_statement : List Token → Res StmtTree
   sync_statement ts =
       take_one T.Synchronized ts >>= λ d ts. take_one T.OpenParen ts >>= λ o ts. lock ts >>= λ l ts. take_one T.CloseParen ts >>= λ c ts.
       block ts >>= λ b ts. Ok (SyncS l (stmts_from b.1) d, ts)
 
+  -- a block as a statement of its own, in which declarations may stand
   unfoldable pub block_statement : List Token → Res StmtTree
   block_statement ts = braces (inner true) ts >>= λ b ts. Ok (BlockS (stmts_from b.1) b.0, ts)
 
+  -- a statement by its first token, of a kind with statements in it or of another
   unfoldable pub statement_with : Bool → List Token → Res StmtTree
   statement_with in_block ts =
       if starts (is T.OpenBrace) ts then block_statement ts
@@ -41,6 +47,7 @@ module _ (h : ℕ) (inner : Bool → List Token → Res StmtTree) (block : List 
       else if starts (is T.Synchronized) ts then sync_statement ts
       else plain_statement h in_block ts
 
+-- Statements and blocks of a height that is allowed, each read through the other.
 unfoldable mutual
   -- a statement of at most h nodes in height; in a block it may be a declaration
   pub statement_at : ℕ → Bool → List Token → Res StmtTree

@@ -3,6 +3,7 @@ use Rattle.std.specs.Prelude.{ℕ, List, [], ◌∷◌, ◌++◌, map, codes}
 use Rattle.aj_syntax.specs.Trees.{StmtTree, StmtTrees, EmptyS, BlockS, LocalS, SetVarS, SetFieldS, DoS, IfS, IfElseS, WhileS, SyncS, ReturnS, PrintS, StartS, no_stmts, more_stmts}
 use Rattle.aj_syntax.specs.Trees.{MethodTree, MemberTree, FieldM, CtorM, MethodM}
 
+-- The names of the locals of a statement and of a block.
 abbrev mutual
   -- the names of the locals that a statement declares
   pub local_names : StmtTree → List (List ℕ)
@@ -20,6 +21,7 @@ abbrev mutual
   local_names (PrintS e at) = []
   local_names (StartS e at) = []
 
+  -- the names of the locals that the statements of a block declare, one statement after the other
   pub block_locals : StmtTrees → List (List ℕ)
   block_locals no_stmts = []
   block_locals (more_stmts s ss) = local_names s ++ block_locals ss

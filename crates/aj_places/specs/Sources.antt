@@ -14,6 +14,7 @@ pub data Source : Type 0 where
   NoElse : StmtTree → Source
   FromBody : MethodTree → Source
 
+-- What the nodes of expressions and of arguments were made of.
 abbrev mutual
   -- what the nodes of an expression were made of; parentheses make none
   pub expr_sources : ExprTree → List Source
@@ -31,6 +32,7 @@ abbrev mutual
   expr_sources (CallE e n args) = FromExpr (CallE e n args) ∷ (expr_sources e ++ exprs_sources args)
   expr_sources (NewE n args at) = FromExpr (NewE n args at) ∷ exprs_sources args
 
+  -- what the nodes of some arguments were made of, one argument after the other
   pub exprs_sources : ExprTrees → List Source
   exprs_sources no_exprs = []
   exprs_sources (more_exprs e es) = expr_sources e ++ exprs_sources es
@@ -40,6 +42,7 @@ abbrev pub value_sources : Option ExprTree → List Source
 value_sources None = []
 value_sources (Some e) = expr_sources e
 
+-- What the nodes of statements and of blocks were made of.
 abbrev mutual
   -- what the nodes of a statement were made of
   pub stmt_sources : StmtTree → List Source
@@ -57,6 +60,7 @@ abbrev mutual
   stmt_sources (PrintS e at) = FromStmt (PrintS e at) ∷ expr_sources e
   stmt_sources (StartS e at) = FromStmt (StartS e at) ∷ expr_sources e
 
+  -- what the nodes of the statements of a block were made of, one statement after the other
   pub block_sources : StmtTrees → List Source
   block_sources no_stmts = []
   block_sources (more_stmts s ss) = stmt_sources s ++ block_sources ss

@@ -53,6 +53,7 @@ abbrev pub asked_act : Program → Plain → List Value → Action → Option As
 asked_act P q operands (W.Call m) = asked_call P q m operands (slice_get P.methods m)
 asked_act P q operands _ = None
 
+-- the call that the next action begins, where there is one and it is a call
 abbrev pub asked_next : Program → Plain → List Value → Option Next → Option Asked
 asked_next P q operands None = None
 asked_next P q operands (Some next) = asked_act P q operands next.0

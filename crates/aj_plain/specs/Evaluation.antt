@@ -98,6 +98,7 @@ abbrev pub give_held : Address → Hold → (mine : Bool) → Plain → Answer (
 give_held a hold false q = Fails fault.Null
 give_held a hold true q = Gives tt (changed (LockIs a (given_back hold)) q)
 
+-- gives back the lock that may be held so; a fault where nobody holds it
 abbrev pub give_lock : ℕ → Address → Option Hold → Plain → Answer (Unit {0})
 give_lock t a None q = Fails fault.Null
 give_lock t a (Some hold) q = give_held a hold (hold.holder == t) q
@@ -156,6 +157,7 @@ module _ (P : Program) (t : ℕ) (lower : Option Lower) (d : ℕ) where
   -- expressions leave the slots as they are
   module _ (slots : List Value) where
     abbrev mutual
+      -- the value of an expression, whose parts are evaluated from left to right
       pub expr : Expr → Plain → Answer Value
       expr (IntE n) q = Gives (value.Int n) q
       expr (TruthE b) q = Gives (value.Truth b) q
@@ -177,6 +179,7 @@ module _ (P : Program) (t : ℕ) (lower : Option Lower) (d : ℕ) where
       exprs (and_expr e es) q = then_do (expr e q) (λ v r. then_do (exprs es r) (λ vs s. Gives (v ∷ vs) s))
 
   abbrev mutual
+    -- how a statement ends, with which slots, and the state after it
     pub stmt : Stmt → List Value → Plain → Answer Ended
     stmt EmptyS slots q = goes_on slots q
     stmt (BlockS ss) slots q = stmts ss slots q

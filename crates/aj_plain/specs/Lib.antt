@@ -1,4 +1,6 @@
--- What it means to evaluate a method by itself, in the order to read it.
+-- What it means to evaluate a method by itself, in this order: plain states (Plain), what evaluation answers (Answers), evaluation
+-- (Evaluation), the atomic calls of a schedule (Calls), what is told of them (Records), and that this is what evaluation gives
+-- (Given). Scanning serves the proofs of the crates above, and Examples has programs.
 pub mod Plain
 pub mod Answers
 pub mod Evaluation

@@ -26,6 +26,7 @@ abbrev pub with_receiver : ℕ → Option Address → Option (ℕ × Address)
 with_receiver m None = None
 with_receiver m (Some a) = Some (m, a)
 
+-- a method, and the receiver in the first of these slots
 abbrev pub first_receiver : ℕ → List Value → Option (ℕ × Address)
 first_receiver m [] = None
 first_receiver m (v ∷ vs) = with_receiver m (address_of v)
@@ -35,6 +36,7 @@ abbrev pub innermost : List Frame → Option (ℕ × Address)
 innermost [] = None
 innermost (f ∷ below) = first_receiver f.method f.slots
 
+-- the method and the receiver of a thread's innermost frame
 abbrev pub entered_in : Option Thread → Option (ℕ × Address)
 entered_in None = None
 entered_in (Some thread) = innermost (frames_of thread)
@@ -65,14 +67,17 @@ pub data Next : Type 0 where
   Goes : Option Begun → List Told → Next
   Deep : ℕ → Next
 
+-- a call goes on, or has more than 100 frames of its own, which is too deep
 abbrev pub low_or_deep : State → Option Begun → Next
 low_or_deep r None = Goes None []
 low_or_deep r (Some b) = if nat_lt (b.frames + most_depth) (depth (slice_get r.threads b.thread)) then Deep b.entry else Goes (Some b) []
 
+-- the open call has ended: what is told of it
 abbrev pub ended_in : Program → State → Option Begun → Next
 ended_in P r None = Goes None []
 ended_in P r (Some b) = Goes None (told_of P r b ∷ [])
 
+-- what an entry adds, by whether its thread stands inside an atomic call after it: a call begins or goes on, or it has ended
 abbrev pub next_by : Program → (q r : State) → (entry t : ℕ) → Option Begun → Bool → Next
 next_by P q r entry t open_ true = low_or_deep r (open_or open_ (begun_in q entry t (entered_in (slice_get r.threads t))))
 next_by P q r entry t open_ false = ended_in P r open_

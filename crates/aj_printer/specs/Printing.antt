@@ -32,29 +32,37 @@ abbrev pub flag_lexemes : Terminal → Bool → List Lexeme
 flag_lexemes t true = Fixed t ∷ []
 flag_lexemes t false = []
 
+-- a name, as the source has it
 abbrev pub name_lexeme : Name → Lexeme
 name_lexeme n = Named n.text
 
+-- the word of a basic type, or the name of a class
 abbrev pub type_lexeme : TypeName → Lexeme
 type_lexeme Y.Int = Fixed T.Int
 type_lexeme Y.Boolean = Fixed T.Boolean
 type_lexeme (Y.Class n) = name_lexeme n
 
+-- the type of a method's result, or `void`
 abbrev pub result_lexeme : Option TypeName → Lexeme
 result_lexeme None = Fixed T.Void
 result_lexeme (Some ty) = type_lexeme ty
 
+-- a field behind a lock: `.f`
 abbrev pub dotted_lexemes : Name → List Lexeme
 dotted_lexemes n = Fixed T.Dot ∷ name_lexeme n ∷ []
 
+-- what a lock begins with: a local's name, or `this`
 abbrev pub root_lexeme : Option Name → Lexeme
 root_lexeme None = Fixed T.This
 root_lexeme (Some n) = name_lexeme n
 
+-- a lock: its root, then each field with its dot
 abbrev pub lock_lexemes : LockTree → List Lexeme
 lock_lexemes l = root_lexeme l.root ∷ all_lexemes dotted_lexemes l.fields
 
+-- The tokens of an expression, and of a list of arguments in it.
 abbrev mutual
+  -- an expression without the offsets of its tokens, from left to right; parentheses stand just where the tree has them
   pub expr_lexemes : ExprTree → List Lexeme
   expr_lexemes (NumberE n at) = Numeral n ∷ []
   expr_lexemes (LeastE at) = Fixed T.Minus ∷ Numeral greatest_literal ∷ []
@@ -72,15 +80,19 @@ abbrev mutual
       expr_lexemes e ++ (Fixed T.Dot ∷ name_lexeme n ∷ Fixed T.OpenParen ∷ args_lexemes args ++ (Fixed T.CloseParen ∷ []))
   expr_lexemes (NewE n args at) = Fixed T.New ∷ name_lexeme n ∷ Fixed T.OpenParen ∷ args_lexemes args ++ (Fixed T.CloseParen ∷ [])
 
+  -- the arguments of a call or of `new`, with commas between them
   pub args_lexemes : ExprTrees → List Lexeme
   args_lexemes no_exprs = []
   args_lexemes (more_exprs e es) = expr_lexemes e ++ more_args_lexemes es
 
+  -- further arguments, each with its comma before it
   pub more_args_lexemes : ExprTrees → List Lexeme
   more_args_lexemes no_exprs = []
   more_args_lexemes (more_exprs e es) = Fixed T.Comma ∷ expr_lexemes e ++ more_args_lexemes es
 
+-- The tokens of a statement, and of the statements of a block.
 abbrev mutual
+  -- a statement with its semicolon or braces; `else` stands only where the tree has an else part
   pub stmt_lexemes : StmtTree → List Lexeme
   stmt_lexemes (EmptyS at) = Fixed T.Semicolon ∷ []
   stmt_lexemes (BlockS ss at) = Fixed T.OpenBrace ∷ stmts_lexemes ss ++ (Fixed T.CloseBrace ∷ [])
@@ -106,6 +118,7 @@ abbrev mutual
       Fixed T.New ∷ Fixed T.Thread ∷ Fixed T.OpenParen
       ∷ expr_lexemes e ++ (Fixed T.CloseParen ∷ Fixed T.Dot ∷ Fixed T.Start ∷ Fixed T.OpenParen ∷ Fixed T.CloseParen ∷ Fixed T.Semicolon ∷ [])
 
+  -- statements, one after another
   pub stmts_lexemes : StmtTrees → List Lexeme
   stmts_lexemes no_stmts = []
   stmts_lexemes (more_stmts s ss) = stmt_lexemes s ++ stmts_lexemes ss
@@ -114,23 +127,28 @@ abbrev mutual
 abbrev pub param_lexemes : Bool → Param → List Lexeme
 param_lexemes keeps p = flag_lexemes T.Final (keeps && p.is_final) ++ (type_lexeme p.ty ∷ name_lexeme p.name ∷ [])
 
+-- a line of a constructor: `this.f = p;`
 abbrev pub set_lexemes : (Name × Name) → List Lexeme
 set_lexemes p = Fixed T.This ∷ Fixed T.Dot ∷ name_lexeme p.0 ∷ Fixed T.Assign ∷ name_lexeme p.1 ∷ Fixed T.Semicolon ∷ []
 
+-- the lock that guards a field, after the word for guarding all accesses or writes alone; nothing for an unguarded field
 abbrev pub guard_lexemes : Bool → Option LockTree → List Lexeme
 guard_lexemes writes_only None = []
 guard_lexemes writes_only (Some l) = Fixed (guard_word writes_only) ∷ lock_lexemes l
 
+-- the locks that a method's caller must hold, after `requires`; nothing where there are none
 abbrev pub requires_lexemes : List LockTree → List Lexeme
 requires_lexemes [] = []
 requires_lexemes (l ∷ ls) = Fixed T.Requires ∷ listed_lexemes lock_lexemes (l ∷ ls)
 
+-- a method: its annotation, result, name, parameters, required locks and body
 abbrev pub method_lexemes : Bool → Option TypeName → Name → List Param → List LockTree → StmtTrees → List Lexeme
 method_lexemes atomic returns n params locks body =
     flag_lexemes T.Atomic atomic ++ (result_lexeme returns ∷ name_lexeme n ∷ Fixed T.OpenParen
     ∷ listed_lexemes (param_lexemes true) params
     ++ (Fixed T.CloseParen ∷ requires_lexemes locks ++ (Fixed T.OpenBrace ∷ stmts_lexemes body ++ (Fixed T.CloseBrace ∷ []))))
 
+-- a field: `final` where it is, its type, its name and its guard
 abbrev pub field_lexemes : FieldTree → List Lexeme
 field_lexemes f =
     flag_lexemes T.Final f.is_final
@@ -144,10 +162,12 @@ member_lexemes (CtorM n params sets) =
     ++ (Fixed T.CloseParen ∷ Fixed T.OpenBrace ∷ all_lexemes set_lexemes sets ++ (Fixed T.CloseBrace ∷ []))
 member_lexemes (MethodM m) = method_lexemes m.atomic m.returns m.name m.params m.locks m.body
 
+-- `implements Runnable`, where a class says it
 abbrev pub runnable_lexemes : Bool → List Lexeme
 runnable_lexemes true = Fixed T.Implements ∷ Fixed T.Runnable ∷ []
 runnable_lexemes false = []
 
+-- `extends` and the class above, where there is one
 abbrev pub extends_lexemes : Option Name → List Lexeme
 extends_lexemes None = []
 extends_lexemes (Some n) = Fixed T.Extends ∷ name_lexeme n ∷ []
@@ -158,6 +178,7 @@ class_lexemes c =
     Fixed T.Class ∷ name_lexeme c.name ∷ extends_lexemes c.above
     ++ (runnable_lexemes c.runnable ++ (Fixed T.OpenBrace ∷ all_lexemes member_lexemes c.members ++ (Fixed T.CloseBrace ∷ [])))
 
+-- all classes of a program, in its order
 abbrev pub program_lexemes : ProgramTree → List Lexeme
 program_lexemes t = all_lexemes class_lexemes t
 

@@ -11,6 +11,7 @@ use Rattle.aj_syntax.specs.Tokens.{kind_of}
 use Rattle.aj_syntax.specs.Trees.{ProgramTree}
 use Rattle.aj_printer.specs.Unplaced.{without_offsets}
 
+-- the kind of the token that a lexer makes of this lexeme
 abbrev pub lexeme_kind : Lexeme → TokenKind
 lexeme_kind (Fixed t) = kind_of t
 lexeme_kind (Named name) = K.Name
@@ -21,10 +22,12 @@ abbrev pub AreLexemes : List Lexeme → Type 0
 AreLexemes [] = Unit {0}
 AreLexemes (x ∷ xs) = IsOfKind (lexeme_kind x) (lexeme_text x) × AreLexemes xs
 
+-- whether a lexeme is `!`, which would be another token with a `=` directly after it
 abbrev pub is_bang : Lexeme → Bool
 is_bang (Fixed T.Bang) = true
 is_bang x = false
 
+-- whether a lexeme begins with `=`: the signs `=` and `==`
 abbrev pub begins_with_assign : Lexeme → Bool
 begins_with_assign (Fixed T.Assign) = true
 begins_with_assign (Fixed T.EqualTo) = true

@@ -11,15 +11,19 @@ use Rattle.aj_syntax.specs.Trees.{LockTree, ExprTree, ExprTrees, NumberE, LeastE
 abbrev pub bare_name : Name → Name
 bare_name n = record { text = n.text; at = 0 }
 
+-- a type whose class name, if it has one, stands at offset 0
 abbrev pub bare_type : TypeName → TypeName
 bare_type Y.Int = Y.Int
 bare_type Y.Boolean = Y.Boolean
 bare_type (Y.Class n) = Y.Class (bare_name n)
 
+-- a lock of which all names stand at offset 0
 abbrev pub bare_lock : LockTree → LockTree
 bare_lock l = record { root = option_map bare_name l.root; fields = map bare_name l.fields; at = 0 }
 
+-- Expressions and arguments, each offset replaced by 0.
 abbrev mutual
+  -- the same expression with all offsets 0, which is equal for two expressions that differ in their places alone
   pub bare_expr : ExprTree → ExprTree
   bare_expr (NumberE n at) = NumberE n 0
   bare_expr (LeastE at) = LeastE 0
@@ -35,11 +39,14 @@ abbrev mutual
   bare_expr (CallE e n args) = CallE (bare_expr e) (bare_name n) (bare_exprs args)
   bare_expr (NewE n args at) = NewE (bare_name n) (bare_exprs args) 0
 
+  -- the same arguments with all offsets 0
   pub bare_exprs : ExprTrees → ExprTrees
   bare_exprs no_exprs = no_exprs
   bare_exprs (more_exprs e es) = more_exprs (bare_expr e) (bare_exprs es)
 
+-- Statements and blocks, each offset replaced by 0.
 abbrev mutual
+  -- the same statement with all offsets 0
   pub bare_stmt : StmtTree → StmtTree
   bare_stmt (EmptyS at) = EmptyS 0
   bare_stmt (BlockS ss at) = BlockS (bare_stmts ss) 0
@@ -56,16 +63,20 @@ abbrev mutual
   bare_stmt (PrintS e at) = PrintS (bare_expr e) 0
   bare_stmt (StartS e at) = StartS (bare_expr e) 0
 
+  -- the same statements with all offsets 0
   pub bare_stmts : StmtTrees → StmtTrees
   bare_stmts no_stmts = no_stmts
   bare_stmts (more_stmts s ss) = more_stmts (bare_stmt s) (bare_stmts ss)
 
+-- the same parameter with all offsets 0
 abbrev pub bare_param : Param → Param
 bare_param p = record { is_final = p.is_final; ty = bare_type p.ty; name = bare_name p.name }
 
+-- the same line of a constructor, a field and a parameter, with both names at offset 0
 abbrev pub bare_set : (Name × Name) → (Name × Name)
 bare_set p = (bare_name p.0, bare_name p.1)
 
+-- the same member with all offsets 0
 abbrev pub bare_member : MemberTree → MemberTree
 bare_member (FieldM f) =
     FieldM record {
@@ -87,6 +98,7 @@ bare_member (MethodM m) =
       end = 0;
     }
 
+-- the same class with all offsets 0
 abbrev pub bare_class : ClassTree → ClassTree
 bare_class c = record { name = bare_name c.name; above = option_map bare_name c.above; runnable = c.runnable; members = map bare_member c.members }
 

@@ -50,6 +50,7 @@ impl Model for Printer {
 }
 
 impl Printer {
+    /// An empty page, at the start of its first line.
     pub fn new(alloc: Global) -> Self
         ensures { result ≡ record { text = []; depth = 0; place = places.LineStart } }
     {
@@ -60,6 +61,7 @@ impl Printer {
         }
     }
 
+    /// The text that was written.
     pub fn into_text(self) -> String
         ensures { string_bytes result ≡ self.text }
     {

@@ -23,6 +23,7 @@ abbrev pub cell_top : ThreadOf CellFrame → Option Value
 cell_top (Running (f ∷ fs)) = Some (top f.operands)
 cell_top _ = None
 
+-- the same of a thread as the machine keeps it
 abbrev pub cell_sight : Option (ThreadOf CellFrame) → Sight
 cell_sight None = record { frames = 0; call = None; top = None }
 cell_sight (Some cell) = record { frames = length (frames_in cell); call = frames_call (frames_in cell); top = cell_top cell }

@@ -20,6 +20,7 @@ all_told_in (Some c) = told_in c ∷ []
 abbrev pub begun_of : Begun → scan.Begun
 begun_of b = record { entry = b.entry; thread = b.thread; method = b.method; on = b.on; frames = b.frames; printed = b.printed }
 
+-- the open call, where there is one, as plain data
 abbrev pub open_of : Option Begun → Option scan.Begun
 open_of None = None
 open_of (Some b) = Some (begun_of b)

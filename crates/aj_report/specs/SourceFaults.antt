@@ -43,6 +43,7 @@ IsTold (source.Types (types.Redeclared at)) = Unit {0}
 IsTold (source.Types types.NoMemory) = ⊥
 IsTold (source.Locks at) = Unit {0}
 
+-- the offset at which a text has no token
 abbrev pub lex_offset_of : LexFault → ℕ
 lex_offset_of (lex.BadCharacter at) = at
 lex_offset_of (lex.OpenComment at) = at
@@ -91,11 +92,13 @@ lex_kind (lex.LiteralTooLarge at) = codes "literal too large"
 lex_kind (lex.NameTooLong at) = codes "name too long"
 lex_kind lex.NoMemory = codes ""
 
+-- the words for a fault of the grammar
 abbrev pub parse_kind : ParseFault → List ℕ
 parse_kind (parse.Unexpected k) = codes "unexpected"
 parse_kind (parse.TooDeep k) = codes "too deep"
 parse_kind parse.NoMemory = codes ""
 
+-- the words for a fault of the classes
 abbrev pub class_kind : ClassFault → List ℕ
 class_kind (class.Twice at) = codes "declared twice"
 class_kind (class.UnknownClass at) = codes "unknown class"
@@ -107,6 +110,7 @@ class_kind (class.Circle at) = codes "circle"
 class_kind (class.BadOverride at) = codes "bad override"
 class_kind class.NoMemory = codes ""
 
+-- the words for a fault of the types
 abbrev pub type_kind : TypeFault → List ℕ
 type_kind (types.UnknownName at) = codes "unknown name"
 type_kind (types.NoRule at) = codes "no rule"
@@ -118,9 +122,11 @@ type_kind (types.TooManyLocals at) = codes "too many locals"
 type_kind (types.Redeclared at) = codes "redeclared"
 type_kind types.NoMemory = codes ""
 
+-- the words for a method with more relevant locks, or more local ones, than are allowed
 abbrev pub locks_kind : List ℕ
 locks_kind = codes "too many locks"
 
+-- the words for a fault, which stand in its line behind the place
 abbrev pub kind_of : SourceFault → List ℕ
 kind_of (source.Text fault) = codes "not text"
 kind_of (source.Lex fault) = lex_kind fault
@@ -134,5 +140,6 @@ abbrev pub refused_line : List ℕ → ℕ → List ℕ → List ℕ
 refused_line text at kind =
     codes "refused at " ++ decimal (line_of text at) ++ codes ":" ++ decimal (column_of text at) ++ codes ": " ++ kind ++ codes "\n"
 
+-- the line of a fault: the line and column of its offset, and what it is
 abbrev pub source_fault_line : List ℕ → SourceFault → List ℕ
 source_fault_line text fault = refused_line text (offset_of fault) (kind_of fault)

@@ -14,6 +14,7 @@ pub record Fits (P : Program) (q : State) (e : Entry) (r : State) : Type 0 where
   pub inside : is_inside P move.thread ≡ e.inside
   pub to : moved e.thread move q ≡ r
 
+-- the entries lead from one state to another, each fitting where it stands
 abbrev pub Run : Program → State → List Entry → State → Type 0
 Run P q [] r = q ≡ r
 Run P q (e ∷ es) r = (mid : State) × Fits P q e mid × Run P mid es r

@@ -53,6 +53,7 @@ clauses_at P m (Calls e callee args) = call_clauses callee m (params_of (slice_g
 clauses_at P m (Locks p) = fact m p ∷ []
 clauses_at P m (Names x e) = link_clauses m x m (path_of P e)
 
+-- the clauses of all that the body of method m mentions
 abbrev pub clauses_of : Program → ℕ → List Mention → List Clause
 clauses_of P m [] = []
 clauses_of P m (x ∷ xs) = clauses_at P m x ++ clauses_of P m xs

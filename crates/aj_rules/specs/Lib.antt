@@ -1,5 +1,7 @@
--- What the contracts of the rules cite. Of proofs/ these files are public, crates above cite them: BasicLemmas (the order of
--- basics), SetLemmas, Falling, EffectRises, NearOnly, UniqueSets, LimitLemmas, AcceptedExample.
+-- What the contracts of the rules cite, in this order: what a body mentions (Mentions), guards (Guards), relevant paths (Near), the
+-- effect of a part (Effect), accepted programs (Rules), and the limit of relevant paths (Limits). Clauses, Search and Overriding serve
+-- the search for relevant paths, and Examples has an assignment. Of proofs/ these files are public, crates above cite them:
+-- BasicLemmas (the order of basics), SetLemmas, Falling, EffectRises, NearOnly, UniqueSets, LimitLemmas, AcceptedExample.
 pub mod Mentions
 pub mod Guards
 pub mod Near

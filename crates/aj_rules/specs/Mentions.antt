@@ -12,7 +12,9 @@ pub data Mention : Type 0 where
   Locks : PathData → Mention
   Names : ℕ → Expr → Mention
 
+-- What expressions and arguments mention.
 abbrev mutual
+  -- the accesses and calls of an expression, each before those in its own parts
   pub expr_mentions : Expr → List Mention
   expr_mentions (NotE e) = expr_mentions e
   expr_mentions (NegE e) = expr_mentions e
@@ -24,11 +26,14 @@ abbrev mutual
   expr_mentions (NewE c args) = exprs_mentions args
   expr_mentions _ = []
 
+  -- those of some arguments, one argument after the other
   pub exprs_mentions : Exprs → List Mention
   exprs_mentions no_exprs = []
   exprs_mentions (and_expr e es) = expr_mentions e ++ exprs_mentions es
 
+-- What statements and blocks mention.
 abbrev mutual
+  -- the accesses, calls, locks and final locals of a statement, each before those in its own parts
   pub mentions : Stmt → List Mention
   mentions EmptyS = []
   mentions (BlockS ss) = block_mentions ss
@@ -45,6 +50,7 @@ abbrev mutual
   mentions (PrintS e) = expr_mentions e
   mentions (StartS e) = expr_mentions e
 
+  -- those of the statements of a block, one statement after the other
   pub block_mentions : Stmts → List Mention
   block_mentions no_stmts = []
   block_mentions (and_stmt s ss) = mentions s ++ block_mentions ss

@@ -11,6 +11,7 @@ use Rattle.aj_rules.specs.declared.clauses.Clause.{Clause}
 use Rattle.aj_rules.specs.declared.clauses.Clause.TheVariants as clause
 use Rattle.aj_rules.specs.Clauses.{led_by, Reached}
 
+-- a row that may be missing, which then is empty
 abbrev pub row_or_none : {A : Type 0} → Option (List A) → List A
 row_or_none None = []
 row_or_none (Some row) = row

@@ -40,6 +40,7 @@ pub(crate) struct Link {
 }
 
 impl Place {
+    /// The same place once more.
     pub(crate) fn copy(&self) -> Place
         ensures { result ≡ self.now }
     {
@@ -68,6 +69,7 @@ impl Way {
 }
 
 impl Link {
+    /// The same link once more.
     pub(crate) fn copy(&self) -> Link
         ensures { result ≡ self.now }
     {

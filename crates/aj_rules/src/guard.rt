@@ -84,6 +84,7 @@ fn slot_guard(writes_only: bool, slot: u16) -> Guard
 fn through(path: Path, fields: &[FieldId]) -> Option<Path>
     ensures { result ≡ extended path fields.now }
 {
+    // Only the proof needs this: that a path has at most two fields is known where they are counted.
     let _count = path.fields.len();
     if fields.is_empty() {
         return Some(path);

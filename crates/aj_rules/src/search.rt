@@ -88,6 +88,7 @@ fn number(method: MethodId) -> usize
     ensures is { result ≡ method }
     ensures small { result < 2 ^ 32 }
 {
+    // Only the proof needs a function for this: its clauses tell what the number of an id is.
     method.0 as usize
 }
 

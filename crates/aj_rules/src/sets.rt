@@ -86,6 +86,7 @@ impl RelevantSets {
     pub fn few(&self)
         ensures { AreFew self.now }
     {
+        // Only the proof needs this: the invariant of a struct is known where one of its fields is used.
         let _ = &self.paths;
     }
 }

@@ -26,6 +26,7 @@ abbrev pub arity_of : Option Method → ℕ
 arity_of None = 0
 arity_of (Some m) = length m.params
 
+-- how many final fields a class has, which is how many arguments `new` takes; 0 where there is none
 abbrev pub finals_of : Option Class → ℕ
 finals_of None = 0
 finals_of (Some c) = length c.finals
@@ -55,12 +56,14 @@ module _ (P : Program) where
     TidyE (NewE c args) = TidyEach args × (finals_of (slice_get P.classes c) ≡ count_of args)
     TidyE _ = Unit {0}
 
+    -- the same of arguments, each of which leaves an operand
     pub TidyEach : Exprs → Type 0
     TidyEach no_exprs = Unit {0}
     TidyEach (and_expr e es) = (valued e ≡ true) × TidyE e × TidyEach es
 
 -- whether a slot is stored by some declaration or assignment of a statement
 abbrev mutual
+  -- whether a statement stores the slot, in itself or in a statement inside it
   pub stores : Stmt → ℕ → Bool
   stores (BlockS ss) x = stores_each ss x
   stores (LocalS y is_final ty e) x = y == x
@@ -70,6 +73,7 @@ abbrev mutual
   stores (SyncS p s) x = stores s x
   stores _ x = false
 
+  -- whether one of the statements of a block stores it
   pub stores_each : Stmts → ℕ → Bool
   stores_each no_stmts x = false
   stores_each (and_stmt s ss) x = stores s x || stores_each ss x
@@ -97,6 +101,7 @@ module _ (P : Program) where
     TidyS (PrintS e) = (valued P e ≡ true) × TidyE P e
     TidyS (StartS e) = (valued P e ≡ true) × TidyE P e
 
+    -- the same of the statements of a block, of which none stores a final local that one before it declares
     pub TidyBlock : Stmts → Type 0
     TidyBlock no_stmts = Unit {0}
     TidyBlock (and_stmt s ss) = TidyS s × Apart s ss × TidyBlock ss
@@ -134,6 +139,8 @@ abbrev pub LocalAgrees : Program → Memory → Stmt → (env later : Env) → T
 LocalAgrees P h (LocalS x true ty e) env later = MayLeadTo P h env (path_of P e) (later x)
 LocalAgrees P h _ env later = Unit {0}
 
+-- what a statement does to the slots where it goes on: it changes only those that it stores, and a declared final local gets what the path of its
+-- value leads to
 pub record Agrees (P : Program) (h : Memory) (s : Stmt) (env later : Env) : Type 0 where
   pub kept : (y : ℕ) → stores s y ≡ false → later y ≡ env y
   pub local : LocalAgrees P h s env later
@@ -142,6 +149,7 @@ pub record Agrees (P : Program) (h : Memory) (s : Stmt) (env later : Env) : Type
 abbrev pub pushed : Program → Expr → Paths → Paths
 pushed P e os = if valued P e then path_of P e ∷ os else os
 
+-- what the caller's operands get more when method m returns: one value, which no path leads to, or nothing
 abbrev pub awaited : Program → ℕ → Paths
 awaited P m = if has_result (slice_get P.methods m) then None ∷ [] else []
 

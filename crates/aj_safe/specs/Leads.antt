@@ -70,6 +70,7 @@ abbrev pub top_path : Paths → Option PathData
 top_path [] = None
 top_path (o ∷ os) = o
 
+-- the paths of the operands below the topmost one
 abbrev pub under_path : Paths → Paths
 under_path [] = []
 under_path (o ∷ os) = os
@@ -79,6 +80,7 @@ abbrev pub taken_paths : ℕ → Paths → Paths → Paths
 taken_paths zero found os = found
 taken_paths (suc n) found os = taken_paths n (top_path os ∷ found) (under_path os)
 
+-- the paths of the operands below the n topmost ones
 abbrev pub dropped_paths : ℕ → Paths → Paths
 dropped_paths zero os = os
 dropped_paths (suc n) os = dropped_paths n (under_path os)

@@ -27,6 +27,7 @@ abbrev pub held_by : List Frame → Address → Bool
 held_by [] a = false
 held_by (f ∷ fs) a = has_release a f.work || held_by fs a
 
+-- how often a release of this address stands in the work of these frames
 abbrev pub count_frames : Address → List Frame → ℕ
 count_frames a [] = 0
 count_frames a (f ∷ fs) = count_release a f.work + count_frames a fs

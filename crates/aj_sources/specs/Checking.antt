@@ -48,5 +48,6 @@ pub record IsSource (file : List ℕ) (tree : ProgramTree) (source : Source) : T
   pub relevant : AreRelevant (program_of source.program) source.sets
   pub few : AreFew source.sets
 
+-- the file is the text of some program of the grammar of which this is the well-formed source
 abbrev pub IsSourceOf : List ℕ → Source → Type 0
 IsSourceOf file source = (tree : ProgramTree) × IsSource file tree source

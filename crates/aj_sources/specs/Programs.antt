@@ -23,6 +23,7 @@ abbrev pub offset_at : Option Token → ℕ → ℕ
 offset_at None end = end
 offset_at (Some token) end = token.at
 
+-- the offset of the token at this place; at the end of the tokens, the end of the file
 abbrev pub token_offset : List ℕ → List Token → ℕ → ℕ
 token_offset file tokens place = offset_at (slice_get tokens place) (length file)
 

@@ -1,5 +1,6 @@
--- What the contracts of the machine's state cite. Of proofs/ the files Addresses, MemoryLemmas and Numbering are public:
--- crates above cite them.
+-- What the contracts of the machine's state cite, in this order: values (Values), the heap and the held locks (Memory), what a frame
+-- has still to do (Work), and states (States). Stored, Slots and Codes say how the heap and the held locks are kept. Of proofs/ the
+-- files Addresses, MemoryLemmas and Numbering are public: crates above cite them.
 pub mod Values
 pub mod Memory
 pub mod Work

@@ -20,6 +20,7 @@ abbrev pub in_row : {T : Type 0} → Option (List (Option T)) → ℕ → Option
 in_row None c = None
 in_row (Some slots) c = slot_at slots c
 
+-- what the table holds at an address
 abbrev pub grid_at : {T : Type 0} → List (List (Option T)) → Address → Option T
 grid_at rows a = in_row (slice_get rows a.thread) a.count
 

@@ -56,6 +56,7 @@ abbrev pub gets : List ℕ → List Item → List Item
 gets [] more = more
 gets (f ∷ fs) more = Act (Get f) ∷ gets fs more
 
+-- What expressions open into.
 abbrev mutual
   -- what an expression opens into, before more: its parts in order, then its own action
   pub open_expr : Expr → List Item → Next
@@ -73,10 +74,12 @@ abbrev mutual
   open_expr (CallE e m args) more = open_expr e (exprs_items args (Act (Call m) ∷ more))
   open_expr (NewE c args) more = open_new c args more
 
+  -- what `new` opens into, before more: its first argument, then the others and the making of the object
   pub open_new : ℕ → Exprs → List Item → Next
   open_new c no_exprs more = (New c, more)
   open_new c (and_expr e es) more = open_expr e (exprs_items es (Act (New c) ∷ more))
 
+-- What statements and blocks open into.
 abbrev mutual
   -- what a statement opens into, before more; `next` is what more opens into, which is all that is left of an empty statement
   pub open_stmt : Stmt → List Item → Option Next → Option Next
@@ -95,6 +98,7 @@ abbrev mutual
   open_stmt (PrintS e) more next = Some (open_expr e (Act Print ∷ more))
   open_stmt (StartS e) more next = Some (open_expr e (Act Start ∷ more))
 
+  -- what a block opens into, before more: its first statement, then the others
   pub open_block : Stmts → List Item → Option Next → Option Next
   open_block no_stmts more next = next
   open_block (and_stmt s ss) more next = open_stmt s (stmts_items ss more) (open_block ss more next)

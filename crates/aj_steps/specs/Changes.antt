@@ -17,6 +17,7 @@ objects_after (FieldIs a index v) get = λ b. if address_eq a b then object_with
 objects_after (ObjectIs a o) get = λ b. if address_eq a b then Some o else get b
 objects_after _ get = get
 
+-- each lock after a change, where each was so before it
 abbrev pub locks_after : Change → (Address → Option Hold) → Address → Option Hold
 locks_after (LockIs a hold) get = λ b. if address_eq b a then hold else get b
 locks_after _ get = get

@@ -1,4 +1,6 @@
--- What the contracts of the machine cite, in the order to read them; Sorted has the written order as a sorted list of entries.
+-- What the contracts of the machine cite, in this order: one step (Step), waiting for a lock (Waiting), runs (Run), units and the
+-- written order (Units), and reducible words (Words). Asks and Changes are what the exchange of steps rests on, Sorted has the written
+-- order as a sorted list of entries, and Examples has schedules.
 pub mod Sorted
 pub mod Step
 pub mod Waiting

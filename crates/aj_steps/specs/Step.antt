@@ -54,6 +54,7 @@ pub data OutcomeOf (F : Type 0) : Type 0 where
 abbrev pub Move : Type 0
 Move = MoveOf Frame
 
+-- what comes of a turn in the definition's machine, whose frames keep their work as a list
 abbrev pub Outcome : Type 0
 Outcome = OutcomeOf Frame
 

@@ -50,6 +50,7 @@ abbrev pub SpellsRoot : Option Name → ℕ → Token → Type 0
 SpellsRoot None at x = x ≡ token T.This at
 SpellsRoot (Some n) at x = (x ≡ name_token n) × (at ≡ n.at)
 
+-- lock: `this` or a name, then fields, each after a dot
 abbrev pub SpellsLock : LockTree → List Token → Type 0
 SpellsLock l ts = (x : Token) × (fs : List Token) × SpellsRoot l.root l.at x × SpellsFields l.fields fs × (ts ≡ x ∷ fs)
 
@@ -69,6 +70,7 @@ level O.Ne = 4
 level O.And = 5
 level O.Or = 6
 
+-- the terminal by which a binary operator is written
 abbrev pub sign_of : Op → Terminal
 sign_of O.Mul = T.Star
 sign_of O.Div = T.Slash
@@ -116,6 +118,7 @@ is_postfix (GetE e n) = true
 is_postfix (CallE e n args) = true
 is_postfix (NewE n args at) = true
 
+-- Expressions and their arguments, which the grammar tells through each other.
 abbrev mutual
   -- expr: a binary operator takes on its left what binds as tightly as itself or more, on its right what binds more tightly
   pub Spells : ExprTree → List Token → Type 0
@@ -206,6 +209,7 @@ is_call (GetE e n) = false
 is_call (CallE e n args) = true
 is_call (NewE n args at) = true
 
+-- Statements and blocks, which the grammar tells through each other.
 abbrev mutual
   -- stmt, and the declaration of a local
   pub SpellsStmt : StmtTree → List Token → Type 0

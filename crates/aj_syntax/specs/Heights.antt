@@ -2,7 +2,9 @@
 use Rattle.std.specs.Prelude.{ℕ, ◌+◌, max, List, [], ◌∷◌, Some, None}
 use Rattle.aj_syntax.specs.Trees.{ExprTree, ExprTrees, NumberE, LeastE, TruthE, NullE, ThisE, VarE, ParenE, NotE, NegE, BinaryE, GetE, CallE, NewE, no_exprs, more_exprs, StmtTree, StmtTrees, EmptyS, BlockS, LocalS, SetVarS, SetFieldS, DoS, IfS, IfElseS, WhileS, SyncS, ReturnS, PrintS, StartS, no_stmts, more_stmts, MemberTree, FieldM, CtorM, MethodM, ProgramTree}
 
+-- Heights of expressions and of lists of them.
 abbrev mutual
+  -- the height of an expression: 1 where it has no parts, else 1 more than its highest part
   pub height : ExprTree → ℕ
   height (NumberE n at) = 1
   height (LeastE at) = 1
@@ -23,7 +25,9 @@ abbrev mutual
   heights no_exprs = 0
   heights (more_exprs e es) = max (height e) (heights es)
 
+-- Heights of statements and of lists of them.
 abbrev mutual
+  -- the height of a statement, over the statements and expressions in it; the block of `synchronized` counts as one more
   pub stmt_height : StmtTree → ℕ
   stmt_height (EmptyS at) = 1
   stmt_height (BlockS ss at) = 1 + stmt_heights ss

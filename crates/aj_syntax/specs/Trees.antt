@@ -11,6 +11,7 @@ pub record LockTree : Type 0 where
   pub fields : List Name
   pub at : ℕ
 
+-- Expressions and lists of arguments, which hold each other.
 mutual
   -- an expression
   pub data ExprTree : Type 0 where
@@ -33,6 +34,7 @@ mutual
     no_exprs : ExprTrees
     more_exprs : ExprTree → ExprTrees → ExprTrees
 
+-- Statements and lists of them, which hold each other.
 mutual
   -- a statement
   pub data StmtTree : Type 0 where

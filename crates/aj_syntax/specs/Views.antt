@@ -12,9 +12,11 @@ use Rattle.aj_syntax.specs.declared.tree.Stmt.{Stmt, Row_of-Stmt, end_of-Stmt, m
 use Rattle.aj_syntax.specs.declared.tree.Stmt as S
 use Rattle.aj_syntax.specs.Trees.{LockTree, ExprTree, ExprTrees, NumberE, LeastE, TruthE, NullE, ThisE, VarE, ParenE, NotE, NegE, BinaryE, GetE, CallE, NewE, no_exprs, more_exprs, StmtTree, StmtTrees, EmptyS, BlockS, LocalS, SetVarS, SetFieldS, DoS, IfS, IfElseS, WhileS, SyncS, ReturnS, PrintS, StartS, no_stmts, more_stmts, MemberTree, FieldM, CtorM, MethodM, ClassTree, ProgramTree}
 
+-- a lock expression as plain data: its fields as a list, without the memory that holds them
 abbrev pub lock_of : Lock → LockTree
 lock_of l = record { root = l.root; fields = l.fields.items; at = l.at }
 
+-- Expressions and rows of arguments as plain data.
 abbrev mutual
   -- an expression as plain data
   pub expr_of : Expr → ExprTree
@@ -32,6 +34,7 @@ abbrev mutual
   expr_of (E.Call' p e n shape args) = CallE (expr_of e) n (exprs_of args)
   expr_of (E.New' n shape args at) = NewE n (exprs_of args) at
 
+  -- a row of arguments as plain data
   pub exprs_of : {n : _} → Row_of-Expr n → ExprTrees
   exprs_of end_of-Expr = no_exprs
   exprs_of (more_of-Expr e rest) = more_exprs (expr_of e) (exprs_of rest)
@@ -41,6 +44,7 @@ abbrev pub exprs_from : List ExprTree → ExprTrees
 exprs_from [] = no_exprs
 exprs_from (e ∷ es) = more_exprs e (exprs_from es)
 
+-- Statements and rows of them as plain data.
 abbrev mutual
   -- a statement as plain data
   pub stmt_of : Stmt → StmtTree
@@ -58,6 +62,7 @@ abbrev mutual
   stmt_of (S.Print e at) = PrintS (expr_of e.value) at
   stmt_of (S.Start e at) = StartS (expr_of e.value) at
 
+  -- a row of statements as plain data
   pub stmts_of : {n : _} → Row_of-Stmt n → StmtTrees
   stmts_of end_of-Stmt = no_stmts
   stmts_of (more_of-Stmt s rest) = more_stmts (stmt_of s) (stmts_of rest)
@@ -83,8 +88,10 @@ member_of (M.Method atomic returns n params locks body end) =
       end = end;
     }
 
+-- a class as plain data
 abbrev pub class_of : Class → ClassTree
 class_of c = record { name = c.name; above = c.above; runnable = c.runnable; members = map member_of c.members.items }
 
+-- a program as plain data: its classes, in order
 abbrev pub program_of : Program → ProgramTree
 program_of p = map class_of p.classes.items

@@ -144,6 +144,7 @@ pub struct Class<'a> {
     pub members: Vec<Member<'a>>,
 }
 
+/// A program: its classes, as they are written.
 #[derive(Drop)]
 pub struct Program<'a> {
     pub classes: Vec<Class<'a>>,

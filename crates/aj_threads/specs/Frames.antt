@@ -52,6 +52,7 @@ abbrev pub first_frame : {F : Type 0} → List F → Option F
 first_frame [] = None
 first_frame (f ∷ fs) = Some f
 
+-- the innermost frame of a thread, where it has one
 abbrev pub top_frame : {F : Type 0} → ThreadOf F → Option F
 top_frame t = first_frame (frames_in t)
 
@@ -84,6 +85,7 @@ abbrev pub is_running : {F : Type 0} → ThreadOf F → Bool
 is_running (Running fs) = true
 is_running _ = false
 
+-- whether a thread runs or is ready, and so may get a frame
 abbrev pub may_enter : {F : Type 0} → ThreadOf F → Bool
 may_enter (Ready a m) = true
 may_enter (Running fs) = true
@@ -94,10 +96,12 @@ abbrev pub running_or_done : {F : Type 0} → List F → ThreadOf F
 running_or_done [] = Done
 running_or_done (f ∷ fs) = Running (f ∷ fs)
 
+-- the frames below the innermost one
 abbrev pub rest_of : {F : Type 0} → List F → List F
 rest_of [] = []
 rest_of (f ∷ fs) = fs
 
+-- a thread whose innermost frame has returned; done where that was its last
 abbrev pub popped : {F : Type 0} → ThreadOf F → ThreadOf F
 popped t = running_or_done (rest_of (frames_in t))
 
@@ -110,6 +114,7 @@ given (Some v) operands = v ∷ operands
 abbrev pub settled_operands : ℕ → Option Value → CellFrame → List Value
 settled_operands drops gives f = given gives (dropped drops f.operands)
 
+-- the whole frame then: the places that operands leave are spare room, and those that they take are room no more
 abbrev pub settled : ℕ → Option Value → ℕ → CellFrame → CellFrame
 settled drops gives place f = record f {
   operands = settled_operands drops gives f;
@@ -132,10 +137,12 @@ abbrev pub slots_of : Option CellFrame → List Value
 slots_of None = []
 slots_of (Some f) = f.slots
 
+-- the operands of a frame, the topmost first; none where there is no frame
 abbrev pub operands_of : Option CellFrame → List Value
 operands_of None = []
 operands_of (Some f) = f.operands
 
+-- the locks that a frame took, the last one first; none where there is no frame
 abbrev pub taken_of : Option CellFrame → List Address
 taken_of None = []
 taken_of (Some f) = f.taken

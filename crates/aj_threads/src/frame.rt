@@ -171,6 +171,7 @@ impl FrameCell {
     pub(crate) fn drop_to(&mut self, drops: usize, place: u32)
         ensures { self.new ≡ settled drops None place self.old }
     {
+        // This can't fail: no operand is added.
         let _ = self.settle(drops, None, place);
     }
 
@@ -179,6 +180,7 @@ impl FrameCell {
         requires { 0 < self.old.room }
         ensures { self.new ≡ settled drops (Some value) place self.old }
     {
+        // This can't fail: there is room for the value.
         let _ = self.settle(drops, Some(value), place);
     }
 

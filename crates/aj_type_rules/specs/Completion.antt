@@ -8,6 +8,7 @@ is_true_literal (TruthE b at) = b
 is_true_literal (ParenE e at) = is_true_literal e
 is_true_literal _ = false
 
+-- Whether a statement can complete, and whether the statements of a block can.
 abbrev mutual
   -- whether a statement can complete
   pub completes : StmtTree → Bool
@@ -23,6 +24,7 @@ abbrev mutual
   completes_each no_stmts = true
   completes_each (more_stmts s ss) = completes s && completes_each ss
 
+-- The locals of a statement, and of the statements of a block.
 abbrev mutual
   -- how many locals a statement declares
   pub locals_in : StmtTree → ℕ
@@ -34,6 +36,7 @@ abbrev mutual
   locals_in (SyncS l ss at) = locals_in_each ss
   locals_in _ = 0
 
+  -- how many locals the statements of a block declare together
   pub locals_in_each : StmtTrees → ℕ
   locals_in_each no_stmts = 0
   locals_in_each (more_stmts s ss) = locals_in s + locals_in_each ss

@@ -21,6 +21,7 @@ pub record TypedData : Type 0 where
   pub ty : NodeType
   pub node : Expr
 
+-- an expression's type together with its core node
 abbrev pub typed : NodeType → Expr → TypedData
 typed ty node = record { ty = ty; node = node }
 
@@ -33,10 +34,12 @@ pub record TypedList : Type 0 where
 abbrev pub with_argument : TypedData × TypedList → TypedList
 with_argument p = record { types = p.0.ty ∷ p.1.types; nodes = and_expr p.0.node p.1.nodes }
 
+-- whether a value is an `int`
 abbrev pub is_int : NodeType → Bool
 is_int (ValueT T.Int) = true
 is_int _ = false
 
+-- whether a value is a `boolean`
 abbrev pub is_boolean : NodeType → Bool
 is_boolean (ValueT T.Boolean) = true
 is_boolean _ = false

@@ -104,6 +104,7 @@ abbrev pub unreachable : Bool → StmtTree → List TypeFault
 unreachable true s = []
 unreachable false s = Unreachable (begins_at s) ∷ []
 
+-- the core node of an `if` with an else part, of its condition and its two branches
 abbrev pub if_node : Expr × (Stmt × Stmt) → Stmt
 if_node p = IfS p.0 p.1.0 p.1.1
 

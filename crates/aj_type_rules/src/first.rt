@@ -25,12 +25,14 @@ impl Model for FirstFault {
 }
 
 impl FirstFault {
+    /// No fault so far.
     pub fn new() -> FirstFault
         ensures { result ≡ None }
     {
         FirstFault { found: None }
     }
 
+    /// Keeps this fault where it comes before the one that was kept.
     pub fn note(&mut self, fault: TypeFault)
         ensures { self.new ≡ noted self.old (fault ∷ []) }
     {

@@ -30,6 +30,7 @@ pub fn value(ty: CoreType, node: CoreExpr) -> TypedExpr
     }
 }
 
+/// A number is an `int`, where it is at most 2147483647.
 pub fn number_rule(number: u32, at: u32, first: &mut FirstFault) -> Option<TypedExpr>
     ensures typed { option_map typed_data result ≡ gain (number_rule number at) }
     ensures fault { first.new ≡ noted first.old (loss (number_rule number at)) }
@@ -43,12 +44,14 @@ pub fn number_rule(number: u32, at: u32, first: &mut FirstFault) -> Option<Typed
     }
 }
 
+/// The least number is an `int`.
 pub fn least_number() -> TypedExpr
     ensures { typed_data result ≡ least_typed }
 {
     value(CoreType::Int, CoreExpr::Int(i32::MIN))
 }
 
+/// A name is the variable of this name that is in scope.
 pub fn variable_rule(scope: &[Bound], name: &Name, first: &mut FirstFault) -> Option<TypedExpr>
     ensures typed { option_map typed_data result ≡ gain (variable_rule scope.now name.now) }
     ensures fault { first.new ≡ noted first.old (loss (variable_rule scope.now name.now)) }
@@ -67,6 +70,7 @@ pub fn variable_rule(scope: &[Bound], name: &Name, first: &mut FirstFault) -> Op
     ))
 }
 
+/// `!` takes a `boolean` and gives one.
 pub fn not_rule(at: u32, part: Option<BoxedExpr>, first: &mut FirstFault) -> Option<TypedExpr>
     ensures typed { option_map typed_data result ≡ given (not_rule at) (option_map boxed_data part) }
     ensures fault { first.new ≡ noted first.old (broken (not_rule at) (option_map boxed_data part)) }
@@ -79,6 +83,7 @@ pub fn not_rule(at: u32, part: Option<BoxedExpr>, first: &mut FirstFault) -> Opt
     Some(value(CoreType::Boolean, CoreExpr::Not(part.node)))
 }
 
+/// `-` takes an `int` and gives one.
 pub fn neg_rule(at: u32, part: Option<BoxedExpr>, first: &mut FirstFault) -> Option<TypedExpr>
     ensures typed { option_map typed_data result ≡ given (neg_rule at) (option_map boxed_data part) }
     ensures fault { first.new ≡ noted first.old (broken (neg_rule at) (option_map boxed_data part)) }
@@ -164,6 +169,7 @@ fn sign_rule(
     }
 }
 
+/// A binary operator gives what its kind asks of the types of its operands; nothing where one of these has no type.
 pub fn binary_rule(
     table: &ClassTable,
     op: Op,
@@ -211,6 +217,7 @@ pub fn class_rule(table: &ClassTable, name: &Name, first: &mut FirstFault) -> Op
     found
 }
 
+/// A field is read of an object whose class has it, in itself or from above.
 pub fn get_rule(
     table: &ClassTable,
     name: &Name,

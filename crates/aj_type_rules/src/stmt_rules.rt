@@ -228,6 +228,7 @@ pub fn do_rule(at: u32, part: Option<BoxedExpr>, first: &mut FirstFault) -> Opti
     Some(CoreStmt::Do(part.node, gives_value(part.ty)))
 }
 
+/// The condition of `if` or `while` is a `boolean`.
 pub fn condition_rule(
     at: u32,
     part: Option<BoxedExpr>,
@@ -276,6 +277,7 @@ pub fn value_rule(
     Some(CoreStmt::Return(Some(value)))
 }
 
+/// What is printed is an `int`.
 pub fn print_rule(at: u32, part: Option<BoxedExpr>, first: &mut FirstFault) -> Option<CoreStmt>
     ensures node { option_map stmt_of result ≡ given (print_rule at) (option_map boxed_data part) }
     ensures fault { first.new ≡ noted first.old (broken (print_rule at) (option_map boxed_data part)) }
@@ -301,6 +303,7 @@ fn is_runnable(table: &ClassTable, class: Option<ClassId>) -> bool
     }
 }
 
+/// What a thread is started on is an object of a class that counts as `implements Runnable`.
 pub fn start_rule(
     table: &ClassTable,
     at: u32,

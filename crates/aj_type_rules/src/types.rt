@@ -45,12 +45,14 @@ pub fn class_in(ty: CoreType) -> Option<ClassId>
 }
 
 impl ExprType {
+    /// Whether a value of this type is an `int`.
     pub fn is_int(self) -> bool
         ensures { result ≡ is_int (type_data self) }
     {
         matches!(self, ExprType::Value(CoreType::Int))
     }
 
+    /// Whether a value of this type is a `boolean`.
     pub fn is_boolean(self) -> bool
         ensures { result ≡ is_boolean (type_data self) }
     {

@@ -1,4 +1,5 @@
--- What the law of typed runs cites: types of slots and operands, lists of work that are suited to them, and typed states.
+-- What the law of typed runs cites, in this order: types of slots and operands (SlotTypes), lists of work that are suited to them
+-- (Suited), and typed states (TypedStates).
 pub mod SlotTypes
 pub mod Suited
 pub mod TypedStates

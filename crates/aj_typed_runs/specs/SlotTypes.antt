@@ -16,6 +16,7 @@ use Rattle.aj_state.specs.Memory.{Object}
 abbrev pub SlotType : Type 0
 SlotType = Option CoreType
 
+-- The types of the locals of a statement and of a block.
 abbrev mutual
   -- the types of the locals that a statement declares, in order
   pub local_types : Stmt → List CoreType
@@ -26,6 +27,7 @@ abbrev mutual
   local_types (SyncS p s) = local_types s
   local_types _ = []
 
+  -- the types of the locals that the statements of a block declare, one statement after the other
   pub local_types_each : Stmts → List CoreType
   local_types_each no_stmts = []
   local_types_each (and_stmt s ss) = local_types s ++ local_types_each ss
@@ -100,6 +102,7 @@ abbrev pub top_type : List SlotType → SlotType
 top_type [] = None
 top_type (t ∷ ts) = t
 
+-- the types of the operands below the topmost one
 abbrev pub under_types : List SlotType → List SlotType
 under_types [] = []
 under_types (t ∷ ts) = ts
@@ -109,6 +112,7 @@ abbrev pub taken_types : ℕ → List SlotType → List SlotType → List SlotTy
 taken_types zero found ts = found
 taken_types (suc n) found ts = taken_types n (top_type ts ∷ found) (under_types ts)
 
+-- the types of the operands below the n topmost ones
 abbrev pub dropped_types : ℕ → List SlotType → List SlotType
 dropped_types zero ts = ts
 dropped_types (suc n) ts = dropped_types n (under_types ts)

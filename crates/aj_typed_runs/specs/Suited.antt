@@ -42,6 +42,7 @@ module _ (P : Program) (mark : ℕ → ℕ) (slots : List CoreType) where
     SuitedE (NewE c args) = SuitedEach args (taken_by_new P (slice_get P.classes c))
     SuitedE _ = Unit {0}
 
+    -- as many arguments as types, each of which is suited and has its type
     pub SuitedEach : Exprs → List CoreType → Type 0
     SuitedEach no_exprs [] = Unit {0}
     SuitedEach no_exprs (t ∷ ts) = ⊥
@@ -70,6 +71,7 @@ module _ (P : Program) (mark : ℕ → ℕ) (slots : List CoreType) where
       SuitedS (PrintS e) = SuitedE e
       SuitedS (StartS e) = SuitedE e
 
+      -- the same of the statements of a block
       pub SuitedBlock : Stmts → Type 0
       SuitedBlock no_stmts = Unit {0}
       SuitedBlock (and_stmt s ss) = SuitedS s × SuitedBlock ss

@@ -1,5 +1,5 @@
--- What the contracts on units cite: tables of values by number, the entries that steps stand for, and sizes and commit places of
--- units.
+-- What the contracts on units cite, in this order: tables of values by number (Tables), the entries that steps stand for (Entries),
+-- and sizes and commit places of units (UnitMaps).
 pub mod Tables
 pub mod Entries
 pub mod UnitMaps

@@ -27,6 +27,7 @@ with_size sizes unit commit = put_at (put_at sizes unit 0) commit (sizes unit + 
 abbrev pub with_unit : Entry → UnitMaps → (unit : ℕ) → UnitMaps
 with_unit e maps unit = record { sizes = with_size maps.sizes unit (commit_with e unit); firsts = put_at maps.firsts e.thread (Some (commit_with e unit)) }
 
+-- the maps with one entry more, before the others, in the unit that it belongs to
 abbrev pub with_entry : Entry → UnitMaps → UnitMaps
 with_entry e maps = with_unit e maps (unit_for e.inside (maps.firsts e.thread) e.place)
 

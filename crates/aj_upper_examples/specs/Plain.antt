@@ -27,6 +27,7 @@ one_object = (here, object_of 0) ∷ []
 abbrev pub one_lock : List (Address × Hold)
 one_lock = (there, record { holder = 1; count = 1 }) ∷ []
 
+-- the state: that object, that lock, and one thread, which runs
 abbrev pub quiet : Plain
 quiet = record { heap = M.from_sorted one_object; locks = M.from_sorted one_lock; threads = Running [] ∷ []; output = [] }
 
@@ -42,6 +43,7 @@ negated x = then_do x (λ v q. Gives (unary_value Neg v) q)
 abbrev pub gives_depth : Lower
 gives_depth d s slots q = Gives (record { end = Returns (Some (Int (pos d))); slots = slots }) q
 
+-- a body that gives what stands in this slot of its own
 abbrev pub gives_slot : ℕ → Lower
 gives_slot x d s slots q = Gives (record { end = Returns (slice_get slots x); slots = slots }) q
 
@@ -58,6 +60,7 @@ goes_or_depth d _ slots q = Gives (record { end = GoesOn; slots = slots }) q
 abbrev pub evaluated : Option Lower → Expr → Answer Value
 evaluated lower e = expr four_fields 5 lower 7 own_slots e quiet
 
+-- what a statement gives there
 abbrev pub done : Option Lower → Stmt → Answer Ended
 done lower s = stmt four_fields 5 lower 7 s own_slots quiet
 
@@ -65,9 +68,11 @@ done lower s = stmt four_fields 5 lower 7 s own_slots quiet
 abbrev pub ended : Ended → Answer Ended
 ended x = Gives x quiet
 
+-- an end at which the statement goes on, with these slots
 abbrev pub on : List Value → Ended
 on slots = record { end = GoesOn; slots = slots }
 
+-- an end at which the statement returns this value, with the slots as they were
 abbrev pub returns : Option Value → Ended
 returns v = record { end = Returns v; slots = own_slots }
 
@@ -79,12 +84,15 @@ hold_of count = record { holder = 5; count = count }
 abbrev pub missing : Expr
 missing = VarE 9 false type.Int
 
+-- `1 / 0`, which faults
 abbrev pub zero_divisor : Expr
 zero_divisor = BinaryE Div one (IntE (pos 0))
 
+-- the literal `true`
 abbrev pub yes : Expr
 yes = TruthE true
 
+-- the literal `false`
 abbrev pub no : Expr
 no = TruthE false
 
@@ -104,5 +112,6 @@ asks m arguments = Some (record { on = here; method = m; arguments = arguments }
 abbrev pub two_operands : List Value
 two_operands = Int (pos 2) ∷ Int (pos 1) ∷ Ref here ∷ []
 
+-- a frame that calls the method 0 with these operands next
 abbrev pub calling : Frame
 calling = record (frame_with two_operands) { work = Act (Call 0) ∷ [] }

@@ -18,12 +18,15 @@ use Rattle.aj_examples.specs.Small.{one, two}
 abbrev pub always : Basic → Value
 always b H = b
 
+-- a constant at every set
 abbrev pub con : Value
 con = always Const
 
+-- a mover at every set
 abbrev pub mov : Value
 mov = always Mover
 
+-- atomic at every set
 abbrev pub ato : Value
 ato = always Atomic
 
@@ -31,6 +34,7 @@ ato = always Atomic
 abbrev pub two_arguments : Exprs
 two_arguments = and_expr one (and_expr two no_exprs)
 
+-- `; System.out.println(1);`
 abbrev pub two_statements : Stmts
 two_statements = and_stmt EmptyS (and_stmt (PrintS one) no_stmts)
 
@@ -41,6 +45,7 @@ expressions =
     ∷ ExprP (NotE one) ∷ ExprP (NegE one) ∷ ExprP (BinaryE Add one two) ∷ ExprP (AndE one two) ∷ ExprP (OrE one two)
     ∷ ExprP (GetE one 0) ∷ ExprP (CallE ThisE 0 two_arguments) ∷ ExprP (NewE 0 two_arguments) ∷ []
 
+-- a statement of each kind, in the order of the rules
 abbrev pub statements : List Part
 statements =
     StmtP EmptyS ∷ StmtP (BlockS two_statements) ∷ StmtP (LocalS 1 true type.Int one) ∷ StmtP (SetVarS 1 one) ∷ StmtP (SetFieldS one 0 two)
@@ -51,6 +56,7 @@ statements =
 abbrev pub mover_or_atomic : Cond
 mover_or_atomic = TestC this_path (LeafC Mover) (LeafC Atomic)
 
+-- a table of two trees, of which the second is a constant
 abbrev pub table : List Cond
 table = mover_or_atomic ∷ LeafC Const ∷ []
 
@@ -62,6 +68,7 @@ leaf_node = node w.Lit 1 no_nodes
 abbrev pub put_node : Node
 put_node = node w.Put 0 (and_node (node w.This 1 no_nodes) (and_node leaf_node no_nodes))
 
+-- the derivation of the `synchronized` around it
 abbrev pub sync_node : Node
 sync_node = node w.Sync 0 (and_node put_node no_nodes)
 

@@ -19,6 +19,7 @@ main_with annotated body = guarded_main false 41 annotated body
 abbrev pub print_one : Stmt
 print_one = PrintS one
 
+-- `{ System.out.println(1); System.out.println(1); }`
 abbrev pub print_twice : Stmt
 print_twice = BlockS (and_stmt print_one (and_stmt print_one no_stmts))
 
@@ -34,6 +35,7 @@ prints_below = record family {
 abbrev pub no_paths : ℕ → List PathData
 no_paths m = []
 
+-- the lock of `this` is relevant to each method, and no other
 abbrev pub this_path_only : ℕ → List PathData
 this_path_only m = this_path ∷ []
 
@@ -45,6 +47,7 @@ trees = LeafC Const ∷ LeafC Atomic ∷ LeafC Cmpd ∷ TestC this_path (LeafC C
 abbrev pub line : (id number : ℕ) → Node → Line
 line id number body = record { id = id; number = number; body = body }
 
+-- a book of these trees with these method lines
 abbrev pub book : List Line → Book
 book lines = record { table = trees; lines = lines }
 
@@ -52,11 +55,14 @@ book lines = record { table = trees; lines = lines }
 abbrev pub skip : ℕ → Node
 skip n = node w.Skip n no_nodes
 
+-- a node of a literal, whose conclusion is the first tree
 abbrev pub literal : Node
 literal = node w.Lit 0 no_nodes
 
+-- a node of `System.out.println(1);` with this conclusion
 abbrev pub print : ℕ → Node
 print n = node w.Print n (and_node literal no_nodes)
 
+-- a node of a block of two statements with this conclusion
 abbrev pub block : ℕ → (first second : Node) → Node
 block n first second = node w.Block n (and_node first (and_node second no_nodes))

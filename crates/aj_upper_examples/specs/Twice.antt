@@ -17,6 +17,7 @@ use Rattle.aj_examples.specs.Fields.{path}
 abbrev pub inc_call : Stmt
 inc_call = DoS (CallE ThisE 0 no_exprs) false
 
+-- this program, which is refused: `twice` is annotated and calls `inc` two times without holding the lock
 abbrev pub twice : Program
 twice = record counter {
   classes = record (plain_class (0 ∷ []) [] None 0) { targets = (0, 0) ∷ (1, 1) ∷ [] } ∷ plain_class [] [] None 2 ∷ [];
@@ -40,6 +41,7 @@ of_counter (suc (suc m)) = []
 abbrev pub line : (method : ℕ) → Basic → (held : List PathData) → LineData
 line method found held = record { method = method; found = found; held = held }
 
+-- a method at a set of held paths
 abbrev pub cell : (method : ℕ) → (held : List PathData) → Cell
 cell method held = record { method = method; held = held }
 
@@ -47,9 +49,11 @@ cell method held = record { method = method; held = held }
 abbrev pub inc_atomic : LineData
 inc_atomic = line 0 Atomic []
 
+-- the line that says that `inc` is at least a mover where the lock of `this` is held
 abbrev pub inc_mover : LineData
 inc_mover = line 0 Mover (this_path ∷ [])
 
+-- the line that says that `twice` is at least compound where nothing is held
 abbrev pub twice_compound : LineData
 twice_compound = line 1 Cmpd []
 

@@ -25,9 +25,11 @@ use Rattle.aj_examples.specs.Fields.{path}
 use Rattle.aj_examples.specs.Seen.{here, there}
 use Rattle.aj_levels.specs.Walks.{Visit, Comes, Bad}
 
+-- the type `Buf`
 abbrev pub buf : CoreType
 buf = type.Class 0
 
+-- the parameter `other` of `append`
 abbrev pub other : Expr
 other = VarE 1 true buf
 
@@ -35,6 +37,7 @@ other = VarE 1 true buf
 abbrev pub add_length : Stmt
 add_length = SetFieldS ThisE 0 (BinaryE Add (GetE ThisE 0) (CallE other 0 no_exprs))
 
+-- this program: its methods are `length`, `append`, `run` and `main`, in this order
 abbrev pub buffers : Program
 buffers = record {
   classes =
@@ -58,6 +61,7 @@ buffers = record {
 abbrev pub to_path : PathData
 to_path = path 0 (1 ∷ [])
 
+-- the path of `this.from`
 abbrev pub from_path : PathData
 from_path = path 0 (2 ∷ [])
 
@@ -72,6 +76,7 @@ of_buffers (suc (suc (suc m))) = []
 abbrev pub all_one : ℕ → ℕ
 all_one c = 1
 
+-- each class has the level 0, so that each lock that isn't held already is bad to take
 abbrev pub no_levels : ℕ → ℕ
 no_levels c = 0
 
@@ -80,6 +85,7 @@ pub data Seen : Type 0 where
   Calls : (method under : ℕ) → List Bool → Seen
   Takes : (place class under : ℕ) → Seen
 
+-- what is seen of a visit
 abbrev pub seen : Visit → Seen
 seen (Comes m known under) = Calls m under (map (known 0) (this_path ∷ one_path ∷ []) ++ map (known 1) (this_path ∷ one_path ∷ []))
 seen (Bad place class under) = Takes place class under
@@ -88,12 +94,15 @@ seen (Bad place class under) = Takes place class under
 abbrev pub length_call : Expr
 length_call = CallE ThisE 0 no_exprs
 
+-- `this.run()`
 abbrev pub run_call : Expr
 run_call = CallE ThisE 2 no_exprs
 
+-- the method 0 under the level 5; it and the method 1 would find the lock of `this` held, and not that of a parameter
 abbrev pub sees_length : Seen
 sees_length = Calls 0 5 (true ∷ false ∷ true ∷ false ∷ [])
 
+-- the method 2 under the level 5, with the same paths known
 abbrev pub sees_run : Seen
 sees_run = Calls 2 5 (true ∷ false ∷ true ∷ false ∷ [])
 
@@ -117,5 +126,6 @@ takes a = Running (record { method = 1; slots = []; operands = Ref a ∷ []; wor
 abbrev pub crossed : List (Address × Hold)
 crossed = (here, held_by 0) ∷ (there, held_by 1) ∷ []
 
+-- a state in which each of these two threads waits for the lock that the other one holds
 abbrev pub each_waits : State
 each_waits = record { heap = M.empty; locks = M.from_sorted crossed; threads = takes there ∷ takes here ∷ []; output = [] }

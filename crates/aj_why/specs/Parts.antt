@@ -50,6 +50,7 @@ module _ (P : Program) (rel : ℕ → List PathData) (A : Assignment) where
   part_effect (ExprP e) H = expr_effect P rel A e H
   part_effect (StmtP s) H = effect P rel A s H
 
+-- The parts of expressions and of arguments.
 abbrev mutual
   -- the parts of an expression, each before its own parts: the order of their numbers
   pub expr_parts : Expr → List Part
@@ -67,6 +68,7 @@ abbrev mutual
   expr_parts (CallE e m args) = ExprP (CallE e m args) ∷ (expr_parts e ++ exprs_parts args)
   expr_parts (NewE c args) = ExprP (NewE c args) ∷ exprs_parts args
 
+  -- the parts of some arguments, one argument after the other
   pub exprs_parts : Exprs → List Part
   exprs_parts no_exprs = []
   exprs_parts (and_expr e es) = expr_parts e ++ exprs_parts es
@@ -76,6 +78,7 @@ abbrev pub value_parts : Option Expr → List Part
 value_parts None = []
 value_parts (Some e) = expr_parts e
 
+-- The parts of statements and of blocks.
 abbrev mutual
   -- the parts of a statement
   pub stmt_parts : Stmt → List Part
@@ -92,6 +95,7 @@ abbrev mutual
   stmt_parts (PrintS e) = StmtP (PrintS e) ∷ expr_parts e
   stmt_parts (StartS e) = StmtP (StartS e) ∷ expr_parts e
 
+  -- the parts of the statements of a block, one statement after the other
   pub block_parts : Stmts → List Part
   block_parts no_stmts = []
   block_parts (and_stmt s ss) = stmt_parts s ++ block_parts ss

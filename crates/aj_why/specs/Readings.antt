@@ -10,6 +10,7 @@ use Rattle.aj_deriv_rules.specs.Parts.{Part}
 use Rattle.aj_why.specs.Parts.{own_of}
 use Rattle.aj_why.specs.Visits.{Visit}
 
+-- whether a basic is compound
 abbrev pub is_cmpd : Basic → Bool
 is_cmpd Const = false
 is_cmpd Mover = false
@@ -17,6 +18,7 @@ is_cmpd Atomic = false
 is_cmpd Cmpd = true
 is_cmpd Error = false
 
+-- whether a basic is an error
 abbrev pub is_error : Basic → Bool
 is_error Const = false
 is_error Mover = false
@@ -73,6 +75,7 @@ module _ (P : Program) (rel : ℕ → List PathData) (A : Assignment) where
   abbrev pub first_error : List Visit → Option Visit
   first_error vs = first_where (λ v. is_error (own_at v)) vs
 
+  -- a visit of the list is an error by itself, and none before it is
   pub record IsFirstError (vs : List Visit) (v : Visit) : Type 0 where
     pub error : own_at v ≡ Error
     pub first : IsFirst (λ w. is_error (own_at w)) vs v

@@ -71,6 +71,7 @@ module _ (P : Program) (rel : ℕ → List PathData) (A : Assignment) where
     stmt_steps (PrintS e) n H loop = expr_steps e (n + 1) H loop ++ own_step n (StmtP (PrintS e)) H loop
     stmt_steps (StartS e) n H loop = expr_steps e (n + 1) H loop ++ own_step n (StmtP (StartS e)) H loop
 
+    -- those of the statements of a block, each statement with the set that those before it leave
     pub block_steps : Stmts → ℕ → Held → Option ℕ → List Visit
     block_steps no_stmts n H loop = []
     block_steps (and_stmt s ss) n H loop = stmt_steps s n H loop ++ block_steps ss (n + stmt_nodes s) (after_stmt P s H) loop

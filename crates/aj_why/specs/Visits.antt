@@ -24,6 +24,7 @@ abbrev pub by_lock : Bool → List Visit → List Visit → List Visit
 by_lock true held taken = held
 by_lock false held taken = taken
 
+-- The parts that a walk comes to in expressions and in arguments.
 abbrev mutual
   -- the parts of an expression with this number, each behind its own parts: the order in which they are done
   pub expr_visits : Expr → ℕ → Held → Option ℕ → List Visit
@@ -69,6 +70,7 @@ module _ (P : Program) where
     stmt_visits (PrintS e) n H loop = expr_visits e (n + 1) H loop ++ visit n (StmtP (PrintS e)) H loop
     stmt_visits (StartS e) n H loop = expr_visits e (n + 1) H loop ++ visit n (StmtP (StartS e)) H loop
 
+    -- those of the statements of a block, numbered on from one statement to the next
     pub block_visits : Stmts → ℕ → Held → Option ℕ → List Visit
     block_visits no_stmts n H loop = []
     block_visits (and_stmt s ss) n H loop = stmt_visits s n H loop ++ block_visits ss (n + stmt_nodes s) (after_stmt P s H) loop

@@ -21,6 +21,7 @@ use std::alloc::Global;
 use std::process::Abort;
 use std::test::Fail;
 
+/// The counter program: two workers call an atomic `inc` of one cell.
 pub const COUNTER: &str =
     "class Cell { int v guarded_by this; atomic void inc() { synchronized (this) { this.v = this.v + 1; } } } \
     class W implements Runnable { final Cell c; W(Cell c) { this.c = c; } public void run() { this.c.inc(); } } \

@@ -8,9 +8,11 @@ use std::alloc::Global;
 use std::process::Abort;
 use std::test::Fail;
 
+/// A program that is accepted: its `main` writes a guarded field while it holds the lock.
 pub const LOCKED: &str =
     "class Main { int v guarded_by this; atomic void main() { synchronized (this) { this.v = 7; } } }";
 
+/// These words as a command line has them.
 pub fn words_of(alloc: Global, words: &[&str]) -> Result<Vec<String>, Fail> {
     let mut list = Vec::new(alloc);
     for word in words {
@@ -301,6 +303,7 @@ pub const APPEND_LOCKED: &str =
     atomic void append(final Buf sb) { synchronized (this) { synchronized (sb) { int k = sb.length(); this.n = this.n + sb.get(k); } } } } \
     class Main { void main() { } }";
 
+/// A method that takes eight locks of its parameters, which are as many as it may have.
 pub const EIGHT_LOCKS: &str =
     "class L { } class Main { void m(final L a, final L b, final L c, final L d, final L e, final L f, final L g, final L h) \
     { synchronized (a) { } synchronized (b) { } synchronized (c) { } synchronized (d) { } synchronized (e) { } synchronized (f) { } \
@@ -618,6 +621,7 @@ fn a_body_is_at_most_64_high(rt: HostRuntime) -> Result<(), Fail> {
     Ok(())
 }
 
+/// The line for words that are no command.
 pub const USAGE: &str =
     "usage: atomic check FILE | run FILE SCHEDULE | serialise FILE SCHEDULE | derive FILE | verify FILE BOOK | print FILE | generate N | serialise-open FILE SCHEDULE | blame FILE | verify-blame FILE CERT | levels FILE LEVELS | replay FILE SCHEDULE\n";
 
