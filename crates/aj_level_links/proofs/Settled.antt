@@ -4,6 +4,7 @@ use Rattle.std.specs.Prelude.{Option, OnOk, max, unwrap_or}
 use Rattle.std.proofs.lemmas.Bool.{eqb-true, eqb-false, not-false}
 use Rattle.std.proofs.lemmas.List.{length-map}
 use Rattle.std.proofs.lemmas.Option.{none-some, same_Some, slice_get_within, slice_get-get_or}
+use Rattle.std.proofs.Math.Nat.{le_trans}
 use Rattle.aj_lemmas.proofs.Lists.{contains_later}
 use Rattle.aj_fix.specs.Assignments.{Assignment, IsAbove, IsClosed}
 use Rattle.aj_level_links.specs.declared.link.Link.{Link}
@@ -51,9 +52,6 @@ above_new ([] ∷ y) (w ∷ x) (u ∷ z) above count each = absurd above.0
 above_new ((n ∷ []) ∷ y) (w ∷ x) (u ∷ z) above count each = ((each 0 u n refl refl, tt), above_new y x z above.1 (omega (arith, count)) (λ d a b first second. each (suc d) a b first second))
 above_new ((n ∷ (m ∷ ns)) ∷ y) (w ∷ x) (u ∷ z) above count each = absurd above.0.1
 
-through : (a b c : ℕ) → a ≤ b → b ≤ c → a ≤ c
-through a b c first second = omega (arith, first, second)
-
 rises_less : (from w n : ℕ) → from ≤ w → max from n ≤ max w n
 rises_less from w n le = omega (arith, le)
 
@@ -73,7 +71,7 @@ module _ (rows : List (List Link)) (x : List ℕ) (c : ℕ) (from : ℕ) (is : s
       let count = length_above y (marks_of x) above ∙ length-map x (λ (u : ℕ). u ∷ []) in
       let met : is_met rows y c ≡ true = closed c (subst (λ n. c < n) (sym count) inside) in
       let there : are_met (numbers_of y) own.0 (links_at rows c) ≡ true = sym (ap (λ o. are_met_from (numbers_of y) o (links_at rows c)) own.1) ∙ met in
-      through (max from l.level) (max own.0 l.level) v (rises_less from own.0 l.level own.2) (met_at (numbers_of y) own.0 (links_at rows c) l v there has at)
+      le_trans {n = max from l.level} {m = max own.0 l.level} {k = v} (rises_less from own.0 l.level own.2) (met_at (numbers_of y) own.0 (links_at rows c) l v there has at)
 
   all_under : (y : Assignment) → IsClosed (is_met rows) y → IsAbove y (marks_of x) → IsAbove y (marks_of (all_raised x from (links_at rows c)))
   all_under y closed above = above_new y x (all_raised x from (links_at rows c)) above (all_length x from (links_at rows c)) (λ d u v new at.

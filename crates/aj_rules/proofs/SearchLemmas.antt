@@ -18,7 +18,7 @@ use Rattle.aj_rules.specs.Search.{row_at, rows_of, with_link, LeadsTo, IsLed, Ar
 use Rattle.aj_rules.proofs.Reaching.{contains_none, contains_one, contains_here}
 use Rattle.aj_rules.proofs.PathLists.{row_is, row_set_same, row_set_other}
 use Rattle.aj_rules.proofs.ClauseLemmas.{on_ok}
-use Rattle.std.proofs.lemmas.List.{take_more}
+use Rattle.std.proofs.lemmas.List.{take_more, take_all}
 use Rattle.std.specs.declared.alloc.Global.{Global}
 use Rattle.std.proofs.lemmas.Bool.{or_cases, or_left, or_right, not-false}
 use Rattle.aj_lemmas.proofs.Lists.{contains_later}
@@ -335,12 +335,6 @@ least_family P cs links next near queue a d all = record {
 had_is : (rows grown : List (Vec PathData Global)) (had : Vec PathData Global) (i m : ℕ) → i ≡ m → i + 1 ≤ length grown → ((n : ℕ) → row_at (rows_of grown) n ≡ row_at (rows_of rows) n) → had ≡ get_or grown i had → had.items ≡ row_at (rows_of rows) m
 had_is rows grown had i m is long same at = ap (λ v. v.items) at ∙ sym (row_is grown i had (omega arith)) ∙ same i ∙ ap (row_at (rows_of rows)) is
 
-pub take_all : {A : Type 0} (xs : List A) (i : ℕ) → length xs ≤ i → take i xs ≡ xs
-take_all [] zero le = refl
-take_all [] (suc i) le = refl
-take_all (x ∷ xs) zero le = absurd (omega arith)
-take_all (x ∷ xs) (suc i) le = ap (λ l. x ∷ l) (take_all xs i (omega arith))
-
 pub had_ascends : (rows grown : List (Vec PathData Global)) (had : Vec PathData Global) (i m : ℕ) (queue : List Place) → i ≡ m → i + 1 ≤ length grown → ((n : ℕ) → row_at (rows_of grown) n ≡ row_at (rows_of rows) n) → had ≡ get_or grown i had → Agree (rows_of rows) queue → IsStrictlySortedBy path_order had.items
 had_ascends rows grown had i m queue is long same at agree = subst (IsStrictlySortedBy path_order) (sym (had_is rows grown had i m is long same at)) (agree.ascends m)
 
@@ -402,4 +396,4 @@ pub led_next : (P : Program) (near new : List (List PathData)) (queue longer lon
 led_next P near new queue longer longest links i link place below is g h = led_more P near new queue longer longest (take i links) (take (i + 1) links) link place (take_more links i link below ∙ ap (λ x. take i links ++ x ∷ []) (sym is)) g h
 
 pub led_whole : (P : Program) (near : List (List PathData)) (queue longer : List Place) (links : List Link) (i : ℕ) (place : Place) → length links ≤ i → Grows queue (IsLed P (take i links) place) near longer → Grows queue (IsLed P links place) near longer
-led_whole P near queue longer links i place all g = subst (λ l. Grows queue (IsLed P l place) near longer) (take_all links i all) g
+led_whole P near queue longer links i place all g = subst (λ l. Grows queue (IsLed P l place) near longer) (take_all i links all) g
