@@ -39,6 +39,7 @@ use Rattle.aj_safe.proofs.Actions.{address_is}
 use Rattle.aj_safe.proofs.Calls.{entry_sound}
 use Rattle.aj_safe.proofs.Counting.{none_count}
 use Rattle.aj_safe.proofs.Unfolding.{on_pushed}
+use Rattle.aj_safe.proofs.LockActions.{not_both, chosen, unchosen, one_of, one_more, one_less, none_left}
 use Rattle.aj_typed_runs.specs.SlotTypes.{SlotType, slot_types, IsMarked, Has}
 use Rattle.aj_typed_runs.specs.TypedStates.{IsTypedHeap, AreTypedSlots}
 use Rattle.aj_levels.specs.Walks.{Visit, Comes, Bad, class_in, last_type, lock_class, call_visits, expr_visits, sync_visits, visits, body_visits}
@@ -54,31 +55,8 @@ pub record IsOrderedProgram (P : Program) (rel : ℕ → List PathData) (level :
 
 -- Numbers.
 
-not_both : (a t u : ℕ) → (a == t) ≡ true → (u == t) ≡ false → (a == u) ≡ false
-not_both a t u e k = grind (arith, nat_tests)
-
 not_self : (t u : ℕ) → (u == t) ≡ false → (t == u) ≡ false
 not_self t u e = grind (arith, nat_tests)
-
-chosen : (b : Bool) (n m : ℕ) → b ≡ true → (if b then n else m) ≡ n
-chosen true n m e = refl
-chosen false n m e = absurd cc
-
-unchosen : (b : Bool) (n m : ℕ) → b ≡ false → (if b then n else m) ≡ m
-unchosen true n m e = absurd cc
-unchosen false n m e = refl
-
-one_of : (m k : ℕ) → 0 ≡ m + k → 1 ≡ 1 + m + k
-one_of m k e = omega (arith, e)
-
-one_more : (n m k : ℕ) → n ≡ m + k → n + 1 ≡ 1 + m + k
-one_more n m k e = omega (arith, e)
-
-one_less : (n m k : ℕ) → n ≡ 1 + m + k → nat_lt 1 n ≡ true → n - 1 ≡ m + k
-one_less n m k e less = omega (arith, e)
-
-none_left : (n m k : ℕ) → n ≡ 1 + m + k → nat_lt 1 n ≡ false → 0 ≡ m + k
-none_left n m k e less = grind (arith, nat_tests)
 
 still_held : (n : ℕ) → nat_lt 1 n ≡ true → 0 < n - 1
 still_held n less = grind (arith, nat_tests)

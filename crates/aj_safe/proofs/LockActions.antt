@@ -34,17 +34,17 @@ use Rattle.aj_safe.proofs.Actions.{fault_fine, list_falls, address_is}
 
 -- Numbers.
 
-not_both : (a t u : ℕ) → (a == t) ≡ true → (u == t) ≡ false → (a == u) ≡ false
+pub not_both : (a t u : ℕ) → (a == t) ≡ true → (u == t) ≡ false → (a == u) ≡ false
 not_both a t u e k = grind (arith, nat_tests)
 
 not_self : (t u : ℕ) → (u == t) ≡ false → (t == u) ≡ false
 not_self t u e = grind (arith, nat_tests)
 
-chosen : (b : Bool) (n m : ℕ) → b ≡ true → (if b then n else m) ≡ n
+pub chosen : (b : Bool) (n m : ℕ) → b ≡ true → (if b then n else m) ≡ n
 chosen true n m e = refl
 chosen false n m e = absurd cc
 
-unchosen : (b : Bool) (n m : ℕ) → b ≡ false → (if b then n else m) ≡ m
+pub unchosen : (b : Bool) (n m : ℕ) → b ≡ false → (if b then n else m) ≡ m
 unchosen true n m e = absurd cc
 unchosen false n m e = refl
 
@@ -57,19 +57,19 @@ none_counted n m zero same less = absurd_by (grind_false n m zero same less)
     grind_false : (n m : ℕ) → 0 ≡ n → n ≡ m → nat_lt 0 m ≡ true → false ≡ true
     grind_false n m zero same less = grind (arith, nat_tests)
 
-one_of : (m k : ℕ) → 0 ≡ m + k → 1 ≡ 1 + m + k
+pub one_of : (m k : ℕ) → 0 ≡ m + k → 1 ≡ 1 + m + k
 one_of m k e = omega (arith, e)
 
-one_more : (n m k : ℕ) → n ≡ m + k → n + 1 ≡ 1 + m + k
+pub one_more : (n m k : ℕ) → n ≡ m + k → n + 1 ≡ 1 + m + k
 one_more n m k e = omega (arith, e)
 
 stays_held : (n m k : ℕ) → n ≡ 1 + m + k → nat_lt 1 n ≡ nat_lt 0 (m + k)
 stays_held n m k e = grind (arith, nat_tests)
 
-one_less : (n m k : ℕ) → n ≡ 1 + m + k → nat_lt 1 n ≡ true → n - 1 ≡ m + k
+pub one_less : (n m k : ℕ) → n ≡ 1 + m + k → nat_lt 1 n ≡ true → n - 1 ≡ m + k
 one_less n m k e less = omega (arith, e)
 
-none_left : (n m k : ℕ) → n ≡ 1 + m + k → nat_lt 1 n ≡ false → 0 ≡ m + k
+pub none_left : (n m k : ℕ) → n ≡ 1 + m + k → nat_lt 1 n ≡ false → 0 ≡ m + k
 none_left n m k e less = grind (arith, nat_tests)
 
 module _ (P : Program) (rel : ℕ → List PathData) (A : Assignment) (see : Shared) (t : ℕ) (f : Frame) (below : List Frame) (rest : List Item) (flag : Bool)
