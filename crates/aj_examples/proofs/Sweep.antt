@@ -7,7 +7,7 @@ use Rattle.std.specs.declared.cmp.Ordering.{Ordering}
 use Rattle.std.specs.declared.cmp.Ordering.TheVariants.{Less, Equal, Greater}
 use Rattle.std.proofs.lemmas.Bool.{and_parts, or_cases, eq-eqb, le-leb, false≢true}
 use Rattle.std.proofs.lemmas.Option.{none-some, same_Some}
-use Rattle.aj_lemmas.proofs.Lists.{contains_cases}
+use Rattle.aj_lemmas.proofs.Lists.{all_at}
 use Rattle.aj_paths.specs.Paths.{PathData, path_order, path_eq, extended}
 use Rattle.aj_paths.specs.Renamings.{under_call}
 use Rattle.aj_paths.proofs.PathOrder.{eq_is}
@@ -21,16 +21,8 @@ use Rattle.aj_rules.specs.Clauses.{program_clauses}
 use Rattle.aj_rules.specs.Search.{row_at, IsLeastFamily}
 use Rattle.aj_rules.specs.Limits.{parted_from}
 use Rattle.aj_rules.specs.Near.{begins_in, Near, required, locked, guarded, called, overriding, named, AreRelevant}
-use Rattle.aj_rules.proofs.Reaching.{contains_none, partner_in, class_with, near_from_reached, reached_from_near}
+use Rattle.aj_rules.proofs.Reaching.{partner_in, class_with, near_from_reached, reached_from_near}
 use Rattle.aj_rules.proofs.LimitLemmas.{sets_ok}
-
--- a test that all elements pass
-all_at : {A : Type 0} (f : A → Bool) (xs : List A) → list_all f xs ≡ true → (x : A) → Contains xs x → f x ≡ true
-all_at f [] all x has = contains_none x has
-all_at f (y ∷ ys) all x has = elim (contains_cases y x ys has) as (λ _. f x ≡ true) [
-  | inl e ↦ subst (λ z. f z ≡ true) e (and_parts (f y) (list_all f ys) all).0
-  | inr later ↦ all_at f ys (and_parts (f y) (list_all f ys) all).1 x later
-]
 
 all_paths : (f : PathData → Bool) (ps : List PathData) → list_all f ps ≡ true → (q : PathData) → has_path ps q ≡ true → f q ≡ true
 all_paths f [] all q has = absurd (false≢true has)

@@ -1,5 +1,5 @@
 -- Walks one behind the other, and the walk through each kind of part.
-use Rattle.std.proofs.Common.{◌≡◌, ℕ, suc, ◌+◌, ◌<◌, Bool, true, false, List, [], ◌∷◌, ◌++◌, Option, Some, None, length, drop, get_or, slice_set, refl, sym, ap, ◌∙◌, subst, append_assoc, append-nil, length-append, arith, if◌then◌else◌}
+use Rattle.std.proofs.Common.{◌≡◌, ℕ, ◌+◌, ◌<◌, Bool, true, false, List, [], ◌∷◌, ◌++◌, Option, Some, None, length, drop, get_or, slice_set, refl, sym, ap, ◌∙◌, subst, append_assoc, append-nil, length-append, arith, if◌then◌else◌}
 use Rattle.std.proofs.Math.Seq.{set-append_seam}
 use Rattle.std.proofs.lemmas.List.Elements.{filter-append}
 use Rattle.aj_paths.specs.Paths.{PathData}
@@ -10,6 +10,7 @@ use Rattle.aj_algebra.specs.HeldPaths.{Held, with_path}
 use Rattle.aj_core.specs.declared.tree.CoreExpr.{CoreExpr}
 use Rattle.aj_core.specs.Views.{expr_of, exprs_from}
 use Rattle.aj_lemmas.proofs.Lists.{next_drop}
+use Rattle.aj_lemmas.proofs.Numbers.{one_and}
 use Rattle.aj_core.specs.declared.types.CoreOp.{CoreOp}
 use Rattle.aj_core.specs.Core.{Program, Expr, Exprs, IntE, TruthE, NullE, ThisE, VarE, NotE, NegE, BinaryE, AndE, OrE, GetE, CallE, NewE, no_exprs, and_expr}
 use Rattle.aj_core.specs.Core.{Stmt, Stmts, EmptyS, BlockS, LocalS, SetVarS, SetFieldS, DoS, IfS, WhileS, SyncS, ReturnS, PrintS, StartS, no_stmts, and_stmt}
@@ -28,9 +29,6 @@ use Rattle.aj_explain.specs.Views.{visits_of, errors_in, inner}
 use Rattle.aj_explain.specs.Walked.{next, Walked, WalkedExpr, InsideExpr, WalkedExprs}
 
 -- ---- numbers
-
-one_and : (a b : ℕ) → a ≡ b → suc a ≡ 1 + b
-one_and a b e = omega (arith, e)
 
 sum_of : (l x y a b : ℕ) → l ≡ x + y → x ≡ a → y ≡ b → l ≡ a + b
 sum_of l x y a b whole one two = omega (arith, whole, one, two)
