@@ -13,11 +13,11 @@ use Rattle.aj_algebra.specs.Basics.{join_of}
 use Rattle.aj_algebra.specs.HeldPaths.{Held, has_path}
 use Rattle.aj_rules.specs.Search.{row_or_none, row_at}
 use Rattle.aj_rules.specs.Rules.{AtMost}
-use Rattle.aj_rules.proofs.BasicLemmas.{below_chain, join_mono, below_itself}
+use Rattle.aj_rules.proofs.BasicLemmas.{below_chain, join_mono, below_itself, both_below}
 use Rattle.aj_rules.proofs.SetLemmas.{first, second}
 use Rattle.aj_blame.specs.Lines.{LineData, covers, line_at, floor}
 use Rattle.aj_blame.specs.Tables.{half, entry, said_by, count_of_parts, consts, raised, IsRaised, Says}
-use Rattle.aj_blame.proofs.Sets.{join_least, join_first, join_second, both_below, join_const, choice_low, covers_part, part_covers}
+use Rattle.aj_blame.proofs.Sets.{join_least, join_first, join_second, join_const, choice_low, covers_part, part_covers}
 use Rattle.aj_blame.proofs.FloorLaws.{choice_falls, floor_more, floor_has, floor_both}
 
 -- Halves of tables.

@@ -17,21 +17,16 @@ use Rattle.aj_deriv_rules.specs.Parts.{StmtP}
 use Rattle.aj_rules.specs.Effect.{Assignment, access_of, expr_effect, sync_effect, effect, block_effect, after_stmt}
 use Rattle.aj_why.proofs.Readings.{stmt_moved}
 use Rattle.aj_why.proofs.Weights.{seq_regrouped, seq_const, seq_end}
-use Rattle.aj_why.specs.Parts.{lock_effect}
 use Rattle.aj_why.specs.Readings.{is_error, own_at}
 use Rattle.aj_why.specs.Steps.{of_greater, of_taken, expr_steps, stmt_steps, block_steps}
 use Rattle.aj_why.specs.Visits.{Visit, visit, by_lock, expr_visits, stmt_visits, block_visits}
+use Rattle.aj_why.proofs.Errors.{lock_fine}
 use Rattle.aj_explain.specs.declared.found.Found.{Found}
 use Rattle.aj_explain.specs.declared.found.Visited.{Visited}
 use Rattle.aj_explain.specs.Basics.{basics_by_lock, expr_basics, stmt_basics, block_basics}
 use Rattle.aj_explain.specs.Views.{visit_of, visits_of, errors_in, inner}
 use Rattle.aj_explain.specs.Walked.{next, Walked, WalkedExpr, WalkedStmt, InsideStmt, WalkedBlock, WalkedBranches}
 use Rattle.aj_explain.proofs.Walking.{errors_append, two, behind, noted, with_basics, with_visits, with_effect, entered, expr_long, stmt_long, behind_walk, at_expr, nothing}
-
--- taking a lock is no error
-quiet_lock : (t : Bool) → is_error (lock_effect t) ≡ false
-quiet_lock true = refl
-quiet_lock false = refl
 
 -- a list behind another, where the test passes only if it is empty, and then this one
 own_or : (t : Bool) (before steps own : List Visit) → (t ≡ true → steps ≡ []) → (before ++ steps) ++ (if t then own else []) ≡ before ++ (if t then own else steps)
@@ -168,7 +163,7 @@ module _ (P : Program) (rel : ℕ → List PathData) (A : Assignment) where
       (by_lock t (stmt_steps P rel A s (n + 1) H loop) (of_taken (effect P rel A s (with_path p H)) (v ∷ []) (stmt_steps P rel A s (n + 1) (with_path p H) loop)))
       (basics_by_lock t (stmt_basics P rel A s H) (stmt_basics P rel A s (with_path p H)))
       (sync_effect t (effect P rel A s H) (effect P rel A s (with_path p H))) old a new) (sym held)
-      (behind P rel A v (quiet_lock (H p)) (at_stmt s H loop (n + 1) start w))
+      (behind P rel A v (lock_fine (H p)) (at_stmt s H loop (n + 1) start w))
 
   -- the lock is taken: the part is a step itself where its body can be moved
   pub taken_walked : (p : PathData) (s : Stmt) (H : Held) (loop : Option ℕ) (n : ℕ) {old mid : Found} {a : Basic} (new : Found) (d : Basic) → H p ≡ false → next old ≡ n + 1
@@ -178,7 +173,7 @@ module _ (P : Program) (rel : ℕ → List PathData) (A : Assignment) where
       → d ≡ lift_of a → InsideStmt P rel A (SyncS p s) n H loop old d new
   taken_walked p s H loop n {old = old} {mid = mid} {a = a} new d free start w basics steps errors is =
       let v : Visit = record { node = n; part = StmtP (SyncS p s); held = H; loop = loop } in
-      let inside = behind P rel A v (quiet_lock (H p)) (at_stmt s (with_path p H) loop (n + 1) start w) in
+      let inside = behind P rel A v (lock_fine (H p)) (at_stmt s (with_path p H) loop (n + 1) start w) in
       subst (λ (t : Bool). Walked P rel A
       (by_lock t (stmt_visits P s (n + 1) H loop) (stmt_visits P s (n + 1) (with_path p H) loop) ++ (v ∷ []))
       (by_lock t (stmt_steps P rel A s (n + 1) H loop) (of_taken (effect P rel A s (with_path p H)) (v ∷ []) (stmt_steps P rel A s (n + 1) (with_path p H) loop)))

@@ -7,17 +7,11 @@ use Rattle.std.proofs.lemmas.Option.{none-some, same_Some, slice_get_within, sli
 use Rattle.std.proofs.Math.Nat.{le_trans}
 use Rattle.aj_lemmas.proofs.Lists.{contains_later}
 use Rattle.aj_fix.specs.Assignments.{Assignment, IsAbove, IsClosed}
+use Rattle.aj_fix.proofs.AssignmentLemmas.{length-above}
 use Rattle.aj_level_links.specs.declared.link.Link.{Link}
 use Rattle.aj_level_links.specs.Greatest.{links_at, Reached, over_link, AreGreatest}
 use Rattle.aj_level_links.specs.Rises.{are_met, are_met_from, all_raised, raised_from, marks_of, numbers_of, is_met, leads_to}
 use Rattle.aj_level_links.proofs.Raising.{all_length, all_cases, all_has, all_other, all_same, met_from, met_at, met_grows}
-
--- both have as many cells
-length_above : (high x : Assignment) → IsAbove high x → length high ≡ length x
-length_above [] [] up = refl
-length_above [] (b ∷ x) up = absurd up
-length_above (a ∷ high) [] up = absurd up
-length_above (a ∷ high) (b ∷ x) up = ap suc (length_above high x up.1)
 
 pub numbers_marks : (x : List ℕ) → numbers_of (marks_of x) ≡ x
 numbers_marks [] = refl
@@ -68,7 +62,7 @@ module _ (rows : List (List Link)) (x : List ℕ) (c : ℕ) (from : ℕ) (is : s
   asked_under y closed above l v has at =
       let own = above_at y x c from above is in
       let inside = slice_get_within x c from is in
-      let count = length_above y (marks_of x) above ∙ length-map x (λ (u : ℕ). u ∷ []) in
+      let count = length-above y (marks_of x) above ∙ length-map x (λ (u : ℕ). u ∷ []) in
       let met : is_met rows y c ≡ true = closed c (subst (λ n. c < n) (sym count) inside) in
       let there : are_met (numbers_of y) own.0 (links_at rows c) ≡ true = sym (ap (λ o. are_met_from (numbers_of y) o (links_at rows c)) own.1) ∙ met in
       le_trans {n = max from l.level} {m = max own.0 l.level} {k = v} (rises_less from own.0 l.level own.2) (met_at (numbers_of y) own.0 (links_at rows c) l v there has at)

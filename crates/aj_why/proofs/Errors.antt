@@ -58,7 +58,7 @@ variable_fine : (is_final : Bool) → is_error (variable_effect is_final) ≡ fa
 variable_fine true = refl
 variable_fine false = refl
 
-lock_fine : (t : Bool) → is_error (lock_effect t) ≡ false
+pub lock_fine : (t : Bool) → is_error (lock_effect t) ≡ false
 lock_fine true = refl
 lock_fine false = refl
 
