@@ -6,6 +6,7 @@ use Rattle.aj_algebra.specs.declared.basic.Basic.{Basic}
 use Rattle.aj_algebra.specs.declared.basic.Basic.TheVariants.{Const, Mover, Atomic}
 use Rattle.aj_algebra.specs.Basics.{seq_of, join_of, star_of, lift_of, below_of}
 use Rattle.aj_algebra.specs.HeldPaths.{Held, with_path}
+use Rattle.aj_algebra.proofs.Sequences.{associative, unit_after, unit_before}
 use Rattle.aj_core.specs.declared.tree.CoreStmt.{CoreStmt}
 use Rattle.aj_core.specs.Views.{stmt_of, stmts_from}
 use Rattle.aj_lemmas.proofs.Lists.{next_drop}
@@ -16,7 +17,6 @@ use Rattle.aj_core.specs.Sizes.{nodes_of, stmt_nodes}
 use Rattle.aj_deriv_rules.specs.Parts.{StmtP}
 use Rattle.aj_rules.specs.Effect.{Assignment, access_of, expr_effect, sync_effect, effect, block_effect, after_stmt}
 use Rattle.aj_why.proofs.Readings.{stmt_moved}
-use Rattle.aj_why.proofs.Weights.{seq_regrouped, seq_const, seq_end}
 use Rattle.aj_why.specs.Readings.{is_error, own_at}
 use Rattle.aj_why.specs.Steps.{of_greater, of_taken, expr_steps, stmt_steps, block_steps}
 use Rattle.aj_why.specs.Visits.{Visit, visit, by_lock, expr_visits, stmt_visits, block_visits}
@@ -269,7 +269,7 @@ module _ (P : Program) (rel : ℕ → List PathData) (A : Assignment) where
   pub start_stmts : (ss : Stmts) (G H : Held) (loop : Option ℕ) (old : Found) → G ≡ H → StmtsSoFar ss G ss H loop old Const old
   start_stmts ss G H loop old same b new w =
       let at : WalkedBlock P rel A ss H loop old b new = subst (λ K. WalkedBlock P rel A ss K loop old b new) same w in
-      with_effect P rel A (block_effect P rel A ss H) (seq_of Const b) (seq_const b ∙ at.effect_is) at
+      with_effect P rel A (block_effect P rel A ss H) (seq_of Const b) (unit_before b ∙ at.effect_is) at
 
   pub more_stmts : (ss : List CoreStmt) (i : ℕ) (s : CoreStmt) (G K : Held) (H : Held) (loop : Option ℕ) (all : Stmts) (old now mid : Found) (so_far a after : Basic) → i < length ss → s ≡ get_or ss i s
       → WalkedStmt P rel A (stmt_of s) G loop now a mid → after ≡ seq_of so_far a → K ≡ after_stmt P (stmt_of s) G
@@ -282,10 +282,10 @@ module _ (P : Program) (rel : ℕ → List PathData) (A : Assignment) where
       let both : WalkedBlock P rel A (and_stmt (stmt_of s) rest) G loop now (seq_of a b) new =
       two P rel A (seq_of a b) one (at_block rest L loop (n + stmt_nodes (stmt_of s)) (behind_walk P rel A n (stmt_nodes (stmt_of s)) refl (stmt_long P rel A (stmt_of s) G) one) at) refl in
       let whole = given (seq_of a b) new (subst (λ l. WalkedBlock P rel A (stmts_from l) G loop now (seq_of a b) new) (sym (next_drop ss i s below is)) both) in
-      with_effect P rel A (block_effect P rel A all H) (seq_of after b) (ap (λ z. seq_of z b) after_is ∙ seq_regrouped so_far a b ∙ whole.effect_is) whole
+      with_effect P rel A (block_effect P rel A all H) (seq_of after b) (ap (λ z. seq_of z b) after_is ∙ associative so_far a b ∙ whole.effect_is) whole
 
   pub end_stmts : (ss : List CoreStmt) (i : ℕ) (G H : Held) (loop : Option ℕ) (all : Stmts) (old now : Found) (so_far : Basic) → drop i ss ≡ []
       → StmtsSoFar (stmts_from (drop i ss)) G all H loop old so_far now → WalkedBlock P rel A all H loop old so_far now
   end_stmts ss i G H loop all old now so_far none given =
       let whole = given Const now (subst (λ l. WalkedBlock P rel A (stmts_from l) G loop now Const now) (sym none) (nothing P rel A now)) in
-      with_effect P rel A (block_effect P rel A all H) so_far (sym (seq_end so_far) ∙ whole.effect_is) whole
+      with_effect P rel A (block_effect P rel A all H) so_far (sym (unit_after so_far) ∙ whole.effect_is) whole

@@ -1,25 +1,11 @@
 -- Basics in their order: each law by computation over all of them.
-use Rattle.std.proofs.Common.{◌≡◌, ℕ, zero, suc, Bool, true, false, refl, sym, ap, ◌∙◌, ◌&&◌, arith}
+use Rattle.std.proofs.Common.{◌≡◌, Bool, true, false, refl, ◌&&◌, arith}
 use Rattle.std.proofs.lemmas.Bool.{leb-true}
 use Rattle.aj_algebra.specs.declared.basic.Basic.{Basic}
 use Rattle.aj_algebra.specs.declared.basic.Basic.TheVariants.{Const, Mover, Atomic, Cmpd, Error}
 use Rattle.aj_algebra.specs.Basics.{rank_of, below_of, seq_of, join_of, star_of, lift_of}
+use Rattle.aj_algebra.proofs.Ranks.{same_rank}
 use Rattle.aj_rules.specs.Rules.{AtMost}
-
--- the basic of a rank
-abbrev of_rank : ℕ → Basic
-of_rank zero = Const
-of_rank (suc zero) = Mover
-of_rank (suc (suc zero)) = Atomic
-of_rank (suc (suc (suc zero))) = Cmpd
-of_rank (suc (suc (suc (suc n)))) = Error
-
-of_rank_is : (a : Basic) → of_rank (rank_of a) ≡ a
-of_rank_is Const = refl
-of_rank_is Mover = refl
-of_rank_is Atomic = refl
-of_rank_is Cmpd = refl
-of_rank_is Error = refl
 
 -- the test passes at each basic
 abbrev pub every : (Basic → Bool) → Bool
@@ -69,8 +55,7 @@ pub both_below : (a b : Basic) → AtMost a b → AtMost b a → a ≡ b
 both_below a b h k =
     let low = leb-true (rank_of a) (rank_of b) h in
     let high = leb-true (rank_of b) (rank_of a) k in
-    let same : rank_of a ≡ rank_of b = omega (arith, low, high) in
-    sym (of_rank_is a) ∙ ap of_rank same ∙ of_rank_is b
+    same_rank a b (omega (arith, low, high))
 
 seq_first : (a b c : Basic) → AtMost a b → AtMost (seq_of a c) (seq_of b c)
 seq_first a b c h =

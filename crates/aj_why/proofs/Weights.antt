@@ -66,15 +66,6 @@ pub weight_repeated : (loop : Option ℕ) (a : Basic) → weight (repeated loop 
 weight_repeated (Some k) = by_one (λ a. weight (star_of (weight a))) (λ a. weight (star_of a)) refl
 weight_repeated None = by_one (λ a. weight (weight a)) weight refl
 
-pub seq_regrouped : (a b c : Basic) → seq_of (seq_of a b) c ≡ seq_of a (seq_of b c)
-seq_regrouped = by_three (λ a b c. seq_of (seq_of a b) c) (λ a b c. seq_of a (seq_of b c)) refl
-
-pub seq_const : (a : Basic) → seq_of Const a ≡ a
-seq_const = by_one (λ a. seq_of Const a) (λ a. a) refl
-
-pub seq_end : (a : Basic) → seq_of a Const ≡ a
-seq_end = by_one (λ a. seq_of a Const) (λ a. a) refl
-
 -- parts in sequence, by what each weighs
 pub repeated_seq : (loop : Option ℕ) (a b : Basic) → seq_of (weight (repeated loop a)) (weight (repeated loop b)) ≡ weight (repeated loop (seq_of a b))
 repeated_seq (Some k) = by_two (λ a b. seq_of (weight (star_of a)) (weight (star_of b))) (λ a b. weight (star_of (seq_of a b))) refl
