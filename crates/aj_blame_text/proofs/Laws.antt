@@ -36,12 +36,6 @@ sound_end ts =
     (λ u r. sound_weaker (Bytes []) (λ ys b. (xs : List ℕ) → Bytes (codes "end" ++ (newline ∷ [])) xs u → Bytes (codes "end" ++ (newline ∷ [])) (xs ++ ys) b) r
     (λ front v none xs e. (λ i. e i ++ none i) ∙ append-nil (codes "end" ++ (newline ∷ []))) (nothing r) (sound_nothing r))
 
-same_rest : {A : Type 0} (a b : A) (x y : List ℕ) → (let p : Res A = Ok (a, x) in p ≡ Ok (b, y)) → x ≡ y
-same_rest {A} a b x y e = ap (λ z. z.1) (pair (a, x) (b, y) e)
-  where
-    pair : (p q : A × List ℕ) → (let r : Res A = Ok p in r ≡ Ok q) → p ≡ q
-    pair p q h = cc
-
 end_left : (ts r : List ℕ) (u : Unit {0}) → end_at ts ≡ Ok (u, r) → r ≡ []
 unfolding end_at
 end_left ts r u e = by (expect (codes "end" ++ (newline ∷ [])) ts) e

@@ -56,9 +56,6 @@ by_one f g all a = alike_is (f a) (g a) (each (λ a. alike (f a) (g a)) all a)
 pub by_two : (f g : Basic → Basic → Basic) → every (λ a. every (λ b. alike (f a b) (g a b))) ≡ true → (a b : Basic) → f a b ≡ g a b
 by_two f g all a b = alike_is (f a b) (g a b) (each (λ b. alike (f a b) (g a b)) (each (λ a. every (λ b. alike (f a b) (g a b))) all a) b)
 
-pub by_three : (f g : Basic → Basic → Basic → Basic) → every (λ a. every (λ b. every (λ c. alike (f a b c) (g a b c)))) ≡ true → (a b c : Basic) → f a b c ≡ g a b c
-by_three f g all a b c = by_two (f a) (g a) (each (λ a. every (λ b. every (λ c. alike (f a b c) (g a b c)))) all a) b c
-
 pub weight_seq : (a b : Basic) → weight (seq_of a b) ≡ seq_of (weight a) (weight b)
 weight_seq = by_two (λ a b. weight (seq_of a b)) (λ a b. seq_of (weight a) (weight b)) refl
 
