@@ -1,5 +1,5 @@
 -- Which numbers statuses have.
-use Rattle.std.proofs.Common.{◌≡◌, ◌≤◌, ℕ, inl, inr, arith}
+use Rattle.std.proofs.Common.{◌≤◌, ℕ, inl, inr, arith}
 use Rattle.aj_outcomes.specs.Said.{Yields}
 
 -- a status that stands in the place of all of them
