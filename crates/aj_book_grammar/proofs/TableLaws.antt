@@ -20,8 +20,7 @@ use Rattle.aj_book_grammar.proofs.Complete.{complete_node, complete_several, fro
 use Rattle.aj_book_grammar.proofs.BookLaws.{after_ok, complete_table, complete_lines}
 use Rattle.aj_book_grammar.proofs.CursorLaws.{widened_one}
 
--- the test whether an order is less
-
+-- an order of which the test says that it is less
 pub less_is : (o : Ordering) → is_less o ≡ true → o ≡ Less
 less_is Less e = refl
 less_is Equal e = absurd (let f : false ≡ true = e in cc)
