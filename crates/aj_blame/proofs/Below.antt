@@ -10,12 +10,12 @@ use Rattle.aj_rules.specs.Near.{MethodPaths, AreRelevant, rel_of}
 use Rattle.aj_rules.specs.Effect.{Assignment}
 use Rattle.aj_rules.specs.Rules.{IsPart, AtMost, IsFalling, held_in, IsClosed, IsAdmissible, IsAccepted}
 use Rattle.aj_rules.proofs.BasicLemmas.{below_chain}
-use Rattle.aj_rules.proofs.SetLemmas.{first, second}
+use Rattle.aj_rules.proofs.SetLemmas.{first, second, all_has}
 use Rattle.aj_rules.proofs.EffectRises.{stmt_rises}
 use Rattle.aj_rules.proofs.UniqueSets.{unique_sets}
 use Rattle.aj_blame.specs.Lines.{LineData, covers, line_at, floor, body_effect, up}
 use Rattle.aj_blame.specs.Certificates.{are_placed, is_placed, AreLines, IsCertificate, breaks, keeps_bound, bound_of}
-use Rattle.aj_blame.proofs.Sets.{below_const, join_least, choice_low, covers_part, all_has}
+use Rattle.aj_blame.proofs.Sets.{below_const, join_least, choice_low, covers_part}
 use Rattle.aj_blame.proofs.Over.{over_least}
 
 -- what stands at a place of the first k lines stands there in all of them

@@ -1,7 +1,7 @@
 -- The methods that override another: the list has exactly those, and what is assigned to them together.
 use Rattle.std.proofs.Common.{◌≡◌, ◌≢◌, ℕ, zero, suc, ◌+◌, ◌<◌, Bool, true, false, List, [], ◌∷◌, length, Some, None, refl, sym, ap, subst, ◌∙◌, ◌==◌, arith}
 use Rattle.std.specs.Prelude.{Option, filter, not, slice_get, if◌then◌else◌}
-use Rattle.std.proofs.lemmas.Bool.{and_from, eqb-true, eq-eqb, ne_eqb, eqb-false, not-true}
+use Rattle.std.proofs.lemmas.Bool.{and_from, eq-eqb, ne_eqb, eqb-false, not-true}
 use Rattle.std.proofs.lemmas.Option.{slice_get_within}
 use Rattle.aj_paths.specs.Paths.{PathData}
 use Rattle.aj_algebra.specs.declared.basic.Basic.{Basic}
@@ -13,12 +13,9 @@ use Rattle.aj_rules.specs.Effect.{Assignment}
 use Rattle.aj_rules.specs.Rules.{AtMost, held_in}
 use Rattle.aj_rules.proofs.BasicLemmas.{below_chain}
 use Rattle.aj_rules.proofs.SetLemmas.{first, second}
+use Rattle.aj_rules.proofs.Reaching.{number_is}
 use Rattle.aj_blame.specs.Lines.{runs_in, overrides, numbers, overriding, joined_over}
 use Rattle.aj_blame.proofs.Sets.{below_const, join_least, join_first, join_second}
-
-number_is : (o : Option ℕ) (n : ℕ) → is_number o n ≡ true → o ≡ Some n
-number_is None n e = absurd (let f : false ≡ true = e in cc)
-number_is (Some k) n e = ap Some (eqb-true k n e)
 
 is_number_of : (o : Option ℕ) (n : ℕ) → o ≡ Some n → is_number o n ≡ true
 is_number_of o n e = subst (λ x. is_number x n ≡ true) (sym e) (eq-eqb n n refl)

@@ -14,9 +14,9 @@ use Rattle.aj_rules.specs.Search.{row_at}
 use Rattle.aj_rules.specs.Overriding.{AreOverriders}
 use Rattle.aj_rules.specs.Effect.{Assignment}
 use Rattle.aj_rules.specs.Rules.{AtMost, held_in}
-use Rattle.aj_rules.proofs.BasicLemmas.{below_chain}
+use Rattle.aj_rules.proofs.BasicLemmas.{below_chain, both_below}
 use Rattle.aj_blame.specs.Lines.{overriding, joined_over, body_effect, run_effect}
-use Rattle.aj_blame.proofs.Sets.{below_const, join_least, join_first, join_second, both_below}
+use Rattle.aj_blame.proofs.Sets.{below_const, join_least, join_first, join_second}
 use Rattle.aj_blame.proofs.Over.{over_least, over_above}
 
 -- a place before one more is an earlier one or the last

@@ -1,16 +1,15 @@
 -- Sets that cover others, and joins of basics.
-use Rattle.std.proofs.Common.{◌≡◌, ℕ, zero, suc, Bool, true, false, List, [], ◌∷◌, refl, sym, ap, subst, ◌∙◌, inl, inr, arith}
+use Rattle.std.proofs.Common.{◌≡◌, Bool, true, false, List, [], ◌∷◌, refl, sym, subst, inl, inr}
 use Rattle.std.specs.Prelude.{if◌then◌else◌}
-use Rattle.std.specs.List.{list_all}
-use Rattle.std.proofs.lemmas.Bool.{or_cases, or_right, and_from, leb-true}
+use Rattle.std.proofs.lemmas.Bool.{or_cases, or_right, and_from}
 use Rattle.aj_paths.specs.Paths.{PathData, path_eq}
 use Rattle.aj_paths.proofs.PathOrder.{eq_is}
 use Rattle.aj_algebra.specs.declared.basic.Basic.{Basic}
-use Rattle.aj_algebra.specs.declared.basic.Basic.TheVariants.{Const, Mover, Atomic, Cmpd, Error}
-use Rattle.aj_algebra.specs.Basics.{rank_of, below_of, join_of}
+use Rattle.aj_algebra.specs.declared.basic.Basic.TheVariants.{Const}
+use Rattle.aj_algebra.specs.Basics.{below_of, join_of}
 use Rattle.aj_algebra.specs.HeldPaths.{Held, has_path}
-use Rattle.aj_rules.specs.Rules.{IsPart, AtMost}
-use Rattle.aj_rules.proofs.BasicLemmas.{every, implies, each, follows, below_chain, below_itself}
+use Rattle.aj_rules.specs.Rules.{AtMost}
+use Rattle.aj_rules.proofs.BasicLemmas.{every, implies, each, follows, below_chain, below_itself, both_below}
 use Rattle.aj_rules.proofs.SetLemmas.{first, second}
 use Rattle.aj_rules.proofs.UniqueSets.{first_has}
 use Rattle.aj_blame.specs.Lines.{covers}
@@ -29,29 +28,6 @@ join_first a b = each (λ b. below_of a (join_of a b)) (each (λ a. every (λ b.
 
 pub join_second : (a b : Basic) → AtMost b (join_of a b)
 join_second a b = each (λ b. below_of b (join_of a b)) (each (λ a. every (λ b. below_of b (join_of a b))) refl a) b
-
--- the basic of a rank
-abbrev of_rank : ℕ → Basic
-of_rank zero = Const
-of_rank (suc zero) = Mover
-of_rank (suc (suc zero)) = Atomic
-of_rank (suc (suc (suc zero))) = Cmpd
-of_rank (suc (suc (suc (suc n)))) = Error
-
-of_rank_is : (a : Basic) → of_rank (rank_of a) ≡ a
-of_rank_is Const = refl
-of_rank_is Mover = refl
-of_rank_is Atomic = refl
-of_rank_is Cmpd = refl
-of_rank_is Error = refl
-
--- of two basics that are each at most the other
-pub both_below : (a b : Basic) → AtMost a b → AtMost b a → a ≡ b
-both_below a b h k =
-    let low = leb-true (rank_of a) (rank_of b) h in
-    let high = leb-true (rank_of b) (rank_of a) k in
-    let same : rank_of a ≡ rank_of b = omega (arith, low, high) in
-    sym (of_rank_is a) ∙ ap of_rank same ∙ of_rank_is b
 
 -- three basics, joined in either order
 pub join_assoc : (a b c : Basic) → join_of (join_of a b) c ≡ join_of a (join_of b c)
@@ -92,11 +68,3 @@ part_covers held [] H h = refl
 part_covers held (p ∷ ps) H h = and_from (if H p then has_path held p else true) (covers held ps H)
     (given (H p) (has_path held p) (λ is. h p is (first_has p ps)))
     (part_covers held ps H (λ q is has. h q is (or_right (path_eq p q) (has_path ps q) has)))
-
--- a test that each path of a list passes
-pub all_has : (ps : List PathData) (H : Held) → list_all H ps ≡ true → IsPart (has_path ps) H
-all_has [] H a q h = absurd (let e : false ≡ true = h in cc)
-all_has (p ∷ ps) H a q h = elim (or_cases (path_eq p q) (has_path ps q) h) as (λ _. H q ≡ true) [
-  | inl same ↦ subst (λ x. H x ≡ true) (eq_is p q same) (first (H p) (list_all H ps) a)
-  | inr later ↦ all_has ps H (second (H p) (list_all H ps) a) q later
-]

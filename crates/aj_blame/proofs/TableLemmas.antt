@@ -1,8 +1,7 @@
 -- Tables: what they say with const everywhere, and what they say after one of them was raised.
 use Rattle.std.proofs.Common.{◌≡◌, ℕ, zero, suc, ◌+◌, ◌<◌, ◌≤◌, ◌/◌, ◌⊎◌, Bool, true, false, ◌&&◌, ◌==◌, List, [], ◌∷◌, ◌++◌, length, take, drop, get_or, slice_get, slice_set, Some, None, refl, sym, ap, subst, ◌∙◌, arith, inl, inr}
 use Rattle.std.specs.Prelude.{if◌then◌else◌}
-use Rattle.std.proofs.lemmas.List.{length-append, length-take, length-drop}
-use Rattle.std.proofs.Math.Seq.{take-append_seam, drop-append_seam}
+use Rattle.std.proofs.lemmas.List.{length-append}
 use Rattle.std.proofs.lemmas.Option.{slice_get-get_or, slice_get_cases}
 use Rattle.std.proofs.lemmas.Bool.{and_from, eqb-true, eqb-false}
 use Rattle.aj_fix.proofs.NoteLemmas.{set_here, set_at}
@@ -11,27 +10,18 @@ use Rattle.aj_algebra.specs.declared.basic.Basic.{Basic}
 use Rattle.aj_algebra.specs.declared.basic.Basic.TheVariants.{Const}
 use Rattle.aj_algebra.specs.Basics.{join_of}
 use Rattle.aj_algebra.specs.HeldPaths.{Held, has_path}
+use Rattle.aj_algebra.specs.Tables.{half, count_of_parts}
+use Rattle.aj_algebra.proofs.Halves.{half_is, half_sizes}
 use Rattle.aj_rules.specs.Search.{row_or_none, row_at}
 use Rattle.aj_rules.specs.Rules.{AtMost}
-use Rattle.aj_rules.proofs.BasicLemmas.{below_chain, join_mono, below_itself}
+use Rattle.aj_rules.proofs.BasicLemmas.{below_chain, join_mono, below_itself, both_below}
 use Rattle.aj_rules.proofs.SetLemmas.{first, second}
 use Rattle.aj_blame.specs.Lines.{LineData, covers, line_at, floor}
-use Rattle.aj_blame.specs.Tables.{half, entry, said_by, count_of_parts, consts, raised, IsRaised, Says}
-use Rattle.aj_blame.proofs.Sets.{join_least, join_first, join_second, both_below, join_const, choice_low, covers_part, part_covers}
+use Rattle.aj_blame.specs.Tables.{entry, said_by, consts, raised, IsRaised, Says}
+use Rattle.aj_blame.proofs.Sets.{join_least, join_first, join_second, join_const, choice_low, covers_part, part_covers}
 use Rattle.aj_blame.proofs.FloorLaws.{choice_falls, floor_more, floor_has, floor_both}
 
 -- Halves of tables.
-
-half_length : (xs ys : List Basic) → length xs ≡ length ys → length (xs ++ ys) / 2 ≡ length xs
-half_length xs ys e = let l = length-append xs ys in omega (arith, l, e)
-
-half_is : (b : Bool) (xs ys : List Basic) → length xs ≡ length ys → half b (xs ++ ys) ≡ (if b then ys else xs)
-half_is true xs ys e = ap (λ n. drop n (xs ++ ys)) (half_length xs ys e) ∙ drop-append_seam xs ys
-half_is false xs ys e = ap (λ n. take n (xs ++ ys)) (half_length xs ys e) ∙ take-append_seam xs ys
-
-half_sizes : (p : PathData) (ps : List PathData) (table : List Basic) (b : Bool) → length table ≡ count_of_parts (p ∷ ps) → length (half b table) ≡ count_of_parts ps
-half_sizes p ps table true e = let l = length-drop (length table / 2) table in omega (arith, l, e)
-half_sizes p ps table false e = let l = length-take (length table / 2) table in omega (arith, l, e)
 
 drop_empty : (n : ℕ) (xs : List Basic) → xs ≡ [] → drop n xs ≡ []
 drop_empty zero xs e = e

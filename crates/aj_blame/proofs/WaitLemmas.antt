@@ -17,7 +17,7 @@ use Rattle.aj_rules.specs.Search.{row_at as overs_at}
 use Rattle.aj_rules.specs.Overriding.{AreOverriders}
 use Rattle.aj_rules.specs.Effect.{Assignment}
 use Rattle.aj_rules.specs.Rules.{AtMost, held_in}
-use Rattle.aj_rules.proofs.BasicLemmas.{below_chain}
+use Rattle.aj_rules.proofs.BasicLemmas.{below_chain, both_below}
 use Rattle.aj_callers.specs.Called.{stmt_calls, has_method, method_calls, calls, row_at, AreCallers}
 use Rattle.aj_callers.proofs.CallsSame.{first_false, second_false, stmt_same}
 use Rattle.aj_callers.proofs.CalleeLemmas.{contained}
@@ -26,7 +26,7 @@ use Rattle.aj_blame.specs.Certificates.{keeps_bound}
 use Rattle.aj_blame.specs.Passes.{Cell, cells_in, cells_from, parts_of, Written, by_tests, floor_at, up_at, line_for, pass}
 use Rattle.aj_blame.specs.Ends.{IsAsked}
 use Rattle.aj_blame.specs.Waiting.{Adds, AreSaid, cells_with, AreSettled, AreWoken, IsAsleep}
-use Rattle.aj_blame.proofs.Sets.{both_below, join_const}
+use Rattle.aj_blame.proofs.Sets.{join_const}
 use Rattle.aj_blame.proofs.Over.{over_least, over_above}
 use Rattle.aj_blame.proofs.FloorLaws.{floor_more}
 use Rattle.aj_blame.proofs.TableLemmas.{lines_is}

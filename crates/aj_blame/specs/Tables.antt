@@ -1,22 +1,14 @@
 -- What the calls keep for each method: the greatest of what the lines so far say of it, at each part of its relevant paths.
-use Rattle.std.specs.Prelude.{◌≡◌, ℕ, ◌+◌, ◌<◌, ◌==◌, Bool, true, false, List, [], ◌∷◌, ◌++◌, length, take, drop, ◌/◌, if◌then◌else◌}
+use Rattle.std.specs.Prelude.{◌≡◌, ℕ, ◌+◌, ◌<◌, ◌==◌, true, false, List, [], ◌∷◌, ◌++◌, length, if◌then◌else◌}
 use Rattle.aj_paths.specs.Paths.{PathData}
 use Rattle.aj_algebra.specs.declared.basic.Basic.{Basic}
 use Rattle.aj_algebra.specs.declared.basic.Basic.TheVariants.{Const}
 use Rattle.aj_algebra.specs.Basics.{join_of}
 use Rattle.aj_algebra.specs.HeldPaths.{Held, has_path}
+use Rattle.aj_algebra.specs.Tables.{front, half, count_of_parts}
 use Rattle.aj_rules.specs.Effect.{Assignment}
 use Rattle.aj_rules.specs.Search.{row_at}
 use Rattle.aj_blame.specs.Lines.{LineData, floor}
-
--- the first basic of a table; const where there is none
-abbrev pub front : List Basic → Basic
-front [] = Const
-front (b ∷ bs) = b
-
--- the second half of a table where a test passes, else the first
-abbrev pub half : Bool → List Basic → List Basic
-half passes table = if passes then drop (length table / 2) table else take (length table / 2) table
 
 -- the entry of a table at a set: of each path that is held the second half is taken, else the first
 abbrev pub entry : (rel : List PathData) → List Basic → Held → Basic
@@ -26,11 +18,6 @@ entry (p ∷ ps) table H = entry ps (half (H p) table) H
 -- what the tables of all methods say
 abbrev pub said_by : (rel : ℕ → List PathData) → List (List Basic) → Assignment
 said_by rel tables m H = entry (rel m) (row_at tables m) H
-
--- how many parts a list of paths has
-abbrev pub count_of_parts : List PathData → ℕ
-count_of_parts [] = 1
-count_of_parts (p ∷ ps) = count_of_parts ps + count_of_parts ps
 
 -- the table with const at each part
 abbrev pub consts : (rel : List PathData) → List Basic

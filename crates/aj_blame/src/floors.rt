@@ -1,10 +1,11 @@
 //! What the lines so far say of each method.
 ghost use Rattle.std.specs.Prelude.{◌≡◌, ◌∷◌, ◌++◌, ◌<◌, ℕ, List, [], length, IfOk, OnOk};
 ghost use Rattle.aj_algebra.specs.HeldPaths.{has_path};
+ghost use Rattle.aj_algebra.specs.Tables.{front, half};
 ghost use Rattle.aj_rules.specs.Near.{rel_of};
 ghost use Rattle.aj_rules.specs.Search.{row_at};
 ghost use Rattle.aj_blame.specs.Lines.{LineData};
-ghost use Rattle.aj_blame.specs.Tables.{IsRaised, Says, consts, entry, front, half, raised};
+ghost use Rattle.aj_blame.specs.Tables.{IsRaised, Says, consts, entry, raised};
 
 use aj_algebra::Basic;
 use aj_effect_at::Assigned;

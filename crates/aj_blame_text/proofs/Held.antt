@@ -3,8 +3,7 @@ use Rattle.std.proofs.Common.{◌≡◌, ℕ, zero, suc, ◌<◌, ◌≤◌, tru
 use Rattle.std.specs.Prelude.{Option, if◌then◌else◌}
 use Rattle.std.specs.List.{AllByRecursion}
 use Rattle.std.specs.List.Sorted.{IsStrictlySortedBy}
-use Rattle.std.specs.declared.cmp.Ordering.{Ordering}
-use Rattle.std.specs.declared.cmp.Ordering.TheVariants.{Less, Equal, Greater}
+use Rattle.std.specs.declared.cmp.Ordering.TheVariants.{Less}
 use Rattle.aj_lemmas.proofs.Options.{choice_same}
 use Rattle.aj_paths.specs.Paths.{PathData, path_order}
 use Rattle.aj_paths.proofs.PathOrder.{less_chain}
@@ -20,7 +19,7 @@ use Rattle.aj_book_grammar.proofs.Complete.{stops, complete_number, complete_fie
 use Rattle.aj_book_grammar.proofs.Several.{next_same}
 use Rattle.aj_book_grammar.proofs.Sound.{SoundAt, Bytes, sound_seq, sound_done, sound_if, sound_weaker, sound_expect}
 use Rattle.aj_book_grammar.proofs.SoundTrees.{ReadsPath, sound_path}
-use Rattle.aj_book_grammar.proofs.TableLaws.{moved}
+use Rattle.aj_book_grammar.proofs.TableLaws.{moved, less_is}
 use Rattle.aj_blame_text.specs.Reading.{later_path, held_item, held_most, held_at}
 use Rattle.aj_blame_text.specs.Texts.{held_text}
 
@@ -28,11 +27,6 @@ use Rattle.aj_blame_text.specs.Texts.{held_text}
 abbrev pub Ascends : Option PathData → List PathData → Type 0
 Ascends before [] = Unit {0}
 Ascends before (p ∷ ps) = (comes_after before p ≡ true) × Ascends (Some p) ps
-
-less_is : (o : Ordering) → is_less o ≡ true → o ≡ Less
-less_is Less e = refl
-less_is Equal e = absurd (let f : false ≡ true = e in cc)
-less_is Greater e = absurd (let f : false ≡ true = e in cc)
 
 -- a path before the first of them is before all
 after_all : (q : PathData) (ps : List PathData) → Ascends (Some q) ps → AllByRecursion (λ y. path_order q y ≡ Less) ps

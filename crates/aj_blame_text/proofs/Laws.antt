@@ -10,6 +10,7 @@ use Rattle.aj_book_grammar.proofs.Complete.{complete_number}
 use Rattle.aj_book_grammar.proofs.PassLemmas.{pass_seq, pass_same}
 use Rattle.aj_book_grammar.proofs.Several.{unseen_fault}
 use Rattle.aj_book_grammar.proofs.Sound.{SoundAt, Bytes, IsNumber, RowOf, sound_seq, sound_weaker, sound_expect, sound_number, sound_exactly}
+use Rattle.aj_book_grammar.proofs.CursorLaws.{nothing_left}
 use Rattle.aj_blame.specs.Lines.{LineData, AreAscending}
 use Rattle.aj_blame_text.specs.Reading.{line_at, count_at, end_at, blame_at, stop_of, first_fault}
 use Rattle.aj_blame_text.specs.Passing.{pass_lines, pass_blame}
@@ -34,17 +35,6 @@ sound_end ts =
     sound_seq (Bytes (codes "end" ++ (newline ∷ []))) (Bytes (codes "end" ++ (newline ∷ []))) ts (expect (codes "end" ++ (newline ∷ [])) ts) (λ u ts. nothing ts) (sound_expect (codes "end" ++ (newline ∷ [])) ts)
     (λ u r. sound_weaker (Bytes []) (λ ys b. (xs : List ℕ) → Bytes (codes "end" ++ (newline ∷ [])) xs u → Bytes (codes "end" ++ (newline ∷ [])) (xs ++ ys) b) r
     (λ front v none xs e. (λ i. e i ++ none i) ∙ append-nil (codes "end" ++ (newline ∷ []))) (nothing r) (sound_nothing r))
-
-same_rest : {A : Type 0} (a b : A) (x y : List ℕ) → (let p : Res A = Ok (a, x) in p ≡ Ok (b, y)) → x ≡ y
-same_rest {A} a b x y e = ap (λ z. z.1) (pair (a, x) (b, y) e)
-  where
-    pair : (p q : A × List ℕ) → (let r : Res A = Ok p in r ≡ Ok q) → p ≡ q
-    pair p q h = cc
-
--- nothing stands behind the end
-nothing_left : (ts r : List ℕ) (u : Unit {0}) → nothing ts ≡ Ok (u, r) → r ≡ []
-nothing_left [] r u e = sym (same_rest tt u [] r e)
-nothing_left (x ∷ ts) r u e = absurd (cc)
 
 end_left : (ts r : List ℕ) (u : Unit {0}) → end_at ts ≡ Ok (u, r) → r ≡ []
 unfolding end_at

@@ -20,7 +20,7 @@ use Rattle.aj_book_grammar.specs.Combine.{Res, ◌>>=◌, begins, expect, furthe
 use Rattle.aj_book_grammar.specs.Faults.{fault_at, fault_of, first_fault}
 use Rattle.aj_book_grammar.specs.Reading.{number_at, number_digits, is_empty, fields_at, path_at, leaf_at, basics, test_with, tree_at, canonical_at, table_line, word_at_front, premise_with, node_at, line_at, lines_at, nothing, count_at, book_at}
 use Rattle.aj_book_grammar.proofs.Sound.{SoundAt, Bytes, Spells, Row, row_end, row_more, RowOf, IsNumber, sound_number}
-use Rattle.aj_book_grammar.proofs.SoundTrees.{test_text}
+use Rattle.aj_book_grammar.proofs.SoundTrees.{test_text, point}
 use Rattle.aj_book_grammar.proofs.PassLemmas.{front_taken}
 use Rattle.aj_book_grammar.specs.Fronts.{HasFewFields, HaveFewFields, IsFront}
 
@@ -139,13 +139,6 @@ front_small end positive small ts =
 record FieldsText (most : ℕ) (front : List ℕ) (fields : List ℕ) : Type 0 where
   spelled : front ≡ dotted fields
   few : length fields ≤ most
-
-point : (ts : List ℕ) → begins 46 ts ≡ true → ts ≡ 46 ∷ drop 1 ts
-point [] e = absurd (let no : false ≡ true = e in cc)
-point (b ∷ ts) e = ap (λ z. z ∷ ts) (same b e)
-  where
-    same : (b : ℕ) → begins 46 (b ∷ ts) ≡ true → b ≡ 46
-    same b e = grind (arith, nat_tests)
 
 more_fields : (most : ℕ) (xs ys : List ℕ) (f : ℕ) (fs : List ℕ) → Numeral xs f → FieldsText most ys fs → FieldsText (suc most) (46 ∷ (xs ++ ys)) (f ∷ fs)
 more_fields most xs ys f fs n more = record { spelled = (λ i. 46 ∷ (n i ++ more.spelled i)) ∙ refl; few = omega (arith, more.few) }
@@ -345,12 +338,12 @@ front_book ts =
     )
 
 -- the place of a fault
-place_in : BookFault → ℕ
+pub place_in : BookFault → ℕ
 place_in (faults.Form place) = place
 place_in (faults.TooDeep place) = place
 place_in other = 0
 
-place_in-is : (kind : Kind) (place : ℕ) → place_in (fault_at kind place) ≡ place
+pub place_in-is : (kind : Kind) (place : ℕ) → place_in (fault_at kind place) ≡ place
 unfolding place_in
 place_in-is Form place = refl
 place_in-is TooDeep place = refl

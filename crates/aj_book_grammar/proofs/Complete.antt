@@ -7,6 +7,7 @@ use Rattle.std.proofs.lemmas.Bool.Decides.{nat_tests}
 use Rattle.std.specs.Char.{is_ascii_digit}
 use Rattle.std.specs.List.{take_while, list_all}
 use Rattle.std.specs.Str.Parse.{digits_value}
+use Rattle.std.proofs.Math.Seq.{drop-append_seam}
 use Rattle.aj_paths.specs.Paths.{PathData}
 use Rattle.aj_algebra.specs.declared.basic.Basic.{Basic}
 use Rattle.aj_algebra.specs.declared.basic.Basic.TheVariants as b
@@ -60,10 +61,6 @@ digits_front (byte ∷ ds) more some one all stop =
     empty [] e = refl
     empty (d ∷ ds) e = absurd (omega (arith, e))
 
-drop_front : (ds more : List ℕ) → drop (length ds) (ds ++ more) ≡ more
-drop_front [] more = refl
-drop_front (d ∷ ds) more = drop_front ds more
-
 lead : (n : ℕ) → n < 2 ^ 64 → get_or (decimal n) 0 0 ≡ 48 → length (decimal n) ≡ 1
 lead zero small e = ap length (decimal_digit 0 (omega arith))
 lead (suc n) small e = absurd (omega (arith, first_decimal (suc n) (omega arith) small, e))
@@ -80,7 +77,7 @@ complete_number end n more below small stop =
     let first : number_digits (decimal n ++ more) ≡ decimal n = digits_front (decimal n) more (decimal_nonempty n fits) (lead n fits) (digits_decimal numerals n fits) stop in
     number_with-is end (decimal n ++ more) ∙ ap (λ ds. number_with end ds (decimal n ++ more)) first
     ∙ number_if end n (decimal n) (decimal n ++ more) (some (decimal n) (decimal_nonempty n fits)) (lt-ltb n end below) (digits_value-decimal numerals n fits)
-    ∙ ap (λ z. Ok (n, z)) (drop_front (decimal n) more)
+    ∙ ap (λ z. Ok (n, z)) (drop-append_seam (decimal n) more)
   where
     some : (ds : List ℕ) → 0 < length ds → is_empty ds ≡ false
     some [] e = absurd (omega (arith, e))

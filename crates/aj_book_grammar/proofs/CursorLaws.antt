@@ -23,7 +23,7 @@ use Rattle.aj_book_grammar.proofs.BookLaws.{book_found, found_text, book_fault, 
 
 -- opening
 
-nothing_left : (ts r : List ℕ) (u : Unit {0}) → nothing ts ≡ Ok (u, r) → r ≡ []
+pub nothing_left : (ts r : List ℕ) (u : Unit {0}) → nothing ts ≡ Ok (u, r) → r ≡ []
 nothing_left [] r u e = sym (rest_same e)
   where
     equal : (y z : Unit {0} × List ℕ) → (let p : Res (Unit {0}) = Ok y in p ≡ Ok z) → y ≡ z

@@ -4,7 +4,7 @@ pub mod PassBooks
 pub mod BookLaws
 pub mod CursorLaws
 pub mod TableLaws
-mod BeforeFaults
+pub mod BeforeFaults
 mod Digits
 mod Fronts
 pub mod Sound

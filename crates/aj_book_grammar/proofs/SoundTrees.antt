@@ -21,7 +21,7 @@ record AreFields (most : ℕ) (front : List ℕ) (fields : List ℕ) : Type 0 wh
   fit : list_all (λ f. nat_lt f (2 ^ 32)) fields ≡ true
   few : length fields ≤ most
 
-point : (ts : List ℕ) → begins 46 ts ≡ true → ts ≡ 46 ∷ drop 1 ts
+pub point : (ts : List ℕ) → begins 46 ts ≡ true → ts ≡ 46 ∷ drop 1 ts
 point [] e = absurd (let no : false ≡ true = e in cc)
 point (b ∷ ts) e = ap (λ z. z ∷ ts) (same b e)
   where

@@ -1,6 +1,8 @@
 -- Premises as nodes, and tables built from their text.
 use Rattle.std.proofs.Common.{◌≡◌, ℕ, zero, suc, ◌-◌, ◌<◌, ◌^◌, Bool, true, false, List, [], ◌∷◌, ◌++◌, map, length, codes, Some, None, Ok, Err, if◌then◌else◌, refl, sym, ◌∙◌, ap, subst, arith, append_assoc, append-nil}
 use Rattle.std.proofs.lemmas.List.{map-append}
+use Rattle.std.specs.declared.cmp.Ordering.{Ordering}
+use Rattle.std.specs.declared.cmp.Ordering.TheVariants.{Less, Equal, Greater}
 use Rattle.aj_cond.specs.Conditions.{Cond, cond_of}
 use Rattle.aj_cond.specs.declared.tree.Tree.{Tree}
 use Rattle.aj_book_grammar.specs.declared.stop.Kind.TheVariants.{Form}
@@ -9,7 +11,7 @@ use Rattle.aj_book_grammar.specs.declared.cursor.Premises.{Premises}
 use Rattle.aj_book_grammar.specs.declared.cursor.MethodView.{MethodView}
 use Rattle.aj_book_grammar.specs.declared.cursor.BookCursor.{BookCursor}
 use Rattle.aj_book_grammar.specs.Derivations.{Node, node, Nodes, no_nodes, and_node, premises_of, word_at, number_of}
-use Rattle.aj_book_grammar.specs.Books.{Line, Book, AreLines, is_canonical, most_height}
+use Rattle.aj_book_grammar.specs.Books.{Line, Book, AreLines, is_less, is_canonical, most_height}
 use Rattle.aj_book_grammar.specs.Texts.{newline, table_text}
 use Rattle.aj_book_grammar.specs.Combine.{Res, ◌>>=◌, expect, exactly}
 use Rattle.aj_book_grammar.specs.Reading.{node_at, tree_at, canonical_at, table_line}
@@ -17,6 +19,12 @@ use Rattle.aj_book_grammar.specs.Views.{IsViewOf, ArePremises, IsNext, IsNextLin
 use Rattle.aj_book_grammar.proofs.Complete.{complete_node, complete_several, from_list}
 use Rattle.aj_book_grammar.proofs.BookLaws.{after_ok, complete_table, complete_lines}
 use Rattle.aj_book_grammar.proofs.CursorLaws.{widened_one}
+
+-- an order of which the test says that it is less
+pub less_is : (o : Ordering) → is_less o ≡ true → o ≡ Less
+less_is Less e = refl
+less_is Equal e = absurd (let f : false ≡ true = e in cc)
+less_is Greater e = absurd (let f : false ≡ true = e in cc)
 
 -- premises
 

@@ -5,6 +5,7 @@ use Rattle.std.proofs.lemmas.List.Sums.{take_while-cons}
 use Rattle.std.specs.Char.{is_ascii_digit}
 use Rattle.std.specs.List.{take_while}
 use Rattle.std.specs.Str.Parse.{digits_value}
+use Rattle.std.proofs.Math.Seq.{drop-append_seam}
 use Rattle.aj_paths.specs.Paths.{most_fields}
 use Rattle.aj_book_grammar.specs.declared.stop.Kind.TheVariants.{Form}
 use Rattle.aj_book_grammar.specs.Combine.{Res, ◌>>=◌, begins}
@@ -70,10 +71,6 @@ with_digits-is : (end : ℕ) (ts : List ℕ) → number_at end ts ≡ with_digit
 unfolding number_at with_digits
 with_digits-is end ts = refl
 
-drop_front : (ds more : List ℕ) → drop (length ds) (ds ++ more) ≡ more
-drop_front [] more = refl
-drop_front (d ∷ ds) more = drop_front ds more
-
 none_of : (ds : List ℕ) → is_empty ds ≡ true → ds ≡ []
 none_of [] e = refl
 none_of (d ∷ ds) e = absurd (let no : false ≡ true = e in cc)
@@ -82,11 +79,11 @@ number_ok : (end : ℕ) (ts ds rest : List ℕ) → Digits ts ds → is_empty ds
 unfolding with_digits
 number_ok end ts ds [] d some small behind = tt
 number_ok end ts ds (c ∷ r) d some small behind = λ more.
-    let is : d.rest ≡ c ∷ r = sym (ap (λ z. drop (length ds) z) d.whole ∙ drop_front ds d.rest) ∙ behind in
+    let is : d.rest ≡ c ∷ r = sym (ap (λ z. drop (length ds) z) d.whole ∙ drop-append_seam ds d.rest) ∙ behind in
     with_digits-is end (ds ++ (c ∷ more)) ∙ ap (λ z. with_digits end z (ds ++ (c ∷ more))) (d.stays c r more is)
     ∙ ap (λ t. if t || not (nat_lt (digits_value 10 ds) end) then Err (Form, ds ++ (c ∷ more)) else Ok (digits_value 10 ds, drop (length ds) (ds ++ (c ∷ more)))) some
     ∙ ap (λ t. if not t then Err (Form, ds ++ (c ∷ more)) else Ok (digits_value 10 ds, drop (length ds) (ds ++ (c ∷ more)))) small
-    ∙ ap (λ z. Ok (digits_value 10 ds, z)) (drop_front ds (c ∷ more))
+    ∙ ap (λ z. Ok (digits_value 10 ds, z)) (drop-append_seam ds (c ∷ more))
 
 no_number : (B : List ℕ → Type 0) (end : ℕ) (ts ds : List ℕ) → Digits ts ds → ds ≡ [] → AfterErr B (number_at end) [] Form ts
 unfolding with_digits
@@ -107,7 +104,7 @@ number_case B end broken ts true small e h = ([], refl, no_number B end ts (numb
 number_case B end broken ts false false e h = ([], refl, past B end broken ts e h)
 number_case B end broken ts false true e h =
     let d = digits_of ts in
-    let behind : drop (length (number_digits ts)) ts ≡ d.rest = ap (λ z. drop (length (number_digits ts)) z) d.whole ∙ drop_front (number_digits ts) d.rest in
+    let behind : drop (length (number_digits ts)) ts ≡ d.rest = ap (λ z. drop (length (number_digits ts)) z) d.whole ∙ drop-append_seam (number_digits ts) d.rest in
     (number_digits ts, d.whole ∙ ap (λ z. number_digits ts ++ z) (sym behind), number_ok end ts (number_digits ts) (drop (length (number_digits ts)) ts) d e h refl)
 
 pub local_number : (B : List ℕ → Type 0) (end : ℕ) → ((rest : List ℕ) → IsPast end rest → B rest) → (ts : List ℕ) → Local B (number_at end) ts

@@ -2,8 +2,6 @@
 use Rattle.std.proofs.Common.{◌≡◌, ◌⊎◌, inl, inr, ℕ, zero, suc, ◌+◌, ◌-◌, ◌<◌, ◌≤◌, ◌^◌, List, [], ◌∷◌, ◌++◌, length, length-append, take, drop, codes, Option, Some, None, Ok, Err, refl, sym, ◌∙◌, ap, subst, arith, append_assoc}
 use Rattle.std.proofs.lemmas.Option.{same_Some}
 use Rattle.aj_book_grammar.specs.declared.stop.Kind.{Kind}
-use Rattle.aj_book_grammar.specs.declared.stop.Kind.TheVariants.{Form, TooDeep}
-use Rattle.aj_book_grammar.specs.declared.stop.BookFault.{BookFault}
 use Rattle.aj_book_grammar.specs.declared.stop.BookFault.TheVariants as faults
 use Rattle.aj_book_grammar.specs.Books.{Book}
 use Rattle.aj_book_grammar.specs.Texts.{newline, IsTextOf}
@@ -12,6 +10,7 @@ use Rattle.aj_book_grammar.specs.Faults.{fault_at, fault_of, first_fault}
 use Rattle.aj_book_grammar.specs.Reading.{number_at, table_line, lines_at, count_at, book_at}
 use Rattle.aj_book_grammar.proofs.Sound.{SoundAt, sound_seq, sound_expect, sound_number, Bytes, IsNumber}
 use Rattle.aj_book_grammar.proofs.BookLaws.{complete_book}
+use Rattle.aj_book_grammar.proofs.BeforeFaults.{place_in, place_in-is}
 use Rattle.aj_book_laws.specs.Broken.{IsPast, IsUncanonical, Counts, IsBroken, root, number, conclusion, tree}
 use Rattle.aj_book_laws.proofs.Locals.{AfterErr, IsLocal, Local, local_known, local_seq, local_done, local_expect}
 use Rattle.aj_book_laws.proofs.Numbers.{local_number}
@@ -53,16 +52,6 @@ local_book bytes =
     local_done B (record { table = trees; lines = lines }) r
 
 -- ---- the place of a fault
-
-place_in : BookFault → ℕ
-place_in (faults.Form place) = place
-place_in (faults.TooDeep place) = place
-place_in other = 0
-
-place_in-is : (kind : Kind) (place : ℕ) → place_in (fault_at kind place) ≡ place
-unfolding place_in
-place_in-is Form place = refl
-place_in-is TooDeep place = refl
 
 take_front : (front : List ℕ) (b : ℕ) (r : List ℕ) → take (length front + 1) (front ++ (b ∷ r)) ≡ front ++ (b ∷ [])
 take_front [] b r = refl

@@ -4,7 +4,7 @@ mod Meanings
 mod Places
 mod Climbing
 mod Rows
-mod Parted
+pub mod Parted
 mod Repeats
 mod Wholes
 mod Alone

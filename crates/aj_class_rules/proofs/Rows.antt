@@ -1,7 +1,7 @@
 -- The methods of each class, as they are kept.
 use Rattle.std.proofs.Common.{◌≡◌, ℕ, ◌+◌, ◌≤◌, zero, suc, List, [], ◌∷◌, ◌++◌, map, drop, length, refl, ap, sym, ◌∙◌, slice_get, arith}
 use Rattle.std.proofs.Math.Path.{fun_ext}
-use Rattle.std.proofs.lemmas.List.{append-nil}
+use Rattle.std.proofs.lemmas.List.{append-nil, drop_all}
 use Rattle.aj_syntax.specs.declared.tree.Class.{Class}
 use Rattle.aj_syntax.specs.Views.{class_of}
 use Rattle.aj_syntax.specs.Trees.{ClassTree, ProgramTree}
@@ -17,14 +17,8 @@ row_is tree k (c ∷ cs) (suc i) n e = row_is tree (k + 1) cs i n (omega (arith,
 pub rows_are : (tree : ProgramTree) (rows : List (List Heading)) → rows ≡ all_headings tree 0 tree → row_at rows ≡ headings_at tree
 rows_are tree rows is = fun_ext (λ j. ap (λ r. row_at r j) is ∙ row_is tree 0 tree j j (omega arith))
 
-nothing_left : {A : Type 0} (xs : List A) (i : ℕ) → length xs ≤ i → drop i xs ≡ []
-nothing_left [] zero past = refl
-nothing_left [] (suc i) past = refl
-nothing_left (x ∷ xs) zero past = absurd (omega (arith, past))
-nothing_left (x ∷ xs) (suc i) past = nothing_left xs i (omega (arith, past))
-
 -- when all classes were passed, the rows are those of all
 pub rows_end : (tree : ProgramTree) (xs : List Class) (i : ℕ) (rows : List (List Heading)) → length xs ≤ i → rows ++ all_headings tree i (map class_of (drop i xs)) ≡ all_headings tree 0 tree
     → row_at rows ≡ headings_at tree
 rows_end tree xs i rows past so_far =
-    rows_are tree rows (sym (append-nil rows) ∙ ap (λ z. rows ++ all_headings tree i (map class_of z)) (sym (nothing_left xs i past)) ∙ so_far)
+    rows_are tree rows (sym (append-nil rows) ∙ ap (λ z. rows ++ all_headings tree i (map class_of z)) (sym (drop_all i xs past)) ∙ so_far)

@@ -20,6 +20,7 @@ use Rattle.aj_level_commands.proofs.LevelEndings.{levels_caused, levels_apart}
 use Rattle.aj_replay_commands.proofs.ReplayEndings.{replay_caused, replay_apart}
 use Rattle.aj_schedule_commands.proofs.GenerateEndings.{generate_caused, generate_apart}
 use Rattle.aj_outcomes.specs.Said.{Yields}
+use Rattle.aj_outcomes.proofs.Statuses.{yield_range}
 use Rattle.aj_commands.specs.Answers.{Answer, Fact, Belongs, too_large, ended, IsExact}
 
 -- `check`: each ending has its fact, and one alone
@@ -226,12 +227,6 @@ exact_answer row files _ _ (ended ending text within answer) = record {
     all = λ f. inl (ap code_of (apart row.command files ending other (caused row.command files ending text answer) f.1));
   };
 }
-
--- a status that stands in the place of all of them
-yield_range : (status : ℕ) → Yields status → (6 ≤ status) × (status ≤ 8)
-yield_range status (inl e) = (omega arith, omega arith)
-yield_range status (inr (inl e)) = (omega arith, omega arith)
-yield_range status (inr (inr e)) = (omega arith, omega arith)
 
 pub exact_yield : (row : Row) (files : List (List ℕ)) (status : ℕ) → Yields status → IsExact row files status
 exact_yield row files status y =

@@ -1,13 +1,11 @@
 -- Trees after a path, and the test of equality.
-use Rattle.std.proofs.Common.{◌≡◌, ◌==◌, ◌&&◌, ℕ, Bool, true, false, refl, sym, ◌∙◌, ap, subst, eqb-true, eq-eqb, if◌then◌else◌}
+use Rattle.std.proofs.Common.{◌≡◌, ◌&&◌, Bool, true, false, refl, ap, subst, eqb-true, eq-eqb, if◌then◌else◌}
 use Rattle.std.specs.Cmp.{first_so, second_so}
 use Rattle.std.specs.declared.cmp.Ordering.TheVariants.{Less}
 use Rattle.aj_paths.specs.Paths.{PathData, path_order, path_eq}
 use Rattle.aj_paths.proofs.PathOrder.{eq_is, eq_itself, less_chain}
-use Rattle.aj_algebra.specs.declared.basic.Basic.{Basic}
-use Rattle.aj_algebra.specs.declared.basic.Basic.TheVariants as basics
-use Rattle.aj_algebra.specs.Basics.{rank_of}
 use Rattle.aj_algebra.specs.HeldPaths.{Held, with_path}
+use Rattle.aj_algebra.proofs.Ranks.{same_rank}
 use Rattle.aj_cond.specs.Conditions.{Cond, LeafC, TestC, value_of, IsAfter, IsCanonical, cond_eq}
 use Rattle.aj_cond.proofs.PathLemmas.{put, put_later, with_later}
 
@@ -36,22 +34,8 @@ put_after p v t H after = same_later p t H (put p v H) (put_later p v H) after
 pub with_after : (p : PathData) (t : Cond) (H : Held) → IsAfter p t → value_of t (with_path p H) ≡ value_of t H
 with_after p t H after = same_later p t H (with_path p H) (with_later p H) after
 
-basic_of : ℕ → Basic
-basic_of n = if n == 0 then basics.Const else if n == 1 then basics.Mover else if n == 2 then basics.Atomic else if n == 3 then basics.Cmpd else basics.Error
-
-basic_of-rank : (b : Basic) → basic_of (rank_of b) ≡ b
-unfolding basic_of
-basic_of-rank basics.Const = refl
-basic_of-rank basics.Mover = refl
-basic_of-rank basics.Atomic = refl
-basic_of-rank basics.Cmpd = refl
-basic_of-rank basics.Error = refl
-
-same_rank : (b c : Basic) → (rank_of b == rank_of c) ≡ true → b ≡ c
-same_rank b c e = sym (basic_of-rank b) ∙ ap basic_of (eqb-true _ _ e) ∙ basic_of-rank c
-
 pub cond_eq-is : (t u : Cond) → cond_eq t u ≡ true → t ≡ u
-cond_eq-is (LeafC b) (LeafC c) e = ap LeafC (same_rank b c e)
+cond_eq-is (LeafC b) (LeafC c) e = ap LeafC (same_rank b c (eqb-true _ _ e))
 cond_eq-is (LeafC b) (TestC q c d) e = absurd (let no : false ≡ true = e in cc)
 cond_eq-is (TestC p a b) (LeafC c) e = absurd (let no : false ≡ true = e in cc)
 cond_eq-is (TestC p a b) (TestC q c d) e =

@@ -31,9 +31,6 @@ put_same p v H = ap (λ b. if b then v else H p) (eq_itself p)
 pub put_later : (p : PathData) (v : Bool) (H : Held) (q : PathData) → path_order p q ≡ Less → put p v H q ≡ H q
 put_later p v H q less = ap (λ b. if b then v else H q) (less_not_eq p q less)
 
-pub with_same : (p : PathData) (H : Held) → with_path p H p ≡ true
-with_same p H = ap (λ b. b || H p) (eq_itself p)
-
 pub with_later : (p : PathData) (H : Held) (q : PathData) → path_order p q ≡ Less → with_path p H q ≡ H q
 with_later p H q less = ap (λ b. b || H q) (less_not_eq p q less)
 

@@ -7,9 +7,10 @@ use Rattle.aj_algebra.specs.declared.basic.Basic.{Basic}
 use Rattle.aj_algebra.specs.Basics.{lift_of}
 use Rattle.aj_algebra.specs.HeldPaths.{Held, with_path}
 use Rattle.aj_algebra.specs.Values.{sync_of}
+use Rattle.aj_algebra.proofs.Sets.{with_itself}
 use Rattle.aj_cond.specs.Conditions.{Cond, LeafC, TestC, value_of, IsAfter, IsCanonical}
 use Rattle.aj_cond.specs.Operations.{node, each_leaf, sync_tree}
-use Rattle.aj_cond.proofs.PathLemmas.{with_same, with_earlier}
+use Rattle.aj_cond.proofs.PathLemmas.{with_earlier}
 use Rattle.aj_cond.proofs.CondLemmas.{with_after}
 use Rattle.aj_cond.proofs.NodeLemmas.{Is, Parts, node-after, by_order-after, by_order-is, parts-tied, parts-none, parts-later}
 use Rattle.aj_cond.proofs.LeafLemmas.{node_of, as_values, each-after, each-is}
@@ -18,7 +19,7 @@ use Rattle.aj_cond.proofs.LeafLemmas.{node_of, as_values, each-after, each-is}
 with_parts : (p : PathData) (t a b : Cond) → Parts p t a b → (H : Held) → value_of t (with_path p H) ≡ value_of a H
 with_parts p t a b parts H =
     parts.splits (with_path p H)
-    ∙ ap (λ v. if v then value_of a (with_path p H) else value_of b (with_path p H)) (with_same p H)
+    ∙ ap (λ v. if v then value_of a (with_path p H) else value_of b (with_path p H)) (with_itself p H)
     ∙ with_after p a H parts.after_a
 
 if_then : (c : Bool) (x y z : Basic) → (if c then x else z) ≡ (if c then (if c then x else y) else z)

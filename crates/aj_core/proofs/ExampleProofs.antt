@@ -1,8 +1,8 @@
 -- The example programs are typed: each fact by computation.
 use Rattle.std.proofs.Common.{◌≡◌, ◌<◌, ◌≤◌, length, Bool, ℕ, zero, suc, ◌+◌, List, [], ◌∷◌, Some, None, true, false, refl, sym, ap, subst, ◌∙◌, arith}
-use Rattle.std.specs.Prelude.{slice_get, filter, IfSome, Option, unwrap_or, T, ◌==◌, if◌then◌else◌}
+use Rattle.std.specs.Prelude.{slice_get, filter, IfSome, Option, unwrap_or, ◌==◌, if◌then◌else◌}
 use Rattle.std.proofs.lemmas.Option.{none-some, same_Some}
-use Rattle.std.proofs.lemmas.Bool.{eqb-true}
+use Rattle.std.proofs.lemmas.Bool.{eqb-true, false≢true}
 use Rattle.aj_paths.specs.Paths.{path_order}
 use Rattle.std.specs.List.Sorted.{IsStrictlySortedBy}
 use Rattle.aj_core.specs.declared.types.CoreType.TheVariants as type
@@ -13,9 +13,6 @@ use Rattle.aj_core.specs.Types.{Variable}
 use Rattle.aj_core.specs.Typed.{IsTyped, IsTypedClass, IsTypedField, IsTypedMethod, IsEntry, IsLock, IsTypedStmt, fields_from, is_final_at, declared_in}
 use Rattle.aj_core.specs.Sizes.{stmt_height, stmt_nodes}
 use Rattle.aj_core.specs.Examples.{this_path, plain_class, plain_method, inc_body, run_body, start_worker, guarded_main, counter, nested, returns_locked, divides_by_zero, reads_unlocked}
-
-no_truth : false ≡ true → ⊥
-no_truth e = subst T (sym e) tt
 
 -- P holds of each element with its place, where the first has this place
 abbrev pub EachFrom : {A : Type 0} → (ℕ → A → Type 0) → ℕ → List A → Type 0
@@ -72,8 +69,8 @@ counter_classes = (
 
 counter_fields : EachFrom (IsTypedField counter) 0 counter.fields
 counter_fields = (
-  record { class = _; of_class = refl; index = refl; ty = tt; guard = record { root_class = 0; root = refl; fields = tt; short = omega arith }; unguarded = λ e. absurd (no_truth e); writes = λ e. absurd (no_truth e) },
-  (record { class = _; of_class = refl; index = refl; ty = omega arith; guard = tt; unguarded = λ e. refl; writes = λ e. absurd (no_truth e) }, tt),
+  record { class = _; of_class = refl; index = refl; ty = tt; guard = record { root_class = 0; root = refl; fields = tt; short = omega arith }; unguarded = λ e. absurd (false≢true e); writes = λ e. absurd (false≢true e) },
+  (record { class = _; of_class = refl; index = refl; ty = omega arith; guard = tt; unguarded = λ e. refl; writes = λ e. absurd (false≢true e) }, tt),
 )
 
 this_lock : (c : ℕ) (P : Program) (scope : List Variable) → IsLock P c scope this_path
@@ -93,7 +90,7 @@ plain_typed P class place_at annotated body there no_locals typed low = record {
   ascending = none_ascend;
   slots = sym (ap (λ n. 1 + n) no_locals);
   body = typed;
-  returns = λ e. absurd (no_truth e);
+  returns = λ e. absurd (false≢true e);
   low = low;
   few_params = omega arith;
   few_locals = subst (λ n. n ≤ 64) (sym no_locals) (omega arith);
@@ -117,7 +114,7 @@ counter_methods = (
         ascending = none_ascend;
         slots = refl;
         body = ((refl, omega arith, (_, (_, refl, tt, refl), refl)), (worker_is_typed, (worker_is_typed, tt)));
-        returns = λ e. absurd (no_truth e);
+        returns = λ e. absurd (false≢true e);
         low = omega arith;
         few_params = omega arith;
         few_locals = omega arith;
@@ -177,7 +174,7 @@ guarded_main_is_typed writes_only place_at annotated body no_locals typed low sm
     let P = guarded_main writes_only place_at annotated body in
     record {
       classes = each (IsTypedClass P) P.classes (plain_class_typed P 0 _ _ _ 0 (one_above writes_only place_at annotated body) (_, refl, refl) (λ m mine. one_owner writes_only place_at annotated body m mine) (omega arith) refl refl tt (omega arith), tt);
-      fields = each (IsTypedField P) P.fields (record { class = _; of_class = refl; index = refl; ty = tt; guard = this_lock 0 P []; unguarded = λ e. absurd (no_truth e); writes = λ e. refl }, tt);
+      fields = each (IsTypedField P) P.fields (record { class = _; of_class = refl; index = refl; ty = tt; guard = this_lock 0 P []; unguarded = λ e. absurd (false≢true e); writes = λ e. refl }, tt);
       overriding = λ over m first second o. absurd (none_overrides P (themselves P P.classes (λ m n is. pair_itself 0 m n is, tt)) over m o);
       methods = each (λ m. IsTypedMethod P) P.methods (plain_typed P 0 place_at annotated body (omega arith) no_locals typed low, tt);
       main = record { method = _; is = refl; of_class = refl; no_parameters = refl; no_result = refl; no_locks = refl };

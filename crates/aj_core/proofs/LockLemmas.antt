@@ -26,7 +26,7 @@ number_or _ = 0
 class_same : (c : ℕ) (t : CoreType) → class_type c ≡ ValueT t → t ≡ type.Class c
 class_same c t e = ap type_or (sym e)
 
-number_same : (c d : ℕ) → type.Class c ≡ type.Class d → c ≡ d
+pub number_same : (c d : ℕ) → type.Class c ≡ type.Class d → c ≡ d
 number_same c d e = ap number_or e
 
 module _ (P : Program) (class : ℕ) (scope : List Variable) (above : (v : Variable) → Contains scope v → 0 < v.slot) where

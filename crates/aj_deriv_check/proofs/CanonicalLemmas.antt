@@ -1,15 +1,14 @@
 -- The trees of a book's table are canonical, and what is judged by them is the book.
 use Rattle.std.proofs.Common.{◌≡◌, ℕ, zero, suc, inl, inr, ◌&&◌, Bool, true, false, not, List, [], ◌∷◌, length, slice_get, Option, Some, None, Result, Ok, Err, refl, sym, ◌∙◌, ap, subst}
 use Rattle.std.proofs.lemmas.Option.{same_Some, slice_get_within}
-use Rattle.std.specs.declared.cmp.Ordering.{Ordering}
-use Rattle.std.specs.declared.cmp.Ordering.TheVariants.{Less, Equal, Greater}
 use Rattle.aj_paths.specs.Paths.{PathData, path_order}
 use Rattle.aj_algebra.specs.HeldPaths.{Held}
 use Rattle.aj_cond.specs.Conditions.{Cond, LeafC, TestC, cond_eq, IsAfter, IsCanonical}
 use Rattle.aj_cond.proofs.CondLemmas.{after_test, is-cond_eq}
 use Rattle.aj_core.specs.Core.{Method}
 use Rattle.aj_rules.specs.Effect.{Assignment}
-use Rattle.aj_book_grammar.specs.Books.{Line, Book, AreTrees, is_less, comes_after, is_canonical_below}
+use Rattle.aj_book_grammar.specs.Books.{Line, Book, AreTrees, comes_after, is_canonical_below}
+use Rattle.aj_book_grammar.proofs.TableLaws.{less_is}
 use Rattle.aj_deriv_rules.specs.declared.judge.Judge.{Judge}
 use Rattle.aj_deriv_check.specs.declared.wrong.Wrong.{Wrong}
 use Rattle.aj_deriv_check.specs.declared.wrong.Wrong.TheVariants as wrong
@@ -22,11 +21,6 @@ use Rattle.aj_deriv_check.specs.Passes.{numbers_of, AreGoodLines, IsWrongLine, A
 abbrev IsBehind : Option PathData → Cond → Type 0
 IsBehind None t = Unit {0}
 IsBehind (Some p) t = IsAfter p t
-
-less_is : (o : Ordering) → is_less o ≡ true → o ≡ Less
-less_is Less e = refl
-less_is Equal e = absurd (let h : false ≡ true = e in cc)
-less_is Greater e = absurd (let h : false ≡ true = e in cc)
 
 four : (a b c d : Bool) → (a && (b && (c && d))) ≡ true → (a ≡ true) × (b ≡ true) × (c ≡ true) × (d ≡ true)
 four true true true true e = (refl, refl, refl, refl)

@@ -16,7 +16,7 @@ use Rattle.aj_effects.specs.Accesses.{branching_value}
 use Rattle.aj_deriv_steps.specs.Merges.{IsFirstValue}
 use Rattle.aj_deriv_steps.specs.Pairs.{held_branch, free_branch}
 use Rattle.aj_effects.specs.Rules.{Value, choice_value, in_sequence, lock_value, loop_value}
-use Rattle.aj_effects.proofs.Laws.{associative}
+use Rattle.aj_algebra.proofs.Sequences.{associative}
 
 -- two values made one, where the path is held or isn't
 

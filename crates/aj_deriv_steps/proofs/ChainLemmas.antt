@@ -13,7 +13,7 @@ use Rattle.aj_cond.specs.Conditions.{Cond, LeafC, TestC, value_of}
 use Rattle.aj_rules.specs.Rules.{AtMost}
 use Rattle.aj_deriv_steps.specs.Chains.{EndsAt, HoldsAll}
 use Rattle.aj_effects.specs.Rules.{Value, in_sequence}
-use Rattle.aj_effects.proofs.Laws.{associative}
+use Rattle.aj_algebra.proofs.Sequences.{associative}
 use Rattle.aj_deriv_rules.proofs.NameLemmas.{value_same}
 
 -- the path of a chain's first test

@@ -22,7 +22,7 @@ use Rattle.aj_core.specs.declared.tree.CoreStmt.{CoreStmt}
 use Rattle.aj_core.specs.Views.{stmt_of, stmts_from}
 use Rattle.aj_effects.specs.Rules.{Value, in_sequence, block_value, choice_value, loop_value}
 use Rattle.aj_deriv_rules.specs.Conclusions.{tree_value, table_value}
-use Rattle.aj_effects.proofs.Laws.{unit_after}
+use Rattle.aj_algebra.proofs.Sequences.{unit_after}
 use Rattle.aj_deriv_rules.specs.Blocks.{keeps_paths}
 use Rattle.aj_deriv_rules.proofs.BlockLemmas.{Same, kept_set}
 use Rattle.aj_deriv_steps.specs.Pairs.{IsPairBelow, ArePairsBelow, IsSequenceBelow, root_of, lesser_of, held_branch, free_branch}

@@ -13,7 +13,7 @@ use Rattle.aj_rules.specs.Effect.{Assignment, sync_effect, access_of, call_of, a
 use Rattle.aj_effects.specs.Parts.{Part, ExprP, StmtP, parts_of, args_parts, block_parts}
 use Rattle.aj_effects.specs.Rules.{in_sequence, block_value, rule_of}
 use Rattle.aj_effects.specs.Effects.{part_effect, effects_of}
-use Rattle.aj_effects.proofs.Laws.{unit_after, associative}
+use Rattle.aj_algebra.proofs.Sequences.{unit_after, associative}
 
 module _ (P : Program) (rel : ℕ → List PathData) (A : Assignment) where
   args_is : (es : Exprs) (H : Held) → in_sequence (effects_of P rel A (args_parts es)) H ≡ exprs_effect P rel A es H

@@ -1,6 +1,5 @@
--- Lemmas on the rules: laws of sequence (Laws), blocks from a place on (Blocks), values of a list (Values), a part's effect by its
--- rule (Effects), and the sizes of parts (Sizes).
-pub mod Laws
+-- Lemmas on the rules: blocks from a place on (Blocks), values of a list (Values), a part's effect by its rule (Effects), and the
+-- sizes of parts (Sizes).
 pub mod Blocks
 pub mod Values
 pub mod Effects

@@ -20,6 +20,7 @@ use Rattle.aj_core.specs.Types.{field_type, field_types}
 use Rattle.aj_core.specs.Typed.{fields_from, IsEntry, IsRunnable}
 use Rattle.aj_syntax.specs.Trees.{MemberTree, ClassTree, ProgramTree}
 use Rattle.aj_lemmas.proofs.Options.{then_parts}
+use Rattle.aj_lemmas.proofs.Numbers.{other_below, other_above}
 use Rattle.aj_class_rules.specs.Names.{texts_of}
 use Rattle.aj_class_rules.specs.Members.{class_names, field_names, method_names}
 use Rattle.aj_class_rules.specs.Lines.{ancestors}
@@ -36,7 +37,7 @@ use Rattle.aj_elaborate.proofs.Paired.{line_named}
 use Rattle.aj_elaborate.proofs.TypedExprs.{IsFieldOf, IsMethodOf, IsMade, Agrees}
 use Rattle.aj_elaborate.proofs.Parts.{Each, each_at, each_along, each_mapped, at_left, at_right, get_below, mapped_at, before_mapped, result_at, told_alike}
 use Rattle.aj_elaborate.proofs.Places as written
-use Rattle.aj_elaborate.proofs.Places.{FieldAt, MethodAt, fields_at, methods_at, field_entry, method_entry, core_field, core_method, field_entries, method_entries, own_fields_long, own_class, places, fields_from_is, places_both, places_none, places_all, other_below, other_above}
+use Rattle.aj_elaborate.proofs.Places.{FieldAt, MethodAt, fields_at, methods_at, field_entry, method_entry, core_field, core_method, field_entries, method_entries, own_fields_long, own_class, places, fields_from_is, places_both, places_none, places_all}
 use Rattle.aj_elaborate.proofs.Built.{IsBuilt, IsField, field_is, IsMethod, method_is, params_alike, Reads, types_read, reads}
 use Rattle.aj_elaborate.proofs.TreeLines.{the_table, table_long, place, class_known, same_entry, above_same, lined}
 

@@ -1,11 +1,10 @@
 -- Where no class extends another, a core class has its own members alone.
 use Rattle.std.proofs.Common.{◌≡◌, ◌<◌, ◌+◌, ◌==◌, ℕ, zero, suc, Bool, true, false, List, [], ◌∷◌, map, filter, length, Option, Some, None, refl, sym, ap, ap₂, ◌∙◌, arith, slice_get, option_and_then, if◌then◌else◌}
 use Rattle.std.specs.Prelude.{codes}
-use Rattle.std.specs.Cmp.{both_ways}
 use Rattle.std.proofs.Math.Path.{fun_ext}
 use Rattle.std.proofs.lemmas.Bool.{eqb-true}
-use Rattle.std.proofs.lemmas.Bool.Decides.{nat_tests}
 use Rattle.std.proofs.lemmas.Option.{slice_get_within}
+use Rattle.aj_lemmas.proofs.Numbers.{eqb_turned}
 use Rattle.aj_core.specs.Core.{Program, Class, Method}
 use Rattle.aj_core.specs.Typed.{fields_from, is_final_at}
 use Rattle.aj_syntax.specs.Trees.{ClassTree, ProgramTree}
@@ -26,9 +25,6 @@ use Rattle.aj_elaborate.proofs.Parts.{head_same, tail_same}
 use Rattle.aj_elaborate.proofs.TreeLines.{the_table, place, above_same, table_long, lined}
 use Rattle.aj_elaborate.proofs.TypedPrograms.{finality_same}
 
-turned : (a b : ℕ) → (a == b) ≡ (b == a)
-turned a b = both_ways (a == b) (b == a) (λ h. grind (arith, nat_tests, h)) (λ h. grind (arith, nat_tests, h))
-
 module _ (t : TableData) (lined : IsLined t) (k : ℕ) (low : k < length t.classes) (none : above_in_table t k ≡ None) where
   alone_pairs : (n : ℕ) (ds : List MethodData) (ms : List Method) → map (λ (m : Method). m.class) ms ≡ map (λ (d : MethodData). d.class) ds
       → ((i j : ℕ) (d : MethodData) → j ≡ n + i → slice_get ds i ≡ Some d → slice_get t.methods j ≡ Some d) → targets_from t k n ds ≡ own_targets k n ms
@@ -39,7 +35,7 @@ module _ (t : TableData) (lined : IsLined t) (k : ℕ) (low : k < length t.class
       let rest = alone_pairs (n + 1) ds ms (tail_same m.class d.class (map (λ (m : Method). m.class) ms) (map (λ (d : MethodData). d.class) ds) same) (λ i j x number is. there (suc i) j x (omega (arith, number)) is) in
       let class_is = head_same m.class d.class (map (λ (m : Method). m.class) ms) (map (λ (d : MethodData). d.class) ds) same in
       let kind : kind_in t k d.class ≡ (m.class == k) =
-      kind_top (above_in_table t) (length t.classes) lined.below lined.apart k d.class low none ∙ turned k d.class ∙ ap (λ z. z == k) (sym class_is) in
+      kind_top (above_in_table t) (length t.classes) lined.below lined.apart k d.class low none ∙ eqb_turned k d.class ∙ ap (λ z. z == k) (sym class_is) in
       step (m.class == k) (kind_in t k d.class) refl kind rest
     where
       step : (b kind : Bool) → (m.class == k) ≡ b → kind ≡ b → targets_from t k (n + 1) ds ≡ own_targets k (n + 1) ms

@@ -5,7 +5,7 @@ use Rattle.std.specs.List.Sorted.{IsStrictlySortedBy}
 use Rattle.std.specs.declared.cmp.Ordering.{Ordering}
 use Rattle.std.specs.declared.cmp.Ordering.TheVariants.{Less, Equal, Greater}
 use Rattle.aj_paths.specs.Paths.{PathData, path_order}
-use Rattle.aj_paths.proofs.PathOrder.{equal_is, order_itself, greater_turned, less_chain}
+use Rattle.aj_paths.proofs.PathOrder.{equal_is, greater_turned, less_chain, never_less}
 use Rattle.aj_elaborate.specs.Programs.{by_order, inserted, ascending}
 use Rattle.aj_elaborate.proofs.Parts.{Each}
 
@@ -104,9 +104,6 @@ below_each : (p q : PathData) (qs : List PathData) → Below p qs → Among q qs
 below_each p q [] h k = absurd k
 below_each p q (r ∷ qs) h (inl same) = subst (λ z. path_order p z ≡ Less) same h.0
 below_each p q (r ∷ qs) h (inr among) = below_each p q qs h.1 among
-
-never_less : (p : PathData) → path_order p p ≡ Less → ⊥
-never_less p less = let e : Equal ≡ Less = sym (order_itself p) ∙ less in cc
 
 -- of two lists that ascend, with the same paths, the first ones are the same
 first_same : (p q : PathData) (ps qs : List PathData) → Below p ps → Below q qs → Among p (q ∷ qs) → Among q (p ∷ ps) → p ≡ q

@@ -4,7 +4,6 @@ use Rattle.std.proofs.Common.{◌≡◌, ℕ, ◌+◌, ◌<◌, ◌≤◌, zero,
 use Rattle.std.specs.List.{range_with_len}
 use Rattle.std.proofs.lemmas.List.{map-append, length-map}
 use Rattle.std.proofs.lemmas.Bool.{eq-eqb}
-use Rattle.std.proofs.lemmas.Bool.Decides.{nat_tests}
 use Rattle.std.proofs.lemmas.Option.{same_Some}
 use Rattle.aj_core.specs.Core.{Field, Method}
 use Rattle.aj_core.specs.Typed.{fields_from}
@@ -304,12 +303,6 @@ places_both c n (x ∷ xs) ys =
       | true ↦ ap (λ z. n ∷ z) step
       | false ↦ step
     ]
-
-pub other_below : (x c : ℕ) → x < c → (x == c) ≡ false
-other_below x c h = grind (arith, nat_tests)
-
-pub other_above : (x c : ℕ) → c < x → (x == c) ≡ false
-other_above x c h = grind (arith, nat_tests)
 
 pub places_none : (c n : ℕ) (xs : List ℕ) → Each (λ x. (x == c) ≡ false) xs → places c n xs ≡ []
 places_none c n [] h = refl

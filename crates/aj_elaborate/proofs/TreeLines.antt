@@ -2,9 +2,9 @@
 use Rattle.std.proofs.Common.{◌≡◌, ◌<◌, ◌≤◌, ◌+◌, ◌==◌, ℕ, zero, suc, Bool, true, false, List, [], ◌∷◌, ◌++◌, length, map, Option, Some, None, refl, sym, ap, ap₂, subst, ◌∙◌, arith, slice_get, position, bytes_eq, option_and_then, length-append}
 use Rattle.std.specs.List.{AllByRecursion}
 use Rattle.std.proofs.Math.Path.{fun_ext}
-use Rattle.std.proofs.lemmas.Bool.Decides.{nat_tests}
 use Rattle.std.proofs.lemmas.List.{map-append, length-map}
 use Rattle.std.proofs.lemmas.Option.{none-some, same_Some, slice_get_within}
+use Rattle.aj_lemmas.proofs.Numbers.{eqb_turned, other_below, other_above}
 use Rattle.aj_ancestors.specs.Ancestors.{AreBelow, IsAncestor}
 use Rattle.aj_syntax.specs.Trees.{ClassTree, ProgramTree}
 use Rattle.aj_class_rules.specs.Names.{texts_of}
@@ -17,15 +17,12 @@ use Rattle.aj_elaborate.specs.Classes.{inherited_count, ancestors_in}
 use Rattle.aj_elaborate.specs.Order.{IsOwnPart, IsLined}
 use Rattle.aj_elaborate.proofs.Built.{place_of_name}
 use Rattle.aj_elaborate.proofs.Parts.{Each, each_at, get_below, mapped_at, before_mapped}
-use Rattle.aj_elaborate.proofs.Places.{MethodAt, own_methods, methods_at, method_entry, method_entries, own_method_names, own_method_class, method_classes_between, class_entry, IsPlaced, placed, class_of_entry, entries_many, other_below, other_above}
+use Rattle.aj_elaborate.proofs.Places.{MethodAt, own_methods, methods_at, method_entry, method_entries, own_method_names, own_method_class, method_classes_between, class_entry, IsPlaced, placed, class_of_entry, entries_many}
 
 -- what holds of each of the parts holds of what they are in the table
 each_entry : {A B : Type 0} (P : A → Type 0) (Q : B → Type 0) (f : A → B) → ((x : A) → P x → Q (f x)) → (xs : List A) → Each P xs → AllByRecursion Q (map f xs)
 each_entry P Q f h [] k = tt
 each_entry P Q f h (x ∷ xs) k = (h x k.0, each_entry P Q f h xs k.1)
-
-turned_test : (a b : ℕ) → (b == a) ≡ false → (a == b) ≡ false
-turned_test a b h = grind (arith, nat_tests)
 
 names_told : (names : List (List ℕ)) (ds : List MethodAt) → map (λ m. m.name) (map (method_entry names) ds) ≡ texts_of (map (λ d. d.method.name) ds)
 names_told names [] = refl
@@ -86,9 +83,9 @@ module _ (tree : ProgramTree) where
               ∙ ap (λ z. map entry p.methods_before ++ z) (map-append entry mine p.methods_after);
           first = omega (arith, length-map p.methods_before entry, p.first_method_is, ap (λ z. z.first_method) c_is);
           names = names_told the_table.names mine ∙ ap texts_of (own_method_names k C.0.members) ∙ ap (λ z. z.method_names) c_is;
-          others_before = each_entry (λ d. d.class < k) (λ m. (k == m.class) ≡ false) entry (λ d h. turned_test k d.class (other_below d.class k h)) p.methods_before p.methods_apart_before;
+          others_before = each_entry (λ d. d.class < k) (λ m. (k == m.class) ≡ false) entry (λ d h. eqb_turned k d.class ∙ other_below d.class k h) p.methods_before p.methods_apart_before;
           mine = each_entry (λ d. d.class ≡ k) (λ m. m.class ≡ k) entry (λ d h. h) mine (own_method_class k C.0.members);
-          others_after = each_entry (λ d. k < d.class) (λ m. (k == m.class) ≡ false) entry (λ d h. turned_test k d.class (other_above d.class k h)) p.methods_after p.methods_apart_after;
+          others_after = each_entry (λ d. k < d.class) (λ m. (k == m.class) ≡ false) entry (λ d h. eqb_turned k d.class ∙ other_above d.class k h) p.methods_after p.methods_apart_after;
           once = λ i m at.
               let d = before_mapped entry mine i m at in
               let name_at : slice_get (method_names C.0.members) i ≡ Some d.0.method.name =

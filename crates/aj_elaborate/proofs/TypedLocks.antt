@@ -14,6 +14,7 @@ use Rattle.aj_core.specs.Dispatch.{is_kind_of}
 use Rattle.aj_core.specs.Locks.{slot_path, is_class}
 use Rattle.aj_core.specs.Types.{Variable}
 use Rattle.aj_core.specs.Typed.{IsRoot, LeadsOn, IsLock}
+use Rattle.aj_core.proofs.LockLemmas.{number_same}
 use Rattle.aj_classes.specs.Table.{TableData, FieldData}
 use Rattle.aj_type_rules.specs.declared.fault.TypeFault.TheVariants.{UnknownName, NotALock}
 use Rattle.aj_type_rules.specs.Rulings.{demand, then_rule}
@@ -58,9 +59,6 @@ pub class_of : (ty : CoreType) → is_class ty ≡ true → (c : ℕ) × (ty ≡
 class_of (type.Class c) h = (c, refl)
 class_of type.Int h = absurd (let e : false ≡ true = h in cc)
 class_of type.Boolean h = absurd (let e : false ≡ true = h in cc)
-
-same_class : (c d : ℕ) → type.Class c ≡ type.Class d → c ≡ d
-same_class c d h = cc
 
 module _ (t : TableData) (P : Program) (agrees : Agrees t P) (class : ℕ) (vars : List Variable) where
   -- a path from a root in scope to an object of a class
@@ -121,7 +119,7 @@ module _ (t : TableData) (P : Program) (agrees : Agrees t P) (class : ℕ) (vars
       lock_of p c.0 (walks p c.0 b.0 (d.1 ∙ ok_or_of o.0 (NotALock at) p o.2) c.1)
 
   this_can : CanRoot (this_variable class)
-  this_can c final_is ty = sym (same_class class c ty)
+  this_can c final_is ty = sym (number_same class c ty)
 
   seen_can : (slot : ℕ) (final_is : Bool) (ty : CoreType) → Contains vars (record { slot = slot; is_final = final_is; ty = ty }) → 0 < slot
       → CanRoot (record { slot = slot; is_final = final_is; ty = ty })

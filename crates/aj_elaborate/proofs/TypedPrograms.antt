@@ -35,6 +35,7 @@ use Rattle.aj_class_rules.specs.Faults.{twice_faults, is_class_in}
 use Rattle.aj_class_rules.specs.Faults as class_fault
 use Rattle.aj_class_rules.proofs.Faultless as class_rules
 use Rattle.aj_class_rules.proofs.Faultless.{IsFaultless, faultless, below, no_circle, ancestors_step, along_lines, inherited_step, inherited_none, field_names_append, few_names, few_fields, has_run}
+use Rattle.aj_class_rules.proofs.Parted.{finals_append}
 use Rattle.aj_classes.specs.Table.{TableData, ClassData, type_of, class_number, method_number, above_in_table, table_of}
 use Rattle.aj_type_rules.specs.declared.fault.TypeFault.TheVariants.{MissingReturn}
 use Rattle.aj_type_rules.specs.Completion.{completes_each}
@@ -293,17 +294,6 @@ params_seen t x (p ∷ ps) above =
     (record { name = p.name.text; variable = record { slot = x; is_final = p.is_final; ty = type_of t.names p.ty } })
     (params_seen t (x + 1) ps (omega (arith, above))) above
 
-finals_both : (xs ys : List MemberTree) → finals_of (xs ++ ys) ≡ finals_of xs ++ finals_of ys
-finals_both [] ys = refl
-finals_both (FieldM f ∷ ms) ys = step f.is_final (finals_both ms ys)
-  where
-    step : (fin : Bool) → finals_of (ms ++ ys) ≡ finals_of ms ++ finals_of ys
-        → (if fin then (f.ty, f.name) ∷ finals_of (ms ++ ys) else finals_of (ms ++ ys)) ≡ (if fin then (f.ty, f.name) ∷ finals_of ms else finals_of ms) ++ finals_of ys
-    step true h = ap (λ z. (f.ty, f.name) ∷ z) h
-    step false h = h
-finals_both (CtorM n params sets ∷ ms) ys = finals_both ms ys
-finals_both (MethodM m ∷ ms) ys = finals_both ms ys
-
 both_empty : {A : Type 0} (xs ys : List A) → is_empty (xs ++ ys) ≡ true → (is_empty xs ≡ true) × (is_empty ys ≡ true)
 both_empty [] ys h = (refl, h)
 both_empty (x ∷ xs) ys h = absurd (let e : false ≡ true = h in cc)
@@ -508,7 +498,7 @@ module _ (tree : ProgramTree) (P : Program) (b : IsBuilt tree P) (whole : IsFaul
       next_one : (c d : ℕ) → above tree c ≡ Some d → (is_empty (finals_of (all_members tree d)) ≡ true → filter kept (field_numbers t d) ≡ []) → is_empty (finals_of (all_members tree c)) ≡ true → filter kept (field_numbers t c) ≡ []
       next_one c d is h plain =
           let parts = both_empty (finals_of (all_members tree d)) (finals_of (members_at tree c))
-          (sym (ap is_empty (finals_both (all_members tree d) (members_at tree c))) ∙ sym (ap (λ ms. is_empty (finals_of (ms ++ members_at tree c))) (inherited_step tree whole c d is)) ∙ plain) in
+          (sym (ap is_empty (finals_append (all_members tree d) (members_at tree c))) ∙ sym (ap (λ ms. is_empty (finals_of (ms ++ members_at tree c))) (inherited_step tree whole c d is)) ∙ plain) in
           ap (filter kept) (fields_on t in_line c d (ap (λ f. f c) (above_same tree) ∙ is))
           ∙ filter_both kept (field_numbers t d) (numbers_in (slice_get t.classes c))
           ∙ ap₂ (λ x y. x ++ y) (h parts.0) (own_none c parts.1)

@@ -2,7 +2,7 @@
 use Rattle.std.proofs.Common.{◌≡◌, ◌≤◌, ℕ, zero, suc, Bool, true, false, ◌==◌, ◌&&◌, ◌∙◌, List, [], ◌∷◌, length, Some, None, refl, sym, subst, arith}
 use Rattle.std.specs.Prelude.{nat_le, if◌then◌else◌}
 use Rattle.std.specs.List.{list_all}
-use Rattle.std.proofs.lemmas.Bool.{and_parts, leb-true, eqb-true}
+use Rattle.std.proofs.lemmas.Bool.{and_parts, leb-true, eqb-true, false≢true}
 use Rattle.aj_paths.specs.Paths.{PathData}
 use Rattle.aj_algebra.specs.declared.basic.Basic.{Basic}
 use Rattle.aj_algebra.specs.declared.basic.Basic.TheVariants.{Const, Mover, Atomic, Cmpd, Error}
@@ -23,12 +23,9 @@ use Rattle.aj_examples.specs.Bodies.{all_movers, nothing_held}
 use Rattle.aj_examples.specs.Judged.{just, two_writes, no_lock, requiring, call_put, overridden, put_free}
 use Rattle.aj_examples.proofs.Sweep.{relevant_rows}
 
-none_true : false ≡ true → ⊥
-none_true e = cc
-
 -- no lock is held, and none is needed
 nothing_part : (H : Held) → IsPart nothing_held H
-nothing_part H q e = absurd (none_true e)
+nothing_part H q e = absurd (false≢true e)
 
 -- at most 8 paths of each kind
 abbrev has_few : MethodPaths → Bool
@@ -78,12 +75,12 @@ two_writes_accepted = record {
 pub two_writes_refused : IsAccepted (two_writes true) → ⊥
 two_writes_refused accepted =
     let a = accepted.admissible in
-    none_true (below_chain Cmpd (accepted.assignment 0 nothing_held) Atomic (a.closed.bodies 0 _ refl nothing_held (nothing_part _) (nothing_part _)) (a.bounds 0 _ refl))
+    false≢true (below_chain Cmpd (accepted.assignment 0 nothing_held) Atomic (a.closed.bodies 0 _ refl nothing_held (nothing_part _) (nothing_part _)) (a.bounds 0 _ refl))
 
 pub no_lock_refused : IsAccepted no_lock → ⊥
 no_lock_refused accepted =
     let a = accepted.admissible in
-    none_true (below_chain Error (accepted.assignment 0 nothing_held) Cmpd (a.closed.bodies 0 _ refl nothing_held (nothing_part _) (nothing_part _)) (a.bounds 0 _ refl))
+    false≢true (below_chain Error (accepted.assignment 0 nothing_held) Cmpd (a.closed.bodies 0 _ refl nothing_held (nothing_part _) (nothing_part _)) (a.bounds 0 _ refl))
 
 -- A required lock.
 
@@ -110,13 +107,13 @@ put_levels (suc m) H = of_main (H this_path)
 
 put_falls : (h k : Bool) → (h ≡ true → k ≡ true) → AtMost (of_put k) (of_put h)
 put_falls true true part = refl
-put_falls true false part = absurd (none_true (part refl))
+put_falls true false part = absurd (false≢true (part refl))
 put_falls false true part = refl
 put_falls false false part = refl
 
 main_falls : (h k : Bool) → (h ≡ true → k ≡ true) → AtMost (of_main k) (of_main h)
 main_falls true true part = refl
-main_falls true false part = absurd (none_true (part refl))
+main_falls true false part = absurd (false≢true (part refl))
 main_falls false true part = refl
 main_falls false false part = refl
 
@@ -170,7 +167,7 @@ required_accepted = record {
 pub unrequired_refused : IsAccepted (requiring call_put) → ⊥
 unrequired_refused accepted =
     let a = at_sets (requiring call_put) this_sets without_lock_sets accepted in
-    none_true (below_chain Error (accepted.assignment 1 nothing_held) Cmpd (a.closed.bodies 1 _ refl nothing_held (nothing_part _) (nothing_part _)) (a.bounds 1 _ refl))
+    false≢true (below_chain Error (accepted.assignment 1 nothing_held) Cmpd (a.closed.bodies 1 _ refl nothing_held (nothing_part _) (nothing_part _)) (a.bounds 1 _ refl))
 
 -- An overriding method.
 
@@ -198,11 +195,11 @@ abbrev both_calls : Basic → Basic
 both_calls x = seq_of (seq_of (seq_of Const Mover) Mover) (seq_of (seq_of Const (seq_of Const x)) (seq_of (seq_of Const (seq_of Const x)) Const))
 
 never_both : (x : Basic) → AtMost Atomic x → AtMost (both_calls x) Atomic → ⊥
-never_both Const low high = none_true low
-never_both Mover low high = none_true low
-never_both Atomic low high = none_true high
-never_both Cmpd low high = none_true high
-never_both Error low high = none_true high
+never_both Const low high = false≢true low
+never_both Mover low high = false≢true low
+never_both Atomic low high = false≢true high
+never_both Cmpd low high = false≢true high
+never_both Error low high = false≢true high
 
 pub one_not_refused : IsAccepted (overridden put_free) → ⊥
 one_not_refused accepted =

@@ -1,5 +1,5 @@
 -- Maps that are made of sorted entries, with one more or one less: these compute where maps don't.
-use Rattle.std.proofs.Common.{◌≡◌, ℕ, Bool, true, false, not, ◌==◌, List, [], ◌∷◌, Some, None, refl, sym, ap, ◌∙◌}
+use Rattle.std.proofs.Common.{◌≡◌, ℕ, not, ◌==◌, List, [], ◌∷◌, Some, None, refl, sym, ap, ◌∙◌}
 use Rattle.std.specs.Prelude.{Option, map, count_by, T, cond}
 use Rattle.std.specs.FinMap as M
 use Rattle.std.specs.FinMap.{find, put, is_sorted, from_sorted, get-from_sorted, entries-from_sorted, entries-insert, same_entries_map, get-remove, same_map}
@@ -10,11 +10,7 @@ use Rattle.aj_state.specs.declared.value.Address.{Address}
 use Rattle.aj_state.specs.declared.value.Value.{Value}
 use Rattle.aj_state.specs.Memory.{address_cmp, Object, made_by, with_value, with_object, with_field}
 use Rattle.aj_state.proofs.Addresses.{address_total, address_exact}
-use Rattle.aj_steps.proofs.PlainRuns.{without, plain_object}
-
-turned : {A : Type 0} (b : Bool) (x y : A) → cond (not b) x y ≡ cond b y x
-turned true x y = refl
-turned false x y = refl
+use Rattle.aj_steps.proofs.PlainRuns.{without, plain_object, turned}
 
 module _ {X : Type 0} (es : List (Address × X)) (rising : T (is_sorted address_cmp es)) where
   pub get_is : (a : Address) → M.get (from_sorted {R = address_cmp} es) a ≡ find address_cmp a es

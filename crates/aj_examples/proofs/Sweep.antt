@@ -5,9 +5,9 @@ use Rattle.std.specs.List.{list_all, AllByRecursion}
 use Rattle.std.specs.List.Sorted.{IsStrictlySortedBy}
 use Rattle.std.specs.declared.cmp.Ordering.{Ordering}
 use Rattle.std.specs.declared.cmp.Ordering.TheVariants.{Less, Equal, Greater}
-use Rattle.std.proofs.lemmas.Bool.{and_parts, or_cases, eq-eqb, le-leb}
+use Rattle.std.proofs.lemmas.Bool.{and_parts, or_cases, eq-eqb, le-leb, false≢true}
 use Rattle.std.proofs.lemmas.Option.{none-some, same_Some}
-use Rattle.aj_lemmas.proofs.Lists.{contains_cases}
+use Rattle.aj_lemmas.proofs.Lists.{all_at}
 use Rattle.aj_paths.specs.Paths.{PathData, path_order, path_eq, extended}
 use Rattle.aj_paths.specs.Renamings.{under_call}
 use Rattle.aj_paths.proofs.PathOrder.{eq_is}
@@ -21,22 +21,11 @@ use Rattle.aj_rules.specs.Clauses.{program_clauses}
 use Rattle.aj_rules.specs.Search.{row_at, IsLeastFamily}
 use Rattle.aj_rules.specs.Limits.{parted_from}
 use Rattle.aj_rules.specs.Near.{begins_in, Near, required, locked, guarded, called, overriding, named, AreRelevant}
-use Rattle.aj_rules.proofs.Reaching.{contains_none, partner_in, class_with, near_from_reached, reached_from_near}
+use Rattle.aj_rules.proofs.Reaching.{partner_in, class_with, near_from_reached, reached_from_near}
 use Rattle.aj_rules.proofs.LimitLemmas.{sets_ok}
 
-none_true : false ≡ true → ⊥
-none_true e = cc
-
--- a test that all elements pass
-all_at : {A : Type 0} (f : A → Bool) (xs : List A) → list_all f xs ≡ true → (x : A) → Contains xs x → f x ≡ true
-all_at f [] all x has = contains_none x has
-all_at f (y ∷ ys) all x has = elim (contains_cases y x ys has) as (λ _. f x ≡ true) [
-  | inl e ↦ subst (λ z. f z ≡ true) e (and_parts (f y) (list_all f ys) all).0
-  | inr later ↦ all_at f ys (and_parts (f y) (list_all f ys) all).1 x later
-]
-
 all_paths : (f : PathData → Bool) (ps : List PathData) → list_all f ps ≡ true → (q : PathData) → has_path ps q ≡ true → f q ≡ true
-all_paths f [] all q has = absurd (none_true has)
+all_paths f [] all q has = absurd (false≢true has)
 all_paths f (p ∷ ps) all q has = elim (or_cases (path_eq p q) (has_path ps q) has) as (λ _. f q ≡ true) [
   | inl e ↦ subst (λ z. f z ≡ true) (eq_is p q e) (and_parts (f p) (list_all f ps) all).0
   | inr later ↦ all_paths f ps (and_parts (f p) (list_all f ps) all).1 q later
@@ -96,7 +85,7 @@ module _ (P : Program) where
 
     where_true : (b x : Bool) → (if b then x else true) ≡ true → b ≡ true → x ≡ true
     where_true true x e is = e
-    where_true false x e is = absurd (none_true is)
+    where_true false x e is = absurd (false≢true is)
 
     module _ (all : has_all ≡ true) where
       of_method : (m : ℕ) (method : Method) → slice_get P.methods m ≡ Some method → has_method m method ≡ true
@@ -126,7 +115,7 @@ module _ (P : Program) where
         where
           both_true : (a b : Bool) → a ≡ true → b ≡ true → (a && b) ≡ true
           both_true true b first second = second
-          both_true false b first second = absurd (none_true first)
+          both_true false b first second = absurd (false≢true first)
       all_near m p (named q e start near r path fits) =
           subst (λ o. has m o ≡ true) fits
           (subst (λ o. has_named m o q ≡ true) path
@@ -143,14 +132,14 @@ module _ (P : Program) where
   AreNear m (row ∷ rows) = AllNear m row × AreNear (suc m) rows
 
   one_near : (m : ℕ) (ps : List PathData) → AllNear m ps → (p : PathData) → has_path ps p ≡ true → Near P m p
-  one_near m [] near p has = absurd (none_true has)
+  one_near m [] near p has = absurd (false≢true has)
   one_near m (q ∷ qs) near p has = elim (or_cases (path_eq q p) (has_path qs p) has) as (λ _. Near P m p) [
     | inl e ↦ subst (Near P m) (eq_is q p e) near.0
     | inr later ↦ one_near m qs near.1 p later
   ]
 
   row_near : (k : ℕ) (rows : List (List PathData)) → AreNear k rows → (m : ℕ) (p : PathData) → has_path (row_at rows m) p ≡ true → Near P (k + m) p
-  row_near k [] near m p has = absurd (none_true has)
+  row_near k [] near m p has = absurd (false≢true has)
   row_near k (row ∷ rows) near zero p has = subst (λ n. Near P n p) (let e : k ≡ k + 0 = omega arith in e) (one_near k row near.0 p has)
   row_near k (row ∷ rows) near (suc m) p has = subst (λ n. Near P n p) (let e : suc k + m ≡ k + suc m = omega arith in e) (row_near (suc k) rows near.1 m p has)
 
@@ -167,8 +156,8 @@ module _ (P : Program) where
 
   less_is : (o : Ordering) → is_less o ≡ true → o ≡ Less
   less_is Less e = refl
-  less_is Equal e = absurd (none_true e)
-  less_is Greater e = absurd (none_true e)
+  less_is Equal e = absurd (false≢true e)
+  less_is Greater e = absurd (false≢true e)
 
   all_later : (p : PathData) (qs : List PathData) → list_all (λ q. is_less (path_order p q)) qs ≡ true → AllByRecursion (λ q. path_order p q ≡ Less) qs
   all_later p [] all = tt

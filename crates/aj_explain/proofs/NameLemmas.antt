@@ -17,6 +17,7 @@ use Rattle.aj_core.specs.Views.{expr_of, exprs_from, stmts_from}
 use Rattle.aj_rules.specs.Mentions.{paths_of}
 use Rattle.aj_lemmas.proofs.Lists.{next_drop}
 use Rattle.std.proofs.lemmas.List.{drop_all}
+use Rattle.std.proofs.Math.Bool.{or-false}
 use Rattle.aj_why.specs.Helping.{first_path, names_here, path_before}
 use Rattle.aj_explain.specs.declared.names.Alias.{Alias}
 use Rattle.aj_explain.specs.Names.{aliases_after, aliases_after_each, argument, passed_expr}
@@ -71,13 +72,9 @@ put_one cmp same held ks new i p below is put before q =
     ∙ moved (path_eq p q) (has_path ks q) (has_path (drop (i + 1) held) q) (has_path held q)
     (ap (λ z. has_path ks q || has_path z q) (sym (next_drop held i p below is)) ∙ before q)
 
-or_none : (b : Bool) → (b || false) ≡ b
-or_none true = refl
-or_none false = refl
-
 -- where none are left, the set has all
 pub all_put : (held ks : List PathData) (i : ℕ) → length held ≤ i → ((q : PathData) → (has_path ks q || has_path (drop i held) q) ≡ has_path held q) → has_path ks ≡ has_path held
-all_put held ks i past before = λ j q. (sym (or_none (has_path ks q)) ∙ ap (λ z. has_path ks q || has_path z q) (sym (drop_all i held past)) ∙ before q) j
+all_put held ks i past before = λ j q. (sym (or-false (has_path ks q)) ∙ ap (λ z. has_path ks q || has_path z q) (sym (drop_all i held past)) ∙ before q) j
 
 -- ---- the locals of a block in memory
 

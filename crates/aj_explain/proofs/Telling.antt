@@ -2,7 +2,7 @@
 use Rattle.std.proofs.Common.{◌≡◌, ◌⊎◌, ℕ, zero, suc, ◌+◌, ◌<◌, ◌≤◌, ◌==◌, Bool, true, false, not, ◌||◌, List, [], ◌∷◌, ◌++◌, length, slice_get, slice_set, Some, None, refl, sym, ap, subst, ◌∙◌, arith, inl, inr}
 use Rattle.std.specs.Prelude.{Option, Contains, filter, unwrap_or, replicate, if◌then◌else◌}
 use Rattle.std.specs.List.{AllByRecursion, IsDistinct}
-use Rattle.std.proofs.lemmas.Bool.{ne_eqb}
+use Rattle.std.proofs.lemmas.Bool.{ne_eqb, false≢true}
 use Rattle.std.proofs.lemmas.Option.{same_Some, none-some}
 use Rattle.std.proofs.lemmas.List.{map-append, length-replicate}
 use Rattle.std.proofs.lemmas.List.Elements.{filter-append, Contains-append_left, Contains-append_right, Contains-append_cases}
@@ -12,9 +12,6 @@ use Rattle.aj_core.specs.Core.{Program, Method}
 use Rattle.aj_rules.specs.Effect.{Assignment}
 use Rattle.aj_explain.specs.Whys.{ExplainedData}
 use Rattle.aj_explain.specs.Programs.{led_to, marked, methods_of, keeps, if_untold, refused, compound, led, explanations_from, explanations, refused_from, IsExplained}
-
-false_true : {A : Type 0} → false ≡ true → A
-false_true e = absurd cc
 
 -- ---- which methods aren't told
 
@@ -33,8 +30,8 @@ left_most (true ∷ told) = let h = left_most told in omega (arith, h)
 left_most (false ∷ told) = let h = left_most told in omega (arith, h)
 
 left_less : (told : List Bool) (k : ℕ) → untold told k ≡ true → left told ≡ suc (left (slice_set told k true))
-left_less [] k is = false_true is
-left_less (true ∷ told) zero is = false_true is
+left_less [] k is = absurd (false≢true is)
+left_less (true ∷ told) zero is = absurd (false≢true is)
 left_less (false ∷ told) zero is = refl
 left_less (true ∷ told) (suc k) is = left_less told k is
 left_less (false ∷ told) (suc k) is = ap suc (left_less told k is)
@@ -57,7 +54,7 @@ told_now (t ∷ told) (suc k) = told_now told k
 
 was_untold : (told : List Bool) (m k : ℕ) → untold (slice_set told m true) k ≡ true → untold told k ≡ true
 was_untold [] m k is = is
-was_untold (t ∷ told) zero zero is = false_true is
+was_untold (t ∷ told) zero zero is = absurd (false≢true is)
 was_untold (t ∷ told) zero (suc k) is = is
 was_untold (t ∷ told) (suc m) zero is = is
 was_untold (t ∷ told) (suc m) (suc k) is = was_untold told m k is
@@ -74,7 +71,7 @@ marked_or (t ∷ told) (suc m) (suc k) is = elim (marked_or told m k is) as (λ 
 ]
 
 apart : (told : List Bool) (m k : ℕ) → untold (slice_set told m true) k ≡ true → (m == k) ≡ false
-apart told m k is = ne_eqb m k (λ e. false_true (sym (told_now told m) ∙ ap (untold (slice_set told m true)) e ∙ is))
+apart told m k is = ne_eqb m k (λ e. false≢true (sym (told_now told m) ∙ ap (untold (slice_set told m true)) e ∙ is))
 
 were_untold : (ks : List ℕ) (told : List Bool) (k : ℕ) → untold (marked told ks) k ≡ true → untold told k ≡ true
 were_untold [] told k is = is
@@ -229,7 +226,7 @@ module _ (P : Program) (rel : ℕ → List PathData) (A : Assignment) (overs : �
     distinct : IsDistinct (λ m k. m == k) (methods_of xs)
 
   clash : {X : Type 0} (k : ℕ) (a b : Method) → slice_get P.methods k ≡ Some a → slice_get P.methods k ≡ Some b → keeps A k a ≡ true → keeps A k b ≡ false → X
-  clash k a b there too kept broken = false_true (sym broken ∙ ap (keeps A k) (same_Some b a (sym too ∙ there)) ∙ kept)
+  clash k a b there too kept broken = absurd (false≢true (sym broken ∙ ap (keeps A k) (same_Some b a (sym too ∙ there)) ∙ kept))
 
   lacks_kept : (told : List Bool) (xs : List ExplainedData) → AreTold told xs → (k : ℕ) (method : Method) → slice_get P.methods k ≡ Some method → keeps A k method ≡ false → Lacks (methods_of xs) k
   lacks_kept told [] h k method there broken = tt
@@ -384,7 +381,7 @@ module _ (P : Program) (rel : ℕ → List PathData) (A : Assignment) (overs : �
     where
       by : (t b : Bool) → unwrap_or (slice_get told m) true ≡ t → keeps A m method ≡ b → LedComplete told (Some m) (if t || not b then [] else compound P rel A overs m method ∷ rest method)
       by true b t_is b_is = record {
-        first = λ k other e too new kept. false_true (sym (ap not t_is) ∙ ap (untold told) (same_Some m k e) ∙ new);
+        first = λ k other e too new kept. absurd (false≢true (sym (ap not t_is) ∙ ap (untold told) (same_Some m k e) ∙ new));
         later = λ x c k other leads too new kept. contains_none x c;
       }
       by false false t_is b_is = record {

@@ -6,6 +6,7 @@ use Rattle.aj_algebra.specs.declared.basic.Basic.{Basic}
 use Rattle.aj_algebra.specs.declared.basic.Basic.TheVariants.{Const, Mover, Atomic}
 use Rattle.aj_algebra.specs.Basics.{seq_of, join_of, star_of, lift_of, below_of}
 use Rattle.aj_algebra.specs.HeldPaths.{Held, with_path}
+use Rattle.aj_algebra.proofs.Sequences.{associative, unit_after, unit_before}
 use Rattle.aj_core.specs.declared.tree.CoreStmt.{CoreStmt}
 use Rattle.aj_core.specs.Views.{stmt_of, stmts_from}
 use Rattle.aj_lemmas.proofs.Lists.{next_drop}
@@ -16,22 +17,16 @@ use Rattle.aj_core.specs.Sizes.{nodes_of, stmt_nodes}
 use Rattle.aj_deriv_rules.specs.Parts.{StmtP}
 use Rattle.aj_rules.specs.Effect.{Assignment, access_of, expr_effect, sync_effect, effect, block_effect, after_stmt}
 use Rattle.aj_why.proofs.Readings.{stmt_moved}
-use Rattle.aj_why.proofs.Weights.{seq_regrouped, seq_const, seq_end}
-use Rattle.aj_why.specs.Parts.{lock_effect}
 use Rattle.aj_why.specs.Readings.{is_error, own_at}
 use Rattle.aj_why.specs.Steps.{of_greater, of_taken, expr_steps, stmt_steps, block_steps}
 use Rattle.aj_why.specs.Visits.{Visit, visit, by_lock, expr_visits, stmt_visits, block_visits}
+use Rattle.aj_why.proofs.Errors.{lock_fine}
 use Rattle.aj_explain.specs.declared.found.Found.{Found}
 use Rattle.aj_explain.specs.declared.found.Visited.{Visited}
 use Rattle.aj_explain.specs.Basics.{basics_by_lock, expr_basics, stmt_basics, block_basics}
 use Rattle.aj_explain.specs.Views.{visit_of, visits_of, errors_in, inner}
 use Rattle.aj_explain.specs.Walked.{next, Walked, WalkedExpr, WalkedStmt, InsideStmt, WalkedBlock, WalkedBranches}
 use Rattle.aj_explain.proofs.Walking.{errors_append, two, behind, noted, with_basics, with_visits, with_effect, entered, expr_long, stmt_long, behind_walk, at_expr, nothing}
-
--- taking a lock is no error
-quiet_lock : (t : Bool) → is_error (lock_effect t) ≡ false
-quiet_lock true = refl
-quiet_lock false = refl
 
 -- a list behind another, where the test passes only if it is empty, and then this one
 own_or : (t : Bool) (before steps own : List Visit) → (t ≡ true → steps ≡ []) → (before ++ steps) ++ (if t then own else []) ≡ before ++ (if t then own else steps)
@@ -168,7 +163,7 @@ module _ (P : Program) (rel : ℕ → List PathData) (A : Assignment) where
       (by_lock t (stmt_steps P rel A s (n + 1) H loop) (of_taken (effect P rel A s (with_path p H)) (v ∷ []) (stmt_steps P rel A s (n + 1) (with_path p H) loop)))
       (basics_by_lock t (stmt_basics P rel A s H) (stmt_basics P rel A s (with_path p H)))
       (sync_effect t (effect P rel A s H) (effect P rel A s (with_path p H))) old a new) (sym held)
-      (behind P rel A v (quiet_lock (H p)) (at_stmt s H loop (n + 1) start w))
+      (behind P rel A v (lock_fine (H p)) (at_stmt s H loop (n + 1) start w))
 
   -- the lock is taken: the part is a step itself where its body can be moved
   pub taken_walked : (p : PathData) (s : Stmt) (H : Held) (loop : Option ℕ) (n : ℕ) {old mid : Found} {a : Basic} (new : Found) (d : Basic) → H p ≡ false → next old ≡ n + 1
@@ -178,7 +173,7 @@ module _ (P : Program) (rel : ℕ → List PathData) (A : Assignment) where
       → d ≡ lift_of a → InsideStmt P rel A (SyncS p s) n H loop old d new
   taken_walked p s H loop n {old = old} {mid = mid} {a = a} new d free start w basics steps errors is =
       let v : Visit = record { node = n; part = StmtP (SyncS p s); held = H; loop = loop } in
-      let inside = behind P rel A v (quiet_lock (H p)) (at_stmt s (with_path p H) loop (n + 1) start w) in
+      let inside = behind P rel A v (lock_fine (H p)) (at_stmt s (with_path p H) loop (n + 1) start w) in
       subst (λ (t : Bool). Walked P rel A
       (by_lock t (stmt_visits P s (n + 1) H loop) (stmt_visits P s (n + 1) (with_path p H) loop) ++ (v ∷ []))
       (by_lock t (stmt_steps P rel A s (n + 1) H loop) (of_taken (effect P rel A s (with_path p H)) (v ∷ []) (stmt_steps P rel A s (n + 1) (with_path p H) loop)))
@@ -274,7 +269,7 @@ module _ (P : Program) (rel : ℕ → List PathData) (A : Assignment) where
   pub start_stmts : (ss : Stmts) (G H : Held) (loop : Option ℕ) (old : Found) → G ≡ H → StmtsSoFar ss G ss H loop old Const old
   start_stmts ss G H loop old same b new w =
       let at : WalkedBlock P rel A ss H loop old b new = subst (λ K. WalkedBlock P rel A ss K loop old b new) same w in
-      with_effect P rel A (block_effect P rel A ss H) (seq_of Const b) (seq_const b ∙ at.effect_is) at
+      with_effect P rel A (block_effect P rel A ss H) (seq_of Const b) (unit_before b ∙ at.effect_is) at
 
   pub more_stmts : (ss : List CoreStmt) (i : ℕ) (s : CoreStmt) (G K : Held) (H : Held) (loop : Option ℕ) (all : Stmts) (old now mid : Found) (so_far a after : Basic) → i < length ss → s ≡ get_or ss i s
       → WalkedStmt P rel A (stmt_of s) G loop now a mid → after ≡ seq_of so_far a → K ≡ after_stmt P (stmt_of s) G
@@ -287,10 +282,10 @@ module _ (P : Program) (rel : ℕ → List PathData) (A : Assignment) where
       let both : WalkedBlock P rel A (and_stmt (stmt_of s) rest) G loop now (seq_of a b) new =
       two P rel A (seq_of a b) one (at_block rest L loop (n + stmt_nodes (stmt_of s)) (behind_walk P rel A n (stmt_nodes (stmt_of s)) refl (stmt_long P rel A (stmt_of s) G) one) at) refl in
       let whole = given (seq_of a b) new (subst (λ l. WalkedBlock P rel A (stmts_from l) G loop now (seq_of a b) new) (sym (next_drop ss i s below is)) both) in
-      with_effect P rel A (block_effect P rel A all H) (seq_of after b) (ap (λ z. seq_of z b) after_is ∙ seq_regrouped so_far a b ∙ whole.effect_is) whole
+      with_effect P rel A (block_effect P rel A all H) (seq_of after b) (ap (λ z. seq_of z b) after_is ∙ associative so_far a b ∙ whole.effect_is) whole
 
   pub end_stmts : (ss : List CoreStmt) (i : ℕ) (G H : Held) (loop : Option ℕ) (all : Stmts) (old now : Found) (so_far : Basic) → drop i ss ≡ []
       → StmtsSoFar (stmts_from (drop i ss)) G all H loop old so_far now → WalkedBlock P rel A all H loop old so_far now
   end_stmts ss i G H loop all old now so_far none given =
       let whole = given Const now (subst (λ l. WalkedBlock P rel A (stmts_from l) G loop now Const now) (sym none) (nothing P rel A now)) in
-      with_effect P rel A (block_effect P rel A all H) so_far (sym (seq_end so_far) ∙ whole.effect_is) whole
+      with_effect P rel A (block_effect P rel A all H) so_far (sym (unit_after so_far) ∙ whole.effect_is) whole

@@ -1,5 +1,5 @@
 -- Walks one behind the other, and the walk through each kind of part.
-use Rattle.std.proofs.Common.{◌≡◌, ℕ, suc, ◌+◌, ◌<◌, Bool, true, false, List, [], ◌∷◌, ◌++◌, Option, Some, None, length, drop, get_or, slice_set, refl, sym, ap, ◌∙◌, subst, append_assoc, append-nil, length-append, arith, if◌then◌else◌}
+use Rattle.std.proofs.Common.{◌≡◌, ℕ, ◌+◌, ◌<◌, Bool, true, false, List, [], ◌∷◌, ◌++◌, Option, Some, None, length, drop, get_or, slice_set, refl, sym, ap, ◌∙◌, subst, append_assoc, append-nil, length-append, arith, if◌then◌else◌}
 use Rattle.std.proofs.Math.Seq.{set-append_seam}
 use Rattle.std.proofs.lemmas.List.Elements.{filter-append}
 use Rattle.aj_paths.specs.Paths.{PathData}
@@ -7,9 +7,11 @@ use Rattle.aj_algebra.specs.declared.basic.Basic.{Basic}
 use Rattle.aj_algebra.specs.declared.basic.Basic.TheVariants.{Const, Mover}
 use Rattle.aj_algebra.specs.Basics.{seq_of, below_of}
 use Rattle.aj_algebra.specs.HeldPaths.{Held, with_path}
+use Rattle.aj_algebra.proofs.Sequences.{associative, unit_after, unit_before}
 use Rattle.aj_core.specs.declared.tree.CoreExpr.{CoreExpr}
 use Rattle.aj_core.specs.Views.{expr_of, exprs_from}
 use Rattle.aj_lemmas.proofs.Lists.{next_drop}
+use Rattle.aj_lemmas.proofs.Numbers.{one_and}
 use Rattle.aj_core.specs.declared.types.CoreOp.{CoreOp}
 use Rattle.aj_core.specs.Core.{Program, Expr, Exprs, IntE, TruthE, NullE, ThisE, VarE, NotE, NegE, BinaryE, AndE, OrE, GetE, CallE, NewE, no_exprs, and_expr}
 use Rattle.aj_core.specs.Core.{Stmt, Stmts, EmptyS, BlockS, LocalS, SetVarS, SetFieldS, DoS, IfS, WhileS, SyncS, ReturnS, PrintS, StartS, no_stmts, and_stmt}
@@ -18,7 +20,6 @@ use Rattle.aj_core.specs.Sizes.{nodes_of, nodes_of_each, value_nodes, stmt_nodes
 use Rattle.aj_deriv_rules.specs.Parts.{ExprP}
 use Rattle.aj_rules.specs.Effect.{Assignment, call_of, expr_effect, exprs_effect, after_stmt}
 use Rattle.aj_rules.specs.Mentions.{paths_of}
-use Rattle.aj_why.proofs.Weights.{seq_regrouped, seq_const, seq_end}
 use Rattle.aj_why.specs.Readings.{is_error, own_at}
 use Rattle.aj_why.specs.Steps.{expr_steps, exprs_steps}
 use Rattle.aj_why.specs.Visits.{Visit, visit, expr_visits, exprs_visits}
@@ -28,9 +29,6 @@ use Rattle.aj_explain.specs.Views.{visits_of, errors_in, inner}
 use Rattle.aj_explain.specs.Walked.{next, Walked, WalkedExpr, InsideExpr, WalkedExprs}
 
 -- ---- numbers
-
-one_and : (a b : ℕ) → a ≡ b → suc a ≡ 1 + b
-one_and a b e = omega (arith, e)
 
 sum_of : (l x y a b : ℕ) → l ≡ x + y → x ≡ a → y ≡ b → l ≡ a + b
 sum_of l x y a b whole one two = omega (arith, whole, one, two)
@@ -281,7 +279,7 @@ module _ (P : Program) (rel : ℕ → List PathData) (A : Assignment) where
   SoFar rest all H loop old so_far now = (b : Basic) (new : Found) → WalkedExprs P rel A rest H loop now b new → WalkedExprs P rel A all H loop old (seq_of so_far b) new
 
   pub start_exprs : (es : Exprs) (H : Held) (loop : Option ℕ) (old : Found) → SoFar es es H loop old Const old
-  start_exprs es H loop old b new w = with_effect (exprs_effect P rel A es H) (seq_of Const b) (seq_const b ∙ w.effect_is) w
+  start_exprs es H loop old b new w = with_effect (exprs_effect P rel A es H) (seq_of Const b) (unit_before b ∙ w.effect_is) w
 
   pub more_exprs : (es : List CoreExpr) (i : ℕ) (e : CoreExpr) (H : Held) (loop : Option ℕ) (all : Exprs) (old now mid : Found) (so_far a after : Basic) → i < length es → e ≡ get_or es i e
       → WalkedExpr P rel A (expr_of e) H loop now a mid → after ≡ seq_of so_far a
@@ -293,10 +291,10 @@ module _ (P : Program) (rel : ℕ → List PathData) (A : Assignment) where
       two (seq_of a b) one (at_exprs rest H loop (n + nodes_of (expr_of e)) (behind_walk n (nodes_of (expr_of e)) refl (expr_long (expr_of e) H) one) w) refl in
       let whole = given (seq_of a b) new (subst (λ l. WalkedExprs P rel A (exprs_from l) H loop now (seq_of a b) new) (sym (next_drop es i e below is)) both) in
       with_effect (exprs_effect P rel A all H) (seq_of after b)
-      (ap (λ z. seq_of z b) after_is ∙ seq_regrouped so_far a b ∙ whole.effect_is) whole
+      (ap (λ z. seq_of z b) after_is ∙ associative so_far a b ∙ whole.effect_is) whole
 
   pub end_exprs : (es : List CoreExpr) (i : ℕ) (H : Held) (loop : Option ℕ) (all : Exprs) (old now : Found) (so_far : Basic) → drop i es ≡ []
       → SoFar (exprs_from (drop i es)) all H loop old so_far now → WalkedExprs P rel A all H loop old so_far now
   end_exprs es i H loop all old now so_far none given =
       let whole = given Const now (subst (λ l. WalkedExprs P rel A (exprs_from l) H loop now Const now) (sym none) (nothing now)) in
-      with_effect (exprs_effect P rel A all H) so_far (sym (seq_end so_far) ∙ whole.effect_is) whole
+      with_effect (exprs_effect P rel A all H) so_far (sym (unit_after so_far) ∙ whole.effect_is) whole

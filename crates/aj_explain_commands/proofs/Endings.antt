@@ -2,6 +2,7 @@
 use Rattle.std.proofs.Common.{◌≡◌, ℕ, ◌<◌, ◌≤◌, List, length, refl, sym, subst, arith, inl, inr}
 use Rattle.aj_core.specs.Core.{Program}
 use Rattle.aj_outcomes.specs.Said.{Exactly, Yields}
+use Rattle.aj_outcomes.proofs.Statuses.{yield_range}
 use Rattle.aj_sources.specs.declared.refusal.Ending.{Ending}
 use Rattle.aj_sources.specs.declared.refusal.Ending.TheVariants.{Done, Refused, Inadmissible, NoSchedule, Stopped, Open, BookRefused, NothingToBlame, BlameRefused, LevelsRefused, CallTooDeep}
 use Rattle.aj_sources.specs.Checking.{IsWellFormedSource}
@@ -98,12 +99,6 @@ exact_answer order name file _ _ (too_large over) = record {
   accepted = never 10 0 _ (λ e. omega (arith, e)) (λ g. over_or_within (length file) over g.0);
 }
 exact_answer order name file _ _ (ended ending text within answer) = exact_ending file within ending (caused order name file ending text answer)
-
--- a status that stands in the place of all of them
-yield_range : (status : ℕ) → Yields status → (6 ≤ status) × (status ≤ 8)
-yield_range status (inl e) = (omega arith, omega arith)
-yield_range status (inr (inl e)) = (omega arith, omega arith)
-yield_range status (inr (inr e)) = (omega arith, omega arith)
 
 yields_other : (result status : ℕ) (fact : Type 0) → Yields result → ((6 ≤ status) × (status ≤ 8) → ⊥) → Exactly result status fact
 yields_other result status fact y out = record { only = λ e. absurd (out (subst (λ n. (6 ≤ n) × (n ≤ 8)) e (yield_range result y))); all = λ f. inr y }

@@ -1,7 +1,7 @@
 -- The lines of methods, one behind the other.
 use Rattle.std.proofs.Common.{◌≡◌, ℕ, zero, suc, ◌+◌, ◌<◌, ◌≤◌, List, [], ◌∷◌, ◌++◌, map, drop, get_or, length, slice_get, Option, sym, ap, subst, ◌∙◌, append_assoc, append-nil, arith}
 use Rattle.std.proofs.Math.ListN.{drop_of_length-le}
-use Rattle.std.proofs.lemmas.List.{drop_more}
+use Rattle.aj_lemmas.proofs.Lists.{next_drop}
 use Rattle.aj_core.specs.Core.{Program}
 use Rattle.aj_core.specs.declared.program.CoreMethod.{CoreMethod}
 use Rattle.aj_core.specs.Views.{method_of}
@@ -14,10 +14,6 @@ use Rattle.aj_paths.specs.Paths.{PathData}
 use Rattle.aj_rules.specs.Effect.{Assignment}
 use Rattle.aj_explain_commands.specs.Explained.{AreTexts, AreWithin, aliases_at, more, none, only_locks}
 use Rattle.aj_explain_commands.specs.Listed.{all_lines, lines_from}
-
--- the item at a place, and those after it
-next_drop : {A : Type 0} (xs : List A) (i : ℕ) (x : A) → i < length xs → x ≡ get_or xs i x → drop i xs ≡ x ∷ drop (i + 1) xs
-next_drop xs i x below is = drop_more xs i x below ∙ ap (λ y. y ∷ drop (i + 1) xs) (sym is)
 
 -- ---- the listing
 

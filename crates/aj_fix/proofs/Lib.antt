@@ -1,5 +1,5 @@
 -- The lemmas that several proofs share.
-mod AssignmentLemmas
+pub mod AssignmentLemmas
 pub mod NoteLemmas
 mod WaitLemmas
 mod ReachLemmas

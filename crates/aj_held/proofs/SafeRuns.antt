@@ -12,7 +12,7 @@ use Rattle.aj_steps.specs.Step.{Change, Move, Outcome, Moves, Absent, IsDone, Ha
 use Rattle.aj_steps.specs.Run.{run, run_from, inside, is_inside_some}
 use Rattle.aj_steps.specs.Units.{Entry, entry_then, entries_from, entries, units, word_of, is_commit}
 use Rattle.aj_steps.specs.Words.{IsReducible}
-use Rattle.aj_steps.proofs.RunLemmas.{step_numbered, initial_numbered}
+use Rattle.aj_steps.proofs.RunLemmas.{step_numbered, initial_numbered, moves_in}
 use Rattle.aj_safe.specs.Phases.{Phase, phase_of, allowed}
 use Rattle.aj_safe.specs.Safe.{IsFree, IsSafe, flags_after}
 use Rattle.aj_safe.specs.Turn.{Accepted}
@@ -23,13 +23,6 @@ use Rattle.std.proofs.lemmas.Option.{same_Some}
 use Rattle.aj_steps.proofs.Changed.{ThreadAfter, kept, begun, thread_after}
 use Rattle.aj_held.proofs.SafeSteps.{step_fine, step_safe, initial_safe}
 use Rattle.aj_held.proofs.UnitWords.{Judged, added_entry, judged_words}
-
-moves_in : (P : Program) (q r : State) (t : ℕ) (o : Outcome) → outcome P q t ≡ o → state_after q t o ≡ Some r → (move : Move) × (outcome P q t ≡ Moves move) × (moved t move q ≡ r)
-moves_in P q r t (Moves move) is e = (move, is, same_Some _ _ e)
-moves_in P q r t Absent is e = absurd (let k : None ≡ Some r = e in cc)
-moves_in P q r t IsDone is e = absurd (let k : None ≡ Some r = e in cc)
-moves_in P q r t (HadFaulted why) is e = absurd (let k : None ≡ Some r = e in cc)
-moves_in P q r t (Waits a h) is e = absurd (let k : None ≡ Some r = e in cc)
 
 not_bare : (p : Phase) → allowed p Bare ≡ true → ⊥
 not_bare Rattle.aj_safe.specs.Phases.Free e = absurd (let k : false ≡ true = e in cc)

@@ -5,6 +5,7 @@ use Rattle.std.specs.List.{list_all}
 use Rattle.std.proofs.lemmas.Bool.Decides.{nat_tests}
 use Rattle.std.proofs.lemmas.Bool.{and_from, eq-eqb}
 use Rattle.std.proofs.lemmas.Option.{same_Some}
+use Rattle.aj_lemmas.proofs.Numbers.{eqb_turned}
 use Rattle.aj_state.specs.declared.value.StepKind.{StepKind}
 use Rattle.aj_state.specs.declared.value.StepKind.TheVariants.{Both, Right, Left, Other, Bare}
 use Rattle.aj_steps.specs.Units.{Entry, added, is_of_thread, is_commit, word_of, units}
@@ -44,9 +45,6 @@ Judged S (u ∷ us) = ((v : ℕ) → is_of_thread v u ≡ true → accepts (S v)
 
 pub judged_same : (S T : ℕ → Bool) → ((v : ℕ) → S v ≡ T v) → (us : List (List Entry)) → Judged S us → Judged T us
 judged_same S T same us j = subst (λ x. Judged x us) (λ i v. same v i) j
-
-pub eqb_turned : (a b : ℕ) → (a == b) ≡ (b == a)
-eqb_turned a b = grind (arith, nat_tests)
 
 -- a unit of another thread isn't of this one
 other_unit : (u : List Entry) (t v : ℕ) → is_of_thread t u ≡ true → (v == t) ≡ false → is_of_thread v u ≡ false

@@ -9,6 +9,7 @@ use Rattle.aj_algebra.specs.declared.basic.Basic.{Basic}
 use Rattle.aj_algebra.specs.declared.basic.Basic.TheVariants.{Const, Mover, Atomic, Cmpd, Error}
 use Rattle.aj_algebra.specs.Basics.{rank_of, below_of, join_of}
 use Rattle.aj_algebra.specs.HeldPaths.{Held, has_path}
+use Rattle.aj_algebra.specs.Tables.{count_of_parts}
 use Rattle.aj_core.specs.Core.{Program, Method}
 use Rattle.aj_fix.specs.Assignments.{AreAtLeast, IsAbove}
 use Rattle.aj_fix.proofs.NoteLemmas.{set_at}
@@ -16,7 +17,7 @@ use Rattle.aj_rules.specs.Effect.{Assignment}
 use Rattle.aj_rules.specs.Rules.{IsPart, AtMost, IsFalling}
 use Rattle.aj_rules.proofs.SetLemmas.{first, second}
 use Rattle.aj_infer.specs.Tables.{chosen, table_of, assigned}
-use Rattle.aj_infer.specs.Cells.{basic_of, numbers_of, tables_of, count_of_parts, run_effect, demands_of, demands_at, are_below, joined, table_falls, is_met, room_of, rooms_of, AreTables}
+use Rattle.aj_infer.specs.Cells.{basic_of, numbers_of, tables_of, run_effect, demands_of, demands_at, are_below, joined, table_falls, is_met, room_of, rooms_of, AreTables}
 use Rattle.aj_infer.proofs.RunLemmas.{run_falls, run_rises}
 use Rattle.aj_infer.proofs.TableParts.{length_parts, chosen_parts, chosen_below, chosen_none, length_joined, parts_below, below_lists, falls_chosen, none_falls, parts_fall, joined_falls}
 

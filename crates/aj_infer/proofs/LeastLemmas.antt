@@ -11,6 +11,7 @@ use Rattle.aj_algebra.specs.declared.basic.Basic.{Basic}
 use Rattle.aj_algebra.specs.declared.basic.Basic.TheVariants.{Const, Mover, Atomic, Cmpd, Error}
 use Rattle.aj_algebra.specs.Basics.{rank_of, below_of}
 use Rattle.aj_algebra.specs.HeldPaths.{Held, has_path}
+use Rattle.aj_algebra.specs.Tables.{count_of_parts}
 use Rattle.aj_core.specs.Core.{Program, Method}
 use Rattle.aj_core.specs.Typed.{IsTyped}
 use Rattle.aj_fix.specs.Assignments as fix
@@ -20,16 +21,16 @@ use Rattle.aj_rules.specs.Search.{row_at as overs_at}
 use Rattle.aj_rules.specs.Overriding.{AreOverriders}
 use Rattle.aj_rules.specs.Effect.{Assignment, effect}
 use Rattle.aj_rules.specs.Rules.{IsPart, AtMost, IsFalling, IsClosed, held_in, HoldsBound, IsAdmissible, IsAccepted}
-use Rattle.aj_rules.proofs.BasicLemmas.{below_chain}
+use Rattle.aj_rules.proofs.BasicLemmas.{below_chain, both_below}
 use Rattle.aj_rules.proofs.SetLemmas.{first, second}
 use Rattle.aj_rules.proofs.UniqueSets.{unique_sets}
 use Rattle.aj_infer.specs.Tables.{chosen, table_of, assigned}
-use Rattle.aj_infer.specs.Cells.{basic_of, numbers_of, table_in, tables_in, all_const, count_of_parts, run_effect, demands_of, demands_at, are_below, table_falls, is_met_by, is_met, room_of, rooms_of, AreTables}
+use Rattle.aj_infer.specs.Cells.{numbers_of, table_in, tables_in, all_const, run_effect, demands_of, demands_at, are_below, table_falls, is_met_by, is_met, room_of, rooms_of, AreTables}
 use Rattle.aj_infer.specs.Least.{IsLeast}
 use Rattle.aj_infer.specs.Verdicts.{HoldBounds}
 use Rattle.aj_infer.proofs.RunLemmas.{greatest_first, greatest_of_each, greatest_least, run_falls, run_rises}
 use Rattle.aj_infer.proofs.TableParts.{length_parts, chosen_parts, chosen_below, chosen_none, parts_below, in_first, in_second, in_either, in_filter, of_list, filter_has, bits_same, none_falls, parts_fall}
-use Rattle.aj_infer.proofs.CellLemmas.{tables_same, length_numbers, length_above, tables_fall, above_assigned, demand_is, le_test, basic_rank}
+use Rattle.aj_infer.proofs.CellLemmas.{tables_same, length_numbers, length_above, tables_fall, above_assigned, demand_is, le_test}
 use Rattle.aj_rules.proofs.Required.{required_in_rel}
 
 const_least : (b : Basic) → AtMost Const b
@@ -294,16 +295,9 @@ least_accepts P sets A typed relevant few least =
       λ accepted. decides.1 (accepted.assignment, subst (λ s. IsAdmissible P (rel_of s) accepted.assignment) (unique_sets P accepted.sets sets accepted.relevant relevant) accepted.admissible),
     )
 
-same_basic : (a b : Basic) → AtMost a b → AtMost b a → a ≡ b
-same_basic a b low high =
-    let first_low = le_test a b low in
-    let second_low = le_test b a high in
-    let same : rank_of a ≡ rank_of b = omega arith in
-    sym (basic_rank a) ∙ ap basic_of same ∙ basic_rank b
-
 -- there is one least assignment
 pub least_unique : (P : Program) (rel : ℕ → List PathData) (A B : Assignment) → IsLeast P rel A → IsLeast P rel B → (m : ℕ) (H : Held) → A m H ≡ B m H
 least_unique P rel A B a b m H =
     let K : Held = λ q. has_path (rel m) q && H q in
     let within : IsPart K (has_path (rel m)) = λ q e. first (has_path (rel m) q) (H q) e in
-    a.relevant m H ∙ same_basic (A m K) (B m K) (a.below B b.falling b.closed m K within) (b.below A a.falling a.closed m K within) ∙ sym (b.relevant m H)
+    a.relevant m H ∙ both_below (A m K) (B m K) (a.below B b.falling b.closed m K within) (b.below A a.falling a.closed m K within) ∙ sym (b.relevant m H)

@@ -3,7 +3,6 @@ use Rattle.std.proofs.Common.{◌≡◌, ℕ, zero, suc, ◌+◌, ◌-◌, ◌/�
 use Rattle.std.specs.Prelude.{if◌then◌else◌}
 use Rattle.std.proofs.lemmas.List.{length-append, length-take, length-drop}
 use Rattle.std.proofs.lemmas.List.Folds.{list_any-append}
-use Rattle.std.proofs.Math.Seq.{take-append_seam, drop-append_seam}
 use Rattle.std.proofs.lemmas.Bool.{and_from, or_cases, or_left, or_right}
 use Rattle.aj_paths.specs.Paths.{PathData, path_eq}
 use Rattle.aj_paths.proofs.PathOrder.{eq_is}
@@ -11,12 +10,14 @@ use Rattle.aj_algebra.specs.declared.basic.Basic.{Basic}
 use Rattle.aj_algebra.specs.declared.basic.Basic.TheVariants.{Const}
 use Rattle.aj_algebra.specs.Basics.{below_of, join_of}
 use Rattle.aj_algebra.specs.HeldPaths.{Held, has_path}
+use Rattle.aj_algebra.specs.Tables.{front, half, count_of_parts}
+use Rattle.aj_algebra.proofs.Halves.{half_is, half_sizes}
 use Rattle.aj_rules.specs.Rules.{IsPart, AtMost}
 use Rattle.aj_rules.proofs.BasicLemmas.{below_itself, below_chain, join_mono}
 use Rattle.aj_rules.proofs.SetLemmas.{first, second}
 use Rattle.aj_rules.proofs.UniqueSets.{first_has}
-use Rattle.aj_infer.specs.Tables.{front, half, chosen}
-use Rattle.aj_infer.specs.Cells.{at_parts, count_of_parts, are_below, joined, table_falls}
+use Rattle.aj_infer.specs.Tables.{chosen}
+use Rattle.aj_infer.specs.Cells.{at_parts, are_below, joined, table_falls}
 
 -- Sets of paths as lists.
 
@@ -98,13 +99,6 @@ append_part hs xs ys part q e = elim (in_either hs xs q e) as (λ _. has_path (h
 pub length_parts : (f : List PathData → Basic) (held ps : List PathData) → length (at_parts f held ps) ≡ count_of_parts ps
 length_parts f held [] = refl
 length_parts f held (p ∷ ps) = length-append (at_parts f held ps) (at_parts f (held ++ p ∷ []) ps) ∙ (λ i. length_parts f held ps i + length_parts f (held ++ p ∷ []) ps i)
-
-half_length : (xs ys : List Basic) → length xs ≡ length ys → length (xs ++ ys) / 2 ≡ length xs
-half_length xs ys e = let l = length-append xs ys in omega (arith, l, e)
-
-half_is : (b : Bool) (xs ys : List Basic) → length xs ≡ length ys → half b (xs ++ ys) ≡ (if b then ys else xs)
-half_is true xs ys e = ap (λ n. drop n (xs ++ ys)) (half_length xs ys e) ∙ drop-append_seam xs ys
-half_is false xs ys e = ap (λ n. take n (xs ++ ys)) (half_length xs ys e) ∙ take-append_seam xs ys
 
 chosen_at : (f : List PathData → Basic) (H : Held) (held : List PathData) (p : PathData) (ps : List PathData) (b : Bool)
     → chosen (map H ps) (at_parts f held ps) ≡ f (held ++ filter H ps)
@@ -238,10 +232,6 @@ pub bits_same : (H : Held) (ps : List PathData) → map H ps ≡ map (λ q. has_
 bits_same H ps = bits_same_in H ps ps (λ q e. e)
 
 -- Falling tables.
-
-half_sizes : (p : PathData) (ps : List PathData) (table : List Basic) (b : Bool) → length table ≡ count_of_parts (p ∷ ps) → length (half b table) ≡ count_of_parts ps
-half_sizes p ps table true e = let l = length-drop (length table / 2) table in omega (arith, l, e)
-half_sizes p ps table false e = let l = length-take (length table / 2) table in omega (arith, l, e)
 
 falls_at : (H K : Held) (p : PathData) (ps : List PathData) (table : List Basic) (h k : Bool) → (h ≡ true → k ≡ true) → length table ≡ count_of_parts (p ∷ ps) → are_below (half true table) (half false table) ≡ true
     → ((b : Bool) → AtMost (chosen (map K ps) (half b table)) (chosen (map H ps) (half b table))) → AtMost (chosen (map K ps) (half k table)) (chosen (map H ps) (half h table))

@@ -5,11 +5,12 @@ use Rattle.aj_algebra.specs.declared.basic.Basic.{Basic}
 use Rattle.aj_algebra.specs.declared.basic.Basic.TheVariants.{Const, Mover, Atomic, Cmpd, Error}
 use Rattle.aj_algebra.specs.Basics.{rank_of, below_of, join_of}
 use Rattle.aj_algebra.specs.HeldPaths.{Held, has_path}
+use Rattle.aj_algebra.specs.Tables.{half, count_of_parts}
 use Rattle.aj_core.specs.Core.{Program, Method}
 use Rattle.aj_rules.specs.Effect.{Assignment, effect}
 use Rattle.aj_rules.specs.Rules.{held_in}
 use Rattle.aj_callers.specs.Called.{AreCallers}
-use Rattle.aj_infer.specs.Tables.{half, table_of, assigned}
+use Rattle.aj_infer.specs.Tables.{table_of, assigned}
 
 -- the basic of a number; error for all numbers past its own
 abbrev pub basic_of : ℕ → Basic
@@ -44,11 +45,6 @@ tables_in rel A m (suc count) = table_in rel A m ∷ tables_in rel A (suc m) cou
 -- const everywhere
 abbrev pub all_const : Assignment
 all_const m H = Const
-
--- how many parts there are
-abbrev pub count_of_parts : List PathData → ℕ
-count_of_parts [] = 1
-count_of_parts (p ∷ ps) = count_of_parts ps + count_of_parts ps
 
 -- the greatest of a basic and what is assigned to some methods, to each at those of the held paths that are relevant to it
 abbrev pub greatest_of : (ℕ → List PathData) → Assignment → Basic → List ℕ → Held → Basic

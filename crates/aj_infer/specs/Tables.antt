@@ -1,18 +1,9 @@
 -- Tables: the basics of a method at the parts of its relevant paths, and the assignment that tables make.
-use Rattle.std.specs.Prelude.{ℕ, Bool, List, [], ◌∷◌, map, Option, Some, None, slice_get, length, take, drop, ◌/◌, if◌then◌else◌}
+use Rattle.std.specs.Prelude.{ℕ, Bool, List, [], ◌∷◌, map, Option, Some, None, slice_get}
 use Rattle.aj_paths.specs.Paths.{PathData}
 use Rattle.aj_algebra.specs.declared.basic.Basic.{Basic}
-use Rattle.aj_algebra.specs.declared.basic.Basic.TheVariants.{Const}
+use Rattle.aj_algebra.specs.Tables.{front, half}
 use Rattle.aj_rules.specs.Effect.{Assignment}
-
--- the first basic of a table; const where there is none
-abbrev pub front : List Basic → Basic
-front [] = Const
-front (b ∷ bs) = b
-
--- the second half of a list where a test passes, else the first
-abbrev pub half : Bool → List Basic → List Basic
-half passes table = if passes then drop (length table / 2) table else take (length table / 2) table
 
 -- the entry of a table by tests: each test takes one half of what is left
 abbrev pub chosen : List Bool → List Basic → Basic

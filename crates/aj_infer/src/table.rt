@@ -2,8 +2,9 @@
 ghost use Rattle.std.specs.Prelude.{◌≡◌, true, map, IfOk, slice_get};
 ghost use Rattle.aj_algebra.specs.Values.{Keeps};
 ghost use Rattle.aj_algebra.specs.HeldPaths.{Held};
+ghost use Rattle.aj_algebra.specs.Tables.{front, half};
 ghost use Rattle.aj_rules.specs.Near.{rel_of};
-ghost use Rattle.aj_infer.specs.Tables.{front, half, chosen, table_of, assigned};
+ghost use Rattle.aj_infer.specs.Tables.{chosen, table_of, assigned};
 ghost use Rattle.aj_infer.specs.Names.{held_partners};
 
 use aj_algebra::{Algebra, Basic};

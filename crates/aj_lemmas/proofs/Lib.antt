@@ -1,4 +1,5 @@
 -- General lemmas, which crates above cite.
 pub mod Lists
 pub mod Options
+pub mod Numbers
 pub mod Digits

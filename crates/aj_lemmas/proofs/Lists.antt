@@ -1,8 +1,10 @@
 -- Lists, one after the other, and from a place on.
-use Rattle.std.proofs.Common.{◌≡◌, ℕ, zero, suc, ◌+◌, ◌<◌, List, [], ◌∷◌, ◌++◌, length, drop, get_or, Some, Contains, refl, sym, ap, ◌∙◌, ◌⊎◌, inl, inr, arith}
+use Rattle.std.proofs.Common.{◌≡◌, ℕ, zero, suc, ◌+◌, ◌<◌, List, [], ◌∷◌, ◌++◌, length, take, drop, get_or, Some, Contains, Bool, true, refl, sym, ap, subst, ◌∙◌, ◌⊎◌, inl, inr, arith}
 use Rattle.std.specs.Prelude.{slice_get}
-use Rattle.std.proofs.lemmas.List.{drop_more}
-use Rattle.std.proofs.lemmas.Option.{slice_get_within}
+use Rattle.std.proofs.lemmas.List.{drop_more, take_more}
+use Rattle.std.proofs.lemmas.Option.{slice_get_within, get_or_from_slice_get}
+use Rattle.std.specs.List.{list_all}
+use Rattle.std.proofs.lemmas.Bool.{and_parts}
 
 -- a place of the first list
 pub get_left : {A : Type 0} (xs ys : List A) (k : ℕ) → k < length xs → slice_get (xs ++ ys) k ≡ slice_get xs k
@@ -41,6 +43,13 @@ get_below (x ∷ xs) (suc k) below = get_below xs k (omega arith)
 pub next_drop : {A : Type 0} (xs : List A) (k : ℕ) (x : A) → k < length xs → x ≡ get_or xs k x → drop k xs ≡ x ∷ drop (k + 1) xs
 next_drop xs k x below is = drop_more xs k x below ∙ ap (λ y. y ∷ drop (k + 1) xs) (sym is)
 
+-- the items before a place, and the one there
+pub next_take : {A : Type 0} (xs : List A) (k : ℕ) (x : A) → k < length xs → x ≡ get_or xs k x → take (k + 1) xs ≡ take k xs ++ x ∷ []
+next_take xs k x below is = take_more xs k x below ∙ ap (λ y. take k xs ++ y ∷ []) (sym is)
+
+pub take_at : {A : Type 0} (xs : List A) (k : ℕ) (x : A) → slice_get xs k ≡ Some x → take (k + 1) xs ≡ take k xs ++ x ∷ []
+take_at xs k x is = next_take xs k x (slice_get_within xs k x is) (sym (get_or_from_slice_get xs k x x is))
+
 -- what a list contains is its first item or one of the others
 pub contains_cases : {A : Type 0} (x y : A) (xs : List A) → Contains (x ∷ xs) y → (x ≡ y) ⊎ Contains xs y
 contains_cases x y xs (zero, below, is) = inl is
@@ -48,3 +57,11 @@ contains_cases x y xs (suc k, below, is) = inr (k, omega arith, is)
 
 pub contains_later : {A : Type 0} (x y : A) (xs : List A) → Contains xs y → Contains (x ∷ xs) y
 contains_later x y xs (k, below, is) = (suc k, omega arith, is)
+
+-- a test that all items pass
+pub all_at : {A : Type 0} (f : A → Bool) (xs : List A) → list_all f xs ≡ true → (x : A) → Contains xs x → f x ≡ true
+all_at f [] all x (k, below, is) = absurd (omega arith)
+all_at f (y ∷ ys) all x has = elim (contains_cases y x ys has) as (λ _. f x ≡ true) [
+  | inl e ↦ subst (λ z. f z ≡ true) e (and_parts (f y) (list_all f ys) all).0
+  | inr later ↦ all_at f ys (and_parts (f y) (list_all f ys) all).1 x later
+]

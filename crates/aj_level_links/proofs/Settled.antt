@@ -4,19 +4,14 @@ use Rattle.std.specs.Prelude.{Option, OnOk, max, unwrap_or}
 use Rattle.std.proofs.lemmas.Bool.{eqb-true, eqb-false, not-false}
 use Rattle.std.proofs.lemmas.List.{length-map}
 use Rattle.std.proofs.lemmas.Option.{none-some, same_Some, slice_get_within, slice_get-get_or}
+use Rattle.std.proofs.Math.Nat.{le_trans}
 use Rattle.aj_lemmas.proofs.Lists.{contains_later}
 use Rattle.aj_fix.specs.Assignments.{Assignment, IsAbove, IsClosed}
+use Rattle.aj_fix.proofs.AssignmentLemmas.{length-above}
 use Rattle.aj_level_links.specs.declared.link.Link.{Link}
 use Rattle.aj_level_links.specs.Greatest.{links_at, Reached, over_link, AreGreatest}
 use Rattle.aj_level_links.specs.Rises.{are_met, are_met_from, all_raised, raised_from, marks_of, numbers_of, is_met, leads_to}
 use Rattle.aj_level_links.proofs.Raising.{all_length, all_cases, all_has, all_other, all_same, met_from, met_at, met_grows}
-
--- both have as many cells
-length_above : (high x : Assignment) → IsAbove high x → length high ≡ length x
-length_above [] [] up = refl
-length_above [] (b ∷ x) up = absurd up
-length_above (a ∷ high) [] up = absurd up
-length_above (a ∷ high) (b ∷ x) up = ap suc (length_above high x up.1)
 
 pub numbers_marks : (x : List ℕ) → numbers_of (marks_of x) ≡ x
 numbers_marks [] = refl
@@ -51,9 +46,6 @@ above_new ([] ∷ y) (w ∷ x) (u ∷ z) above count each = absurd above.0
 above_new ((n ∷ []) ∷ y) (w ∷ x) (u ∷ z) above count each = ((each 0 u n refl refl, tt), above_new y x z above.1 (omega (arith, count)) (λ d a b first second. each (suc d) a b first second))
 above_new ((n ∷ (m ∷ ns)) ∷ y) (w ∷ x) (u ∷ z) above count each = absurd above.0.1
 
-through : (a b c : ℕ) → a ≤ b → b ≤ c → a ≤ c
-through a b c first second = omega (arith, first, second)
-
 rises_less : (from w n : ℕ) → from ≤ w → max from n ≤ max w n
 rises_less from w n le = omega (arith, le)
 
@@ -70,10 +62,10 @@ module _ (rows : List (List Link)) (x : List ℕ) (c : ℕ) (from : ℕ) (is : s
   asked_under y closed above l v has at =
       let own = above_at y x c from above is in
       let inside = slice_get_within x c from is in
-      let count = length_above y (marks_of x) above ∙ length-map x (λ (u : ℕ). u ∷ []) in
+      let count = length-above y (marks_of x) above ∙ length-map x (λ (u : ℕ). u ∷ []) in
       let met : is_met rows y c ≡ true = closed c (subst (λ n. c < n) (sym count) inside) in
       let there : are_met (numbers_of y) own.0 (links_at rows c) ≡ true = sym (ap (λ o. are_met_from (numbers_of y) o (links_at rows c)) own.1) ∙ met in
-      through (max from l.level) (max own.0 l.level) v (rises_less from own.0 l.level own.2) (met_at (numbers_of y) own.0 (links_at rows c) l v there has at)
+      le_trans {n = max from l.level} {m = max own.0 l.level} {k = v} (rises_less from own.0 l.level own.2) (met_at (numbers_of y) own.0 (links_at rows c) l v there has at)
 
   all_under : (y : Assignment) → IsClosed (is_met rows) y → IsAbove y (marks_of x) → IsAbove y (marks_of (all_raised x from (links_at rows c)))
   all_under y closed above = above_new y x (all_raised x from (links_at rows c)) above (all_length x from (links_at rows c)) (λ d u v new at.

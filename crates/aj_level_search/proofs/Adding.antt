@@ -3,9 +3,9 @@ use Rattle.std.proofs.Common.{◌≡◌, ◌⊎◌, inl, inr, ◌<◌, ◌≤◌
 use Rattle.std.specs.Prelude.{Option, Contains, max, nat_lt, unwrap_or}
 use Rattle.std.proofs.lemmas.Bool.{ltb-true, ltb-false}
 use Rattle.std.proofs.lemmas.List.Elements.{Contains-append_left, Contains-append_right, Contains-append_cases}
-use Rattle.std.proofs.lemmas.List.{take_all, take_more, map-append}
+use Rattle.std.proofs.lemmas.List.{take_all, map-append}
 use Rattle.std.proofs.lemmas.Option.{none-some, same_Some, slice_get_within}
-use Rattle.aj_lemmas.proofs.Lists.{at_left, at_either, get_last, get_left, get_below, contains_cases}
+use Rattle.aj_lemmas.proofs.Lists.{at_left, at_either, get_last, get_left, get_below, contains_cases, next_take}
 use Rattle.aj_paths.specs.Paths.{PathData}
 use Rattle.aj_algebra.specs.HeldPaths.{Held, has_path}
 use Rattle.aj_core.specs.Core.{Class}
@@ -255,16 +255,13 @@ runs_to (x ∷ cs) m (suc c) class is run = Contains-append_right (run_in x.run)
 
 -- Steps of loops.
 
-next_taken : {A : Type 0} (xs : List A) (i : ℕ) (x : A) → i < length xs → x ≡ get_or xs i x → take (i + 1) xs ≡ take i xs ++ x ∷ []
-next_taken xs i x below is = take_more xs i x below ∙ ap (λ y. take i xs ++ y ∷ []) (sym is)
-
 pub begun_start : (ms : List ℕ) (q : Queue) → q ≡ record { cells = []; levels = [] } → AreBegun (take 0 ms) q
 begun_start ms q is = subst (λ z. AreBegun [] z) (sym is) begun_none
 
 pub begun_step : (ms : List ℕ) (i m : ℕ) (old new : Queue) (cell : Cell) (level at : ℕ) → i < length ms → m ≡ get_or ms i m → cell.method ≡ m → cell.held.items ≡ [] → level ≡ 0 → AreBegun (take i ms) old → IsAdded old cell.method (set_of cell) level at new
     → AreBegun (take (i + 1) ms) new
 begun_step ms i m old new cell level at below is method held zero_level begun added =
-    subst (λ ns. AreBegun ns new) (sym (next_taken ms i m below is)) (begun_more (take i ms) old new m at begun
+    subst (λ ns. AreBegun ns new) (sym (next_take ms i m below is)) (begun_more (take i ms) old new m at begun
     (subst (λ n. IsAdded old n (λ p. false) 0 at new) method (subst (λ ps. IsAdded old cell.method (has_path ps) 0 at new) held (subst (λ n. IsAdded old cell.method (set_of cell) n at new) zero_level added))))
 
 pub begun_all : (ms : List ℕ) (i : ℕ) (q : Queue) → length ms ≤ i → AreBegun (take i ms) q → AreBegun ms q
@@ -272,7 +269,7 @@ begun_all ms i q end begun = subst (λ xs. AreBegun xs q) (take_all i ms end) be
 
 -- one visit more of what was seen
 seen_next : (seen : List Seen) (i : ℕ) (s : Seen) → i < length seen → s ≡ get_or seen i s → map told_of (take (i + 1) seen) ≡ map told_of (take i seen) ++ told_of s ∷ []
-seen_next seen i s below is = ap (map told_of) (next_taken seen i s below is) ∙ map-append told_of (take i seen) (s ∷ [])
+seen_next seen i s below is = ap (map told_of) (next_take seen i s below is) ∙ map-append told_of (take i seen) (s ∷ [])
 
 -- one visit more, with what it adds
 pub seen_step : (seen : List Seen) (i : ℕ) (s : Seen) (from : ℕ) (old now new : Queue) (links longer : List Link) → i < length seen → s ≡ get_or seen i s → AreAdded (map told_of (take i seen)) from old now links → IsNoted (told_of s) from now new links longer

@@ -2,6 +2,7 @@
 use Rattle.std.proofs.Common.{◌≡◌, ◌⊎◌, inl, inr, ◌<◌, ◌≤◌, ℕ, zero, suc, false, List, [], ◌∷◌, length, Some, None, Result, Ok, Err, slice_get, refl, sym, ◌∙◌, ap, subst, arith}
 use Rattle.std.specs.Prelude.{Option, Contains, max, IfOk, MatchOption}
 use Rattle.std.proofs.lemmas.Option.{none-some, same_Some, slice_get_within}
+use Rattle.std.proofs.Math.Nat.{le_trans}
 use Rattle.aj_lemmas.proofs.Lists.{get_below, contains_cases, contains_later}
 use Rattle.aj_paths.specs.Paths.{PathData}
 use Rattle.aj_algebra.specs.HeldPaths.{Held}
@@ -25,9 +26,6 @@ use Rattle.aj_level_search.proofs.Shifts.{body_shifts}
 use Rattle.aj_level_search.proofs.Tells.{nothing_there, first_there, told_call, call_told, bad_told, told_bad, told_body, Runs}
 use Rattle.aj_level_search.proofs.Adding.{runs_from, runs_to}
 use Rattle.aj_level_search.proofs.FirstLemmas.{firsts_none, firsts_some, bad_in_all, all_in_bad, method_later, place_later, level_lower}
-
-through : (a b c : ℕ) → a ≤ b → b ≤ c → a ≤ c
-through a b c one other = omega (arith, one, other)
 
 -- a cell with a link is there
 links_there : (rows : List (List Link)) (c : ℕ) (link : Link) → Contains (links_at rows c) link → c < length rows
@@ -181,7 +179,7 @@ module _ (P : Program) (rel : ℕ → List PathData) (level : ℕ → ℕ) (over
                 bad = (body.0, set_of found.cell, found.from, subst (λ n. Context P rel level n (set_of found.cell) found.from) (sym found.of_method) context, ap (slice_get P.methods) found.of_method ∙ body.1, visit);
                 earlier = λ k n c u less bad. let r = above k n c u bad in method_later k n r.0 b.method b.place b.under (answer.before (record { method = k; place = n; class = c; under = r.0 }) (inr r.2)) less;
                 first = λ n c u bad. let r = above b.method n c u bad in place_later b.method n r.0 b.method b.place b.under (answer.before (record { method = b.method; place = n; class = c; under = r.0 }) (inr r.2)) refl;
-                greatest = λ c u bad. let r = above b.method b.place c u bad in through u r.0 b.under r.1 (level_lower b.method b.place r.0 b.method b.place b.under (answer.before (record { method = b.method; place = b.place; class = c; under = r.0 }) (inr r.2)) refl refl);
+                greatest = λ c u bad. let r = above b.method b.place c u bad in le_trans {n = u} {m = r.0} {k = b.under} r.1 (level_lower b.method b.place r.0 b.method b.place b.under (answer.before (record { method = b.method; place = b.place; class = c; under = r.0 }) (inr r.2)) refl refl);
               }
 
       -- so the first of all tells which is the case

@@ -28,21 +28,13 @@ use Rattle.aj_state.specs.States.{Frame}
 use Rattle.aj_safe.proofs.LeadLemmas.{leads_grows, may_shrink, sound_grows, each_grows}
 use Rattle.aj_safe.proofs.FitLemmas.{same_slot, other_slot, agrees_shrinks}
 use Rattle.aj_safe.proofs.SetLemmas.{after_sound, after_fresh}
-use Rattle.aj_safe.proofs.Unfolding.{pushed_each, taken_all, dropped_all, on_pushed}
+use Rattle.aj_safe.proofs.Unfolding.{pushed_each, taken_all, dropped_all, on_pushed, exprs_release, stmts_release}
 use Rattle.aj_typed_runs.specs.SlotTypes.{slot_types}
 use Rattle.aj_typed_runs.specs.TypedStates.{Stays}
 use Rattle.aj_levels.specs.Walks.{Visit, lock_class, call_visits, expr_visits, exprs_visits, sync_visits, visits, block_visits}
 use Rattle.aj_levels.proofs.Ranked.{IsUnder, Stands, At, Fine, RankedAct, RankedItem, Ranked, RankedNext, RankedOpens, FramesRanked}
 
 -- Releases in lists of parts.
-
-exprs_release : (a : Address) (es : Exprs) (more : List Item) → has_release a (exprs_items es more) ≡ has_release a more
-exprs_release a no_exprs more = refl
-exprs_release a (and_expr e es) more = exprs_release a es more
-
-stmts_release : (a : Address) (ss : Stmts) (more : List Item) → has_release a (stmts_items ss more) ≡ has_release a more
-stmts_release a no_stmts more = refl
-stmts_release a (and_stmt s ss) more = stmts_release a ss more
 
 gets_release : (a : Address) (fs : List ℕ) (st : Stmt) (more : List Item) → has_release a (gets fs (Act (W.Acquire st) ∷ more)) ≡ has_release a more
 gets_release a [] st more = refl

@@ -2,9 +2,10 @@
 use Rattle.std.proofs.Common.{◌≡◌, inl, inr, ◌≤◌, ◌<◌, ℕ, ◌+◌, ◌-◌, Bool, true, false, ◌||◌, ◌==◌, List, [], ◌∷◌, ◌++◌, Some, None, refl, sym, ap, subst, ◌∙◌, arith}
 use Rattle.std.specs.Prelude.{Option, Contains, slice_get, unwrap_or, option_and_then, nat_lt, max, length, is_some, if◌then◌else◌}
 use Rattle.std.proofs.lemmas.Bool.Decides.{nat_tests}
-use Rattle.std.proofs.lemmas.Bool.{eq-eqb, or_parts, and_parts}
+use Rattle.std.proofs.lemmas.Bool.{eq-eqb, or_parts, and_parts, cond-true, cond-false}
 use Rattle.std.proofs.lemmas.Option.{none-some, same_Some}
 use Rattle.aj_lemmas.proofs.Options.{then_parts, if_taken}
+use Rattle.aj_lemmas.proofs.Numbers.{eqb_turned}
 use Rattle.aj_paths.specs.Paths.{PathData, path_eq, extended, extended_some}
 use Rattle.aj_paths.proofs.PathOrder.{eq_is}
 use Rattle.aj_algebra.specs.HeldPaths.{Held, with_path, has_path}
@@ -39,6 +40,7 @@ use Rattle.aj_safe.proofs.Actions.{address_is}
 use Rattle.aj_safe.proofs.Calls.{entry_sound}
 use Rattle.aj_safe.proofs.Counting.{none_count}
 use Rattle.aj_safe.proofs.Unfolding.{on_pushed}
+use Rattle.aj_safe.proofs.LockActions.{not_both, one_of, one_more, one_less, none_left}
 use Rattle.aj_typed_runs.specs.SlotTypes.{SlotType, slot_types, IsMarked, Has}
 use Rattle.aj_typed_runs.specs.TypedStates.{IsTypedHeap, AreTypedSlots}
 use Rattle.aj_levels.specs.Walks.{Visit, Comes, Bad, class_in, last_type, lock_class, call_visits, expr_visits, sync_visits, visits, body_visits}
@@ -53,32 +55,6 @@ pub record IsOrderedProgram (P : Program) (rel : ℕ → List PathData) (level :
   pub may_run : (c m n : ℕ) → target_of P c m ≡ Some n → MayRun P n m
 
 -- Numbers.
-
-not_both : (a t u : ℕ) → (a == t) ≡ true → (u == t) ≡ false → (a == u) ≡ false
-not_both a t u e k = grind (arith, nat_tests)
-
-not_self : (t u : ℕ) → (u == t) ≡ false → (t == u) ≡ false
-not_self t u e = grind (arith, nat_tests)
-
-chosen : (b : Bool) (n m : ℕ) → b ≡ true → (if b then n else m) ≡ n
-chosen true n m e = refl
-chosen false n m e = absurd cc
-
-unchosen : (b : Bool) (n m : ℕ) → b ≡ false → (if b then n else m) ≡ m
-unchosen true n m e = absurd cc
-unchosen false n m e = refl
-
-one_of : (m k : ℕ) → 0 ≡ m + k → 1 ≡ 1 + m + k
-one_of m k e = omega (arith, e)
-
-one_more : (n m k : ℕ) → n ≡ m + k → n + 1 ≡ 1 + m + k
-one_more n m k e = omega (arith, e)
-
-one_less : (n m k : ℕ) → n ≡ 1 + m + k → nat_lt 1 n ≡ true → n - 1 ≡ m + k
-one_less n m k e less = omega (arith, e)
-
-none_left : (n m k : ℕ) → n ≡ 1 + m + k → nat_lt 1 n ≡ false → 0 ≡ m + k
-none_left n m k e less = grind (arith, nat_tests)
 
 still_held : (n : ℕ) → nat_lt 1 n ≡ true → 0 < n - 1
 still_held n less = grind (arith, nat_tests)
@@ -467,26 +443,26 @@ module _ (P : Program) (rel : ℕ → List PathData) (level : ℕ → ℕ) (see 
 
           free_counts : (b : Address) → see.lock_at a ≡ None → (same : Bool) → address_eq b a ≡ same
               → held_count t (if same then Some (record { holder = t; count = 1 }) else see.lock_at b) ≡ (if same then 1 + count_release b rest else count_release b rest) + count_frames b below
-          free_counts b none true at = chosen (t == t) 1 0 (eq-eqb t t refl) ∙ one_of (count_release b rest) (count_frames b below) (sym (ap (λ c. held_count t (see.lock_at c)) (same_address b a at) ∙ ap (held_count t) none) ∙ own_rest b)
+          free_counts b none true at = cond-true (t == t) 1 0 (eq-eqb t t refl) ∙ one_of (count_release b rest) (count_frames b below) (sym (ap (λ c. held_count t (see.lock_at c)) (same_address b a at) ∙ ap (held_count t) none) ∙ own_rest b)
           free_counts b none false at = own_rest b
 
           again_counts : (b : Address) (hold : Hold) → see.lock_at a ≡ Some hold → (hold.holder == t) ≡ true → (same : Bool) → address_eq b a ≡ same
               → held_count t (if same then Some (taken_again hold) else see.lock_at b) ≡ (if same then 1 + count_release b rest else count_release b rest) + count_frames b below
           again_counts b hold held mine true at =
-              chosen (hold.holder == t) (hold.count + 1) 0 mine
-              ∙ one_more hold.count (count_release b rest) (count_frames b below) (sym (ap (λ c. held_count t (see.lock_at c)) (same_address b a at) ∙ ap (held_count t) held ∙ chosen (hold.holder == t) hold.count 0 mine) ∙ own_rest b)
+              cond-true (hold.holder == t) (hold.count + 1) 0 mine
+              ∙ one_more hold.count (count_release b rest) (count_frames b below) (sym (ap (λ c. held_count t (see.lock_at c)) (same_address b a at) ∙ ap (held_count t) held ∙ cond-true (hold.holder == t) hold.count 0 mine) ∙ own_rest b)
           again_counts b hold held mine false at = own_rest b
 
           take_held_ranked : Walked part (env_of f.slots) [] → (hold : Hold) → see.lock_at a ≡ Some hold → (mine : Bool) → (hold.holder == t) ≡ mine → OutcomeRanked (take_held P see t f below rest s a hold mine)
           take_held_ranked walked hold held false at = tt
           take_held_ranked walked hold held true at = lock_with Both (taken_again hold) (held_once_more hold.count) walked
               (λ b. again_counts b hold held at (address_eq b a) refl)
-              (λ u other. unchosen (hold.holder == u) (hold.count + 1) 0 (not_both hold.holder t u at other) ∙ sym (ap (held_count u) held ∙ unchosen (hold.holder == u) hold.count 0 (not_both hold.holder t u at other)))
+              (λ u other. cond-false (hold.holder == u) (hold.count + 1) 0 (not_both hold.holder t u at other) ∙ sym (ap (held_count u) held ∙ cond-false (hold.holder == u) hold.count 0 (not_both hold.holder t u at other)))
 
           take_ranked : Walked part (env_of f.slots) [] → (hold : Option Hold) → see.lock_at a ≡ hold → OutcomeRanked (take P see t f below rest s a hold)
           take_ranked walked None at = lock_with Right (record { holder = t; count = 1 }) (omega arith) walked
               (λ b. free_counts b at (address_eq b a) refl)
-              (λ u other. unchosen (t == u) 1 0 (not_self t u other) ∙ sym (ap (held_count u) at))
+              (λ u other. cond-false (t == u) 1 0 (eqb_turned t u ∙ other) ∙ sym (ap (held_count u) at))
           take_ranked walked (Some hold) at = take_held_ranked walked hold at (hold.holder == t) refl
 
           module _ (heap : IsTypedHeap P level see.object_at) (typed : AreTypedSlots P level see.object_at (slot_types method) f.slots) (H : Held) (e : ℕ)
@@ -605,7 +581,7 @@ module _ (P : Program) (rel : ℕ → List PathData) (level : ℕ → ℕ) (see 
     module _ (a : Address) (own_next : (b : Address) → held_count t (see.lock_at b) ≡ count_release b (Act (W.Release a) ∷ rest) + count_frames b below) (g : Walked rest (env_of f.slots) []) where
       own_here : (hold : Hold) → see.lock_at a ≡ Some hold → (hold.holder == t) ≡ true → hold.count ≡ 1 + count_release a rest + count_frames a below
       own_here hold held mine =
-          sym (ap (held_count t) held ∙ chosen (hold.holder == t) hold.count 0 mine) ∙ own_next a ∙ ap (λ b. (if b then 1 + count_release a rest else count_release a rest) + count_frames a below) (address_itself a)
+          sym (ap (held_count t) held ∙ cond-true (hold.holder == t) hold.count 0 mine) ∙ own_next a ∙ ap (λ b. (if b then 1 + count_release a rest else count_release a rest) + count_frames a below) (address_itself a)
 
       back : Hold → Option Hold
       back hold = given_back hold
@@ -615,12 +591,12 @@ module _ (P : Program) (rel : ℕ → List PathData) (level : ℕ → ℕ) (see 
       back_count u hold false e = refl
 
       own_back : (hold : Hold) → see.lock_at a ≡ Some hold → (hold.holder == t) ≡ true → (more : Bool) → nat_lt 1 hold.count ≡ more → held_count t (if more then Some (record hold { count = hold.count - 1 }) else None) ≡ count_release a rest + count_frames a below
-      own_back hold held mine true e = chosen (hold.holder == t) (hold.count - 1) 0 mine ∙ one_less hold.count (count_release a rest) (count_frames a below) (own_here hold held mine) e
+      own_back hold held mine true e = cond-true (hold.holder == t) (hold.count - 1) 0 mine ∙ one_less hold.count (count_release a rest) (count_frames a below) (own_here hold held mine) e
       own_back hold held mine false e = none_left hold.count (count_release a rest) (count_frames a below) (own_here hold held mine) e
 
       other_back : (u : ℕ) (hold : Hold) → see.lock_at a ≡ Some hold → (hold.holder == u) ≡ false → (more : Bool) → held_count u (if more then Some (record hold { count = hold.count - 1 }) else None) ≡ held_count u (see.lock_at a)
-      other_back u hold held other true = unchosen (hold.holder == u) (hold.count - 1) 0 other ∙ sym (ap (held_count u) held ∙ unchosen (hold.holder == u) hold.count 0 other)
-      other_back u hold held other false = sym (ap (held_count u) held ∙ unchosen (hold.holder == u) hold.count 0 other)
+      other_back u hold held other true = cond-false (hold.holder == u) (hold.count - 1) 0 other ∙ sym (ap (held_count u) held ∙ cond-false (hold.holder == u) hold.count 0 other)
+      other_back u hold held other false = sym (ap (held_count u) held ∙ cond-false (hold.holder == u) hold.count 0 other)
 
       back_at : (hold : Hold) → see.lock_at a ≡ Some hold → (hold.holder == t) ≡ true → (b : Address) (same : Bool) → address_eq b a ≡ same → held_count t (if same then given_back hold else see.lock_at b) ≡ count_release b rest + count_frames b below
       back_at hold held mine b true at = own_back hold held mine (nat_lt 1 hold.count) refl ∙ ap (λ c. count_release c rest + count_frames c below) (sym (same_address b a at))

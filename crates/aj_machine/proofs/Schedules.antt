@@ -1,8 +1,7 @@
 -- The machine along a schedule.
-use Rattle.std.proofs.Common.{◌≡◌, ◌≢◌, ℕ, ◌+◌, List, [], ◌∷◌, ◌++◌, take, refl, sym, ap, subst, ◌∙◌, add-one, arith}
+use Rattle.std.proofs.Common.{◌≡◌, ◌≢◌, ℕ, ◌+◌, List, [], ◌∷◌, take, refl, sym, ap, subst, ◌∙◌, arith}
 use Rattle.std.specs.Prelude.{Some, None, Ok, Err, option_and_then, slice_get}
-use Rattle.std.proofs.Math.Seq.{take-suc}
-use Rattle.std.proofs.lemmas.Option.{slice_get_within, get_or_from_slice_get}
+use Rattle.aj_lemmas.proofs.Lists.{take_at}
 use Rattle.aj_core.specs.Core.{Program}
 use Rattle.aj_core.specs.Views.{program_of}
 use Rattle.aj_state.specs.States.{State}
@@ -44,10 +43,6 @@ no_step q t why (Waits a holder) is other = refl
 still_stands : (m n : MachineValue) (q : State) → IsSame m n → StandsFor n q → StandsFor m q
 still_stands m n q same h = subst (λ X. X) (λ j. StateStands (program_of (sym same.program j)) ((sym same.code j).code.items) (sym same.state j) q) h
 
-one_more : (s : List ℕ) (n t : ℕ) → slice_get s n ≡ Some t → take (n + 1) s ≡ take n s ++ t ∷ []
-one_more s n t there =
-    ap (λ k. take k s) (add-one n) ∙ take-suc s n 0 (slice_get_within s n t there) ∙ ap (λ x. take n s ++ x ∷ []) (get_or_from_slice_get s n t 0 there)
-
 -- the machine came along so many entries of a schedule
 pub record HasCome (start m : MachineValue) (schedule : List ℕ) (n : ℕ) : Type 0 where
   pub program : m.program ≡ start.program
@@ -75,7 +70,7 @@ module _ (start m new : MachineValue) (schedule : List ℕ) (n t : ℕ) (h : Has
         let next = turned t new so_far.0 (outcome (program_run m) so_far.0 t) (turn so_far.0 so_far.2) in
         let stepped : step P so_far.0 t ≡ Some next.0 = ap (λ p. step p so_far.0 t) (sym same_program) ∙ next.1 in (
           next.0,
-          ap (run_from P q) (one_more schedule n t there) ∙ run_from-append P q (take n schedule) (t ∷ []) ∙ ap (option_and_then (λ r. run_from P r (t ∷ []))) so_far.1
+          ap (run_from P q) (take_at schedule n t there) ∙ run_from-append P q (take n schedule) (t ∷ []) ∙ ap (option_and_then (λ r. run_from P r (t ∷ []))) so_far.1
               ∙ ap (option_and_then (λ r. Some r)) stepped,
           next.2,
         );

@@ -1,9 +1,10 @@
 -- A decision in the list: it is found, or added at the end.
-use Rattle.std.proofs.Common.{◌≡◌, ◌==◌, ◌+◌, ◌&&◌, ◌||◌, ℕ, zero, suc, ◌<◌, ◌≤◌, Bool, true, false, List, [], ◌∷◌, ◌++◌, length, map, Some, None, slice_get, option_map, refl, sym, ◌∙◌, ap, subst, arith, eqb-true, eq-eqb, if◌then◌else◌}
+use Rattle.std.proofs.Common.{◌≡◌, ◌==◌, ◌+◌, ◌&&◌, ℕ, zero, suc, ◌<◌, ◌≤◌, Bool, true, false, List, [], ◌∷◌, ◌++◌, length, map, Some, None, slice_get, option_map, refl, sym, ◌∙◌, ap, subst, arith, eqb-true, eq-eqb, if◌then◌else◌}
 use Rattle.std.specs.Cmp.{first_so, second_so}
 use Rattle.std.specs.List.{list_any}
 use Rattle.std.proofs.lemmas.List.{map-append}
 use Rattle.std.proofs.lemmas.Option.{slice_get_within, slice_get-map}
+use Rattle.std.proofs.lemmas.Bool.{or_parts}
 use Rattle.indexmap.specs.IndexSet.{insert_key}
 use Rattle.aj_paths.specs.Paths.{PathData, path_eq}
 use Rattle.aj_algebra.specs.declared.basic.Basic.TheVariants.{Const, Mover, Atomic, Cmpd, Error}
@@ -44,17 +45,13 @@ same_test d e told =
     let second : d.free ≡ e.free = cc in
     λ i. record { path = root i; held = first i; free = second i }
 
-or_false : (a b : Bool) → (a || b) ≡ false → (a ≡ false) × (b ≡ false)
-or_false true b e = absurd (let h : true ≡ false = e in cc)
-or_false false b e = (refl, e)
-
 -- a decision that the test finds nowhere is nowhere
 nowhere : (ds : List Decision) (d : Decision) (n : ℕ) → list_any (same d) ds ≡ false → slice_get (map test_of ds) n ≡ Some (test_of d) → ⊥
 nowhere [] d n absent at = absurd (let h : None ≡ Some (test_of d) = at in cc)
 nowhere (e ∷ ds) d zero absent at =
     let is : same d e ≡ true = ap (same d) (same_test e d at) ∙ same_itself d in
-    absurd (let h : true ≡ false = sym is ∙ (or_false (same d e) (list_any (same d) ds) absent).0 in cc)
-nowhere (e ∷ ds) d (suc n) absent at = nowhere ds d n (or_false (same d e) (list_any (same d) ds) absent).1 at
+    absurd (let h : true ≡ false = sym is ∙ (or_parts (same d e) (list_any (same d) ds) absent).0 in cc)
+nowhere (e ∷ ds) d (suc n) absent at = nowhere ds d n (or_parts (same d e) (list_any (same d) ds) absent).1 at
 
 nowhere_at : (ds : List Decision) (d : Decision) (n : ℕ) → list_any (same d) ds ≡ false → slice_get (items_of ds) n ≡ Some (test_of d) → ⊥
 nowhere_at ds d zero absent at = absurd (let h : Leaf Const ≡ test_of d = cc in cc)

@@ -1,8 +1,8 @@
 -- A unit that is left open is its thread's last one, in each order of the units.
-use Rattle.std.proofs.Common.{◌≡◌, ◌≢◌, ℕ, suc, ◌==◌, Bool, true, false, not, ◌||◌, List, [], ◌∷◌, ◌++◌, refl, sym, ap, subst, ◌∙◌, arith}
+use Rattle.std.proofs.Common.{◌≡◌, ◌≢◌, ℕ, suc, ◌==◌, Bool, true, false, not, List, [], ◌∷◌, ◌++◌, refl, sym, ap, subst, ◌∙◌, arith}
 use Rattle.std.specs.Prelude.{nat_le, filter, cond}
 use Rattle.std.specs.List.{list_any}
-use Rattle.std.proofs.lemmas.Bool.{eqb-true, eq-eqb, leb-false}
+use Rattle.std.proofs.lemmas.Bool.{eqb-true, eq-eqb, leb-false, or_parts}
 use Rattle.aj_steps.specs.Units.{Entry, is_of_thread, added, units, is_whole, is_commit, commit_place, placed, in_order}
 use Rattle.aj_rewrite.proofs.Shape.{Each, has, IsFine, IsLater, InTurn, each_in_order}
 use Rattle.aj_rewrite.proofs.Ordering.{has_by}
@@ -151,12 +151,8 @@ abbrev pub parted : List (List Entry) → List (List Entry)
 parted us = filter commits us ++ filter is_uncommitted us
 
 -- a unit that doesn't commit is left open
-neither : (b c : Bool) → (b || c) ≡ false → (b ≡ false) × (c ≡ false)
-neither true c e = absurd cc
-neither false c e = (refl, e)
-
 pub left_open : (u : List Entry) → commits u ≡ false → (is_whole u ≡ false) × (list_any (λ e. is_commit e.kind) u ≡ false)
-left_open u e = neither (is_whole u) (list_any (λ e. is_commit e.kind) u) e
+left_open u e = or_parts (is_whole u) (list_any (λ e. is_commit e.kind) u) e
 
 pub none_behind : (u : List Entry) (us : List (List Entry)) → commits u ≡ false → IsLast u us → NoneOf u us
 none_behind u us e last t at = last t at (left_open u e).0

@@ -1,1 +1,2 @@
--- No lemmas.
+-- Lemmas on statuses.
+pub mod Statuses

@@ -25,6 +25,9 @@ pub order_itself : (p : PathData) → path_order p p ≡ Equal
 unfolding key
 order_itself p = tied_itself nat_list_cmp_total (key p)
 
+pub never_less : (p : PathData) → path_order p p ≡ Less → ⊥
+never_less p less = let e : Less ≡ Equal = sym less ∙ order_itself p in absurd cc
+
 pub is_equal : (p q : PathData) → p ≡ q → path_order p q ≡ Equal
 is_equal p q e = subst (λ x. path_order p x ≡ Equal) e (order_itself p)
 

@@ -1,6 +1,7 @@
 -- Expressions: what evaluation gives stands on the operands after the steps of the thread.
-use Rattle.std.proofs.Common.{◌≡◌, ℕ, suc, ◌+◌, ◌≤◌, Bool, true, false, List, ◌∷◌, Some, refl, sym, subst, ◌∙◌, arith}
+use Rattle.std.proofs.Common.{◌≡◌, ℕ, ◌+◌, ◌≤◌, Bool, true, false, List, ◌∷◌, Some, refl, sym, subst, ◌∙◌}
 use Rattle.std.specs.Prelude.{Option, length, slice_get, if◌then◌else◌}
+use Rattle.aj_lemmas.proofs.Numbers.{one_and}
 use Rattle.aj_core.specs.declared.types.UnaryOp.TheVariants.{Not, Neg}
 use Rattle.aj_core.specs.Core.{Program, Expr, Exprs, IntE, TruthE, NullE, ThisE, VarE, NotE, NegE, BinaryE, AndE, OrE, GetE, CallE, NewE, no_exprs, and_expr}
 use Rattle.aj_state.specs.declared.value.Value.{Value}
@@ -25,9 +26,6 @@ use Rattle.aj_plain.proofs.Neat.{IsNeat}
 new_unfolds : (c : ℕ) (args : Exprs) (rest : List Item) → unfolded (Ex (NewE c args) ∷ rest) ≡ unfolded (exprs_items args (Act (W.New c) ∷ rest))
 new_unfolds c no_exprs rest = refl
 new_unfolds c (and_expr e es) rest = refl
-
-one_more : (n k : ℕ) → n ≡ k → suc n ≡ 1 + k
-one_more n k e = omega (arith, e)
 
 module _ (P : Program) (t m0 : ℕ) (base : List Frame) (Goal : Local → Type 0) (neat : IsNeat P) where
   module _ (m : ℕ) (below : List Frame) (d : ℕ) (few : d ≤ most_depth) (tower : (f : Frame) → f.method ≡ m → Own m0 base d (f ∷ below)) where
@@ -125,4 +123,4 @@ module _ (P : Program) (t m0 : ℕ) (base : List Frame) (Goal : Local → Type 0
             (λ v r. then_do (E.exprs P t lower d slots es r) (λ vs s. Gives (v ∷ vs) s))
             (λ v q h w2 is2. sims es each (v ∷ ops) rest w2 q is2
             (chain S0 D0 (NextEach (1 + count_of es) ops rest) (NextEach (count_of es) (v ∷ ops) rest) (E.exprs P t lower d slots es q) (λ vs s. Gives (v ∷ vs) s)
-            (λ vs z g2 as_many w3 is3. g2 (one_more (length vs) (count_of es) as_many) w3 is3) h)) k)
+            (λ vs z g2 as_many w3 is3. g2 (one_and (length vs) (count_of es) as_many) w3 is3) h)) k)

@@ -3,6 +3,7 @@ use Rattle.std.proofs.Common.{◌≡◌, ℕ, zero, suc, ◌+◌, ◌-◌, ◌<�
 use Rattle.std.specs.Prelude.{Option, IsSome, length, take, drop, replicate, option_and_then, slice_get}
 use Rattle.std.proofs.lemmas.List.{take-append-drop, length-replicate}
 use Rattle.std.proofs.lemmas.Option.{none-some, same_Some}
+use Rattle.aj_lemmas.proofs.Lists.{take_at}
 use Rattle.aj_core.specs.Core.{Program}
 use Rattle.aj_core.specs.Typed.{IsTyped}
 use Rattle.aj_state.specs.States.{Thread, State, initial}
@@ -18,18 +19,6 @@ use Rattle.aj_plain.proofs.Joined.{Within}
 use Rattle.aj_plain.proofs.Neat.{IsNeat}
 use Rattle.aj_plain.proofs.Runs.{bounds, not_full}
 use Rattle.aj_plain.proofs.Whole.{replayed}
-
--- one entry more
-take_more : (s : List ℕ) (i t : ℕ) → slice_get s i ≡ Some t → take (i + 1) s ≡ take i s ++ t ∷ []
-take_more s i t e = ap (λ k. take k s) (add_one i) ∙ by_suc s i e
-  where
-    add_one : (i : ℕ) → i + 1 ≡ suc i
-    add_one i = omega arith
-
-    by_suc : (s : List ℕ) (i : ℕ) → slice_get s i ≡ Some t → take (suc i) s ≡ take i s ++ t ∷ []
-    by_suc [] i e = absurd (none-some t e)
-    by_suc (u ∷ s) zero e = ap (λ x. x ∷ []) (same_Some u t e)
-    by_suc (u ∷ s) (suc i) e = ap (λ r. u ∷ r) (by_suc s i e)
 
 -- an entry before the end is there
 pub entry_before : (s : List ℕ) (i : ℕ) → i < length s → (u : ℕ) × (slice_get s i ≡ Some u)
@@ -52,7 +41,7 @@ module _ (P : Program) where
   -- the step of an entry
   pub entry_steps : (s : List ℕ) (i t : ℕ) (q next : State) → slice_get s i ≡ Some t → run P (take i s) ≡ Some q → run P (take (i + 1) s) ≡ Some next → step P q t ≡ Some next
   entry_steps s i t q next e before after = by_step (step P q t) refl
-      (sym (ap (option_and_then (λ x. run_from P x (t ∷ []))) before) ∙ sym (run_from-append P (initial P) (take i s) (t ∷ [])) ∙ ap (run P) (sym (take_more s i t e)) ∙ after)
+      (sym (ap (option_and_then (λ x. run_from P x (t ∷ []))) before) ∙ sym (run_from-append P (initial P) (take i s) (t ∷ [])) ∙ ap (run P) (sym (take_at s i t e)) ∙ after)
     where
       by_step : (o : Option State) → step P q t ≡ o → option_and_then (λ x. run_from P x []) o ≡ Some next → o ≡ Some next
       by_step None is k = absurd (none-some next k)

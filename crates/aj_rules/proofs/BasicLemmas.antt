@@ -1,8 +1,10 @@
 -- Basics in their order: each law by computation over all of them.
-use Rattle.std.proofs.Common.{◌≡◌, Bool, true, false, refl, ◌&&◌}
+use Rattle.std.proofs.Common.{◌≡◌, Bool, true, false, refl, ◌&&◌, arith}
+use Rattle.std.proofs.lemmas.Bool.{leb-true}
 use Rattle.aj_algebra.specs.declared.basic.Basic.{Basic}
 use Rattle.aj_algebra.specs.declared.basic.Basic.TheVariants.{Const, Mover, Atomic, Cmpd, Error}
-use Rattle.aj_algebra.specs.Basics.{below_of, seq_of, join_of, star_of, lift_of}
+use Rattle.aj_algebra.specs.Basics.{rank_of, below_of, seq_of, join_of, star_of, lift_of}
+use Rattle.aj_algebra.proofs.Ranks.{same_rank}
 use Rattle.aj_rules.specs.Rules.{AtMost}
 
 -- the test passes at each basic
@@ -47,6 +49,13 @@ below_chain a b c h k =
     follows _ _ (follows _ _ (each (λ c. implies (below_of a b) (implies (below_of b c) (below_of a c)))
     (each (λ b. every (λ c. implies (below_of a b) (implies (below_of b c) (below_of a c))))
     (each (λ a. every (λ b. every (λ c. implies (below_of a b) (implies (below_of b c) (below_of a c))))) refl a) b) c) h) k
+
+-- of two basics that are each at most the other
+pub both_below : (a b : Basic) → AtMost a b → AtMost b a → a ≡ b
+both_below a b h k =
+    let low = leb-true (rank_of a) (rank_of b) h in
+    let high = leb-true (rank_of b) (rank_of a) k in
+    same_rank a b (omega (arith, low, high))
 
 seq_first : (a b c : Basic) → AtMost a b → AtMost (seq_of a c) (seq_of b c)
 seq_first a b c h =

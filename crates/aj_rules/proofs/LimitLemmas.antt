@@ -12,7 +12,7 @@ use Rattle.std.proofs.lemmas.List.{map-append}
 use Rattle.std.proofs.lemmas.Bool.{or_cases, or_left, or_right, or_parts, le-leb, lt-ltb, leb-true, ltb-true}
 use Rattle.aj_lemmas.proofs.Lists.{get_below, next_drop}
 use Rattle.aj_paths.specs.Paths.{PathData, path_order, path_eq}
-use Rattle.aj_paths.proofs.PathOrder.{equal_is, eq_is, eq_itself, greater_turned, less_chain, order_itself}
+use Rattle.aj_paths.proofs.PathOrder.{equal_is, eq_is, eq_itself, greater_turned, less_chain, never_less}
 use Rattle.aj_algebra.specs.HeldPaths.{has_path}
 use Rattle.aj_core.specs.Core.{Program, Method}
 use Rattle.aj_rules.specs.Near.{Near, IsOuter, IsInner, IsRel, IsLoc, MethodPaths, ArePathsOf, AreRelevant, AreFew, IsWellFormed, rel_of, loc_of, rel_paths, loc_paths, most_locks}
@@ -119,28 +119,25 @@ after_head x (y ∷ ys) p all h = elim (or_cases (path_eq y p) (has_path ys p) h
   | inr later ↦ after_head x ys p all.1 later
 ]
 
-pub not_itself : (p : PathData) → path_order p p ≡ Less → ⊥
-not_itself p less = let e : Less ≡ Equal = sym less ∙ order_itself p in absurd cc
-
 -- a list of different paths that another has too is no longer
 part_length : (ys xs : List PathData) → IsStrictlySortedBy path_order xs → IsStrictlySortedBy path_order ys → ((p : PathData) → has_path xs p ≡ true → has_path ys p ≡ true) → length xs ≤ length ys
 part_length ys [] a b part = omega arith
 part_length [] (x ∷ xs) a b part = absurd (let e : false ≡ true = part x (or_left (path_eq x x) (has_path xs x) (eq_itself x)) in cc)
 part_length (y ∷ ys) (x ∷ xs) a b part = elim (path_order x y) as (λ o. path_order x y ≡ o → suc (length xs) ≤ suc (length ys)) [
   | Less ↦ λ e. absurd (elim (or_cases (path_eq y x) (has_path ys x) (part x (or_left (path_eq x x) (has_path xs x) (eq_itself x)))) as (λ _. ⊥) [
-    | inl same ↦ not_itself x (subst (λ q. path_order x q ≡ Less) (eq_is y x same) e)
-    | inr later ↦ not_itself x (less_chain x y x e (after_head y ys x (sorted_head path_order y ys b) later))
+    | inl same ↦ never_less x (subst (λ q. path_order x q ≡ Less) (eq_is y x same) e)
+    | inr later ↦ never_less x (less_chain x y x e (after_head y ys x (sorted_head path_order y ys b) later))
   ])
   | Equal ↦ λ e.
       let shorter = part_length ys xs (sorted_tail path_order x xs a) (sorted_tail path_order y ys b) (λ p h. elim (or_cases (path_eq y p) (has_path ys p) (part p (or_right (path_eq x p) (has_path xs p) h))) as (λ _. has_path ys p ≡ true) [
-        | inl same ↦ absurd (not_itself x (subst (λ q. path_order x q ≡ Less) (sym (equal_is x y e ∙ eq_is y p same)) (after_head x xs p (sorted_head path_order x xs a) h)))
+        | inl same ↦ absurd (never_less x (subst (λ q. path_order x q ≡ Less) (sym (equal_is x y e ∙ eq_is y p same)) (after_head x xs p (sorted_head path_order x xs a) h)))
         | inr later ↦ later
       ]) in omega arith
   | Greater ↦ λ e.
       let shorter = part_length ys (x ∷ xs) a (sorted_tail path_order y ys b) (λ p h. elim (or_cases (path_eq y p) (has_path ys p) (part p h)) as (λ _. has_path ys p ≡ true) [
         | inl same ↦ absurd (elim (or_cases (path_eq x p) (has_path xs p) h) as (λ _. ⊥) [
-          | inl first ↦ not_itself p (subst (λ q. path_order q p ≡ Less) (eq_is y p same) (subst (λ q. path_order y q ≡ Less) (eq_is x p first) (greater_turned x y e)))
-          | inr rest ↦ not_itself p (subst (λ q. path_order q p ≡ Less) (eq_is y p same) (less_chain y x p (greater_turned x y e) (after_head x xs p (sorted_head path_order x xs a) rest)))
+          | inl first ↦ never_less p (subst (λ q. path_order q p ≡ Less) (eq_is y p same) (subst (λ q. path_order y q ≡ Less) (eq_is x p first) (greater_turned x y e)))
+          | inr rest ↦ never_less p (subst (λ q. path_order q p ≡ Less) (eq_is y p same) (less_chain y x p (greater_turned x y e) (after_head x xs p (sorted_head path_order x xs a) rest)))
         ])
         | inr later ↦ later
       ]) in omega arith

@@ -135,7 +135,7 @@ all_sound P m (method ∷ methods) at = both_sound P _ _
 
 -- of overriding methods
 
-number_is : (o : Option ℕ) (n : ℕ) → is_number o n ≡ true → o ≡ Some n
+pub number_is : (o : Option ℕ) (n : ℕ) → is_number o n ≡ true → o ≡ Some n
 number_is None n e = absurd (let k : false ≡ true = e in cc)
 number_is (Some k) n e = ap Some (eqb-true k n e)
 

@@ -18,10 +18,10 @@ use Rattle.aj_rules.specs.Search.{row_at, rows_of, with_link, LeadsTo, IsLed, Ar
 use Rattle.aj_rules.proofs.Reaching.{contains_none, contains_one, contains_here}
 use Rattle.aj_rules.proofs.PathLists.{row_is, row_set_same, row_set_other}
 use Rattle.aj_rules.proofs.ClauseLemmas.{on_ok}
-use Rattle.std.proofs.lemmas.List.{take_more}
+use Rattle.std.proofs.lemmas.List.{take_more, take_all}
 use Rattle.std.specs.declared.alloc.Global.{Global}
 use Rattle.std.proofs.lemmas.Bool.{or_cases, or_left, or_right, not-false}
-use Rattle.aj_lemmas.proofs.Lists.{contains_later}
+use Rattle.aj_lemmas.proofs.Lists.{contains_later, next_take}
 
 -- One place.
 
@@ -137,9 +137,6 @@ led_more P near new queue longer longest links front link place is g h = grows_t
 
 -- Links by method.
 
-take_next : {A : Type 0} (xs : List A) (i : ℕ) (x : A) → i < length xs → x ≡ get_or xs i x → take (i + 1) xs ≡ take i xs ++ x ∷ []
-take_next xs i x below at = take_more xs i x below ∙ ap (λ y. take i xs ++ y ∷ []) (sym at)
-
 pub links_same : (cs : List Clause) (links new : List (List Link)) → AreLinks cs links → ((m : ℕ) → row_at new m ≡ row_at links m) → AreLinks cs new
 links_same cs links new a same = record { exact = λ m link. (λ h. (a.exact m link).0 (subst (λ r. Contains r link) (same m) h), λ h. subst (λ r. Contains r link) (sym (same m)) ((a.exact m link).1 h)) }
 
@@ -206,9 +203,9 @@ module _ (cs all : List Clause) (links new : List (List Link)) (link : Link) (is
 
 pub links_next : (clauses : List Clause) (links new : List (List Link)) (i : ℕ) (c : Clause) → i < length clauses → c ≡ get_or clauses i c → AreLinks (take i clauses) links → ((m : ℕ) → row_at new m ≡ with_link c m (row_at links m)) → AreLinks (take (i + 1) clauses) new
 links_next clauses links new i (clause.Fact x) below at a rows =
-    links_same (take (i + 1) clauses) links new (links_fact (take i clauses) (take (i + 1) clauses) links x (take_next clauses i (clause.Fact x) below at) a) rows
+    links_same (take (i + 1) clauses) links new (links_fact (take i clauses) (take (i + 1) clauses) links x (next_take clauses i (clause.Fact x) below at) a) rows
 links_next clauses links new i (clause.Leads link) below at a rows =
-    links_more (take i clauses) (take (i + 1) clauses) links new link (take_next clauses i (clause.Leads link) below at) a rows
+    links_more (take i clauses) (take (i + 1) clauses) links new link (next_take clauses i (clause.Leads link) below at) a rows
 
 -- Facts.
 
@@ -228,7 +225,7 @@ fact_of (clause.Leads l) y = y
 
 module _ (clauses : List Clause) (near new : List (List PathData)) (queue longer : List Place) (i : ℕ) (c : Clause) (below : i < length clauses) (at : c ≡ get_or clauses i c) (f : HasFacts (take i clauses) near queue) (g : Grows queue (λ x. c ≡ clause.Fact x) new longer) where
   next_is : take (i + 1) clauses ≡ take i clauses ++ c ∷ []
-  next_is = take_next clauses i c below at
+  next_is = next_take clauses i c below at
 
   facts_to : (x : Place) → Contains longer x → Contains (take (i + 1) clauses) (clause.Fact x)
   facts_to x h = subst (λ cs. Contains cs (clause.Fact x)) (sym next_is) (elim (Contains-append_cases queue g.added x (subst (λ q. Contains q x) g.is h)) as (λ _. Contains (take i clauses ++ c ∷ []) (clause.Fact x)) [
@@ -335,12 +332,6 @@ least_family P cs links next near queue a d all = record {
 had_is : (rows grown : List (Vec PathData Global)) (had : Vec PathData Global) (i m : ℕ) → i ≡ m → i + 1 ≤ length grown → ((n : ℕ) → row_at (rows_of grown) n ≡ row_at (rows_of rows) n) → had ≡ get_or grown i had → had.items ≡ row_at (rows_of rows) m
 had_is rows grown had i m is long same at = ap (λ v. v.items) at ∙ sym (row_is grown i had (omega arith)) ∙ same i ∙ ap (row_at (rows_of rows)) is
 
-pub take_all : {A : Type 0} (xs : List A) (i : ℕ) → length xs ≤ i → take i xs ≡ xs
-take_all [] zero le = refl
-take_all [] (suc i) le = refl
-take_all (x ∷ xs) zero le = absurd (omega arith)
-take_all (x ∷ xs) (suc i) le = ap (λ l. x ∷ l) (take_all xs i (omega arith))
-
 pub had_ascends : (rows grown : List (Vec PathData Global)) (had : Vec PathData Global) (i m : ℕ) (queue : List Place) → i ≡ m → i + 1 ≤ length grown → ((n : ℕ) → row_at (rows_of grown) n ≡ row_at (rows_of rows) n) → had ≡ get_or grown i had → Agree (rows_of rows) queue → IsStrictlySortedBy path_order had.items
 had_ascends rows grown had i m queue is long same at agree = subst (IsStrictlySortedBy path_order) (sym (had_is rows grown had i m is long same at)) (agree.ascends m)
 
@@ -402,4 +393,4 @@ pub led_next : (P : Program) (near new : List (List PathData)) (queue longer lon
 led_next P near new queue longer longest links i link place below is g h = led_more P near new queue longer longest (take i links) (take (i + 1) links) link place (take_more links i link below ∙ ap (λ x. take i links ++ x ∷ []) (sym is)) g h
 
 pub led_whole : (P : Program) (near : List (List PathData)) (queue longer : List Place) (links : List Link) (i : ℕ) (place : Place) → length links ≤ i → Grows queue (IsLed P (take i links) place) near longer → Grows queue (IsLed P links place) near longer
-led_whole P near queue longer links i place all g = subst (λ l. Grows queue (IsLed P l place) near longer) (take_all links i all) g
+led_whole P near queue longer links i place all g = subst (λ l. Grows queue (IsLed P l place) near longer) (take_all i links all) g

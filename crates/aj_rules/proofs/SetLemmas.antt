@@ -1,8 +1,8 @@
 -- Sets of held paths, part by part.
-use Rattle.std.proofs.Common.{◌≡◌, ℕ, Bool, true, false, List, [], ◌∷◌, Some, None, refl, sym, ap, ◌∙◌, ◌&&◌, ◌||◌, ◌==◌}
+use Rattle.std.proofs.Common.{◌≡◌, ℕ, Bool, true, false, List, [], ◌∷◌, Some, None, refl, sym, ap, subst, ◌∙◌, inl, inr, ◌&&◌, ◌||◌, ◌==◌}
 use Rattle.std.specs.Prelude.{Option, if◌then◌else◌}
 use Rattle.std.specs.List.{list_all}
-use Rattle.std.proofs.lemmas.Bool.{and_from}
+use Rattle.std.proofs.lemmas.Bool.{and_from, or_cases}
 use Rattle.aj_paths.specs.Paths.{PathData, path_eq, extended}
 use Rattle.aj_paths.specs.Renamings.{under_call}
 use Rattle.aj_paths.proofs.PathOrder.{eq_is}
@@ -19,6 +19,14 @@ first false b h = absurd cc
 pub second : (a b : Bool) → (a && b) ≡ true → b ≡ true
 second true b h = h
 second false b h = absurd cc
+
+-- a test that each path of a list passes
+pub all_has : (ps : List PathData) (H : Held) → list_all H ps ≡ true → IsPart (has_path ps) H
+all_has [] H a q h = absurd (let e : false ≡ true = h in cc)
+all_has (p ∷ ps) H a q h = elim (or_cases (path_eq p q) (has_path ps q) h) as (λ _. H q ≡ true) [
+  | inl same ↦ subst (λ x. H x ≡ true) (eq_is p q same) (first (H p) (list_all H ps) a)
+  | inr later ↦ all_has ps H (second (H p) (list_all H ps) a) q later
+]
 
 and_part : (a b d : Bool) → (b ≡ true → d ≡ true) → (a && b) ≡ true → (a && d) ≡ true
 and_part true b d h e = h e

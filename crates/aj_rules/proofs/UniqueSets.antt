@@ -6,17 +6,17 @@ use Rattle.std.specs.declared.cmp.Ordering.TheVariants.{Less, Equal, Greater}
 use Rattle.std.proofs.lemmas.Map.Keys.{sorted_head, sorted_tail}
 use Rattle.std.proofs.lemmas.Bool.{or_cases, or_left, or_right}
 use Rattle.aj_paths.specs.Paths.{PathData, path_order, path_eq}
-use Rattle.aj_paths.proofs.PathOrder.{equal_is, eq_is, eq_itself, greater_turned, less_chain}
+use Rattle.aj_paths.proofs.PathOrder.{equal_is, eq_is, eq_itself, greater_turned, less_chain, never_less}
 use Rattle.aj_algebra.specs.HeldPaths.{has_path}
 use Rattle.aj_core.specs.Core.{Program}
 use Rattle.aj_rules.specs.Near.{MethodPaths, AreRelevant}
-use Rattle.aj_rules.proofs.LimitLemmas.{after_head, not_itself}
+use Rattle.aj_rules.proofs.LimitLemmas.{after_head}
 
 -- a path that is less than the first of an ascending list isn't in it
 not_before : (x y : PathData) (ys : List PathData) → IsStrictlySortedBy path_order (y ∷ ys) → path_order x y ≡ Less → has_path (y ∷ ys) x ≡ true → ⊥
 not_before x y ys b less has = elim (or_cases (path_eq y x) (has_path ys x) has) as (λ _. ⊥) [
-  | inl same ↦ not_itself x (subst (λ q. path_order x q ≡ Less) (eq_is y x same) less)
-  | inr later ↦ not_itself x (less_chain x y x less (after_head y ys x (sorted_head path_order y ys b) later))
+  | inl same ↦ never_less x (subst (λ q. path_order x q ≡ Less) (eq_is y x same) less)
+  | inr later ↦ never_less x (less_chain x y x less (after_head y ys x (sorted_head path_order y ys b) later))
 ]
 
 pub first_has : (x : PathData) (xs : List PathData) → has_path (x ∷ xs) x ≡ true
@@ -25,7 +25,7 @@ first_has x xs = or_left (path_eq x x) (has_path xs x) (eq_itself x)
 -- a later path of one list is a later one of the other, where their first ones are equal
 in_rest : (x y : PathData) (xs ys : List PathData) → x ≡ y → IsStrictlySortedBy path_order (x ∷ xs) → ((p : PathData) → has_path (x ∷ xs) p ≡ true → has_path (y ∷ ys) p ≡ true) → (p : PathData) → has_path xs p ≡ true → has_path ys p ≡ true
 in_rest x y xs ys is a part p has = elim (or_cases (path_eq y p) (has_path ys p) (part p (or_right (path_eq x p) (has_path xs p) has))) as (λ _. has_path ys p ≡ true) [
-  | inl same ↦ absurd (not_itself x (subst (λ q. path_order x q ≡ Less) (sym (is ∙ eq_is y p same)) (after_head x xs p (sorted_head path_order x xs a) has)))
+  | inl same ↦ absurd (never_less x (subst (λ q. path_order x q ≡ Less) (sym (is ∙ eq_is y p same)) (after_head x xs p (sorted_head path_order x xs a) has)))
   | inr later ↦ later
 ]
 

@@ -15,6 +15,7 @@ use Rattle.aj_core.specs.Dispatch.{target_of}
 use Rattle.aj_rules.specs.Effect.{Assignment, required_paths, held_under, call_of, effect}
 use Rattle.aj_rules.specs.Rules.{IsPart, AtMost, held_in, declared_bound}
 use Rattle.aj_rules.proofs.BasicLemmas.{below_chain}
+use Rattle.aj_rules.proofs.SetLemmas.{all_has}
 use Rattle.aj_state.specs.declared.value.Address.{Address}
 use Rattle.aj_state.specs.declared.value.Value.{Value}
 use Rattle.aj_state.specs.declared.value.Value.TheVariants as value
@@ -38,13 +39,6 @@ use Rattle.aj_safe.proofs.Actions.{fault_fine, list_falls, address_is}
 held_here : (H : Held) (p q : PathData) (b later : Bool) → path_eq p q ≡ b → H p ≡ true → (later ≡ true → H q ≡ true) → (b || later) ≡ true → H q ≡ true
 held_here H p q true later same here rest has = ap H (sym (eq_is p q same)) ∙ here
 held_here H p q false later other here rest has = rest has
-
--- a path of a list of which each path passes
-all_held : (ps : List PathData) (H : Held) → list_all H ps ≡ true → IsPart (has_path ps) H
-all_held [] H all q has = absurd (let e : false ≡ true = has in cc)
-all_held (p ∷ ps) H all q has =
-    let parts = and_parts (H p) (list_all H ps) all in
-    held_here H p q (path_eq p q) (has_path ps q) refl parts.0 (λ in_rest. all_held ps H parts.1 q in_rest) has
 
 -- a body that is at most atomic passes in a new call
 opens_atomic : (b : Basic) (X : Type 0) → AtMost b Atomic → X → Passes Opened b (λ q. X)
@@ -225,7 +219,7 @@ module _ (P : Program) (rel : ℕ → List PathData) (A : Assignment) (accepted 
 
       by_required : (b : Bool) → list_all set (required_paths (slice_get P.methods m)) ≡ b → Passes now (if b then A m set else Error) G → (room : Bool) → Fine P rel A see t stands flag (enter P see t f below rest n k running a room)
       by_required b req r false = fault_fine P rel A see t f below rest flag own_frame fault.Depth
-      by_required true req r true = entered (all_held method.requires_ set (ap (λ o. list_all set (required_paths o)) (sym is) ∙ req)) r
+      by_required true req r true = entered (all_has method.requires_ set (ap (λ o. list_all set (required_paths o)) (sym is) ∙ req)) r
       by_required false req r true = absurd (no_error G now r)
 
   module _ (m : ℕ) (method : Method) (is : slice_get P.methods m ≡ Some method) (at : FitsAct P rel A (memory_of P see.object_at) (held_by below) K (W.Call m) rest (List_fits rest) (env_of f.slots) now os)

@@ -2,8 +2,9 @@
 use Rattle.std.proofs.Common.{◌≡◌, ℕ, ◌+◌, ◌-◌, Bool, true, false, ◌||◌, ◌==◌, List, [], ◌∷◌, Some, None, refl, sym, ap, subst, ◌∙◌, arith}
 use Rattle.std.specs.Prelude.{Option, nat_lt, if◌then◌else◌}
 use Rattle.std.proofs.lemmas.Bool.Decides.{nat_tests}
-use Rattle.std.proofs.lemmas.Bool.{eq-eqb}
+use Rattle.std.proofs.lemmas.Bool.{eq-eqb, cond-true, cond-false}
 use Rattle.std.proofs.lemmas.Option.{same_Some}
+use Rattle.aj_lemmas.proofs.Numbers.{eqb_turned}
 use Rattle.aj_paths.specs.Paths.{PathData}
 use Rattle.aj_algebra.specs.Basics.{lift_of}
 use Rattle.aj_algebra.specs.HeldPaths.{Held, with_path}
@@ -34,19 +35,8 @@ use Rattle.aj_safe.proofs.Actions.{fault_fine, list_falls, address_is}
 
 -- Numbers.
 
-not_both : (a t u : ℕ) → (a == t) ≡ true → (u == t) ≡ false → (a == u) ≡ false
+pub not_both : (a t u : ℕ) → (a == t) ≡ true → (u == t) ≡ false → (a == u) ≡ false
 not_both a t u e k = grind (arith, nat_tests)
-
-not_self : (t u : ℕ) → (u == t) ≡ false → (t == u) ≡ false
-not_self t u e = grind (arith, nat_tests)
-
-chosen : (b : Bool) (n m : ℕ) → b ≡ true → (if b then n else m) ≡ n
-chosen true n m e = refl
-chosen false n m e = absurd cc
-
-unchosen : (b : Bool) (n m : ℕ) → b ≡ false → (if b then n else m) ≡ m
-unchosen true n m e = absurd cc
-unchosen false n m e = refl
 
 none_counted : (n m : ℕ) → 0 ≡ n → n ≡ m → nat_lt 0 m ≡ true → ⊥
 none_counted n m zero same less = absurd_by (grind_false n m zero same less)
@@ -57,19 +47,19 @@ none_counted n m zero same less = absurd_by (grind_false n m zero same less)
     grind_false : (n m : ℕ) → 0 ≡ n → n ≡ m → nat_lt 0 m ≡ true → false ≡ true
     grind_false n m zero same less = grind (arith, nat_tests)
 
-one_of : (m k : ℕ) → 0 ≡ m + k → 1 ≡ 1 + m + k
+pub one_of : (m k : ℕ) → 0 ≡ m + k → 1 ≡ 1 + m + k
 one_of m k e = omega (arith, e)
 
-one_more : (n m k : ℕ) → n ≡ m + k → n + 1 ≡ 1 + m + k
+pub one_more : (n m k : ℕ) → n ≡ m + k → n + 1 ≡ 1 + m + k
 one_more n m k e = omega (arith, e)
 
 stays_held : (n m k : ℕ) → n ≡ 1 + m + k → nat_lt 1 n ≡ nat_lt 0 (m + k)
 stays_held n m k e = grind (arith, nat_tests)
 
-one_less : (n m k : ℕ) → n ≡ 1 + m + k → nat_lt 1 n ≡ true → n - 1 ≡ m + k
+pub one_less : (n m k : ℕ) → n ≡ 1 + m + k → nat_lt 1 n ≡ true → n - 1 ≡ m + k
 one_less n m k e less = omega (arith, e)
 
-none_left : (n m k : ℕ) → n ≡ 1 + m + k → nat_lt 1 n ≡ false → 0 ≡ m + k
+pub none_left : (n m k : ℕ) → n ≡ 1 + m + k → nat_lt 1 n ≡ false → 0 ≡ m + k
 none_left n m k e less = grind (arith, nat_tests)
 
 module _ (P : Program) (rel : ℕ → List PathData) (A : Assignment) (see : Shared) (t : ℕ) (f : Frame) (below : List Frame) (rest : List Item) (flag : Bool)
@@ -185,26 +175,26 @@ module _ (P : Program) (rel : ℕ → List PathData) (A : Assignment) (see : Sha
 
       free_counts : (b : Address) → see.lock_at a ≡ None → (same : Bool) → address_eq b a ≡ same
           → held_count t (if same then Some (record { holder = t; count = 1 }) else see.lock_at b) ≡ (if same then 1 + count_release b rest else count_release b rest) + count_frames b below
-      free_counts b none true is = chosen (t == t) 1 0 (eq-eqb t t refl) ∙ one_of (count_release b rest) (count_frames b below) (sym (ap (λ c. held_count t (see.lock_at c)) (same_address b a is) ∙ ap (held_count t) none) ∙ own_rest b)
+      free_counts b none true is = cond-true (t == t) 1 0 (eq-eqb t t refl) ∙ one_of (count_release b rest) (count_frames b below) (sym (ap (λ c. held_count t (see.lock_at c)) (same_address b a is) ∙ ap (held_count t) none) ∙ own_rest b)
       free_counts b none false is = own_rest b
 
       again_counts : (b : Address) (hold : Hold) → see.lock_at a ≡ Some hold → (hold.holder == t) ≡ true → (same : Bool) → address_eq b a ≡ same
           → held_count t (if same then Some (taken_again hold) else see.lock_at b) ≡ (if same then 1 + count_release b rest else count_release b rest) + count_frames b below
       again_counts b hold held mine true is =
-          chosen (hold.holder == t) (hold.count + 1) 0 mine
-          ∙ one_more hold.count (count_release b rest) (count_frames b below) (sym (ap (λ c. held_count t (see.lock_at c)) (same_address b a is) ∙ ap (held_count t) held ∙ chosen (hold.holder == t) hold.count 0 mine) ∙ own_rest b)
+          cond-true (hold.holder == t) (hold.count + 1) 0 mine
+          ∙ one_more hold.count (count_release b rest) (count_frames b below) (sym (ap (λ c. held_count t (see.lock_at c)) (same_address b a is) ∙ ap (held_count t) held ∙ cond-true (hold.holder == t) hold.count 0 mine) ∙ own_rest b)
       again_counts b hold held mine false is = own_rest b
 
       take_held_fine : List_fits part slots now [] → (hold : Hold) → see.lock_at a ≡ Some hold → (mine : Bool) → (hold.holder == t) ≡ mine → Fine P rel A see t stands flag (take_held P see t f below rest s a hold mine)
       take_held_fine fits hold held false is = tt
       take_held_fine fits hold held true is = lock_with Both (under f.operands) part a (Some (taken_again hold)) (both_allowed now) fits
           (λ b. again_counts b hold held is (address_eq b a) refl)
-          (λ u other. unchosen (hold.holder == u) (hold.count + 1) 0 (not_both hold.holder t u is other) ∙ sym (ap (held_count u) held ∙ unchosen (hold.holder == u) hold.count 0 (not_both hold.holder t u is other)))
+          (λ u other. cond-false (hold.holder == u) (hold.count + 1) 0 (not_both hold.holder t u is other) ∙ sym (ap (held_count u) held ∙ cond-false (hold.holder == u) hold.count 0 (not_both hold.holder t u is other)))
 
       take_fine : List_fits part slots now [] → (see.lock_at a ≡ None → allowed now Right ≡ true) → (hold : Option Hold) → see.lock_at a ≡ hold → Fine P rel A see t stands flag (take P see t f below rest s a hold)
       take_fine fits allow None is = lock_with Right (under f.operands) part a (Some (record { holder = t; count = 1 })) (allow is) fits
           (λ b. free_counts b is (address_eq b a) refl)
-          (λ u other. unchosen (t == u) 1 0 (not_self t u other) ∙ sym (ap (held_count u) is))
+          (λ u other. cond-false (t == u) 1 0 (eqb_turned t u ∙ other) ∙ sym (ap (held_count u) is))
       take_fine fits allow (Some hold) is = take_held_fine fits hold is (hold.holder == t) refl
 
     top_is : (o : Option PathData) (p : PathData) (v : Value) → o ≡ Some p → LeadsTo P (memory_of P see.object_at) slots o v → lead P (memory_of P see.object_at) slots p ≡ Some v
@@ -220,8 +210,8 @@ module _ (P : Program) (rel : ℕ → List PathData) (A : Assignment) (see : Sha
 
   module _ (a : Address) (own_next : (b : Address) → held_count t (see.lock_at b) ≡ count_release b (Act (W.Release a) ∷ rest) + count_frames b below) (fits : List_fits rest slots (freed (has_release a rest || held_by below a) now) []) where
     own_here : (hold : Hold) → see.lock_at a ≡ Some hold → (hold.holder == t) ≡ true → hold.count ≡ 1 + count_release a rest + count_frames a below
-    own_here hold held mine = sym (ap (held_count t) held ∙ chosen (hold.holder == t) hold.count 0 mine) ∙ own_next a
-        ∙ ap (λ n. n + count_frames a below) (chosen (address_eq a a) (1 + count_release a rest) (count_release a rest) (address_itself a))
+    own_here hold held mine = sym (ap (held_count t) held ∙ cond-true (hold.holder == t) hold.count 0 mine) ∙ own_next a
+        ∙ ap (λ n. n + count_frames a below) (cond-true (address_eq a a) (1 + count_release a rest) (count_release a rest) (address_itself a))
 
     left_counts : (b : Address) (hold : Option Hold) → held_count t hold ≡ count_release a rest + count_frames a below → (same : Bool) → address_eq b a ≡ same
         → held_count t (see.lock_at b) ≡ (if same then 1 + count_release b rest else count_release b rest) + count_frames b below
@@ -234,12 +224,12 @@ module _ (P : Program) (rel : ℕ → List PathData) (A : Assignment) (see : Sha
     give_back hold held mine true is = lock_with Both f.operands rest a (Some (record hold { count = hold.count - 1 })) (both_allowed now)
         (subst (λ stays. List_fits rest slots (freed stays now) []) (held_counts a rest below ∙ sym (stays_held hold.count (count_release a rest) (count_frames a below) (own_here hold held mine)) ∙ is) fits)
         (λ b. left_counts b (Some (record hold { count = hold.count - 1 }))
-        (chosen (hold.holder == t) (hold.count - 1) 0 mine ∙ one_less hold.count (count_release a rest) (count_frames a below) (own_here hold held mine) is) (address_eq b a) refl (own_next b))
-        (λ u other. unchosen (hold.holder == u) (hold.count - 1) 0 (not_both hold.holder t u mine other) ∙ sym (ap (held_count u) held ∙ unchosen (hold.holder == u) hold.count 0 (not_both hold.holder t u mine other)))
+        (cond-true (hold.holder == t) (hold.count - 1) 0 mine ∙ one_less hold.count (count_release a rest) (count_frames a below) (own_here hold held mine) is) (address_eq b a) refl (own_next b))
+        (λ u other. cond-false (hold.holder == u) (hold.count - 1) 0 (not_both hold.holder t u mine other) ∙ sym (ap (held_count u) held ∙ cond-false (hold.holder == u) hold.count 0 (not_both hold.holder t u mine other)))
     give_back hold held mine false is = lock_with Left f.operands rest a None (left_allowed now)
         (subst (λ stays. List_fits rest slots (freed stays now) []) (held_counts a rest below ∙ sym (stays_held hold.count (count_release a rest) (count_frames a below) (own_here hold held mine)) ∙ is) fits)
         (λ b. left_counts b None (none_left hold.count (count_release a rest) (count_frames a below) (own_here hold held mine) is) (address_eq b a) refl (own_next b))
-        (λ u other. sym (ap (held_count u) held ∙ unchosen (hold.holder == u) hold.count 0 (not_both hold.holder t u mine other)))
+        (λ u other. sym (ap (held_count u) held ∙ cond-false (hold.holder == u) hold.count 0 (not_both hold.holder t u mine other)))
 
     release_held_fine : (hold : Hold) → see.lock_at a ≡ Some hold → (mine : Bool) → (hold.holder == t) ≡ mine → Fine P rel A see t stands flag (release_held P see t f below rest a hold mine)
     release_held_fine hold held false is = fault_fine P rel A see t f below rest flag own_frame fault.Null

@@ -31,11 +31,11 @@ use Rattle.aj_safe.proofs.SetLemmas.{after_sound, after_fresh}
 
 -- Releases in lists of parts, and paths of arguments.
 
-exprs_release : (a : Address) (es : Exprs) (more : List Item) → has_release a (exprs_items es more) ≡ has_release a more
+pub exprs_release : (a : Address) (es : Exprs) (more : List Item) → has_release a (exprs_items es more) ≡ has_release a more
 exprs_release a no_exprs more = refl
 exprs_release a (and_expr e es) more = exprs_release a es more
 
-stmts_release : (a : Address) (ss : Stmts) (more : List Item) → has_release a (stmts_items ss more) ≡ has_release a more
+pub stmts_release : (a : Address) (ss : Stmts) (more : List Item) → has_release a (stmts_items ss more) ≡ has_release a more
 stmts_release a no_stmts more = refl
 stmts_release a (and_stmt s ss) more = stmts_release a ss more
 

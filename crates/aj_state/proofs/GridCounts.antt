@@ -3,17 +3,11 @@ use Rattle.std.proofs.Common.{◌≡◌, ℕ, zero, suc, ◌+◌, ◌<◌, false
 use Rattle.std.specs.Prelude.{Option, Some, None, map, count_by, slice_get}
 use Rattle.std.specs.FinMap as M
 use Rattle.std.proofs.lemmas.List.Sums.{sum_by-cons}
-use Rattle.std.proofs.lemmas.Bool.Decides.{nat_tests}
 use Rattle.std.proofs.lemmas.Bool.{eq-eqb}
+use Rattle.aj_lemmas.proofs.Numbers.{other_below, other_above}
 use Rattle.aj_state.specs.declared.value.Address.{Address}
 use Rattle.aj_state.specs.Slots.{filled_in, filled_row, slots_entries, rows_entries, grid_map}
 use Rattle.aj_state.proofs.GridMaps.{entries_grid}
-
-another : (t u : ℕ) → u < t → (t == u) ≡ false
-another t u less = grind (arith, nat_tests)
-
-earlier : (t u : ℕ) → t < u → (t == u) ≡ false
-earlier t u less = grind (arith, nat_tests)
 
 module _ {X : Type 0} (thread : ℕ) where
   abbrev count : List (Address × X) → ℕ
@@ -44,7 +38,7 @@ module _ {X : Type 0} (thread : ℕ) where
   count_later t [] less = refl
   count_later t (slots ∷ rows) less =
       count-append (slots_entries t 0 slots) (rows_entries (t + 1) rows)
-      ∙ (λ j. count_other t 0 slots (another t thread less) j + count_later (t + 1) rows (omega arith) j)
+      ∙ (λ j. count_other t 0 slots (other_above t thread less) j + count_later (t + 1) rows (omega arith) j)
 
   count_rows : (t k : ℕ) (rows : List (List (Option X))) → thread ≡ t + k → count (rows_entries t rows) ≡ filled_row (slice_get rows k)
   count_rows t k [] is = refl
@@ -56,7 +50,7 @@ module _ {X : Type 0} (thread : ℕ) where
   count_rows t (suc k) (slots ∷ rows) is =
       let less : t < thread = omega arith in
       count-append (slots_entries t 0 slots) (rows_entries (t + 1) rows)
-      ∙ ap (λ n. n + count (rows_entries (t + 1) rows)) (count_other t 0 slots (earlier t thread less))
+      ∙ ap (λ n. n + count (rows_entries (t + 1) rows)) (count_other t 0 slots (other_below t thread less))
       ∙ omega (arith, count_rows (t + 1) k rows (omega arith))
 
   pub count_grid : (rows : List (List (Option X))) → count_by (λ a. a.thread == thread) (M.keys (grid_map rows)) ≡ filled_row (slice_get rows thread)

@@ -17,7 +17,7 @@ use Rattle.aj_steps.specs.Units.{Entry, entry_then, entries_from, entries}
 
 -- Maps made from sorted entries.
 
-turned : {A : Type 0} (b : Bool) (x y : A) → cond (not b) x y ≡ cond b y x
+pub turned : {A : Type 0} (b : Bool) (x y : A) → cond (not b) x y ≡ cond b y x
 turned true x y = refl
 turned false x y = refl
 

@@ -4,11 +4,12 @@ use Rattle.std.specs.Prelude.{option_and_then, slice_set, is_some, nat_lt}
 use Rattle.std.specs.FinMap as M
 use Rattle.std.specs.FinMap.{get-empty}
 use Rattle.std.proofs.lemmas.Bool.Decides.{nat_tests}
+use Rattle.std.proofs.lemmas.Option.{none-some, same_Some}
 use Rattle.aj_core.specs.Core.{Program}
 use Rattle.aj_state.specs.Memory.{address_cmp, IsNumbered}
 use Rattle.aj_state.specs.States.{State, initial, new_object}
 use Rattle.aj_state.proofs.Numbering.{numbered_new, numbered_written}
-use Rattle.aj_steps.specs.Step.{Change, Nothing, FieldIs, ObjectIs, LockIs, Prints, Starts, Outcome, outcome, step, changed, moved, state_after}
+use Rattle.aj_steps.specs.Step.{Change, Nothing, FieldIs, ObjectIs, LockIs, Prints, Starts, Move, Outcome, Moves, Absent, IsDone, HadFaulted, Waits, outcome, step, changed, moved, state_after}
 use Rattle.aj_steps.specs.Run.{run_from, run}
 use Rattle.aj_steps.proofs.StepCases.{Case, moves, absent, done, faulted, waits, NewIsNext, outcome_case}
 use Rattle.aj_steps.proofs.PlainRuns.{made_by-empty}
@@ -39,6 +40,14 @@ next_kept (ObjectIs a o) q t threads next = next
 next_kept (LockIs a hold) q t threads next = next
 next_kept (Prints n) q t threads next = next
 next_kept (Starts a m) q t threads next = next
+
+-- an outcome with a state behind it moves the thread
+pub moves_in : (P : Program) (q r : State) (t : ℕ) (o : Outcome) → outcome P q t ≡ o → state_after q t o ≡ Some r → (move : Move) × (outcome P q t ≡ Moves move) × (moved t move q ≡ r)
+moves_in P q r t (Moves move) is e = (move, is, same_Some _ _ e)
+moves_in P q r t Absent is e = absurd (none-some r e)
+moves_in P q r t IsDone is e = absurd (none-some r e)
+moves_in P q r t (HadFaulted why) is e = absurd (none-some r e)
+moves_in P q r t (Waits a h) is e = absurd (none-some r e)
 
 pub after_numbered : (q : State) (t : ℕ) (o : Outcome) → Case q t o → IsNumbered q.heap → (r : State) → state_after q t o ≡ Some r → IsNumbered r.heap
 after_numbered q t _ (moves m next) numbered r is =

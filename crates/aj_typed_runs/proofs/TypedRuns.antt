@@ -13,25 +13,17 @@ use Rattle.aj_state.specs.Memory.{Object, IsNumbered, address_cmp, field_value}
 use Rattle.aj_state.specs.States.{Thread, State, initial, main_address, new_object}
 use Rattle.aj_state.proofs.MemoryLemmas.{set_other, set_same, get-insert_same}
 use Rattle.aj_state.proofs.Numbering.{next_free}
-use Rattle.aj_steps.specs.Step.{Change, ObjectIs, Shared, Move, Outcome, Moves, Absent, IsDone, HadFaulted, Waits, seen_by, turn, outcome, moved, step, state_after}
+use Rattle.aj_steps.specs.Step.{Change, ObjectIs, Shared, Move, Moves, seen_by, turn, outcome, moved, step}
 use Rattle.aj_steps.specs.Changes.{objects_after}
 use Rattle.aj_steps.specs.Run.{run, run_from}
 use Rattle.aj_steps.proofs.Changed.{heap_after, ThreadAfter, kept, begun, thread_after}
-use Rattle.aj_steps.proofs.RunLemmas.{step_numbered, initial_numbered}
+use Rattle.aj_steps.proofs.RunLemmas.{step_numbered, initial_numbered, moves_in}
 use Rattle.aj_typed_runs.specs.SlotTypes.{AreMarked, taken_by_new}
 use Rattle.aj_typed_runs.specs.TypedStates.{Stays, IsTypedHeap, IsTypedStart, IsTypedThread, IsTypedState}
 use Rattle.aj_typed_runs.proofs.ClassMarks.{kind_marked}
 use Rattle.aj_typed_runs.proofs.Heaps.{HasTypes, made_typed}
 use Rattle.aj_typed_runs.proofs.TypedSteps.{IsSuitedProgram, IsTypedChange, start_stays, thread_stays, StepTyped, OutcomeTyped, turn_typed}
 use Rattle.aj_typed_runs.proofs.Suiting.{suited_program}
-
--- a step of a thread in a run
-pub moves_in : (P : Program) (q r : State) (t : ℕ) (o : Outcome) → outcome P q t ≡ o → state_after q t o ≡ Some r → (move : Move) × (outcome P q t ≡ Moves move) × (moved t move q ≡ r)
-moves_in P q r t (Moves move) is e = (move, is, same_Some _ _ e)
-moves_in P q r t Absent is e = absurd (none-some r e)
-moves_in P q r t IsDone is e = absurd (none-some r e)
-moves_in P q r t (HadFaulted why) is e = absurd (none-some r e)
-moves_in P q r t (Waits a h) is e = absurd (none-some r e)
 
 -- what each step keeps, each run keeps; objects are numbered all along
 pub runs_keep : (P : Program) (Q : State → Type 0) → ((q : State) (t : ℕ) (move : Move) → IsNumbered q.heap → Q q → outcome P q t ≡ Moves move → Q (moved t move q))

@@ -3,6 +3,7 @@ use Rattle.std.proofs.Common.{◌≡◌, ◌↔◌, ℕ, ◌+◌, Bool, true, fa
 use Rattle.std.specs.List.{list_any}
 use Rattle.std.proofs.lemmas.Bool.{or_from}
 use Rattle.std.proofs.lemmas.List.Folds.{list_any-append}
+use Rattle.std.proofs.Math.Bool.{or-false}
 use Rattle.aj_paths.specs.Paths.{PathData}
 use Rattle.aj_algebra.specs.declared.basic.Basic.{Basic}
 use Rattle.aj_algebra.specs.declared.basic.Basic.TheVariants.{Const, Mover, Atomic, Cmpd, Error}
@@ -53,15 +54,11 @@ error_moved a = by_two (λ a b. is_error a) (λ a b. is_error (seq_of a Mover)) 
 error_lift : (a : Basic) → is_error a ≡ is_error (lift_of a)
 error_lift a = by_two (λ a b. is_error a) (λ a b. is_error (lift_of a)) refl a Const
 
-or_false : (a : Bool) → (a || false) ≡ a
-or_false true = refl
-or_false false = refl
-
 variable_fine : (is_final : Bool) → is_error (variable_effect is_final) ≡ false
 variable_fine true = refl
 variable_fine false = refl
 
-lock_fine : (t : Bool) → is_error (lock_effect t) ≡ false
+pub lock_fine : (t : Bool) → is_error (lock_effect t) ≡ false
 lock_fine true = refl
 lock_fine false = refl
 
@@ -100,12 +97,12 @@ module _ (P : Program) (rel : ℕ → List PathData) (A : Assignment) where
   both {xs = xs} {ys = ys} {a = a} {b = b} first second = record { is = list_any-append errs xs ys ∙ (λ i. first.is i || second.is i) ∙ error_seq a b }
 
   alone : (n : ℕ) (x : Part) (H : Held) (loop : Option ℕ) → Shows (visit n x H loop) (own_of P rel A x H)
-  alone n x H loop = record { is = or_false (is_error (own_of P rel A x H)) }
+  alone n x H loop = record { is = or-false (is_error (own_of P rel A x H)) }
 
   -- a part that is no error by itself, behind its own parts
   behind : {xs : List Visit} {a : Basic} (n : ℕ) (x : Part) (H : Held) (loop : Option ℕ) → is_error (own_of P rel A x H) ≡ false → Shows xs a → Shows (xs ++ visit n x H loop) a
   behind {xs = xs} {a = a} n x H loop fine first = record {
-    is = list_any-append errs xs (visit n x H loop) ∙ (λ i. first.is i || or_false (is_error (own_of P rel A x H)) i) ∙ ap (λ t. is_error a || t) fine ∙ or_false (is_error a);
+    is = list_any-append errs xs (visit n x H loop) ∙ (λ i. first.is i || or-false (is_error (own_of P rel A x H)) i) ∙ ap (λ t. is_error a || t) fine ∙ or-false (is_error a);
   }
 
   moved : {xs : List Visit} {a : Basic} → Shows xs a → Shows xs (seq_of a Mover)

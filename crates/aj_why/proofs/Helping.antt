@@ -1,10 +1,10 @@
 -- With the path that would help held, a part by itself can be moved.
-use Rattle.std.proofs.Common.{◌≡◌, ℕ, Bool, true, false, ◌||◌, List, [], ◌∷◌, Some, None, if◌then◌else◌, refl, sym, ap, ◌∙◌}
+use Rattle.std.proofs.Common.{◌≡◌, ℕ, Bool, true, false, List, [], ◌∷◌, Some, None, if◌then◌else◌, refl, sym, ap, ◌∙◌}
 use Rattle.aj_paths.specs.Paths.{PathData}
-use Rattle.aj_paths.proofs.PathOrder.{eq_itself}
 use Rattle.aj_algebra.specs.declared.basic.Basic.TheVariants.{Mover, Error}
 use Rattle.aj_algebra.specs.Basics.{below_of}
 use Rattle.aj_algebra.specs.HeldPaths.{Held, with_path}
+use Rattle.aj_algebra.proofs.Sets.{with_itself}
 use Rattle.aj_core.specs.Core.{Program, IntE, TruthE, NullE, ThisE, VarE, NotE, NegE, BinaryE, AndE, OrE, GetE, CallE, NewE}
 use Rattle.aj_core.specs.Core.{EmptyS, BlockS, LocalS, SetVarS, SetFieldS, DoS, IfS, WhileS, SyncS, ReturnS, PrintS, StartS}
 use Rattle.aj_core.specs.Locks.{path_of}
@@ -17,10 +17,6 @@ use Rattle.aj_rules.specs.Rules.{AtMost}
 use Rattle.aj_deriv_rules.specs.Parts.{Part, ExprP, StmtP}
 use Rattle.aj_why.specs.Parts.{own_of, lock_effect}
 use Rattle.aj_why.specs.Helping.{guard_help, first_path, names_here, help}
-
--- a path is in the set with it
-with_itself : (p : PathData) (H : Held) → with_path p H p ≡ true
-with_itself p H = ap (λ t. t || H p) (eq_itself p)
 
 guard_helps : (writes : Bool) (guard : Guard) (H : Held) (p : PathData) → guard_help writes guard ≡ Some p → AtMost (access_effect writes guard (with_path p H)) Mover
 guard_helps writes Final H p e = absurd (let f : None ≡ Some p = e in cc)

@@ -2,6 +2,7 @@
 use Rattle.std.proofs.Common.{◌≡◌, ℕ, ◌+◌, Bool, true, false, List, [], ◌∷◌, ◌++◌, length, Option, Some, None, Contains, suc, ◌⊎◌, inl, inr, refl, sym, ap, subst, ◌∙◌, arith, length-append, append_assoc}
 use Rattle.std.proofs.lemmas.List.Elements.{Contains-append_cases, Contains-push_cases}
 use Rattle.aj_lemmas.proofs.Lists.{at_left, get_right}
+use Rattle.aj_lemmas.proofs.Numbers.{one_and}
 use Rattle.aj_algebra.specs.HeldPaths.{Held, with_path}
 use Rattle.aj_core.specs.Core.{Program, Expr, Exprs, IntE, TruthE, NullE, ThisE, VarE, NotE, NegE, BinaryE, AndE, OrE, GetE, CallE, NewE, no_exprs, and_expr}
 use Rattle.aj_core.specs.Core.{Stmt, Stmts, EmptyS, BlockS, LocalS, SetVarS, SetFieldS, DoS, IfS, WhileS, SyncS, ReturnS, PrintS, StartS, no_stmts, and_stmt}
@@ -11,10 +12,6 @@ use Rattle.aj_deriv_rules.specs.Parts.{Part, ExprP, StmtP}
 use Rattle.aj_why.specs.Parts.{expr_parts, exprs_parts, value_parts, stmt_parts, block_parts, parts_in}
 use Rattle.aj_why.specs.Visits.{Visit, visit, by_lock, expr_visits, exprs_visits, value_visits, stmt_visits, block_visits, part_visits}
 use Rattle.aj_why.specs.Readings.{IsNumbered}
-
--- as many parts as nodes
-one_more : (m a : ℕ) → m ≡ a → suc m ≡ 1 + a
-one_more m a e = omega (arith, e)
 
 two_lists : (xs ys : List Part) (a b : ℕ) → length xs ≡ a → length ys ≡ b → length (xs ++ ys) ≡ a + b
 two_lists xs ys a b first second = length-append xs ys ∙ (λ i. first i + second i)
@@ -26,14 +23,14 @@ mutual
   expr_long NullE = refl
   expr_long ThisE = refl
   expr_long (VarE x is_final ty) = refl
-  expr_long (NotE e) = one_more _ _ (expr_long e)
-  expr_long (NegE e) = one_more _ _ (expr_long e)
-  expr_long (BinaryE op a b) = one_more _ _ (two_lists _ _ _ _ (expr_long a) (expr_long b))
-  expr_long (AndE a b) = one_more _ _ (two_lists _ _ _ _ (expr_long a) (expr_long b))
-  expr_long (OrE a b) = one_more _ _ (two_lists _ _ _ _ (expr_long a) (expr_long b))
-  expr_long (GetE e f) = one_more _ _ (expr_long e)
-  expr_long (CallE e m args) = one_more _ _ (two_lists _ _ _ _ (expr_long e) (exprs_long args))
-  expr_long (NewE c args) = one_more _ _ (exprs_long args)
+  expr_long (NotE e) = one_and _ _ (expr_long e)
+  expr_long (NegE e) = one_and _ _ (expr_long e)
+  expr_long (BinaryE op a b) = one_and _ _ (two_lists _ _ _ _ (expr_long a) (expr_long b))
+  expr_long (AndE a b) = one_and _ _ (two_lists _ _ _ _ (expr_long a) (expr_long b))
+  expr_long (OrE a b) = one_and _ _ (two_lists _ _ _ _ (expr_long a) (expr_long b))
+  expr_long (GetE e f) = one_and _ _ (expr_long e)
+  expr_long (CallE e m args) = one_and _ _ (two_lists _ _ _ _ (expr_long e) (exprs_long args))
+  expr_long (NewE c args) = one_and _ _ (exprs_long args)
 
   exprs_long : (es : Exprs) → length (exprs_parts es) ≡ nodes_of_each es
   exprs_long no_exprs = refl
@@ -46,17 +43,17 @@ value_long (Some e) = expr_long e
 mutual
   stmt_long : (s : Stmt) → length (stmt_parts s) ≡ stmt_nodes s
   stmt_long EmptyS = refl
-  stmt_long (BlockS ss) = one_more _ _ (block_long ss)
-  stmt_long (LocalS x is_final ty e) = one_more _ _ (expr_long e)
-  stmt_long (SetVarS x e) = one_more _ _ (expr_long e)
-  stmt_long (SetFieldS e f g) = one_more _ _ (two_lists _ _ _ _ (expr_long e) (expr_long g))
-  stmt_long (DoS e drops) = one_more _ _ (expr_long e)
-  stmt_long (IfS c s t) = one_more _ _ (two_lists _ _ _ _ (expr_long c) (two_lists _ _ _ _ (stmt_long s) (stmt_long t)))
-  stmt_long (WhileS c s) = one_more _ _ (two_lists _ _ _ _ (expr_long c) (stmt_long s))
-  stmt_long (SyncS p s) = one_more _ _ (stmt_long s)
-  stmt_long (ReturnS o) = one_more _ _ (value_long o)
-  stmt_long (PrintS e) = one_more _ _ (expr_long e)
-  stmt_long (StartS e) = one_more _ _ (expr_long e)
+  stmt_long (BlockS ss) = one_and _ _ (block_long ss)
+  stmt_long (LocalS x is_final ty e) = one_and _ _ (expr_long e)
+  stmt_long (SetVarS x e) = one_and _ _ (expr_long e)
+  stmt_long (SetFieldS e f g) = one_and _ _ (two_lists _ _ _ _ (expr_long e) (expr_long g))
+  stmt_long (DoS e drops) = one_and _ _ (expr_long e)
+  stmt_long (IfS c s t) = one_and _ _ (two_lists _ _ _ _ (expr_long c) (two_lists _ _ _ _ (stmt_long s) (stmt_long t)))
+  stmt_long (WhileS c s) = one_and _ _ (two_lists _ _ _ _ (expr_long c) (stmt_long s))
+  stmt_long (SyncS p s) = one_and _ _ (stmt_long s)
+  stmt_long (ReturnS o) = one_and _ _ (value_long o)
+  stmt_long (PrintS e) = one_and _ _ (expr_long e)
+  stmt_long (StartS e) = one_and _ _ (expr_long e)
 
   block_long : (ss : Stmts) → length (block_parts ss) ≡ stmt_nodes_each ss
   block_long no_stmts = refl

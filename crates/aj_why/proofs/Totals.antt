@@ -5,6 +5,7 @@ use Rattle.aj_algebra.specs.declared.basic.Basic.{Basic}
 use Rattle.aj_algebra.specs.declared.basic.Basic.TheVariants.{Const, Mover, Atomic}
 use Rattle.aj_algebra.specs.Basics.{below_of, seq_of, join_of, star_of, lift_of}
 use Rattle.aj_algebra.specs.HeldPaths.{Held, with_path}
+use Rattle.aj_algebra.proofs.Sequences.{associative, unit_after, unit_before}
 use Rattle.aj_core.specs.Core.{Program, Expr, Exprs, IntE, TruthE, NullE, ThisE, VarE, NotE, NegE, BinaryE, AndE, OrE, GetE, CallE, NewE, no_exprs, and_expr}
 use Rattle.aj_core.specs.Core.{Stmt, Stmts, EmptyS, BlockS, LocalS, SetVarS, SetFieldS, DoS, IfS, WhileS, SyncS, ReturnS, PrintS, StartS, no_stmts, and_stmt}
 use Rattle.aj_core.specs.Sizes.{nodes_of, stmt_nodes}
@@ -14,7 +15,7 @@ use Rattle.aj_why.specs.Parts.{own_of, part_effect, lock_effect}
 use Rattle.aj_why.specs.Visits.{Visit, visit, by_lock}
 use Rattle.aj_why.specs.Steps.{of_greater, of_taken, own_step, expr_steps, exprs_steps, stmt_steps, block_steps, steps}
 use Rattle.aj_why.specs.Readings.{own_at}
-use Rattle.aj_why.proofs.Weights.{weight, repeated, weight_seq, seq_regrouped, seq_const, seq_end, repeated_seq, repeated_mover, repeated_light, repeated_join, repeated_loop, repeated_lift}
+use Rattle.aj_why.proofs.Weights.{weight, repeated, weight_seq, repeated_seq, repeated_mover, repeated_light, repeated_join, repeated_loop, repeated_lift}
 
 module _ (P : Program) (rel : ℕ → List PathData) (A : Assignment) where
   -- a step with its loop
@@ -31,8 +32,8 @@ module _ (P : Program) (rel : ℕ → List PathData) (A : Assignment) where
     pub is : weight (charged xs) ≡ weight (repeated loop b)
 
   charged_both : (xs ys : List Visit) → charged (xs ++ ys) ≡ seq_of (charged xs) (charged ys)
-  charged_both [] ys = sym (seq_const (charged ys))
-  charged_both (x ∷ xs) ys = ap (seq_of (charge x)) (charged_both xs ys) ∙ sym (seq_regrouped (charge x) (charged xs) (charged ys))
+  charged_both [] ys = sym (unit_before (charged ys))
+  charged_both (x ∷ xs) ys = ap (seq_of (charge x)) (charged_both xs ys) ∙ sym (associative (charge x) (charged xs) (charged ys))
 
   -- parts in sequence
   both : {loop : Option ℕ} {xs ys : List Visit} {a b : Basic} → Weighs loop xs a → Weighs loop ys b → Weighs loop (xs ++ ys) (seq_of a b)
@@ -57,7 +58,7 @@ module _ (P : Program) (rel : ℕ → List PathData) (A : Assignment) where
 
   -- a part alone, and only where it can't be moved
   alone : (n : ℕ) (x : Part) (H : Held) (loop : Option ℕ) → Weighs loop (visit n x H loop) (own_of P rel A x H)
-  alone n x H loop = record { is = ap weight (seq_end (repeated loop (own_of P rel A x H))) }
+  alone n x H loop = record { is = ap weight (unit_after (repeated loop (own_of P rel A x H))) }
 
   own_by : (n : ℕ) (x : Part) (H : Held) (loop : Option ℕ) (t : Bool) → below_of (own_of P rel A x H) Mover ≡ t
       → Weighs loop (if t then [] else visit n x H loop) (own_of P rel A x H)

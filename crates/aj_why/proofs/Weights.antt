@@ -56,24 +56,12 @@ by_one f g all a = alike_is (f a) (g a) (each (λ a. alike (f a) (g a)) all a)
 pub by_two : (f g : Basic → Basic → Basic) → every (λ a. every (λ b. alike (f a b) (g a b))) ≡ true → (a b : Basic) → f a b ≡ g a b
 by_two f g all a b = alike_is (f a b) (g a b) (each (λ b. alike (f a b) (g a b)) (each (λ a. every (λ b. alike (f a b) (g a b))) all a) b)
 
-pub by_three : (f g : Basic → Basic → Basic → Basic) → every (λ a. every (λ b. every (λ c. alike (f a b c) (g a b c)))) ≡ true → (a b c : Basic) → f a b c ≡ g a b c
-by_three f g all a b c = by_two (f a) (g a) (each (λ a. every (λ b. every (λ c. alike (f a b c) (g a b c)))) all a) b c
-
 pub weight_seq : (a b : Basic) → weight (seq_of a b) ≡ seq_of (weight a) (weight b)
 weight_seq = by_two (λ a b. weight (seq_of a b)) (λ a b. seq_of (weight a) (weight b)) refl
 
 pub weight_repeated : (loop : Option ℕ) (a : Basic) → weight (repeated loop (weight a)) ≡ weight (repeated loop a)
 weight_repeated (Some k) = by_one (λ a. weight (star_of (weight a))) (λ a. weight (star_of a)) refl
 weight_repeated None = by_one (λ a. weight (weight a)) weight refl
-
-pub seq_regrouped : (a b c : Basic) → seq_of (seq_of a b) c ≡ seq_of a (seq_of b c)
-seq_regrouped = by_three (λ a b c. seq_of (seq_of a b) c) (λ a b c. seq_of a (seq_of b c)) refl
-
-pub seq_const : (a : Basic) → seq_of Const a ≡ a
-seq_const = by_one (λ a. seq_of Const a) (λ a. a) refl
-
-pub seq_end : (a : Basic) → seq_of a Const ≡ a
-seq_end = by_one (λ a. seq_of a Const) (λ a. a) refl
 
 -- parts in sequence, by what each weighs
 pub repeated_seq : (loop : Option ℕ) (a b : Basic) → seq_of (weight (repeated loop a)) (weight (repeated loop b)) ≡ weight (repeated loop (seq_of a b))

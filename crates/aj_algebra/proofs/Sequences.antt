@@ -1,4 +1,4 @@
--- Laws of basics, as far as the rules need them.
+-- Basics in sequence.
 use Rattle.std.proofs.Common.{◌≡◌, refl}
 use Rattle.aj_algebra.specs.declared.basic.Basic.{Basic}
 use Rattle.aj_algebra.specs.declared.basic.Basic.TheVariants.{Const, Mover, Atomic, Cmpd, Error}
