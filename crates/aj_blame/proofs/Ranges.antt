@@ -1,5 +1,7 @@
 -- Who waits within a range.
-use Rattle.std.proofs.Common.{◌≡◌, ℕ, zero, suc, ◌+◌, ◌<◌, ◌≤◌, ◌⊎◌, Bool, true, false, List, [], ◌∷◌, length, get_or, slice_get, Some, refl, sym, ap, ◌∙◌, arith, inl, inr}
+use Rattle.std.proofs.Common.{◌≡◌, ℕ, zero, suc, ◌+◌, ◌<◌, ◌≤◌, Bool, true, false, List, [], ◌∷◌, length, get_or, slice_get, Some, refl, sym, ap, ◌∙◌, arith, inl, inr}
+use Rattle.std.proofs.Math.Nat.{eq-or-lt_of_le}
+use Rattle.std.proofs.lemmas.Bool.{cases_lt}
 use Rattle.std.proofs.lemmas.Option.{slice_get-get_or}
 use Rattle.aj_blame.specs.Waiting.{WaitWithin}
 
@@ -10,25 +12,6 @@ not_true (true ∷ waits) zero below not = absurd (not refl)
 not_true (false ∷ waits) zero below not = refl
 not_true (b ∷ waits) (suc m) below not = not_true waits m (omega (arith, below)) not
 
--- a place before one more is an earlier one or the last
-last_or : (m k : ℕ) → m < k + 1 → (m < k) ⊎ (m ≡ k)
-last_or zero zero less = inr refl
-last_or zero (suc k) less = inl (omega arith)
-last_or (suc m) zero less = absurd (omega (arith, less))
-last_or (suc m) (suc k) less = elim (last_or m k (omega (arith, less))) as (λ _. (suc m < suc k) ⊎ (suc m ≡ suc k)) [
-  | inl early ↦ inl (omega (arith, early))
-  | inr same ↦ inr (ap suc same)
-]
-
-split : (m k : ℕ) → (m < k) ⊎ (k ≤ m)
-split zero zero = inr (omega arith)
-split zero (suc k) = inl (omega arith)
-split (suc m) zero = inr (omega arith)
-split (suc m) (suc k) = elim (split m k) as (λ _. (suc m < suc k) ⊎ (suc k ≤ suc m)) [
-  | inl early ↦ inl (omega (arith, early))
-  | inr late ↦ inr (omega (arith, late))
-]
-
 -- who stands outside of the range doesn't wait
 pub before_asleep : (waits : List Bool) (first end : ℕ) → WaitWithin waits first end → (m : ℕ) → m < length waits → m < first → slice_get waits m ≡ Some false
 before_asleep waits first end is m below out = not_true waits m below (λ e. omega (arith, (is.each m e).0, out))
@@ -38,14 +21,16 @@ behind_asleep waits first end is m below out = not_true waits m below (λ e. ome
 
 -- one place more that was passed over
 pub passed_more : (waits : List Bool) (from k : ℕ) (b : Bool) → k < length waits → b ≡ get_or waits k b → b ≡ false → ((m : ℕ) → from ≤ m → m < k → slice_get waits m ≡ Some false) → (m : ℕ) → from ≤ m → m < k + 1 → slice_get waits m ≡ Some false
-passed_more waits from k b below is not passed m after less = elim (last_or m k less) as (λ _. slice_get waits m ≡ Some false) [
-  | inl early ↦ passed m after early
-  | inr same ↦ ap (slice_get waits) same ∙ slice_get-get_or waits k b below ∙ ap Some (sym is ∙ not)
-]
+passed_more waits from k b below is not passed m after less =
+    let within : m ≤ k = omega (arith, less) in
+    elim (eq-or-lt_of_le within) as (λ _. slice_get waits m ≡ Some false) [
+      | inl same ↦ ap (slice_get waits) same ∙ slice_get-get_or waits k b below ∙ ap Some (sym is ∙ not)
+      | inr early ↦ passed m after early
+    ]
 
 -- all places were passed over, up to the end of the range and behind it
 pub behind_asleep_or : (waits : List Bool) (first end : ℕ) → WaitWithin waits first end → (m from k : ℕ) → m < length waits → end ≤ k → from ≤ m → ((m : ℕ) → from ≤ m → m < k → slice_get waits m ≡ Some false) → slice_get waits m ≡ Some false
-behind_asleep_or waits first end is m from k below past after passed = elim (split m k) as (λ _. slice_get waits m ≡ Some false) [
+behind_asleep_or waits first end is m from k below past after passed = elim (cases_lt m k) as (λ _. slice_get waits m ≡ Some false) [
   | inl early ↦ passed m after early
   | inr late ↦ behind_asleep waits first end is m below (omega (arith, past, late))
 ]

@@ -11,6 +11,7 @@ ghost use Rattle.aj_blame.specs.Certificates.{AreLines, IsCertificate, bound_of,
 ghost use Rattle.aj_blame.specs.Wrongs.{AllPass, IsFirstFailing, IsWrong, justified_at, placed_at};
 
 use crate::floors::Floors;
+use crate::judged::Judged;
 use crate::line::{Blame, Line};
 use crate::short_path::{are_among, are_held, unpacked};
 use crate::up::run_effect;
@@ -19,7 +20,7 @@ use aj_algebra::Basic;
 use aj_core::CoreProgram;
 use aj_effect_at::Assigned;
 use aj_paths::MethodId;
-use aj_rules::{OverridingMethods, RelevantSets, overriders};
+use aj_rules::{RelevantSets, overriders};
 use std::alloc::{AllocError, AllocError as NoMemory, Global};
 
 /// Why lines are no certificate: the first cause that stands. Lines count from 1.
@@ -106,19 +107,17 @@ fn unplaced(program: &CoreProgram, sets: &RelevantSets, lines: &[Line]) -> Optio
 /// and takes no look at its method's body.
 fn follows(
     alloc: Global,
-    program: &CoreProgram,
-    sets: &RelevantSets,
-    over: &OverridingMethods,
+    judged: &Judged<'_>,
     work: &mut Work,
     floors: &mut Floors<'_>,
     line: &Line,
 ) -> Result<bool, NoMemory>
     requires there { line.now.method < length floors.old.tables.items }
-    requires over { AreOverriders (program_of program.now) over.now }
+    requires over { AreOverriders (program_of judged.now.program.now) judged.now.over.now }
     ensures sets { floors.new.sets.now ≡ floors.old.sets.now }
     ensures size { length floors.new.tables.items ≡ length floors.old.tables.items }
-    ensures follows { let P = program_of program.now in let rel = rel_of sets.now in
-        (before : List LineData) → floors.old.sets.now ≡ sets.now → Says rel floors.old.tables.items before → AreLines P rel before → is_placed P rel line.now ≡ true →
+    ensures follows { let P = program_of judged.now.program.now in let rel = rel_of judged.now.sets.now in
+        (before : List LineData) → floors.old.sets.now ≡ judged.now.sets.now → Says rel floors.old.tables.items before → AreLines P rel before → is_placed P rel line.now ≡ true →
         IfOk result (λ b. (b ≡ is_justified P rel before line.now) × (b ≡ true → Says rel floors.new.tables.items (before ++ line.now ∷ []))) }
 {
     let paths = unpacked(alloc, line.held.as_slice())?;
@@ -127,7 +126,7 @@ fn follows(
         return Ok(true);
     }
     work.spend(line.method)?;
-    let found = run_effect(alloc, program, sets, over, floors, line.method, held)?;
+    let found = run_effect(alloc, judged, floors, line.method, held)?;
     if !line.found.below(found) {
         return Ok(false);
     }
@@ -148,18 +147,15 @@ fn unjustified(
     ensures within { IfOk result (λ found. IfSome found (λ k. k < length lines.now)) }
 {
     let over = overriders(alloc, program)?;
+    let judged = Judged {
+        program,
+        sets,
+        over: &over,
+    };
     let mut work = Work::new(alloc, program)?;
     let mut floors = Floors::new(alloc, sets, program.methods().len())?;
     for at in 0..lines.len() {
-        if !follows(
-            alloc,
-            program,
-            sets,
-            &over,
-            &mut work,
-            &mut floors,
-            &lines[at],
-        )? {
+        if !follows(alloc, &judged, &mut work, &mut floors, &lines[at])? {
             return Ok(Some(at));
         }
     }

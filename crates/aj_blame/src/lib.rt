@@ -5,10 +5,12 @@
 mod ask;
 mod check;
 mod floors;
+mod judged;
 mod laws;
 mod line;
 mod parts;
 mod passes;
+mod said;
 mod short_path;
 mod up;
 mod waiting;

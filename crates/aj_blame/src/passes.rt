@@ -11,13 +11,15 @@ ghost use Rattle.aj_blame.specs.Ends.{Agrees, IsEnd, IsGoing};
 ghost use Rattle.aj_blame.specs.Waiting.{AreSettled};
 
 use crate::floors::Floors;
-use crate::line::{Blame, Line};
+use crate::judged::Judged;
+use crate::line::Blame;
+use crate::said::Said;
 use crate::waiting::ask_noting;
 use crate::waits::Waits;
 use aj_callers::{Row, callers_of};
 use aj_core::CoreProgram;
 use aj_paths::MethodId;
-use aj_rules::{OverridingMethods, RelevantSets, overriders};
+use aj_rules::{RelevantSets, overriders};
 use std::alloc::{AllocError, AllocError as NoMemory, AllocFailed, Global};
 
 /// Why there is no certificate.
@@ -44,36 +46,31 @@ impl From<AllocError> for BlameEnd {
 /// wait would add no line.
 fn pass(
     alloc: Global,
-    program: &CoreProgram,
-    sets: &RelevantSets,
-    over: &OverridingMethods,
+    judged: &Judged<'_>,
     callers: &[Row],
-    floors: &mut Floors<'_>,
-    lines: &mut Vec<Line>,
+    said: &mut Said<'_>,
     waits: &mut Waits,
 ) -> Result<bool, NoMemory>
-    requires few { length (program_of program.now).methods ≤ 2 ^ 32 }
-    requires over { AreOverriders (program_of program.now) over.now }
-    requires callers { AreCallers (program_of program.now) (overs_at over.now) callers.now }
-    requires rows { length callers.now ≡ length (program_of program.now).methods }
-    requires waits { length waits.old ≡ length (program_of program.now).methods }
-    requires relevant { AreRelevant (program_of program.now) sets.now }
-    requires agrees { Agrees (program_of program.now) sets.now floors.old.sets.now floors.old.tables.items lines.old.items }
-    requires settled { AreSettled (program_of program.now) (rel_of sets.now) lines.old.items waits.old }
-    ensures agrees { OnOk result (Agrees (program_of program.now) sets.now floors.new.sets.now floors.new.tables.items lines.new.items) }
+    requires few { length (program_of judged.now.program.now).methods ≤ 2 ^ 32 }
+    requires over { AreOverriders (program_of judged.now.program.now) judged.now.over.now }
+    requires callers { AreCallers (program_of judged.now.program.now) (overs_at judged.now.over.now) callers.now }
+    requires rows { length callers.now ≡ length (program_of judged.now.program.now).methods }
+    requires waits { length waits.old ≡ length (program_of judged.now.program.now).methods }
+    requires relevant { AreRelevant (program_of judged.now.program.now) judged.now.sets.now }
+    requires agrees { Agrees (program_of judged.now.program.now) judged.now.sets.now said.old.floors.sets.now said.old.floors.tables.items said.old.lines.items }
+    requires settled { AreSettled (program_of judged.now.program.now) (rel_of judged.now.sets.now) said.old.lines.items waits.old }
+    ensures agrees { OnOk result (Agrees (program_of judged.now.program.now) judged.now.sets.now said.new.floors.sets.now said.new.floors.tables.items said.new.lines.items) }
     ensures size { length waits.new ≡ length waits.old }
-    ensures settled { IfOk result (λ broken. broken ≡ false → AreSettled (program_of program.now) (rel_of sets.now) lines.new.items waits.new) }
-    ensures passed { IfOk result (λ broken. let P = program_of program.now in let rel = rel_of sets.now in
-        pass P rel (cells_of P rel) lines.old.items ≡ record { all = lines.new.items; broken = broken }) }
+    ensures settled { IfOk result (λ broken. broken ≡ false → AreSettled (program_of judged.now.program.now) (rel_of judged.now.sets.now) said.new.lines.items waits.new) }
+    ensures passed { IfOk result (λ broken. let P = program_of judged.now.program.now in let rel = rel_of judged.now.sets.now in
+        pass P rel (cells_of P rel) said.old.lines.items ≡ record { all = said.new.lines.items; broken = broken }) }
 {
-    let methods = program.methods();
+    let methods = judged.program.methods();
     let mut place = waits.next(0);
     while place < methods.len() {
         let id = MethodId(place as u32);
         let method = &methods[place];
-        if ask_noting(
-            alloc, program, sets, over, callers, floors, lines, waits, id, method,
-        )? {
+        if ask_noting(alloc, judged, callers, said, waits, id, method)? {
             return Ok(true);
         }
         place = waits.next(place + 1);
@@ -85,33 +82,30 @@ fn pass(
 #[tactic(auto, using(crate::proofs::MakerLemmas::going_none, crate::proofs::MakerLemmas::going_more, crate::proofs::MakerLemmas::room_less, crate::proofs::MakerLemmas::going_broke, crate::proofs::MakerLemmas::going_still))]
 fn passes(
     alloc: Global,
-    program: &CoreProgram,
-    sets: &RelevantSets,
-    over: &OverridingMethods,
+    judged: &Judged<'_>,
     callers: &[Row],
-    floors: &mut Floors<'_>,
-    lines: &mut Vec<Line>,
+    said: &mut Said<'_>,
     waits: &mut Waits,
 ) -> Result<bool, NoMemory>
-    requires few { length (program_of program.now).methods ≤ 2 ^ 32 }
-    requires over { AreOverriders (program_of program.now) over.now }
-    requires callers { AreCallers (program_of program.now) (overs_at over.now) callers.now }
-    requires rows { length callers.now ≡ length (program_of program.now).methods }
-    requires waits { length waits.old ≡ length (program_of program.now).methods }
-    requires relevant { AreRelevant (program_of program.now) sets.now }
-    requires agrees { Agrees (program_of program.now) sets.now floors.old.sets.now floors.old.tables.items lines.old.items }
-    requires none { lines.old.items ≡ [] }
-    requires settled { AreSettled (program_of program.now) (rel_of sets.now) lines.old.items waits.old }
-    ensures agrees { OnOk result (Agrees (program_of program.now) sets.now floors.new.sets.now floors.new.tables.items lines.new.items) }
-    ensures passes { IfOk result (λ broken. Passes (program_of program.now) (rel_of sets.now) [] (record { all = lines.new.items; broken = broken })) }
+    requires few { length (program_of judged.now.program.now).methods ≤ 2 ^ 32 }
+    requires over { AreOverriders (program_of judged.now.program.now) judged.now.over.now }
+    requires callers { AreCallers (program_of judged.now.program.now) (overs_at judged.now.over.now) callers.now }
+    requires rows { length callers.now ≡ length (program_of judged.now.program.now).methods }
+    requires waits { length waits.old ≡ length (program_of judged.now.program.now).methods }
+    requires relevant { AreRelevant (program_of judged.now.program.now) judged.now.sets.now }
+    requires agrees { Agrees (program_of judged.now.program.now) judged.now.sets.now said.old.floors.sets.now said.old.floors.tables.items said.old.lines.items }
+    requires none { said.old.lines.items ≡ [] }
+    requires settled { AreSettled (program_of judged.now.program.now) (rel_of judged.now.sets.now) said.old.lines.items waits.old }
+    ensures agrees { OnOk result (Agrees (program_of judged.now.program.now) judged.now.sets.now said.new.floors.sets.now said.new.floors.tables.items said.new.lines.items) }
+    ensures passes { IfOk result (λ broken. Passes (program_of judged.now.program.now) (rel_of judged.now.sets.now) [] (record { all = said.new.lines.items; broken = broken })) }
 {
-    loop {
-        let before = lines.len();
+    'rounds: loop {
+        let before = said.lines.len();
         waits.narrow();
-        if pass(alloc, program, sets, over, callers, floors, lines, waits)? {
+        if pass(alloc, judged, callers, said, waits)? {
             return Ok(true);
         }
-        if lines.len() == before {
+        if said.lines.len() == before {
             return Ok(false);
         }
     }
@@ -136,20 +130,17 @@ pub fn blame(alloc: Global, program: &CoreProgram, sets: &RelevantSets) -> Resul
     let over = overriders(alloc, program)?;
     let callers = callers_of(alloc, program, &over)?;
     let count = program.methods().len();
-    let mut floors = Floors::new(alloc, sets, count)?;
+    let floors = Floors::new(alloc, sets, count)?;
     let mut waits = Waits::all(alloc, count)?;
-    let mut lines = Vec::new(alloc);
-    if passes(
-        alloc,
+    let lines = Vec::new(alloc);
+    let judged = Judged {
         program,
         sets,
-        &over,
-        callers.as_slice(),
-        &mut floors,
-        &mut lines,
-        &mut waits,
-    )? {
-        Ok(Blame { lines })
+        over: &over,
+    };
+    let mut said = Said { floors, lines };
+    if passes(alloc, &judged, callers.as_slice(), &mut said, &mut waits)? {
+        Ok(Blame { lines: said.lines })
     } else {
         Err(BlameEnd::Accepted)
     }

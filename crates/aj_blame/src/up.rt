@@ -6,12 +6,13 @@ ghost use Rattle.aj_rules.specs.Near.{rel_of};
 ghost use Rattle.aj_blame.specs.Lines.{body_effect, joined_over, run_effect};
 ghost use Rattle.aj_rules.specs.Overriding.{AreOverriders};
 
+use crate::judged::Judged;
 use aj_algebra::Basic;
 use aj_core::CoreProgram;
 use aj_effect_at::{Assigned, stmt_effect};
 use aj_held_lists::among;
 use aj_paths::{MethodId, Path};
-use aj_rules::{OverridingMethods, RelevantSets};
+use aj_rules::RelevantSets;
 use std::alloc::{AllocError as NoMemory, Global};
 
 /// The effect of a method's body, where the method is there.
@@ -53,20 +54,18 @@ fn joined_over<A: Assigned>(
 }
 
 /// What a call of a method of the program may come to where these paths are held: its body, or that of a method that overrides it.
-pub fn run_effect<A: Assigned>(
+pub(crate) fn run_effect<A: Assigned>(
     alloc: Global,
-    program: &CoreProgram,
-    sets: &RelevantSets,
-    over: &OverridingMethods,
+    judged: &Judged<'_>,
     assigned: &A,
     method: MethodId,
     held: &[Path],
 ) -> Result<Basic, NoMemory>
-    requires { AreOverriders (program_of program.now) over.now }
+    requires { AreOverriders (program_of judged.now.program.now) judged.now.over.now }
     ensures { IfOk result (λ b.
-        b ≡ run_effect (program_of program.now) (rel_of sets.now) (A.Assigned.assigned assigned.now) method (has_path held.now)) }
+        b ≡ run_effect (program_of judged.now.program.now) (rel_of judged.now.sets.now) (A.Assigned.assigned assigned.now) method (has_path held.now)) }
 {
-    let body = body_effect(alloc, program, sets, assigned, method, held)?;
-    let others = joined_over(alloc, sets, assigned, over.of(method), held)?;
+    let body = body_effect(alloc, judged.program, judged.sets, assigned, method, held)?;
+    let others = joined_over(alloc, judged.sets, assigned, judged.over.of(method), held)?;
     Ok(body.join(others))
 }

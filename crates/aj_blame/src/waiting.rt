@@ -10,13 +10,12 @@ ghost use Rattle.aj_blame.specs.Passes.{cells_in, parts_of};
 ghost use Rattle.aj_blame.specs.Waiting.{AreSettled, AreWoken, IsAsleep};
 
 use crate::ask::ask_method;
-use crate::floors::Floors;
-use crate::line::Line;
+use crate::judged::Judged;
+use crate::said::Said;
 use crate::waits::Waits;
 use aj_callers::Row;
-use aj_core::{CoreMethod, CoreProgram};
+use aj_core::CoreMethod;
 use aj_paths::MethodId;
-use aj_rules::{OverridingMethods, RelevantSets};
 use std::alloc::{AllocError as NoMemory, Global};
 
 /// Lets methods wait.
@@ -43,36 +42,33 @@ fn callers_at(rows: &[Row], place: usize) -> &[usize]
 /// that adds a line, the methods that call it wait, and those that it overrides, and it waits itself; else it waits no longer.
 pub(crate) fn ask_noting(
     alloc: Global,
-    program: &CoreProgram,
-    sets: &RelevantSets,
-    over: &OverridingMethods,
+    judged: &Judged<'_>,
     callers: &[Row],
-    floors: &mut Floors<'_>,
-    lines: &mut Vec<Line>,
+    said: &mut Said<'_>,
     waits: &mut Waits,
     id: MethodId,
     method: &CoreMethod,
 ) -> Result<bool, NoMemory>
-    requires is { slice_get (program_of program.now).methods id ≡ Some (method_of method.now) }
-    requires over { AreOverriders (program_of program.now) over.now }
-    requires callers { AreCallers (program_of program.now) (overs_at over.now) callers.now }
-    requires rows { length callers.now ≡ length (program_of program.now).methods }
-    requires waits { length waits.old ≡ length (program_of program.now).methods }
-    requires relevant { AreRelevant (program_of program.now) sets.now }
-    requires agrees { Agrees (program_of program.now) sets.now floors.old.sets.now floors.old.tables.items lines.old.items }
-    requires settled { AreSettled (program_of program.now) (rel_of sets.now) lines.old.items waits.old }
-    ensures agrees { OnOk result (Agrees (program_of program.now) sets.now floors.new.sets.now floors.new.tables.items lines.new.items) }
-    ensures asked { IfOk result (λ broken. let rel = rel_of sets.now in
-        IsAsked (program_of program.now) rel (cells_in id (method_of method.now).requires_ (parts_of (rel id))) lines.old.items lines.new.items broken) }
+    requires is { slice_get (program_of judged.now.program.now).methods id ≡ Some (method_of method.now) }
+    requires over { AreOverriders (program_of judged.now.program.now) judged.now.over.now }
+    requires callers { AreCallers (program_of judged.now.program.now) (overs_at judged.now.over.now) callers.now }
+    requires rows { length callers.now ≡ length (program_of judged.now.program.now).methods }
+    requires waits { length waits.old ≡ length (program_of judged.now.program.now).methods }
+    requires relevant { AreRelevant (program_of judged.now.program.now) judged.now.sets.now }
+    requires agrees { Agrees (program_of judged.now.program.now) judged.now.sets.now said.old.floors.sets.now said.old.floors.tables.items said.old.lines.items }
+    requires settled { AreSettled (program_of judged.now.program.now) (rel_of judged.now.sets.now) said.old.lines.items waits.old }
+    ensures agrees { OnOk result (Agrees (program_of judged.now.program.now) judged.now.sets.now said.new.floors.sets.now said.new.floors.tables.items said.new.lines.items) }
+    ensures asked { IfOk result (λ broken. let rel = rel_of judged.now.sets.now in
+        IsAsked (program_of judged.now.program.now) rel (cells_in id (method_of method.now).requires_ (parts_of (rel id))) said.old.lines.items said.new.lines.items broken) }
     ensures size { length waits.new ≡ length waits.old }
-    ensures settled { IfOk result (λ broken. broken ≡ false → AreSettled (program_of program.now) (rel_of sets.now) lines.new.items waits.new) }
+    ensures settled { IfOk result (λ broken. broken ≡ false → AreSettled (program_of judged.now.program.now) (rel_of judged.now.sets.now) said.new.lines.items waits.new) }
 {
-    let before = lines.len();
-    if ask_method(alloc, program, sets, over, floors, lines, id, method)? {
+    let before = said.lines.len();
+    if ask_method(alloc, judged, said, id, method)? {
         return Ok(true);
     }
     let place = id.0 as usize;
-    if lines.len() == before {
+    if said.lines.len() == before {
         waits.sleep(place);
         return Ok(false);
     }

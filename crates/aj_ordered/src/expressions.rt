@@ -11,10 +11,10 @@ ghost use Rattle.aj_rules.specs.Search.{row_at};
 ghost use Rattle.aj_ordered.specs.Told.{Calls, told_at, told_of, expr_told, exprs_told};
 
 use crate::told::Seen;
-use crate::walk::Walk;
+use crate::walk::{Carried, Walk};
 use aj_core::CoreExpr;
 use aj_held_lists::held_under;
-use aj_paths::{MethodId, Path};
+use aj_paths::MethodId;
 use std::alloc::{AllocError as NoMemory, Global};
 
 /// Adds a method that may run at a call on this receiver with these arguments.
@@ -24,19 +24,26 @@ fn add_run(
     receiver: &CoreExpr,
     method: MethodId,
     args: &[CoreExpr],
-    held: &[Path],
-    under: u32,
+    carried: &Carried<'_>,
     seen: &mut Vec<Seen>,
 ) -> Result<(), NoMemory>
     ensures { OnOk result (let P = program_of walk.now.program.now in
         map told_of seen.new.items ≡ map told_of seen.old.items
-        ++ Calls method (held_under (rel_of walk.now.sets.now method) (path_of P (expr_of receiver.now)) (paths_of P (exprs_from args.now)) (has_path held.now)) under ∷ []) }
+        ++ Calls method (held_under (rel_of walk.now.sets.now method) (path_of P (expr_of receiver.now)) (paths_of P (exprs_from args.now)) (has_path carried.now.held.now)) carried.now.under ∷ []) }
 {
-    let held = held_under(alloc, walk.program, walk.sets, receiver, method, args, held)?;
+    let held = held_under(
+        alloc,
+        walk.program,
+        walk.sets,
+        receiver,
+        method,
+        args,
+        carried.held,
+    )?;
     seen.push(Seen::Comes {
         method,
         held,
-        under,
+        under: carried.under,
     })?;
     Ok(())
 }
@@ -48,17 +55,16 @@ fn add_call(
     receiver: &CoreExpr,
     callee: MethodId,
     args: &[CoreExpr],
-    held: &[Path],
-    under: u32,
+    carried: &Carried<'_>,
     seen: &mut Vec<Seen>,
 ) -> Result<(), NoMemory>
     ensures { OnOk result (let P = program_of walk.now.program.now in
         map told_of seen.new.items ≡ map told_of seen.old.items
-        ++ told_at (row_at walk.now.over.now) (Comes callee (λ k. held_under (rel_of walk.now.sets.now k) (path_of P (expr_of receiver.now)) (paths_of P (exprs_from args.now)) (has_path held.now)) under)) }
+        ++ told_at (row_at walk.now.over.now) (Comes callee (λ k. held_under (rel_of walk.now.sets.now k) (path_of P (expr_of receiver.now)) (paths_of P (exprs_from args.now)) (has_path carried.now.held.now)) carried.now.under)) }
 {
-    add_run(alloc, walk, receiver, callee, args, held, under, seen)?;
+    add_run(alloc, walk, receiver, callee, args, carried, seen)?;
     for over in walk.over.of(callee) {
-        add_run(alloc, walk, receiver, *over, args, held, under, seen)?;
+        add_run(alloc, walk, receiver, *over, args, carried, seen)?;
     }
     Ok(())
 }
@@ -66,47 +72,45 @@ fn add_call(
 /// Walks through an expression.
 #[cycle(expressions)]
 #[tactic(auto, using(crate::proofs::ToldLemmas::told_append))]
-pub fn walk_expr(
+pub(crate) fn walk_expr(
     alloc: Global,
     walk: &Walk<'_>,
     e: &CoreExpr,
-    held: &[Path],
-    under: u32,
+    carried: &Carried<'_>,
     seen: &mut Vec<Seen>,
 ) -> Result<(), NoMemory>
-    ensures { OnOk result (map told_of seen.new.items ≡ map told_of seen.old.items ++ expr_told walk.now (expr_of e.now) (has_path held.now) under) }
+    ensures { OnOk result (map told_of seen.new.items ≡ map told_of seen.old.items ++ expr_told walk.now (expr_of e.now) (has_path carried.now.held.now) carried.now.under) }
 {
     match e {
         CoreExpr::Not(a) | CoreExpr::Neg(a) | CoreExpr::Get(a, _) => {
-            walk_expr(alloc, walk, a, held, under, seen)
+            walk_expr(alloc, walk, a, carried, seen)
         }
         CoreExpr::Binary(_, a, b) => {
-            walk_expr(alloc, walk, a, held, under, seen)?;
-            walk_expr(alloc, walk, b, held, under, seen)
+            walk_expr(alloc, walk, a, carried, seen)?;
+            walk_expr(alloc, walk, b, carried, seen)
         }
         CoreExpr::And(a, b) => {
-            walk_expr(alloc, walk, a, held, under, seen)?;
-            walk_expr(alloc, walk, b, held, under, seen)
+            walk_expr(alloc, walk, a, carried, seen)?;
+            walk_expr(alloc, walk, b, carried, seen)
         }
         CoreExpr::Or(a, b) => {
-            walk_expr(alloc, walk, a, held, under, seen)?;
-            walk_expr(alloc, walk, b, held, under, seen)
+            walk_expr(alloc, walk, a, carried, seen)?;
+            walk_expr(alloc, walk, b, carried, seen)
         }
         CoreExpr::Call(receiver, callee, args) => {
-            walk_expr(alloc, walk, receiver, held, under, seen)?;
-            walk_exprs(alloc, walk, args.as_slice(), held, under, seen)?;
+            walk_expr(alloc, walk, receiver, carried, seen)?;
+            walk_exprs(alloc, walk, args.as_slice(), carried, seen)?;
             add_call(
                 alloc,
                 walk,
                 receiver,
                 *callee,
                 args.as_slice(),
-                held,
-                under,
+                carried,
                 seen,
             )
         }
-        CoreExpr::New(_, args) => walk_exprs(alloc, walk, args.as_slice(), held, under, seen),
+        CoreExpr::New(_, args) => walk_exprs(alloc, walk, args.as_slice(), carried, seen),
         CoreExpr::Int(_)
         | CoreExpr::Truth(_)
         | CoreExpr::Null
@@ -121,15 +125,14 @@ pub(crate) fn walk_two(
     walk: &Walk<'_>,
     a: &CoreExpr,
     b: &CoreExpr,
-    held: &[Path],
-    under: u32,
+    carried: &Carried<'_>,
     seen: &mut Vec<Seen>,
 ) -> Result<(), NoMemory>
     ensures { OnOk result (map told_of seen.new.items ≡ map told_of seen.old.items
-        ++ (expr_told walk.now (expr_of a.now) (has_path held.now) under ++ expr_told walk.now (expr_of b.now) (has_path held.now) under)) }
+        ++ (expr_told walk.now (expr_of a.now) (has_path carried.now.held.now) carried.now.under ++ expr_told walk.now (expr_of b.now) (has_path carried.now.held.now) carried.now.under)) }
 {
-    walk_expr(alloc, walk, a, held, under, seen)?;
-    walk_expr(alloc, walk, b, held, under, seen)
+    walk_expr(alloc, walk, a, carried, seen)?;
+    walk_expr(alloc, walk, b, carried, seen)
 }
 
 /// Walks through arguments.
@@ -138,14 +141,13 @@ fn walk_exprs(
     alloc: Global,
     walk: &Walk<'_>,
     es: &[CoreExpr],
-    held: &[Path],
-    under: u32,
+    carried: &Carried<'_>,
     seen: &mut Vec<Seen>,
 ) -> Result<(), NoMemory>
-    ensures { OnOk result (map told_of seen.new.items ≡ map told_of seen.old.items ++ exprs_told walk.now (exprs_from es.now) (has_path held.now) under) }
+    ensures { OnOk result (map told_of seen.new.items ≡ map told_of seen.old.items ++ exprs_told walk.now (exprs_from es.now) (has_path carried.now.held.now) carried.now.under) }
 {
     for e in es {
-        walk_expr(alloc, walk, e, held, under, seen)?;
+        walk_expr(alloc, walk, e, carried, seen)?;
     }
     Ok(())
 }

@@ -8,7 +8,6 @@ mod statements;
 mod told;
 mod walk;
 
-pub use expressions::walk_expr;
 pub use laws::light_laws;
 pub use slots::slot_types;
 pub use statements::walk_body;

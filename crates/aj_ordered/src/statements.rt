@@ -8,7 +8,7 @@ ghost use Rattle.aj_ordered.specs.Told.{told_bad, told_of, stmt_told, block_told
 
 use crate::expressions::{walk_expr, walk_two};
 use crate::told::Seen;
-use crate::walk::{Walk, level_of, lock_class};
+use crate::walk::{Carried, Walk, level_of, lock_class};
 use aj_core::CoreStmt;
 use aj_held_lists::{after, copied, has, with_path};
 use aj_paths::{ClassId, Path};
@@ -25,9 +25,10 @@ pub fn walk_body(
     requires { syncs_in (stmt_of body.now) ≤ 2 ^ 63 }
     ensures { IfOk result (λ seen. map told_of seen.items ≡ stmt_told walk.now (stmt_of body.now) 0 (has_path held.now) under) }
 {
+    let carried = Carried { held, under };
     let mut seen = Vec::new(alloc);
     let mut place = 0;
-    walk_stmt(alloc, walk, body, held, under, &mut place, &mut seen)?;
+    walk_stmt(alloc, walk, body, &carried, &mut place, &mut seen)?;
     Ok(seen)
 }
 
@@ -38,37 +39,34 @@ fn walk_stmt(
     alloc: Global,
     walk: &Walk<'_>,
     s: &CoreStmt,
-    held: &[Path],
-    under: u32,
+    carried: &Carried<'_>,
     place: &mut u64,
     seen: &mut Vec<Seen>,
 ) -> Result<(), NoMemory>
     requires { place.old + syncs_in (stmt_of s.now) ≤ 2 ^ 63 }
-    ensures seen { OnOk result (map told_of seen.new.items ≡ map told_of seen.old.items ++ stmt_told walk.now (stmt_of s.now) place.old (has_path held.now) under) }
+    ensures seen { OnOk result (map told_of seen.new.items ≡ map told_of seen.old.items ++ stmt_told walk.now (stmt_of s.now) place.old (has_path carried.now.held.now) carried.now.under) }
     ensures place { OnOk result (place.new ≡ place.old + syncs_in (stmt_of s.now)) }
 {
     match s {
         CoreStmt::Empty | CoreStmt::Return(None) => Ok(()),
-        CoreStmt::Block(body) => {
-            walk_block(alloc, walk, body.as_slice(), held, under, place, seen)
-        }
-        CoreStmt::SetField(a, _, b) => walk_two(alloc, walk, a, b, held, under, seen),
+        CoreStmt::Block(body) => walk_block(alloc, walk, body.as_slice(), carried, place, seen),
+        CoreStmt::SetField(a, _, b) => walk_two(alloc, walk, a, b, carried, seen),
         CoreStmt::If(c, a, b) => {
-            walk_expr(alloc, walk, c, held, under, seen)?;
-            walk_stmt(alloc, walk, a, held, under, place, seen)?;
-            walk_stmt(alloc, walk, b, held, under, place, seen)
+            walk_expr(alloc, walk, c, carried, seen)?;
+            walk_stmt(alloc, walk, a, carried, place, seen)?;
+            walk_stmt(alloc, walk, b, carried, place, seen)
         }
         CoreStmt::While(c, a) => {
-            walk_expr(alloc, walk, c, held, under, seen)?;
-            walk_stmt(alloc, walk, a, held, under, place, seen)
+            walk_expr(alloc, walk, c, carried, seen)?;
+            walk_stmt(alloc, walk, a, carried, place, seen)
         }
-        CoreStmt::Sync(path, a) => { walk_sync(alloc, walk, path, a, held, under, place, seen) }
+        CoreStmt::Sync(path, a) => walk_sync(alloc, walk, path, a, carried, place, seen),
         CoreStmt::Local { value: e, .. }
         | CoreStmt::SetVar(_, e)
         | CoreStmt::Do(e, _)
         | CoreStmt::Return(Some(e))
         | CoreStmt::Print(e)
-        | CoreStmt::Start(e) => walk_expr(alloc, walk, e, held, under, seen),
+        | CoreStmt::Start(e) => walk_expr(alloc, walk, e, carried, seen),
     }
 }
 
@@ -79,56 +77,49 @@ fn walk_sync(
     walk: &Walk<'_>,
     path: &Path,
     s: &CoreStmt,
-    held: &[Path],
-    under: u32,
+    carried: &Carried<'_>,
     place: &mut u64,
     seen: &mut Vec<Seen>,
 ) -> Result<(), NoMemory>
     requires { place.old + (1 + syncs_in (stmt_of s.now)) ≤ 2 ^ 63 }
-    ensures seen { OnOk result (map told_of seen.new.items ≡ map told_of seen.old.items ++ stmt_told walk.now (SyncS path.now (stmt_of s.now)) place.old (has_path held.now) under) }
+    ensures seen { OnOk result (map told_of seen.new.items ≡ map told_of seen.old.items ++ stmt_told walk.now (SyncS path.now (stmt_of s.now)) place.old (has_path carried.now.held.now) carried.now.under) }
     ensures place { OnOk result (place.new ≡ place.old + (1 + syncs_in (stmt_of s.now))) }
 {
-    let at = *place;
-    *place = at + 1;
-    if has(held, path) {
-        walk_stmt(alloc, walk, s, held, under, place, seen)
+    if has(carried.held, path) {
+        *place += 1;
+        walk_stmt(alloc, walk, s, carried, place, seen)
     } else {
-        walk_taken(alloc, walk, path, s, held, under, at, place, seen)
+        walk_taken(alloc, walk, path, s, carried, place, seen)
     }
 }
 
-/// Walks through a `synchronized` at this place on a path that isn't held.
+/// Walks through a `synchronized` on a path that isn't held.
 #[cycle(statements)]
 fn walk_taken(
     alloc: Global,
     walk: &Walk<'_>,
     path: &Path,
     s: &CoreStmt,
-    held: &[Path],
-    under: u32,
-    at: u64,
+    carried: &Carried<'_>,
     place: &mut u64,
     seen: &mut Vec<Seen>,
 ) -> Result<(), NoMemory>
-    requires { place.old + syncs_in (stmt_of s.now) ≤ 2 ^ 63 }
+    requires { place.old + (1 + syncs_in (stmt_of s.now)) ≤ 2 ^ 63 }
     ensures seen { OnOk result (let class = lock_class (program_of walk.now.program.now) walk.now.slots.now path.now in
-        map told_of seen.new.items ≡ (map told_of seen.old.items ++ told_bad at class under (level_in walk.now.levels.now class))
-        ++ stmt_told walk.now (stmt_of s.now) place.old (with_path path.now (has_path held.now)) (max under (level_in walk.now.levels.now class))) }
-    ensures place { OnOk result (place.new ≡ place.old + syncs_in (stmt_of s.now)) }
+        map told_of seen.new.items ≡ (map told_of seen.old.items ++ told_bad place.old class carried.now.under (level_in walk.now.levels.now class))
+        ++ stmt_told walk.now (stmt_of s.now) (place.old + 1) (with_path path.now (has_path carried.now.held.now)) (max carried.now.under (level_in walk.now.levels.now class))) }
+    ensures place { OnOk result (place.new ≡ place.old + (1 + syncs_in (stmt_of s.now))) }
 {
     let class = lock_class(walk, path);
     let level = level_of(walk.levels, class);
-    note_bad(at, class, under, level, seen)?;
-    let more = with_path(alloc, path, held)?;
-    walk_stmt(
-        alloc,
-        walk,
-        s,
-        more.as_slice(),
-        under.max(level),
-        place,
-        seen,
-    )
+    note_bad(*place, class, carried.under, level, seen)?;
+    *place += 1;
+    let more = with_path(alloc, path, carried.held)?;
+    let taken = Carried {
+        held: more.as_slice(),
+        under: carried.under.max(level),
+    };
+    walk_stmt(alloc, walk, s, &taken, place, seen)
 }
 
 /// Notes a bad `synchronized`, where the lock's level isn't above the walk's.
@@ -157,18 +148,21 @@ fn walk_block(
     alloc: Global,
     walk: &Walk<'_>,
     body: &[CoreStmt],
-    held: &[Path],
-    under: u32,
+    carried: &Carried<'_>,
     place: &mut u64,
     seen: &mut Vec<Seen>,
 ) -> Result<(), NoMemory>
     requires { place.old + syncs_in_each (stmts_from body.now) ≤ 2 ^ 63 }
-    ensures seen { OnOk result (map told_of seen.new.items ≡ map told_of seen.old.items ++ block_told walk.now (stmts_from body.now) place.old (has_path held.now) under) }
+    ensures seen { OnOk result (map told_of seen.new.items ≡ map told_of seen.old.items ++ block_told walk.now (stmts_from body.now) place.old (has_path carried.now.held.now) carried.now.under) }
     ensures place { OnOk result (place.new ≡ place.old + syncs_in_each (stmts_from body.now)) }
 {
-    let mut now = copied(alloc, held)?;
+    let mut now = copied(alloc, carried.held)?;
     for s in body {
-        walk_stmt(alloc, walk, s, now.as_slice(), under, place, seen)?;
+        let here = Carried {
+            held: now.as_slice(),
+            under: carried.under,
+        };
+        walk_stmt(alloc, walk, s, &here, place, seen)?;
         now = after(alloc, walk.program, s, now)?;
     }
     Ok(())

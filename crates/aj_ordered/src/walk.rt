@@ -19,6 +19,13 @@ pub struct Walk<'a> {
     pub slots: &'a [CoreType],
 }
 
+/// What a walk carries: the paths that are held, and the greatest level of a lock that may be held.
+#[derive(Clone, Copy)]
+pub(crate) struct Carried<'a> {
+    pub(crate) held: &'a [Path],
+    pub(crate) under: u32,
+}
+
 /// The level of a class; 0 for one that has none.
 pub(crate) fn level_of(levels: &[u32], class: ClassId) -> u32
     ensures { result ≡ level_in levels.now class }

@@ -6,5 +6,5 @@ use Rattle.aj_blame.proofs.ask.ask_method.Goals as goal
 
 pub ask_sets-requires-clause-ascend : goal.ask_sets-requires-clause-ascend
 ask_sets-requires-clause-ascend c =
-    asked_ascend (program_of c.args.program.now) c.args.sets.now c.args.id c.rel.result.now c.as_slice.result.now c.as_slice-2.result.now c.requires.relevant c.rel.ensures
+    asked_ascend (program_of c.args.judged.now.program.now) c.args.judged.now.sets.now c.args.id c.rel.result.now c.as_slice.result.now c.as_slice-2.result.now c.requires.relevant c.rel.ensures
     (c.as_slice-2.ensures.value ∙ c.in_ok-parts.ensures)

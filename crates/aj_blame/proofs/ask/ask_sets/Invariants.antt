@@ -12,10 +12,10 @@ use Rattle.aj_blame.proofs.ask.ask_sets.Given as goal
 -- a pass that asks the rest now goes as one that asks all from the start
 abbrev pub invariant-loop-part : goal.invariant-loop-part
 invariant-loop-part l =
-    let P = program_of l.program in let rel = rel_of l.sets in
+    let P = program_of l.judged.program.now in let rel = rel_of l.judged.sets.now in
     record {
-      agrees : Agrees P l.sets l.floors.sets.now l.floors.tables.items l.lines.items;
+      agrees : Agrees P l.judged.sets.now l.said.floors.sets.now l.said.floors.tables.items l.said.lines.items;
       ascend : AllByRecursion (IsStrictlySortedBy path_order) (drop l.part-index l.parts);
-      adds : Adds l.method l.fn.lines.items l.lines.items;
-      asked : (cs : List Cell) → pass P rel (cells_at l.method l.parts ++ cs) l.fn.lines.items ≡ pass P rel (cells_at l.method (drop l.part-index l.parts) ++ cs) l.lines.items;
+      adds : Adds l.method l.fn.said.lines.items l.said.lines.items;
+      asked : (cs : List Cell) → pass P rel (cells_at l.method l.parts ++ cs) l.fn.said.lines.items ≡ pass P rel (cells_at l.method (drop l.part-index l.parts) ++ cs) l.said.lines.items;
     }

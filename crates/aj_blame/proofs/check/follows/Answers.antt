@@ -14,32 +14,32 @@ returns-then-below-clause-follows c =
     let tables = c.args.floors.now.tables.items in
     let held = c.as_slice-held.ensures.value ∙ c.in_ok-paths.ensures ∙ c.as_slice.ensures.value ∙ ap (λ (x : LineData). x.held) c.line.view_is in
     let method = ap (λ (x : LineData). x.method) c.line.view_is in
-    follows_known (program_of c.args.program.now) c.args.sets.now kept tables c.args.line.now c.line.inside.found c.at.result (ap (λ (x : LineData). x.found) c.line.view_is)
+    follows_known (program_of c.args.judged.now.program.now) c.args.judged.now.sets.now kept tables c.args.line.now c.line.inside.found c.at.result (ap (λ (x : LineData). x.found) c.line.view_is)
     c.below.result (c.at.ensures ∙ (λ i. said_by (rel_of kept) tables (method i) (has_path (held i)))) c.below.ensures c.if-below.true
 
 pub returns-then-not-below-clause-follows : goal.returns-then-not-below-clause-follows
 returns-then-not-below-clause-follows c =
-    let P = program_of c.args.program.now in
-    let rel = rel_of c.args.sets.now in
+    let P = program_of c.args.judged.now.program.now in
+    let rel = rel_of c.args.judged.now.sets.now in
     let kept = c.args.floors.now.sets.now in
     let tables = c.args.floors.now.tables.items in
     let held = c.as_slice-held.ensures.value ∙ c.in_ok-paths.ensures ∙ c.as_slice.ensures.value ∙ ap (λ (x : LineData). x.held) c.line.view_is in
     let method = ap (λ (x : LineData). x.method) c.line.view_is in
     let fails : c.below-2.result ≡ false = search rules in
-    follows_not P c.args.sets.now kept tables c.args.line.now c.line.inside.found c.in_ok-found.found (ap (λ (x : LineData). x.found) c.line.view_is) tables
+    follows_not P c.args.judged.now.sets.now kept tables c.args.line.now c.line.inside.found c.in_ok-found.found (ap (λ (x : LineData). x.found) c.line.view_is) tables
     c.below-2.result (c.in_ok-found.ensures ∙ (λ i. run_effect P rel (said_by (rel_of kept) tables) (method i) (has_path (held i)))) c.below-2.ensures fails
 
 pub returns-clause-follows : goal.returns-clause-follows
 returns-clause-follows c =
-    let P = program_of c.args.program.now in
-    let rel = rel_of c.args.sets.now in
+    let P = program_of c.args.judged.now.program.now in
+    let rel = rel_of c.args.judged.now.sets.now in
     let kept = c.args.floors.now.sets.now in
     let tables = c.args.floors.now.tables.items in
     let held = c.as_slice-held.ensures.value ∙ c.in_ok-paths.ensures ∙ c.as_slice.ensures.value ∙ ap (λ (x : LineData). x.held) c.line.view_is in
     let method = ap (λ (x : LineData). x.method) c.line.view_is in
     let found = ap (λ (x : LineData). x.found) c.line.view_is in
     let passes : c.below-2.result ≡ true = search rules in
-    follows_new P c.args.sets.now kept tables c.args.line.now c.line.inside.found c.in_ok-found.found (ap (λ (x : LineData). x.found) c.line.view_is) c.add.new.self.sets.now c.add.new.self.tables.items
+    follows_new P c.args.judged.now.sets.now kept tables c.args.line.now c.line.inside.found c.in_ok-found.found (ap (λ (x : LineData). x.found) c.line.view_is) c.add.new.self.sets.now c.add.new.self.tables.items
     c.below-2.result (c.in_ok-found.ensures ∙ (λ i. run_effect P rel (said_by (rel_of kept) tables) (method i) (has_path (held i)))) c.below-2.ensures passes
     c.add.ensures.sets
     (λ ls said. subst (λ l. Says (rel_of c.add.new.self.sets.now) c.add.new.self.tables.items (ls ++ l ∷ [])) (λ i. record { method = method i; found = found i; held = held i }) (c.add.ensures.says ls said))

@@ -30,6 +30,6 @@ pub returns-then-branch-clause-certificate : goal.returns-then-branch-clause-cer
 returns-then-branch-clause-certificate c =
     let P = program_of c.args.program.now in
     let rel = rel_of c.args.sets.now in
-    let lines = c.passes.new.lines.items in
+    let lines = c.passes.new.said.lines.items in
     let broken : c.in_ok-passes.field-0 ≡ true = search rules in
     broken_certificate P rel (record { all = lines; broken = true }) (subst (λ b. Passes P rel [] (record { all = lines; broken = b })) broken c.in_ok-passes.ensures.passes) refl

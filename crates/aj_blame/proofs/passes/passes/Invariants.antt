@@ -8,16 +8,16 @@ use Rattle.aj_blame.proofs.PassLaws.{room}
 use Rattle.aj_blame.proofs.passes.passes.Given as goal
 
 -- the passes from here end as those from no lines
-abbrev pub invariant-loop-lines : goal.invariant-loop-lines
-invariant-loop-lines l =
-    let P = program_of l.program in
+abbrev pub invariant-rounds : goal.invariant-rounds
+invariant-rounds l =
+    let P = program_of l.judged.program.now in
     record {
-      agrees : Agrees P l.sets l.floors.sets.now l.floors.tables.items l.lines.items;
+      agrees : Agrees P l.judged.sets.now l.said.floors.sets.now l.said.floors.tables.items l.said.lines.items;
       size : length l.waits ≡ length P.methods;
-      settled : AreSettled P (rel_of l.sets) l.lines.items l.waits;
-      going : IsGoing P (rel_of l.sets) l.lines.items;
+      settled : AreSettled P (rel_of l.judged.sets.now) l.said.lines.items l.waits;
+      going : IsGoing P (rel_of l.judged.sets.now) l.said.lines.items;
     }
 
 -- how often the floor can still rise
-abbrev pub decreases-loop-lines : goal.decreases-loop-lines
-decreases-loop-lines l = let P = program_of l.program in room P (rel_of l.sets) (cells_of P (rel_of l.sets)) l.lines.items
+abbrev pub decreases-rounds : goal.decreases-rounds
+decreases-rounds l = let P = program_of l.judged.program.now in room P (rel_of l.judged.sets.now) (cells_of P (rel_of l.judged.sets.now)) l.said.lines.items

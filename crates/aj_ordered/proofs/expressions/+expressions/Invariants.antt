@@ -7,4 +7,4 @@ use Rattle.aj_ordered.proofs.expressions.+expressions.Given as goal
 
 -- what was told so far and what the rest tells is what all tell
 abbrev pub invariant-walk_exprs-loop-e : goal.invariant-walk_exprs-loop-e
-invariant-walk_exprs-loop-e l = map told_of l.seen.items ++ exprs_told l.walk (exprs_from (drop l.e-index l.es)) (has_path l.held) l.under ≡ map told_of l.fn.seen.items ++ exprs_told l.walk (exprs_from l.es) (has_path l.held) l.under
+invariant-walk_exprs-loop-e l = map told_of l.seen.items ++ exprs_told l.walk (exprs_from (drop l.e-index l.es)) (has_path l.carried.held.now) l.carried.under ≡ map told_of l.fn.seen.items ++ exprs_told l.walk (exprs_from l.es) (has_path l.carried.held.now) l.carried.under

@@ -15,6 +15,6 @@ use Rattle.aj_ordered.proofs.expressions.add_call.Given as goal
 abbrev pub invariant-loop-over : goal.invariant-loop-over
 invariant-loop-over l =
     map told_of l.seen.items
-    ++ map (λ k. Calls k (held_under (rel_of l.walk.sets.now k) (path_of (program_of l.walk.program.now) (expr_of l.receiver)) (paths_of (program_of l.walk.program.now) (exprs_from l.args)) (has_path l.held)) l.under) (drop l.over-index l.over-items)
+    ++ map (λ k. Calls k (held_under (rel_of l.walk.sets.now k) (path_of (program_of l.walk.program.now) (expr_of l.receiver)) (paths_of (program_of l.walk.program.now) (exprs_from l.args)) (has_path l.carried.held.now)) l.carried.under) (drop l.over-index l.over-items)
     ≡ map told_of l.fn.seen.items
-    ++ told_at (row_at l.walk.over.now) (Comes l.fn.callee (λ k. held_under (rel_of l.walk.sets.now k) (path_of (program_of l.walk.program.now) (expr_of l.receiver)) (paths_of (program_of l.walk.program.now) (exprs_from l.args)) (has_path l.held)) l.under)
+    ++ told_at (row_at l.walk.over.now) (Comes l.fn.callee (λ k. held_under (rel_of l.walk.sets.now k) (path_of (program_of l.walk.program.now) (expr_of l.receiver)) (paths_of (program_of l.walk.program.now) (exprs_from l.args)) (has_path l.carried.held.now)) l.carried.under)

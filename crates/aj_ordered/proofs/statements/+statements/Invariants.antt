@@ -9,5 +9,5 @@ use Rattle.aj_ordered.proofs.statements.+statements.Given as goal
 -- what was told so far and what the rest tells is what all tell; and the place so far and what the rest has are those of all
 abbrev pub invariant-walk_block-loop-s : goal.invariant-walk_block-loop-s
 invariant-walk_block-loop-s l =
-    (map told_of l.seen.items ++ block_told l.walk (stmts_from (drop l.s-index l.body)) l.place (has_path l.now.items) l.under ≡ map told_of l.fn.seen.items ++ block_told l.walk (stmts_from l.body) l.fn.place (has_path l.held) l.under)
+    (map told_of l.seen.items ++ block_told l.walk (stmts_from (drop l.s-index l.body)) l.place (has_path l.now.items) l.carried.under ≡ map told_of l.fn.seen.items ++ block_told l.walk (stmts_from l.body) l.fn.place (has_path l.carried.held.now) l.carried.under)
     × (l.place + syncs_in_each (stmts_from (drop l.s-index l.body)) ≡ l.fn.place + syncs_in_each (stmts_from l.body))
