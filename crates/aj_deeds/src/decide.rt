@@ -11,7 +11,7 @@ ghost use Rattle.aj_deeds.specs.Turns.{cell_deed, line_deed};
 
 use crate::deed::Deed;
 use crate::operators::{address_of, as_int, as_truth, binary_value, operand, unary_value};
-use crate::seen::Seen;
+use crate::seen::{Seen, TopFrame};
 use aj_compile::{Code, Instr};
 use aj_core::CoreProgram;
 use aj_paths::{ClassId, FieldId, MethodId};
@@ -452,19 +452,13 @@ fn slot_value(slots: &[Value], slot: u16) -> Option<Value>
     slots.get(slot as usize).copied()
 }
 
-/// What an instruction does, for the slots, operands and taken locks of the top frame of a thread with this many frames.
-pub(crate) fn deed_of(
-    seen: &Seen<'_>,
-    slots: &[Value],
-    operands: &[Value],
-    taken: &[Address],
-    depth: usize,
-    next: u32,
-    instr: Instr,
-) -> Deed
+/// What an instruction does, for the top frame of a thread.
+pub(crate) fn deed_of(seen: &Seen<'_>, top: &TopFrame<'_>, next: u32, instr: Instr) -> Deed
     ensures { result ≡ deed_of (program_in seen.now) (entry_in seen.now) (room_in seen.now) (shared_in seen.now) seen.now.thread
-        slots.now (reverse operands.now) (reverse taken.now) depth next instr }
+        top.now.slots.now (reverse top.now.operands.now) (reverse top.now.taken.now) top.now.frames next instr }
 {
+    let slots = top.slots;
+    let operands = top.operands;
     match instr {
         Instr::Push(value) => pushes(next, Some(value)),
         Instr::Load(slot) => pushes(next, slot_value(slots, slot)),
@@ -495,9 +489,9 @@ pub(crate) fn deed_of(
             address_of(operand(operands, 1)),
         ),
         Instr::New(class) => makes(seen.program, next, class),
-        Instr::Call(method) => calls(seen, depth, next, operands, method),
+        Instr::Call(method) => calls(seen, top.frames, next, operands, method),
         Instr::Acquire => acquires(seen, next, address_of(operand(operands, 0))),
-        Instr::Release => releases(seen, next, taken.last().copied()),
+        Instr::Release => releases(seen, next, top.taken.last().copied()),
         Instr::Ret(with) => returns(operand(operands, 0), with),
         Instr::Print => Deed::Prints {
             number: as_int(operand(operands, 0)),
@@ -531,13 +525,11 @@ fn line_deed(seen: &Seen<'_>, cell: &ThreadCell, place: u32) -> Deed
 fn deed_in(seen: &Seen<'_>, cell: &ThreadCell, line: &Code) -> Deed
     ensures { result ≡ line_deed (program_in seen.now) (entry_in seen.now) (room_in seen.now) (shared_in seen.now) seen.now.thread cell.now (Some line.now) }
 {
-    deed_of(
-        seen,
-        cell.slots(),
-        cell.operands(),
-        cell.taken(),
-        cell.frames(),
-        line.next,
-        line.instr,
-    )
+    let top = TopFrame {
+        slots: cell.slots(),
+        operands: cell.operands(),
+        taken: cell.taken(),
+        frames: cell.frames(),
+    };
+    deed_of(seen, &top, line.next, line.instr)
 }

@@ -1,7 +1,7 @@
 //! What a thread may see.
 use aj_compile::CodeTable;
 use aj_core::CoreProgram;
-use aj_state::{Heap, Locks};
+use aj_state::{Address, Heap, Locks, Value};
 
 /// A program with its code, the heap, the held locks, and the number of the thread that looks.
 #[derive(Clone, Copy)]
@@ -11,4 +11,14 @@ pub struct Seen<'a> {
     pub heap: &'a Heap,
     pub locks: &'a Locks,
     pub thread: u32,
+}
+
+/// The top frame of a thread, as an instruction sees it: its slots, its operands with the topmost last, and the locks that it
+/// took with the last one last; and how many frames the thread has.
+#[derive(Clone, Copy)]
+pub(crate) struct TopFrame<'a> {
+    pub(crate) slots: &'a [Value],
+    pub(crate) operands: &'a [Value],
+    pub(crate) taken: &'a [Address],
+    pub(crate) frames: usize,
 }

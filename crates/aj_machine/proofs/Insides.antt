@@ -3,6 +3,7 @@ use Rattle.std.proofs.Common.{◌≡◌, ℕ, zero, suc, ◌+◌, List, [], ◌�
 use Rattle.std.specs.Prelude.{Bool, true, false, not, cond, nat_lt, ◌||◌, Some, None, position, map, slice_get}
 use Rattle.std.specs.List.{list_any, prefix_len}
 use Rattle.std.specs.Option.{option_map}
+use Rattle.std.proofs.Math.Bool.{or_comm, or-false}
 use Rattle.std.proofs.lemmas.List.{reverse-append}
 use Rattle.std.proofs.lemmas.List.Folds.{list_any-append}
 use Rattle.std.proofs.lemmas.Option.{slice_get-map}
@@ -15,21 +16,11 @@ use Rattle.aj_machine.specs.Inside.{frame_inside, method_inside, cell_inside}
 use Rattle.aj_deeds.specs.Likeness.{FramesStand, no_frames, more_frames, ThreadStands, ready_stands, running_stands, done_stands, faulted_stands, ThreadsStand, no_threads, more_threads, StateStands}
 use Rattle.aj_machine.specs.MachineValue.{code_state}
 
-or_same : (a b : Bool) → (a || b) ≡ (b || a)
-or_same true true = refl
-or_same true false = refl
-or_same false true = refl
-or_same false false = refl
-
-or_last : (a : Bool) → (a || false) ≡ a
-or_last true = refl
-or_last false = refl
-
 pub any_reverse : {A : Type 0} (p : A → Bool) (xs : List A) → list_any p (reverse xs) ≡ list_any p xs
 any_reverse p [] = refl
 any_reverse p (x ∷ xs) =
-    ap (list_any p) (reverse-append (x ∷ []) xs) ∙ list_any-append p (reverse xs) (x ∷ []) ∙ or_same (list_any p (reverse xs)) (p x || false)
-    ∙ ap (λ b. b || list_any p (reverse xs)) (or_last (p x)) ∙ ap (λ b. p x || b) (any_reverse p xs)
+    ap (list_any p) (reverse-append (x ∷ []) xs) ∙ list_any-append p (reverse xs) (x ∷ []) ∙ or_comm (list_any p (reverse xs)) (p x || false)
+    ∙ ap (λ b. b || list_any p (reverse xs)) (or-false (p x)) ∙ ap (λ b. p x || b) (any_reverse p xs)
 
 module _ (P : Program) where
   abbrev annotated_at : ℕ → Bool

@@ -95,28 +95,34 @@ pub(crate) fn gives(locks: &mut Locks, cell: &mut ThreadCell, address: Address, 
     locks.give(address);
 }
 
-/// An object is made at a free address, and takes the place of the arguments.
+/// An object that is made: its class, of how many arguments, and where the frame goes on.
+#[derive(Clone, Copy)]
+pub(crate) struct NewObject {
+    pub(crate) class: ClassId,
+    pub(crate) arguments: usize,
+    pub(crate) place: u32,
+}
+
+/// An object with these values is made at a free address, and takes the place of the arguments.
 pub(crate) fn makes(
     alloc: Global,
     heap: &mut Heap,
     cell: &mut ThreadCell,
     address: Address,
-    class: ClassId,
+    object: NewObject,
     values: Vec<Value>,
-    arguments: usize,
-    place: u32,
 ) -> Result<(), NoMemory>
     requires top { IsSome (top_frame cell.old) }
     requires free { map.get heap.old address ≡ None }
-    ensures ok { OnOk result (code_thread cell.new ≡ on_top (goes_on arguments (Some (value.Ref address)) place) (code_thread cell.old)) }
-    ensures object { OnOk result (heap.new ≡ map.insert heap.old address (record { class = class; values = values.items })) }
+    ensures ok { OnOk result (code_thread cell.new ≡ on_top (goes_on object.arguments (Some (value.Ref address)) object.place) (code_thread cell.old)) }
+    ensures object { OnOk result (heap.new ≡ map.insert heap.old address (record { class = object.class; values = values.items })) }
     ensures err { OnErr result (code_thread cell.new ≡ code_thread cell.old) }
     ensures kept { OnErr result (heap.new ≡ heap.old) }
     ensures roomy { (rooms : List ℕ) → StaysRoomy rooms cell.old cell.new }
 {
     cell.make_room(1)?;
-    heap.add(alloc, address, class, values)?;
-    cell.give_to(arguments, Value::Ref(address), place);
+    heap.add(alloc, address, object.class, values)?;
+    cell.give_to(object.arguments, Value::Ref(address), object.place);
     Ok(())
 }
 
@@ -176,23 +182,27 @@ pub(crate) fn makes_next(
     heap: &mut Heap,
     cell: &mut ThreadCell,
     thread: u32,
-    class: ClassId,
-    arguments: usize,
-    place: u32,
+    object: NewObject,
 ) -> Result<(), NoMemory>
     requires top { IsSome (top_frame cell.old) }
     requires numbered { IsNumbered heap.old }
     requires few { made_by thread heap.old < 4294967296 }
-    ensures ok { OnOk result (code_thread cell.new ≡ on_top (goes_on arguments (Some (value.Ref (record { thread = thread; count = made_by thread heap.old }))) place) (code_thread cell.old)) }
+    ensures ok { OnOk result (code_thread cell.new ≡ on_top (goes_on object.arguments (Some (value.Ref (record { thread = thread; count = made_by thread heap.old }))) object.place) (code_thread cell.old)) }
     ensures object { OnOk result (heap.new ≡ map.insert heap.old (record { thread = thread; count = made_by thread heap.old })
-        (record { class = class; values = new_values (program_of program.now) (fields_of (slice_get (program_of program.now).classes class)) (listed arguments (operands_of (top_frame cell.old))) })) }
+        (record { class = object.class; values = new_values (program_of program.now) (fields_of (slice_get (program_of program.now).classes object.class)) (listed object.arguments (operands_of (top_frame cell.old))) })) }
     ensures err { OnErr result (code_thread cell.new ≡ code_thread cell.old) }
     ensures kept { OnErr result (heap.new ≡ heap.old) }
     ensures roomy { (rooms : List ℕ) → StaysRoomy rooms cell.old cell.new }
 {
     let address = next_address(heap, thread);
-    let values = object_values(alloc, program, class, cell.operands(), arguments)?;
-    makes(alloc, heap, cell, address, class, values, arguments, place)
+    let values = object_values(
+        alloc,
+        program,
+        object.class,
+        cell.operands(),
+        object.arguments,
+    )?;
+    makes(alloc, heap, cell, address, object, values)
 }
 
 /// The values of a new object of a class.

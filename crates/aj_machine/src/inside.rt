@@ -10,8 +10,8 @@ use aj_core::CoreProgram;
 use aj_paths::MethodId;
 use aj_threads::ThreadCell;
 
-/// Whether a method is annotated `atomic`.
-fn is_annotated(program: &CoreProgram, method: MethodId) -> bool
+/// Whether a method is annotated `atomic`; a missing one isn't.
+pub fn is_annotated(program: &CoreProgram, method: MethodId) -> bool
     ensures { result ≡ is_annotated (slice_get (program_of program.now).methods method) }
 {
     match program.methods.get(method.0 as usize) {

@@ -7,9 +7,10 @@ mod inside;
 mod machine;
 mod make;
 mod perform;
+mod shared;
 mod turn;
 
 pub use act::object_values;
+pub use inside::is_annotated;
 pub use machine::{Machine, Stopped};
 pub use make::slots_of;
-pub use turn::take_turn;

@@ -16,6 +16,7 @@ ghost use Rattle.aj_machine.specs.Taken.{turn_of};
 
 use crate::act::object_values;
 use crate::inside::{first_inside, stands_inside};
+use crate::shared::SharedState;
 use crate::turn::take_turn;
 use aj_compile::CodeTable;
 use aj_core::CoreProgram;
@@ -38,10 +39,8 @@ pub struct Stopped {
 pub struct Machine<'p> {
     program: &'p CoreProgram,
     code: &'p CodeTable,
-    heap: Heap,
-    locks: Locks,
+    shared: SharedState,
     threads: Vec<ThreadCell>,
-    output: Vec<i32>,
     made: u32,
 }
 
@@ -62,15 +61,15 @@ impl<'p> Model for Machine<'p> {
     ghost view = { λ m. record {
       program = m.program.now;
       code = m.code.now;
-      state = record { heap = m.heap; locks = m.locks; threads = m.threads.items; output = m.output.items };
+      state = record { heap = m.shared.heap; locks = m.shared.locks; threads = m.threads.items; output = m.shared.output.items };
       made = m.made;
     } };
 
     ghost invariant = { λ m. IsCodeOf (program_of m.program.now) m.code.now.code.items m.code.now.entry.items m.code.now.room.items
         × (length m.threads.items ≤ m.made + 1) × (m.made < 2 ^ 32)
         × IsKept (program_of m.program.now) m.code.now.code.items m.code.now.entry.items m.code.now.room.items
-        (record { heap = m.heap; locks = m.locks; threads = m.threads.items; output = m.output.items })
-        × IsCounted m.made m.heap m.locks };
+        (record { heap = m.shared.heap; locks = m.shared.locks; threads = m.threads.items; output = m.shared.output.items })
+        × IsCounted m.made m.shared.heap m.shared.locks };
 }
 
 impl<'p> Machine<'p> {
@@ -98,10 +97,12 @@ impl<'p> Machine<'p> {
         Ok(Machine {
             program,
             code,
-            heap,
-            locks: Locks::new(alloc),
+            shared: SharedState {
+                heap,
+                locks: Locks::new(alloc),
+                output: Vec::new(alloc),
+            },
             threads,
-            output: Vec::new(alloc),
             made: 0,
         })
     }
@@ -118,14 +119,14 @@ impl<'p> Machine<'p> {
         ensures objects { result.now ≡ self.now.state.heap }
         ensures numbered { IsNumbered result.now }
     {
-        &self.heap
+        &self.shared.heap
     }
 
     /// The held locks.
     pub fn locks(&self) -> &Locks
         ensures { result.now ≡ self.now.state.locks }
     {
-        &self.locks
+        &self.shared.locks
     }
 
     /// The threads, by their numbers.
@@ -139,7 +140,7 @@ impl<'p> Machine<'p> {
     pub fn output(&self) -> &[i32]
         ensures { result.now ≡ self.now.state.output }
     {
-        self.output.as_slice()
+        self.shared.output.as_slice()
     }
 
     /// The kind of a thread's next step; none exactly where it has none.
@@ -149,8 +150,8 @@ impl<'p> Machine<'p> {
         let seen = Seen {
             program: self.program,
             code: self.code,
-            heap: &self.heap,
-            locks: &self.locks,
+            heap: &self.shared.heap,
+            locks: &self.shared.locks,
             thread,
         };
         match self.threads.get(thread as usize) {
@@ -204,8 +205,8 @@ impl<'p> Machine<'p> {
         Seen {
             program: self.program,
             code: self.code,
-            heap: &self.heap,
-            locks: &self.locks,
+            heap: &self.shared.heap,
+            locks: &self.shared.locks,
             thread,
         }
     }
@@ -241,9 +242,7 @@ impl<'p> Machine<'p> {
         match take_turn(
             alloc,
             self.program,
-            &mut self.heap,
-            &mut self.locks,
-            &mut self.output,
+            &mut self.shared,
             &mut self.threads,
             thread,
             turn,

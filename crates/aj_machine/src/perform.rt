@@ -9,13 +9,13 @@ ghost use Rattle.aj_machine.specs.Counts.{IsCounted};
 ghost use Rattle.aj_machine.specs.Rooms.{StaysRoomy, HasRoomOf, FitsIn};
 ghost use Rattle.aj_machine.specs.Deeds.{Can, called_thread, given_on, deed_thread, deed_heap, deed_locks, deed_output, seen_of, operands_in};
 
-use crate::act::{drops, gives, goes, makes_next, prints, stores, takes, writes};
+use crate::act::{NewObject, drops, gives, goes, makes_next, prints, stores, takes, writes};
 use crate::make::slots_of;
+use crate::shared::SharedState;
 use aj_core::{CoreMethod, CoreProgram};
 use aj_deeds::Deed;
-use aj_paths::MethodId;
-use aj_state::{Address, Fault, Heap, Locks, Value};
-use aj_threads::ThreadCell;
+use aj_state::{Address, Fault, Value};
+use aj_threads::{Entered, ThreadCell};
 use std::alloc::{AllocError as NoMemory, Global};
 
 /// A method that is there is entered on an object.
@@ -23,17 +23,15 @@ fn enters_found(
     alloc: Global,
     found: &CoreMethod,
     cell: &mut ThreadCell,
-    method: MethodId,
+    entered: Entered,
     arguments: usize,
     address: Address,
     place: u32,
-    entry: u32,
-    room: u32,
 ) -> Result<(), NoMemory>
     requires { is_running cell.old ≡ true }
-    ensures ok { OnOk result (code_thread cell.new ≡ called_thread method (Some (method_of found.now)) (value.Ref address) arguments place entry (code_thread cell.old)) }
+    ensures ok { OnOk result (code_thread cell.new ≡ called_thread entered.method (Some (method_of found.now)) (value.Ref address) arguments place entered.entry (code_thread cell.old)) }
     ensures err { OnErr result (cell.new ≡ cell.old) }
-    ensures roomy { (rooms : List ℕ) → slice_get rooms method ≡ Some room → StaysRoomy rooms cell.old cell.new }
+    ensures roomy { (rooms : List ℕ) → slice_get rooms entered.method ≡ Some entered.room → StaysRoomy rooms cell.old cell.new }
 {
     // No list of parameters is so long.
     if arguments == usize::MAX {
@@ -46,7 +44,7 @@ fn enters_found(
         cell.operands(),
         arguments,
     )?;
-    cell.call(alloc, arguments + 1, place, method, slots, entry, room)
+    cell.call(alloc, arguments + 1, place, entered, slots)
 }
 
 /// A method is entered on an object, where the method is there.
@@ -54,22 +52,19 @@ fn enters(
     alloc: Global,
     program: &CoreProgram,
     cell: &mut ThreadCell,
-    method: MethodId,
+    entered: Entered,
     arguments: usize,
     address: Address,
     place: u32,
-    entry: u32,
-    room: u32,
 ) -> Result<(), NoMemory>
     requires { is_running cell.old ≡ true }
-    ensures ok { OnOk result (code_thread cell.new ≡ called_thread method (slice_get (program_of program.now).methods method) (value.Ref address) arguments place entry (code_thread cell.old)) }
+    ensures ok { OnOk result (code_thread cell.new ≡ called_thread entered.method (slice_get (program_of program.now).methods entered.method) (value.Ref address) arguments place entered.entry (code_thread cell.old)) }
     ensures err { OnErr result (cell.new ≡ cell.old) }
-    ensures roomy { (rooms : List ℕ) → slice_get rooms method ≡ Some room → StaysRoomy rooms cell.old cell.new }
+    ensures roomy { (rooms : List ℕ) → slice_get rooms entered.method ≡ Some entered.room → StaysRoomy rooms cell.old cell.new }
 {
+    let method = entered.method;
     match program.methods.get(method.0 as usize) {
-        Some(found) => enters_found(
-            alloc, found, cell, method, arguments, address, place, entry, room,
-        ),
+        Some(found) => enters_found(alloc, found, cell, entered, arguments, address, place),
         None => Ok(()),
     }
 }
@@ -98,25 +93,23 @@ fn returns(cell: &mut ThreadCell, gives: Option<Value>) -> Result<(), NoMemory>
 pub(crate) fn perform(
     alloc: Global,
     program: &CoreProgram,
-    heap: &mut Heap,
-    locks: &mut Locks,
-    output: &mut Vec<i32>,
+    shared: &mut SharedState,
     cell: &mut ThreadCell,
     thread: u32,
     deed: Deed,
 ) -> Result<(), NoMemory>
     requires top { IsSome (top_frame cell.old) }
     requires running { is_running cell.old ≡ true }
-    requires can { Can (program_of program.now) (seen_of thread heap.old locks.old) thread (slots_of (top_frame cell.old)) deed }
-    requires counted { (n : ℕ) × (n < 4294967295) × IsCounted n heap.old locks.old }
-    ensures cell { OnOk result (code_thread cell.new ≡ deed_thread (program_of program.now) (seen_of thread heap.old locks.old) thread deed (code_thread cell.old)) }
-    ensures heap { OnOk result (heap.new ≡ deed_heap (program_of program.now) (seen_of thread heap.old locks.old) thread (operands_in (code_thread cell.old)) deed heap.old) }
-    ensures locks { OnOk result (locks.new ≡ deed_locks (seen_of thread heap.old locks.old) thread deed locks.old) }
-    ensures output { OnOk result (output.new.items ≡ deed_output deed output.old.items) }
+    requires can { Can (program_of program.now) (seen_of thread shared.old.heap shared.old.locks) thread (slots_of (top_frame cell.old)) deed }
+    requires counted { (n : ℕ) × (n < 4294967295) × IsCounted n shared.old.heap shared.old.locks }
+    ensures cell { OnOk result (code_thread cell.new ≡ deed_thread (program_of program.now) (seen_of thread shared.old.heap shared.old.locks) thread deed (code_thread cell.old)) }
+    ensures heap { OnOk result (shared.new.heap ≡ deed_heap (program_of program.now) (seen_of thread shared.old.heap shared.old.locks) thread (operands_in (code_thread cell.old)) deed shared.old.heap) }
+    ensures locks { OnOk result (shared.new.locks ≡ deed_locks (seen_of thread shared.old.heap shared.old.locks) thread deed shared.old.locks) }
+    ensures output { OnOk result (shared.new.output.items ≡ deed_output deed shared.old.output.items) }
     ensures cell_kept { OnErr result (code_thread cell.new ≡ code_thread cell.old) }
-    ensures heap_kept { OnErr result (heap.new ≡ heap.old) }
-    ensures locks_kept { OnErr result (locks.new ≡ locks.old) }
-    ensures output_kept { OnErr result (output.new.items ≡ output.old.items) }
+    ensures heap_kept { OnErr result (shared.new.heap ≡ shared.old.heap) }
+    ensures locks_kept { OnErr result (shared.new.locks ≡ shared.old.locks) }
+    ensures output_kept { OnErr result (shared.new.output.items ≡ shared.old.output.items) }
     ensures roomy { (rooms : List ℕ) → HasRoomOf rooms deed → StaysRoomy rooms cell.old cell.new }
     ensures lean { (f : CellFrame) → top_frame cell.old ≡ Some f → FitsIn f (rest_of (frames_in cell.old)) deed → IsOk result }
 {
@@ -142,14 +135,21 @@ pub(crate) fn perform(
             place,
             ..
         } => {
-            writes(heap, cell, address, index, value, place);
+            writes(&mut shared.heap, cell, address, index, value, place);
             Ok(())
         }
         Deed::Makes {
             class,
             arguments,
             place,
-        } => makes_next(alloc, program, heap, cell, thread, class, arguments, place),
+        } => {
+            let object = NewObject {
+                class,
+                arguments,
+                place,
+            };
+            makes_next(alloc, program, &mut shared.heap, cell, thread, object)
+        }
         Deed::Enters {
             method,
             arguments,
@@ -157,17 +157,24 @@ pub(crate) fn perform(
             place,
             entry,
             room,
-        } => enters(
-            alloc, program, cell, method, arguments, address, place, entry, room,
-        ),
-        Deed::Takes { address, place, .. } => { takes(alloc, locks, cell, thread, address, place) }
+        } => {
+            let entered = Entered {
+                method,
+                entry,
+                room,
+            };
+            enters(alloc, program, cell, entered, arguments, address, place)
+        }
+        Deed::Takes { address, place, .. } => {
+            takes(alloc, &mut shared.locks, cell, thread, address, place)
+        }
         Deed::Waits { .. } => Ok(()),
         Deed::Gives { address, place, .. } => {
-            gives(locks, cell, address, place);
+            gives(&mut shared.locks, cell, address, place);
             Ok(())
         }
         Deed::Returns { gives } => returns(cell, gives),
-        Deed::Prints { number, place } => prints(output, cell, number, place),
+        Deed::Prints { number, place } => prints(&mut shared.output, cell, number, place),
         Deed::Starts { place, .. } => {
             drops(cell, 1, place);
             Ok(())

@@ -16,11 +16,12 @@ ghost use Rattle.aj_machine.specs.Taken.{first_thread, step_result, ComesTo, IsT
 use crate::act::drops;
 use crate::make::slots_of;
 use crate::perform::perform;
+use crate::shared::SharedState;
 use aj_core::{CoreMethod, CoreProgram};
 use aj_deeds::{Deed, StepEnd, Turn};
 use aj_paths::MethodId;
-use aj_state::{Address, Fault, Heap, Locks, Value};
-use aj_threads::ThreadCell;
+use aj_state::{Address, Fault, Value};
+use aj_threads::{Entered, ThreadCell};
 use std::alloc::{AllocError as NoMemory, Global};
 
 /// A ready thread enters a method that is there, at its entry.
@@ -29,17 +30,15 @@ fn enters_first(
     found: &CoreMethod,
     cell: &mut ThreadCell,
     address: Address,
-    method: MethodId,
-    entry: u32,
-    room: u32,
+    entered: Entered,
 ) -> Result<(), NoMemory>
-    requires { cell.old ≡ Ready address method }
-    ensures ok { OnOk result (code_thread cell.new ≡ first_thread method (method_of found.now) (value.Ref address) entry) }
+    requires { cell.old ≡ Ready address entered.method }
+    ensures ok { OnOk result (code_thread cell.new ≡ first_thread entered.method (method_of found.now) (value.Ref address) entered.entry) }
     ensures err { OnErr result (cell.new ≡ cell.old) }
-    ensures roomy { (rooms : List ℕ) → slice_get rooms method ≡ Some room → StaysRoomy rooms cell.old cell.new }
+    ensures roomy { (rooms : List ℕ) → slice_get rooms entered.method ≡ Some entered.room → StaysRoomy rooms cell.old cell.new }
 {
     let slots = slots_of(alloc, found.slots, Value::Ref(address), &[], 0)?;
-    cell.push_frame(alloc, method, slots, entry, room)
+    cell.push_frame(alloc, entered, slots)
 }
 
 /// A thread of this number faults, where it may.
@@ -61,21 +60,20 @@ fn enters(
     threads: &mut Vec<ThreadCell>,
     thread: u32,
     address: Address,
-    method: MethodId,
-    entry: u32,
-    room: u32,
+    entered: Entered,
 ) -> Result<(), NoMemory>
-    requires { slice_get threads.old.items thread ≡ Some (Ready address method) }
-    ensures ok { OnOk result ((m : Method) → slice_get (program_of program.now).methods method ≡ Some m →
-        map code_thread threads.new.items ≡ slice_set (map code_thread threads.old.items) thread (first_thread method m (value.Ref address) entry)) }
+    requires { slice_get threads.old.items thread ≡ Some (Ready address entered.method) }
+    ensures ok { OnOk result ((m : Method) → slice_get (program_of program.now).methods entered.method ≡ Some m →
+        map code_thread threads.new.items ≡ slice_set (map code_thread threads.old.items) thread (first_thread entered.method m (value.Ref address) entered.entry)) }
     ensures err { OnErr result (threads.new.items ≡ threads.old.items) }
-    ensures roomy { (rooms : List ℕ) → slice_get rooms method ≡ Some room → AllRoomy rooms threads.old.items → AllRoomy rooms threads.new.items }
+    ensures roomy { (rooms : List ℕ) → slice_get rooms entered.method ≡ Some entered.room → AllRoomy rooms threads.old.items → AllRoomy rooms threads.new.items }
 {
+    let method = entered.method;
     let Some(found) = program.methods.get(method.0 as usize) else {
         return Ok(());
     };
     match threads.get_mut(thread as usize) {
-        Some(cell) => enters_first(alloc, found, cell, address, method, entry, room),
+        Some(cell) => enters_first(alloc, found, cell, address, entered),
         None => Ok(()),
     }
 }
@@ -106,9 +104,7 @@ fn starts(
 fn does(
     alloc: Global,
     program: &CoreProgram,
-    heap: &mut Heap,
-    locks: &mut Locks,
-    output: &mut Vec<i32>,
+    shared: &mut SharedState,
     threads: &mut Vec<ThreadCell>,
     thread: u32,
     deed: Deed,
@@ -116,23 +112,23 @@ fn does(
     requires top { (c : ThreadOf CellFrame) → slice_get threads.old.items thread ≡ Some c → IsSome (top_frame c) }
     requires running { (c : ThreadOf CellFrame) → slice_get threads.old.items thread ≡ Some c → is_running c ≡ true }
     requires can { (c : ThreadOf CellFrame) → slice_get threads.old.items thread ≡ Some c →
-        Can (program_of program.now) (seen_of thread heap.old locks.old) thread (slots_of (top_frame c)) deed }
-    requires counted { (n : ℕ) × (n < 4294967295) × IsCounted n heap.old locks.old }
+        Can (program_of program.now) (seen_of thread shared.old.heap shared.old.locks) thread (slots_of (top_frame c)) deed }
+    requires counted { (n : ℕ) × (n < 4294967295) × IsCounted n shared.old.heap shared.old.locks }
     ensures threads { OnOk result ((c : ThreadOf CellFrame) → slice_get threads.old.items thread ≡ Some c →
-        map code_thread threads.new.items ≡ slice_set (map code_thread threads.old.items) thread (deed_thread (program_of program.now) (seen_of thread heap.old locks.old) thread deed (code_thread c))) }
+        map code_thread threads.new.items ≡ slice_set (map code_thread threads.old.items) thread (deed_thread (program_of program.now) (seen_of thread shared.old.heap shared.old.locks) thread deed (code_thread c))) }
     ensures heap { OnOk result ((c : ThreadOf CellFrame) → slice_get threads.old.items thread ≡ Some c →
-        heap.new ≡ deed_heap (program_of program.now) (seen_of thread heap.old locks.old) thread (operands_in (code_thread c)) deed heap.old) }
-    ensures locks { OnOk result (IsSome (slice_get threads.old.items thread) → locks.new ≡ deed_locks (seen_of thread heap.old locks.old) thread deed locks.old) }
-    ensures output { OnOk result (IsSome (slice_get threads.old.items thread) → output.new.items ≡ deed_output deed output.old.items) }
+        shared.new.heap ≡ deed_heap (program_of program.now) (seen_of thread shared.old.heap shared.old.locks) thread (operands_in (code_thread c)) deed shared.old.heap) }
+    ensures locks { OnOk result (IsSome (slice_get threads.old.items thread) → shared.new.locks ≡ deed_locks (seen_of thread shared.old.heap shared.old.locks) thread deed shared.old.locks) }
+    ensures output { OnOk result (IsSome (slice_get threads.old.items thread) → shared.new.output.items ≡ deed_output deed shared.old.output.items) }
     ensures threads_kept { OnErr result (map code_thread threads.new.items ≡ map code_thread threads.old.items) }
-    ensures heap_kept { OnErr result (heap.new ≡ heap.old) }
-    ensures locks_kept { OnErr result (locks.new ≡ locks.old) }
-    ensures output_kept { OnErr result (output.new.items ≡ output.old.items) }
+    ensures heap_kept { OnErr result (shared.new.heap ≡ shared.old.heap) }
+    ensures locks_kept { OnErr result (shared.new.locks ≡ shared.old.locks) }
+    ensures output_kept { OnErr result (shared.new.output.items ≡ shared.old.output.items) }
     ensures roomy { (rooms : List ℕ) → HasRoomOf rooms deed → AllRoomy rooms threads.old.items → AllRoomy rooms threads.new.items }
     ensures lean { (f : CellFrame) (below : List CellFrame) → slice_get threads.old.items thread ≡ Some (Running (f ∷ below)) → FitsIn f below deed → IsOk result }
 {
     match threads.get_mut(thread as usize) {
-        Some(cell) => perform(alloc, program, heap, locks, output, cell, thread, deed),
+        Some(cell) => perform(alloc, program, shared, cell, thread, deed),
         None => Ok(()),
     }
 }
@@ -147,26 +143,25 @@ fn answer(done: Result<(), NoMemory>) -> Result<(), StepEnd>
     }
 }
 
-/// A turn of a thread, which comes to this: a step that changes the parts of the state, or the reason why there is none.
-pub fn take_turn(
+/// A turn of a thread, which comes to this: a step that changes the threads and what they share, or the reason why there is
+/// none.
+pub(crate) fn take_turn(
     alloc: Global,
     program: &CoreProgram,
-    heap: &mut Heap,
-    locks: &mut Locks,
-    output: &mut Vec<i32>,
+    shared: &mut SharedState,
     threads: &mut Vec<ThreadCell>,
     thread: u32,
     turn: Turn,
 ) -> Result<(), StepEnd>
-    requires counted { (n : ℕ) × (n < 4294967295) × IsCounted n heap.old locks.old }
-    requires decided { (code : List Code) × (entry : List ℕ) × (room : List ℕ) × ComesTo (program_of program.now) code entry room thread heap.old locks.old threads.old.items turn }
-    ensures taken { (code : List Code) (entry room : List ℕ) → ComesTo (program_of program.now) code entry room thread heap.old locks.old threads.old.items turn →
-        IsTaken thread result (state_in heap.new locks.new threads.new.items output.new.items) (state_in heap.old locks.old threads.old.items output.old.items)
-        (code_outcome (program_of program.now) code entry room (state_in heap.old locks.old threads.old.items output.old.items) thread) }
-    ensures roomy { (code : List Code) (entry room : List ℕ) → ComesTo (program_of program.now) code entry room thread heap.old locks.old threads.old.items turn →
+    requires counted { (n : ℕ) × (n < 4294967295) × IsCounted n shared.old.heap shared.old.locks }
+    requires decided { (code : List Code) × (entry : List ℕ) × (room : List ℕ) × ComesTo (program_of program.now) code entry room thread shared.old.heap shared.old.locks threads.old.items turn }
+    ensures taken { (code : List Code) (entry room : List ℕ) → ComesTo (program_of program.now) code entry room thread shared.old.heap shared.old.locks threads.old.items turn →
+        IsTaken thread result (state_in shared.new.heap shared.new.locks threads.new.items shared.new.output.items) (state_in shared.old.heap shared.old.locks threads.old.items shared.old.output.items)
+        (code_outcome (program_of program.now) code entry room (state_in shared.old.heap shared.old.locks threads.old.items shared.old.output.items) thread) }
+    ensures roomy { (code : List Code) (entry room : List ℕ) → ComesTo (program_of program.now) code entry room thread shared.old.heap shared.old.locks threads.old.items turn →
         length room ≡ length (program_of program.now).methods → AllRoomy room threads.old.items → AllRoomy room threads.new.items }
     ensures lean { TurnFits (slice_get threads.old.items thread) turn → result ≢ Err ends.NoMemory }
-    ensures counted { OnOk result ((n : ℕ) → IsCounted n heap.old locks.old → IsCounted (n + 1) heap.new locks.new) }
+    ensures counted { OnOk result ((n : ℕ) → IsCounted n shared.old.heap shared.old.locks → IsCounted (n + 1) shared.new.heap shared.new.locks) }
 {
     match turn {
         Turn::Ends(end) => Err(end),
@@ -179,16 +174,19 @@ pub fn take_turn(
             method,
             entry,
             room,
-        } => answer(enters(
-            alloc, program, threads, thread, address, method, entry, room,
-        )),
+        } => {
+            let entered = Entered {
+                method,
+                entry,
+                room,
+            };
+            answer(enters(alloc, program, threads, thread, address, entered))
+        }
         Turn::Starts {
             address,
             method,
             place,
         } => answer(starts(alloc, threads, thread, address, method, place)),
-        Turn::Does(deed) => answer(does(
-            alloc, program, heap, locks, output, threads, thread, deed,
-        )),
+        Turn::Does(deed) => answer(does(alloc, program, shared, threads, thread, deed)),
     }
 }

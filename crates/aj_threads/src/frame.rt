@@ -8,6 +8,14 @@ use aj_state::{Address, Value};
 use std::alloc::{AllocError as NoMemory, Global};
 use std::marker::Model;
 
+/// A method that is entered: the place where its code begins, and how many operands its frame has spare room for.
+#[derive(Clone, Copy, PartialEq, Eq, Debug)]
+pub struct Entered {
+    pub method: MethodId,
+    pub entry: u32,
+    pub room: u32,
+}
+
 /// A frame: its operands and its taken locks with the last one last, and a count of the operands more for which it has
 /// spare room.
 #[derive(Drop)]
@@ -42,23 +50,21 @@ impl Model for FrameCell {
 }
 
 impl FrameCell {
-    /// A frame without operands and taken locks, with this much spare room.
+    /// The frame of a method that is entered with these slots, without operands and taken locks.
     pub(crate) fn new(
         alloc: Global,
-        method: MethodId,
+        entered: Entered,
         slots: Vec<Value>,
-        place: u32,
-        room: u32,
     ) -> Result<FrameCell, NoMemory>
-        ensures { IfOk result (λ f. f ≡ record { method = method; slots = slots.items; operands = []; place = place; taken = []; room = room }) }
+        ensures { IfOk result (λ f. f ≡ record { method = entered.method; slots = slots.items; operands = []; place = entered.entry; taken = []; room = entered.room }) }
     {
-        let operands = Vec::with_capacity(alloc, room as usize)?;
+        let operands = Vec::with_capacity(alloc, entered.room as usize)?;
         Ok(FrameCell {
-            method,
+            method: entered.method,
             slots,
             operands,
-            room: room as usize,
-            place,
+            room: entered.room as usize,
+            place: entered.entry,
             taken: Vec::new(alloc),
         })
     }

@@ -4,4 +4,5 @@
 mod frame;
 mod threads;
 
+pub use frame::Entered;
 pub use threads::ThreadCell;

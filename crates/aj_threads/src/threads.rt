@@ -5,7 +5,7 @@ ghost use Rattle.aj_state.specs.Values.{under};
 ghost use Rattle.aj_state.specs.States.{ThreadOf, Ready, Running, Faulted};
 ghost use Rattle.aj_threads.specs.Frames.{CellFrame, code_frame, code_thread, frames_in, top_frame, on_top, status_of, waiting_of, is_running, may_enter, popped, settled, settled_operands, with_given, HasRoom, HasSpare, first_frame, rest_of, on_first, given, slots_of, operands_of, taken_of};
 
-use crate::frame::FrameCell;
+use crate::frame::{Entered, FrameCell};
 use aj_paths::MethodId;
 use aj_state::{Address, Fault, ThreadState, Value};
 use std::alloc::{AllocError as NoMemory, Global};
@@ -139,20 +139,18 @@ impl ThreadCell {
         }
     }
 
-    /// A ready or running thread gets a frame more, with this much spare room, and runs.
+    /// A ready or running thread enters a method with these slots: it gets a frame more, and runs.
     pub fn push_frame(
         &mut self,
         alloc: Global,
-        method: MethodId,
+        entered: Entered,
         slots: Vec<Value>,
-        place: u32,
-        room: u32,
     ) -> Result<(), NoMemory>
         requires { may_enter self.old ≡ true }
-        ensures ok { OnOk result (self.new ≡ Running (record { method = method; slots = slots.items; operands = []; place = place; taken = []; room = room } ∷ frames_in self.old)) }
+        ensures ok { OnOk result (self.new ≡ Running (record { method = entered.method; slots = slots.items; operands = []; place = entered.entry; taken = []; room = entered.room } ∷ frames_in self.old)) }
         ensures err { OnErr result (self.new ≡ self.old) }
     {
-        let frame = FrameCell::new(alloc, method, slots, place, room)?;
+        let frame = FrameCell::new(alloc, entered, slots)?;
         if let Some(old) = self.top.take() {
             if let Err(failed) = self.below.push(old) {
                 self.top = Some(failed.value);
@@ -164,24 +162,22 @@ impl ThreadCell {
         Ok(())
     }
 
-    /// A running thread calls a method: its top frame drops its topmost operands and goes on at a place, and gets a frame above
-    /// it.
+    /// A running thread enters a method with these slots: its top frame drops its topmost operands and goes on at a place, and
+    /// gets a frame above it.
     pub fn call(
         &mut self,
         alloc: Global,
         drops: usize,
         next: u32,
-        method: MethodId,
+        entered: Entered,
         slots: Vec<Value>,
-        place: u32,
-        room: u32,
     ) -> Result<(), NoMemory>
         requires { is_running self.old ≡ true }
-        ensures ok { OnOk result (self.new ≡ Running (record { method = method; slots = slots.items; operands = []; place = place; taken = []; room = room }
+        ensures ok { OnOk result (self.new ≡ Running (record { method = entered.method; slots = slots.items; operands = []; place = entered.entry; taken = []; room = entered.room }
             ∷ on_first (settled drops None next) (frames_in self.old))) }
         ensures err { OnErr result (self.new ≡ self.old) }
     {
-        self.push_frame(alloc, method, slots, place, room)?;
+        self.push_frame(alloc, entered, slots)?;
         settle_last(&mut self.below, drops, next);
         Ok(())
     }

@@ -7,7 +7,7 @@ use aj_cond::{Tree, Trees, tree_text};
 use aj_lexer::lex;
 use aj_paths::{FieldId, MethodId, Path, under_call};
 use aj_state::{Address, Value};
-use aj_threads::ThreadCell;
+use aj_threads::{Entered, ThreadCell};
 use std::alloc::Global;
 use std::process::Abort;
 use std::test::Fail;
@@ -24,7 +24,12 @@ fn begun(alloc: Global) -> Result<ThreadCell, Fail> {
     if thread.frames() != 0 {
         return Err(Fail::new("a ready thread has frames"));
     }
-    thread.push_frame(alloc, MethodId(0), slots, 7, 0)?;
+    let entered = Entered {
+        method: MethodId(0),
+        entry: 7,
+        room: 0,
+    };
+    thread.push_frame(alloc, entered, slots)?;
     Ok(thread)
 }
 

@@ -12,14 +12,14 @@ returns-in-Some-clause-threads c =
     let ts = c.args.threads.now.items in
     let below : c.args.thread < length ts = omega (arith, c.in-Some.ensures.variant.0 refl) in
     set_found ts c.args.thread c.in-Some.cell.now (slice_get_read ts (length ts) c.args.thread c.in-Some.cell.now refl below c.in-Some.ensures.value) c.perform.result c.perform.new.cell
-    (deed_thread (program_of c.args.program.now) (seen_of c.args.thread c.args.heap.now c.args.locks.now) c.args.thread c.args.deed) c.perform.ensures.cell
+    (deed_thread (program_of c.args.program.now) (seen_of c.args.thread c.args.shared.now.heap c.args.shared.now.locks) c.args.thread c.args.deed) c.perform.ensures.cell
 
 pub returns-in-Some-clause-heap : goal.returns-in-Some-clause-heap
 returns-in-Some-clause-heap c =
     let ts = c.args.threads.now.items in
     let below : c.args.thread < length ts = omega (arith, c.in-Some.ensures.variant.0 refl) in
-    of_found ts c.args.thread c.in-Some.cell.now (slice_get_read ts (length ts) c.args.thread c.in-Some.cell.now refl below c.in-Some.ensures.value) c.perform.result c.perform.new.heap
-    (λ x. deed_heap (program_of c.args.program.now) (seen_of c.args.thread c.args.heap.now c.args.locks.now) c.args.thread (operands_in (code_thread x)) c.args.deed c.args.heap.now) c.perform.ensures.heap
+    of_found ts c.args.thread c.in-Some.cell.now (slice_get_read ts (length ts) c.args.thread c.in-Some.cell.now refl below c.in-Some.ensures.value) c.perform.result c.perform.new.shared.heap
+    (λ x. deed_heap (program_of c.args.program.now) (seen_of c.args.thread c.args.shared.now.heap c.args.shared.now.locks) c.args.thread (operands_in (code_thread x)) c.args.deed c.args.shared.now.heap) c.perform.ensures.heap
 
 pub returns-in-Some-clause-threads_kept : goal.returns-in-Some-clause-threads_kept
 returns-in-Some-clause-threads_kept c = set_kept c.perform.result c.args.threads.now.items c.args.thread c.in-Some.cell.now c.perform.new.cell c.in-Some.ensures.value c.perform.ensures.cell_kept

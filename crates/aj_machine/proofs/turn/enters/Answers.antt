@@ -13,7 +13,7 @@ returns-in-Some-get_mut-clause-ok c =
     let lent = c.deref.result.now in
     let raw = slice_get-map method_of lent c.method.inside.0 ∙ ap (option_map method_of) (slice_get_read lent (length lent) c.method.inside.0 found refl c.in-Some.ensures.lookup.3.0 c.in-Some.ensures.lookup.1) in
     let there = sym (λ j. slice_get (map method_of (c.deref.ensures.value j)) (c.method.view_is j)) ∙ raw in
-    first_set c.enters_first.result c.args.threads.now.items c.args.thread c.enters_first.new.cell (map method_of c.args.program.now.methods.items) c.args.method (method_of found) _ _ c.args.entry there c.enters_first.ensures.ok
+    first_set c.enters_first.result c.args.threads.now.items c.args.thread c.enters_first.new.cell (map method_of c.args.program.now.methods.items) c.args.entered.method (method_of found) _ _ c.args.entered.entry there c.enters_first.ensures.ok
 
 pub returns-in-Some-get_mut-clause-roomy : goal.returns-in-Some-get_mut-clause-roomy
 returns-in-Some-get_mut-clause-roomy c rooms wants all =

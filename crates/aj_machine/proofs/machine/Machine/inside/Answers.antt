@@ -18,7 +18,7 @@ returns-in-Some c q h =
     let cell = c.in-Some.cell.now in
     let there = sym (ap (λ xs. slice_get xs t) c.deref.ensures.value) ∙ slice_get_read lent (length lent) t cell refl c.in-Some.ensures.lookup.3.0 c.in-Some.ensures.lookup.1 in
     ap Some c.stands_inside.ensures ∙ sym (ap (option_map (cell_inside P)) there)
-    ∙ inside_same P i.code.now.code.items (record { heap = i.heap; locks = i.locks; threads = i.threads.items; output = i.output.items }) q t (subst (λ m. StandsFor m q) (sym c.self.view_is) h)
+    ∙ inside_same P i.code.now.code.items (record { heap = i.shared.heap; locks = i.shared.locks; threads = i.threads.items; output = i.shared.output.items }) q t (subst (λ m. StandsFor m q) (sym c.self.view_is) h)
     ∙ ap (λ m. option_map (is_inside (program_run m)) (slice_get q.threads t)) c.self.view_is
 
 pub returns-in-None : goal.returns-in-None
@@ -29,5 +29,5 @@ returns-in-None c q h =
     let P = program_of i.program.now in
     let gone = sym (ap (λ xs. slice_get xs t) c.deref.ensures.value) ∙ slice_get_past lent t c.in-None.ensures.lookup.3 in
     sym (ap (option_map (cell_inside P)) gone)
-    ∙ inside_same P i.code.now.code.items (record { heap = i.heap; locks = i.locks; threads = i.threads.items; output = i.output.items }) q t (subst (λ m. StandsFor m q) (sym c.self.view_is) h)
+    ∙ inside_same P i.code.now.code.items (record { heap = i.shared.heap; locks = i.shared.locks; threads = i.threads.items; output = i.shared.output.items }) q t (subst (λ m. StandsFor m q) (sym c.self.view_is) h)
     ∙ ap (λ m. option_map (is_inside (program_run m)) (slice_get q.threads t)) c.self.view_is

@@ -18,7 +18,7 @@ returns-in-Some c q h =
     let there = sym (ap (λ xs. slice_get xs t) c.deref.ensures.value) ∙ slice_get_read lent (length lent) t cell refl c.in-Some.ensures.lookup.3.0 c.in-Some.ensures.lookup.1 in
     let stands = subst (λ m. StateStands (program_run m) m.code.code.items (code_state m.state) q) (sym c.self.view_is) h in
     c.cell_kind.ensures
-    ∙ kind_at (program_of i.program.now) i.code.now.code.items i.code.now.entry.items i.code.now.room.items (record { heap = i.heap; locks = i.locks; threads = i.threads.items; output = i.output.items }) t c.self.invariant.0 q (Some cell) there stands
+    ∙ kind_at (program_of i.program.now) i.code.now.code.items i.code.now.entry.items i.code.now.room.items (record { heap = i.shared.heap; locks = i.shared.locks; threads = i.threads.items; output = i.shared.output.items }) t c.self.invariant.0 q (Some cell) there stands
     ∙ ap (λ m. kind_of (program_run m) q t) c.self.view_is
 
 pub returns-in-None : goal.returns-in-None
@@ -28,5 +28,5 @@ returns-in-None c q h =
     let lent = c.deref.result.now in
     let gone = sym (ap (λ xs. slice_get xs t) c.deref.ensures.value) ∙ slice_get_past lent t c.in-None.ensures.lookup.3 in
     let stands = subst (λ m. StateStands (program_run m) m.code.code.items (code_state m.state) q) (sym c.self.view_is) h in
-    kind_at (program_of i.program.now) i.code.now.code.items i.code.now.entry.items i.code.now.room.items (record { heap = i.heap; locks = i.locks; threads = i.threads.items; output = i.output.items }) t c.self.invariant.0 q None gone stands
+    kind_at (program_of i.program.now) i.code.now.code.items i.code.now.entry.items i.code.now.room.items (record { heap = i.shared.heap; locks = i.shared.locks; threads = i.threads.items; output = i.shared.output.items }) t c.self.invariant.0 q None gone stands
     ∙ ap (λ m. kind_of (program_run m) q t) c.self.view_is

@@ -21,7 +21,7 @@ returns-in-Some c q h =
     let i = c.self.inside in
     let P = program_of i.program.now in
     sym c.in-Some.is ∙ c.first_inside.ensures ∙ ap (position (cell_inside P)) c.as_slice.ensures.value
-    ∙ open_same P i.code.now.code.items (record { heap = i.heap; locks = i.locks; threads = i.threads.items; output = i.output.items }) q (subst (λ m. StandsFor m q) (sym c.self.view_is) h)
+    ∙ open_same P i.code.now.code.items (record { heap = i.shared.heap; locks = i.shared.locks; threads = i.threads.items; output = i.shared.output.items }) q (subst (λ m. StandsFor m q) (sym c.self.view_is) h)
     ∙ ap (λ m. open_thread (program_run m) q) c.self.view_is
 
 pub returns-in-None : goal.returns-in-None
@@ -29,5 +29,5 @@ returns-in-None c q h =
     let i = c.self.inside in
     let P = program_of i.program.now in
     sym c.in-None.is ∙ c.first_inside.ensures ∙ ap (position (cell_inside P)) c.as_slice.ensures.value
-    ∙ open_same P i.code.now.code.items (record { heap = i.heap; locks = i.locks; threads = i.threads.items; output = i.output.items }) q (subst (λ m. StandsFor m q) (sym c.self.view_is) h)
+    ∙ open_same P i.code.now.code.items (record { heap = i.shared.heap; locks = i.shared.locks; threads = i.threads.items; output = i.shared.output.items }) q (subst (λ m. StandsFor m q) (sym c.self.view_is) h)
     ∙ ap (λ m. open_thread (program_run m) q) c.self.view_is

@@ -21,22 +21,22 @@ invariant_of-self c =
         c.self.invariant.1,
         kept_length c.take_turn.new.threads.items,
         kept_length s.threads.items,
-        one_more_thread c.args.thread c.take_turn.result (state_in c.take_turn.new.heap c.take_turn.new.locks c.take_turn.new.threads.items c.take_turn.new.output.items) (state_in s.heap s.locks s.threads.items s.output.items)
-            (code_outcome (program_of s.program.now) s.code.now.code.items s.code.now.entry.items s.code.now.room.items (state_in s.heap s.locks s.threads.items s.output.items) c.args.thread) (c.take_turn.ensures.taken c.self.inside.code.now.code.items c.self.inside.code.now.entry.items c.self.inside.code.now.room.items (c.requires.decided ∙ ap (λ m. turn_of m c.args.thread) (sym c.self.view_is))),
+        one_more_thread c.args.thread c.take_turn.result (state_in c.take_turn.new.shared.heap c.take_turn.new.shared.locks c.take_turn.new.threads.items c.take_turn.new.shared.output.items) (state_in s.shared.heap s.shared.locks s.threads.items s.shared.output.items)
+            (code_outcome (program_of s.program.now) s.code.now.code.items s.code.now.entry.items s.code.now.room.items (state_in s.shared.heap s.shared.locks s.threads.items s.shared.output.items) c.args.thread) (c.take_turn.ensures.taken c.self.inside.code.now.code.items c.self.inside.code.now.entry.items c.self.inside.code.now.room.items (c.requires.decided ∙ ap (λ m. turn_of m c.args.thread) (sym c.self.view_is))),
       ),
       omega (arith, c.requires.made, ap (λ m. m.made) c.self.view_is),
       kept_on (program_of s.program.now) s.code.now.code.items s.code.now.entry.items s.code.now.room.items c.self.invariant.0 c.args.thread c.take_turn.result
-          (record { heap = s.heap; locks = s.locks; threads = s.threads.items; output = s.output.items })
-          (record { heap = c.take_turn.new.heap; locks = c.take_turn.new.locks; threads = c.take_turn.new.threads.items; output = c.take_turn.new.output.items })
+          (record { heap = s.shared.heap; locks = s.shared.locks; threads = s.threads.items; output = s.shared.output.items })
+          (record { heap = c.take_turn.new.shared.heap; locks = c.take_turn.new.shared.locks; threads = c.take_turn.new.threads.items; output = c.take_turn.new.shared.output.items })
           c.self.invariant.3 (c.take_turn.ensures.taken c.self.inside.code.now.code.items c.self.inside.code.now.entry.items c.self.inside.code.now.room.items (c.requires.decided ∙ ap (λ m. turn_of m c.args.thread) (sym c.self.view_is))) (c.take_turn.ensures.roomy c.self.inside.code.now.code.items c.self.inside.code.now.entry.items c.self.inside.code.now.room.items (c.requires.decided ∙ ap (λ m. turn_of m c.args.thread) (sym c.self.view_is)) c.self.invariant.0.rooms c.self.invariant.3.roomy),
       c.in-Ok.ensures.counted s.made c.self.invariant.4,
     )
 
 pub returns-in-Ok-clause-turn : goal.returns-in-Ok-clause-turn
-returns-in-Ok-clause-turn c q h = machine_turn c.args.self.now c.self.inside.program.now c.self.inside.code.now c.self.inside.heap c.take_turn.new.heap c.self.inside.locks c.take_turn.new.locks c.self.inside.threads.items c.take_turn.new.threads.items c.self.inside.output.items c.take_turn.new.output.items c.self.inside.made (c.self.inside.made + 1) c.args.thread (Ok tt) q c.self.view_is c.self.invariant.0 h (c.in-Ok.ensures.taken c.self.inside.code.now.code.items c.self.inside.code.now.entry.items c.self.inside.code.now.room.items (c.requires.decided ∙ ap (λ m. turn_of m c.args.thread) (sym c.self.view_is)))
+returns-in-Ok-clause-turn c q h = machine_turn c.args.self.now c.self.inside.program.now c.self.inside.code.now c.self.inside.shared.heap c.take_turn.new.shared.heap c.self.inside.shared.locks c.take_turn.new.shared.locks c.self.inside.threads.items c.take_turn.new.threads.items c.self.inside.shared.output.items c.take_turn.new.shared.output.items c.self.inside.made (c.self.inside.made + 1) c.args.thread (Ok tt) q c.self.view_is c.self.invariant.0 h (c.in-Ok.ensures.taken c.self.inside.code.now.code.items c.self.inside.code.now.entry.items c.self.inside.code.now.room.items (c.requires.decided ∙ ap (λ m. turn_of m c.args.thread) (sym c.self.view_is)))
 
 pub returns-in-Err-clause-turn : goal.returns-in-Err-clause-turn
-returns-in-Err-clause-turn c q h = machine_turn c.args.self.now c.self.inside.program.now c.self.inside.code.now c.self.inside.heap c.take_turn.new.heap c.self.inside.locks c.take_turn.new.locks c.self.inside.threads.items c.take_turn.new.threads.items c.self.inside.output.items c.take_turn.new.output.items c.self.inside.made c.self.inside.made c.args.thread (Err c.in-Err.why) q c.self.view_is c.self.invariant.0 h (c.in-Err.ensures.taken c.self.inside.code.now.code.items c.self.inside.code.now.entry.items c.self.inside.code.now.room.items (c.requires.decided ∙ ap (λ m. turn_of m c.args.thread) (sym c.self.view_is)))
+returns-in-Err-clause-turn c q h = machine_turn c.args.self.now c.self.inside.program.now c.self.inside.code.now c.self.inside.shared.heap c.take_turn.new.shared.heap c.self.inside.shared.locks c.take_turn.new.shared.locks c.self.inside.threads.items c.take_turn.new.threads.items c.self.inside.shared.output.items c.take_turn.new.shared.output.items c.self.inside.made c.self.inside.made c.args.thread (Err c.in-Err.why) q c.self.view_is c.self.invariant.0 h (c.in-Err.ensures.taken c.self.inside.code.now.code.items c.self.inside.code.now.entry.items c.self.inside.code.now.room.items (c.requires.decided ∙ ap (λ m. turn_of m c.args.thread) (sym c.self.view_is)))
 
 pub invariant_of-self-in-Err : goal.invariant_of-self-in-Err
 invariant_of-self-in-Err c =
@@ -47,13 +47,13 @@ invariant_of-self-in-Err c =
         c.self.invariant.1,
         kept_length c.take_turn.new.threads.items,
         kept_length s.threads.items,
-        no_more_threads c.args.thread c.in-Err.why (state_in c.take_turn.new.heap c.take_turn.new.locks c.take_turn.new.threads.items c.take_turn.new.output.items) (state_in s.heap s.locks s.threads.items s.output.items)
-            (code_outcome (program_of s.program.now) s.code.now.code.items s.code.now.entry.items s.code.now.room.items (state_in s.heap s.locks s.threads.items s.output.items) c.args.thread) (c.in-Err.ensures.taken c.self.inside.code.now.code.items c.self.inside.code.now.entry.items c.self.inside.code.now.room.items (c.requires.decided ∙ ap (λ m. turn_of m c.args.thread) (sym c.self.view_is))),
+        no_more_threads c.args.thread c.in-Err.why (state_in c.take_turn.new.shared.heap c.take_turn.new.shared.locks c.take_turn.new.threads.items c.take_turn.new.shared.output.items) (state_in s.shared.heap s.shared.locks s.threads.items s.shared.output.items)
+            (code_outcome (program_of s.program.now) s.code.now.code.items s.code.now.entry.items s.code.now.room.items (state_in s.shared.heap s.shared.locks s.threads.items s.shared.output.items) c.args.thread) (c.in-Err.ensures.taken c.self.inside.code.now.code.items c.self.inside.code.now.entry.items c.self.inside.code.now.room.items (c.requires.decided ∙ ap (λ m. turn_of m c.args.thread) (sym c.self.view_is))),
       ),
       c.self.invariant.2,
       kept_on (program_of s.program.now) s.code.now.code.items s.code.now.entry.items s.code.now.room.items c.self.invariant.0 c.args.thread c.take_turn.result
-          (record { heap = s.heap; locks = s.locks; threads = s.threads.items; output = s.output.items })
-          (record { heap = c.take_turn.new.heap; locks = c.take_turn.new.locks; threads = c.take_turn.new.threads.items; output = c.take_turn.new.output.items })
+          (record { heap = s.shared.heap; locks = s.shared.locks; threads = s.threads.items; output = s.shared.output.items })
+          (record { heap = c.take_turn.new.shared.heap; locks = c.take_turn.new.shared.locks; threads = c.take_turn.new.threads.items; output = c.take_turn.new.shared.output.items })
           c.self.invariant.3 (c.take_turn.ensures.taken c.self.inside.code.now.code.items c.self.inside.code.now.entry.items c.self.inside.code.now.room.items (c.requires.decided ∙ ap (λ m. turn_of m c.args.thread) (sym c.self.view_is))) (c.take_turn.ensures.roomy c.self.inside.code.now.code.items c.self.inside.code.now.entry.items c.self.inside.code.now.room.items (c.requires.decided ∙ ap (λ m. turn_of m c.args.thread) (sym c.self.view_is)) c.self.invariant.0.rooms c.self.invariant.3.roomy),
       subst (λ x. IsCounted s.made x.heap x.locks) (sym (c.in-Err.ensures.taken c.self.inside.code.now.code.items c.self.inside.code.now.entry.items c.self.inside.code.now.room.items (c.requires.decided ∙ ap (λ m. turn_of m c.args.thread) (sym c.self.view_is))).0) c.self.invariant.4,
     )
@@ -62,7 +62,7 @@ pub returns-in-Err-clause-lean : goal.returns-in-Err-clause-lean
 returns-in-Err-clause-lean c typed q h lean is =
     let s = c.self.inside in
     c.in-Err.ensures.lean (subst (TurnFits (slice_get s.threads.items c.args.thread)) (sym (c.requires.decided ∙ ap (λ m. turn_of m c.args.thread) (sym c.self.view_is))) (turn_fits (program_of s.program.now) s.code.now.code.items s.code.now.entry.items s.code.now.room.items c.self.invariant.0 (subst (λ m. IsTyped (program_run m)) (sym c.self.view_is) typed) c.args.thread
-    (record { heap = s.heap; locks = s.locks; threads = s.threads.items; output = s.output.items })
+    (record { heap = s.shared.heap; locks = s.shared.locks; threads = s.threads.items; output = s.shared.output.items })
     c.self.invariant.3 q (subst (λ m. StandsFor m q) (sym c.self.view_is) h) lean (slice_get s.threads.items c.args.thread) refl)) is
 
 pub take_turn-requires : goal.take_turn-requires

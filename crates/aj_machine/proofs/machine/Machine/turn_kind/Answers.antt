@@ -16,5 +16,5 @@ returns c q kind stands is =
     let v = c.self.view_is in
     c.turn_kind.ensures ∙ (λ j. turn_kind (program_of (e.program j)) (seen_of (e.thread j) (e.heap j) (e.locks j)) (e.thread j) c.args.turn.now)
     ∙ sym (ap (λ m. turn_kind (program_run m) (seen_of t m.state.heap m.state.locks) t c.args.turn.now) v)
-    ∙ turn_kind_at (program_of i.program.now) i.code.now.code.items i.code.now.entry.items i.code.now.room.items (record { heap = i.heap; locks = i.locks; threads = i.threads.items; output = i.output.items }) t c.self.invariant.0 q
+    ∙ turn_kind_at (program_of i.program.now) i.code.now.code.items i.code.now.entry.items i.code.now.room.items (record { heap = i.shared.heap; locks = i.shared.locks; threads = i.threads.items; output = i.shared.output.items }) t c.self.invariant.0 q
     (subst (λ m. StandsFor m q) (sym v) stands) c.args.turn.now (c.requires ∙ ap (λ m. turn_of m t) (sym v)) kind (ap (λ m. kind_of (program_run m) q t) v ∙ is)
