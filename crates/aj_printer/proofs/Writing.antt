@@ -1,5 +1,6 @@
 -- Tokens written one after another.
-use Rattle.std.proofs.Common.{◌≡◌, ℕ, zero, suc, ◌+◌, ◌-◌, ◌<◌, ◌≤◌, length, drop, get_or, List, [], ◌∷◌, ◌++◌, refl, ap, sym, arith, append_assoc, append-nil, subst, Result, OnOk, drop-cons, ◌∙◌, add-one}
+use Rattle.std.proofs.Common.{◌≡◌, ℕ, suc, ◌+◌, ◌-◌, ◌<◌, ◌≤◌, length, drop, get_or, List, [], ◌∷◌, ◌++◌, refl, ap, sym, arith, append_assoc, append-nil, subst, Result, OnOk, drop-cons, ◌∙◌, add-one}
+use Rattle.std.proofs.lemmas.List.{drop_all}
 use Rattle.aj_printer.specs.Layout.{Lexeme, Page, put, writes, layout, gap, lead_of, place_after, depth_after, lexeme_text, line_end}
 use Rattle.aj_printer.specs.declared.page.Place.TheVariants as P
 use Rattle.aj_printer.specs.Printing.{canonical, program_lexemes}
@@ -30,16 +31,10 @@ item_step {A} f g step xs i x page next whole within at so_far is =
     ∙ ap (λ z. writes page (f z)) (sym e)
     ∙ so_far
 
-drop_past : {A : Type 0} (xs : List A) (i : ℕ) → length xs ≤ i → drop i xs ≡ []
-drop_past [] zero h = refl
-drop_past [] (suc i) h = refl
-drop_past (x ∷ xs) zero h = absurd (omega arith)
-drop_past (x ∷ xs) (suc i) h = drop_past xs i (omega arith)
-
 -- all items are written
 pub item_end : {A : Type 0} (f : List A → List Lexeme) → f [] ≡ [] → (xs : List A) (i : ℕ) (page whole : Page) → length xs ≤ i → writes page (f (drop i xs)) ≡ whole → page ≡ whole
 item_end f none xs i page whole past so_far =
-    sym (writes_none page) ∙ ap (writes page) (sym none) ∙ ap (λ z. writes page (f z)) (sym (drop_past xs i past)) ∙ so_far
+    sym (writes_none page) ∙ ap (writes page) (sym none) ∙ ap (λ z. writes page (f z)) (sym (drop_all i xs past)) ∙ so_far
 
 -- where there is no item, nothing is written
 pub item_none : {A : Type 0} (f : List A → List Lexeme) → f [] ≡ [] → (xs : List A) (page : Page) → length xs ≡ 0 → page ≡ writes page (f xs)

@@ -1,7 +1,7 @@
 //! Writes the canonical text of trees.
 #![tactic(auto, using(crate::proofs::Writing::writes_none, crate::proofs::Writing::writes_one, crate::proofs::Writing::writes_both))]
 
-ghost use Rattle.std.specs.Prelude.{◌≡◌, ℕ, List, [], ◌∷◌, ◌++◌, IfOk, OnOk, map, string_bytes};
+ghost use Rattle.std.specs.Prelude.{◌≡◌, ℕ, false, List, [], ◌∷◌, ◌++◌, IfOk, OnOk, map, string_bytes};
 ghost use Rattle.std.specs.Option.{option_map};
 ghost use Rattle.aj_lexer.specs.declared.tokens.Token.{Token};
 ghost use Rattle.aj_lexer.specs.Tokens.{Tokens};
@@ -101,7 +101,10 @@ fn write_member(to: &mut Printer, member: &Member) -> Result<(), NoMemory>
             requires_,
             body,
             end: _,
-        } => { write_method(to, *atomic, result, name, params, requires_, body) }
+        } => {
+            write_flag(to, Terminal::Atomic, *atomic)?;
+            write_method(to, result, name, params, requires_, body)
+        }
     }
 }
 
@@ -139,18 +142,17 @@ fn write_constructor(
     to.terminal(Terminal::CloseBrace)
 }
 
+/// Writes a method from its result on.
 fn write_method(
     to: &mut Printer,
-    atomic: bool,
     result_type: &Option<TypeName>,
     name: &Name,
     params: &[Param],
     locks: &[Lock],
     body: &[Stmt],
 ) -> Result<(), NoMemory>
-    ensures { OnOk result (to.new ≡ writes to.old (method_lexemes atomic result_type.now name.now params.now (map lock_of locks.now) (stmts_from (map stmt_of body.now)))) }
+    ensures { OnOk result (to.new ≡ writes to.old (method_lexemes false result_type.now name.now params.now (map lock_of locks.now) (stmts_from (map stmt_of body.now)))) }
 {
-    write_flag(to, Terminal::Atomic, atomic)?;
     write_result(to, result_type)?;
     write_name(to, name)?;
     to.terminal(Terminal::OpenParen)?;

@@ -71,8 +71,7 @@ fn add_pairs(
 {
     let is_known = ascend(pairs);
     for place in 0..pairs.len() {
-        let pair = &pairs[place];
-        add_pair(alloc, program, class, pair.0, pair.1, is_known, rows)?;
+        add_pair(alloc, program, class, &pairs[place], is_known, rows)?;
     }
     Ok(())
 }
@@ -82,15 +81,15 @@ fn add_pair(
     alloc: Global,
     program: &CoreProgram,
     class: ClassId,
-    method: MethodId,
-    over: MethodId,
+    pair: &(MethodId, MethodId),
     is_known: bool,
     rows: &mut Vec<Vec<MethodId>>,
 ) -> Result<(), NoMemory>
-    requires { is_known ≡ true → target_of (program_of program.now) class method ≡ Some over }
+    requires { is_known ≡ true → target_of (program_of program.now) class pair.now.0 ≡ Some pair.now.1 }
     ensures { OnOk result ((m : ℕ) →
-        row_at (rows_of rows.new.items) m ≡ row_at (rows_of rows.old.items) m ++ pair_overriders (program_of program.now) class (method, over) m) }
+        row_at (rows_of rows.new.items) m ≡ row_at (rows_of rows.old.items) m ++ pair_overriders (program_of program.now) class pair.now m) }
 {
+    let (method, over) = *pair;
     if is_over(program, class, method, over, is_known) {
         push_at(alloc, rows, method, over)
     } else {

@@ -12,6 +12,7 @@ ghost use Rattle.aj_rules.specs.declared.clauses.Clause.TheVariants as Clause;
 ghost use Rattle.aj_rules.specs.Search.{row_at, rows_of, with_link, LeadsTo, IsLed, AreLinks, Agree, Grows, HasFacts, IsLeastFamily};
 
 use crate::clauses::{Clause, Link, Place, Way};
+use crate::lookups::has;
 use aj_core::CoreProgram;
 use aj_paths::{ClassId, FieldId, MethodId, Path, extend};
 use std::alloc::{AllocError as NoMemory, Global};
@@ -189,13 +190,6 @@ fn facts_of(alloc: Global, clauses: &[Clause]) -> Result<Family, NoMemory>
         family.put_fact(alloc, clause)?;
     }
     Ok(family)
-}
-
-/// Whether the list has the path.
-fn has(paths: &[Path], path: &Path) -> bool
-    ensures { result ≡ has_path paths.now path.now }
-{
-    paths.iter().any(|other| other.same(path))
 }
 
 /// Puts a path at its place in an ascending list. A short list is first read from its front. Answers false where the list has it already.

@@ -1,0 +1,38 @@
+//! What the rules ask of a method and of a list of paths.
+ghost use Rattle.std.specs.Prelude.{◌≡◌, slice_get};
+ghost use Rattle.aj_core.specs.Views.{program_of};
+ghost use Rattle.aj_algebra.specs.HeldPaths.{has_path};
+ghost use Rattle.aj_rules.specs.Effect.{required_paths};
+ghost use Rattle.aj_rules.specs.Rules.{declared_bound};
+
+use aj_algebra::Basic;
+use aj_core::CoreProgram;
+use aj_paths::{MethodId, Path};
+
+/// Whether the list has the path.
+pub fn has(paths: &[Path], path: &Path) -> bool
+    ensures { result ≡ has_path paths.now path.now }
+{
+    paths.iter().any(|other| other.same(path))
+}
+
+/// The paths that a method requires; none where there is no such method.
+pub fn required_of(program: &CoreProgram, method: MethodId) -> &[Path]
+    ensures { result.now ≡ required_paths (slice_get (program_of program.now).methods method) }
+{
+    match program.methods().get(method.0 as usize) {
+        Some(method) => method.requires_.as_slice(),
+        None => &[],
+    }
+}
+
+/// The greatest basic that a method may have at its required paths, by whether it is declared atomic.
+pub fn bound_of(annotated: bool) -> Basic
+    ensures { result ≡ declared_bound annotated }
+{
+    if annotated {
+        Basic::Atomic
+    } else {
+        Basic::Cmpd
+    }
+}
