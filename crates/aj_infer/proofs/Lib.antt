@@ -1,5 +1,4 @@
 -- Lemmas on inference.
-pub mod Answers
 pub mod Calls
 pub mod Locals
 pub mod Walks

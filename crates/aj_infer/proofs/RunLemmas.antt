@@ -18,7 +18,7 @@ use Rattle.aj_rules.proofs.EffectRises.{stmt_rises}
 use Rattle.aj_fix.proofs.NoteLemmas.{contains_none}
 use Rattle.aj_callers.specs.Called.{stmt_calls, has_method}
 use Rattle.aj_infer.specs.Cells.{greatest_of, run_effect}
-use Rattle.aj_infer.proofs.Answers.{keeps_both, keeps_itself}
+use Rattle.aj_effects.proofs.Values.{keeps_both, keeps_itself}
 use Rattle.aj_callers.proofs.CallsSame.{first_false, second_false, stmt_same}
 
 -- Joins.

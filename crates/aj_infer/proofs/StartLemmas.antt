@@ -1,11 +1,8 @@
 -- From const everywhere to the least tables.
 use Rattle.std.proofs.Common.{◌≡◌, ℕ, ◌*◌, ◌^◌, ◌≤◌, List, length, map, sym, ap, subst, ◌∙◌}
-use Rattle.std.proofs.lemmas.List.{length-map}
 use Rattle.aj_algebra.specs.declared.basic.Basic.{Basic}
-use Rattle.aj_core.specs.declared.program.CoreMethod.{CoreMethod}
-use Rattle.aj_core.specs.Core.{Program, Method}
+use Rattle.aj_core.specs.Core.{Program}
 use Rattle.aj_core.specs.Typed.{IsTyped}
-use Rattle.aj_core.specs.Views.{method_of}
 use Rattle.aj_fix.specs.Assignments as fix
 use Rattle.aj_rules.specs.Near.{MethodPaths, AreRelevant, AreFew, rel_of}
 use Rattle.aj_rules.specs.Search.{row_at as overs_at}
@@ -17,9 +14,6 @@ use Rattle.aj_infer.specs.Least.{IsLeast}
 use Rattle.aj_infer.proofs.CellLemmas.{length_numbers, length_above}
 use Rattle.aj_infer.proofs.LeastLemmas.{length_tables_in, const_tables, const_room, is_least}
 use Rattle.aj_rules.proofs.Required.{required_in_rel}
-
-pub same_count : (xs : List CoreMethod) (methods : List Method) → map method_of xs ≡ methods → length xs ≡ length methods
-same_count xs methods all = sym (length-map xs method_of) ∙ ap length all
 
 module _ (P : Program) (sets : List MethodPaths) (start : List (List Basic)) (count : ℕ) (start_is : start ≡ tables_in (rel_of sets) all_const 0 count) (all : count ≡ length P.methods) where
   start_at : start ≡ tables_in (rel_of sets) all_const 0 (length P.methods)

@@ -19,7 +19,7 @@ use Rattle.aj_infer.specs.Verdicts.{basic_at, assignment_of, IsFirstBroken, IsBr
 use Rattle.aj_infer.proofs.LeastLemmas.{least_bound, least_accepts}
 use Rattle.aj_callers.proofs.Lookups.{found_method}
 use Rattle.aj_rules.proofs.Required.{required_in_rel}
-use Rattle.aj_infer.proofs.StartLemmas.{same_count}
+use Rattle.aj_callers.proofs.Lookups.{same_count}
 
 -- what is seen of one method
 pub record Seen (P : Program) (A : Assignment) (m : ℕ) (method : Method) (declared found : Basic) : Type 0 where

@@ -3,13 +3,14 @@ ghost use Rattle.std.specs.Prelude.{◌≡◌, ◌↔◌, ◌≤◌, ◌^◌, tr
 ghost use Rattle.aj_core.specs.Typed.{IsTyped};
 ghost use Rattle.aj_core.specs.Views.{program_of};
 ghost use Rattle.aj_rules.specs.Near.{MethodPaths, AreRelevant, AreFew, rel_of};
-ghost use Rattle.aj_rules.specs.Rules.{IsAccepted, declared_bound};
+ghost use Rattle.aj_rules.specs.Rules.{IsAccepted};
 ghost use Rattle.aj_infer.specs.Least.{IsLeast};
 ghost use Rattle.aj_infer.specs.Verdicts.{AreKnown, assignment_of, IsFirstBroken, IsBrokenByAll, HoldBounds};
 
 use aj_algebra::{Algebra, Basic};
 use aj_core::CoreProgram;
 use aj_paths::MethodId;
+use aj_rules::bound_of;
 
 /// What is assigned to each method, in source order.
 #[derive(Drop)]
@@ -51,7 +52,7 @@ pub fn verdict<G: Algebra>(
 {
     for (m, method) in program.methods().iter().enumerate() {
         let found = algebra.at(&inferred.methods[m], method.requires_.as_slice());
-        let declared = bound(method.annotated);
+        let declared = bound_of(method.annotated);
         if !found.below(declared) {
             return Err(Broken {
                 method: MethodId(m as u32),
@@ -61,15 +62,4 @@ pub fn verdict<G: Algebra>(
         }
     }
     Ok(())
-}
-
-/// The greatest basic that a method may have at its required locks.
-fn bound(annotated: bool) -> Basic
-    ensures { result ≡ declared_bound annotated }
-{
-    if annotated {
-        Basic::Atomic
-    } else {
-        Basic::Cmpd
-    }
 }

@@ -1,23 +1,23 @@
 //! The last part of a call: what is assigned to the callee, under the names that its paths have here.
-ghost use Rattle.std.specs.Prelude.{◌≡◌, IfOk, if◌then◌else◌, slice_get};
+ghost use Rattle.std.specs.Prelude.{◌≡◌, IfOk, if◌then◌else◌};
 ghost use Rattle.std.specs.List.{list_all};
 ghost use Rattle.std.specs.Option.{option_copied};
 ghost use Rattle.aj_algebra.specs.declared.basic.Basic.TheVariants.{Error};
 ghost use Rattle.aj_algebra.specs.HeldPaths.{Held, holds_at};
 ghost use Rattle.aj_algebra.specs.Values.{Keeps};
 ghost use Rattle.aj_core.specs.Locks.{path_of};
-ghost use Rattle.aj_core.specs.Views.{program_of, expr_of, exprs_from};
+ghost use Rattle.aj_core.specs.Views.{expr_of, exprs_from};
 ghost use Rattle.aj_rules.specs.Mentions.{paths_of};
-ghost use Rattle.aj_rules.specs.Effect.{call_of, required_paths};
+ghost use Rattle.aj_rules.specs.Effect.{call_of};
 ghost use Rattle.aj_infer.specs.Bodies.{program_at, rel_at, assigned_at};
 ghost use Rattle.aj_infer.specs.Names.{name_in};
 
 use crate::table::{pick, table_at};
 use crate::walk::Walk;
 use aj_algebra::{Algebra, Basic};
-use aj_core::{CoreExpr, CoreProgram};
+use aj_core::CoreExpr;
 use aj_paths::{MethodId, Path};
-use aj_rules::renaming_at;
+use aj_rules::{renaming_at, required_of};
 use std::alloc::{AllocError as NoMemory, Global};
 
 /// What is assigned to the callee at the set that it begins with; an error where that set lacks a required path.
@@ -47,19 +47,9 @@ pub(crate) fn call_value<G: Algebra>(
         alloc,
         algebra,
         names.pairs.as_slice(),
-        required(walk.program, callee),
+        required_of(walk.program, callee),
         value,
     )
-}
-
-/// The required paths of a method; none where it isn't there.
-fn required(program: &CoreProgram, m: MethodId) -> &[Path]
-    ensures { result.now ≡ required_paths (slice_get (program_of program.now).methods m) }
-{
-    match program.methods().get(m.0 as usize) {
-        Some(method) => method.requires_.as_slice(),
-        None => &[],
-    }
 }
 
 /// What a path is called here: the partner of the first pair that names it.

@@ -5,14 +5,8 @@ ghost use Rattle.aj_infer.specs.Cells.{at_parts, below_some, are_below, join_som
 
 use aj_algebra::{Algebra, Basic};
 use aj_paths::Path;
+use aj_rules::has;
 use std::alloc::{AllocError as NoMemory, Global};
-
-/// Whether the list has the path.
-fn holds(paths: &[Path], path: &Path) -> bool
-    ensures { result ≡ has_path paths.now path.now }
-{
-    paths.iter().any(|other| other.same(path))
-}
 
 /// Adds once more what stands from a place on.
 pub(crate) fn repeat_from(row: &mut Vec<Basic>, first: usize) -> Result<(), NoMemory>
@@ -41,7 +35,7 @@ pub(crate) fn put_parts<G: Algebra>(
     };
     let first = row.len();
     put_parts(algebra, value, held, rest, row)?;
-    if holds(held.as_slice(), path) {
+    if has(held.as_slice(), path) {
         return repeat_from(row, first);
     }
     held.push(path.copy())?;

@@ -3,7 +3,7 @@ use Rattle.aj_algebra.specs.HeldPaths.{has_path}
 use Rattle.aj_core.specs.Views.{program_of, method_of}
 use Rattle.aj_infer.specs.Verdicts.{assignment_of}
 use Rattle.aj_infer.proofs.LeastLemmas.{least_accepts}
-use Rattle.aj_infer.proofs.StartLemmas.{same_count}
+use Rattle.aj_callers.proofs.Lookups.{same_count}
 use Rattle.aj_infer.proofs.VerdictLemmas.{value_at, seen, first_broken, bounds_more, bounds_all, not_accepted, broken_by_all}
 use Rattle.aj_infer.proofs.bounds.verdict.Goals as goal
 
@@ -15,8 +15,8 @@ returns-then-not-below-clause-broken g c =
     let count = c.requires.count ∙ sym (same_count c.methods-method-items.result.now P.methods c.methods-method-items.ensures) in
     let found = c.at-found.ensures ∙ ap (λ ps. g.G.Algebra.value c.args.algebra.now c.index.result.now (has_path ps)) c.as_slice.ensures.value
     ∙ value_at g.G.Algebra.value c.args.algebra.now c.args.inferred.now.methods.items c.loop-m.m (length c.methods-method-items.result.now) c.index.result.now (has_path method.requires_.items) count c.loop-m-test.true c.index.ensures in
-    let here = seen P A c.methods-method-items.result.now c.methods-method-items.ensures c.loop-m.m method c.bound-declared.result c.at-found.result c.loop-m-test.true c.method-item.is c.bound-declared.ensures found in
-    let broken = first_broken P A c.loop-m.m (method_of method) c.bound-declared.result c.at-found.result here (sym c.below.ensures ∙ c.if-not-below.true) c.loop-m.invariant in
+    let here = seen P A c.methods-method-items.result.now c.methods-method-items.ensures c.loop-m.m method c.bound_of-declared.result c.at-found.result c.loop-m-test.true c.method-item.is c.bound_of-declared.ensures found in
+    let broken = first_broken P A c.loop-m.m (method_of method) c.bound_of-declared.result c.at-found.result here (sym c.below.ensures ∙ c.if-not-below.true) c.loop-m.invariant in
     broken
 
 pub returns-then-not-below-clause-accepted : goal.returns-then-not-below-clause-accepted
@@ -27,9 +27,9 @@ returns-then-not-below-clause-accepted g c =
     let count = c.requires.count ∙ sym (same_count c.methods-method-items.result.now P.methods c.methods-method-items.ensures) in
     let found = c.at-found.ensures ∙ ap (λ ps. g.G.Algebra.value c.args.algebra.now c.index.result.now (has_path ps)) c.as_slice.ensures.value
     ∙ value_at g.G.Algebra.value c.args.algebra.now c.args.inferred.now.methods.items c.loop-m.m (length c.methods-method-items.result.now) c.index.result.now (has_path method.requires_.items) count c.loop-m-test.true c.index.ensures in
-    let here = seen P A c.methods-method-items.result.now c.methods-method-items.ensures c.loop-m.m method c.bound-declared.result c.at-found.result c.loop-m-test.true c.method-item.is c.bound-declared.ensures found in
-    let broken = first_broken P A c.loop-m.m (method_of method) c.bound-declared.result c.at-found.result here (sym c.below.ensures ∙ c.if-not-below.true) c.loop-m.invariant in
-    λ sets typed relevant few least. (λ ok. absurd cc, λ accepted. absurd (not_accepted P A typed c.loop-m.m c.bound-declared.result c.at-found.result broken sets relevant few least accepted))
+    let here = seen P A c.methods-method-items.result.now c.methods-method-items.ensures c.loop-m.m method c.bound_of-declared.result c.at-found.result c.loop-m-test.true c.method-item.is c.bound_of-declared.ensures found in
+    let broken = first_broken P A c.loop-m.m (method_of method) c.bound_of-declared.result c.at-found.result here (sym c.below.ensures ∙ c.if-not-below.true) c.loop-m.invariant in
+    λ sets typed relevant few least. (λ ok. absurd cc, λ accepted. absurd (not_accepted P A typed c.loop-m.m c.bound_of-declared.result c.at-found.result broken sets relevant few least accepted))
 
 pub returns-then-not-below-clause-refuted : goal.returns-then-not-below-clause-refuted
 returns-then-not-below-clause-refuted g c =
@@ -39,9 +39,9 @@ returns-then-not-below-clause-refuted g c =
     let count = c.requires.count ∙ sym (same_count c.methods-method-items.result.now P.methods c.methods-method-items.ensures) in
     let found = c.at-found.ensures ∙ ap (λ ps. g.G.Algebra.value c.args.algebra.now c.index.result.now (has_path ps)) c.as_slice.ensures.value
     ∙ value_at g.G.Algebra.value c.args.algebra.now c.args.inferred.now.methods.items c.loop-m.m (length c.methods-method-items.result.now) c.index.result.now (has_path method.requires_.items) count c.loop-m-test.true c.index.ensures in
-    let here = seen P A c.methods-method-items.result.now c.methods-method-items.ensures c.loop-m.m method c.bound-declared.result c.at-found.result c.loop-m-test.true c.method-item.is c.bound-declared.ensures found in
-    let broken = first_broken P A c.loop-m.m (method_of method) c.bound-declared.result c.at-found.result here (sym c.below.ensures ∙ c.if-not-below.true) c.loop-m.invariant in
-    λ sets typed relevant least. broken_by_all P A typed c.loop-m.m c.bound-declared.result c.at-found.result broken sets relevant least
+    let here = seen P A c.methods-method-items.result.now c.methods-method-items.ensures c.loop-m.m method c.bound_of-declared.result c.at-found.result c.loop-m-test.true c.method-item.is c.bound_of-declared.ensures found in
+    let broken = first_broken P A c.loop-m.m (method_of method) c.bound_of-declared.result c.at-found.result here (sym c.below.ensures ∙ c.if-not-below.true) c.loop-m.invariant in
+    λ sets typed relevant least. broken_by_all P A typed c.loop-m.m c.bound_of-declared.result c.at-found.result broken sets relevant least
 
 pub loop-m-preserved : goal.loop-m-preserved
 loop-m-preserved g c =
@@ -51,8 +51,8 @@ loop-m-preserved g c =
     let count = c.requires.count ∙ sym (same_count c.methods-method-items.result.now P.methods c.methods-method-items.ensures) in
     let found = c.at-found.ensures ∙ ap (λ ps. g.G.Algebra.value c.args.algebra.now c.index.result.now (has_path ps)) c.as_slice.ensures.value
     ∙ value_at g.G.Algebra.value c.args.algebra.now c.args.inferred.now.methods.items c.loop-m.m (length c.methods-method-items.result.now) c.index.result.now (has_path method.requires_.items) count c.loop-m-test.true c.index.ensures in
-    let here = seen P A c.methods-method-items.result.now c.methods-method-items.ensures c.loop-m.m method c.bound-declared.result c.at-found.result c.loop-m-test.true c.method-item.is c.bound-declared.ensures found in
-    bounds_more P A c.loop-m.m (method_of method) c.bound-declared.result c.at-found.result here (sym c.below.ensures ∙ c.if-not-below.false) c.loop-m.invariant
+    let here = seen P A c.methods-method-items.result.now c.methods-method-items.ensures c.loop-m.m method c.bound_of-declared.result c.at-found.result c.loop-m-test.true c.method-item.is c.bound_of-declared.ensures found in
+    bounds_more P A c.loop-m.m (method_of method) c.bound_of-declared.result c.at-found.result here (sym c.below.ensures ∙ c.if-not-below.false) c.loop-m.invariant
 
 pub returns-clause-holds : goal.returns-clause-holds
 returns-clause-holds g c =

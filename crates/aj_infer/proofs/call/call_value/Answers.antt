@@ -3,7 +3,7 @@ use Rattle.aj_core.specs.Locks.{path_of}
 use Rattle.aj_core.specs.Views.{expr_of, exprs_from}
 use Rattle.aj_rules.specs.Mentions.{paths_of}
 use Rattle.aj_infer.specs.Bodies.{program_at}
-use Rattle.aj_infer.proofs.Answers.{value_same}
+use Rattle.aj_effects.proofs.Values.{value_same}
 use Rattle.aj_infer.proofs.Calls.{call_is}
 use Rattle.aj_infer.proofs.call.call_value.Goals as goal
 
@@ -15,5 +15,5 @@ returns-clause-value g c =
     _ _ _ _ _ H
     (c.as_slice.ensures.value ∙ c.names.view_is ∙ c.in_ok-names.ensures)
     (c.as_slice-2.ensures.value ∙ c.names.view_is ∙ c.in_ok-names.ensures)
-    c.table_at.ensures c.required.ensures (c.in_ok-value.ensures.value H))
+    c.table_at.ensures c.required_of.ensures (c.in_ok-value.ensures.value H))
     c.with_required.ensures.value

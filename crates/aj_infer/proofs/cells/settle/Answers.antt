@@ -1,6 +1,6 @@
 -- What is kept, from the state where it began.
 use Rattle.std.proofs.Common.{refl}
-use Rattle.aj_infer.proofs.Answers.{keeps_itself}
+use Rattle.aj_effects.proofs.Values.{keeps_itself}
 use Rattle.aj_infer.proofs.cells.settle.Goals as goal
 
 pub returns-clause-same_reference : goal.returns-clause-same_reference

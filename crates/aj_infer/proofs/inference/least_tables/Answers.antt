@@ -1,6 +1,7 @@
 use Rattle.std.proofs.Common.{◌≡◌, ◌*◌, length, arith, refl}
 use Rattle.aj_core.specs.Views.{program_of}
-use Rattle.aj_infer.proofs.StartLemmas.{same_count, start_length, start_cells, least_count, least_is}
+use Rattle.aj_callers.proofs.Lookups.{same_count}
+use Rattle.aj_infer.proofs.StartLemmas.{start_length, start_cells, least_count, least_is}
 use Rattle.aj_infer.proofs.inference.least_tables.Goals as goal
 
 pub overflow_mul-room : goal.overflow_mul-room

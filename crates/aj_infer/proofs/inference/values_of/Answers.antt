@@ -1,7 +1,7 @@
 use Rattle.std.proofs.Common.{arith}
 use Rattle.aj_rules.specs.Near.{rel_of}
 use Rattle.aj_infer.specs.Tables.{assigned}
-use Rattle.aj_infer.proofs.Answers.{keeps_both}
+use Rattle.aj_effects.proofs.Values.{keeps_both}
 use Rattle.aj_infer.proofs.ValueLemmas.{all_values, values_more, assigned_past}
 use Rattle.aj_infer.proofs.inference.values_of.Goals as goal
 

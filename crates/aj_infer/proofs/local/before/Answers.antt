@@ -4,7 +4,7 @@ use Rattle.aj_core.specs.Locks.{path_of}
 use Rattle.aj_core.specs.Views.{expr_of, stmt_of}
 use Rattle.aj_infer.specs.Bodies.{program_at}
 use Rattle.aj_infer.specs.Names.{local_names}
-use Rattle.aj_infer.proofs.Answers.{value_same}
+use Rattle.aj_effects.proofs.Values.{value_same}
 use Rattle.aj_infer.proofs.Locals.{left_renamed}
 use Rattle.aj_infer.proofs.local.before.Goals as goal
 

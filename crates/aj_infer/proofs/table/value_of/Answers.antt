@@ -1,6 +1,6 @@
 use Rattle.std.proofs.Common.{ap, map}
 use Rattle.aj_infer.specs.Tables.{chosen}
-use Rattle.aj_infer.proofs.Answers.{value_same}
+use Rattle.aj_effects.proofs.Values.{value_same}
 use Rattle.aj_infer.proofs.table.value_of.Goals as goal
 
 pub returns-clause-value : goal.returns-clause-value
