@@ -7,5 +7,5 @@ mod parts;
 mod plain;
 
 pub use ends::EvalEnd;
-pub use parts::evaluate;
+pub use parts::{PlainCall, evaluate};
 pub use plain::{Plain, PlainEntry};

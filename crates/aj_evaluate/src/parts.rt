@@ -416,34 +416,41 @@ fn synchronized(
     Ok(flow)
 }
 
+/// A call that is evaluated by itself: its thread, the receiver, the method that runs, and the arguments.
+#[derive(Clone, Copy)]
+pub struct PlainCall<'a> {
+    pub thread: u32,
+    pub on: Address,
+    pub method: MethodId,
+    pub args: &'a [Value],
+}
+
 /// Evaluates a method by itself in a plain state, for a thread: its body, on this receiver, with these arguments, and with so
 /// many turns. The caller chooses the method by the receiver's class.
 pub fn evaluate(
     alloc: Global,
     program: &CoreProgram,
     state: Plain,
-    thread: u32,
-    on: Address,
-    method: MethodId,
-    args: &[Value],
+    call: &PlainCall<'_>,
     turns: u32,
 ) -> Result<(Plain, Option<Value>), EvalEnd>
     ensures { MatchResult result
-        (λ r. evaluate (program_of program.now) state thread on method args.now turns ≡ Gives r.1 r.0)
-        (λ x. IsEnd x (evaluate (program_of program.now) state thread on method args.now turns)) }
+        (λ r. evaluate (program_of program.now) state call.now.thread call.now.on call.now.method call.now.args.now turns ≡ Gives r.1 r.0)
+        (λ x. IsEnd x (evaluate (program_of program.now) state call.now.thread call.now.on call.now.method call.now.args.now turns)) }
 {
     let mut state = state;
+    let method = call.method;
     let Some(found) = program.methods.get(method.0 as usize) else {
         return Err(EvalEnd::Faults(Fault::Null));
     };
     let at = Within {
         alloc,
         program,
-        thread,
+        thread: call.thread,
         turns,
         depth: 0,
     };
-    let result = asked(&at, &mut state, found, on, args)?;
+    let result = asked(&at, &mut state, found, call.on, call.args)?;
     Ok((state, result))
 }
 

@@ -5,7 +5,7 @@ use crate::schedule_tests::{expect, expect_inputs};
 use crate::tests::LOCKED;
 use aj_compile::compile;
 use aj_core::CoreProgram;
-use aj_evaluate::{EvalEnd, Plain, evaluate};
+use aj_evaluate::{EvalEnd, Plain, PlainCall, evaluate};
 use aj_machine::Machine;
 use aj_paths::MethodId;
 use aj_state::{Address, Fault, Value};
@@ -186,17 +186,13 @@ fn given_in(
     asked: &Asked,
 ) -> Result<Result<Option<Value>, EvalEnd>, Fail> {
     let state = Plain::of(alloc, machine)?;
-    let method = MethodId(asked.method);
-    match evaluate(
-        alloc,
-        program,
-        state,
-        asked.thread,
-        asked.on,
-        method,
-        &[],
-        asked.turns,
-    ) {
+    let call = PlainCall {
+        thread: asked.thread,
+        on: asked.on,
+        method: MethodId(asked.method),
+        args: &[],
+    };
+    match evaluate(alloc, program, state, &call, asked.turns) {
         Ok((_, given)) => Ok(Ok(given)),
         Err(end) => Ok(Err(end)),
     }
