@@ -10,7 +10,7 @@ ghost use Rattle.aj_noted.specs.Calls.{with_call, without_call, frames_seen, met
 ghost use Rattle.aj_units.specs.Tables.{value_at, put_at};
 
 use aj_core::CoreProgram;
-use aj_machine::Machine;
+use aj_machine::{Machine, is_annotated};
 use aj_paths::MethodId;
 use aj_threads::ThreadCell;
 use aj_units::{put, value_at};
@@ -46,17 +46,7 @@ pub(crate) fn frames_at(machine: &Machine<'_>, thread: u32) -> Frames
     }
 }
 
-/// Whether a method is annotated `atomic`.
-fn is_annotated(program: &CoreProgram, method: MethodId) -> bool
-    ensures { result ≡ is_annotated (slice_get (program_of program.now).methods method) }
-{
-    match program.methods.get(method.0 as usize) {
-        Some(found) => found.annotated,
-        None => false,
-    }
-}
-
-/// The same of a method that may be missing.
+/// Whether a method that may be missing is annotated `atomic`.
 fn is_atomic(program: &CoreProgram, method: Option<MethodId>) -> bool
     ensures { result ≡ is_atomic (program_of program.now) method }
 {

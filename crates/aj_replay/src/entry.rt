@@ -27,6 +27,16 @@ pub(crate) struct Added {
     pub(crate) told: Option<CallRecord>,
 }
 
+/// An entry of a schedule: its number, counted from 1, its thread, and what was seen before it: how many frames the thread had,
+/// and how many numbers were printed.
+#[derive(Clone, Copy)]
+struct Entry {
+    number: u32,
+    thread: u32,
+    frames: usize,
+    printed: usize,
+}
+
 /// Whether a method has a result.
 fn has_result(program: &CoreProgram, method: MethodId) -> bool
     ensures { result ≡ has_result (slice_get (program_of program.now).methods method) }
@@ -76,18 +86,19 @@ fn told_of(alloc: Global, machine: &Machine<'_>, begun: Begun) -> Result<CallRec
     })
 }
 
-/// The call that begins, where its method and receiver were seen.
-fn begun_at(entry: u32, thread: u32, frames: usize, printed: usize, after: Sight) -> Option<Begun>
-    ensures { (q : State) → frames ≡ depth (slice_get q.threads thread) → printed ≡ length q.output → open_of result ≡ scan.begun_in q entry thread after.call }
+/// The call that begins with an entry, where its method and receiver were seen.
+fn begun_at(entry: Entry, after: Sight) -> Option<Begun>
+    ensures { (q : State) → entry.frames ≡ depth (slice_get q.threads entry.thread) → entry.printed ≡ length q.output →
+        open_of result ≡ scan.begun_in q entry.number entry.thread after.call }
 {
     match after.call {
         Some((method, on)) => Some(Begun {
-            entry,
-            thread,
+            entry: entry.number,
+            thread: entry.thread,
             method,
             on,
-            frames,
-            printed,
+            frames: entry.frames,
+            printed: entry.printed,
         }),
         None => None,
     }
@@ -114,20 +125,17 @@ fn adds(
     alloc: Global,
     machine: &Machine<'_>,
     opened: Option<Begun>,
-    entry: u32,
-    thread: u32,
-    frames: usize,
-    printed: usize,
+    entry: Entry,
     inside: bool,
 ) -> Result<Added, ReplayEnd>
-    ensures { (q r : State) → frames ≡ depth (slice_get q.threads thread) → printed ≡ length q.output → StandsFor machine.now r → MatchResult result
-        (λ a. scan.next_by (program_run machine.now) q r entry thread (open_of opened) inside ≡ scan.Goes (open_of a.open) (all_told_in a.told))
-        (λ e. IsDeepEnd e (scan.next_by (program_run machine.now) q r entry thread (open_of opened) inside)) }
+    ensures { (q r : State) → entry.frames ≡ depth (slice_get q.threads entry.thread) → entry.printed ≡ length q.output → StandsFor machine.now r → MatchResult result
+        (λ a. scan.next_by (program_run machine.now) q r entry.number entry.thread (open_of opened) inside ≡ scan.Goes (open_of a.open) (all_told_in a.told))
+        (λ e. IsDeepEnd e (scan.next_by (program_run machine.now) q r entry.number entry.thread (open_of opened) inside)) }
 {
     if inside {
         let begins = match opened {
             Some(begun) => Some(begun),
-            None => begun_at(entry, thread, frames, printed, sight_at(machine, thread)),
+            None => begun_at(entry, sight_at(machine, entry.thread)),
         };
         let open = refuse_deep(machine, begins)?;
         return Ok(Added { open, told: None });
@@ -168,17 +176,14 @@ pub(crate) fn enter(
 {
     let frames = sight_at(machine, thread).frames;
     let printed = machine.output().len();
+    let before = Entry {
+        number: entry,
+        thread,
+        frames,
+        printed,
+    };
     match make_step(alloc, machine, calls, thread) {
-        Ok(step) => adds(
-            alloc,
-            machine,
-            opened,
-            entry,
-            thread,
-            frames,
-            printed,
-            step.inside,
-        ),
+        Ok(step) => adds(alloc, machine, opened, before, step.inside),
         Err(_) => Err(ReplayEnd::NoMemory),
     }
 }
