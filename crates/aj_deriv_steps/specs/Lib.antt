@@ -1,4 +1,5 @@
--- What the private functions cite; the contract of a step cites the definitions of aj_deriv_rules alone.
+-- The contract of a step cites Nearness, beside the definitions of aj_deriv_rules. The others are what the private functions cite.
+pub mod Nearness
 pub mod Pairs
 pub mod Merges
 pub mod Chains
