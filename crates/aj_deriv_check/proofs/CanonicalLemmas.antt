@@ -13,8 +13,12 @@ use Rattle.aj_deriv_rules.specs.declared.judge.Judge.{Judge}
 use Rattle.aj_deriv_check.specs.declared.wrong.Wrong.{Wrong}
 use Rattle.aj_deriv_check.specs.declared.wrong.Wrong.TheVariants as wrong
 use Rattle.aj_deriv_check.specs.Good.{line_value, book_assignment, IsShaped, IsGoodLine, IsGoodBook}
-use Rattle.aj_deriv_check.specs.Faults.{IsShapedAt, AreShaped, AreGoodBefore, IsFirstWrong, IsWrong, IsLineVerdict}
-use Rattle.aj_deriv_rules.specs.Judges.{judge_program, judge_rel, judge_table, judge_assignment, number_value, AreCanonical}
+use Rattle.aj_deriv_check.specs.Faults.{IsShapedAt, AreShaped, AreGoodBefore, IsFirstWrong, IsUnjudged, IsWrong, IsLineVerdict}
+use Rattle.aj_rules.specs.Near.{loc_of}
+use Rattle.aj_deriv_rules.specs.Conclusions.{tests_only}
+use Rattle.aj_deriv_rules.specs.Judges.{judge_near, judge_program, judge_rel, judge_table, judge_assignment, number_value, numbered, AreCanonical}
+use Rattle.aj_deriv_steps.specs.Nearness.{is_near, AreNear, AreOwnNear}
+use Rattle.aj_deriv_check.specs.NearBooks.{IsNearBook}
 use Rattle.aj_deriv_check.specs.Passes.{numbers_of, AreGoodLines, IsWrongLine, AreLinesJudged, IsVerdict}
 
 -- below a path, if there is one
@@ -64,6 +68,13 @@ same_line table [] m H = refl
 same_line table (l ∷ ls) zero H = refl
 same_line table (l ∷ ls) (suc m) H = same_line table ls m H
 
+-- the trees of near lines, by the numbers of the lines
+own_at : (rel : ℕ → List PathData) (table : List Cond) (ls : List Line) (m : ℕ) → ((k : ℕ) (line : Line) → slice_get ls k ≡ Some line → is_near (rel k) table line.number ≡ true) →
+    tests_only (rel m) (numbered table (slice_get (numbers_of ls) m)) ≡ true
+own_at rel table [] m near = refl
+own_at rel table (l ∷ ls) zero near = near zero l refl
+own_at rel table (l ∷ ls) (suc m) near = own_at (λ k. rel (suc k)) table ls m (λ k line at. near (suc k) line at)
+
 module _ (judge : Judge) (book : Book) (table : judge_table judge ≡ book.table) (numbers : judge.lines.now ≡ numbers_of book.lines) where
   one_assigned : (m : ℕ) (H : Held) → judge_assignment judge m H ≡ book_assignment book m H
   one_assigned m H = (λ i. number_value (table i) (slice_get (numbers i) m) H) ∙ same_line book.table book.lines m H
@@ -108,9 +119,29 @@ module _ (judge : Judge) (book : Book) (table : judge_table judge ≡ book.table
   wrong_line (wrong.Bound k) shaped w = subst (λ m. IsFirstWrong (judge_program judge) (judge_rel judge) book m (wrong.Bound k)) (sym w.verdict.0) (first_wrong (wrong.Bound k) shaped w)
   wrong_line (wrong.Override k) shaped w = subst (λ m. IsFirstWrong (judge_program judge) (judge_rel judge) book m (wrong.Override k)) (sym w.verdict.0) (first_wrong (wrong.Override k) shaped w)
   wrong_line wrong.Memory shaped w = tt
+  wrong_line wrong.Work shaped w = tt
+
+  -- no judgement says nothing
+  unjudged_is : (fault : Wrong) → IsUnjudged fault → IsWrong (judge_program judge) (judge_rel judge) book fault
+  unjudged_is (wrong.Shape k node) unjudged = absurd unjudged
+  unjudged_is (wrong.Table k) unjudged = absurd unjudged
+  unjudged_is (wrong.Step k node) unjudged = absurd unjudged
+  unjudged_is (wrong.Override k) unjudged = absurd unjudged
+  unjudged_is (wrong.Bound k) unjudged = absurd unjudged
+  unjudged_is wrong.Memory unjudged = tt
+  unjudged_is wrong.Work unjudged = tt
+
+  -- what a near book says of its method lines
+  pub own_are_near : IsNearBook (judge_rel judge) (loc_of judge.sets.now) book → AreOwnNear judge
+  own_are_near near = λ m.
+      (λ i. tests_only (judge_rel judge m) (numbered (table i) (slice_get (numbers i) m)))
+      ∙ own_at (judge_rel judge) book.table book.lines m (λ k line at. (near k line at).own)
+
+  pub nodes_are_near : IsNearBook (judge_rel judge) (loc_of judge.sets.now) book → (m : ℕ) (line : Line) → slice_get book.lines m ≡ Some line → AreNear (judge_near judge m) (judge_table judge) line.body
+  nodes_are_near near m line at = subst (λ T. AreNear (judge_near judge m) T line.body) (sym table) (near m line at).nodes
 
   pub judged_is : length book.lines ≡ length (judge_program judge).methods → AreShaped (judge_program judge) (judge_rel judge) book → (r : Result (Unit {0}) Wrong) → AreLinesJudged judge book r →
       IsVerdict (judge_program judge) (judge_rel judge) book r
   judged_is count shaped (Ok u) good = good_book count shaped good
-  judged_is count shaped (Err fault) (inl memory) = subst (λ f. IsWrong (judge_program judge) (judge_rel judge) book f) (sym memory) tt
+  judged_is count shaped (Err fault) (inl unjudged) = unjudged_is fault unjudged
   judged_is count shaped (Err fault) (inr w) = wrong_line fault shaped w

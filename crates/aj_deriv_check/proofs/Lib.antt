@@ -7,6 +7,6 @@ mod AskedLemmas
 mod LineLemmas
 mod VerdictLemmas
 mod PassLemmas
-mod CanonicalLemmas
+pub mod CanonicalLemmas
 mod OneVerdict
 mod TextVerdict

@@ -139,13 +139,11 @@ under_in_is rel required x y z w u over own same = (
 )
 
 -- a tree that tests relevant paths only is a method's tree where it falls
-pub tabled_by : {E : Type 0} (r : Result Bool E) (rel : List PathData) (t : Cond) (relevant : Bool) → relevant ≡ tests_only rel t → relevant ≡ true → IfOk r (λ b. (b ≡ true) ↔ Falls (value_of t)) →
-    IfOk r (λ b. (b ≡ true) ↔ IsTabled rel t)
-tabled_by (Ok b) rel t relevant is holds test = (
+pub tabled_by : (b : Bool) (rel : List PathData) (t : Cond) (relevant : Bool) → relevant ≡ tests_only rel t → relevant ≡ true → (b ≡ true) ↔ Falls (value_of t) → (b ≡ true) ↔ IsTabled rel t
+tabled_by b rel t relevant is holds test = (
   (λ e. record { relevant = sym is ∙ holds; falls = test.0 e }),
   (λ tabled. test.1 tabled.falls),
 )
-tabled_by (Err e) rel t relevant is holds test = tt
 
 -- and one that tests others is none
 pub not_tabled : (rel : List PathData) (t : Cond) (relevant : Bool) → relevant ≡ tests_only rel t → relevant ≡ false → (false ≡ true) ↔ IsTabled rel t

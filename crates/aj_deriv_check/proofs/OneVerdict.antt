@@ -1,5 +1,5 @@
 -- A text has one verdict.
-use Rattle.std.proofs.Common.{◌≡◌, ◌≢◌, ℕ, ◌<◌, ◌≤◌, ◌⊎◌, inl, inr, List, length, get_or, slice_get, Option, Some, None, refl, sym, ◌∙◌, ap, subst, arith}
+use Rattle.std.proofs.Common.{◌≡◌, ℕ, ◌<◌, ◌≤◌, ◌⊎◌, inl, inr, List, length, get_or, slice_get, Option, Some, None, sym, ◌∙◌, ap, subst, arith}
 use Rattle.std.proofs.lemmas.Option.{same_Some, slice_get_cases}
 use Rattle.aj_paths.specs.Paths.{PathData}
 use Rattle.aj_core.specs.Core.{Program, Method}
@@ -12,7 +12,7 @@ use Rattle.aj_effects.specs.Parts.{StmtP}
 use Rattle.aj_deriv_rules.specs.Parts.{places, Fits}
 use Rattle.aj_deriv_rules.specs.Conclusions.{table_value}
 use Rattle.aj_deriv_check.specs.Good.{book_assignment, IsStep, IsStepped, IsGoodLine, IsGoodBook}
-use Rattle.aj_deriv_check.specs.Faults.{IsShapedAt, HasShapeFault, HasStepFault, IsLineVerdict, AreShaped, IsFirstMisshaped, IsFirstWrong, IsWrong}
+use Rattle.aj_deriv_check.specs.Faults.{IsShapedAt, HasShapeFault, HasStepFault, IsLineVerdict, AreShaped, IsFirstMisshaped, IsFirstWrong, IsUnjudged, IsWrong}
 use Rattle.aj_deriv_check.proofs.Lists.{one_least, none_bad}
 
 tied : (j k : ℕ) → (j < k → ⊥) → (k < j → ⊥) → j ≡ k
@@ -54,19 +54,23 @@ module _ (P : Program) (rel : ℕ → List PathData) where
   good_no_verdict table A m method line (wrong.Override k) good v = v.3 good.overrides
   good_no_verdict table A m method line (wrong.Bound k) good v = v.4 good.bounded
   good_no_verdict table A m method line wrong.Memory good v = v
+  good_no_verdict table A m method line wrong.Work good v = v
 
   one_verdict : (table : List Cond) (A : Assignment) (m : ℕ) (method : Method) (line : Line) (w v : Wrong) → IsLineVerdict P rel table A m method line (Some w) →
       IsLineVerdict P rel table A m method line (Some v) → w ≡ v
   one_verdict table A m method line (wrong.Shape k n) v a b = absurd a
   one_verdict table A m method line wrong.Memory v a b = absurd a
+  one_verdict table A m method line wrong.Work v a b = absurd a
   one_verdict table A m method line (wrong.Table k) (wrong.Shape j i) a b = absurd b
   one_verdict table A m method line (wrong.Table k) wrong.Memory a b = absurd b
+  one_verdict table A m method line (wrong.Table k) wrong.Work a b = absurd b
   one_verdict table A m method line (wrong.Table k) (wrong.Table j) a b = ap (λ z. wrong.Table z) (a.0 ∙ sym b.0)
   one_verdict table A m method line (wrong.Table k) (wrong.Step j i) a b = absurd (a.1 b.1)
   one_verdict table A m method line (wrong.Table k) (wrong.Override j) a b = absurd (a.1 b.1)
   one_verdict table A m method line (wrong.Table k) (wrong.Bound j) a b = absurd (a.1 b.1)
   one_verdict table A m method line (wrong.Step k n) (wrong.Shape j i) a b = absurd b
   one_verdict table A m method line (wrong.Step k n) wrong.Memory a b = absurd b
+  one_verdict table A m method line (wrong.Step k n) wrong.Work a b = absurd b
   one_verdict table A m method line (wrong.Step k n) (wrong.Table j) a b = absurd (b.1 a.1)
   one_verdict table A m method line (wrong.Step k n) (wrong.Step j i) a b =
       let position = a.0 ∙ sym b.0 in let node = one_step_fault table A method line n i a.2 b.2 in λ x. wrong.Step (position x) (node x)
@@ -74,12 +78,14 @@ module _ (P : Program) (rel : ℕ → List PathData) where
   one_verdict table A m method line (wrong.Step k n) (wrong.Bound j) a b = absurd (stepped_no_fault table A method line n b.2 a.2)
   one_verdict table A m method line (wrong.Override k) (wrong.Shape j i) a b = absurd b
   one_verdict table A m method line (wrong.Override k) wrong.Memory a b = absurd b
+  one_verdict table A m method line (wrong.Override k) wrong.Work a b = absurd b
   one_verdict table A m method line (wrong.Override k) (wrong.Table j) a b = absurd (b.1 a.1)
   one_verdict table A m method line (wrong.Override k) (wrong.Step j i) a b = absurd (stepped_no_fault table A method line i a.2 b.2)
   one_verdict table A m method line (wrong.Override k) (wrong.Override j) a b = ap (λ z. wrong.Override z) (a.0 ∙ sym b.0)
   one_verdict table A m method line (wrong.Override k) (wrong.Bound j) a b = absurd (a.3 b.3)
   one_verdict table A m method line (wrong.Bound k) (wrong.Shape j i) a b = absurd b
   one_verdict table A m method line (wrong.Bound k) wrong.Memory a b = absurd b
+  one_verdict table A m method line (wrong.Bound k) wrong.Work a b = absurd b
   one_verdict table A m method line (wrong.Bound k) (wrong.Table j) a b = absurd (b.1 a.1)
   one_verdict table A m method line (wrong.Bound k) (wrong.Step j i) a b = absurd (stepped_no_fault table A method line i a.2 b.2)
   one_verdict table A m method line (wrong.Bound k) (wrong.Override j) a b = absurd (b.3 a.3)
@@ -108,33 +114,39 @@ module _ (P : Program) (rel : ℕ → List PathData) where
         (subst (λ l. IsLineVerdict P rel T A m a.method l (Some w)) line a.verdict))) b.verdict
 
     -- a book has one fault first
-    pub one_wrong : (w v : Wrong) → w ≢ wrong.Memory → v ≢ wrong.Memory → IsWrong P rel book w → IsWrong P rel book v → w ≡ v
-    one_wrong wrong.Memory v some other a b = absurd (some refl)
-    one_wrong (wrong.Shape m n) wrong.Memory some other a b = absurd (other refl)
+    pub one_wrong : (w v : Wrong) → (IsUnjudged w → ⊥) → (IsUnjudged v → ⊥) → IsWrong P rel book w → IsWrong P rel book v → w ≡ v
+    one_wrong wrong.Memory v some other a b = absurd (some tt)
+    one_wrong wrong.Work v some other a b = absurd (some tt)
+    one_wrong (wrong.Shape m n) wrong.Memory some other a b = absurd (other tt)
+    one_wrong (wrong.Shape m n) wrong.Work some other a b = absurd (other tt)
     one_wrong (wrong.Shape m n) (wrong.Shape j i) some other a b = one_misshaped m n j i a b
     one_wrong (wrong.Shape m n) (wrong.Table j) some other a b = absurd (shapes_exclude m n b.shaped a)
     one_wrong (wrong.Shape m n) (wrong.Step j i) some other a b = absurd (shapes_exclude m n b.shaped a)
     one_wrong (wrong.Shape m n) (wrong.Override j) some other a b = absurd (shapes_exclude m n b.shaped a)
     one_wrong (wrong.Shape m n) (wrong.Bound j) some other a b = absurd (shapes_exclude m n b.shaped a)
-    one_wrong (wrong.Table m) wrong.Memory some other a b = absurd (other refl)
+    one_wrong (wrong.Table m) wrong.Memory some other a b = absurd (other tt)
+    one_wrong (wrong.Table m) wrong.Work some other a b = absurd (other tt)
     one_wrong (wrong.Table m) (wrong.Shape j i) some other a b = absurd (shapes_exclude j i a.shaped b)
     one_wrong (wrong.Table m) (wrong.Table j) some other a b = one_first m j (wrong.Table m) (wrong.Table j) a b
     one_wrong (wrong.Table m) (wrong.Step j i) some other a b = one_first m j (wrong.Table m) (wrong.Step j i) a b
     one_wrong (wrong.Table m) (wrong.Override j) some other a b = one_first m j (wrong.Table m) (wrong.Override j) a b
     one_wrong (wrong.Table m) (wrong.Bound j) some other a b = one_first m j (wrong.Table m) (wrong.Bound j) a b
-    one_wrong (wrong.Step m n) wrong.Memory some other a b = absurd (other refl)
+    one_wrong (wrong.Step m n) wrong.Memory some other a b = absurd (other tt)
+    one_wrong (wrong.Step m n) wrong.Work some other a b = absurd (other tt)
     one_wrong (wrong.Step m n) (wrong.Shape j i) some other a b = absurd (shapes_exclude j i a.shaped b)
     one_wrong (wrong.Step m n) (wrong.Table j) some other a b = one_first m j (wrong.Step m n) (wrong.Table j) a b
     one_wrong (wrong.Step m n) (wrong.Step j i) some other a b = one_first m j (wrong.Step m n) (wrong.Step j i) a b
     one_wrong (wrong.Step m n) (wrong.Override j) some other a b = one_first m j (wrong.Step m n) (wrong.Override j) a b
     one_wrong (wrong.Step m n) (wrong.Bound j) some other a b = one_first m j (wrong.Step m n) (wrong.Bound j) a b
-    one_wrong (wrong.Override m) wrong.Memory some other a b = absurd (other refl)
+    one_wrong (wrong.Override m) wrong.Memory some other a b = absurd (other tt)
+    one_wrong (wrong.Override m) wrong.Work some other a b = absurd (other tt)
     one_wrong (wrong.Override m) (wrong.Shape j i) some other a b = absurd (shapes_exclude j i a.shaped b)
     one_wrong (wrong.Override m) (wrong.Table j) some other a b = one_first m j (wrong.Override m) (wrong.Table j) a b
     one_wrong (wrong.Override m) (wrong.Step j i) some other a b = one_first m j (wrong.Override m) (wrong.Step j i) a b
     one_wrong (wrong.Override m) (wrong.Override j) some other a b = one_first m j (wrong.Override m) (wrong.Override j) a b
     one_wrong (wrong.Override m) (wrong.Bound j) some other a b = one_first m j (wrong.Override m) (wrong.Bound j) a b
-    one_wrong (wrong.Bound m) wrong.Memory some other a b = absurd (other refl)
+    one_wrong (wrong.Bound m) wrong.Memory some other a b = absurd (other tt)
+    one_wrong (wrong.Bound m) wrong.Work some other a b = absurd (other tt)
     one_wrong (wrong.Bound m) (wrong.Shape j i) some other a b = absurd (shapes_exclude j i a.shaped b)
     one_wrong (wrong.Bound m) (wrong.Table j) some other a b = one_first m j (wrong.Bound m) (wrong.Table j) a b
     one_wrong (wrong.Bound m) (wrong.Step j i) some other a b = one_first m j (wrong.Bound m) (wrong.Step j i) a b
@@ -156,10 +168,11 @@ module _ (P : Program) (rel : ℕ → List PathData) where
     good_first : (m : ℕ) (w : Wrong) → IsGoodBook P rel book → IsFirstWrong P rel book m w → ⊥
     good_first m w good f = good_no_verdict book.table (book_assignment book) m f.method f.line w (good.good m f.method f.line f.method_is f.line_is) f.verdict
 
-    pub good_no_wrong : (w : Wrong) → w ≢ wrong.Memory → IsGoodBook P rel book → IsWrong P rel book w → ⊥
+    pub good_no_wrong : (w : Wrong) → (IsUnjudged w → ⊥) → IsGoodBook P rel book → IsWrong P rel book w → ⊥
     good_no_wrong (wrong.Shape m n) some good w = shapes_exclude m n (good_shaped good) w
     good_no_wrong (wrong.Table m) some good w = good_first m (wrong.Table m) good w
     good_no_wrong (wrong.Step m n) some good w = good_first m (wrong.Step m n) good w
     good_no_wrong (wrong.Override m) some good w = good_first m (wrong.Override m) good w
     good_no_wrong (wrong.Bound m) some good w = good_first m (wrong.Bound m) good w
-    good_no_wrong wrong.Memory some good w = some refl
+    good_no_wrong wrong.Memory some good w = some tt
+    good_no_wrong wrong.Work some good w = some tt

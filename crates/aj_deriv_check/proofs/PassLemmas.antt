@@ -11,9 +11,10 @@ use Rattle.aj_deriv_rules.specs.declared.judge.Judge.{Judge}
 use Rattle.aj_deriv_check.specs.declared.wrong.Wrong.{Wrong}
 use Rattle.aj_deriv_check.specs.declared.wrong.Wrong.TheVariants as wrong
 use Rattle.aj_deriv_check.specs.Good.{IsShaped, IsGoodLine}
-use Rattle.aj_deriv_rules.specs.Judges.{judge_assignment, judge_program, judge_rel, judge_table}
-use Rattle.aj_deriv_check.specs.Faults.{IsShapedAt, HasShapeFault, AreShaped, IsFirstMisshaped, IsWrong}
-use Rattle.aj_deriv_check.specs.Passes.{IsShapeFault, IsShapeStep, numbers_of, IsLineStep, AreGoodLines, IsWrongLine}
+use Rattle.aj_deriv_rules.specs.Judges.{judge_assignment, judge_near, judge_program, judge_rel, judge_table}
+use Rattle.aj_deriv_steps.specs.Nearness.{AreNear}
+use Rattle.aj_deriv_check.specs.Faults.{IsShapedAt, HasShapeFault, AreShaped, IsFirstMisshaped, IsUnjudged, IsWrong}
+use Rattle.aj_deriv_check.specs.Passes.{IsShapeFault, IsShapeStep, numbers_of, IsFirstNear, IsLineStep, AreGoodLines, IsWrongLine}
 
 -- what stands at a place and behind it
 pub record Front {A : Type 0} (xs : List A) (m : ℕ) (y : A) (ys : List A) : Type 0 where
@@ -104,6 +105,7 @@ fault_here P rel book m method line (wrong.Shape k node) is at before f =
     subst (λ j. IsFirstMisshaped P rel book j node) (sym f.0)
     (record { before = before; fault = subst (λ o. HasShapeFault m o (slice_get book.lines m) node) (sym is) (subst (λ o. HasShapeFault m method o node) (sym at) f.1) })
 fault_here P rel book m method line wrong.Memory is at before f = tt
+fault_here P rel book m method line wrong.Work is at before f = tt
 fault_here P rel book m method line (wrong.Table k) is at before f = absurd f
 fault_here P rel book m method line (wrong.Step k node) is at before f = absurd f
 fault_here P rel book m method line (wrong.Override k) is at before f = absurd f
@@ -174,9 +176,9 @@ line_more view judge lines m method (line ∷ behind) x so_far is step =
 
 pub line_wrong : {S : Type 0} (view : S → List Line) (judge : Judge) (table : List Cond) (lines : List Line) (m : ℕ) (method : Method) (rest : List Line) (fault : Wrong) →
     LinesSoFar judge lines m rest → slice_get (judge_program judge).methods m ≡ Some method → IsLineStep view judge m method rest (Err fault) →
-    (fault ≡ wrong.Memory) ⊎ IsWrongLine judge (record { table = table; lines = lines }) fault
+    IsUnjudged fault ⊎ IsWrongLine judge (record { table = table; lines = lines }) fault
 line_wrong view judge table lines m method [] fault so_far is step = inl step
-line_wrong view judge table lines m method (line ∷ behind) fault so_far is (inl memory) = inl memory
+line_wrong view judge table lines m method (line ∷ behind) fault so_far is (inl unjudged) = inl unjudged
 line_wrong view judge table lines m method (line ∷ behind) fault so_far is (inr verdict) =
     let f = front_of lines m line behind (sym so_far.at) in
     inr (record { position = m; before = so_far.good; method = method; line = line; method_is = is; line_is = f.here; verdict = verdict })
@@ -189,3 +191,9 @@ method_front methods m rest others method e split = front_of methods m (method_o
 pub methods_end : (methods : List Method) (m : ℕ) (rest : List CoreMethod) → map method_of rest ≡ drop m methods → length rest ≡ 0 → m ≤ length methods → m ≡ length methods
 methods_end methods m [] e none within = (past_of methods m within (sym e)).1
 methods_end methods m (x ∷ rest) e none within = absurd (omega (arith, none))
+
+-- the first of the lines that are still to come is near its method
+pub first_near : (judge : Judge) (table : List Cond) (lines rest : List Line) (m : ℕ) → LinesSoFar judge lines m rest →
+    ((k : ℕ) (line : Line) → slice_get lines k ≡ Some line → AreNear (judge_near judge k) table line.body) → IsFirstNear (judge_near judge m) table rest
+first_near judge table lines [] m so_far near = tt
+first_near judge table lines (line ∷ behind) m so_far near = near m line (front_of lines m line behind (sym so_far.at)).here

@@ -1,6 +1,9 @@
 -- What the two passes find.
-use Rattle.std.proofs.Common.{◌≡◌, ℕ, inl, inr, List, [], ◌∷◌, Some, None, Ok, Err, refl, sym, subst, arith}
-use Rattle.aj_core.specs.Core.{Method}
+use Rattle.std.proofs.Common.{◌≡◌, ◌≢◌, ℕ, inl, inr, List, [], ◌∷◌, Some, None, Ok, Err, refl, sym, ◌∙◌, subst, arith}
+use Rattle.aj_paths.specs.Paths.{PathData}
+use Rattle.aj_cond.specs.Conditions.{Cond}
+use Rattle.aj_core.specs.Core.{Program, Method}
+use Rattle.aj_rules.specs.Effect.{Assignment}
 use Rattle.aj_book_grammar.specs.Books.{Line}
 use Rattle.aj_deriv_check.specs.declared.wrong.Wrong.{Wrong}
 use Rattle.aj_deriv_check.specs.declared.wrong.Wrong.TheVariants as wrong
@@ -10,7 +13,9 @@ use Rattle.aj_deriv_rules.specs.Parts.{Place, places, Fits, IsLeastBad}
 use Rattle.aj_deriv_check.specs.Walks.{IsEnd}
 use Rattle.aj_deriv_rules.specs.declared.judge.Judge.{Judge}
 use Rattle.aj_deriv_rules.specs.Judges.{judge_assignment, judge_program, judge_rel, judge_table}
-use Rattle.aj_deriv_check.specs.Faults.{IsLineVerdict}
+use Rattle.aj_deriv_rules.specs.declared.refusal.Refusal.{Refusal}
+use Rattle.aj_deriv_rules.specs.declared.refusal.Refusal.TheVariants as refusal
+use Rattle.aj_deriv_check.specs.Faults.{IsLineVerdict, unjudged_by}
 use Rattle.aj_deriv_check.specs.Passes.{IsShapeStep, IsLineStep}
 
 pub bad_from : (G : Place → Type 0) (xs : List Place) (n : ℕ) → IsEnd G xs 0 (Bad n) → IsLeastBad G xs n
@@ -29,17 +34,36 @@ module _ {S : Type 0} (view : S → List Line) (m : ℕ) (method : Method) (line
   pub shape_bad : (n : ℕ) → lines ≡ line ∷ behind → line.id ≡ m → IsEnd Fits (places (StmtP method.body) line.body) 0 (Bad n) → IsShapeStep view m method lines (Err (wrong.Shape m n))
   shape_bad n e own end = subst (λ ls. IsShapeStep view m method ls (Err (wrong.Shape m n))) (sym e) (refl, inr (own, bad_from Fits (places (StmtP method.body) line.body) n end))
 
-pub shape_memory : {S : Type 0} (view : S → List Line) (m : ℕ) (method : Method) (lines : List Line) → IsShapeStep view m method lines (Err wrong.Memory)
-shape_memory view m method [] = tt
-shape_memory view m method (line ∷ lines) = tt
+pub shape_unjudged : {S : Type 0} (view : S → List Line) (m : ℕ) (method : Method) (lines : List Line) (why : Refusal) → IsShapeStep view m method lines (Err (unjudged_by why))
+shape_unjudged view m method [] refusal.NoMemory = tt
+shape_unjudged view m method [] refusal.Work = tt
+shape_unjudged view m method (line ∷ lines) refusal.NoMemory = tt
+shape_unjudged view m method (line ∷ lines) refusal.Work = tt
+
+-- what is wrong with a line is no bound of work
+pub no_bound : (P : Program) (rel : ℕ → List PathData) (table : List Cond) (A : Assignment) (m : ℕ) (method : Method) (line : Line) (w : Wrong) → IsLineVerdict P rel table A m method line (Some w) → w ≢ wrong.Work
+no_bound P rel table A m method line (wrong.Shape k n) v = λ e. absurd v
+no_bound P rel table A m method line (wrong.Table k) v = λ e. absurd (cc)
+no_bound P rel table A m method line (wrong.Step k n) v = λ e. absurd (cc)
+no_bound P rel table A m method line (wrong.Override k) v = λ e. absurd (cc)
+no_bound P rel table A m method line (wrong.Bound k) v = λ e. absurd (cc)
+no_bound P rel table A m method line wrong.Memory v = λ e. absurd v
+no_bound P rel table A m method line wrong.Work v = λ e. absurd v
+
+-- neither is want of memory
+pub memory_no_bound : (why : Refusal) (fault : Wrong) → fault ≡ unjudged_by why → why ≡ refusal.NoMemory → fault ≢ wrong.Work
+memory_no_bound refusal.NoMemory fault is memory = λ e. absurd (let no : wrong.Memory ≡ wrong.Work = sym is ∙ e in cc)
+memory_no_bound refusal.Work fault is memory = absurd (cc)
 
 module _ {S : Type 0} (view : S → List Line) (judge : Judge) (m : ℕ) (method : Method) (lines : List Line) where
-  pub verdict_memory : IsLineStep view judge m method lines (Err wrong.Memory)
-  verdict_memory = chosen lines
+  pub verdict_unjudged : (why : Refusal) → IsLineStep view judge m method lines (Err (unjudged_by why))
+  verdict_unjudged why = chosen lines why
     where
-      chosen : (ls : List Line) → IsLineStep view judge m method ls (Err wrong.Memory)
-      chosen [] = refl
-      chosen (line ∷ ls) = inl refl
+      chosen : (ls : List Line) (why : Refusal) → IsLineStep view judge m method ls (Err (unjudged_by why))
+      chosen [] refusal.NoMemory = tt
+      chosen [] refusal.Work = tt
+      chosen (line ∷ ls) refusal.NoMemory = inl tt
+      chosen (line ∷ ls) refusal.Work = inl tt
 
   pub verdict_wrong : (behind : List Line) (line : Line) (fault : Wrong) → lines ≡ line ∷ behind →
       IsLineVerdict (judge_program judge) (judge_rel judge) (judge_table judge) (judge_assignment judge) m method line (Some fault) → IsLineStep view judge m method lines (Err fault)

@@ -6,7 +6,10 @@ use Rattle.aj_deriv_check.specs.declared.walk.End.{End}
 use Rattle.aj_deriv_check.specs.declared.walk.End.TheVariants.{Good, Bad}
 use Rattle.aj_effects.specs.Parts.{Part, parts_of}
 use Rattle.aj_deriv_rules.specs.Parts.{Place, places, places_of}
-use Rattle.aj_deriv_check.specs.Walks.{IsEnd}
+use Rattle.aj_paths.specs.Paths.{PathData}
+use Rattle.aj_cond.specs.Conditions.{Cond}
+use Rattle.aj_deriv_steps.specs.Nearness.{AreNear, AreAllNear}
+use Rattle.aj_deriv_check.specs.Walks.{AllIn, AllNodes, IsEnd}
 use Rattle.aj_deriv_check.proofs.Lists.{each_both, each_none, each_one, bad_left, bad_right}
 
 abbrev mutual
@@ -62,3 +65,25 @@ parts_end G xs ds at e = subst (λ z. IsEnd G (places_of z ds) at (Good at)) (sy
 pub ok_as : {E : Type 0} (r : Result End E) (A B : End → Type 0) → ((e : End) → A e → B e) → IfOk r A → IfOk r B
 ok_as (Ok e) A B h a = h e a
 ok_as (Err d) A B h a = tt
+
+-- the first of nodes side by side, and the others
+pub all_parts : (Q : Node → Type 0) (ds es : Nodes) (d : Node) → ds ≡ and_node d es → AllIn Q ds → AllNodes Q d × AllIn Q es
+all_parts Q ds es d is all = subst (AllIn Q) is all
+
+abbrev mutual
+  -- a fact that holds of a node as far as near trees go
+  pub near_nodes : (O : Type 0) (paths : List PathData) (table : List Cond) (d : Node) → O → AreNear paths table d → AllNodes (λ x. O × AreNear paths table x) d
+  near_nodes O paths table (node w n ds) own near = ((own, near), near_in O paths table ds own near.1)
+
+  pub near_in : (O : Type 0) (paths : List PathData) (table : List Cond) (ds : Nodes) → O → AreAllNear paths table ds → AllIn (λ x. O × AreNear paths table x) ds
+  near_in O paths table no_nodes own near = tt
+  near_in O paths table (and_node d ds) own near = (near_nodes O paths table d own near.0, near_in O paths table ds own near.1)
+
+abbrev mutual
+  -- what holds of everything
+  pub plain_nodes : (d : Node) → AllNodes (λ x. Unit {0}) d
+  plain_nodes (node w n ds) = (tt, plain_in ds)
+
+  pub plain_in : (ds : Nodes) → AllIn (λ x. Unit {0}) ds
+  plain_in no_nodes = tt
+  plain_in (and_node d ds) = (plain_nodes d, plain_in ds)

@@ -11,7 +11,7 @@ use Rattle.aj_book_grammar.specs.Faults.{first_fault}
 use Rattle.aj_deriv_check.specs.declared.wrong.TextWrong.{TextWrong}
 use Rattle.aj_deriv_check.specs.declared.wrong.TextWrong.TheVariants as text
 use Rattle.aj_deriv_check.specs.Good.{book_assignment, IsGoodBook}
-use Rattle.aj_deriv_check.specs.Faults.{IsWrong}
+use Rattle.aj_deriv_check.specs.Faults.{IsUnjudged, IsWrong}
 
 -- a typed program with its relevant sets, which is accepted
 pub record IsChecked (P : Program) (sets : List MethodPaths) : Type 0 where
@@ -25,6 +25,11 @@ abbrev pub IsJudged : Program → (ℕ → List PathData) → List ℕ → Resul
 IsJudged P rel bytes (Ok u) = (book : Book) × IsTextOf bytes book × IsGoodBook P rel book
 IsJudged P rel bytes (Err (text.Book fault)) = first_fault bytes ≡ Some fault
 IsJudged P rel bytes (Err (text.Wrong fault)) = (book : Book) × IsTextOf bytes book × IsWrong P rel book fault
+
+-- the book of a text isn't judged
+abbrev pub IsTextUnjudged : TextWrong → Type 0
+IsTextUnjudged (text.Book fault) = ⊥
+IsTextUnjudged (text.Wrong fault) = IsUnjudged fault
 
 -- the bytes are the text of a book, and the trees of its method lines are an admissible assignment
 pub record HasAdmissible (P : Program) (rel : ℕ → List PathData) (bytes : List ℕ) : Type 0 where

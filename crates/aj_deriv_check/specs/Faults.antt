@@ -6,12 +6,25 @@ use Rattle.aj_core.specs.Core.{Program, Method}
 use Rattle.aj_book_grammar.specs.Books.{Line, Book}
 use Rattle.aj_deriv_check.specs.declared.wrong.Wrong.{Wrong}
 use Rattle.aj_deriv_check.specs.declared.wrong.Wrong.TheVariants as wrong
+use Rattle.aj_deriv_rules.specs.declared.refusal.Refusal.{Refusal}
+use Rattle.aj_deriv_rules.specs.declared.refusal.Refusal.TheVariants as refusal
 use Rattle.aj_effects.specs.Parts.{StmtP}
 use Rattle.aj_deriv_rules.specs.Parts.{places, Fits, IsLeastBad}
 use Rattle.aj_deriv_rules.specs.Conclusions.{table_value}
 use Rattle.aj_deriv_check.specs.Good.{book_assignment, cond_at, IsStep, IsUnderOwn, IsShaped, IsTabled, IsStepped, IsOverBelow, IsBounded, IsGoodLine}
 use Rattle.aj_rules.specs.Effect.{Assignment}
 use Rattle.aj_cond.specs.Conditions.{Cond}
+
+-- the book isn't judged: memory is wanting, or a bound of work is met
+abbrev pub IsUnjudged : Wrong → Type 0
+IsUnjudged wrong.Memory = Unit {0}
+IsUnjudged wrong.Work = Unit {0}
+IsUnjudged _ = ⊥
+
+-- why a book isn't judged, where an operation on its trees isn't made
+abbrev pub unjudged_by : Refusal → Wrong
+unjudged_by refusal.NoMemory = wrong.Memory
+unjudged_by refusal.Work = wrong.Work
 
 -- the shape at a position, by its method and its line: both are there and the line is of the method's shape, or neither is
 abbrev pub IsShapedAt : ℕ → Option Method → Option Line → Type 0
@@ -47,6 +60,7 @@ IsLineVerdict P rel table A m method line (Some (wrong.Bound k)) =
     × (IsBounded P rel table A method line → ⊥)
 IsLineVerdict P rel table A m method line (Some (wrong.Shape k node)) = ⊥
 IsLineVerdict P rel table A m method line (Some wrong.Memory) = ⊥
+IsLineVerdict P rel table A m method line (Some wrong.Work) = ⊥
 
 module _ (P : Program) (rel : ℕ → List PathData) (book : Book) where
   -- the shape of every position is right
@@ -73,7 +87,7 @@ module _ (P : Program) (rel : ℕ → List PathData) (book : Book) where
     pub before : (k : ℕ) → k < m → IsShapedAt k (slice_get P.methods k) (slice_get book.lines k)
     pub fault : HasShapeFault m (slice_get P.methods m) (slice_get book.lines m) node
 
-  -- what is wrong with the book first; want of memory says nothing
+  -- what is wrong with the book first; want of memory says nothing, and neither does a bound of work
   abbrev pub IsWrong : Wrong → Type 0
   IsWrong (wrong.Shape m node) = IsFirstMisshaped m node
   IsWrong (wrong.Table m) = IsFirstWrong m (wrong.Table m)
@@ -81,3 +95,4 @@ module _ (P : Program) (rel : ℕ → List PathData) (book : Book) where
   IsWrong (wrong.Override m) = IsFirstWrong m (wrong.Override m)
   IsWrong (wrong.Bound m) = IsFirstWrong m (wrong.Bound m)
   IsWrong wrong.Memory = Unit {0}
+  IsWrong wrong.Work = Unit {0}

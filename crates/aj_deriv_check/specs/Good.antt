@@ -1,11 +1,11 @@
 -- Books that are good for a program.
-use Rattle.std.specs.Prelude.{◌≡◌, ℕ, Bool, true, ◌&&◌, List, length, Option, Some, None, slice_get}
+use Rattle.std.specs.Prelude.{◌≡◌, ℕ, true, List, length, Option, Some, None, slice_get}
 use Rattle.aj_paths.specs.Paths.{PathData}
 use Rattle.aj_algebra.specs.declared.basic.Basic.TheVariants.{Const}
 use Rattle.aj_algebra.specs.HeldPaths.{Held, has_path}
 use Rattle.aj_core.specs.Core.{Program, Method}
 use Rattle.aj_core.specs.Dispatch.{Overrides}
-use Rattle.aj_cond.specs.Conditions.{Cond, LeafC, TestC, value_of}
+use Rattle.aj_cond.specs.Conditions.{Cond, value_of}
 use Rattle.aj_rules.specs.Effect.{Assignment}
 use Rattle.aj_rules.specs.Rules.{IsPart, AtMost, declared_bound}
 use Rattle.aj_book_grammar.specs.Derivations.{number_of, premises_of}
@@ -14,6 +14,7 @@ use Rattle.aj_effects.specs.Parts.{StmtP}
 use Rattle.aj_deriv_rules.specs.Parts.{Place, places, Fits, Each}
 use Rattle.aj_effects.specs.Rules.{Value, rule_of}
 use Rattle.aj_deriv_rules.specs.Conclusions.{table_value, conclusions}
+pub use Rattle.aj_deriv_rules.specs.Conclusions.{cond_at, tests_only}
 
 -- the number of a method line's tree, where there is one
 abbrev pub line_value : List Cond → Option Line → Value
@@ -27,11 +28,6 @@ book_assignment book m H = line_value book.table (slice_get book.lines m) H
 -- more held paths never give a greater basic
 abbrev pub Falls : Value → Type 0
 Falls v = (H K : Held) → IsPart H K → AtMost (v K) (v H)
-
--- each test of the tree is on one of these paths
-abbrev pub tests_only : List PathData → Cond → Bool
-tests_only paths (LeafC b) = true
-tests_only paths (TestC p a b) = has_path paths p && (tests_only paths a && tests_only paths b)
 
 -- the first value is at most the second at every set that has the required paths
 abbrev pub IsUnder : List PathData → Value → Value → Type 0
@@ -52,11 +48,6 @@ IsStep P rel V A x = (H : Held) → AtMost (rule_at P rel V A x H) (V (number_of
 -- its conclusion is exactly that
 abbrev pub IsExact : Program → (ℕ → List PathData) → (ℕ → Value) → Assignment → Place → Type 0
 IsExact P rel V A x = (H : Held) → V (number_of x.at) H ≡ rule_at P rel V A x H
-
--- the tree with this number in a table; const where there is none
-abbrev pub cond_at : Option Cond → Cond
-cond_at None = LeafC Const
-cond_at (Some t) = t
 
 -- the derivation of a method line fits the method's body
 pub record IsShaped (m : ℕ) (method : Method) (line : Line) : Type 0 where

@@ -8,13 +8,16 @@ use Rattle.aj_deriv_check.specs.declared.wrong.Wrong.{Wrong}
 use Rattle.aj_deriv_check.specs.declared.wrong.Wrong.TheVariants as wrong
 use Rattle.aj_deriv_rules.specs.declared.judge.Judge.{Judge}
 use Rattle.aj_deriv_rules.specs.Judges.{judge_assignment, judge_program, judge_rel, judge_table}
+use Rattle.aj_cond.specs.Conditions.{Cond}
+use Rattle.aj_deriv_steps.specs.Nearness.{AreNear}
 use Rattle.aj_deriv_check.specs.Good.{IsShaped, IsGoodBook, IsGoodLine}
-use Rattle.aj_deriv_check.specs.Faults.{HasShapeFault, AreShaped, IsWrong, IsLineVerdict}
+use Rattle.aj_deriv_check.specs.Faults.{HasShapeFault, AreShaped, IsUnjudged, IsWrong, IsLineVerdict}
 
--- a shape that is wrong at this position, or want of memory
+-- a shape that is wrong at this position, or no judgement
 abbrev pub IsShapeFault : ℕ → Option Method → Option Line → Wrong → Type 0
 IsShapeFault m method line (wrong.Shape k node) = (k ≡ m) × HasShapeFault m method line node
 IsShapeFault m method line wrong.Memory = Unit {0}
+IsShapeFault m method line wrong.Work = Unit {0}
 IsShapeFault m method line (wrong.Table k) = ⊥
 IsShapeFault m method line (wrong.Step k node) = ⊥
 IsShapeFault m method line (wrong.Override k) = ⊥
@@ -42,14 +45,14 @@ abbrev pub IsVerdict : Program → (ℕ → List PathData) → Book → Result (
 IsVerdict P rel book (Ok u) = IsGoodBook P rel book
 IsVerdict P rel book (Err fault) = IsWrong P rel book fault
 
--- the judgement of the first of some method lines, and the lines that are then still to come; want of memory says nothing
+-- the judgement of the first of some method lines, and the lines that are then still to come; no judgement says nothing
 abbrev pub IsLineStep : {S : Type 0} → (S → List Line) → Judge → ℕ → Method → List Line → Result S Wrong → Type 0
 IsLineStep view judge m method [] (Ok x) = ⊥
-IsLineStep view judge m method [] (Err fault) = fault ≡ wrong.Memory
+IsLineStep view judge m method [] (Err fault) = IsUnjudged fault
 IsLineStep view judge m method (line ∷ lines) (Ok x) =
     IsGoodLine (judge_program judge) (judge_rel judge) (judge_table judge) (judge_assignment judge) m method line × (view x ≡ lines)
 IsLineStep view judge m method (line ∷ lines) (Err fault) =
-    (fault ≡ wrong.Memory) ⊎ IsLineVerdict (judge_program judge) (judge_rel judge) (judge_table judge) (judge_assignment judge) m method line (Some fault)
+    IsUnjudged fault ⊎ IsLineVerdict (judge_program judge) (judge_rel judge) (judge_table judge) (judge_assignment judge) m method line (Some fault)
 
 -- every line before this position is good
 abbrev pub AreGoodLines : Judge → Book → ℕ → Type 0
@@ -69,4 +72,9 @@ pub record IsWrongLine (judge : Judge) (book : Book) (fault : Wrong) : Type 0 wh
 -- the second pass
 abbrev pub AreLinesJudged : Judge → Book → Result (Unit {0}) Wrong → Type 0
 AreLinesJudged judge book (Ok u) = AreGoodLines judge book (length (judge_program judge).methods)
-AreLinesJudged judge book (Err fault) = (fault ≡ wrong.Memory) ⊎ IsWrongLine judge book fault
+AreLinesJudged judge book (Err fault) = IsUnjudged fault ⊎ IsWrongLine judge book fault
+
+-- the trees of the first of some method lines test only these paths
+abbrev pub IsFirstNear : List PathData → List Cond → List Line → Type 0
+IsFirstNear paths table [] = Unit {0}
+IsFirstNear paths table (line ∷ lines) = AreNear paths table line.body

@@ -1,5 +1,6 @@
 -- Where a walk along a derivation ends.
 use Rattle.std.specs.Prelude.{◌≡◌, ℕ, ◌+◌, List, length}
+use Rattle.aj_book_grammar.specs.Derivations.{Node, node, Nodes, no_nodes, and_node}
 use Rattle.aj_deriv_check.specs.declared.walk.End.{End}
 use Rattle.aj_deriv_check.specs.declared.walk.End.TheVariants.{Good, Bad}
 use Rattle.aj_deriv_rules.specs.Parts.{Place, Each, IsLeastBad}
@@ -7,4 +8,14 @@ use Rattle.aj_deriv_rules.specs.Parts.{Place, Each, IsLeastBad}
 -- a walk along places, the first of which has this number: all are good, and what number comes next; or the least that is not good
 abbrev pub IsEnd : (Place → Type 0) → List Place → ℕ → End → Type 0
 IsEnd G xs at (Good next) = Each G xs × (next ≡ at + length xs)
-IsEnd G xs at (Bad node) = (j : ℕ) × (node ≡ at + j) × IsLeastBad G xs j
+IsEnd G xs at (Bad k) = (j : ℕ) × (k ≡ at + j) × IsLeastBad G xs j
+
+abbrev mutual
+  -- a fact holds of a node and of all below it
+  pub AllNodes : (Node → Type 0) → Node → Type 0
+  AllNodes Q (node w n ds) = Q (node w n ds) × AllIn Q ds
+
+  -- so it does of nodes side by side, and of all below them
+  pub AllIn : (Node → Type 0) → Nodes → Type 0
+  AllIn Q no_nodes = Unit {0}
+  AllIn Q (and_node d ds) = AllNodes Q d × AllIn Q ds

@@ -6,14 +6,16 @@ ghost use Rattle.aj_cond.specs.Conditions.{cond_of};
 ghost use Rattle.aj_book_grammar.specs.Books.{Book, AreTrees};
 ghost use Rattle.aj_deriv.specs.Memory.{book_of};
 ghost use Rattle.aj_book_grammar.specs.Views.{IsCursorAt};
-ghost use Rattle.aj_rules.specs.Near.{AreRelevant, rel_of};
+ghost use Rattle.aj_rules.specs.Near.{AreRelevant, loc_of, rel_of};
 ghost use Rattle.aj_rules.specs.Rules.{IsAdmissible};
 ghost use Rattle.aj_book_grammar.specs.Faults.{first_fault};
 ghost use Rattle.aj_book_grammar.specs.Texts.{IsTextOf};
 ghost use Rattle.aj_book_grammar.specs.declared.stop.BookFault.{BookFault};
-ghost use Rattle.aj_deriv_check.specs.Checks.{IsJudged, HasAdmissible};
-ghost use Rattle.aj_deriv_check.specs.Faults.{IsWrong};
+ghost use Rattle.aj_deriv_check.specs.Checks.{HasAdmissible, IsJudged, IsTextUnjudged};
+ghost use Rattle.aj_deriv_check.specs.Faults.{IsUnjudged, IsWrong};
+ghost use Rattle.aj_deriv_check.specs.NearBooks.{IsNearBook};
 ghost use Rattle.aj_deriv_check.specs.Good.{book_assignment, IsGoodBook};
+ghost use Rattle.aj_deriv_check.specs.declared.wrong.TextWrong.{TextWrong};
 ghost use Rattle.aj_deriv_check.specs.declared.wrong.Wrong.{Wrong};
 ghost use Rattle.aj_deriv_check.specs.Passes.{IsVerdict};
 
@@ -55,7 +57,8 @@ fn judged_book<L: Lines>(
 ) -> Result<(), Wrong>
     requires kept { L.AreLinesKept from }
     requires trees { AreTrees (map cond_of table.now) }
-    ensures { IsVerdict (program_of program.now) (rel_of sets.now) (record { table = map cond_of table.now; lines = L.lines from }) result }
+    ensures verdict { IsVerdict (program_of program.now) (rel_of sets.now) (record { table = map cond_of table.now; lines = L.lines from }) result }
+    ensures near { IsNearBook (rel_of sets.now) (loc_of sets.now) (record { table = map cond_of table.now; lines = L.lines from }) → IfErr result (λ why. why ≢ Wrong.Work) }
 {
     let numbers = match shapes(alloc, program, from) {
         Ok(numbers) => numbers,
@@ -78,7 +81,8 @@ fn judged_memory(
     sets: &RelevantSets,
     book: &DerivBook,
 ) -> Result<(), Wrong>
-    ensures { IsVerdict (program_of program.now) (rel_of sets.now) (book_of book.now) result }
+    ensures verdict { IsVerdict (program_of program.now) (rel_of sets.now) (book_of book.now) result }
+    ensures near { IsNearBook (rel_of sets.now) (loc_of sets.now) (book_of book.now) → IfErr result (λ why. why ≢ Wrong.Work) }
 {
     let lines = LinesInMemory {
         lines: book.methods.as_slice(),
@@ -98,7 +102,8 @@ fn judged_and_kept(
     sets: &RelevantSets,
     book: DerivBook,
 ) -> Result<(), TextWrong>
-    ensures { (bytes : List ℕ) → IsTextOf bytes (book_of book) → IsJudged (program_of program.now) (rel_of sets.now) bytes result }
+    ensures judged { (bytes : List ℕ) → IsTextOf bytes (book_of book) → IsJudged (program_of program.now) (rel_of sets.now) bytes result }
+    ensures near { IsNearBook (rel_of sets.now) (loc_of sets.now) (book_of book) → IfErr result (λ why. why ≢ TextWrong.Wrong Wrong.Work) }
 {
     let verdict = judged_memory(alloc, program, sets, &book);
     forget(book);
@@ -116,7 +121,8 @@ fn judged_at(
     cursor: BookCursor<'_>,
 ) -> Result<(), Wrong>
     requires { (book : Book) × IsCursorAt cursor book }
-    ensures { (book : Book) → IsCursorAt cursor.entry book → IsVerdict (program_of program.now) (rel_of sets.now) book result }
+    ensures verdict { (book : Book) → IsCursorAt cursor.entry book → IsVerdict (program_of program.now) (rel_of sets.now) book result }
+    ensures near { (book : Book) → IsCursorAt cursor.entry book → IsNearBook (rel_of sets.now) (loc_of sets.now) book → IfErr result (λ why. why ≢ Wrong.Work) }
 {
     let table = match cursor.table(alloc) {
         Ok(table) => table,
@@ -133,7 +139,8 @@ fn judged_in_place(
     bytes: &[u8],
 ) -> Result<(), TextWrong>
     requires { length bytes.now ≤ 16777216 }
-    ensures { IsJudged (program_of program.now) (rel_of sets.now) bytes.now result }
+    ensures judged { IsJudged (program_of program.now) (rel_of sets.now) bytes.now result }
+    ensures near { (book : Book) → IsTextOf bytes.now book → IsNearBook (rel_of sets.now) (loc_of sets.now) book → IfErr result (λ why. why ≢ TextWrong.Wrong Wrong.Work) }
 {
     let cursor = match BookCursor::open(bytes) {
         Ok(cursor) => cursor,
@@ -154,7 +161,8 @@ fn judged(
     bytes: &[u8],
 ) -> Result<(), TextWrong>
     requires { length bytes.now ≤ 16777216 }
-    ensures { IsJudged (program_of program.now) (rel_of sets.now) bytes.now result }
+    ensures judged { IsJudged (program_of program.now) (rel_of sets.now) bytes.now result }
+    ensures near { (book : Book) → IsTextOf bytes.now book → IsNearBook (rel_of sets.now) (loc_of sets.now) book → IfErr result (λ why. why ≢ TextWrong.Wrong Wrong.Work) }
 {
     if bytes.len() > MOST_IN_MEMORY {
         return judged_in_place(alloc, program, sets, bytes);
@@ -186,13 +194,17 @@ pub fn accept_text(
     ensures sets_back { IfErr result (λ refused. refused.sets ≡ sets) }
     ensures refused { IfErr result (λ refused. IsJudged (program_of program) (rel_of sets) bytes.now (Err refused.why)) }
 
-    // Each fault is told, and a good book is taken, where there is memory.
+    // Each fault is told, and a good book is taken, unless the book isn't judged.
     ensures only_fault { (fault : BookFault) → first_fault bytes.now ≡ Some fault →
         MatchResult result (λ _. ⊥) (λ refused. refused.why ≡ TextWrong.Book fault) }
-    ensures only_wrong { (book : Book) (fault : Wrong) → IsTextOf bytes.now book → fault ≢ Wrong.Memory → IsWrong (program_of program) (rel_of sets) book fault →
-        MatchResult result (λ _. ⊥) (λ refused. (refused.why ≡ TextWrong.Wrong fault) ⊎ (refused.why ≡ TextWrong.Wrong Wrong.Memory)) }
+    ensures only_wrong { (book : Book) (fault : Wrong) → IsTextOf bytes.now book → (IsUnjudged fault → ⊥) → IsWrong (program_of program) (rel_of sets) book fault →
+        MatchResult result (λ _. ⊥) (λ refused. (refused.why ≡ TextWrong.Wrong fault) ⊎ IsTextUnjudged refused.why) }
     ensures only_good { (book : Book) → IsTextOf bytes.now book → IsGoodBook (program_of program) (rel_of sets) book →
-        IfErr result (λ refused. refused.why ≡ TextWrong.Wrong Wrong.Memory) }
+        IfErr result (λ refused. IsTextUnjudged refused.why) }
+
+    // A book each of whose trees tests only paths near its method meets no bound of work.
+    ensures near { (book : Book) → IsTextOf bytes.now book → IsNearBook (rel_of sets) (loc_of sets) book →
+        IfErr result (λ refused. refused.why ≢ TextWrong.Wrong Wrong.Work) }
 {
     // Only the proof needs this: no method has too many paths.
     sets.few();
@@ -220,10 +232,13 @@ pub fn accept(
     ensures sets_back { IfErr result (λ refused. refused.sets ≡ sets) }
     ensures refused { IfErr result (λ refused. IsWrong (program_of program) (rel_of sets) (book_of book.now) refused.why) }
 
-    // What is wrong first is told, and a good book is taken, where there is memory.
-    ensures only_wrong { (fault : Wrong) → fault ≢ Wrong.Memory → IsWrong (program_of program) (rel_of sets) (book_of book.now) fault →
-        MatchResult result (λ _. ⊥) (λ refused. (refused.why ≡ fault) ⊎ (refused.why ≡ Wrong.Memory)) }
-    ensures only_good { IsGoodBook (program_of program) (rel_of sets) (book_of book.now) → IfErr result (λ refused. refused.why ≡ Wrong.Memory) }
+    // What is wrong first is told, and a good book is taken, unless the book isn't judged.
+    ensures only_wrong { (fault : Wrong) → (IsUnjudged fault → ⊥) → IsWrong (program_of program) (rel_of sets) (book_of book.now) fault →
+        MatchResult result (λ _. ⊥) (λ refused. (refused.why ≡ fault) ⊎ IsUnjudged refused.why) }
+    ensures only_good { IsGoodBook (program_of program) (rel_of sets) (book_of book.now) → IfErr result (λ refused. IsUnjudged refused.why) }
+
+    // A book each of whose trees tests only paths near its method meets no bound of work.
+    ensures near { IsNearBook (rel_of sets) (loc_of sets) (book_of book.now) → IfErr result (λ refused. refused.why ≢ Wrong.Work) }
 {
     // Only the proof needs this: no method has too many paths.
     sets.few();

@@ -4,14 +4,15 @@ ghost use Rattle.aj_book_grammar.specs.Derivations.{node};
 ghost use Rattle.aj_effects.specs.Bodies.{part_of};
 ghost use Rattle.aj_deriv_rules.specs.Judges.{judge_assignment, judge_program, judge_rel, judge_table, judge_value, AreCanonical};
 ghost use Rattle.aj_deriv_rules.specs.Parts.{Fits};
+ghost use Rattle.aj_deriv_steps.specs.Nearness.{steps_near, AreNear, AreOwnNear};
 ghost use Rattle.aj_deriv_check.specs.Good.{IsStep};
 
 use crate::walk::Asked;
 use aj_book_grammar::{Nodes, Word};
-use aj_deriv_rules::{Judge, Work, part_word, same_length};
-use aj_deriv_steps::is_step;
+use aj_deriv_rules::{Refusal, part_word, same_length};
+use aj_deriv_steps::{Steps, is_step};
 use aj_effects::{BodyPart, inner_parts};
-use std::alloc::{AllocError as NoMemory, Global};
+use std::alloc::Global;
 
 /// Asks whether a node has the word and the number of premises of its part.
 #[derive(Clone, Copy)]
@@ -31,6 +32,8 @@ fn fits<F: Nodes>(part: BodyPart<'_>, word: Word, number: u32, premises: F) -> b
 impl Asked for Shapes {
     ghost IsGood = { λ s x. Fits x };
 
+    ghost IsNear = { λ s d. Unit {0} };
+
     ghost IsReady = { λ s. Unit {0} };
 
     fn is_good<F: Nodes>(
@@ -40,20 +43,16 @@ impl Asked for Shapes {
         word: Word,
         number: u32,
         premises: F,
-    ) -> Result<bool, NoMemory> {
+    ) -> Result<bool, Refusal> {
         Ok(fits(part, word, number, premises))
     }
 }
 
 /// Asks whether a node's conclusion is at or above its rule's value.
-#[derive(Clone, Copy)]
-pub(crate) struct Steps<'a> {
-    pub(crate) judge: &'a Judge<'a>,
-    pub(crate) work: Work<'a>,
-}
-
 impl<'a> Asked for Steps<'a> {
     ghost IsGood = { λ s x. IsStep (judge_program s.judge.now) (judge_rel s.judge.now) (judge_value s.judge.now) (judge_assignment s.judge.now) x };
+
+    ghost IsNear = { λ s d. AreOwnNear s.judge.now × AreNear (steps_near s) (judge_table s.judge.now) d };
 
     ghost IsReady = { λ s. AreCanonical (judge_table s.judge.now) };
 
@@ -64,7 +63,7 @@ impl<'a> Asked for Steps<'a> {
         _word: Word,
         number: u32,
         premises: F,
-    ) -> Result<bool, NoMemory> {
-        is_step(alloc, self.work, self.judge, part, number, premises)
+    ) -> Result<bool, Refusal> {
+        is_step(alloc, self, part, number, premises)
     }
 }

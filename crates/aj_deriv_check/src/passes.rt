@@ -1,12 +1,15 @@
 //! The two passes over the method lines of a book: their shapes, and then method by method their trees, steps, overriding methods
 //! and bounds.
-ghost use Rattle.std.specs.Prelude.{◌≡◌, ◌↔◌, ◌+◌, ℕ, List, true, IfOk};
+ghost use Rattle.std.specs.Prelude.{◌≡◌, ◌≢◌, ◌↔◌, ◌+◌, ℕ, List, Some, true, slice_get, IfErr, IfOk};
 ghost use Rattle.aj_core.specs.Views.{method_of, program_of};
 ghost use Rattle.aj_cond.specs.Conditions.{Cond};
 ghost use Rattle.aj_paths.specs.Paths.{PathData};
 ghost use Rattle.aj_rules.specs.Overriding.{AreOverriders};
-ghost use Rattle.aj_deriv_rules.specs.Judges.{judge_program, judge_table, AreCanonical};
-ghost use Rattle.aj_deriv_check.specs.Passes.{AreAllShaped, AreLinesJudged, IsLineStep, IsShapeStep};
+ghost use Rattle.aj_book_grammar.specs.Books.{Line};
+ghost use Rattle.aj_deriv_rules.specs.Judges.{judge_near, judge_program, judge_table, AreCanonical};
+ghost use Rattle.aj_deriv_steps.specs.Nearness.{AreNear, AreOwnNear};
+ghost use Rattle.aj_deriv_check.specs.declared.wrong.Wrong.{Wrong};
+ghost use Rattle.aj_deriv_check.specs.Passes.{AreAllShaped, AreLinesJudged, IsFirstNear, IsLineStep, IsShapeStep};
 
 use crate::asked::Shapes;
 use crate::line::line_verdict;
@@ -15,13 +18,14 @@ use crate::wrong::Wrong;
 use aj_core::{CoreMethod, CoreProgram};
 use aj_deriv::Lines;
 use aj_deriv_rules::Judge;
+use aj_deriv_steps::Steps;
 use aj_effects::BodyPart;
 use aj_paths::MethodId;
 use aj_rules::OverridingMethods;
 use std::alloc::{AllocError as NoMemory, Global};
 use std::cell::Cell;
 
-/// How many pairs of subtrees all operations may visit that are beyond what trees over near paths ask for.
+/// How many pairs of subtrees all operations may visit on trees that aren't near their method.
 const MOST_WORK: u32 = 1 << 26;
 
 /// Whether an id is this number.
@@ -42,6 +46,7 @@ fn next_shape<L: Lines>(
     requires { L.AreLinesKept from }
     ensures step { IsShapeStep L.lines m (method_of method.now) (L.lines from) result }
     ensures kept { IfOk result (λ x. L.AreLinesKept x.1) }
+    ensures judged { IfErr result (λ fault. fault ≢ Wrong.Work) }
 {
     let misshaped = Wrong::Shape { method: m, node: 0 };
     let Some(line) = from.first_line() else {
@@ -74,7 +79,8 @@ pub(crate) fn shapes<L: Lines>(
     from: L,
 ) -> Result<Vec<u32>, Wrong>
     requires { L.AreLinesKept from }
-    ensures { (rel : ℕ → List PathData) (table : List Cond) → AreAllShaped (program_of program.now) rel (record { table = table; lines = L.lines from }) result }
+    ensures shaped { (rel : ℕ → List PathData) (table : List Cond) → AreAllShaped (program_of program.now) rel (record { table = table; lines = L.lines from }) result }
+    ensures judged { IfErr result (λ fault. fault ≢ Wrong.Work) }
 {
     let mut ahead = from;
     let mut numbers = Vec::new(alloc);
@@ -106,7 +112,9 @@ pub(crate) fn lines<L: Lines>(
     requires kept { L.AreLinesKept from }
     requires canonical { AreCanonical (judge_table judge.now) }
     requires overriders { AreOverriders (judge_program judge.now) over.now }
-    ensures { (table : List Cond) → AreLinesJudged judge.now (record { table = table; lines = L.lines from }) result }
+    ensures judged { (table : List Cond) → AreLinesJudged judge.now (record { table = table; lines = L.lines from }) result }
+    ensures near { AreOwnNear judge.now → ((m : ℕ) (line : Line) → slice_get (L.lines from) m ≡ Some line → AreNear (judge_near judge.now m) (judge_table judge.now) line.body) →
+        IfErr result (λ fault. fault ≢ Wrong.Work) }
 {
     let left = Cell::new(MOST_WORK);
     let mut ahead = from;
@@ -138,22 +146,18 @@ fn next_verdict<L: Lines>(
     requires overriders { AreOverriders (judge_program judge.now) over.now }
     ensures step { IsLineStep L.lines judge.now m (method_of method.now) (L.lines from) result }
     ensures kept { IfOk result L.AreLinesKept }
+    ensures near { AreOwnNear judge.now → IsFirstNear (judge_near judge.now m) (judge_table judge.now) (L.lines from) →
+        IfErr result (λ fault. fault ≢ Wrong.Work) }
 {
     let Some(line) = from.first_line() else {
         return Err(Wrong::Memory);
     };
-    match line_verdict(
-        alloc,
-        left,
+    let steps = Steps {
         judge,
-        over,
-        MethodId(m),
-        method,
-        line.number,
-        line.word,
-        line.node,
-        line.premises,
-    )? {
+        method: MethodId(m),
+        left,
+    };
+    match line_verdict(alloc, &steps, over, method, &line)? {
         Some(wrong) => Err(wrong),
         None => Ok(line.rest),
     }

@@ -1,11 +1,13 @@
 //! A walk along the nodes of a derivation, beside the parts that they stand for.
-ghost use Rattle.std.specs.Prelude.{◌≡◌, ◌↔◌, ◌+◌, true, IfOk};
+ghost use Rattle.std.specs.Prelude.{◌≡◌, ◌↔◌, ◌+◌, true, IfErr, IfOk};
 ghost use Rattle.aj_book_grammar.specs.Derivations.{node};
 ghost use Rattle.aj_deriv_rules.specs.Parts.{places, places_of};
 ghost use Rattle.aj_effects.specs.Bodies.{list_of, part_of};
-ghost use Rattle.aj_deriv_check.specs.Walks.{IsEnd};
+ghost use Rattle.aj_deriv_rules.specs.declared.refusal.Refusal.{Refusal};
+ghost use Rattle.aj_deriv_check.specs.Walks.{AllIn, AllNodes, IsEnd};
 
 use aj_book_grammar::{Nodes, Word};
+use aj_deriv_rules::Refusal;
 use aj_effects::{BodyPart, Parts, inner_parts};
 use std::alloc::{AllocError as NoMemory, Global};
 
@@ -19,9 +21,13 @@ pub(crate) enum End {
 /// What is asked of each node.
 pub(crate) trait Asked {
     ghost use Rattle.aj_deriv_rules.specs.Parts.{Place};
+    ghost use Rattle.aj_book_grammar.specs.Derivations.{Node};
 
     /// The answer that is right.
     ghost IsGood: { Self → Place → Type 0 };
+
+    /// Where no bound of work is met.
+    ghost IsNear: { Self → Node → Type 0 };
 
     /// What holds of whoever asks.
     ghost IsReady: { Self → Type 0 };
@@ -34,10 +40,11 @@ pub(crate) trait Asked {
         word: Word,
         number: u32,
         premises: F,
-    ) -> Result<bool, NoMemory>
+    ) -> Result<bool, Refusal>
         requires kept { F.AreKept premises }
         requires ready { IsReady self.now }
-        ensures { IfOk result (λ b. (b ≡ true) ↔ IsGood self.now (record { part = part_of part.entry; at = node word number (F.nodes premises) })) };
+        ensures good { IfOk result (λ b. (b ≡ true) ↔ IsGood self.now (record { part = part_of part.entry; at = node word number (F.nodes premises) })) }
+        ensures near { IsNear self.now (node word number (F.nodes premises)) → IfErr result (λ e. e ≡ Refusal.NoMemory) };
 }
 
 /// The next number; want of memory where there is none, which comes with no book that fits 16,777,216 bytes.
@@ -60,10 +67,11 @@ pub(crate) fn walk_node<F: Nodes, J: Asked>(
     number: u32,
     premises: F,
     at: u32,
-) -> Result<End, NoMemory>
+) -> Result<End, Refusal>
     requires kept { F.AreKept premises }
     requires ready { J.IsReady asked.now }
-    ensures { IfOk result (λ e. IsEnd (J.IsGood asked.now) (places (part_of part.entry) (node word number (F.nodes premises))) at e) }
+    ensures end { IfOk result (λ e. IsEnd (J.IsGood asked.now) (places (part_of part.entry) (node word number (F.nodes premises))) at e) }
+    ensures near { AllNodes (J.IsNear asked.now) (node word number (F.nodes premises)) → IfErr result (λ e. e ≡ Refusal.NoMemory) }
 {
     let next = after(at)?;
     if !asked.is_good(alloc, part, word, number, premises)? {
@@ -80,10 +88,11 @@ fn walk_premises<F: Nodes, J: Asked>(
     parts: Parts<'_>,
     premises: F,
     at: u32,
-) -> Result<End, NoMemory>
+) -> Result<End, Refusal>
     requires kept { F.AreKept premises }
     requires ready { J.IsReady asked.now }
-    ensures { IfOk result (λ e. IsEnd (J.IsGood asked.now) (places_of (list_of parts.entry) (F.nodes premises)) at e) }
+    ensures end { IfOk result (λ e. IsEnd (J.IsGood asked.now) (places_of (list_of parts.entry) (F.nodes premises)) at e) }
+    ensures near { AllIn (J.IsNear asked.now) (F.nodes premises) → IfErr result (λ e. e ≡ Refusal.NoMemory) }
 {
     let mut parts = parts;
     let mut rest = premises;

@@ -1,6 +1,7 @@
 //! What is wrong with a book.
 
 use aj_book_grammar::BookFault;
+use aj_deriv_rules::Refusal;
 use std::alloc::{AllocError, AllocFailed};
 
 /// What is wrong with a book for a program: a position among the method lines, and a node of the derivation there, counted from 0
@@ -19,6 +20,8 @@ pub enum Wrong {
     Bound { method: u32 },
     /// There was no memory for the judgement.
     Memory,
+    /// The judgement would take more work than it may.
+    Work,
     /// The tree of a method that overrides this one isn't at or below its tree, at some part of its relevant paths that has its
     /// required ones.
     Override { method: u32 },
@@ -52,5 +55,19 @@ impl<T: Drop> From<AllocFailed<T>> for Wrong {
 
     fn from(_: AllocFailed<T>) -> Self {
         Wrong::Memory
+    }
+}
+
+impl From<Refusal> for Wrong {
+    ghost use Rattle.std.specs.Prelude.{◌≡◌};
+    ghost use Rattle.aj_deriv_check.specs.Faults.{unjudged_by};
+
+    ghost from_gives = { λ refusal fault. fault ≡ unjudged_by refusal };
+
+    fn from(refusal: Refusal) -> Self {
+        match refusal {
+            Refusal::NoMemory => Wrong::Memory,
+            Refusal::Work => Wrong::Work,
+        }
     }
 }

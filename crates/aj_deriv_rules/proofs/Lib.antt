@@ -2,4 +2,3 @@
 pub mod NameLemmas
 pub mod BlockLemmas
 pub mod PremiseLemmas
-mod NearLemmas

@@ -1,17 +1,17 @@
 -- What a book is judged by, in memory.
-use Rattle.std.specs.Prelude.{◌≡◌, ℕ, ◌==◌, List, map, Option, Some, None, slice_get, if◌then◌else◌}
+use Rattle.std.specs.Prelude.{◌≡◌, ℕ, ◌==◌, Bool, List, ◌++◌, map, Option, Some, None, slice_get, if◌then◌else◌}
 use Rattle.aj_paths.specs.Paths.{PathData, extended_some}
 use Rattle.aj_paths.specs.Renamings.{under_call}
 use Rattle.aj_algebra.specs.declared.basic.Basic.TheVariants.{Const}
 use Rattle.aj_algebra.specs.HeldPaths.{Held, has_path, holds_at}
-use Rattle.aj_cond.specs.Conditions.{Cond, cond_of, IsCanonical}
+use Rattle.aj_cond.specs.Conditions.{Cond, LeafC, cond_of, IsCanonical}
 use Rattle.aj_core.specs.Core.{Program}
 use Rattle.aj_core.specs.Views.{program_of}
-use Rattle.aj_rules.specs.Near.{rel_of}
+use Rattle.aj_rules.specs.Near.{loc_of, rel_of}
 use Rattle.aj_rules.specs.Effect.{Assignment}
 use Rattle.aj_deriv_rules.specs.declared.judge.Judge.{Judge}
 use Rattle.aj_effects.specs.Rules.{Value}
-use Rattle.aj_deriv_rules.specs.Conclusions.{table_value}
+use Rattle.aj_deriv_rules.specs.Conclusions.{cond_at, table_value, tests_only}
 
 -- the program
 abbrev pub judge_program : Judge → Program
@@ -20,6 +20,10 @@ judge_program judge = program_of judge.program.now
 -- the relevant paths of each method
 abbrev pub judge_rel : Judge → ℕ → List PathData
 judge_rel judge = rel_of judge.sets.now
+
+-- the paths near a method: its relevant paths, and those of its locals
+abbrev pub judge_near : Judge → ℕ → List PathData
+judge_near judge m = rel_of judge.sets.now m ++ loc_of judge.sets.now m
 
 -- the trees of the table
 abbrev pub judge_table : Judge → List Cond
@@ -37,6 +41,15 @@ number_value table (Some n) H = table_value table n H
 -- what the trees of the method lines assign to the methods
 abbrev pub judge_assignment : Judge → Assignment
 judge_assignment judge m H = number_value (judge_table judge) (slice_get judge.lines.now m) H
+
+-- the tree with this number; const where there is none
+abbrev pub numbered : List Cond → Option ℕ → Cond
+numbered table None = LeafC Const
+numbered table (Some n) = cond_at (slice_get table n)
+
+-- the tree of a method's line tests only relevant paths of the method
+abbrev pub own_near : Judge → ℕ → Bool
+own_near judge m = tests_only (judge_rel judge m) (numbered (judge_table judge) (slice_get judge.lines.now m))
 
 -- each tree of the table is canonical
 abbrev pub AreCanonical : List Cond → Type 0

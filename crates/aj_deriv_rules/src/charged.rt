@@ -1,4 +1,5 @@
-//! Trees as an algebra each of whose operations is charged to some work, and the judge of a book as the context of a part.
+//! Trees as an algebra each of whose operations is charged to some work, and the judge of a book as the context of a part. Whoever uses
+//! an algebra knows no refusal but want of memory, so that work that ends is told as that.
 ghost use Rattle.std.specs.Prelude.{◌≡◌};
 ghost use Rattle.aj_core.specs.Views.{program_of};
 ghost use Rattle.aj_rules.specs.Effect.{after_stmt, call_of};
@@ -35,27 +36,27 @@ impl<'a> Algebra for Charged<'a> {
     }
 
     fn held_or(&mut self, alloc: Global, p: &Path, a: &Tree, b: &Tree) -> Result<Tree, NoMemory> {
-        held_or(alloc, self.work, Some(p), a, b)
+        Ok(held_or(alloc, self.work, Some(p), a, b)?)
     }
 
     fn seq(&mut self, alloc: Global, a: &Tree, b: &Tree) -> Result<Tree, NoMemory> {
-        seq(alloc, self.work, a, b)
+        Ok(seq(alloc, self.work, a, b)?)
     }
 
     fn join(&mut self, alloc: Global, a: &Tree, b: &Tree) -> Result<Tree, NoMemory> {
-        join(alloc, self.work, a, b)
+        Ok(join(alloc, self.work, a, b)?)
     }
 
     fn star(&mut self, alloc: Global, a: &Tree) -> Result<Tree, NoMemory> {
-        star(alloc, self.work, a)
+        Ok(star(alloc, self.work, a)?)
     }
 
     fn sync(&mut self, alloc: Global, p: &Path, a: &Tree) -> Result<Tree, NoMemory> {
-        sync(alloc, self.work, p, a)
+        Ok(sync(alloc, self.work, p, a)?)
     }
 
     fn rename(&mut self, alloc: Global, map: &Renaming, a: &Tree) -> Result<Tree, NoMemory> {
-        renamed(alloc, self.work, map, a)
+        Ok(renamed(alloc, self.work, map, a)?)
     }
 
     fn below(&self, a: &Tree, b: &Tree) -> bool {
@@ -90,7 +91,7 @@ impl<'a, 'b> Context<Charged<'b>> for Judge<'a> {
         callee: MethodId,
         args: &[CoreExpr],
     ) -> Result<Tree, NoMemory> {
-        call(alloc, trees.work, self, callee, receiver, args)
+        Ok(call(alloc, trees.work, self, callee, receiver, args)?)
     }
 
     fn before(
@@ -100,6 +101,6 @@ impl<'a, 'b> Context<Charged<'b>> for Judge<'a> {
         s: &CoreStmt,
         rest: Tree,
     ) -> Result<Tree, NoMemory> {
-        before(alloc, trees.work, self.program, s, rest)
+        Ok(before(alloc, trees.work, self.program, s, rest)?)
     }
 }

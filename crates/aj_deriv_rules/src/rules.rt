@@ -1,5 +1,5 @@
 //! The rules on trees: the value of a node from the numbers of its premises' conclusions.
-ghost use Rattle.std.specs.Prelude.{◌≡◌, ◌==◌, ◌&&◌, ℕ, true, IfOk, map, slice_get};
+ghost use Rattle.std.specs.Prelude.{◌≡◌, ◌==◌, ◌&&◌, ℕ, true, IfErr, IfOk, map, slice_get};
 ghost use Rattle.std.specs.List.{list_any};
 ghost use Rattle.std.specs.Option.{option_copied};
 ghost use Rattle.aj_algebra.specs.declared.basic.Basic.TheVariants.{Const};
@@ -13,6 +13,8 @@ ghost use Rattle.aj_rules.specs.Mentions.{paths_of};
 ghost use Rattle.aj_rules.specs.Near.{rel_of};
 ghost use Rattle.aj_deriv_rules.specs.Judges.{judge_assignment, judge_program, judge_rel, judge_table, judge_value, AreCanonical};
 ghost use Rattle.aj_effects.specs.Rules.{block_value, rule_of, stmt_rule as stmt_rule_of, AreAllKnown, Value};
+ghost use Rattle.aj_deriv_rules.specs.declared.refusal.Refusal.{Refusal};
+ghost use Rattle.aj_deriv_rules.specs.Works.{IsUnbounded};
 ghost use Rattle.aj_deriv_rules.specs.Charges.{known_value, IsKnownTree};
 ghost use Rattle.aj_deriv_rules.specs.Blocks.{keeps_paths as keeps_paths_of, AreAbsorbed, IsAbsorbed};
 ghost use Rattle.aj_effects.specs.Bodies.{part_of};
@@ -21,6 +23,7 @@ use crate::charged::Charged;
 use crate::judge::Judge;
 use crate::lookups::{assigned, conclusion, required};
 use crate::names::{at_call, before, with_required};
+use crate::refusal::Refusal;
 use crate::values::seq;
 use crate::work::Work;
 use aj_algebra::Basic;
@@ -47,7 +50,7 @@ fn conclusion_then(
     ensures value { IfOk result (λ r. (H : Held) → value_of (cond_of r) H ≡ seq_of (judge_value judge.now number H) (value_of (cond_of later.now) H)) }
 {
     let first = conclusion(alloc, work, judge, number)?;
-    seq(alloc, work, &first, later)
+    Ok(seq(alloc, work, &first, later)?)
 }
 
 /// The path of each argument, or none.
@@ -74,11 +77,12 @@ fn call_by_paths(
     callee: MethodId,
     receiver: Option<&Path>,
     args: &[Option<Path>],
-) -> Result<Tree, NoMemory>
+) -> Result<Tree, Refusal>
     requires { AreCanonical (judge_table judge.now) }
     ensures known { IfOk result (λ r. IsCanonical (cond_of r)) }
     ensures value { IfOk result (λ r. (H : Held) → value_of (cond_of r) H ≡
         call_of (judge_program judge.now) (judge_rel judge.now) (judge_assignment judge.now) callee (option_copied receiver.entry) args.now H) }
+    ensures unbounded { IsUnbounded work.entry → IfErr result (λ e. e ≡ Refusal.NoMemory) }
 {
     let rel = judge.sets.rel(callee);
     let tree = assigned(alloc, work, judge, callee)?;
@@ -102,11 +106,12 @@ pub fn call(
     callee: MethodId,
     receiver: &CoreExpr,
     args: &[CoreExpr],
-) -> Result<Tree, NoMemory>
+) -> Result<Tree, Refusal>
     requires { AreCanonical (judge_table judge.now) }
     ensures known { IfOk result (λ r. IsCanonical (cond_of r)) }
     ensures value { IfOk result (λ r. (H : Held) → let P = judge_program judge.now in value_of (cond_of r) H ≡
         call_of P (judge_rel judge.now) (judge_assignment judge.now) callee (path_of P (expr_of receiver.now)) (paths_of P (exprs_from args.now)) H) }
+    ensures unbounded { IsUnbounded work.entry → IfErr result (λ e. e ≡ Refusal.NoMemory) }
 {
     let receiver = path_of(judge.program, receiver);
     let args = paths(alloc, judge.program, args)?;

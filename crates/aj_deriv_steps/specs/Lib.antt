@@ -1,5 +1,6 @@
--- What the private functions cite: Pairs first, then Merges and Chains, which stand apart; the contract of a step cites the
--- definitions of aj_deriv_rules alone.
+-- The contract of a step cites Nearness, beside the definitions of aj_deriv_rules. The private functions cite Pairs first, then Merges
+-- and Chains, which stand apart.
+pub mod Nearness
 pub mod Pairs
 pub mod Merges
 pub mod Chains

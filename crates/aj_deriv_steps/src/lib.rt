@@ -10,4 +10,4 @@ mod steps;
 mod stuck;
 mod unmoved;
 
-pub use steps::is_step;
+pub use steps::{Steps, is_step};

@@ -1,11 +1,15 @@
 //! The steps of a derivation: whether a node's conclusion is at or above its rule's value.
-ghost use Rattle.std.specs.Prelude.{◌≡◌, ◌↔◌, ℕ, List, map, true, IfOk};
+ghost use Rattle.std.specs.Prelude.{◌≡◌, ◌↔◌, ℕ, List, map, true, IfErr, IfOk, IfSome};
+ghost use Rattle.std.specs.List.{list_all};
 ghost use Rattle.aj_algebra.specs.HeldPaths.{Held};
 ghost use Rattle.aj_cond.specs.Conditions.{cond_of, value_of, IsCanonical};
 ghost use Rattle.aj_rules.specs.Rules.{AtMost};
 ghost use Rattle.aj_effects.specs.Bodies.{part_of};
-ghost use Rattle.aj_deriv_rules.specs.Conclusions.{conclusions};
-ghost use Rattle.aj_deriv_rules.specs.Judges.{judge_assignment, judge_program, judge_rel, judge_table, judge_value, AreCanonical};
+ghost use Rattle.aj_deriv_rules.specs.declared.refusal.Refusal.{Refusal};
+ghost use Rattle.aj_deriv_rules.specs.Conclusions.{conclusions, tests_only};
+ghost use Rattle.aj_deriv_rules.specs.Judges.{judge_assignment, judge_program, judge_rel, judge_table, judge_value, own_near, AreCanonical};
+ghost use Rattle.aj_deriv_rules.specs.Works.{IsUnbounded};
+ghost use Rattle.aj_deriv_steps.specs.Nearness.{is_near as is_near_of, numbers_in, steps_near, AreAllNear, AreOwnNear};
 ghost use Rattle.aj_effects.specs.Rules.{rule_of, Value};
 
 use crate::branching::plain_step;
@@ -14,18 +18,31 @@ use crate::sequences::{expr_below, stmt_below};
 use crate::stuck::Stuck;
 use aj_book_grammar::Nodes;
 use aj_cond::Tree;
-use aj_deriv_rules::{Judge, Work, below, rule, tree_at};
+use aj_core::CoreExpr;
+use aj_deriv_rules::{
+    Judge, Refusal, Work, below, is_near, is_own_near, rule, tests_either, tree_at,
+};
 use aj_effects::BodyPart;
+use aj_paths::MethodId;
 use std::alloc::{AllocError as NoMemory, Global};
 use std::cell::Cell;
 
 /// How many pairs of subtrees the step of a node may visit where no tree is made for its value. What needs more is begun anew.
 const LITTLE: u32 = 1 << 8;
 
+/// What the steps of a method's derivation are judged by, and how much work may be made where they aren't near the method.
+#[derive(Clone, Copy)]
+pub struct Steps<'a> {
+    pub judge: &'a Judge<'a>,
+    pub method: MethodId,
+    pub left: &'a Cell<u32>,
+}
+
 /// The numbers of the conclusions of nodes.
 fn numbers<F: Nodes>(alloc: Global, nodes: F) -> Result<Vec<u32>, NoMemory>
     requires { F.AreKept nodes }
-    ensures { IfOk result (λ numbers. (V : ℕ → Value) → map V numbers.items ≡ conclusions V (F.nodes nodes)) }
+    ensures numbers { IfOk result (λ numbers. numbers.items ≡ numbers_in (F.nodes nodes)) }
+    ensures values { IfOk result (λ numbers. (V : ℕ → Value) → map V numbers.items ≡ conclusions V (F.nodes nodes)) }
 {
     let mut numbers = Vec::new(alloc);
     let mut rest = nodes;
@@ -36,8 +53,7 @@ fn numbers<F: Nodes>(alloc: Global, nodes: F) -> Result<Vec<u32>, NoMemory>
     Ok(numbers)
 }
 
-/// Whether a tree is at or above the value that a part's rule gives, which is made. Undecided where it isn't made: it would be too
-/// large a tree, or memory is refused, which pairs don't ask for.
+/// Whether a tree is at or above the value that a part's rule gives, which is made.
 fn is_step_by_value(
     alloc: Global,
     work: Work<'_>,
@@ -45,16 +61,15 @@ fn is_step_by_value(
     part: BodyPart<'_>,
     numbers: &[u32],
     d: &Tree,
-) -> Result<bool, Stuck>
+) -> Result<bool, Refusal>
     requires canonical { AreCanonical (judge_table judge.now) }
     requires known { IsCanonical (cond_of d.now) }
-    ensures { IfOk result (λ b. (b ≡ true) ↔ ((H : Held) →
+    ensures step { IfOk result (λ b. (b ≡ true) ↔ ((H : Held) →
         AtMost (rule_of (judge_program judge.now) (judge_rel judge.now) (judge_assignment judge.now) (part_of part.entry) (map (judge_value judge.now) numbers.now) H) (value_of (cond_of d.now) H))) }
+    ensures unbounded { IsUnbounded work.entry → IfErr result (λ e. e ≡ Refusal.NoMemory) }
 {
-    let Ok(value) = rule(alloc, work, judge, part, numbers) else {
-        return Err(Stuck::Undecided);
-    };
-    Ok(below(work, &value, d)?)
+    let value = rule(alloc, work, judge, part, numbers)?;
+    below(work, &value, d)
 }
 
 /// Whether a tree is at or above the value that a part's rule gives, with no tree for that value: within the work for pairs.
@@ -78,8 +93,31 @@ fn is_step_by_pairs(
     }
 }
 
+/// Whether a tree is at or above the value that a part's rule gives, with no tree for that value and little work; `None` where that
+/// doesn't tell it.
+fn is_step_by_little(
+    alloc: Global,
+    steps: &Steps<'_>,
+    part: BodyPart<'_>,
+    numbers: &[u32],
+    d: &Tree,
+) -> Option<bool>
+    requires canonical { AreCanonical (judge_table steps.now.judge.now) }
+    requires known { IsCanonical (cond_of d.now) }
+    ensures { IfSome result (λ b. (b ≡ true) ↔ ((H : Held) →
+        AtMost (rule_of (judge_program steps.now.judge.now) (judge_rel steps.now.judge.now) (judge_assignment steps.now.judge.now) (part_of part.entry) (map (judge_value steps.now.judge.now) numbers.now) H) (value_of (cond_of d.now) H))) }
+{
+    let left = Cell::new(LITTLE);
+    let work = Work::Bounded(steps.left);
+    let little = Work::Bounded(&left);
+    match is_step_by_pairs(alloc, work, little, steps.judge, part, numbers, d) {
+        Ok(is) => Some(is),
+        Err(_) => None,
+    }
+}
+
 /// Whether a tree is at or above the value that a part's rule gives, where that takes more than a little work: by the value, and by
-/// pairs where the value would be too large a tree.
+/// pairs where the value would be too large a tree, or memory is refused, which pairs don't ask for.
 fn is_step_by_work(
     alloc: Global,
     work: Work<'_>,
@@ -87,7 +125,7 @@ fn is_step_by_work(
     part: BodyPart<'_>,
     numbers: &[u32],
     d: &Tree,
-) -> Result<bool, Stuck>
+) -> Result<bool, Refusal>
     requires canonical { AreCanonical (judge_table judge.now) }
     requires known { IsCanonical (cond_of d.now) }
     ensures { IfOk result (λ b. (b ≡ true) ↔ ((H : Held) →
@@ -95,61 +133,99 @@ fn is_step_by_work(
 {
     match is_step_by_value(alloc, work, judge, part, numbers, d) {
         Ok(is) => Ok(is),
-        Err(Stuck::NoMemory) => Err(Stuck::NoMemory),
-        Err(Stuck::Undecided) => is_step_by_pairs(alloc, work, work, judge, part, numbers, d),
+        Err(Refusal::Work) => Err(Refusal::Work),
+        Err(Refusal::NoMemory) => Ok(is_step_by_pairs(alloc, work, work, judge, part, numbers, d)?),
     }
 }
 
-/// Whether a tree is at or above the value that a part's rule gives. Want of memory is also the answer where the work ends.
+/// Whether a part calls no method but one whose tree tests its relevant paths only.
+fn calls_near(judge: &Judge<'_>, part: BodyPart<'_>) -> bool
+    ensures { ((m : ℕ) → own_near judge.now m ≡ true) → result ≡ true }
+{
+    match part {
+        BodyPart::Expr(CoreExpr::Call(_, callee, _)) => is_own_near(judge, *callee),
+        _ => true,
+    }
+}
+
+/// Whether the trees with these numbers test only paths near the method.
+fn are_near(steps: &Steps<'_>, numbers: &[u32]) -> bool
+    ensures { result ≡ list_all (is_near_of (steps_near steps.now) (judge_table steps.now.judge.now)) numbers.now }
+{
+    numbers
+        .iter()
+        .all(|number| is_near(steps.judge, steps.method, *number))
+}
+
+/// Whether all trees that a step looks at test only paths near the method.
+fn is_step_near(steps: &Steps<'_>, part: BodyPart<'_>, numbers: &[u32], d: &Tree) -> bool
+    ensures { AreOwnNear steps.now.judge.now → tests_only (steps_near steps.now) (cond_of d.now) ≡ true →
+        list_all (is_near_of (steps_near steps.now) (judge_table steps.now.judge.now)) numbers.now ≡ true → result ≡ true }
+{
+    let rel = steps.judge.sets.rel(steps.method);
+    let loc = steps.judge.sets.loc(steps.method);
+    tests_either(rel, loc, d) && are_near(steps, numbers) && calls_near(steps.judge, part)
+}
+
+/// Whether a tree is at or above the value that a part's rule gives. The value of a near step is a small tree, which is made within
+/// no bound.
 fn is_above_rule(
     alloc: Global,
-    work: Work<'_>,
-    judge: &Judge<'_>,
+    steps: &Steps<'_>,
     part: BodyPart<'_>,
     numbers: &[u32],
     d: &Tree,
-) -> Result<bool, NoMemory>
-    requires canonical { AreCanonical (judge_table judge.now) }
+) -> Result<bool, Refusal>
+    requires canonical { AreCanonical (judge_table steps.now.judge.now) }
     requires known { IsCanonical (cond_of d.now) }
-    ensures { IfOk result (λ b. (b ≡ true) ↔ ((H : Held) →
-        AtMost (rule_of (judge_program judge.now) (judge_rel judge.now) (judge_assignment judge.now) (part_of part.entry) (map (judge_value judge.now) numbers.now) H) (value_of (cond_of d.now) H))) }
+    ensures step { IfOk result (λ b. (b ≡ true) ↔ ((H : Held) →
+        AtMost (rule_of (judge_program steps.now.judge.now) (judge_rel steps.now.judge.now) (judge_assignment steps.now.judge.now) (part_of part.entry) (map (judge_value steps.now.judge.now) numbers.now) H) (value_of (cond_of d.now) H))) }
+    ensures near { AreOwnNear steps.now.judge.now → tests_only (steps_near steps.now) (cond_of d.now) ≡ true →
+        list_all (is_near_of (steps_near steps.now) (judge_table steps.now.judge.now)) numbers.now ≡ true → IfErr result (λ e. e ≡ Refusal.NoMemory) }
 {
-    if is_step_at_end(alloc, judge, part, numbers, d) {
+    if is_step_at_end(alloc, steps.judge, part, numbers, d) {
         return Ok(true);
     }
-    let left = Cell::new(LITTLE);
-    let little = Work::little(&left);
-    match is_step_by_pairs(alloc, work, little, judge, part, numbers, d) {
-        Ok(is) => return Ok(is),
-        Err(Stuck::NoMemory) => return Err(NoMemory),
-        Err(Stuck::Undecided) => {}
+    if let Some(is) = is_step_by_little(alloc, steps, part, numbers, d) {
+        return Ok(is);
     }
-    match is_step_by_work(alloc, work, judge, part, numbers, d) {
-        Ok(is) => Ok(is),
-        Err(_) => Err(NoMemory),
+    if is_step_near(steps, part, numbers, d) {
+        return is_step_by_value(alloc, Work::Unbounded, steps.judge, part, numbers, d);
     }
+    is_step_by_work(
+        alloc,
+        Work::Bounded(steps.left),
+        steps.judge,
+        part,
+        numbers,
+        d,
+    )
 }
 
-/// Whether a node's conclusion is at or above its rule's value. Want of memory where its number has no tree, which no book has.
+/// Whether a node's conclusion is at or above its rule's value. Want of memory where its number has no tree, which no book has. A node
+/// meets no bound where its tree and those of its premises test only paths near the method, and the trees of all method lines only
+/// relevant ones.
 pub fn is_step<F: Nodes>(
     alloc: Global,
-    work: Work<'_>,
-    judge: &Judge<'_>,
+    steps: &Steps<'_>,
     part: BodyPart<'_>,
     number: u32,
     premises: F,
-) -> Result<bool, NoMemory>
+) -> Result<bool, Refusal>
     requires kept { F.AreKept premises }
-    requires canonical { AreCanonical (judge_table judge.now) }
-    ensures { IfOk result (λ b. (b ≡ true) ↔ ((H : Held) →
-        AtMost (rule_of (judge_program judge.now) (judge_rel judge.now) (judge_assignment judge.now) (part_of part.entry) (conclusions (judge_value judge.now) (F.nodes premises)) H) (judge_value judge.now number H))) }
+    requires canonical { AreCanonical (judge_table steps.now.judge.now) }
+    ensures step { IfOk result (λ b. (b ≡ true) ↔ ((H : Held) →
+        AtMost (rule_of (judge_program steps.now.judge.now) (judge_rel steps.now.judge.now) (judge_assignment steps.now.judge.now) (part_of part.entry) (conclusions (judge_value steps.now.judge.now) (F.nodes premises)) H) (judge_value steps.now.judge.now number H))) }
+    ensures near { AreOwnNear steps.now.judge.now → is_near_of (steps_near steps.now) (judge_table steps.now.judge.now) number ≡ true →
+        AreAllNear (steps_near steps.now) (judge_table steps.now.judge.now) (F.nodes premises) → IfErr result (λ e. e ≡ Refusal.NoMemory) }
 {
+    let judge = steps.judge;
     let Some(d) = tree_at(judge.table, number) else {
-        return Err(NoMemory);
+        return Err(Refusal::NoMemory);
     };
     if let Some(is) = plain_step(judge.program, judge.table, part, premises, d) {
         return Ok(is);
     }
     let numbers = numbers(alloc, premises)?;
-    is_above_rule(alloc, work, judge, part, numbers.as_slice(), d)
+    is_above_rule(alloc, steps, part, numbers.as_slice(), d)
 }

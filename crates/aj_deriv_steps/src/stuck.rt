@@ -1,9 +1,5 @@
 //! Why a way to judge a step comes to no answer.
-ghost use Rattle.std.specs.Prelude.{◌≡◌};
-ghost use Rattle.aj_deriv_steps.specs.declared.stuck.Stuck.TheVariants as stuck;
-
-use aj_deriv_rules::Work;
-use std::alloc::AllocError as NoMemory;
+use aj_deriv_rules::{Refusal, Work};
 
 /// Why a way to judge a step comes to no answer.
 #[derive(Clone, Copy, Debug)]
@@ -14,18 +10,26 @@ pub(crate) enum Stuck {
     NoMemory,
 }
 
-impl From<NoMemory> for Stuck {
-    ghost from_gives = { λ _ e. e ≡ stuck.NoMemory };
+impl From<Refusal> for Stuck {
+    fn from(refusal: Refusal) -> Stuck {
+        match refusal {
+            Refusal::NoMemory => Stuck::NoMemory,
+            Refusal::Work => Stuck::Undecided,
+        }
+    }
+}
 
-    fn from(_refused: NoMemory) -> Stuck {
-        Stuck::NoMemory
+/// What no way decides would take more work than it may.
+impl From<Stuck> for Refusal {
+    fn from(stuck: Stuck) -> Refusal {
+        match stuck {
+            Stuck::NoMemory => Refusal::NoMemory,
+            Stuck::Undecided => Refusal::Work,
+        }
     }
 }
 
 /// Takes the visit of one pair of subtrees from the work that is left.
 pub(crate) fn visit(work: Work<'_>) -> Result<(), Stuck> {
-    match work.take(1) {
-        Ok(()) => Ok(()),
-        Err(_) => Err(Stuck::Undecided),
-    }
+    Ok(work.take(1)?)
 }

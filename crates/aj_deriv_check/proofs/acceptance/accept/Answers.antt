@@ -11,17 +11,17 @@ invariant_of-result c = record {
   typed = c.requires.typed;
   relevant = c.requires.relevant;
   few = c.few.ensures;
-  accepted = book_accepts (program_of c.args.program) c.args.sets (book_of c.args.book.now) c.requires.relevant c.few.ensures c.in-Ok.ensures;
+  accepted = book_accepts (program_of c.args.program) c.args.sets (book_of c.args.book.now) c.requires.relevant c.few.ensures c.in-Ok.ensures.verdict;
 }
 
 pub returns-in-Ok-clause-admissible : goal.returns-in-Ok-clause-admissible
-returns-in-Ok-clause-admissible c = book_admissible (program_of c.args.program) (rel_of c.args.sets) (book_of c.args.book.now) c.in-Ok.ensures
+returns-in-Ok-clause-admissible c = book_admissible (program_of c.args.program) (rel_of c.args.sets) (book_of c.args.book.now) c.in-Ok.ensures.verdict
 
 pub returns-in-Ok-clause-only_wrong : goal.returns-in-Ok-clause-only_wrong
-returns-in-Ok-clause-only_wrong c = λ fault some bad. taken_no_wrong (program_of c.args.program) (rel_of c.args.sets) (book_of c.args.book.now) fault c.in-Ok.ensures some bad
+returns-in-Ok-clause-only_wrong c = λ fault some bad. taken_no_wrong (program_of c.args.program) (rel_of c.args.sets) (book_of c.args.book.now) fault c.in-Ok.ensures.verdict some bad
 
 pub returns-in-Err-clause-only_wrong : goal.returns-in-Err-clause-only_wrong
-returns-in-Err-clause-only_wrong c = λ fault some bad. refused_wrong (program_of c.args.program) (rel_of c.args.sets) (book_of c.args.book.now) c.in-Err.why fault c.in-Err.ensures some bad
+returns-in-Err-clause-only_wrong c = λ fault some bad. refused_wrong (program_of c.args.program) (rel_of c.args.sets) (book_of c.args.book.now) c.in-Err.why fault c.in-Err.ensures.verdict some bad
 
 pub returns-in-Err-clause-only_good : goal.returns-in-Err-clause-only_good
-returns-in-Err-clause-only_good c = λ good. refused_good (program_of c.args.program) (rel_of c.args.sets) (book_of c.args.book.now) c.in-Err.why c.in-Err.ensures good
+returns-in-Err-clause-only_good c = λ good. refused_good (program_of c.args.program) (rel_of c.args.sets) (book_of c.args.book.now) c.in-Err.why c.in-Err.ensures.verdict good

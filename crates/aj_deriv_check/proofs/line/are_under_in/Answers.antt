@@ -7,12 +7,12 @@ use Rattle.aj_deriv_check.proofs.line.are_under_in.Goals as goal
 
 pub loop-over-preserved : goal.loop-over-preserved
 loop-over-preserved c =
-    each_more (λ n. IsUnderIn c.args.rel.now c.args.required.now (judge_assignment c.args.judge.now n) (judge_value c.args.judge.now c.args.own)) c.args.overs.now c.loop-over.over-index c.over-item.result
-    c.loop-over-test.true c.over-item.is c.loop-over.invariant (c.in_ok-is_under_in.ensures.0 c.if-not-branch.false)
+    each_more (λ n. IsUnderIn c.args.rel.now c.args.required.now (judge_assignment c.args.steps.now.judge.now n) (judge_value c.args.steps.now.judge.now c.args.own)) c.args.overs.now c.loop-over.over-index c.over-item.result
+    c.loop-over-test.true c.over-item.is c.loop-over.invariant (c.in_ok-is_under_in.ensures.under.0 c.if-not-branch.false)
 
-pub returns : goal.returns
-returns c = (
-  (λ e. each_all (λ n. IsUnderIn c.args.rel.now c.args.required.now (judge_assignment c.args.judge.now n) (judge_value c.args.judge.now c.args.own)) c.args.overs.now c.loop-over.over-index
+pub returns-clause-under : goal.returns-clause-under
+returns-clause-under c = (
+  (λ e. each_all (λ n. IsUnderIn c.args.rel.now c.args.required.now (judge_assignment c.args.steps.now.judge.now n) (judge_value c.args.steps.now.judge.now c.args.own)) c.args.overs.now c.loop-over.over-index
       c.loop-over-test.false c.loop-over.invariant),
   (λ all. refl),
 )

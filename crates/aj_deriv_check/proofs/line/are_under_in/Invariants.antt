@@ -6,4 +6,4 @@ use Rattle.aj_deriv_check.proofs.line.are_under_in.Given as goal
 
 -- the trees of the methods before this one are
 abbrev pub invariant-loop-over : goal.invariant-loop-over
-invariant-loop-over l = (n : ℕ) → Contains (take l.over-index l.overs) n → IsUnderIn l.rel l.required (judge_assignment l.judge n) (judge_value l.judge l.own)
+invariant-loop-over l = (n : ℕ) → Contains (take l.over-index l.overs) n → IsUnderIn l.rel l.required (judge_assignment l.steps.judge.now n) (judge_value l.steps.judge.now l.own)

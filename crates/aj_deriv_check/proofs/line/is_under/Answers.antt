@@ -7,12 +7,12 @@ use Rattle.aj_deriv_rules.specs.Judges.{judge_value}
 use Rattle.aj_deriv_check.proofs.LineLemmas.{under_is, ok_iff}
 use Rattle.aj_deriv_check.proofs.line.is_under.Goals as goal
 
-pub returns : goal.returns
-returns c =
+pub returns-clause-under : goal.returns-clause-under
+returns-clause-under c =
     let body = value_of (cond_of c.tree_or-body.result.now) in
     let own = value_of (cond_of c.in_ok-own.own) in
     let wherever = value_of (cond_of c.in_ok-wherever.wherever) in
-    let V = judge_value c.args.judge.now in
+    let V = judge_value c.args.steps.now.judge.now in
     ok_iff c.below.result ((H : Held) → AtMost (body H) (wherever H)) (IsUnder c.args.required.now (V c.args.body) (V c.args.own))
     (under_is c.args.required.now body wherever own (V c.args.body) (V c.args.own) (λ H. c.tree_or-body.ensures.value H) (λ H. c.in_ok-wherever.ensures.value H) (λ H. c.in_ok-own.ensures.value H))
     c.below.ensures.below

@@ -4,8 +4,8 @@ use Rattle.aj_core.specs.Views.{method_of, program_of}
 use Rattle.aj_deriv_check.proofs.PassLemmas.{ShapesSoFar, shape_more, shape_wrong, shapes_done, shapes_more_lines, method_front, methods_end}
 use Rattle.aj_deriv_check.proofs.passes.shapes.Goals as goal
 
-pub returns-in-Err : goal.returns-in-Err
-returns-in-Err g c = λ rel table.
+pub returns-in-Err-clause-shaped : goal.returns-in-Err-clause-shaped
+returns-in-Err-clause-shaped g c = λ rel table.
     let P = program_of c.args.program.now in
     let inv = c.methods.invariant in
     let front = method_front P.methods c.methods.m c.methods.rest.now c.in-Some.others.now c.in-Some.method.now inv.methods c.in-Some.ensures.cases.0 in
@@ -28,15 +28,15 @@ methods-preserved g c =
           inv.so_far front.here c.in_ok-push.ensures.items c.in-Ok.ensures.step);
     }
 
-pub returns-in-None : goal.returns-in-None
-returns-in-None g c = λ rel table.
+pub returns-in-None-clause-shaped : goal.returns-in-None-clause-shaped
+returns-in-None-clause-shaped g c = λ rel table.
     let P = program_of c.args.program.now in
     let inv = c.methods.invariant in
     shapes_done P rel (record { table = table; lines = g.L.Lines.lines c.args.from }) c.methods.m c.methods.numbers.items (g.L.Lines.lines c.methods.ahead) c.in-None.ensures.none inv.so_far
     (methods_end P.methods c.methods.m c.methods.rest.now inv.methods c.in_default.ensures.cases inv.within)
 
-pub returns-in-Some-first_line : goal.returns-in-Some-first_line
-returns-in-Some-first_line g c = λ rel table.
+pub returns-in-Some-first_line-clause-shaped : goal.returns-in-Some-first_line-clause-shaped
+returns-in-Some-first_line-clause-shaped g c = λ rel table.
     let P = program_of c.args.program.now in
     let inv = c.methods.invariant in
     shapes_more_lines P rel (record { table = table; lines = g.L.Lines.lines c.args.from }) c.methods.m c.methods.numbers.items (g.L.Lines.lines c.methods.ahead) _ _ c.in-Some-first_line.ensures.some inv.so_far
