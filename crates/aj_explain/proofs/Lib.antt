@@ -8,3 +8,4 @@ pub mod Following
 pub mod Stepping
 pub mod WalkedStatements
 pub mod Reasons
+pub mod NoLocks

@@ -12,11 +12,11 @@ ghost use Rattle.aj_rules.specs.Near.{rel_of};
 ghost use Rattle.aj_explain.specs.Causes.{access_cause, call_cause, cause_of, first_lacking, slot_lack};
 ghost use Rattle.aj_explain.specs.Views.{part_of};
 
-use crate::explaining::required_paths;
 use crate::found::CorePart;
 use crate::names::{Alias, Lack, lack_of, name_at_call, passed_expr, second_name};
 use crate::walk::Walk;
 use aj_core::{CoreExpr, CoreProgram, CoreStmt, path_of};
+use aj_deriv_rules::required;
 use aj_held_lists::{has, held_under};
 use aj_paths::{FieldId, MethodId, Path};
 use aj_rules::{Guard, guard_at};
@@ -40,23 +40,29 @@ pub enum Cause {
     Other,
 }
 
-/// An access whose guard isn't held.
+/// An access: the receiver, the field, and whether its guard guards writes alone.
+#[derive(Clone, Copy)]
+struct Access<'e> {
+    receiver: &'e CoreExpr,
+    field: FieldId,
+    writes_only: bool,
+}
+
+/// An access whose guard, which is this path, isn't held.
 fn bare(
     program: &CoreProgram,
     aliases: &[Alias],
     held: &[Path],
-    receiver: &CoreExpr,
-    field: FieldId,
-    writes_only: bool,
+    access: Access<'_>,
     guard: Path,
 ) -> Cause
-    ensures { result ≡ Cause.Bare (path_of (program_of program.now) (expr_of receiver.now)) field writes_only guard (second_name aliases.now (has_path held.now) guard) }
+    ensures { result ≡ Cause.Bare (path_of (program_of program.now) (expr_of access.entry.receiver.now)) access.entry.field access.entry.writes_only guard (second_name aliases.now (has_path held.now) guard) }
 {
     let second = second_name(aliases, held, &guard);
     Cause::Bare(
-        path_of(program, receiver),
-        field,
-        writes_only,
+        path_of(program, access.receiver),
+        access.field,
+        access.writes_only,
         guard,
         second,
     )
@@ -74,8 +80,22 @@ fn access_cause(
         result ≡ access_cause P aliases.now (has_path held.now) e field (guard_of P field (path_of P e)) }
 {
     match guard_at(program, receiver, field) {
-        Guard::Named(guard) => bare(program, aliases, held, receiver, field, false, guard),
-        Guard::WriteNamed(guard) => bare(program, aliases, held, receiver, field, true, guard),
+        Guard::Named(guard) => {
+            let access = Access {
+                receiver,
+                field,
+                writes_only: false,
+            };
+            bare(program, aliases, held, access, guard)
+        }
+        Guard::WriteNamed(guard) => {
+            let access = Access {
+                receiver,
+                field,
+                writes_only: true,
+            };
+            bare(program, aliases, held, access, guard)
+        }
         Guard::Unnamed => Cause::Nameless(field, false, lack_of(program, receiver)),
         Guard::WriteUnnamed => Cause::Nameless(field, true, lack_of(program, receiver)),
         Guard::Final | Guard::Free => Cause::Other,
@@ -104,29 +124,35 @@ fn first_lacking<'r>(required: &'r [Path], known: &[Path]) -> Option<&'r Path>
     None
 }
 
+/// A call: the receiver, the method that is called, the arguments.
+#[derive(Clone, Copy)]
+struct Call<'e> {
+    receiver: &'e CoreExpr,
+    callee: MethodId,
+    args: &'e [CoreExpr],
+}
+
 /// What is wrong with a call that begins its callee without this path, or with all that are required.
 fn lacking(
     program: &CoreProgram,
     aliases: &[Alias],
     held: &[Path],
-    receiver: &CoreExpr,
-    callee: MethodId,
-    args: &[CoreExpr],
+    call: Call<'_>,
     path: Option<&Path>,
 ) -> Cause
-    ensures { result ≡ call_cause (program_of program.now) aliases.now (has_path held.now) (expr_of receiver.now) callee (exprs_from args.now) (option_copied path.entry) }
+    ensures { result ≡ call_cause (program_of program.now) aliases.now (has_path held.now) (expr_of call.entry.receiver.now) call.entry.callee (exprs_from call.entry.args.now) (option_copied path.entry) }
 {
     let Some(path) = path else {
-        return Cause::Refused(callee);
+        return Cause::Refused(call.callee);
     };
-    match name_at_call(program, receiver, args, path) {
+    match name_at_call(program, call.receiver, call.args, path) {
         Some(name) => {
             let second = second_name(aliases, held, &name);
-            Cause::Lacking(callee, path.copy(), name, second)
+            Cause::Lacking(call.callee, path.copy(), name, second)
         }
         None => {
-            let lack = slot_lack(program, receiver, args, path.root);
-            Cause::LackingName(callee, path.copy(), lack)
+            let lack = slot_lack(program, call.receiver, call.args, path.root);
+            Cause::LackingName(call.callee, path.copy(), lack)
         }
     }
 }
@@ -152,9 +178,14 @@ fn call_cause<A>(
         args,
         held,
     )?;
-    let required = required_paths(walk.program, callee);
-    let path = first_lacking(required, known.as_slice());
-    Ok(lacking(walk.program, aliases, held, receiver, callee, args, path))
+    let paths = required(walk.program, callee);
+    let path = first_lacking(paths, known.as_slice());
+    let call = Call {
+        receiver,
+        callee,
+        args,
+    };
+    Ok(lacking(walk.program, aliases, held, call, path))
 }
 
 /// What is wrong with an expression that is an error by itself where these paths are held.

@@ -2,22 +2,23 @@
 
 ghost use Rattle.std.specs.Prelude.{◌≡◌, ◌∷◌, ◌++◌, List, [], map, slice_get, drop, filter, not, option_map, IfOk, OnOk, MatchOption, IsSome, None, if◌then◌else◌};
 ghost use Rattle.aj_algebra.specs.HeldPaths.{has_path};
-ghost use Rattle.aj_core.specs.Views.{expr_of, method_of, program_of, stmt_of};
+ghost use Rattle.aj_core.specs.Views.{expr_of, method_of, program_of, stmt_of, stmts_from};
 ghost use Rattle.aj_deriv_rules.specs.Parts.{ExprP, StmtP};
-ghost use Rattle.aj_rules.specs.Effect.{effect, required_paths};
+ghost use Rattle.aj_rules.specs.Effect.{effect};
 ghost use Rattle.aj_rules.specs.Near.{rel_of};
 ghost use Rattle.aj_why.specs.Parts.{own_of};
 ghost use Rattle.aj_why.specs.Readings.{first_where, is_cmpd, is_error, own_at};
 ghost use Rattle.aj_why.specs.Steps.{stmt_steps};
 ghost use Rattle.aj_why.specs.Visits.{Visit, stmt_visits};
 ghost use Rattle.aj_explain.specs.Basics.{stmt_basics};
-ghost use Rattle.aj_explain.specs.Explaining.{body_why, calls, compound_or, compound_why, first_wrong, is_own, lock_of, method_lock, only_lock, over_of, steps_of, steps_why, why_of, with_first, wrong_of};
+ghost use Rattle.aj_explain.specs.Explaining.{body_why, calls, compound_or, compound_why, first_wrong, is_own, lock_of, method_lock, has_lock, have_locks, only_lock, over_of, steps_of, steps_why, why_of, with_first, wrong_of};
 ghost use Rattle.aj_explain.specs.Views.{errors_in, part_of, visit_of, visits_of, why_data};
 
 use crate::found::{CorePart, Found, Visited};
 use crate::walk::{Walk, walk_stmt};
 use aj_algebra::Basic;
-use aj_core::{CoreExpr, CoreMethod, CoreProgram, CoreStmt};
+use aj_core::{CoreExpr, CoreMethod, CoreStmt};
+use aj_deriv_rules::required;
 use aj_effect_at::{Assigned, call_effect};
 use aj_held_lists::{among, has_all, held_under};
 use aj_paths::{MethodId, Path};
@@ -38,16 +39,6 @@ pub enum Why<'p> {
     Overridden(MethodId, Basic),
     /// Nothing is found.
     Nothing,
-}
-
-/// The required paths of a method; none where it isn't there.
-pub(crate) fn required_paths(program: &CoreProgram, method: MethodId) -> &[Path]
-    ensures { result.now ≡ required_paths (slice_get (program_of program.now).methods method) }
-{
-    match program.methods().get(method.0 as usize) {
-        Some(method) => method.requires_.as_slice(),
-        None => &[],
-    }
 }
 
 /// Whether an error comes from the part itself, and not from a method that is called and is an error where it has what it requires.
@@ -83,7 +74,7 @@ fn is_own_expr<A: Assigned>(
                 args.as_slice(),
                 held,
             )?;
-            Ok(!has_all(known.as_slice(), required_paths(walk.program, *callee)))
+            Ok(!has_all(known.as_slice(), required(walk.program, *callee)))
         }
         _ => Ok(true),
     }
@@ -408,8 +399,42 @@ fn only_lock(steps: &[Visited<'_>]) -> Option<Path>
     }
 }
 
-/// That of a method at its required paths.
-fn method_lock<A: Assigned>(
+/// Whether a statement has a `synchronized` in it.
+#[cycle(locking)]
+fn has_lock(s: &CoreStmt) -> bool
+    ensures { result ≡ has_lock (stmt_of s.now) }
+{
+    match s {
+        CoreStmt::Sync(_, _) => true,
+        CoreStmt::Block(body) => have_locks(body.as_slice()),
+        CoreStmt::If(_, a, b) => has_lock(a) || has_lock(b),
+        CoreStmt::While(_, a) => has_lock(a),
+        CoreStmt::Empty
+        | CoreStmt::Local { .. }
+        | CoreStmt::SetVar(_, _)
+        | CoreStmt::SetField(_, _, _)
+        | CoreStmt::Do(_, _)
+        | CoreStmt::Return(_)
+        | CoreStmt::Print(_)
+        | CoreStmt::Start(_) => false,
+    }
+}
+
+/// Whether one of the statements of a block has.
+#[cycle(locking)]
+fn have_locks(body: &[CoreStmt]) -> bool
+    ensures { result ≡ have_locks (stmts_from body.now) }
+{
+    for s in body {
+        if has_lock(s) {
+            return true;
+        }
+    }
+    false
+}
+
+/// The lock of the only step of a method's body, which is walked through.
+fn walked_lock<A: Assigned>(
     walk: &Walk<'_, A>,
     method: &CoreMethod,
 ) -> Result<Option<Path>, NoMemory>
@@ -417,6 +442,19 @@ fn method_lock<A: Assigned>(
 {
     let (_, found) = walk_method(walk, method)?;
     Ok(only_lock(found.steps.as_slice()))
+}
+
+/// That of a method at its required paths; without a `synchronized` in the body there is none.
+fn method_lock<A: Assigned>(
+    walk: &Walk<'_, A>,
+    method: &CoreMethod,
+) -> Result<Option<Path>, NoMemory>
+    ensures { IfOk result (λ lock. lock ≡ method_lock (program_of walk.now.program.now) (rel_of walk.now.sets.now) (A.Assigned.assigned walk.now.assigned.now) (method_of method.now)) }
+{
+    if !has_lock(&method.body) {
+        return Ok(None);
+    }
+    walked_lock(walk, method)
 }
 
 /// For each method the lock of its only step, where it has one step at its required paths and that takes a lock.

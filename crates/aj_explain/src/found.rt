@@ -22,7 +22,16 @@ pub enum CorePart<'p> {
     Stmt(&'p CoreStmt),
 }
 
-/// A part that the walk came to: its number, the paths that are held there, and the number of the innermost loop that repeats it.
+/// A part that the walk comes to: its number, the paths that are held there, and the number of the innermost loop that repeats it.
+#[derive(Clone, Copy)]
+pub(crate) struct Reached<'p, 'h> {
+    pub(crate) node: usize,
+    pub(crate) part: CorePart<'p>,
+    pub(crate) held: &'h [Path],
+    pub(crate) looped: Option<usize>,
+}
+
+/// A part that the walk came to, with a copy of what is held there: its number, the paths that are held there, and the number of the innermost loop that repeats it.
 #[derive(Drop)]
 pub struct Visited<'p> {
     pub node: usize,
@@ -83,25 +92,20 @@ impl<'p> Found<'p> {
         &mut self,
         alloc: Global,
         own: Basic,
-        node: usize,
-        part: CorePart<'p>,
-        held: &[Path],
-        looped: Option<usize>,
+        reached: Reached<'p, '_>,
     ) -> Result<(), NoMemory>
         ensures basics { self.new.basics ≡ self.old.basics }
         ensures steps { OnOk result (visits_of self.new.steps.items ≡ visits_of self.old.steps.items
-            ++ (if below_of own basic.Mover then [] else visit node (part_of part.entry) (has_path held.now) looped)) }
+            ++ (if below_of own basic.Mover then [] else visit reached.entry.node (part_of reached.entry.part) (has_path reached.entry.held.now) reached.entry.looped)) }
         ensures errors { OnOk result (visits_of self.new.errors.items ≡ visits_of self.old.errors.items
-            ++ (if is_error own then visit node (part_of part.entry) (has_path held.now) looped else [])) }
+            ++ (if is_error own then visit reached.entry.node (part_of reached.entry.part) (has_path reached.entry.held.now) reached.entry.looped else [])) }
     {
         if own.below(Basic::Mover) {
             return Ok(());
         }
-        self.steps
-            .push(with_held(alloc, node, part, held, looped)?)?;
+        self.steps.push(with_held(alloc, reached)?)?;
         if own == Basic::Error {
-            self.errors
-                .push(with_held(alloc, node, part, held, looped)?)?;
+            self.errors.push(with_held(alloc, reached)?)?;
         }
         Ok(())
     }
@@ -140,20 +144,14 @@ impl<'p> Found<'p> {
     }
 }
 
-/// A part that the walk came to with these paths held.
-fn with_held<'p>(
-    alloc: Global,
-    node: usize,
-    part: CorePart<'p>,
-    held: &[Path],
-    looped: Option<usize>,
-) -> Result<Visited<'p>, NoMemory>
-    ensures { IfOk result (λ v. visits_of (v ∷ []) ≡ visit node (part_of part.entry) (has_path held.now) looped) }
+/// A part that the walk came to, with a copy of what is held there.
+fn with_held<'p>(alloc: Global, reached: Reached<'p, '_>) -> Result<Visited<'p>, NoMemory>
+    ensures { IfOk result (λ v. visits_of (v ∷ []) ≡ visit reached.entry.node (part_of reached.entry.part) (has_path reached.entry.held.now) reached.entry.looped) }
 {
     Ok(Visited {
-        node,
-        part,
-        held: copied(alloc, held)?,
-        looped,
+        node: reached.node,
+        part: reached.part,
+        held: copied(alloc, reached.held)?,
+        looped: reached.looped,
     })
 }

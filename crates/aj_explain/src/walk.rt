@@ -6,13 +6,12 @@ ghost use Rattle.aj_algebra.specs.declared.basic.Basic.TheVariants.{Mover};
 ghost use Rattle.aj_algebra.specs.Basics.{below_of};
 ghost use Rattle.aj_algebra.specs.HeldPaths.{has_path};
 ghost use Rattle.aj_core.specs.Views.{expr_of, exprs_from, program_of, stmt_of, stmts_from};
-ghost use Rattle.aj_deriv_rules.specs.Parts.{StmtP};
 ghost use Rattle.aj_rules.specs.Near.{rel_of};
 ghost use Rattle.aj_why.specs.Visits.{visit};
-ghost use Rattle.aj_explain.specs.Views.{visits_of};
+ghost use Rattle.aj_explain.specs.Views.{part_of, visits_of};
 ghost use Rattle.aj_explain.specs.Walked.{InsideExpr, InsideStmt, WalkedBlock, WalkedBranches, WalkedExpr, WalkedExprs, WalkedStmt, next};
 
-use crate::found::{CorePart, Found};
+use crate::found::{CorePart, Found, Reached};
 use aj_algebra::Basic;
 use aj_core::{CoreExpr, CoreProgram, CoreStmt};
 use aj_effect_at::{Assigned, access, call_effect, variable};
@@ -59,6 +58,12 @@ fn inside_expr<'p, A: Assigned>(
     requires { next found.old ≡ place + 1 }
     ensures { IfOk result (λ b. InsideExpr (program_of walk.now.program.now) (rel_of walk.now.sets.now) (A.Assigned.assigned walk.now.assigned.now) (expr_of e.now) place (has_path held.now) looped found.old b found.new) }
 {
+    let reached = Reached {
+        node: place,
+        part: CorePart::Expr(e),
+        held,
+        looped,
+    };
     match e {
         CoreExpr::Int(_) | CoreExpr::Truth(_) | CoreExpr::Null | CoreExpr::This => Ok(Basic::Const),
         CoreExpr::Var { is_final, .. } => Ok(variable(*is_final)),
@@ -81,7 +86,7 @@ fn inside_expr<'p, A: Assigned>(
         CoreExpr::Get(a, field) => {
             let receiver = walk_expr(walk, a, held, looped, found)?;
             let own = access(walk.program, a, *field, false, held);
-            found.note(walk.alloc, own, place, CorePart::Expr(e), held, looped)?;
+            found.note(walk.alloc, own, reached)?;
             Ok(receiver.seq(own))
         }
         CoreExpr::Call(a, callee, args) => {
@@ -97,7 +102,7 @@ fn inside_expr<'p, A: Assigned>(
                 args.as_slice(),
                 held,
             )?;
-            found.note(walk.alloc, own, place, CorePart::Expr(e), held, looped)?;
+            found.note(walk.alloc, own, reached)?;
             Ok(receiver.seq(passed.seq(own)))
         }
         CoreExpr::New(_, args) => {
@@ -154,6 +159,12 @@ fn inside_stmt<'p, A: Assigned>(
     requires { next found.old ≡ place + 1 }
     ensures { IfOk result (λ b. InsideStmt (program_of walk.now.program.now) (rel_of walk.now.sets.now) (A.Assigned.assigned walk.now.assigned.now) (stmt_of s.now) place (has_path held.now) looped found.old b found.new) }
 {
+    let reached = Reached {
+        node: place,
+        part: CorePart::Stmt(s),
+        held,
+        looped,
+    };
     match s {
         CoreStmt::Empty => Ok(Basic::Const),
         CoreStmt::Block(body) => walk_block(walk, body.as_slice(), held, looped, found),
@@ -165,7 +176,7 @@ fn inside_stmt<'p, A: Assigned>(
             let receiver = walk_expr(walk, a, held, looped, found)?;
             let value = walk_expr(walk, b, held, looped, found)?;
             let own = access(walk.program, a, *field, true, held);
-            found.note(walk.alloc, own, place, CorePart::Stmt(s), held, looped)?;
+            found.note(walk.alloc, own, reached)?;
             Ok(receiver.seq(value.seq(own)))
         }
         CoreStmt::Do(e, _) => walk_expr(walk, e, held, looped, found),
@@ -191,13 +202,12 @@ fn inside_stmt<'p, A: Assigned>(
             }
             let more = with_path(walk.alloc, path, held)?;
             let taken = walk_stmt(walk, a, more.as_slice(), looped, found)?;
-            note_lock(walk, taken, s, place, held, looped, found)?;
+            note_lock(walk, taken, reached, found)?;
             Ok(taken.lift())
         }
         CoreStmt::Print(e) | CoreStmt::Start(e) => {
             let value = walk_expr(walk, e, held, looped, found)?;
-            let part = CorePart::Stmt(s);
-            found.note(walk.alloc, Basic::Atomic, place, part, held, looped)?;
+            found.note(walk.alloc, Basic::Atomic, reached)?;
             Ok(value.seq(Basic::Atomic))
         }
     }
@@ -224,32 +234,22 @@ fn walk_branches<'p, A: Assigned>(
     Ok(first.join(second))
 }
 
-/// Notes a `synchronized` with this number that takes its lock: a step where its body, which is this with the lock held, can be moved.
+/// Notes a `synchronized` that takes its lock: a step where its body, which is this with the lock held, can be moved.
 fn note_lock<'p, A: Assigned>(
     walk: &Walk<'_, A>,
     taken: Basic,
-    s: &'p CoreStmt,
-    place: usize,
-    held: &[Path],
-    looped: Option<usize>,
+    reached: Reached<'p, '_>,
     found: &mut Found<'p>,
 ) -> Result<(), NoMemory>
     ensures basics { found.new.basics ≡ found.old.basics }
     ensures steps { OnOk result (visits_of found.new.steps.items ≡ visits_of found.old.steps.items
-        ++ (if below_of taken Mover then visit place (StmtP (stmt_of s.now)) (has_path held.now) looped else [])) }
+        ++ (if below_of taken Mover then visit reached.entry.node (part_of reached.entry.part) (has_path reached.entry.held.now) reached.entry.looped else [])) }
     ensures errors { OnOk result (visits_of found.new.errors.items ≡ visits_of found.old.errors.items) }
 {
     if !taken.below(Basic::Mover) {
         return Ok(());
     }
-    found.note(
-        walk.alloc,
-        Basic::Atomic,
-        place,
-        CorePart::Stmt(s),
-        held,
-        looped,
-    )
+    found.note(walk.alloc, Basic::Atomic, reached)
 }
 
 /// Walks through the statements of a block, each at the set that the ones before it leave.

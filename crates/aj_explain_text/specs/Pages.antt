@@ -23,6 +23,10 @@ place_front page at = page.file ++ codes ":" ++ place_text (line_of page.text at
 abbrev pub front : PageData → ℕ → List ℕ → List ℕ
 front page at kind = place_front page at ++ kind ++ codes ": "
 
+-- what notes at a node begin with
+abbrev pub note_front : PageData → ℕ → List ℕ
+note_front page node = front page (offset_of page node) (codes "note")
+
 -- `FILE:LINE:COLUMN: note: TEXT`
 abbrev pub note_line : PageData → ℕ → List ℕ → List ℕ
 note_line page at text = front page at (codes "note") ++ text ++ codes "\n"

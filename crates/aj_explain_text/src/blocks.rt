@@ -1,19 +1,19 @@
 //! The lines of one method.
 
-ghost use Rattle.std.specs.Prelude.{◌≡◌, ◌++◌, ℕ, List, slice_get, string_bytes, OnOk};
+ghost use Rattle.std.specs.Prelude.{◌≡◌, ◌++◌, ℕ, List, codes, slice_get, string_bytes, OnOk};
 ghost use Rattle.aj_core.specs.Views.{program_of};
 ghost use Rattle.aj_rules.specs.Near.{rel_of};
 ghost use Rattle.aj_explain.specs.Whys.{Looped, Compound, Two};
 ghost use Rattle.aj_explain.specs.Views.{explained_data, visit_of, why_data};
 ghost use Rattle.aj_explain_text.specs.CauseTexts.{cause_text};
 ghost use Rattle.aj_explain_text.specs.DeedTexts.{deed_text, help_text};
-ghost use Rattle.aj_explain_text.specs.Pages.{note_line, offset_of};
+ghost use Rattle.aj_explain_text.specs.Pages.{note_front, note_line, offset_of};
 ghost use Rattle.aj_explain_text.specs.Blocks.{IsBlock, IsErrorLine, IsWhyText, head_line, help_line, is_words, kind_word, name_offset, over_line, over_text, step_line, steps_lines};
 ghost use Rattle.aj_explain_text.specs.Views.{page_data};
 
 use crate::causes::write_cause;
 use crate::deeds::{write_deed, write_help};
-use crate::page::{Page, begin_line, begin_note, write_note};
+use crate::page::{Page, begin_line, begin_note, note_front, write_note};
 use aj_algebra::Basic;
 use aj_core::CoreProgram;
 use aj_effect_at::Assigned;
@@ -84,6 +84,14 @@ fn write_head(
     out.push_str("\n")
 }
 
+/// What a step is asked in: the walk, for each method the lock of its only step, and the final locals of the method that is told.
+#[derive(Drop)]
+struct Asked<'q, 'w, A> {
+    walk: &'q Walk<'w, A>,
+    locks: &'q [Option<Path>],
+    aliases: &'q [Alias],
+}
+
 /// Writes what a step does behind these words.
 fn write_deed_behind(
     out: &mut String,
@@ -97,123 +105,126 @@ fn write_deed_behind(
     write_deed(out, page, deed)
 }
 
-/// Writes the line of a step at this node, which does this, behind these words.
+/// Writes the line of a step that does this, behind what the line begins with and these words.
 fn write_deed_line(
     out: &mut String,
     page: &Page<'_, '_>,
-    node: usize,
+    front: &str,
     lead: &str,
     deed: &Deed,
 ) -> Result<(), NoMemory>
-    ensures { OnOk result (string_bytes out.new ≡ string_bytes out.old
-        ++ note_line (page_data page.now) (offset_of (page_data page.now) node) (lead.now ++ deed_text (page_data page.now) deed.now)) }
+    ensures { OnOk result (string_bytes out.new ≡ string_bytes out.old ++ (front.now ++ (lead.now ++ deed_text (page_data page.now) deed.now) ++ codes "\n")) }
 {
-    begin_note(out, page, node)?;
+    out.push_str(front)?;
     write_deed_behind(out, page, lead, deed)?;
     out.push_str("\n")
 }
 
-/// Writes the line of a step behind these words.
+/// Writes the line of a step behind what the notes at its node begin with and these words.
 fn write_step<A: Assigned>(
     out: &mut String,
     page: &Page<'_, '_>,
-    walk: &Walk<'_, A>,
-    locks: &[Option<Path>],
+    asked: &Asked<'_, '_, A>,
+    front: &str,
     lead: &str,
     step: &Visited<'_>,
 ) -> Result<(), NoMemory>
+    requires { front.now ≡ note_front (page_data page.now) step.now.node }
     ensures { OnOk result (string_bytes out.new ≡ string_bytes out.old
-        ++ step_line (program_of walk.now.program.now) (rel_of walk.now.sets.now) (A.Assigned.assigned walk.now.assigned.now) (page_data page.now) locks.now lead.now (visit_of step.now)) }
+        ++ step_line (program_of asked.now.walk.now.program.now) (rel_of asked.now.walk.now.sets.now) (A.Assigned.assigned asked.now.walk.now.assigned.now) (page_data page.now) asked.now.locks.now lead.now (visit_of step.now)) }
 {
     let here = step.held.as_slice();
-    let deed = deed_of(walk, locks, step.part, here)?;
-    write_deed_line(out, page, step.node, lead, &deed)
+    let deed = deed_of(asked.walk, asked.locks, step.part, here)?;
+    write_deed_line(out, page, front, lead, &deed)
 }
 
-/// Writes the line of what would help a step at this node.
+/// Writes the line of what would help a step, behind what the line begins with.
 fn write_help_line(
     out: &mut String,
     page: &Page<'_, '_>,
-    node: usize,
+    front: &str,
     help: &Help,
 ) -> Result<(), NoMemory>
-    ensures { OnOk result (string_bytes out.new ≡ string_bytes out.old
-        ++ note_line (page_data page.now) (offset_of (page_data page.now) node) (help_text (page_data page.now) help.now)) }
+    ensures { OnOk result (string_bytes out.new ≡ string_bytes out.old ++ (front.now ++ help_text (page_data page.now) help.now ++ codes "\n")) }
 {
-    begin_note(out, page, node)?;
+    out.push_str(front)?;
     write_help(out, page, help)?;
     out.push_str("\n")
 }
 
-/// Writes the line of what would help a step.
+/// Writes the line of what would help a step, behind what the notes at its node begin with.
 fn write_helping<A: Assigned>(
     out: &mut String,
     page: &Page<'_, '_>,
-    walk: &Walk<'_, A>,
-    aliases: &[Alias],
+    asked: &Asked<'_, '_, A>,
+    front: &str,
     step: &Visited<'_>,
 ) -> Result<(), NoMemory>
+    requires { front.now ≡ note_front (page_data page.now) step.now.node }
     ensures { OnOk result (string_bytes out.new ≡ string_bytes out.old
-        ++ help_line (program_of walk.now.program.now) (rel_of walk.now.sets.now) (A.Assigned.assigned walk.now.assigned.now) (page_data page.now) aliases.now (visit_of step.now)) }
+        ++ help_line (program_of asked.now.walk.now.program.now) (rel_of asked.now.walk.now.sets.now) (A.Assigned.assigned asked.now.walk.now.assigned.now) (page_data page.now) asked.now.aliases.now (visit_of step.now)) }
 {
     let here = step.held.as_slice();
-    let help = help_of(walk, aliases, step.part, here)?;
-    write_help_line(out, page, step.node, &help)
+    let help = help_of(asked.walk, asked.aliases, step.part, here)?;
+    write_help_line(out, page, front, &help)
 }
 
 /// Writes the lines of a step that the loop with this number repeats.
 fn write_looped<A: Assigned>(
     out: &mut String,
     page: &Page<'_, '_>,
-    walk: &Walk<'_, A>,
-    locks: &[Option<Path>],
-    aliases: &[Alias],
+    asked: &Asked<'_, '_, A>,
     step: &Visited<'_>,
     around: usize,
 ) -> Result<(), NoMemory>
     ensures { OnOk result (string_bytes out.new ≡ string_bytes out.old
-        ++ steps_lines (program_of walk.now.program.now) (rel_of walk.now.sets.now) (A.Assigned.assigned walk.now.assigned.now) (page_data page.now) locks.now aliases.now (Looped (visit_of step.now) around)) }
+        ++ steps_lines (program_of asked.now.walk.now.program.now) (rel_of asked.now.walk.now.sets.now) (A.Assigned.assigned asked.now.walk.now.assigned.now) (page_data page.now) asked.now.locks.now asked.now.aliases.now (Looped (visit_of step.now) around)) }
 {
-    write_step(out, page, walk, locks, "atomic step: ", step)?;
-    write_note(out, page, around, EACH_TIME)?;
-    write_helping(out, page, walk, aliases, step)
+    let at_step = note_front(asked.walk.alloc, page, step.node)?;
+    let at_loop = note_front(asked.walk.alloc, page, around)?;
+    let front = at_step.as_str();
+    write_step(out, page, asked, front, "atomic step: ", step)?;
+    write_note(out, at_loop.as_str(), EACH_TIME)?;
+    write_helping(out, page, asked, front, step)
 }
 
 /// Writes the lines of a step that is compound by itself.
 fn write_compound<A: Assigned>(
     out: &mut String,
     page: &Page<'_, '_>,
-    walk: &Walk<'_, A>,
-    locks: &[Option<Path>],
-    aliases: &[Alias],
+    asked: &Asked<'_, '_, A>,
     step: &Visited<'_>,
 ) -> Result<(), NoMemory>
     ensures { OnOk result (string_bytes out.new ≡ string_bytes out.old
-        ++ steps_lines (program_of walk.now.program.now) (rel_of walk.now.sets.now) (A.Assigned.assigned walk.now.assigned.now) (page_data page.now) locks.now aliases.now (Compound (visit_of step.now))) }
+        ++ steps_lines (program_of asked.now.walk.now.program.now) (rel_of asked.now.walk.now.sets.now) (A.Assigned.assigned asked.now.walk.now.assigned.now) (page_data page.now) asked.now.locks.now asked.now.aliases.now (Compound (visit_of step.now))) }
 {
-    write_step(out, page, walk, locks, "compound step: ", step)?;
-    write_note(out, page, step.node, INSIDE)?;
-    write_helping(out, page, walk, aliases, step)
+    let at_step = note_front(asked.walk.alloc, page, step.node)?;
+    let front = at_step.as_str();
+    write_step(out, page, asked, front, "compound step: ", step)?;
+    write_note(out, front, INSIDE)?;
+    write_helping(out, page, asked, front, step)
 }
 
 /// Writes the lines of two steps.
 fn write_two<A: Assigned>(
     out: &mut String,
     page: &Page<'_, '_>,
-    walk: &Walk<'_, A>,
-    locks: &[Option<Path>],
-    aliases: &[Alias],
+    asked: &Asked<'_, '_, A>,
     first: &Visited<'_>,
     second: &Visited<'_>,
 ) -> Result<(), NoMemory>
     ensures { OnOk result (string_bytes out.new ≡ string_bytes out.old
-        ++ steps_lines (program_of walk.now.program.now) (rel_of walk.now.sets.now) (A.Assigned.assigned walk.now.assigned.now) (page_data page.now) locks.now aliases.now (Two (visit_of first.now) (visit_of second.now))) }
+        ++ steps_lines (program_of asked.now.walk.now.program.now) (rel_of asked.now.walk.now.sets.now) (A.Assigned.assigned asked.now.walk.now.assigned.now) (page_data page.now) asked.now.locks.now asked.now.aliases.now (Two (visit_of first.now) (visit_of second.now))) }
 {
-    write_step(out, page, walk, locks, "atomic step: ", first)?;
-    write_step(out, page, walk, locks, "a second one: ", second)?;
-    write_note(out, page, second.node, BETWEEN)?;
-    write_helping(out, page, walk, aliases, first)?;
-    write_helping(out, page, walk, aliases, second)
+    let at_first = note_front(asked.walk.alloc, page, first.node)?;
+    let at_second = note_front(asked.walk.alloc, page, second.node)?;
+    let front = at_first.as_str();
+    let other = at_second.as_str();
+    write_step(out, page, asked, front, "atomic step: ", first)?;
+    write_step(out, page, asked, other, "a second one: ", second)?;
+    write_note(out, other, BETWEEN)?;
+    write_helping(out, page, asked, front, first)?;
+    write_helping(out, page, asked, other, second)
 }
 
 /// Writes that a method overrides another, and what it is.
@@ -283,20 +294,18 @@ fn write_wrong<A: Assigned>(
 fn write_why<A: Assigned>(
     out: &mut String,
     page: &Page<'_, '_>,
-    walk: &Walk<'_, A>,
-    locks: &[Option<Path>],
-    aliases: &[Alias],
+    asked: &Asked<'_, '_, A>,
     why: &Why<'_>,
 ) -> Result<(), NoMemory>
     ensures { OnOk result ((text : List ℕ) × (string_bytes out.new ≡ string_bytes out.old ++ text)
-        × IsWhyText (program_of walk.now.program.now) (rel_of walk.now.sets.now) (A.Assigned.assigned walk.now.assigned.now) (page_data page.now) locks.now aliases.now (why_data why.now) text) }
+        × IsWhyText (program_of asked.now.walk.now.program.now) (rel_of asked.now.walk.now.sets.now) (A.Assigned.assigned asked.now.walk.now.assigned.now) (page_data page.now) asked.now.locks.now asked.now.aliases.now (why_data why.now) text) }
 {
     match why {
-        Why::Wrong(error) => write_wrong(out, page, walk, aliases, error),
-        Why::Looped(step, around) => write_looped(out, page, walk, locks, aliases, step, *around),
-        Why::Compound(step) => write_compound(out, page, walk, locks, aliases, step),
-        Why::Two(first, second) => write_two(out, page, walk, locks, aliases, first, second),
-        Why::Overridden(over, own) => write_over(out, page, walk.program, *over, *own),
+        Why::Wrong(error) => write_wrong(out, page, asked.walk, asked.aliases, error),
+        Why::Looped(step, around) => write_looped(out, page, asked, step, *around),
+        Why::Compound(step) => write_compound(out, page, asked, step),
+        Why::Two(first, second) => write_two(out, page, asked, first, second),
+        Why::Overridden(over, own) => write_over(out, page, asked.walk.program, *over, *own),
         Why::Nothing => Ok(()),
     }
 }
@@ -314,5 +323,10 @@ pub fn write_block<A: Assigned>(
         × IsBlock (program_of walk.now.program.now) (rel_of walk.now.sets.now) (A.Assigned.assigned walk.now.assigned.now) (page_data page.now) locks.now aliases.now (explained_data x.now) text) }
 {
     write_head(out, page, walk.program, x)?;
-    write_why(out, page, walk, locks, aliases, &x.why)
+    let asked = Asked {
+        walk,
+        locks,
+        aliases,
+    };
+    write_why(out, page, &asked, &x.why)
 }

@@ -1,15 +1,15 @@
 //! What the lines of a method are written with, and how a line begins and ends.
 
-ghost use Rattle.std.specs.Prelude.{◌≡◌, ◌++◌, codes, string_bytes, OnOk};
+ghost use Rattle.std.specs.Prelude.{◌≡◌, ◌++◌, codes, string_bytes, IfOk, OnOk};
 ghost use Rattle.aj_lexer.specs.Places.{place_text};
-ghost use Rattle.aj_explain_text.specs.Pages.{front, note_line, offset_of, place_front};
+ghost use Rattle.aj_explain_text.specs.Pages.{front, note_front, offset_of, place_front};
 ghost use Rattle.aj_explain_text.specs.Views.{page_data};
 
 use aj_classes::ClassTable;
 use aj_lexer::Place;
 use aj_numbers::write_number;
 use aj_places::{LineIndex, SlotNames};
-use std::alloc::AllocError as NoMemory;
+use std::alloc::{AllocError as NoMemory, Global};
 
 /// The name of the file, where its lines are, the class table, and of the method that is told the names of its slots and the offsets of
 /// its nodes.
@@ -64,21 +64,32 @@ pub(crate) fn begin_line(
 
 /// Begins a note at a node.
 pub(crate) fn begin_note(out: &mut String, page: &Page<'_, '_>, node: usize) -> Result<(), NoMemory>
-    ensures { OnOk result (string_bytes out.new ≡ string_bytes out.old ++ front (page_data page.now) (offset_of (page_data page.now) node) (codes "note")) }
+    ensures { OnOk result (string_bytes out.new ≡ string_bytes out.old ++ note_front (page_data page.now) node) }
 {
     begin_line(out, page, offset_of(page, node), "note")
 }
 
-/// Writes a note of fixed words at a node.
-pub(crate) fn write_note(
-    out: &mut String,
+/// How many bytes are asked for to begin with, for what notes begin with.
+const FRONT_ROOM: usize = 64;
+
+/// What the notes at a node begin with.
+pub(crate) fn note_front(
+    alloc: Global,
     page: &Page<'_, '_>,
     node: usize,
-    text: &str,
-) -> Result<(), NoMemory>
-    ensures { OnOk result (string_bytes out.new ≡ string_bytes out.old ++ note_line (page_data page.now) (offset_of (page_data page.now) node) text.now) }
+) -> Result<String, NoMemory>
+    ensures { IfOk result (λ front. string_bytes front ≡ note_front (page_data page.now) node) }
 {
-    begin_note(out, page, node)?;
+    let mut front = String::with_capacity(alloc, FRONT_ROOM)?;
+    begin_note(&mut front, page, node)?;
+    Ok(front)
+}
+
+/// Writes a note of fixed words behind what it begins with.
+pub(crate) fn write_note(out: &mut String, front: &str, text: &str) -> Result<(), NoMemory>
+    ensures { OnOk result (string_bytes out.new ≡ string_bytes out.old ++ (front.now ++ text.now ++ codes "\n")) }
+{
+    out.push_str(front)?;
     out.push_str(text)?;
     out.push_str("\n")
 }

@@ -1,4 +1,4 @@
-use Rattle.std.proofs.Common.{◌++◌, string_bytes, ◌∙◌, ap}
+use Rattle.std.proofs.Common.{◌++◌, string_bytes, ◌∙◌, ap, codes}
 use Rattle.std.proofs.lemmas.Result.{on_ok_weaker}
 use Rattle.aj_explain_text.specs.DeedTexts.{deed_text}
 use Rattle.aj_explain_text.specs.Pages.{note_line, offset_of}
@@ -9,6 +9,9 @@ use Rattle.aj_explain_text.proofs.blocks.write_step.Goals as goal
 pub returns : goal.returns
 returns g c =
     let page = page_data c.args.page.now in
+    let old = string_bytes c.args.out.now in
+    let lead = c.args.lead.now in
     let deed = rw c.as_slice-here.ensures.value at c.in_ok-deed.ensures in
     on_ok_weaker c.write_deed_line.result
-    (λ is. is ∙ ap (λ d. string_bytes c.args.out.now ++ note_line page (offset_of page c.args.step.now.node) (c.args.lead.now ++ deed_text page d)) deed) c.write_deed_line.ensures
+    (λ is. is ∙ ap (λ f. old ++ (f ++ (lead ++ deed_text page c.in_ok-deed.deed) ++ codes "\n")) c.requires
+    ∙ ap (λ d. old ++ note_line page (offset_of page c.args.step.now.node) (lead ++ deed_text page d)) deed) c.write_deed_line.ensures
