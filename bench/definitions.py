@@ -483,7 +483,7 @@ def either(first, second):
 
 
 def bind(read, then):
-    """What is read, and then the next part: `◌>>=◌` of aj_book_grammar, which isn't read as a definition."""
+    """What is read, and then the next part: `◌>>=◌` of aj_books, which isn't read as a definition."""
     if read[0] == "Ok":
         return apply(then, read[1][1], read[1][2])
     if read[0] == "Err":

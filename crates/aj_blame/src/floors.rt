@@ -8,8 +8,7 @@ ghost use Rattle.aj_blame.specs.Lines.{LineData};
 ghost use Rattle.aj_blame.specs.Tables.{IsRaised, Says, consts, entry, raised};
 
 use aj_algebra::Basic;
-use aj_effect_at::Assigned;
-use aj_held_lists::has;
+use aj_effect_at::{Assigned, has};
 use aj_paths::{MethodId, Path};
 use aj_rules::RelevantSets;
 use std::alloc::{AllocError as NoMemory, Global};

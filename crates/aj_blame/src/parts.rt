@@ -4,7 +4,7 @@ ghost use Rattle.std.specs.List.{list_all};
 ghost use Rattle.aj_algebra.specs.HeldPaths.{has_path};
 ghost use Rattle.aj_blame.specs.Passes.{parts_of, with_and_without};
 
-use aj_held_lists::{copied, has_all, with_path};
+use aj_effect_at::{copied, has_all, with_path};
 use aj_paths::Path;
 use std::alloc::{AllocError as NoMemory, Global};
 use std::marker::Model;

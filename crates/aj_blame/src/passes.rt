@@ -16,7 +16,7 @@ use crate::line::Blame;
 use crate::said::Said;
 use crate::waiting::ask_noting;
 use crate::waits::Waits;
-use aj_callers::{Row, callers_of};
+use aj_callers::{Callers, callers_of};
 use aj_core::CoreProgram;
 use aj_paths::MethodId;
 use aj_rules::{RelevantSets, overriders};
@@ -47,7 +47,7 @@ impl From<AllocError> for BlameEnd {
 fn pass(
     alloc: Global,
     judged: &Judged<'_>,
-    callers: &[Row],
+    callers: &[Callers],
     said: &mut Said<'_>,
     waits: &mut Waits,
 ) -> Result<bool, NoMemory>
@@ -83,7 +83,7 @@ fn pass(
 fn passes(
     alloc: Global,
     judged: &Judged<'_>,
-    callers: &[Row],
+    callers: &[Callers],
     said: &mut Said<'_>,
     waits: &mut Waits,
 ) -> Result<bool, NoMemory>

@@ -13,7 +13,7 @@ use crate::ask::ask_method;
 use crate::judged::Judged;
 use crate::said::Said;
 use crate::waits::Waits;
-use aj_callers::Row;
+use aj_callers::Callers;
 use aj_core::CoreMethod;
 use aj_paths::MethodId;
 use std::alloc::{AllocError as NoMemory, Global};
@@ -29,7 +29,7 @@ fn wake(waits: &mut Waits, methods: &[usize])
 }
 
 /// The callers of the method at a place; none where there is no such row.
-fn callers_at(rows: &[Row], place: usize) -> &[usize]
+fn callers_at(rows: &[Callers], place: usize) -> &[usize]
     ensures { result.now ≡ row_at rows.now place }
 {
     match rows.get(place) {
@@ -43,7 +43,7 @@ fn callers_at(rows: &[Row], place: usize) -> &[usize]
 pub(crate) fn ask_noting(
     alloc: Global,
     judged: &Judged<'_>,
-    callers: &[Row],
+    callers: &[Callers],
     said: &mut Said<'_>,
     waits: &mut Waits,
     id: MethodId,

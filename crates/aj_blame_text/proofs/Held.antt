@@ -8,18 +8,18 @@ use Rattle.aj_lemmas.proofs.Options.{choice_same}
 use Rattle.aj_paths.specs.Paths.{PathData, path_order}
 use Rattle.aj_paths.proofs.PathOrder.{less_chain}
 use Rattle.aj_cond.specs.Texts.{dotted, path_text}
-use Rattle.aj_book_grammar.specs.declared.stop.Kind.{Kind}
-use Rattle.aj_book_grammar.specs.declared.stop.Kind.TheVariants.{Form}
-use Rattle.aj_book_grammar.specs.Books.{IsPath, is_less, comes_after}
-use Rattle.aj_book_grammar.specs.Combine.{Res, ◌>>=◌, unread, begins, expect}
-use Rattle.aj_book_grammar.specs.Reading.{number_at, path_at}
-use Rattle.aj_book_grammar.specs.Views.{after_those}
-use Rattle.aj_book_grammar.proofs.BookLaws.{sound_ok}
-use Rattle.aj_book_grammar.proofs.Complete.{stops, complete_number, complete_fields}
-use Rattle.aj_book_grammar.proofs.Several.{next_same}
-use Rattle.aj_book_grammar.proofs.Sound.{SoundAt, Bytes, sound_seq, sound_done, sound_if, sound_weaker, sound_expect}
-use Rattle.aj_book_grammar.proofs.SoundTrees.{ReadsPath, sound_path}
-use Rattle.aj_book_grammar.proofs.TableLaws.{moved, less_is}
+use Rattle.aj_books.specs.declared.stop.Kind.{Kind}
+use Rattle.aj_books.specs.declared.stop.Kind.TheVariants.{Form}
+use Rattle.aj_books.specs.Books.{IsPath, is_less, comes_after}
+use Rattle.aj_books.specs.Combine.{Res, ◌>>=◌, unread, begins, expect}
+use Rattle.aj_books.specs.Reading.{number_at, path_at}
+use Rattle.aj_books.specs.Views.{after_those}
+use Rattle.aj_books.proofs.BookLaws.{sound_ok}
+use Rattle.aj_books.proofs.Complete.{stops, complete_number, complete_fields}
+use Rattle.aj_books.proofs.Several.{next_same}
+use Rattle.aj_books.proofs.Sound.{SoundAt, Bytes, sound_seq, sound_done, sound_if, sound_weaker, sound_expect}
+use Rattle.aj_books.proofs.SoundTrees.{ReadsPath, sound_path}
+use Rattle.aj_books.proofs.TableLaws.{moved, less_is}
 use Rattle.aj_blame_text.specs.Reading.{later_path, held_item, held_most, held_at}
 use Rattle.aj_blame_text.specs.Texts.{held_text}
 

@@ -1,16 +1,16 @@
 -- Whole texts: each has one list of lines, or one first fault.
 use Rattle.std.proofs.Common.{◌≡◌, ℕ, ◌-◌, ◌<◌, ◌^◌, List, [], ◌∷◌, ◌++◌, length, codes, decimal, Some, None, Ok, Err, refl, sym, ◌∙◌, ap, subst, arith, append_assoc, append-nil}
 use Rattle.std.specs.List.{AllByRecursion}
-use Rattle.aj_book_grammar.specs.declared.stop.Kind.{Kind}
-use Rattle.aj_book_grammar.specs.Texts.{newline}
-use Rattle.aj_book_grammar.specs.Combine.{Res, ◌>>=◌, unread, expect, exactly}
-use Rattle.aj_book_grammar.specs.Reading.{number_at, nothing}
-use Rattle.aj_book_grammar.proofs.BookLaws.{sound_ok, ok_value}
-use Rattle.aj_book_grammar.proofs.Complete.{complete_number}
-use Rattle.aj_book_grammar.proofs.PassLemmas.{pass_seq, pass_same}
-use Rattle.aj_book_grammar.proofs.Several.{unseen_fault}
-use Rattle.aj_book_grammar.proofs.Sound.{SoundAt, Bytes, IsNumber, RowOf, sound_seq, sound_weaker, sound_expect, sound_number, sound_exactly}
-use Rattle.aj_book_grammar.proofs.CursorLaws.{nothing_left}
+use Rattle.aj_books.specs.declared.stop.Kind.{Kind}
+use Rattle.aj_books.specs.Texts.{newline}
+use Rattle.aj_books.specs.Combine.{Res, ◌>>=◌, unread, expect, exactly}
+use Rattle.aj_books.specs.Reading.{number_at, nothing}
+use Rattle.aj_books.proofs.BookLaws.{sound_ok, ok_value}
+use Rattle.aj_books.proofs.Complete.{complete_number}
+use Rattle.aj_books.proofs.PassLemmas.{pass_seq, pass_same}
+use Rattle.aj_books.proofs.Several.{unseen_fault}
+use Rattle.aj_books.proofs.Sound.{SoundAt, Bytes, IsNumber, RowOf, sound_seq, sound_weaker, sound_expect, sound_number, sound_exactly}
+use Rattle.aj_books.proofs.CursorLaws.{nothing_left}
 use Rattle.aj_blame.specs.Lines.{LineData, AreAscending}
 use Rattle.aj_blame_text.specs.Reading.{line_at, count_at, end_at, blame_at, stop_of, first_fault}
 use Rattle.aj_blame_text.specs.Passing.{pass_lines, pass_blame}

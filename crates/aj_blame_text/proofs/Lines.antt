@@ -2,15 +2,15 @@
 use Rattle.std.proofs.Common.{◌≡◌, ℕ, zero, suc, ◌-◌, ◌<◌, ◌^◌, List, [], ◌∷◌, ◌++◌, length, codes, decimal, None, Ok, Err, refl, sym, ◌∙◌, ap, arith, append_assoc, append-nil}
 use Rattle.std.specs.List.{AllByRecursion}
 use Rattle.aj_algebra.specs.Basics.{name_of}
-use Rattle.aj_book_grammar.specs.Texts.{newline}
-use Rattle.aj_book_grammar.specs.Combine.{Res, ◌>>=◌, unread, expect, exactly}
-use Rattle.aj_book_grammar.specs.Reading.{number_at, leaf_at}
-use Rattle.aj_book_grammar.specs.Views.{after_those}
-use Rattle.aj_book_grammar.proofs.Complete.{complete_number, complete_leaf}
-use Rattle.aj_book_grammar.proofs.PassLemmas.{pass_seq, pass_same}
-use Rattle.aj_book_grammar.proofs.Sound.{SoundAt, Bytes, Spells, IsNumber, Row, row_end, row_more, sound_seq, sound_expect, sound_number}
-use Rattle.aj_book_grammar.proofs.SoundTrees.{sound_leaf}
-use Rattle.aj_book_grammar.proofs.TableLaws.{moved}
+use Rattle.aj_books.specs.Texts.{newline}
+use Rattle.aj_books.specs.Combine.{Res, ◌>>=◌, unread, expect, exactly}
+use Rattle.aj_books.specs.Reading.{number_at, leaf_at}
+use Rattle.aj_books.specs.Views.{after_those}
+use Rattle.aj_books.proofs.Complete.{complete_number, complete_leaf}
+use Rattle.aj_books.proofs.PassLemmas.{pass_seq, pass_same}
+use Rattle.aj_books.proofs.Sound.{SoundAt, Bytes, Spells, IsNumber, Row, row_end, row_more, sound_seq, sound_expect, sound_number}
+use Rattle.aj_books.proofs.SoundTrees.{sound_leaf}
+use Rattle.aj_books.proofs.TableLaws.{moved}
 use Rattle.aj_blame.specs.Lines.{LineData}
 use Rattle.aj_blame_text.specs.Reading.{held_at, line_at}
 use Rattle.aj_blame_text.specs.Passing.{pass_line, pass_lines}

@@ -1,8 +1,8 @@
 -- Passing over a text, as the reader does that takes no memory: where a part ends, or its first fault.
 use Rattle.std.specs.Prelude.{ℕ, zero, suc, ◌^◌, List, [], ◌∷◌, codes, None, Ok}
-use Rattle.aj_book_grammar.specs.Combine.{Res, ◌>>=◌, expect, unread}
-use Rattle.aj_book_grammar.specs.Reading.{number_at, leaf_at}
-use Rattle.aj_book_grammar.specs.Texts.{newline}
+use Rattle.aj_books.specs.Combine.{Res, ◌>>=◌, expect, unread}
+use Rattle.aj_books.specs.Reading.{number_at, leaf_at}
+use Rattle.aj_books.specs.Texts.{newline}
 use Rattle.aj_blame_text.specs.Reading.{held_at, count_at, end_at}
 
 -- passes over a line: a method's number, a basic and the held paths, and the end of the line

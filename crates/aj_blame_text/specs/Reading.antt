@@ -2,11 +2,11 @@
 -- there, or that ends too early, stops at that byte; a number out of range and a path that doesn't ascend stop at their first bytes.
 use Rattle.std.specs.Prelude.{ℕ, zero, suc, ◌-◌, ◌^◌, List, [], ◌∷◌, ◌++◌, length, codes, Option, Some, None, Ok, Err, if◌then◌else◌}
 use Rattle.aj_paths.specs.Paths.{PathData}
-use Rattle.aj_book_grammar.specs.declared.stop.Kind.TheVariants.{Form}
-use Rattle.aj_book_grammar.specs.Books.{comes_after}
-use Rattle.aj_book_grammar.specs.Combine.{Res, ◌>>=◌, begins, expect, exactly}
-use Rattle.aj_book_grammar.specs.Reading.{number_at, path_at, leaf_at, nothing}
-use Rattle.aj_book_grammar.specs.Texts.{newline}
+use Rattle.aj_books.specs.declared.stop.Kind.TheVariants.{Form}
+use Rattle.aj_books.specs.Books.{comes_after}
+use Rattle.aj_books.specs.Combine.{Res, ◌>>=◌, begins, expect, exactly}
+use Rattle.aj_books.specs.Reading.{number_at, path_at, leaf_at, nothing}
+use Rattle.aj_books.specs.Texts.{newline}
 use Rattle.aj_blame.specs.Lines.{LineData}
 
 -- a path that comes after the one before it, if there is one

@@ -5,8 +5,8 @@ use Rattle.std.specs.List.Sorted.{IsStrictlySortedBy}
 use Rattle.aj_paths.specs.Paths.{PathData, path_order}
 use Rattle.aj_algebra.specs.Basics.{name_of}
 use Rattle.aj_cond.specs.Texts.{path_text}
-use Rattle.aj_book_grammar.specs.Books.{IsPath}
-use Rattle.aj_book_grammar.specs.Texts.{newline}
+use Rattle.aj_books.specs.Books.{IsPath}
+use Rattle.aj_books.specs.Texts.{newline}
 use Rattle.aj_blame.specs.Lines.{LineData}
 
 -- held paths, each after a blank

@@ -1,11 +1,11 @@
 //! Parts at the front of a text that take no memory.
 ghost use Rattle.std.specs.Prelude.{◌≡◌};
 ghost use Rattle.std.specs.Option.{option_copied};
-ghost use Rattle.aj_book_grammar.specs.Books.{comes_after as comes_later};
-ghost use Rattle.aj_book_grammar.specs.Faults.{Gives};
+ghost use Rattle.aj_books.specs.Books.{comes_after as comes_later};
+ghost use Rattle.aj_books.specs.Faults.{Gives};
 ghost use Rattle.aj_blame_text.specs.Reading.{count_at, end_at, held_item, later_path};
 
-use aj_book_grammar::{Kind, NUMBERS_END, Stop, end, expect, expect_byte, number, path};
+use aj_books::{Kind, NUMBERS_END, Stop, end, expect, expect_byte, number, path};
 use aj_paths::{Path, order};
 use std::cmp::Ordering;
 

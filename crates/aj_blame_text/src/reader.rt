@@ -1,6 +1,6 @@
 //! Certificates read from their texts.
 ghost use Rattle.std.specs.Prelude.{◌≡◌, ◌≤◌, ℕ, List, length, Ok, Some, None, IfOk, IsErrOf, MatchResult};
-ghost use Rattle.aj_book_grammar.specs.Combine.{exactly};
+ghost use Rattle.aj_books.specs.Combine.{exactly};
 ghost use Rattle.aj_blame.specs.Lines.{LineData};
 ghost use Rattle.aj_blame_text.specs.Reading.{first_fault, held_at, line_at};
 ghost use Rattle.aj_blame_text.specs.Texts.{IsTextOf};
@@ -9,7 +9,7 @@ ghost use Rattle.aj_blame_text.specs.declared.reader.BlameFault.TheVariants as f
 use crate::front::{count, item, last};
 use crate::skip;
 use aj_blame::{Blame, Line, ShortPath};
-use aj_book_grammar::{NUMBERS_END, Unbuilt, begins, expect_byte, leaf, number};
+use aj_books::{NUMBERS_END, Unbuilt, begins, expect_byte, leaf, number};
 use aj_paths::{MethodId, Path};
 use std::alloc::Global;
 

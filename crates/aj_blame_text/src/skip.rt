@@ -1,12 +1,12 @@
 //! Passing over a text with no memory, up to its first fault.
 ghost use Rattle.std.specs.Prelude.{◌≡◌, None};
-ghost use Rattle.aj_book_grammar.specs.Combine.{unread};
-ghost use Rattle.aj_book_grammar.specs.Faults.{Gives};
+ghost use Rattle.aj_books.specs.Combine.{unread};
+ghost use Rattle.aj_books.specs.Faults.{Gives};
 ghost use Rattle.aj_blame_text.specs.Passing.{pass_blame, pass_line, pass_lines};
 ghost use Rattle.aj_blame_text.specs.Reading.{held_at};
 
 use crate::front::{count, item, last};
-use aj_book_grammar::{NUMBERS_END, Stop, begins, expect_byte, leaf, number};
+use aj_books::{NUMBERS_END, Stop, begins, expect_byte, leaf, number};
 use aj_paths::Path;
 
 /// Passes over held paths.

@@ -1,7 +1,7 @@
 //! Certificates as texts.
 ghost use Rattle.std.specs.Prelude.{◌≡◌, ◌<◌, ◌^◌, ◌++◌, true, codes, decimal, length, nat_lt, IfOk, OnOk, string_bytes};
 ghost use Rattle.std.specs.List.{AllByRecursion, list_all};
-ghost use Rattle.aj_book_grammar.specs.Books.{IsPath};
+ghost use Rattle.aj_books.specs.Books.{IsPath};
 ghost use Rattle.aj_cond.specs.Texts.{dotted, path_text};
 ghost use Rattle.aj_blame.specs.Lines.{AreAscending};
 ghost use Rattle.aj_blame_text.specs.Texts.{IsLine, IsTextOf, held_text, line_text, lines_text};

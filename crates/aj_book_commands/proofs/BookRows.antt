@@ -10,15 +10,15 @@ use Rattle.aj_core.specs.Core.{Program, Method}
 use Rattle.aj_core.specs.Typed.{IsTyped}
 use Rattle.aj_core.specs.declared.program.CoreProgram.{CoreProgram}
 use Rattle.aj_core.specs.Views.{program_of}
-use Rattle.aj_book_grammar.specs.Books.{Book}
-use Rattle.aj_book_grammar.specs.Texts.{IsTextOf}
-use Rattle.aj_book_grammar.specs.declared.stop.BookFault.TheVariants as faults
-use Rattle.aj_deriv_check.specs.Checks.{IsJudged}
-use Rattle.aj_deriv_rules.specs.Conclusions.{tree_value}
-use Rattle.aj_deriv_check.specs.Good.{IsGoodBook}
-use Rattle.aj_deriv_check.specs.declared.wrong.TextWrong.{TextWrong}
-use Rattle.aj_deriv_check.specs.declared.wrong.TextWrong.TheVariants as text
-use Rattle.aj_deriv_check.specs.declared.wrong.Wrong.TheVariants as wrong
+use Rattle.aj_books.specs.Books.{Book}
+use Rattle.aj_books.specs.Texts.{IsTextOf}
+use Rattle.aj_books.specs.declared.stop.BookFault.TheVariants as faults
+use Rattle.aj_book_check.specs.Checks.{IsJudged}
+use Rattle.aj_book_rules.specs.Conclusions.{tree_value}
+use Rattle.aj_book_check.specs.Good.{IsGoodBook}
+use Rattle.aj_book_check.specs.declared.wrong.TextWrong.{TextWrong}
+use Rattle.aj_book_check.specs.declared.wrong.TextWrong.TheVariants as text
+use Rattle.aj_book_check.specs.declared.wrong.Wrong.TheVariants as wrong
 use Rattle.aj_derive.specs.Derived.{IsDerived, KeepsRules}
 use Rattle.aj_derive.specs.Bases.{trees_assign}
 use Rattle.aj_infer.proofs.LeastLemmas.{least_accepts}

@@ -1,7 +1,7 @@
 -- The lines for books that are refused: for a text that is none, and for a book that is wrong for a program.
 use Rattle.std.specs.Prelude.{ℕ, Bool, true, false, List, ◌++◌, Option, Some, None, codes, decimal}
-use Rattle.aj_book_grammar.specs.declared.stop.BookFault.{BookFault}
-use Rattle.aj_book_grammar.specs.declared.stop.BookFault.TheVariants as faults
+use Rattle.aj_books.specs.declared.stop.BookFault.{BookFault}
+use Rattle.aj_books.specs.declared.stop.BookFault.TheVariants as faults
 use Rattle.aj_book_commands.specs.declared.books.WrongKind.{WrongKind}
 use Rattle.aj_book_commands.specs.declared.books.WrongKind.TheVariants as kinds
 

@@ -2,9 +2,9 @@
 use Rattle.std.specs.Prelude.{ℕ, List}
 use Rattle.aj_cond.specs.Conditions.{Cond}
 use Rattle.aj_core.specs.Core.{Program}
-use Rattle.aj_book_grammar.specs.Books.{Book}
-use Rattle.aj_book_grammar.specs.Texts.{IsTextOf}
-use Rattle.aj_deriv_check.specs.Good.{IsGoodBook}
+use Rattle.aj_books.specs.Books.{Book}
+use Rattle.aj_books.specs.Texts.{IsTextOf}
+use Rattle.aj_book_check.specs.Good.{IsGoodBook}
 use Rattle.aj_derive.specs.Derived.{IsDerived}
 use Rattle.aj_rules.specs.Near.{rel_of}
 use Rattle.aj_syntax.specs.Trees.{ProgramTree}

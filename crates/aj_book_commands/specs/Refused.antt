@@ -1,10 +1,10 @@
 -- The line for what is wrong with the text of a book.
 use Rattle.std.specs.Prelude.{◌≡◌, ◌≢◌, ℕ, List}
 use Rattle.aj_book_commands.specs.Books.{book_fault_line}
-use Rattle.aj_book_grammar.specs.declared.stop.BookFault.TheVariants as faults
-use Rattle.aj_deriv_check.specs.declared.wrong.TextWrong.{TextWrong}
-use Rattle.aj_deriv_check.specs.declared.wrong.TextWrong.TheVariants as text
-use Rattle.aj_deriv_check.specs.declared.wrong.Wrong.TheVariants as wrong
+use Rattle.aj_books.specs.declared.stop.BookFault.TheVariants as faults
+use Rattle.aj_book_check.specs.declared.wrong.TextWrong.{TextWrong}
+use Rattle.aj_book_check.specs.declared.wrong.TextWrong.TheVariants as text
+use Rattle.aj_book_check.specs.declared.wrong.Wrong.TheVariants as wrong
 use Rattle.aj_sources.specs.declared.refusal.Ending.{Ending}
 use Rattle.aj_sources.specs.declared.refusal.Ending.TheVariants.{BookRefused}
 use Rattle.aj_book_commands.specs.Verify.{told_line}

@@ -3,14 +3,14 @@ use Rattle.std.specs.Prelude.{◌≡◌, ◌≢◌, ℕ, List, [], ◌∷◌, �
 use Rattle.aj_book_commands.specs.Books.{form_line, too_deep_line, wrong_line}
 use Rattle.aj_book_commands.specs.declared.books.WrongKind.TheVariants as kinds
 use Rattle.aj_core.specs.Core.{Program}
-use Rattle.aj_book_grammar.specs.Books.{Book}
-use Rattle.aj_book_grammar.specs.Faults.{first_fault}
-use Rattle.aj_book_grammar.specs.Texts.{IsTextOf}
-use Rattle.aj_book_grammar.specs.declared.stop.BookFault.TheVariants as faults
-use Rattle.aj_deriv_check.specs.Faults.{IsWrong}
-use Rattle.aj_deriv_check.specs.Good.{IsGoodBook}
-use Rattle.aj_deriv_check.specs.declared.wrong.Wrong.{Wrong}
-use Rattle.aj_deriv_check.specs.declared.wrong.Wrong.TheVariants as wrong
+use Rattle.aj_books.specs.Books.{Book}
+use Rattle.aj_books.specs.Faults.{first_fault}
+use Rattle.aj_books.specs.Texts.{IsTextOf}
+use Rattle.aj_books.specs.declared.stop.BookFault.TheVariants as faults
+use Rattle.aj_book_check.specs.Faults.{IsWrong}
+use Rattle.aj_book_check.specs.Good.{IsGoodBook}
+use Rattle.aj_book_check.specs.declared.wrong.Wrong.{Wrong}
+use Rattle.aj_book_check.specs.declared.wrong.Wrong.TheVariants as wrong
 use Rattle.aj_rules.specs.Near.{MethodPaths, AreRelevant, rel_of}
 use Rattle.aj_rules.specs.Rules.{IsAccepted}
 use Rattle.aj_syntax.specs.Trees.{ProgramTree}

@@ -3,7 +3,7 @@
 ghost use Rattle.std.specs.Prelude.{◌≡◌, ◌≢◌, ◌++◌, is_some, string_bytes, IfOk, OnOk};
 ghost use Rattle.aj_book_commands.specs.Books.{refused_book_line, book_fault_line, names_node, at_node, kind_text, wrong_line};
 
-use aj_book_grammar::BookFault;
+use aj_books::BookFault;
 use aj_numbers::write_number;
 use std::alloc::{AllocError as NoMemory, Global};
 

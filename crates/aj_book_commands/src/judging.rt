@@ -9,8 +9,8 @@ ghost use Rattle.aj_book_commands.specs.Refused.{IsLineFor, Refuses};
 ghost use Rattle.aj_book_commands.specs.Verify.{VerifyAnswer, verified_line, told_line};
 
 use crate::books::{WrongKind, book_fault_text, wrong_text};
-use aj_book_grammar::BookFault;
-use aj_deriv_check::{Checked, TextWrong, Wrong, accept_text};
+use aj_book_check::{Checked, TextWrong, Wrong, accept_text};
+use aj_books::BookFault;
 use aj_sources::{Ending, Refusal, Source, read_source};
 use std::alloc::{AllocError as NoMemory, Global};
 use std::mem::forget;

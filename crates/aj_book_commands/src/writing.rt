@@ -5,7 +5,7 @@ ghost use Rattle.aj_sources.specs.Checking.{IsSourceOf};
 ghost use Rattle.aj_sources.specs.Refusals.{IsRight};
 ghost use Rattle.aj_book_commands.specs.Derive.{DeriveAnswer};
 
-use aj_deriv::write_book;
+use aj_books::write_book;
 use aj_derive::derive;
 use aj_sources::{Ending, Refusal, Source, accepted, read_source};
 use std::alloc::Global;

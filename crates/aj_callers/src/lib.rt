@@ -5,4 +5,4 @@ mod laws;
 mod rows;
 
 pub use laws::only_callees_count;
-pub use rows::{Row, callers_of};
+pub use rows::{Callers, callers_of};

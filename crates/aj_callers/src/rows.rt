@@ -12,11 +12,11 @@ use std::marker::Model;
 
 /// The methods that call one method, by their places.
 #[derive(Drop)]
-pub struct Row {
+pub struct Callers {
     pub(crate) callers: Vec<usize>,
 }
 
-impl Model for Row {
+impl Model for Callers {
     ghost use Rattle.std.specs.Prelude.{ℕ, List};
 
     ghost Value = { List ℕ };
@@ -24,7 +24,7 @@ impl Model for Row {
     ghost view = { λ r. r.callers.items };
 }
 
-impl Row {
+impl Callers {
     /// The methods, by their places.
     pub fn callers(&self) -> &[usize]
         ensures { result.now ≡ self.now }
@@ -113,7 +113,7 @@ fn put_block(statements: &[CoreStmt], callees: &mut Vec<MethodId>) -> Result<(),
 }
 
 /// Adds the caller of a method.
-fn add_caller(rows: &mut [Row], callee: MethodId, caller: usize) -> Result<(), NoMemory>
+fn add_caller(rows: &mut [Callers], callee: MethodId, caller: usize) -> Result<(), NoMemory>
     ensures size { length rows.new ≡ length rows.old }
     ensures added { OnOk result (HasCaller rows.old rows.new callee caller) }
 {
@@ -130,7 +130,7 @@ fn add_caller(rows: &mut [Row], callee: MethodId, caller: usize) -> Result<(), N
 }
 
 /// Adds the caller of each of these methods.
-fn add_callers(rows: &mut [Row], callees: &[MethodId], caller: usize) -> Result<(), NoMemory>
+fn add_callers(rows: &mut [Callers], callees: &[MethodId], caller: usize) -> Result<(), NoMemory>
     ensures size { length rows.new ≡ length rows.old }
     ensures added { OnOk result (HasCallers rows.old rows.new callees.now caller) }
 {
@@ -141,12 +141,12 @@ fn add_callers(rows: &mut [Row], callees: &[MethodId], caller: usize) -> Result<
 }
 
 /// No callers of so many methods.
-fn no_callers(alloc: Global, count: usize) -> Result<Vec<Row>, NoMemory>
+fn no_callers(alloc: Global, count: usize) -> Result<Vec<Callers>, NoMemory>
     ensures { IfOk result (λ rows. length rows.items ≡ count) }
 {
     let mut rows = Vec::new(alloc);
     for _ in 0..count {
-        rows.push(Row {
+        rows.push(Callers {
             callers: Vec::new(alloc),
         })?;
     }
@@ -158,7 +158,7 @@ fn add_methods(
     alloc: Global,
     program: &CoreProgram,
     over: &OverridingMethods,
-    rows: &mut [Row],
+    rows: &mut [Callers],
 ) -> Result<(), NoMemory>
     requires { length (program_of program.now).methods ≤ 2 ^ 32 }
     ensures size { length rows.new ≡ length rows.old }
@@ -178,7 +178,7 @@ pub fn callers_of(
     alloc: Global,
     program: &CoreProgram,
     over: &OverridingMethods,
-) -> Result<Vec<Row>, NoMemory>
+) -> Result<Vec<Callers>, NoMemory>
     requires { length (program_of program.now).methods ≤ 2 ^ 32 }
     ensures size { IfOk result (λ rows. length rows.items ≡ length (program_of program.now).methods) }
     ensures callers { IfOk result (λ rows. AreCallers (program_of program.now) (overs_at over.now) rows.items) }

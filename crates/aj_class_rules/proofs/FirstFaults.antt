@@ -3,7 +3,7 @@ use Rattle.std.proofs.Common.{◌≡◌, ℕ, zero, suc, Bool, true, false, List
 use Rattle.std.proofs.lemmas.Option.{none-some, same_Some}
 use Rattle.std.proofs.lemmas.Bool.Decides.{nat_tests}
 use Rattle.std.proofs.lemmas.List.Elements.{Contains-append_right}
-use Rattle.aj_class_rules.specs.declared.first.Place.{Place}
+use Rattle.aj_class_rules.specs.declared.first.FaultPlace.{FaultPlace}
 use Rattle.aj_class_rules.specs.First.{comes_before, earlier, noted, IsFirst}
 
 -- ---- the order of places
@@ -27,17 +27,17 @@ before_neither_at a i b j h g = grind (arith, nat_tests)
 before_neither_rank : (a i b j : ℕ) → before a i b j ≡ false → before b j a i ≡ false → i ≡ j
 before_neither_rank a i b j h g = grind (arith, nat_tests)
 
-not_before_self : (p : Place) → comes_before p p ≡ false
+not_before_self : (p : FaultPlace) → comes_before p p ≡ false
 not_before_self p = before_self p.offset p.rank
 
-not_before_other : (p q : Place) → comes_before p q ≡ true → comes_before q p ≡ false
+not_before_other : (p q : FaultPlace) → comes_before p q ≡ true → comes_before q p ≡ false
 not_before_other p q h = before_other p.offset p.rank q.offset q.rank h
 
-not_before_along : (p q r : Place) → comes_before p q ≡ false → comes_before q r ≡ false → comes_before p r ≡ false
+not_before_along : (p q r : FaultPlace) → comes_before p q ≡ false → comes_before q r ≡ false → comes_before p r ≡ false
 not_before_along p q r a b = before_trans p.offset p.rank q.offset q.rank r.offset r.rank a b
 
 -- two places of which neither comes before the other are one
-pub same_place : (p q : Place) → comes_before p q ≡ false → comes_before q p ≡ false → p ≡ q
+pub same_place : (p q : FaultPlace) → comes_before p q ≡ false → comes_before q p ≡ false → p ≡ q
 same_place p q h k =
     let at = before_neither_at p.offset p.rank q.offset q.rank h k in
     let by = before_neither_rank p.offset p.rank q.offset q.rank h k in
@@ -60,19 +60,19 @@ none_of y h = omega (arith, h.1)
 
 -- ---- part by part
 
-pub noted_append : {F : Type 0} (place : F → Place) (first : Option F) (xs ys : List F) → noted place first (xs ++ ys) ≡ noted place (noted place first xs) ys
+pub noted_append : {F : Type 0} (place : F → FaultPlace) (first : Option F) (xs ys : List F) → noted place first (xs ++ ys) ≡ noted place (noted place first xs) ys
 noted_append place first [] ys = refl
 noted_append place first (x ∷ xs) ys = noted_append place (Some (earlier place first x)) xs ys
 
 -- ---- the first of those noted
 
 -- a fault is found before or is one of these, and none of them comes before it
-record IsLeast {F : Type 0} (place : F → Place) (found : Option F) (fs : List F) (f : F) : Type 0 where
+record IsLeast {F : Type 0} (place : F → FaultPlace) (found : Option F) (fs : List F) (f : F) : Type 0 where
   stands : (found ≡ Some f) ⊎ Contains fs f
   below_found : (g : F) → found ≡ Some g → comes_before (place g) (place f) ≡ false
   below : (g : F) → Contains fs g → comes_before (place g) (place f) ≡ false
 
-least_step : {F : Type 0} (place : F → Place) (found : Option F) (x : F) (xs : List F) (f : F) → IsLeast place (Some (earlier place found x)) xs f → IsLeast place found (x ∷ xs) f
+least_step : {F : Type 0} (place : F → FaultPlace) (found : Option F) (x : F) (xs : List F) (f : F) → IsLeast place (Some (earlier place found x)) xs f → IsLeast place found (x ∷ xs) f
 least_step {F} place None x xs f h = record {
   stands = elim h.stands [ inl e ↦ inr (subst (Contains (x ∷ xs)) (same_Some x f e) (first_of x xs)) | inr c ↦ inr (later_of x xs f c) ];
   below_found = λ g e. absurd (none-some g e);
@@ -92,7 +92,7 @@ least_step {F} place (Some y) x xs f h =
       }
     ] refl h
 
-least_of_noted : {F : Type 0} (place : F → Place) (found : Option F) (fs : List F) (f : F) → noted place found fs ≡ Some f → IsLeast place found fs f
+least_of_noted : {F : Type 0} (place : F → FaultPlace) (found : Option F) (fs : List F) (f : F) → noted place found fs ≡ Some f → IsLeast place found fs f
 least_of_noted place found [] f is = record {
   stands = inl is;
   below_found = λ g e. subst (λ z. comes_before (place z) (place f) ≡ false) (same_Some f g (sym is ∙ e)) (not_before_self (place f));
@@ -100,11 +100,11 @@ least_of_noted place found [] f is = record {
 }
 least_of_noted place found (x ∷ xs) f is = least_step place found x xs f (least_of_noted place (Some (earlier place found x)) xs f is)
 
-some_stays : {F : Type 0} (place : F → Place) (x : F) (fs : List F) → noted place (Some x) fs ≡ None → ⊥
+some_stays : {F : Type 0} (place : F → FaultPlace) (x : F) (fs : List F) → noted place (Some x) fs ≡ None → ⊥
 some_stays place x [] is = none-some x (sym is)
 some_stays place x (f ∷ fs) is = some_stays place (earlier place (Some x) f) fs is
 
-pub first_is : {F : Type 0} (place : F → Place) (fs : List F) (f : F) → noted place None fs ≡ Some f → IsFirst place fs f
+pub first_is : {F : Type 0} (place : F → FaultPlace) (fs : List F) (f : F) → noted place None fs ≡ Some f → IsFirst place fs f
 first_is place fs f is =
     let h = least_of_noted place None fs f is in
     record {
@@ -112,19 +112,19 @@ first_is place fs f is =
       least = λ g c. h.below g c;
     }
 
-pub none_is : {F : Type 0} (place : F → Place) (fs : List F) → noted place None fs ≡ None → fs ≡ []
+pub none_is : {F : Type 0} (place : F → FaultPlace) (fs : List F) → noted place None fs ≡ None → fs ≡ []
 none_is place [] is = refl
 none_is place (f ∷ fs) is = absurd (some_stays place f fs is)
 
 -- ---- one first fault
 
 -- faults at different places differ; `back` finds a fault again by its place
-pub one_first : {F : Type 0} (place : F → Place) (back : Place → F) → ((f : F) → back (place f) ≡ f)
+pub one_first : {F : Type 0} (place : F → FaultPlace) (back : FaultPlace → F) → ((f : F) → back (place f) ≡ f)
     → (fs : List F) (f g : F) → IsFirst place fs f → IsFirst place fs g → f ≡ g
 one_first place back again fs f g h k =
     sym (again f) ∙ ap back (same_place (place f) (place g) (k.least f h.stands) (h.least g k.stands)) ∙ again g
 
-pub no_first : {F : Type 0} (place : F → Place) (fs : List F) (f : F) → fs ≡ [] → IsFirst place fs f → ⊥
+pub no_first : {F : Type 0} (place : F → FaultPlace) (fs : List F) (f : F) → fs ≡ [] → IsFirst place fs f → ⊥
 no_first place fs f none h = none_of f (subst (λ xs. Contains xs f) none h.stands)
 
 some_of : {F : Type 0} (found : Option F) → (found ≡ None → ⊥) → (f : F) × (found ≡ Some f)
@@ -132,7 +132,7 @@ some_of None h = absurd (h refl)
 some_of (Some f) h = (f, refl)
 
 -- where there are faults, one is the first
-pub some_first : {F : Type 0} (place : F → Place) (fs : List F) → (fs ≡ [] → ⊥) → (f : F) × IsFirst place fs f
+pub some_first : {F : Type 0} (place : F → FaultPlace) (fs : List F) → (fs ≡ [] → ⊥) → (f : F) × IsFirst place fs f
 some_first place fs some =
     let h = some_of (noted place None fs) (λ e. some (none_is place fs e)) in
     (h.0, first_is place fs h.0 h.1)

@@ -4,7 +4,7 @@ use Rattle.std.proofs.Math.Path.{fun_ext}
 use Rattle.std.proofs.Math.Bool.{or_assoc, or-false}
 use Rattle.std.proofs.lemmas.List.Folds.{list_any-append}
 use Rattle.std.proofs.lemmas.Slice.Eq.{bytes_eq-Decides}
-use Rattle.aj_class_rules.specs.declared.first.Place.{Place}
+use Rattle.aj_class_rules.specs.declared.first.FaultPlace.{FaultPlace}
 use Rattle.aj_class_rules.proofs.FirstFaults as first
 use Rattle.aj_syntax.specs.declared.tree.Name.{Name}
 use Rattle.aj_syntax.specs.Trees.{ProgramTree}
@@ -42,7 +42,7 @@ same_tests names = fun_ext (λ t. has_distinct_after [] names t)
 -- ---- the first fault of a program
 
 -- the fault that stands at a place
-abbrev fault_at : Place → ClassFault
+abbrev fault_at : FaultPlace → ClassFault
 fault_at p =
     if p.rank == 0 then kind.Twice p.offset else if p.rank == 1 then kind.UnknownClass p.offset else if p.rank == 2 then kind.BadConstructor p.offset
     else if p.rank == 3 then kind.NoRun p.offset else if p.rank == 4 then kind.TooMany p.offset

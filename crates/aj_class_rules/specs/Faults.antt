@@ -6,7 +6,7 @@ use Rattle.aj_syntax.specs.declared.tree.Param.{Param}
 use Rattle.aj_syntax.specs.declared.tree.TypeName.{TypeName}
 use Rattle.aj_syntax.specs.declared.tree.TypeName.TheVariants as Y
 use Rattle.aj_syntax.specs.Trees.{MemberTree, FieldM, CtorM, MethodM, ClassTree, ProgramTree}
-use Rattle.aj_class_rules.specs.declared.first.Place.{Place}
+use Rattle.aj_class_rules.specs.declared.first.FaultPlace.{FaultPlace}
 use Rattle.aj_class_rules.specs.First.{IsFirst}
 use Rattle.aj_class_rules.specs.declared.fault.ClassFault.{ClassFault}
 use Rattle.aj_class_rules.specs.declared.fault.ClassFault.TheVariants.{Twice, UnknownClass, BadConstructor, NoMain, NoRun, TooMany, NoMemory, Circle, BadOverride}
@@ -160,7 +160,7 @@ rank_of NoMain = 7
 rank_of NoMemory = 8
 
 -- where a fault stands
-abbrev pub place_of : ClassFault → Place
+abbrev pub place_of : ClassFault → FaultPlace
 place_of f = record { offset = offset_of f; rank = rank_of f }
 
 -- the fault of a program's that is told: the first

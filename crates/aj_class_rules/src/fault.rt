@@ -4,7 +4,7 @@ ghost use Rattle.std.specs.Prelude.{◌≡◌};
 ghost use Rattle.aj_class_rules.specs.declared.fault.ClassFault.TheVariants.{NoMemory as OutOfMemory};
 ghost use Rattle.aj_class_rules.specs.Faults.{offset_of, rank_of, place_of};
 
-use crate::first::{Fault, Place};
+use crate::first::{FaultPlace, Placed};
 use std::alloc::{AllocError, AllocFailed};
 
 /// A fault of a program's classes, with the offset in bytes, from 0, at which it stands.
@@ -70,11 +70,11 @@ impl ClassFault {
     }
 }
 
-impl Fault for ClassFault {
+impl Placed for ClassFault {
     ghost place_of = { place_of };
 
-    fn place(self) -> Place {
-        Place {
+    fn place(self) -> FaultPlace {
+        FaultPlace {
             offset: self.offset(),
             rank: self.rank(),
         }

@@ -1,18 +1,18 @@
 //! The first of the faults that are found one after the other.
 ghost use Rattle.std.specs.Prelude.{◌≡◌, Some};
-ghost use Rattle.aj_class_rules.specs.declared.first.Place.{Place};
+ghost use Rattle.aj_class_rules.specs.declared.first.FaultPlace.{FaultPlace};
 ghost use Rattle.aj_class_rules.specs.First.{comes_before, earlier};
 
 /// Where a fault stands: its offset in bytes, from 0, and its rank among the faults that may stand at one offset.
 #[derive(Clone, Copy, Debug, PartialEq, Eq)]
-pub struct Place {
+pub struct FaultPlace {
     pub offset: u64,
     pub rank: u8,
 }
 
-impl Place {
+impl FaultPlace {
     /// Whether a fault here is told in place of one there.
-    fn comes_before(self, other: Place) -> bool
+    fn comes_before(self, other: FaultPlace) -> bool
         ensures { result ≡ comes_before self other }
     {
         self.offset < other.offset || (self.offset == other.offset && self.rank < other.rank)
@@ -20,17 +20,17 @@ impl Place {
 }
 
 /// A fault that has a place.
-pub trait Fault: Copy {
+pub trait Placed: Copy {
     // Where it stands.
-    ghost place_of: { Self → Place };
+    ghost place_of: { Self → FaultPlace };
 
     /// Where it stands.
-    fn place(self) -> Place
+    fn place(self) -> FaultPlace
         ensures { result ≡ place_of self };
 }
 
 /// The first of a fault that was found before, if any, and this one.
-pub fn first_of<F: Fault>(found: Option<F>, fault: F) -> Option<F>
+pub fn first_of<F: Placed>(found: Option<F>, fault: F) -> Option<F>
     ensures { result ≡ Some (earlier F.place_of found fault) }
 {
     match found {

@@ -14,6 +14,6 @@ mod overriding;
 
 pub use check::first_fault;
 pub use fault::ClassFault;
-pub use first::{Fault, Place, first_of};
+pub use first::{FaultPlace, Placed, first_of};
 pub use limits::{MOST_FIELDS, MOST_PARAMS};
 pub use names::NameSet;

@@ -2,7 +2,7 @@
 use Rattle.std.specs.Prelude.{ℕ, Bool, List, [], ◌∷◌, ◌++◌, Option, None, map, length, position, bytes_eq, unwrap_or, option_and_then, slice_get}
 use Rattle.std.specs.List.{list_any}
 use Rattle.aj_syntax.specs.Trees.{ClassTree, ProgramTree}
-use Rattle.aj_classes.specs.declared.build.Parts.{Parts}
+use Rattle.aj_classes.specs.declared.build.TableParts.{TableParts}
 use Rattle.aj_class_rules.specs.Names.{distinct}
 use Rattle.aj_class_rules.specs.Members.{field_names, method_names}
 use Rattle.aj_class_rules.specs.Lines.{ancestors, says_runnable}
@@ -17,7 +17,7 @@ pub record PartsData : Type 0 where
   pub methods : List MethodData
 
 -- the parts of a table in memory as plain data
-abbrev pub parts_data : Parts → PartsData
+abbrev pub parts_data : TableParts → PartsData
 parts_data p = record {
   classes = map class_data p.classes.items;
   fields = p.fields.items;

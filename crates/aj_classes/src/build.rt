@@ -216,13 +216,13 @@ fn class_entry<'a>(
 
 /// The parts of a table while classes are added.
 #[derive(Drop)]
-pub(crate) struct Parts<'a> {
+pub(crate) struct TableParts<'a> {
     pub(crate) classes: Vec<ClassEntry<'a>>,
     pub(crate) fields: Vec<FieldEntry<'a>>,
     pub(crate) methods: Vec<MethodEntry<'a>>,
 }
 
-impl<'a> Parts<'a> {
+impl<'a> TableParts<'a> {
     /// Adds the next one of the classes.
     fn add(
         &mut self,
@@ -253,11 +253,11 @@ pub(crate) fn parts_of<'a>(
     alloc: Global,
     names: &NameSet,
     classes: &[Class<'a>],
-) -> Result<Parts<'a>, NoMemory>
+) -> Result<TableParts<'a>, NoMemory>
     ensures { IfOk result (λ p. parts_data p ≡ parts_from names.now (map class_of classes.now)) }
 {
     let aboves = classes_above(alloc, names, classes)?;
-    let mut parts = Parts {
+    let mut parts = TableParts {
         classes: Vec::new(alloc),
         fields: Vec::new(alloc),
         methods: Vec::new(alloc),

@@ -11,7 +11,7 @@ ghost use Rattle.aj_classes.specs.Table.{table_of};
 ghost use Rattle.aj_classes.specs.Views.{table_data};
 ghost use Rattle.std.specs.Prelude.{IfOk};
 
-use crate::build::{Parts, parts_of};
+use crate::build::{TableParts, parts_of};
 use crate::entries::ClassTable;
 use crate::numbers::number;
 use aj_class_rules::{ClassFault, NameSet, first_fault};
@@ -31,7 +31,7 @@ fn build<'a>(
     // A program with more classes than ids is refused before anything is built.
     let _count = number(names.len())?;
     let parts = parts_of(alloc, &names, program.classes.as_slice())?;
-    let Parts {
+    let TableParts {
         classes,
         fields,
         methods,

@@ -17,7 +17,7 @@ use Rattle.aj_schedule_commands.proofs.ScheduleEndings.{run_caused, run_apart, s
 use Rattle.aj_schedule_commands.proofs.OpenEndings.{open_caused, open_apart}
 use Rattle.aj_blame_commands.proofs.Endings.{blame_caused, blame_apart, verify_blame_caused, verify_blame_apart}
 use Rattle.aj_level_commands.proofs.LevelEndings.{levels_caused, levels_apart}
-use Rattle.aj_replay_commands.proofs.ReplayEndings.{replay_caused, replay_apart}
+use Rattle.aj_schedule_commands.proofs.ReplayEndings.{replay_caused, replay_apart}
 use Rattle.aj_schedule_commands.proofs.GenerateEndings.{generate_caused, generate_apart}
 use Rattle.aj_outcomes.specs.Said.{Yields}
 use Rattle.aj_outcomes.proofs.Statuses.{yield_range}

@@ -4,7 +4,7 @@ use Rattle.std.proofs.lemmas.Option.{same_Some}
 use Rattle.std.specs.Io.KnownBytes.{Appends}
 use Rattle.aj_classes.specs.Table.{table_of}
 use Rattle.aj_core.specs.Core.{Program}
-use Rattle.aj_plain.specs.Records.{IsTooDeep}
+use Rattle.aj_replay.specs.Records.{IsTooDeep}
 use Rattle.aj_rewrite.specs.Serial.{IsSerial}
 use Rattle.aj_rules.specs.Rules.{IsAccepted}
 use Rattle.aj_schedule.proofs.UniqueLemmas.{one_schedule}
@@ -21,9 +21,9 @@ use Rattle.aj_syntax.specs.Trees.{ProgramTree}
 use Rattle.aj_schedule_commands.specs.Schedules.{IsInput}
 use Rattle.aj_schedule_commands.specs.Serialise.{SerialiseFact}
 use Rattle.aj_schedule_commands.proofs.ScheduleEndings.{serialise_caused, serialise_apart}
-use Rattle.aj_replay_commands.specs.Evaluated.{AreEvaluated}
-use Rattle.aj_replay_commands.specs.Lines.{calls_text}
-use Rattle.aj_replay_commands.specs.Replay.{ReplayAnswer, too_deep, not_serialised, no_replay, replayed}
+use Rattle.aj_schedule_commands.specs.Evaluated.{AreEvaluated}
+use Rattle.aj_schedule_commands.specs.Lines.{calls_text}
+use Rattle.aj_schedule_commands.specs.Replay.{ReplayAnswer, too_deep, not_serialised, no_replay, replayed}
 use Rattle.aj_commands.specs.declared.command.Command.TheVariants.{Replay}
 use Rattle.aj_commands.specs.Rows.{Row}
 use Rattle.aj_commands.specs.Files.{IsAsked}

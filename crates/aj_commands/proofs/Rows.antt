@@ -18,7 +18,7 @@ use Rattle.aj_book_commands.specs.Verify.{VerifyAnswer}
 use Rattle.aj_blame_commands.specs.Blames.{BlameAnswer}
 use Rattle.aj_blame_commands.specs.Verifying.{VerifyBlameAnswer}
 use Rattle.aj_level_commands.specs.Levels.{LevelsAnswer}
-use Rattle.aj_replay_commands.specs.Replay.{ReplayAnswer}
+use Rattle.aj_schedule_commands.specs.Replay.{ReplayAnswer}
 
 -- what a row's function answers is the answer of its command
 pub check_answers : (command : Command) (files : List (List ℕ)) (bytes : List ℕ) (r : Result (Vec ℕ Global) Refusal) → command ≡ Check → bytes ≡ file_at files 0

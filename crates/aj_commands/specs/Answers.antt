@@ -20,7 +20,7 @@ use Rattle.aj_book_commands.specs.Verify.{VerifyAnswer, VerifyFact}
 use Rattle.aj_blame_commands.specs.Blames.{BlameAnswer, BlameFact}
 use Rattle.aj_blame_commands.specs.Verifying.{VerifyBlameAnswer, VerifyBlameFact}
 use Rattle.aj_level_commands.specs.Levels.{LevelsAnswer, LevelsFact}
-use Rattle.aj_replay_commands.specs.Replay.{ReplayAnswer, ReplayFact}
+use Rattle.aj_schedule_commands.specs.Replay.{ReplayAnswer, ReplayFact}
 
 -- the texts that belong to each ending of a command
 abbrev pub Answer : Command → List (List ℕ) → Ending → List ℕ → Type 0

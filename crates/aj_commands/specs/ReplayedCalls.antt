@@ -6,7 +6,7 @@ use Rattle.std.specs.Prelude.{◌≡◌, ℕ, ◌≤◌, List, [], ◌∷◌, So
 use Rattle.std.specs.Io.KnownBytes.{Appends}
 use Rattle.aj_classes.specs.Table.{TableData, table_of}
 use Rattle.aj_core.specs.Core.{Program}
-use Rattle.aj_plain.specs.Records.{Told, IsTooDeep}
+use Rattle.aj_replay.specs.Records.{Told, IsTooDeep}
 use Rattle.aj_rules.specs.Rules.{IsAccepted}
 use Rattle.aj_schedule.specs.Text.{IsSchedule}
 use Rattle.aj_sources.specs.Checking.{IsWellFormedSource}
@@ -14,8 +14,8 @@ use Rattle.aj_state.specs.States.{State}
 use Rattle.aj_steps.specs.Run.{run, open_thread, IsRearrangement, IsUninterrupted}
 use Rattle.aj_steps.specs.Units.{written_order}
 use Rattle.aj_syntax.specs.Trees.{ProgramTree}
-use Rattle.aj_replay_commands.specs.Evaluated.{AreEvaluated}
-use Rattle.aj_replay_commands.specs.Lines.{calls_text, too_deep_line}
+use Rattle.aj_schedule_commands.specs.Evaluated.{AreEvaluated}
+use Rattle.aj_schedule_commands.specs.Lines.{calls_text, too_deep_line}
 use Rattle.aj_outcomes.specs.Calls.{Call, IsCalm}
 
 -- the order is the rearrangement of the schedule that `serialise` writes: it runs to the same heap, locks, threads and output, and

@@ -31,8 +31,9 @@ use aj_book_commands::{derive_book, verify_book};
 use aj_edge::{Folder, Sink};
 use aj_level_commands::order_levels;
 use aj_outcomes::{cannot_read_line, too_large_line};
-use aj_replay_commands::replay_calls;
-use aj_schedule_commands::{generate_figures, run_schedule, serialise, serialise_open};
+use aj_schedule_commands::{
+    generate_figures, replay_calls, run_schedule, serialise, serialise_open,
+};
 use aj_source_commands::{check, print};
 use aj_sources::{Ending, Refusal};
 use std::alloc::{AllocError as NoMemory, Global};

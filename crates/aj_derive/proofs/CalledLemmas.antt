@@ -12,9 +12,9 @@ use Rattle.aj_rules.specs.Effect.{after_local, held_under, call_of, required_pat
 use Rattle.aj_nodes.specs.declared.table.Node.{Node}
 use Rattle.aj_nodes.specs.Nodes.{Items}
 use Rattle.aj_nodes.specs.Shown.{IsThere, AreThere, node_value}
-use Rattle.aj_deriv_rules.specs.Conclusions.{tree_value}
-use Rattle.aj_deriv_rules.specs.Judges.{named_set, local_name, call_name}
-use Rattle.aj_deriv_rules.proofs.NameLemmas.{local_value, call_value, call_all}
+use Rattle.aj_book_rules.specs.Conclusions.{tree_value}
+use Rattle.aj_book_rules.specs.Judges.{named_set, local_name, call_name}
+use Rattle.aj_book_rules.proofs.NameLemmas.{local_value, call_value, call_all}
 use Rattle.aj_derive.specs.Bases.{trees_assign}
 
 -- the value of a node that was made, in other words

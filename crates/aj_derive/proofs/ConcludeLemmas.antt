@@ -6,17 +6,17 @@ use Rattle.aj_algebra.specs.HeldPaths.{Held}
 use Rattle.aj_core.specs.Core.{Program}
 use Rattle.aj_cond.specs.Conditions.{Cond, value_of}
 use Rattle.aj_rules.specs.Effect.{Assignment}
-use Rattle.aj_book_grammar.specs.declared.word.Word.{Word}
-use Rattle.aj_book_grammar.specs.Derivations.{Node, node, Nodes, no_nodes, and_node, number_of, count_nodes}
-use Rattle.aj_book_grammar.specs.Books.{IsNumbered, AreNumbered}
+use Rattle.aj_books.specs.declared.word.Word.{Word}
+use Rattle.aj_books.specs.Derivations.{Node, node, Nodes, no_nodes, and_node, number_of, count_nodes}
+use Rattle.aj_books.specs.Books.{IsNumbered, AreNumbered}
 use Rattle.aj_effects.specs.Parts.{Part, parts_of}
-use Rattle.aj_deriv_rules.specs.Parts.{word_of, places, places_of, Fits, Each}
+use Rattle.aj_book_rules.specs.Parts.{word_of, places, places_of, Fits, Each}
 use Rattle.aj_effects.specs.Rules.{rule_of}
-use Rattle.aj_deriv_rules.specs.Conclusions.{tree_value, table_value, conclusions}
-use Rattle.aj_deriv_check.specs.Good.{IsExact}
-use Rattle.aj_deriv.specs.Memory.{node_of, nodes_at}
-use Rattle.aj_deriv.specs.declared.derivation.Derivation.{Derivation}
-use Rattle.aj_deriv_check.proofs.Lists.{each_both, each_none, each_one}
+use Rattle.aj_book_rules.specs.Conclusions.{tree_value, table_value, conclusions}
+use Rattle.aj_book_check.specs.Good.{IsExact}
+use Rattle.aj_books.specs.Memory.{node_of, nodes_at}
+use Rattle.aj_books.specs.declared.derivation.Derivation.{Derivation}
+use Rattle.aj_book_check.proofs.Lists.{each_both, each_none, each_one}
 use Rattle.aj_effects.specs.Effects.{part_effect, effects_of}
 use Rattle.aj_effects.proofs.Effects.{rule_is}
 use Rattle.aj_derive.specs.Concluded.{Concludes, ConcludeAll, BeginsWith}

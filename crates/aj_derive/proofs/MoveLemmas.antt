@@ -4,10 +4,10 @@ use Rattle.std.proofs.lemmas.Option.{slice_get_within}
 use Rattle.std.proofs.lemmas.List.{length-map}
 use Rattle.aj_cond.specs.declared.tree.Tree.{Tree}
 use Rattle.aj_cond.specs.Conditions.{Cond, cond_of}
-use Rattle.aj_book_grammar.specs.declared.word.Word.{Word}
-use Rattle.aj_deriv.specs.declared.derivation.Derivation.{Derivation}
-use Rattle.aj_book_grammar.specs.Derivations.{Node, node, Nodes, no_nodes, and_node}
-use Rattle.aj_deriv.specs.Memory.{nodes_at}
+use Rattle.aj_books.specs.declared.word.Word.{Word}
+use Rattle.aj_books.specs.declared.derivation.Derivation.{Derivation}
+use Rattle.aj_books.specs.Derivations.{Node, node, Nodes, no_nodes, and_node}
+use Rattle.aj_books.specs.Memory.{nodes_at}
 use Rattle.aj_derive.specs.Concluded.{BeginsWith}
 use Rattle.aj_derive.specs.Derived.{node_numbers, nodes_numbers, AreInOrder}
 use Rattle.aj_derive.specs.Pools.{IsNumberIn}

@@ -4,8 +4,8 @@ use Rattle.aj_core.specs.Core.{Program}
 use Rattle.aj_paths.specs.Paths.{PathData}
 use Rattle.aj_cond.specs.Conditions.{Cond}
 use Rattle.aj_rules.specs.Effect.{Assignment}
-use Rattle.aj_book_grammar.specs.Derivations.{Node, node, Nodes, no_nodes, and_node}
-use Rattle.aj_book_grammar.specs.Books.{node_high, nodes_high}
+use Rattle.aj_books.specs.Derivations.{Node, node, Nodes, no_nodes, and_node}
+use Rattle.aj_books.specs.Books.{node_high, nodes_high}
 use Rattle.aj_effects.specs.Parts.{Part, parts_of}
 use Rattle.aj_effects.proofs.Sizes.{high_part, high_parts, parts_lower}
 use Rattle.aj_derive.specs.Concluded.{Concludes, ConcludeAll}

@@ -13,7 +13,7 @@ use Rattle.aj_nodes.specs.declared.table.Node.{Node}
 use Rattle.aj_nodes.specs.contracts.table.NodePartialEq.TheImpl as nodes
 use Rattle.aj_nodes.specs.Nodes.{Items, IsTable, Grows}
 use Rattle.aj_nodes.specs.Shown.{IsThere, AreThere, node_tree, trees_at}
-use Rattle.aj_book_grammar.specs.Books.{IsTree, AreTrees, is_less, comes_after, is_canonical_below}
+use Rattle.aj_books.specs.Books.{IsTree, AreTrees, is_less, comes_after, is_canonical_below}
 use Rattle.aj_derive.specs.declared.pool.Pool.{Pool}
 use Rattle.aj_derive.specs.Derived.{AreDistinct}
 use Rattle.aj_derive.specs.Pools.{pool_table, ArePooled, IsPool, IsAtMost}

@@ -3,10 +3,10 @@ use Rattle.std.proofs.Common.{◌≡◌, ℕ, zero, suc, ◌+◌, ◌<◌, List,
 use Rattle.std.proofs.lemmas.List.{map-append}
 use Rattle.aj_algebra.specs.HeldPaths.{Held}
 use Rattle.aj_nodes.specs.declared.table.Node.{Node}
-use Rattle.aj_deriv.specs.declared.derivation.Derivation.{Derivation}
-use Rattle.aj_book_grammar.specs.Derivations.{number_of}
-use Rattle.aj_deriv.specs.Memory.{node_of, nodes_at}
-use Rattle.aj_deriv_rules.specs.Conclusions.{conclusions}
+use Rattle.aj_books.specs.declared.derivation.Derivation.{Derivation}
+use Rattle.aj_books.specs.Derivations.{number_of}
+use Rattle.aj_books.specs.Memory.{node_of, nodes_at}
+use Rattle.aj_book_rules.specs.Conclusions.{conclusions}
 use Rattle.aj_effects.specs.Rules.{Value}
 use Rattle.aj_derive.proofs.Rows.{pushed_more}
 

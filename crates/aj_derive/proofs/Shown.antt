@@ -13,7 +13,7 @@ use Rattle.aj_rules.proofs.BasicLemmas.{below_itself, below_chain}
 use Rattle.aj_rules.proofs.EffectRises.{stmt_rises}
 use Rattle.aj_infer.specs.Least.{IsLeast}
 use Rattle.aj_infer.specs.Verdicts.{HoldBounds}
-use Rattle.aj_deriv_rules.specs.Conclusions.{tree_value}
+use Rattle.aj_book_rules.specs.Conclusions.{tree_value}
 use Rattle.aj_derive.specs.Derived.{KeepsRules}
 use Rattle.aj_derive.specs.Bases.{trees_assign}
 use Rattle.aj_derive.proofs.ConcludeLemmas.{some_at}

@@ -14,12 +14,12 @@ use Rattle.aj_rules.specs.Effect.{effect}
 use Rattle.aj_rules.specs.Rules.{IsPart, AtMost, declared_bound}
 use Rattle.aj_rules.proofs.Falling.{closed_above}
 use Rattle.aj_rules.proofs.BasicLemmas.{below_itself}
-use Rattle.aj_book_grammar.specs.Derivations.{number_of}
-use Rattle.aj_book_grammar.specs.Books.{Line, Book, IsBook, IsLine, AreLines, AreTrees}
+use Rattle.aj_books.specs.Derivations.{number_of}
+use Rattle.aj_books.specs.Books.{Line, Book, IsBook, IsLine, AreLines, AreTrees}
 use Rattle.aj_effects.specs.Parts.{StmtP}
-use Rattle.aj_deriv_rules.specs.Parts.{places, Each}
-use Rattle.aj_deriv_rules.specs.Conclusions.{tree_value, table_value}
-use Rattle.aj_deriv_check.specs.Good.{line_value, book_assignment, cond_at, tests_only, Falls, IsExact, IsTabled, IsGoodLine, IsGoodBook}
+use Rattle.aj_book_rules.specs.Parts.{places, Each}
+use Rattle.aj_book_rules.specs.Conclusions.{tree_value, table_value}
+use Rattle.aj_book_check.specs.Good.{line_value, book_assignment, cond_at, tests_only, Falls, IsExact, IsTabled, IsGoodLine, IsGoodBook}
 use Rattle.aj_derive.specs.Derived.{AreDistinct, IsDerived, KeepsRules}
 use Rattle.aj_derive.specs.Bases.{trees_assign}
 use Rattle.aj_derive.specs.Lines.{AreLinesOf}

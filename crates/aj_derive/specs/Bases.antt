@@ -2,7 +2,7 @@
 use Rattle.std.specs.Prelude.{map, List, slice_get}
 use Rattle.aj_cond.specs.Conditions.{Cond, cond_of}
 use Rattle.aj_rules.specs.Effect.{Assignment}
-use Rattle.aj_deriv_rules.specs.Conclusions.{tree_value}
+use Rattle.aj_book_rules.specs.Conclusions.{tree_value}
 use Rattle.aj_derive.specs.declared.basis.Basis.{Basis}
 
 -- what trees assign, one to each method

@@ -6,11 +6,11 @@ use Rattle.aj_core.specs.Views.{program_of}
 use Rattle.aj_cond.specs.Conditions.{Cond}
 use Rattle.aj_rules.specs.Effect.{Assignment}
 use Rattle.aj_rules.specs.Near.{rel_of}
-use Rattle.aj_book_grammar.specs.Derivations.{Node, node, Nodes, no_nodes, and_node}
+use Rattle.aj_books.specs.Derivations.{Node, node, Nodes, no_nodes, and_node}
 use Rattle.aj_effects.specs.Parts.{Part, parts_of}
-use Rattle.aj_deriv_rules.specs.Parts.{Fits}
-use Rattle.aj_deriv_rules.specs.Conclusions.{table_value}
-use Rattle.aj_deriv_check.specs.Good.{IsExact}
+use Rattle.aj_book_rules.specs.Parts.{Fits}
+use Rattle.aj_book_rules.specs.Conclusions.{table_value}
+use Rattle.aj_book_check.specs.Good.{IsExact}
 use Rattle.aj_derive.specs.declared.basis.Basis.{Basis}
 use Rattle.aj_derive.specs.Bases.{own_trees, trees_assign}
 

@@ -6,12 +6,12 @@ use Rattle.aj_core.specs.Core.{Program, Method}
 use Rattle.aj_cond.specs.Conditions.{Cond}
 use Rattle.aj_rules.specs.Effect.{Assignment}
 use Rattle.aj_rules.specs.Rules.{IsFalling, IsClosed, HoldsBound}
-use Rattle.aj_book_grammar.specs.Derivations.{Node, node, Nodes, no_nodes, and_node}
-use Rattle.aj_book_grammar.specs.Books.{Line, Book}
+use Rattle.aj_books.specs.Derivations.{Node, node, Nodes, no_nodes, and_node}
+use Rattle.aj_books.specs.Books.{Line, Book}
 use Rattle.aj_effects.specs.Parts.{StmtP}
-use Rattle.aj_deriv_rules.specs.Parts.{places, Each}
-use Rattle.aj_deriv_rules.specs.Conclusions.{table_value}
-use Rattle.aj_deriv_check.specs.Good.{book_assignment, IsExact, IsShaped}
+use Rattle.aj_book_rules.specs.Parts.{places, Each}
+use Rattle.aj_book_rules.specs.Conclusions.{table_value}
+use Rattle.aj_book_check.specs.Good.{book_assignment, IsExact, IsShaped}
 
 -- The conclusions' numbers in a derivation and in a list of them.
 abbrev mutual

@@ -1,7 +1,7 @@
 -- Derivations under other numbers.
 use Rattle.std.specs.Prelude.{◌≡◌, List, Some, length, slice_get}
 use Rattle.aj_cond.specs.Conditions.{Cond}
-use Rattle.aj_book_grammar.specs.Derivations.{Node, node, Nodes, no_nodes, and_node}
+use Rattle.aj_books.specs.Derivations.{Node, node, Nodes, no_nodes, and_node}
 use Rattle.aj_derive.specs.Concluded.{BeginsWith}
 use Rattle.aj_derive.specs.Derived.{node_numbers, nodes_numbers, AreInOrder}
 

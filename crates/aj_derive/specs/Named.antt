@@ -5,7 +5,7 @@ use Rattle.aj_paths.specs.Paths.{PathData}
 use Rattle.aj_algebra.specs.Values.{Keeps}
 use Rattle.aj_nodes.specs.Nodes.{Items}
 use Rattle.aj_nodes.specs.Shown.{IsThere, node_value}
-use Rattle.aj_deriv_rules.specs.Judges.{local_name, call_name}
+use Rattle.aj_book_rules.specs.Judges.{local_name, call_name}
 use Rattle.aj_derive.specs.declared.names.Names.{Names}
 use Rattle.aj_derive.specs.declared.names.Names.TheVariants.{Same, Before, At}
 

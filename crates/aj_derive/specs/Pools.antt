@@ -3,7 +3,7 @@ use Rattle.std.specs.Prelude.{◌≡◌, ◌⊎◌, ℕ, ◌^◌, ◌<◌, List,
 use Rattle.aj_cond.specs.Conditions.{Cond, cond_of}
 use Rattle.aj_nodes.specs.Nodes.{Items}
 use Rattle.aj_nodes.specs.Shown.{AreThere, trees_at}
-use Rattle.aj_book_grammar.specs.Books.{AreTrees, HasPaths, tests_high}
+use Rattle.aj_books.specs.Books.{AreTrees, HasPaths, tests_high}
 use Rattle.aj_derive.specs.declared.pool.Pool.{Pool}
 use Rattle.aj_derive.specs.Derived.{AreDistinct}
 

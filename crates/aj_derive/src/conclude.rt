@@ -2,8 +2,8 @@
 ghost use Rattle.std.specs.Prelude.{◌≡◌, map, length, IfOk, OnOk};
 ghost use Rattle.aj_algebra.specs.HeldPaths.{Held};
 ghost use Rattle.aj_core.specs.Views.{program_of};
-ghost use Rattle.aj_deriv.specs.Memory.{node_of, nodes_at};
-ghost use Rattle.aj_deriv_rules.specs.Conclusions.{conclusions, table_value};
+ghost use Rattle.aj_books.specs.Memory.{node_of, nodes_at};
+ghost use Rattle.aj_book_rules.specs.Conclusions.{conclusions, table_value};
 ghost use Rattle.aj_effects.specs.Rules.{rule_of};
 ghost use Rattle.aj_effects.specs.Bodies.{list_of, part_of};
 ghost use Rattle.aj_rules.specs.Near.{rel_of};
@@ -14,9 +14,9 @@ ghost use Rattle.aj_derive.specs.Concluded.{BeginsWith, ConcludesOn, ConcludeAll
 
 use crate::basis::Basis;
 use aj_algebra::Basic;
-use aj_deriv::Derivation;
-use aj_deriv_rules::part_word;
-use aj_effects::{BodyPart, Parts, inner_parts, rule};
+use aj_book_rules::part_word;
+use aj_books::Derivation;
+use aj_effects::{BodyPart, InnerParts, inner_parts, rule};
 use aj_nodes::{Node, NodeTable};
 use std::alloc::{AllocError as NoMemory, Global};
 
@@ -121,7 +121,7 @@ fn all_concluded(
     basis: &Basis<'_>,
     table: &mut NodeTable,
     nodes: &mut Vec<Node>,
-    parts: Parts<'_>,
+    parts: InnerParts<'_>,
 ) -> Result<Vec<Derivation>, NoMemory>
     requires there { AreThere (length table.old) nodes.old.items }
     requires table { IsTable table.old }

@@ -1,13 +1,13 @@
 //! Derivations numbered in order of first use.
 ghost use Rattle.std.specs.Prelude.{length, IfOk, OnOk};
-ghost use Rattle.aj_book_grammar.specs.Books.{AreNumbered, IsNumbered};
-ghost use Rattle.aj_deriv.specs.Memory.{node_of, nodes_at};
+ghost use Rattle.aj_books.specs.Books.{AreNumbered, IsNumbered};
+ghost use Rattle.aj_books.specs.Memory.{node_of, nodes_at};
 ghost use Rattle.aj_nodes.specs.Shown.{AreThere, trees_at};
 ghost use Rattle.aj_derive.specs.Moved.{AreMoved, IsMoved};
 ghost use Rattle.aj_derive.specs.Pools.{pool_table, IsPool};
 
 use crate::pool::Pool;
-use aj_deriv::Derivation;
+use aj_books::Derivation;
 use aj_nodes::{Node, NodeTable};
 use std::alloc::{AllocError as NoMemory, Global};
 

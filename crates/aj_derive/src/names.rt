@@ -5,12 +5,12 @@ ghost use Rattle.aj_algebra.specs.declared.basic.Basic.TheVariants.{Error};
 ghost use Rattle.aj_algebra.specs.HeldPaths.{Held};
 ghost use Rattle.aj_cond.specs.Conditions.{cond_of, value_of};
 ghost use Rattle.aj_nodes.specs.Shown.{IsThere, node_value};
-ghost use Rattle.aj_deriv_rules.specs.Judges.{named_set};
+ghost use Rattle.aj_book_rules.specs.Judges.{named_set};
 ghost use Rattle.aj_derive.specs.Named.{Keeping, name_under};
 
 use aj_algebra::{Algebra, Basic};
+use aj_book_rules::holds;
 use aj_cond::Tree;
-use aj_deriv_rules::holds;
 use aj_nodes::{Node, NodeTable};
 use aj_paths::{Path, extend, under_call};
 use std::alloc::{AllocError as NoMemory, Global};

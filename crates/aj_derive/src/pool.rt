@@ -4,7 +4,7 @@ ghost use Rattle.std.specs.List.{list_all};
 ghost use Rattle.aj_cond.specs.Conditions.{cond_of};
 ghost use Rattle.aj_nodes.specs.Nodes.{Items};
 ghost use Rattle.aj_nodes.specs.Shown.{IsThere, node_tree};
-ghost use Rattle.aj_book_grammar.specs.Books.{IsPath};
+ghost use Rattle.aj_books.specs.Books.{IsPath};
 ghost use Rattle.aj_derive.specs.Pools.{pool_table, IsAtMost, IsNumberIn, IsPool};
 
 use aj_cond::Tree;

@@ -8,15 +8,15 @@ ghost use Rattle.aj_rules.specs.Effect.{after_stmt, call_of};
 ghost use Rattle.aj_rules.specs.Mentions.{paths_of};
 ghost use Rattle.aj_rules.specs.Near.{rel_of};
 ghost use Rattle.aj_nodes.specs.Shown.{IsThere, node_value};
-ghost use Rattle.aj_deriv_rules.specs.Judges.{named_set};
+ghost use Rattle.aj_book_rules.specs.Judges.{named_set};
 ghost use Rattle.aj_derive.specs.Bases.{own_trees, trees_assign};
 ghost use Rattle.aj_derive.specs.Named.{Keeping, name_under};
 
 use crate::basis::Basis;
 use crate::names::{Names, named, with_required};
 use aj_algebra::Basic;
+use aj_book_rules::{paths, required};
 use aj_core::{CoreExpr, CoreProgram, CoreStmt, path_of};
-use aj_deriv_rules::{paths, required};
 use aj_effects::Context;
 use aj_nodes::{Node, NodeTable};
 use aj_paths::{MethodId, Path};

@@ -8,9 +8,10 @@ ghost use Rattle.aj_rules.specs.Mentions.{paths_of};
 ghost use Rattle.aj_rules.specs.Near.{rel_of};
 
 use crate::assigned::Assigned;
+use crate::callee_sets::held_under;
+use crate::lists::has_all;
 use aj_algebra::Basic;
 use aj_core::{CoreExpr, CoreProgram};
-use aj_held_lists::{has_all, held_under};
 use aj_paths::{MethodId, Path};
 use aj_rules::RelevantSets;
 use std::alloc::{AllocError as NoMemory, Global};

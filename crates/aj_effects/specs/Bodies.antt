@@ -3,8 +3,8 @@ use Rattle.std.specs.Prelude.{List, [], ◌∷◌}
 use Rattle.aj_core.specs.Views.{expr_of, exprs_from, stmt_of, stmts_from}
 use Rattle.aj_effects.specs.declared.parts.BodyPart.{BodyPart}
 use Rattle.aj_effects.specs.declared.parts.BodyPart.TheVariants.{Expr, Stmt}
-use Rattle.aj_effects.specs.declared.parts.Parts.{Parts}
-use Rattle.aj_effects.specs.declared.parts.Parts.TheVariants as parts
+use Rattle.aj_effects.specs.declared.parts.InnerParts.{InnerParts}
+use Rattle.aj_effects.specs.declared.parts.InnerParts.TheVariants as parts
 use Rattle.aj_effects.specs.Parts.{Part, ExprP, StmtP, args_parts, block_parts}
 
 -- a part as plain data
@@ -13,7 +13,7 @@ part_of (Expr e) = ExprP (expr_of e.now)
 part_of (Stmt s) = StmtP (stmt_of s.now)
 
 -- the parts that are still to come, as plain data
-abbrev pub list_of : Parts → List Part
+abbrev pub list_of : InnerParts → List Part
 list_of parts.End = []
 list_of (parts.One a) = part_of a ∷ []
 list_of (parts.Two a b) = part_of a ∷ part_of b ∷ []

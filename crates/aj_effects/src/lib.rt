@@ -9,5 +9,5 @@ mod rules;
 
 pub use accesses::{Branching, access, access_value};
 pub use context::Context;
-pub use parts::{BodyPart, Parts, inner_parts};
+pub use parts::{BodyPart, InnerParts, inner_parts};
 pub use rules::rule;

@@ -15,7 +15,7 @@ pub enum BodyPart<'a> {
 
 /// The parts of a part that are still to come, in order.
 #[derive(Clone, Copy)]
-pub enum Parts<'a> {
+pub enum InnerParts<'a> {
     End,
     One(BodyPart<'a>),
     Two(BodyPart<'a>, BodyPart<'a>),
@@ -26,7 +26,7 @@ pub enum Parts<'a> {
 }
 
 /// The parts of an expression.
-fn expr_parts(e: &CoreExpr) -> Parts<'_>
+fn expr_parts(e: &CoreExpr) -> InnerParts<'_>
     ensures { list_of result ≡ parts_of (ExprP (expr_of e.now)) }
 {
     match e {
@@ -34,41 +34,41 @@ fn expr_parts(e: &CoreExpr) -> Parts<'_>
         | CoreExpr::Truth(_)
         | CoreExpr::Null
         | CoreExpr::This
-        | CoreExpr::Var { .. } => Parts::End,
+        | CoreExpr::Var { .. } => InnerParts::End,
         CoreExpr::Not(a) | CoreExpr::Neg(a) | CoreExpr::Get(a, _) => {
-            Parts::One(BodyPart::Expr(a))
+            InnerParts::One(BodyPart::Expr(a))
         }
         CoreExpr::Binary(_, a, b) | CoreExpr::And(a, b) | CoreExpr::Or(a, b) => {
-            Parts::Two(BodyPart::Expr(a), BodyPart::Expr(b))
+            InnerParts::Two(BodyPart::Expr(a), BodyPart::Expr(b))
         }
-        CoreExpr::Call(a, _, args) => Parts::Call(a, args.as_slice()),
-        CoreExpr::New(_, args) => Parts::Args(args.as_slice()),
+        CoreExpr::Call(a, _, args) => InnerParts::Call(a, args.as_slice()),
+        CoreExpr::New(_, args) => InnerParts::Args(args.as_slice()),
     }
 }
 
 /// The parts of a statement.
-fn stmt_parts(s: &CoreStmt) -> Parts<'_>
+fn stmt_parts(s: &CoreStmt) -> InnerParts<'_>
     ensures { list_of result ≡ parts_of (StmtP (stmt_of s.now)) }
 {
     match s {
-        CoreStmt::Empty | CoreStmt::Return(None) => Parts::End,
-        CoreStmt::Block(body) => Parts::Block(body.as_slice()),
+        CoreStmt::Empty | CoreStmt::Return(None) => InnerParts::End,
+        CoreStmt::Block(body) => InnerParts::Block(body.as_slice()),
         CoreStmt::Local { value, .. } | CoreStmt::SetVar(_, value) => {
-            Parts::One(BodyPart::Expr(value))
+            InnerParts::One(BodyPart::Expr(value))
         }
-        CoreStmt::SetField(a, _, b) => Parts::Two(BodyPart::Expr(a), BodyPart::Expr(b)),
+        CoreStmt::SetField(a, _, b) => InnerParts::Two(BodyPart::Expr(a), BodyPart::Expr(b)),
         CoreStmt::Do(e, _) | CoreStmt::Return(Some(e)) | CoreStmt::Print(e) | CoreStmt::Start(e) =>
-            Parts::One(BodyPart::Expr(e)),
+            InnerParts::One(BodyPart::Expr(e)),
         CoreStmt::If(c, a, b) => {
-            Parts::Three(BodyPart::Expr(c), BodyPart::Stmt(a), BodyPart::Stmt(b))
+            InnerParts::Three(BodyPart::Expr(c), BodyPart::Stmt(a), BodyPart::Stmt(b))
         }
-        CoreStmt::While(c, a) => Parts::Two(BodyPart::Expr(c), BodyPart::Stmt(a)),
-        CoreStmt::Sync(_, a) => Parts::One(BodyPart::Stmt(a)),
+        CoreStmt::While(c, a) => InnerParts::Two(BodyPart::Expr(c), BodyPart::Stmt(a)),
+        CoreStmt::Sync(_, a) => InnerParts::One(BodyPart::Stmt(a)),
     }
 }
 
 /// The parts that a part is made of.
-pub fn inner_parts(part: BodyPart<'_>) -> Parts<'_>
+pub fn inner_parts(part: BodyPart<'_>) -> InnerParts<'_>
     ensures { list_of result ≡ parts_of (part_of part.entry) }
 {
     match part {
@@ -77,25 +77,25 @@ pub fn inner_parts(part: BodyPart<'_>) -> Parts<'_>
     }
 }
 
-impl<'a> Parts<'a> {
+impl<'a> InnerParts<'a> {
     /// The first part, and the others.
-    pub fn first(self) -> Option<(BodyPart<'a>, Parts<'a>)>
+    pub fn first(self) -> Option<(BodyPart<'a>, InnerParts<'a>)>
         ensures none { IfNone result (list_of self.entry ≡ []) }
         ensures some { IfSome result (λ x. list_of self.entry ≡ part_of x.0 ∷ list_of x.1) }
     {
         match self {
-            Parts::End => None,
-            Parts::One(a) => Some((a, Parts::End)),
-            Parts::Two(a, b) => Some((a, Parts::One(b))),
-            Parts::Three(a, b, c) => Some((a, Parts::Two(b, c))),
-            Parts::Call(e, args) => Some((BodyPart::Expr(e), Parts::Args(args))),
-            Parts::Args(args) => {
+            InnerParts::End => None,
+            InnerParts::One(a) => Some((a, InnerParts::End)),
+            InnerParts::Two(a, b) => Some((a, InnerParts::One(b))),
+            InnerParts::Three(a, b, c) => Some((a, InnerParts::Two(b, c))),
+            InnerParts::Call(e, args) => Some((BodyPart::Expr(e), InnerParts::Args(args))),
+            InnerParts::Args(args) => {
                 let (e, rest) = args.split_first()?;
-                Some((BodyPart::Expr(e), Parts::Args(rest)))
+                Some((BodyPart::Expr(e), InnerParts::Args(rest)))
             }
-            Parts::Block(body) => {
+            InnerParts::Block(body) => {
                 let (s, rest) = body.split_first()?;
-                Some((BodyPart::Stmt(s), Parts::Block(rest)))
+                Some((BodyPart::Stmt(s), InnerParts::Block(rest)))
             }
         }
     }

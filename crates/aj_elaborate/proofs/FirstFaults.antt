@@ -1,6 +1,6 @@
 -- The first of a program's type faults, by the laws of first faults.
 use Rattle.std.proofs.Common.{◌≡◌, [], Some, None, refl, ◌==◌, if◌then◌else◌}
-use Rattle.aj_class_rules.specs.declared.first.Place.{Place}
+use Rattle.aj_class_rules.specs.declared.first.FaultPlace.{FaultPlace}
 use Rattle.aj_class_rules.proofs.FirstFaults as first
 use Rattle.aj_syntax.specs.Trees.{ProgramTree}
 use Rattle.aj_type_rules.specs.declared.fault.TypeFault.{TypeFault}
@@ -10,7 +10,7 @@ use Rattle.aj_elaborate.specs.Programs.{faults_of, IsFirstFault}
 use Rattle.aj_type_rules.specs.Noted.{noted}
 
 -- the fault that stands at a place
-abbrev fault_at : Place → TypeFault
+abbrev fault_at : FaultPlace → TypeFault
 fault_at p =
     if p.rank == 1 then kind.UnknownName p.offset else if p.rank == 2 then kind.NoRule p.offset else if p.rank == 3 then kind.FinalAssigned p.offset
     else if p.rank == 4 then kind.NotALock p.offset else if p.rank == 5 then kind.MissingReturn p.offset else if p.rank == 6 then kind.Unreachable p.offset

@@ -5,7 +5,7 @@ use Rattle.std.specs.declared.boxed.Box.{Box}
 use Rattle.aj_core.specs.Core.{Field, Method, Stmt}
 use Rattle.aj_core.specs.Views.{field_of, method_of, stmt_of}
 use Rattle.aj_core.specs.declared.tree.CoreStmt.{CoreStmt}
-use Rattle.aj_elaborate.specs.declared.members.Parts.{Parts}
+use Rattle.aj_elaborate.specs.declared.members.Members.{Members}
 use Rattle.aj_elaborate.specs.Gathered.{gathered}
 
 -- the core statement in a box
@@ -13,9 +13,9 @@ abbrev pub boxed_stmt : Box CoreStmt Global → Stmt
 boxed_stmt b = stmt_of b.value
 
 -- the core fields that were gathered, or none where one of them is missing
-abbrev pub fields_data : Parts → Option (List Field)
+abbrev pub fields_data : Members → Option (List Field)
 fields_data p = option_map (map field_of) (gathered p.fields)
 
 -- the core methods that were gathered, or none where one of them is missing
-abbrev pub methods_data : Parts → Option (List Method)
+abbrev pub methods_data : Members → Option (List Method)
 methods_data p = option_map (map method_of) (gathered p.methods)

@@ -21,7 +21,7 @@ ghost use Rattle.aj_elaborate.specs.Views.{fields_data, methods_data};
 
 use crate::classes::core_classes;
 use crate::lineage::{Lineage, lineages};
-use crate::members::{Parts, parts_of};
+use crate::members::{Members, parts_of};
 use crate::order::from_above;
 use aj_classes::ClassTable;
 use aj_core::{CoreField, CoreMethod, CoreProgram};
@@ -74,7 +74,7 @@ fn assembled(
     table: &ClassTable,
     order: &[ClassId],
     lineages: &[Lineage],
-    parts: Parts,
+    parts: Members,
 ) -> Result<CoreProgram, NoMemory>
     requires lined { IsLined (table_data table.now) }
     requires order { IsFromAbove (above_in_table (table_data table.now)) (length (table_data table.now).classes) order.now }
@@ -82,7 +82,7 @@ fn assembled(
     requires whole { (P : CoreData) × (option_map (program_node (table_data table.now)) (both (fields_data parts) (methods_data parts)) ≡ Some P) }
     ensures { IfOk result (λ p. Some (core.program_of p) ≡ option_map (program_node (table_data table.now)) (both (fields_data parts) (methods_data parts))) }
 {
-    let Parts { fields, methods } = parts;
+    let Members { fields, methods } = parts;
     let fields = fields.all().unwrap();
     let methods = methods.all().unwrap();
     core_program(alloc, table, order, lineages, fields, methods)

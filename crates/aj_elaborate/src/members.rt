@@ -26,7 +26,7 @@ use std::alloc::{AllocError as NoMemory, Global};
 
 /// The core fields and methods so far.
 #[derive(Drop)]
-pub(crate) struct Parts {
+pub(crate) struct Members {
     pub(crate) fields: Gathered<CoreField>,
     pub(crate) methods: Gathered<CoreMethod>,
 }
@@ -87,7 +87,7 @@ fn add_member(
     class: ClassId,
     index: u16,
     member: &Member,
-    parts: &mut Parts,
+    parts: &mut Members,
     first: &mut FirstFault,
 ) -> Result<u16, NoMemory>
     ensures fields { OnOk result (fields_data parts.new ≡ with_field (table_data table.now) class index (member_of member.now) (fields_data parts.old)) }
@@ -124,7 +124,7 @@ fn add_members(
     class: ClassId,
     inherited: u16,
     members: &[Member],
-    parts: &mut Parts,
+    parts: &mut Members,
     first: &mut FirstFault,
 ) -> Result<(), NoMemory>
     ensures fields { OnOk result (fields_data parts.new ≡ appended (fields_data parts.old) (all_there (fields_core (table_data table.now) class inherited (map member_of members.now)))) }
@@ -155,14 +155,14 @@ pub(crate) fn parts_of(
     lineages: &[Lineage],
     classes: &[Class],
     first: &mut FirstFault,
-) -> Result<Parts, NoMemory>
+) -> Result<Members, NoMemory>
     requires many { length classes.now ≡ length (table_data table.now).classes }
     requires lineages { (c : ℕ) → c < length (table_data table.now).classes → slice_get lineages.now c ≡ Some (lineage_of (table_data table.now) c) }
     ensures fields { IfOk result (λ p. fields_data p ≡ all_there (all_fields (table_data table.now) 0 (map class_of classes.now))) }
     ensures methods { IfOk result (λ p. methods_data p ≡ all_there (all_methods (table_data table.now) 0 (map class_of classes.now))) }
     ensures fault { OnOk result (first.new ≡ noted first.old (faults_from (table_data table.now) 0 (map class_of classes.now))) }
 {
-    let mut parts = Parts {
+    let mut parts = Members {
         fields: Gathered::new(alloc),
         methods: Gathered::new(alloc),
     };

@@ -19,7 +19,7 @@ use Rattle.aj_rules.specs.Guards.{guard_of}
 use Rattle.aj_rules.specs.Effect.{Assignment, access_effect, held_under, required_paths, variable_effect, write_guarded}
 use Rattle.aj_rules.specs.Mentions.{paths_of}
 use Rattle.aj_rules.specs.Rules.{AtMost, IsPart}
-use Rattle.aj_deriv_rules.specs.Parts.{Part, ExprP, StmtP}
+use Rattle.aj_book_rules.specs.Parts.{Part, ExprP, StmtP}
 use Rattle.aj_why.specs.Parts.{lock_effect, own_of}
 use Rattle.aj_why.specs.Helping.{help}
 use Rattle.aj_why.proofs.Helping.{part_helps}

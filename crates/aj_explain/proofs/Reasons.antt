@@ -11,7 +11,7 @@ use Rattle.aj_algebra.specs.Basics.{below_of}
 use Rattle.aj_algebra.specs.HeldPaths.{Held, has_path}
 use Rattle.aj_core.specs.Core.{Program, Expr, Stmt, GetE}
 use Rattle.aj_core.specs.Core.{EmptyS, BlockS, LocalS, SetVarS, SetFieldS, DoS, IfS, WhileS, SyncS, ReturnS, PrintS, StartS}
-use Rattle.aj_deriv_rules.specs.Parts.{ExprP, StmtP}
+use Rattle.aj_book_rules.specs.Parts.{ExprP, StmtP}
 use Rattle.aj_lemmas.proofs.Lists.{next_drop}
 use Rattle.aj_rules.specs.declared.guard.Guard.{Guard}
 use Rattle.aj_rules.specs.declared.guard.Guard.TheVariants.{Final, Free, Named, Unnamed, WriteNamed, WriteUnnamed}

@@ -7,7 +7,7 @@ use Rattle.aj_core.specs.declared.tree.CoreExpr.{CoreExpr}
 use Rattle.aj_core.specs.Core.{Program, CallE}
 use Rattle.aj_core.specs.Locks.{path_of}
 use Rattle.aj_core.specs.Views.{expr_of, exprs_from}
-use Rattle.aj_deriv_rules.specs.Parts.{Part, ExprP}
+use Rattle.aj_book_rules.specs.Parts.{Part, ExprP}
 use Rattle.aj_rules.specs.Effect.{Assignment}
 use Rattle.aj_why.specs.Helping.{help}
 use Rattle.aj_explain.specs.declared.causes.Cause.{Cause}

@@ -14,7 +14,7 @@ use Rattle.aj_core.specs.declared.types.CoreType.{CoreType}
 use Rattle.aj_core.specs.Core.{Program, Expr, Stmt, Stmts, EmptyS, BlockS, LocalS, SetVarS, SetFieldS, DoS, IfS, WhileS, SyncS, ReturnS, PrintS, StartS, and_stmt}
 use Rattle.aj_core.specs.Locks.{path_of}
 use Rattle.aj_core.specs.Sizes.{nodes_of, stmt_nodes}
-use Rattle.aj_deriv_rules.specs.Parts.{StmtP}
+use Rattle.aj_book_rules.specs.Parts.{StmtP}
 use Rattle.aj_rules.specs.Effect.{Assignment, access_of, expr_effect, sync_effect, effect, block_effect, after_stmt}
 use Rattle.aj_why.proofs.Readings.{stmt_moved}
 use Rattle.aj_why.specs.Readings.{is_error, own_at}

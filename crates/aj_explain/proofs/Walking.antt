@@ -17,7 +17,7 @@ use Rattle.aj_core.specs.Core.{Program, Expr, Exprs, IntE, TruthE, NullE, ThisE,
 use Rattle.aj_core.specs.Core.{Stmt, Stmts, EmptyS, BlockS, LocalS, SetVarS, SetFieldS, DoS, IfS, WhileS, SyncS, ReturnS, PrintS, StartS, no_stmts, and_stmt}
 use Rattle.aj_core.specs.Locks.{path_of}
 use Rattle.aj_core.specs.Sizes.{nodes_of, nodes_of_each, value_nodes, stmt_nodes, stmt_nodes_each}
-use Rattle.aj_deriv_rules.specs.Parts.{ExprP}
+use Rattle.aj_book_rules.specs.Parts.{ExprP}
 use Rattle.aj_rules.specs.Effect.{Assignment, call_of, expr_effect, exprs_effect, after_stmt}
 use Rattle.aj_rules.specs.Mentions.{paths_of}
 use Rattle.aj_why.specs.Readings.{is_error, own_at}

@@ -7,7 +7,7 @@ use Rattle.aj_paths.specs.Renamings.{under_call}
 use Rattle.aj_algebra.specs.HeldPaths.{Held, has_path}
 use Rattle.aj_core.specs.Core.{Program, Expr, Exprs, GetE, CallE, SetFieldS}
 use Rattle.aj_core.specs.Locks.{path_of}
-use Rattle.aj_deriv_rules.specs.Parts.{Part, ExprP, StmtP}
+use Rattle.aj_book_rules.specs.Parts.{Part, ExprP, StmtP}
 use Rattle.aj_rules.specs.declared.guard.Guard.{Guard}
 use Rattle.aj_rules.specs.declared.guard.Guard.TheVariants as guard
 use Rattle.aj_rules.specs.Guards.{guard_of}

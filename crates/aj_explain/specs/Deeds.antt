@@ -7,7 +7,7 @@ use Rattle.aj_algebra.specs.declared.basic.Basic.TheVariants.{Const, Mover, Atom
 use Rattle.aj_algebra.specs.HeldPaths.{Held}
 use Rattle.aj_core.specs.Core.{Program, Expr, GetE, CallE, SetFieldS, SyncS, PrintS, StartS}
 use Rattle.aj_core.specs.Locks.{path_of}
-use Rattle.aj_deriv_rules.specs.Parts.{Part, ExprP, StmtP}
+use Rattle.aj_book_rules.specs.Parts.{Part, ExprP, StmtP}
 use Rattle.aj_rules.specs.declared.guard.Guard.{Guard}
 use Rattle.aj_rules.specs.declared.guard.Guard.TheVariants as guard
 use Rattle.aj_rules.specs.Guards.{guard_of}

@@ -7,7 +7,7 @@ use Rattle.aj_algebra.specs.Basics.{below_of}
 use Rattle.aj_algebra.specs.HeldPaths.{Held, has_path}
 use Rattle.aj_core.specs.Core.{Program, Method, CallE, Stmt, Stmts, BlockS, IfS, WhileS, SyncS, no_stmts, and_stmt}
 use Rattle.aj_core.specs.Locks.{path_of}
-use Rattle.aj_deriv_rules.specs.Parts.{Part, ExprP, StmtP}
+use Rattle.aj_book_rules.specs.Parts.{Part, ExprP, StmtP}
 use Rattle.aj_rules.specs.Effect.{Assignment, effect, held_under, required_paths}
 use Rattle.aj_rules.specs.Mentions.{paths_of}
 use Rattle.aj_rules.specs.Rules.{held_in}

@@ -3,7 +3,7 @@ use Rattle.std.specs.Prelude.{ℕ, zero, suc, true, false, ◌==◌, List, [], �
 use Rattle.std.specs.List.{filter_map}
 use Rattle.aj_paths.specs.Paths.{PathData, extended}
 use Rattle.aj_algebra.specs.HeldPaths.{Held}
-use Rattle.aj_held_lists.specs.HeldLists.{local_name}
+use Rattle.aj_effect_at.specs.HeldLists.{local_name}
 use Rattle.aj_core.specs.Core.{Program, Expr, Exprs, no_exprs, and_expr, ThisE, VarE, GetE}
 use Rattle.aj_core.specs.Core.{Stmt, Stmts, BlockS, LocalS, IfS, WhileS, SyncS, no_stmts, and_stmt}
 use Rattle.aj_core.specs.Locks.{path_of, leads_on}

@@ -6,7 +6,7 @@ use Rattle.aj_algebra.specs.declared.basic.Basic.TheVariants.{Atomic}
 use Rattle.aj_algebra.specs.Basics.{below_of}
 use Rattle.aj_algebra.specs.HeldPaths.{has_path}
 use Rattle.aj_core.specs.Core.{Program, Method, CallE}
-use Rattle.aj_deriv_rules.specs.Parts.{Part, ExprP}
+use Rattle.aj_book_rules.specs.Parts.{Part, ExprP}
 use Rattle.aj_rules.specs.Effect.{Assignment}
 use Rattle.aj_rules.specs.Rules.{declared_bound}
 use Rattle.aj_explain.specs.Explaining.{why_of}

@@ -5,7 +5,7 @@ use Rattle.aj_algebra.specs.declared.basic.Basic.{Basic}
 use Rattle.aj_algebra.specs.HeldPaths.{has_path}
 use Rattle.aj_core.specs.Core.{Program}
 use Rattle.aj_core.specs.Views.{expr_of, stmt_of}
-use Rattle.aj_deriv_rules.specs.Parts.{Part, ExprP, StmtP}
+use Rattle.aj_book_rules.specs.Parts.{Part, ExprP, StmtP}
 use Rattle.aj_explain.specs.declared.found.CorePart.{CorePart}
 use Rattle.aj_explain.specs.declared.found.CorePart.TheVariants as part
 use Rattle.aj_explain.specs.declared.found.Visited.{Visited}

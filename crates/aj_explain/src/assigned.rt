@@ -6,8 +6,7 @@ ghost use Rattle.aj_cond.specs.Conditions.{cond_of, value_of};
 
 use aj_algebra::Basic;
 use aj_cond::Tree;
-use aj_effect_at::Assigned;
-use aj_held_lists::has;
+use aj_effect_at::{Assigned, has};
 use aj_paths::{MethodId, Path};
 
 /// A tree for each method, which shows what is assigned to it.

@@ -3,7 +3,7 @@
 ghost use Rattle.std.specs.Prelude.{◌≡◌, ◌∷◌, ◌++◌, List, [], map, slice_get, drop, filter, not, option_map, IfOk, OnOk, MatchOption, IsSome, None, if◌then◌else◌};
 ghost use Rattle.aj_algebra.specs.HeldPaths.{has_path};
 ghost use Rattle.aj_core.specs.Views.{expr_of, method_of, program_of, stmt_of, stmts_from};
-ghost use Rattle.aj_deriv_rules.specs.Parts.{ExprP, StmtP};
+ghost use Rattle.aj_book_rules.specs.Parts.{ExprP, StmtP};
 ghost use Rattle.aj_rules.specs.Effect.{effect};
 ghost use Rattle.aj_rules.specs.Near.{rel_of};
 ghost use Rattle.aj_why.specs.Parts.{own_of};
@@ -17,10 +17,9 @@ ghost use Rattle.aj_explain.specs.Views.{errors_in, part_of, visit_of, visits_of
 use crate::found::{CorePart, Found, Visited};
 use crate::walk::{Walk, walk_stmt};
 use aj_algebra::Basic;
+use aj_book_rules::required;
 use aj_core::{CoreExpr, CoreMethod, CoreStmt};
-use aj_deriv_rules::required;
-use aj_effect_at::{Assigned, call_effect};
-use aj_held_lists::{among, has_all, held_under};
+use aj_effect_at::{Assigned, among, call_effect, has_all, held_under};
 use aj_paths::{MethodId, Path};
 use std::alloc::{AllocError as NoMemory, Global};
 

@@ -10,7 +10,7 @@ ghost use Rattle.aj_explain.specs.Views.{part_of, visits_of};
 
 use aj_algebra::Basic;
 use aj_core::{CoreExpr, CoreStmt};
-use aj_held_lists::copied;
+use aj_effect_at::copied;
 use aj_paths::Path;
 use std::alloc::{AllocError as NoMemory, Global};
 use std::mem::replace;

@@ -4,7 +4,7 @@ ghost use Rattle.std.specs.Prelude.{◌≡◌, ◌==◌, ℕ, List, Contains, Op
 ghost use Rattle.std.specs.List.{IsDistinct};
 ghost use Rattle.aj_algebra.specs.HeldPaths.{Held, has_path, with_path};
 ghost use Rattle.aj_algebra.specs.declared.basic.Basic.TheVariants.{Error, Mover};
-ghost use Rattle.aj_deriv_rules.specs.Parts.{Part};
+ghost use Rattle.aj_book_rules.specs.Parts.{Part};
 ghost use Rattle.aj_paths.specs.Paths.{PathData};
 ghost use Rattle.aj_core.specs.Core.{Method, Program};
 ghost use Rattle.aj_rules.specs.Effect.{Assignment, required_paths};

@@ -14,8 +14,7 @@ ghost use Rattle.aj_explain.specs.Walked.{InsideExpr, InsideStmt, WalkedBlock, W
 use crate::found::{CorePart, Found, Reached};
 use aj_algebra::Basic;
 use aj_core::{CoreExpr, CoreProgram, CoreStmt};
-use aj_effect_at::{Assigned, access, call_effect, variable};
-use aj_held_lists::{after, copied, has, with_path};
+use aj_effect_at::{Assigned, access, after, call_effect, copied, has, variable, with_path};
 use aj_paths::Path;
 use aj_rules::RelevantSets;
 use std::alloc::{AllocError as NoMemory, Global};

@@ -20,7 +20,7 @@ use Rattle.aj_expressions.proofs.Loops.{below_law, member_more, member_done, cha
 use Rattle.aj_expressions.specs.Combine.{Res, ◌>>=◌, starts, first, when, take_one, loop, comma_step, allow}
 use Rattle.aj_expressions.specs.Words.{is_number, is_least, op_of, op_at, an_op, is_op, field_name}
 use Rattle.aj_expressions.specs.Expressions.{begins_expression, leaf, arguments, call_arguments, new_rest, parenthesised, primary, member_rest, member_step, dots, postfix, negated, unary, op_step, chain_with, chain_at, below}
-use Rattle.aj_expressions.specs.declared.stop.Fault.TheVariants as F
+use Rattle.aj_expressions.specs.declared.stop.SyntaxFault.TheVariants as F
 
 -- an answer that is too deep
 abbrev pub IsDeep : {A : Type 0} → Res A → Type 0

@@ -13,7 +13,7 @@ use Rattle.aj_syntax.specs.Tokens.{is, token, name_token, same_kind, kind_of, sp
 use Rattle.aj_expressions.proofs.Right.{Meets, Goes, RightAt, Right, Any, Some_of, right_seq, right_along, right_weaker}
 use Rattle.aj_expressions.specs.Combine.{Res, ◌>>=◌, starts, got, first, allow, take_one, when, flag, flagged, beyond}
 use Rattle.aj_expressions.specs.Words.{a_name, name_if}
-use Rattle.aj_expressions.specs.declared.stop.Fault.TheVariants as F
+use Rattle.aj_expressions.specs.declared.stop.SyntaxFault.TheVariants as F
 
 -- one token of which C says what it means
 abbrev pub One : {A : Type 0} → (Token → A → Type 0) → List Token → A → Type 0

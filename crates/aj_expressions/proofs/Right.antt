@@ -2,8 +2,8 @@
 use Rattle.std.proofs.Common.{◌≡◌, List, [], ◌∷◌, ◌++◌, Ok, Err, refl, sym, ◌∙◌, ap, subst, append_assoc}
 use Rattle.aj_lexer.specs.declared.tokens.Token.{Token}
 use Rattle.aj_expressions.specs.Combine.{Res, ◌>>=◌}
-use Rattle.aj_expressions.specs.declared.stop.Fault.{Fault}
-use Rattle.aj_expressions.specs.declared.stop.Fault.TheVariants as F
+use Rattle.aj_expressions.specs.declared.stop.SyntaxFault.{SyntaxFault}
+use Rattle.aj_expressions.specs.declared.stop.SyntaxFault.TheVariants as F
 
 -- the same next token, or both at the end
 abbrev pub Meets : List Token → List Token → Type 0
@@ -12,7 +12,7 @@ Meets (x ∷ xs) [] = ⊥
 Meets (x ∷ xs) (y ∷ ys) = x ≡ y
 
 -- the completion of what was read goes through the token that is too deep
-abbrev pub Goes : Fault → List Token → List Token → Type 0
+abbrev pub Goes : SyntaxFault → List Token → List Token → Type 0
 Goes F.Unexpected r more = Unit {0}
 Goes F.TooDeep [] more = ⊥
 Goes F.TooDeep (x ∷ xs) [] = ⊥
@@ -27,7 +27,7 @@ pub record RightOk {A : Type 0} (p : List Token → Res A) (L : List Token → A
   pub again : (w : List Token) → Meets r w → p (front ++ w) ≡ Ok (t, w)
 
 -- p answers Err (f, r) on ts
-pub record RightErr {A : Type 0} (p : List Token → Res A) (L : List Token → A → Type 0) (ts : List Token) (f : Fault) (r : List Token) : Type 0 where
+pub record RightErr {A : Type 0} (p : List Token → Res A) (L : List Token → A → Type 0) (ts : List Token) (f : SyntaxFault) (r : List Token) : Type 0 where
   pub front : List Token
   pub whole : ts ≡ front ++ r
   pub more : List Token
@@ -55,7 +55,7 @@ pub meets_append : (f r w : List Token) → Meets r w → Meets (f ++ r) (f ++ w
 meets_append [] r w m = m
 meets_append (x ∷ f) r w m = refl
 
-goes_append : (f : Fault) (r more ys : List Token) → Goes f r more → Goes f r (more ++ ys)
+goes_append : (f : SyntaxFault) (r more ys : List Token) → Goes f r more → Goes f r (more ++ ys)
 goes_append F.Unexpected r more ys g = tt
 goes_append F.TooDeep [] more ys g = absurd g
 goes_append F.TooDeep (x ∷ xs) [] ys g = absurd g

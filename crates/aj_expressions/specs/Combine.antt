@@ -4,12 +4,12 @@ use Rattle.aj_lexer.specs.declared.tokens.Token.{Token}
 use Rattle.aj_syntax.specs.declared.terminal.Terminal.{Terminal}
 use Rattle.aj_syntax.specs.declared.terminal.Terminal.TheVariants as T
 use Rattle.aj_syntax.specs.Tokens.{is}
-use Rattle.aj_expressions.specs.declared.stop.Fault.{Fault}
-use Rattle.aj_expressions.specs.declared.stop.Fault.TheVariants as F
+use Rattle.aj_expressions.specs.declared.stop.SyntaxFault.{SyntaxFault}
+use Rattle.aj_expressions.specs.declared.stop.SyntaxFault.TheVariants as F
 
 -- what reading a part gives: its value and the tokens behind it, or a fault and the tokens from the faulty one on
 abbrev pub Res : Type 0 → Type 0
-Res A = Result (A × List Token) (Fault × List Token)
+Res A = Result (A × List Token) (SyntaxFault × List Token)
 
 infixl 10 ◌>>=◌
 -- reads one part, and then another

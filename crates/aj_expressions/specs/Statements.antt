@@ -9,7 +9,7 @@ use Rattle.aj_syntax.specs.Heights.{height}
 use Rattle.aj_syntax.specs.Tokens.{is}
 use Rattle.aj_syntax.specs.Trees.{ExprTree, NumberE, LeastE, TruthE, NullE, ThisE, VarE, ParenE, NotE, NegE, BinaryE, GetE, CallE, NewE, StmtTree, EmptyS, LocalS, SetVarS, SetFieldS, DoS, ReturnS, PrintS, StartS}
 use Rattle.aj_expressions.specs.Combine.{Res, ◌>>=◌, starts, first, take_one, allow}
-use Rattle.aj_expressions.specs.declared.stop.Fault.TheVariants as F
+use Rattle.aj_expressions.specs.declared.stop.SyntaxFault.TheVariants as F
 use Rattle.aj_expressions.specs.Words.{a_name, is_name, type_name}
 use Rattle.aj_syntax.specs.Offsets.{first_at}
 use Rattle.aj_expressions.specs.Expressions.{is_leaf, new_rest, primary, dots, below}

@@ -11,7 +11,7 @@ ghost use Rattle.aj_expressions.specs.Words.{is_op, field_name as field_name_at}
 ghost use Rattle.aj_expressions.specs.Expressions.{arguments as arguments_at, below, call_arguments, chain_at, chain_with, dots as dots_at, leaf as leaf_at, member_rest as member_rest_at, member_step as member_step_at, negated as negated_at, new_rest as new_rest_at, op_step, parenthesised as parenthesised_at, postfix as postfix_at, primary as primary_at, unary as unary_at};
 
 use crate::lexeme::Lexeme;
-use crate::stop::{Fault, Stop};
+use crate::stop::{Stop, SyntaxFault};
 use crate::tokens::{
     accept, begins, begins_any_operator, begins_expression, begins_least, begins_number,
     begins_operator, least, name, number, operator, take,
@@ -334,7 +334,7 @@ fn member<'t, 'a>(
     let Parsed { tree, height, rest } = receiver;
     let whole = Box::new(alloc, tree)?;
     if high <= height {
-        return Err(Stop::Fault(Fault::TooDeep, rest));
+        return Err(Stop::Fault(SyntaxFault::TooDeep, rest));
     }
     let (member, rest) = field_name(rest)?;
     member_rest(alloc, whole, height, member, rest, high)
@@ -455,7 +455,7 @@ fn operation<'t, 'a>(
     let Parsed { tree, height, rest } = left;
     let operand = Box::new(alloc, tree)?;
     if high <= height {
-        return Err(Stop::Fault(Fault::TooDeep, rest));
+        return Err(Stop::Fault(SyntaxFault::TooDeep, rest));
     }
     let ((op, at), rest) = operator(rest, levels + 1)?;
     let right = chain(alloc, rest, high - 1, levels)?;
@@ -542,9 +542,9 @@ pub fn chain<'t, 'a>(
 {
     if high == 0 {
         if begins_expression(tokens) {
-            return Err(Stop::Fault(Fault::TooDeep, tokens));
+            return Err(Stop::Fault(SyntaxFault::TooDeep, tokens));
         }
-        return Err(Stop::Fault(Fault::Unexpected, tokens));
+        return Err(Stop::Fault(SyntaxFault::Unexpected, tokens));
     }
     operations(alloc, tokens, high, levels)
 }

@@ -13,5 +13,5 @@ pub use expression::{Arguments, LEVELS, Parsed, chain, dots, field_name, new_res
 pub use lexeme::{Lexeme, lexemes};
 pub use plain::{condition, lock, plain_statement, type_name};
 pub use starts::{begins_statement, goes_on};
-pub use stop::{Fault, Stop};
+pub use stop::{Stop, SyntaxFault};
 pub use tokens::{accept, begins, begins_name, flag, is_leaf, is_name_token, name, take};

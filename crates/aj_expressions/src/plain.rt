@@ -14,7 +14,7 @@ ghost use Rattle.aj_expressions.specs.Statements.{assigned as assigned_at, call_
 use crate::expression::{LEVELS, Parsed, chain, dots, field_name, new_rest, primary};
 use crate::lexeme::Lexeme;
 use crate::starts::{begins_declaration, begins_second_name};
-use crate::stop::{Fault, Stop};
+use crate::stop::{Stop, SyntaxFault};
 use crate::tokens::{accept, begins, begins_name, name, take};
 use aj_syntax::{Expr, Lock, Name, Stmt, Terminal, TypeName};
 use std::alloc::Global;
@@ -281,10 +281,10 @@ fn call_end<'t, 'a>(
     let at = tree.first_at();
     let call = Box::new(alloc, tree)?;
     if !begins(rest, Terminal::Semicolon) {
-        return Err(Stop::Fault(Fault::Unexpected, rest));
+        return Err(Stop::Fault(SyntaxFault::Unexpected, rest));
     }
     if high <= height {
-        return Err(Stop::Fault(Fault::TooDeep, rest));
+        return Err(Stop::Fault(SyntaxFault::TooDeep, rest));
     }
     let (_, rest) = take(rest, Terminal::Semicolon)?;
     Ok((Stmt::Do(call, at), rest))
@@ -311,7 +311,7 @@ fn target<'t, 'a>(
             let ((value, at), rest) = assigned(alloc, tokens, high)?;
             Ok((Stmt::SetField(receiver, name, value, at), rest))
         }
-        _ => Err(Stop::Fault(Fault::Unexpected, tokens)),
+        _ => Err(Stop::Fault(SyntaxFault::Unexpected, tokens)),
     }
 }
 

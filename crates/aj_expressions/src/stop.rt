@@ -7,7 +7,7 @@ use std::alloc::{AllocError, AllocFailed};
 
 /// Why tokens can't be read: one is not expected where it stands, or a node would be too high.
 #[derive(Clone, Copy, Debug, PartialEq, Eq)]
-pub enum Fault {
+pub enum SyntaxFault {
     Unexpected,
     TooDeep,
 }
@@ -16,7 +16,7 @@ pub enum Fault {
 #[derive(Drop)]
 pub enum Stop<'t, 'a> {
     Memory,
-    Fault(Fault, &'t [Lexeme<'a>]),
+    Fault(SyntaxFault, &'t [Lexeme<'a>]),
 }
 
 impl<'t, 'a> From<AllocError> for Stop<'t, 'a> {

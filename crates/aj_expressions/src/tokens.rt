@@ -9,7 +9,7 @@ ghost use Rattle.aj_expressions.specs.Words.{a_least, a_name, a_number, an_op, i
 ghost use Rattle.aj_expressions.specs.Expressions.{begins_expression as may_begin_expression, is_leaf as may_be_leaf};
 
 use crate::lexeme::Lexeme;
-use crate::stop::{Fault, Stop};
+use crate::stop::{Stop, SyntaxFault};
 use aj_lexer::{GREATEST_LITERAL, TokenKind};
 use aj_syntax::{Name, Op, Terminal};
 
@@ -34,7 +34,7 @@ pub fn take<'t, 'a>(
 {
     match tokens {
         [token, rest @ ..] if token.is(terminal) => Ok((token.at, rest)),
-        _ => Err(Stop::Fault(Fault::Unexpected, tokens)),
+        _ => Err(Stop::Fault(SyntaxFault::Unexpected, tokens)),
     }
 }
 
@@ -141,7 +141,7 @@ pub fn name<'t, 'a>(tokens: &'t [Lexeme<'a>]) -> Result<(Name<'a>, &'t [Lexeme<'
             let text = token.text;
             Ok((Name { text, at: token.at }, rest))
         }
-        _ => Err(Stop::Fault(Fault::Unexpected, tokens)),
+        _ => Err(Stop::Fault(SyntaxFault::Unexpected, tokens)),
     }
 }
 
@@ -154,9 +154,9 @@ pub fn number<'t, 'a>(
     match tokens {
         [token, rest @ ..] => match token.kind {
             TokenKind::Number(value) if value < GREATEST_LITERAL => Ok(((value, token.at), rest)),
-            _ => Err(Stop::Fault(Fault::Unexpected, tokens)),
+            _ => Err(Stop::Fault(SyntaxFault::Unexpected, tokens)),
         },
-        [] => Err(Stop::Fault(Fault::Unexpected, tokens)),
+        [] => Err(Stop::Fault(SyntaxFault::Unexpected, tokens)),
     }
 }
 
@@ -166,7 +166,7 @@ pub fn least<'t, 'a>(tokens: &'t [Lexeme<'a>]) -> Result<(u32, &'t [Lexeme<'a>])
 {
     match tokens {
         [token, rest @ ..] if is_least_token(token) => Ok((token.at, rest)),
-        _ => Err(Stop::Fault(Fault::Unexpected, tokens)),
+        _ => Err(Stop::Fault(SyntaxFault::Unexpected, tokens)),
     }
 }
 
@@ -253,9 +253,9 @@ pub fn operator<'t, 'a>(
     match tokens {
         [token, rest @ ..] => match operator_of(token) {
             Some(op) if level(op) == levels => Ok(((op, token.at), rest)),
-            _ => Err(Stop::Fault(Fault::Unexpected, tokens)),
+            _ => Err(Stop::Fault(SyntaxFault::Unexpected, tokens)),
         },
-        [] => Err(Stop::Fault(Fault::Unexpected, tokens)),
+        [] => Err(Stop::Fault(SyntaxFault::Unexpected, tokens)),
     }
 }
 

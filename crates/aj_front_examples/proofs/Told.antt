@@ -4,15 +4,15 @@ use Rattle.std.specs.Prelude.{Contains}
 use Rattle.std.specs.List.{list_all}
 use Rattle.std.proofs.lemmas.Bool.{not-true}
 use Rattle.aj_lemmas.proofs.Lists.{all_at}
-use Rattle.aj_class_rules.specs.declared.first.Place.{Place}
+use Rattle.aj_class_rules.specs.declared.first.FaultPlace.{FaultPlace}
 use Rattle.aj_class_rules.specs.First.{comes_before, IsFirst}
 
-pub first_is : {F : Type 0} (place : F → Place) (faults : List F) (f : F) → Contains faults f → list_all (λ g. not (comes_before (place g) (place f))) faults ≡ true → IsFirst place faults f
+pub first_is : {F : Type 0} (place : F → FaultPlace) (faults : List F) (f : F) → Contains faults f → list_all (λ g. not (comes_before (place g) (place f))) faults ≡ true → IsFirst place faults f
 first_is place faults f stands all = record {
   stands = stands;
   least = λ g has. not-true (comes_before (place g) (place f)) (all_at (λ g. not (comes_before (place g) (place f))) faults all g has);
 }
 
 -- one comes before it
-pub not_first : {F : Type 0} (place : F → Place) (faults : List F) (f g : F) → Contains faults g → comes_before (place g) (place f) ≡ true → IsFirst place faults f → ⊥
+pub not_first : {F : Type 0} (place : F → FaultPlace) (faults : List F) (f g : F) → Contains faults g → comes_before (place g) (place f) ≡ true → IsFirst place faults f → ⊥
 not_first place faults f g has before first = let late : comes_before (place g) (place f) ≡ false = first.least g has in absurd cc

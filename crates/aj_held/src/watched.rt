@@ -9,9 +9,9 @@ ghost use Rattle.aj_deeds.specs.declared.deed.StepEnd.TheVariants as ends;
 ghost use Rattle.aj_machine.specs.Standing.{program_run, StandsFor, IsSame};
 ghost use Rattle.aj_held.specs.Watching.{IsGuarded, IsWatchedTurn};
 
+use aj_book_check::Checked;
 use aj_compile::CodeTable;
 use aj_deeds::StepEnd;
-use aj_deriv_check::Checked;
 use aj_machine::Machine;
 use aj_state::StepKind;
 use std::alloc::{AllocError as NoMemory, Global};

@@ -16,7 +16,7 @@ use crate::rows::{are_below, joined, put_parts};
 use crate::table::{Table, table_at, value_of};
 use crate::walk::{Walk, stmt_value};
 use aj_algebra::{Algebra, Basic};
-use aj_callers::Row;
+use aj_callers::Callers;
 use aj_core::CoreMethod;
 use aj_fix::{Rising, least};
 use aj_paths::{MethodId, Path};
@@ -149,7 +149,7 @@ pub(crate) struct Cells<'a, 'b, G: Algebra> {
     pub(crate) tables: Vec<Table>,
     pub(crate) room: u64,
     pub(crate) over: OverridingMethods,
-    pub(crate) callers: Vec<Row>,
+    pub(crate) callers: Vec<Callers>,
     ghost sound: { AreCells (program_of judged.0) (overs_at over) (rel_of judged.1) tables.items room callers.items },
 }
 

@@ -16,7 +16,7 @@ use crate::local::before;
 use crate::table::Table;
 use aj_algebra::Algebra;
 use aj_core::{CoreExpr, CoreProgram, CoreStmt};
-use aj_effects::{BodyPart, Context, Parts, inner_parts, rule};
+use aj_effects::{BodyPart, Context, InnerParts, inner_parts, rule};
 use aj_paths::MethodId;
 use aj_rules::RelevantSets;
 use std::alloc::{AllocError as NoMemory, Global};
@@ -105,7 +105,7 @@ fn put_values<G: Algebra>(
     walk: &Walk<'_>,
     algebra: &mut G,
     values: &mut Vec<G::A>,
-    parts: Parts<'_>,
+    parts: InnerParts<'_>,
 ) -> Result<(), NoMemory>
     requires relevant { AreRelevant (program_at walk.now) walk.now.sets.now }
     requires parts { AreOfBody walk.now (parts_mentions (list_of parts)) }

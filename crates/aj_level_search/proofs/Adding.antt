@@ -9,10 +9,10 @@ use Rattle.aj_lemmas.proofs.Lists.{at_left, at_either, get_last, get_left, get_b
 use Rattle.aj_paths.specs.Paths.{PathData}
 use Rattle.aj_algebra.specs.HeldPaths.{Held, has_path}
 use Rattle.aj_core.specs.Core.{Class}
-use Rattle.aj_ordered.specs.declared.told.Seen.{Seen}
-use Rattle.aj_ordered.specs.Told.{Told, Calls, Wrong, told_of}
-use Rattle.aj_level_links.specs.declared.link.Link.{Link}
-use Rattle.aj_level_links.specs.Greatest.{links_at}
+use Rattle.aj_level_search.specs.declared.told.Seen.{Seen}
+use Rattle.aj_level_search.specs.Told.{Told, Calls, Wrong, told_of}
+use Rattle.aj_level_search.specs.declared.link.Link.{Link}
+use Rattle.aj_level_search.specs.Greatest.{links_at}
 use Rattle.aj_level_search.specs.declared.cells.Cell.{Cell}
 use Rattle.aj_level_search.specs.Cells.{set_of, Queue, IsEven, IsAt, HasCell, HasLevel, IsAdded, run_in, runs_of, AreBegun, AreLinks, AreAdded, IsNoted, Telling, AreFollowed, IsCalled, called_first, called_next, AreReached, AreAllFollowed}
 use Rattle.aj_level_search.proofs.Tells.{nothing_there, first_there, told_method, told_set, told_level, told_is_call}

@@ -12,9 +12,9 @@ use Rattle.aj_rules.specs.Search.{row_at}
 use Rattle.aj_levels.specs.Walks.{Comes, Bad, body_visits}
 use Rattle.aj_levels.specs.Contexts.{MayRun, Context, at_main, at_start, at_call, IsBadAt, IsOrdered, IsFirstBad}
 use Rattle.aj_levels.proofs.GreatestLevels.{AreGreatest as AreAllGreatest, told_bad as bad_above, told_ordered}
-use Rattle.aj_ordered.specs.Told.{Calls, Wrong, told}
-use Rattle.aj_level_links.specs.declared.link.Link.{Link}
-use Rattle.aj_level_links.specs.Greatest.{links_at, Reached, at_start as from_start, over_link, AreGreatest}
+use Rattle.aj_level_search.specs.Told.{Calls, Wrong, told}
+use Rattle.aj_level_search.specs.declared.link.Link.{Link}
+use Rattle.aj_level_search.specs.Greatest.{links_at, Reached, at_start as from_start, over_link, AreGreatest}
 use Rattle.aj_level_search.specs.declared.cells.Cell.{Cell}
 use Rattle.aj_level_search.specs.declared.bad.Bad.{Bad as BadOne}
 use Rattle.aj_level_search.specs.declared.end.LevelEnd.{LevelEnd}

@@ -5,7 +5,7 @@ use Rattle.std.proofs.lemmas.Bool.Decides.{nat_tests}
 use Rattle.std.proofs.lemmas.List.Elements.{Contains-append_left, Contains-append_right, Contains-append_cases}
 use Rattle.std.proofs.lemmas.Option.{none-some, same_Some, slice_get_within, slice_get-get_or}
 use Rattle.aj_lemmas.proofs.Lists.{contains_cases, contains_later, next_drop}
-use Rattle.aj_ordered.specs.Told.{Told, Calls, Wrong}
+use Rattle.aj_level_search.specs.Told.{Told, Calls, Wrong}
 use Rattle.aj_level_search.specs.declared.bad.Bad.{Bad}
 use Rattle.aj_level_search.specs.declared.cells.Cell.{Cell}
 use Rattle.aj_level_search.specs.Cells.{Telling, set_of}

@@ -1,3 +1,9 @@
+-- Lemmas on levels that rise to what links ask.
+pub mod Raising
+pub mod Settled
+-- Lemmas on what walks tell, and on the sizes of bodies.
+pub mod ToldLemmas
+pub mod Light
 -- Lemmas on walks under other levels, on cells that are reached, and on the first of bad ones.
 pub mod Shifts
 pub mod Tells

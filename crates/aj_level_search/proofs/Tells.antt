@@ -12,7 +12,7 @@ use Rattle.aj_core.specs.Core.{Program, Method}
 use Rattle.aj_core.specs.declared.program.CoreMethod.{CoreMethod}
 use Rattle.aj_core.specs.Views.{method_of}
 use Rattle.aj_levels.specs.Walks.{Visit, Comes, Bad, body_visits}
-use Rattle.aj_ordered.specs.Told.{Told, Calls, Wrong, told_at, told}
+use Rattle.aj_level_search.specs.Told.{Told, Calls, Wrong, told_at, told}
 use Rattle.aj_level_search.specs.Bodies.{told_in}
 
 pub nothing_there : {A : Type 0} (v : A) → Contains [] v → ⊥

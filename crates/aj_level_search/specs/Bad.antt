@@ -1,6 +1,6 @@
 -- The first of bad ones: that of the first method, there the first in written order, and of it the one under the greatest level.
 use Rattle.std.specs.Prelude.{ℕ, Bool, nat_lt, ◌==◌, ◌&&◌, ◌||◌, List, [], ◌∷◌, ◌++◌, Option, Some, None, if◌then◌else◌}
-use Rattle.aj_ordered.specs.Told.{Told, Calls, Wrong}
+use Rattle.aj_level_search.specs.Told.{Told, Calls, Wrong}
 use Rattle.aj_level_search.specs.declared.bad.Bad.{Bad}
 use Rattle.aj_level_search.specs.declared.cells.Cell.{Cell}
 use Rattle.aj_level_search.specs.Cells.{Telling, set_of}

@@ -7,7 +7,7 @@ use Rattle.aj_core.specs.Views.{program_of}
 use Rattle.aj_rules.specs.Near.{rel_of}
 use Rattle.aj_rules.specs.Search.{row_at}
 use Rattle.aj_levels.specs.Walks.{level_in, body_visits}
-use Rattle.aj_ordered.specs.Told.{Told, told}
+use Rattle.aj_level_search.specs.Told.{Told, told}
 use Rattle.aj_level_search.specs.declared.judged.Judged.{Judged}
 
 -- what the walk of a method tells at a set and under a level, where the method is there

@@ -2,9 +2,9 @@
 use Rattle.std.specs.Prelude.{◌≡◌, ◌⊎◌, ◌<◌, ◌≤◌, ℕ, false, max, List, [], ◌∷◌, ◌++◌, length, Option, Some, None, Contains, slice_get}
 use Rattle.aj_algebra.specs.HeldPaths.{Held, has_path}
 use Rattle.aj_core.specs.Core.{Class}
-use Rattle.aj_ordered.specs.Told.{Told, Calls, Wrong}
-use Rattle.aj_level_links.specs.declared.link.Link.{Link}
-use Rattle.aj_level_links.specs.Greatest.{links_at}
+use Rattle.aj_level_search.specs.Told.{Told, Calls, Wrong}
+use Rattle.aj_level_search.specs.declared.link.Link.{Link}
+use Rattle.aj_level_search.specs.Greatest.{links_at}
 use Rattle.aj_level_search.specs.declared.cells.Cell.{Cell}
 use Rattle.aj_level_search.specs.declared.cells.Cells.{Cells}
 

@@ -1,9 +1,9 @@
 //! Bad `synchronized`, and which of two comes first.
 ghost use Rattle.std.specs.Prelude.{◌≡◌, map};
-ghost use Rattle.aj_ordered.specs.Told.{told_of};
+ghost use Rattle.aj_level_search.specs.Told.{told_of};
 ghost use Rattle.aj_level_search.specs.Bad.{is_before, noted, firsts, bads_in};
 
-use aj_ordered::Seen;
+use crate::told::Seen;
 use aj_paths::{ClassId, MethodId};
 
 /// A `synchronized` of a method that is bad in a walk: its place among those of the body in written order, the class of its lock, and

@@ -3,16 +3,16 @@ ghost use Rattle.std.specs.Prelude.{◌≡◌, ◌<◌, ◌∷◌, Some, length,
 ghost use Rattle.aj_core.specs.Typed.{IsTyped};
 ghost use Rattle.aj_core.specs.Views.{program_of};
 ghost use Rattle.aj_algebra.specs.HeldPaths.{has_path};
-ghost use Rattle.aj_ordered.specs.Told.{Calls, told_of};
+ghost use Rattle.aj_level_search.specs.Told.{Calls, told_of};
 ghost use Rattle.aj_level_search.specs.Bodies.{told_from};
 ghost use Rattle.aj_level_search.specs.Cells.{runs_of, queue_of, AreBegun, AreAdded, IsNoted, AreFollowed, AreAllFollowed};
 
 use crate::cells::{Cell, Cells};
 use crate::judged::{Judged, seen_in};
+use crate::link::{CellLinks, Link};
+use crate::told::Seen;
 use aj_core::CoreProgram;
-use aj_held_lists::copied;
-use aj_level_links::{Link, Row};
-use aj_ordered::Seen;
+use aj_effect_at::copied;
 use aj_paths::{MethodId, Path};
 use std::alloc::{AllocError as NoMemory, Global};
 
@@ -95,7 +95,12 @@ fn add_visit(
 }
 
 /// Adds the cells that a walk calls, where it begins under this level. Gives the links to them.
-fn add_calls(alloc: Global, seen: &[Seen], from: u32, cells: &mut Cells) -> Result<Row, NoMemory>
+fn add_calls(
+    alloc: Global,
+    seen: &[Seen],
+    from: u32,
+    cells: &mut Cells,
+) -> Result<CellLinks, NoMemory>
     requires { length cells.old.levels.items ≡ length cells.old.known.keys }
     ensures { IfOk result (λ row. AreAdded (map told_of seen.now) from (queue_of cells.old) (queue_of cells.new) row) }
 {
@@ -103,11 +108,16 @@ fn add_calls(alloc: Global, seen: &[Seen], from: u32, cells: &mut Cells) -> Resu
     for visit in seen {
         add_visit(alloc, visit, from, cells, &mut links)?;
     }
-    Row::of(alloc, links)
+    CellLinks::of(alloc, links)
 }
 
 /// Adds the cells that the walk of the cell at this place calls. Gives the links to them.
-fn follow(alloc: Global, judged: &Judged<'_>, at: usize, cells: &mut Cells) -> Result<Row, NoMemory>
+fn follow(
+    alloc: Global,
+    judged: &Judged<'_>,
+    at: usize,
+    cells: &mut Cells,
+) -> Result<CellLinks, NoMemory>
     requires typed { IsTyped (program_of judged.now.program.now) }
     requires size { length cells.old.levels.items ≡ length cells.old.known.keys }
     requires there { at < length cells.old.levels.items }
@@ -115,7 +125,7 @@ fn follow(alloc: Global, judged: &Judged<'_>, at: usize, cells: &mut Cells) -> R
 {
     let from = cells.levels[at];
     let Some(cell) = cells.known.get_index(at) else {
-        return Row::of(alloc, Vec::new(alloc));
+        return CellLinks::of(alloc, Vec::new(alloc));
     };
     let seen = seen_in(alloc, judged, cell.method, cell.held.as_slice(), 0)?;
     add_calls(alloc, seen.as_slice(), from, cells)
@@ -126,7 +136,7 @@ pub(crate) fn follow_all(
     alloc: Global,
     judged: &Judged<'_>,
     cells: &mut Cells,
-) -> Result<Vec<Row>, NoMemory>
+) -> Result<Vec<CellLinks>, NoMemory>
     requires typed { IsTyped (program_of judged.now.program.now) }
     requires size { length cells.old.levels.items ≡ length cells.old.known.keys }
     ensures { IfOk result (λ rows. AreAllFollowed (told_from judged.now) (queue_of cells.old) (queue_of cells.new) rows.items) }

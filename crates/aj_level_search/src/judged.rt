@@ -4,11 +4,15 @@ ghost use Rattle.aj_algebra.specs.HeldPaths.{has_path};
 ghost use Rattle.aj_core.specs.Typed.{IsTyped};
 ghost use Rattle.aj_core.specs.Views.{program_of, method_of};
 ghost use Rattle.aj_levels.specs.Walks.{syncs_in};
-ghost use Rattle.aj_ordered.specs.Told.{told_of};
+ghost use Rattle.aj_level_search.specs.Told.{told_of};
 ghost use Rattle.aj_level_search.specs.Bodies.{told_by, told_from};
 
+use crate::laws::light_laws;
+use crate::slots::slot_types;
+use crate::statements::walk_body;
+use crate::told::Seen;
+use crate::walk::Walk;
 use aj_core::{CoreMethod, CoreProgram};
-use aj_ordered::{Seen, Walk, light_laws, slot_types, walk_body};
 use aj_paths::{MethodId, Path};
 use aj_rules::{OverridingMethods, RelevantSets};
 use std::alloc::{AllocError as NoMemory, Global};

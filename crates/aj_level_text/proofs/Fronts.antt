@@ -1,7 +1,7 @@
 -- Lines at the front of a text: a text has one list of them, up to its end or up to where it stops.
 use Rattle.std.proofs.Common.{◌≡◌, ℕ, ◌-◌, ◌<◌, ◌≤◌, ◌^◌, ◌⊎◌, true, false, List, [], ◌∷◌, ◌++◌, length, decimal, Option, Some, None, Ok, Err, Contains, refl, sym, ◌∙◌, ap, subst, arith, append_assoc, append-nil, inl, inr}
-use Rattle.aj_book_grammar.specs.declared.stop.Kind.{Kind}
-use Rattle.aj_book_grammar.specs.declared.stop.Kind.TheVariants.{Form}
+use Rattle.aj_books.specs.declared.stop.Kind.{Kind}
+use Rattle.aj_books.specs.declared.stop.Kind.TheVariants.{Form}
 use Rattle.aj_classes.specs.Table.{TableData, class_number}
 use Rattle.aj_level_text.specs.declared.lines.Flaw.{Flaw}
 use Rattle.aj_level_text.specs.Texts.{LevelLine, line_text, lines_text, IsLine}

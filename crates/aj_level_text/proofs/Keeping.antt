@@ -12,7 +12,7 @@ use Rattle.aj_classes.specs.Table.{TableData, class_number}
 use Rattle.aj_core.specs.Core.{Program, Class}
 use Rattle.aj_core.specs.Dispatch.{above_of, above_in}
 use Rattle.aj_levels.specs.Walks.{level_in}
-use Rattle.aj_typed_runs.specs.SlotTypes.{AreMarked}
+use Rattle.aj_levels.specs.SlotTypes.{AreMarked}
 use Rattle.aj_level_text.specs.declared.lines.Flaw.TheVariants as flaw
 use Rattle.aj_levels.specs.declared.levels.Levels.{Levels}
 use Rattle.aj_level_text.specs.declared.reader.LevelsFault.{LevelsFault}

@@ -12,13 +12,13 @@ use Rattle.std.proofs.lemmas.List.Sums.{take_while-cons}
 use Rattle.std.specs.List.{take_while, list_all, AllByRecursion}
 use Rattle.std.specs.Str.{IsUtf8}
 use Rattle.aj_lexer.specs.Pieces.{is_letter, is_digit, is_word_byte, is_word}
-use Rattle.aj_book_grammar.specs.declared.stop.Kind.{Kind}
-use Rattle.aj_book_grammar.specs.declared.stop.Kind.TheVariants.{Form}
-use Rattle.aj_book_grammar.specs.Combine.{Res, ◌>>=◌, expect}
-use Rattle.aj_book_grammar.specs.Reading.{number_at, is_empty}
-use Rattle.aj_book_grammar.proofs.BookLaws.{after_ok, sound_ok}
-use Rattle.aj_book_grammar.proofs.Complete.{complete_number}
-use Rattle.aj_book_grammar.proofs.Sound.{Bytes, IsNumber, sound_expect, sound_number}
+use Rattle.aj_books.specs.declared.stop.Kind.{Kind}
+use Rattle.aj_books.specs.declared.stop.Kind.TheVariants.{Form}
+use Rattle.aj_books.specs.Combine.{Res, ◌>>=◌, expect}
+use Rattle.aj_books.specs.Reading.{number_at, is_empty}
+use Rattle.aj_books.proofs.BookLaws.{after_ok, sound_ok}
+use Rattle.aj_books.proofs.Complete.{complete_number}
+use Rattle.aj_books.proofs.Sound.{Bytes, IsNumber, sound_expect, sound_number}
 use Rattle.aj_level_text.specs.Reading.{first_word, name_at, level_at}
 
 picked : (b : Bool) (x : ℕ) (xs ys : List ℕ) → b ≡ true → xs ≡ ys → cond b (x ∷ xs) [] ≡ x ∷ ys

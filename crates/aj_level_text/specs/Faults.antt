@@ -1,11 +1,11 @@
 -- What a text of levels is for a class table and its program: the levels that it gives, or its first fault.
 use Rattle.std.specs.Prelude.{◌≡◌, ◌≢◌, ℕ, ◌-◌, ◌<◌, List, [], ◌∷◌, ◌++◌, Some, None, Ok, Err, Contains, length, slice_get}
-use Rattle.aj_book_grammar.specs.declared.stop.Kind.{Kind}
+use Rattle.aj_books.specs.declared.stop.Kind.{Kind}
 use Rattle.aj_classes.specs.Table.{TableData, class_number}
 use Rattle.aj_core.specs.Core.{Program}
 use Rattle.aj_core.specs.Dispatch.{above_of}
 use Rattle.aj_levels.specs.Walks.{level_in}
-use Rattle.aj_typed_runs.specs.SlotTypes.{AreMarked}
+use Rattle.aj_levels.specs.SlotTypes.{AreMarked}
 use Rattle.aj_level_text.specs.declared.lines.Flaw.{Flaw}
 use Rattle.aj_level_text.specs.declared.lines.Flaw.TheVariants as flaw
 use Rattle.aj_level_text.specs.declared.reader.LevelsFault.{LevelsFault}

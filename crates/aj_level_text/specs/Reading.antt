@@ -3,9 +3,9 @@
 use Rattle.std.specs.Prelude.{ℕ, ◌^◌, ◌==◌, List, [], ◌∷◌, length, drop, Ok, Err, if◌then◌else◌}
 use Rattle.std.specs.List.{take_while}
 use Rattle.aj_lexer.specs.Pieces.{is_letter, is_word_byte}
-use Rattle.aj_book_grammar.specs.declared.stop.Kind.TheVariants.{Form}
-use Rattle.aj_book_grammar.specs.Combine.{Res, ◌>>=◌, expect}
-use Rattle.aj_book_grammar.specs.Reading.{number_at, is_empty}
+use Rattle.aj_books.specs.declared.stop.Kind.TheVariants.{Form}
+use Rattle.aj_books.specs.Combine.{Res, ◌>>=◌, expect}
+use Rattle.aj_books.specs.Reading.{number_at, is_empty}
 
 -- the longest name that a text begins with; nothing where no letter stands first
 abbrev pub first_word : List ℕ → List ℕ

@@ -3,7 +3,7 @@ ghost use Rattle.std.specs.Prelude.{◌≡◌, ◌<◌, ◌^◌, ◌==◌, ℕ, 
 ghost use Rattle.aj_core.specs.Core.{Program};
 ghost use Rattle.aj_core.specs.Views.{program_of, class_of};
 ghost use Rattle.aj_levels.specs.Walks.{level_in};
-ghost use Rattle.aj_typed_runs.specs.SlotTypes.{AreMarked};
+ghost use Rattle.aj_levels.specs.SlotTypes.{AreMarked};
 ghost use Rattle.aj_level_text.specs.Faults.{Differs};
 ghost use Rattle.aj_level_text.specs.Kept.{differs};
 

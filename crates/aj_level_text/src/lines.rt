@@ -9,7 +9,7 @@ ghost use Rattle.aj_level_text.specs.Faults.{IsNew, HasFlaw, Stops};
 ghost use Rattle.aj_level_text.specs.Kept.{Keeps, HasRead, IsRead};
 
 use crate::names::{class_of, level, name};
-use aj_book_grammar::Stop;
+use aj_books::Stop;
 use aj_classes::ClassTable;
 use aj_paths::ClassId;
 

@@ -1,13 +1,13 @@
 //! The parts of a line.
 ghost use Rattle.std.specs.Prelude.{◌≡◌, ◌≤◌, length, true, IfOk};
 ghost use Rattle.std.specs.List.{take_while};
-ghost use Rattle.aj_book_grammar.specs.Faults.{Gives};
+ghost use Rattle.aj_books.specs.Faults.{Gives};
 ghost use Rattle.aj_classes.specs.Table.{class_number};
 ghost use Rattle.aj_classes.specs.Views.{table_data};
 ghost use Rattle.aj_lexer.specs.Pieces.{is_digit, is_letter, is_word, is_word_byte};
 ghost use Rattle.aj_level_text.specs.Reading.{first_word, name_at, level_at};
 
-use aj_book_grammar::{Kind, NUMBERS_END, Stop, expect_byte, number};
+use aj_books::{Kind, NUMBERS_END, Stop, expect_byte, number};
 use aj_classes::ClassTable;
 use aj_paths::ClassId;
 

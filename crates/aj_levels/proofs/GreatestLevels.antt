@@ -13,7 +13,7 @@ use Rattle.aj_core.specs.Core.{Stmt, Stmts, EmptyS, BlockS, LocalS, SetVarS, Set
 use Rattle.aj_core.specs.Locks.{path_of}
 use Rattle.aj_rules.specs.Mentions.{paths_of}
 use Rattle.aj_rules.specs.Effect.{after_stmt}
-use Rattle.aj_typed_runs.specs.SlotTypes.{slot_types}
+use Rattle.aj_levels.specs.SlotTypes.{slot_types}
 use Rattle.aj_levels.specs.Walks.{Visit, Comes, Bad, lock_class, syncs_in, syncs_in_each, call_visits, expr_visits, exprs_visits, sync_visits, visits, block_visits, body_visits}
 use Rattle.aj_levels.specs.Contexts.{MayRun, Context, at_main, at_start, at_call, IsBadAt, IsOrdered, IsFirstBad}
 

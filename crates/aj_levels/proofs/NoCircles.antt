@@ -38,11 +38,11 @@ use Rattle.aj_safe.proofs.Actions.{address_is, counted_holds}
 use Rattle.aj_safe.proofs.Counting.{Counts, NoReleases, Settled, unfolded_count, unfolded_settled}
 use Rattle.aj_safe.proofs.Scopes.{stmt_tidy}
 use Rattle.aj_safe.proofs.Roots.{parameters_scope, relevant_rooted}
-use Rattle.aj_typed_runs.specs.SlotTypes.{AreMarked, slot_types}
-use Rattle.aj_typed_runs.specs.TypedStates.{Stays, IsTypedHeap, AreTypedSlots, IsTypedFrame, IsTypedThread, IsTypedState}
-use Rattle.aj_typed_runs.proofs.Suiting.{suited_program}
-use Rattle.aj_typed_runs.proofs.TypedRuns.{runs_keep, stepping, step_is_typed, step_typed, initial_typed}
-use Rattle.aj_typed_runs.proofs.TypedSteps.{IsSuitedProgram}
+use Rattle.aj_levels.specs.SlotTypes.{AreMarked, slot_types}
+use Rattle.aj_levels.specs.TypedStates.{Stays, IsTypedHeap, AreTypedSlots, IsTypedFrame, IsTypedThread, IsTypedState}
+use Rattle.aj_levels.proofs.Suiting.{suited_program}
+use Rattle.aj_levels.proofs.TypedRuns.{runs_keep, stepping, step_is_typed, step_typed, initial_typed}
+use Rattle.aj_levels.proofs.TypedSteps.{IsSuitedProgram}
 use Rattle.aj_levels.specs.Walks.{Visit, Bad, lock_class, sync_visits, visits}
 use Rattle.aj_levels.specs.Contexts.{Context, at_main, at_call, IsOrdered}
 use Rattle.aj_levels.specs.Circles.{IsChain, Circle}

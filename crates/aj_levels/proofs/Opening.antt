@@ -29,8 +29,8 @@ use Rattle.aj_safe.proofs.LeadLemmas.{leads_grows, may_shrink, sound_grows, each
 use Rattle.aj_safe.proofs.FitLemmas.{same_slot, other_slot, agrees_shrinks}
 use Rattle.aj_safe.proofs.SetLemmas.{after_sound, after_fresh}
 use Rattle.aj_safe.proofs.Unfolding.{pushed_each, taken_all, dropped_all, on_pushed, exprs_release, stmts_release}
-use Rattle.aj_typed_runs.specs.SlotTypes.{slot_types}
-use Rattle.aj_typed_runs.specs.TypedStates.{Stays}
+use Rattle.aj_levels.specs.SlotTypes.{slot_types}
+use Rattle.aj_levels.specs.TypedStates.{Stays}
 use Rattle.aj_levels.specs.Walks.{Visit, lock_class, call_visits, expr_visits, exprs_visits, sync_visits, visits, block_visits}
 use Rattle.aj_levels.proofs.Ranked.{IsUnder, Stands, At, Fine, RankedAct, RankedItem, Ranked, RankedNext, RankedOpens, FramesRanked}
 

@@ -15,7 +15,7 @@ use Rattle.aj_state.specs.States.{Frame, Thread, Ready, Running, Done, Faulted}
 use Rattle.aj_safe.specs.Leads.{Env, env_of, memory_of, Sound, Paths, LeadsTo, MayLeadTo, with_slot, top_path, under_path, taken_paths, dropped_paths}
 use Rattle.aj_safe.specs.Fits.{Agrees, Fresh, TidyE, TidyS, valued, stores, has_release, arity_of, finals_of, pushed, awaited}
 use Rattle.aj_safe.specs.Safe.{LeadEach, Owns, held_by}
-use Rattle.aj_typed_runs.specs.SlotTypes.{slot_types}
+use Rattle.aj_levels.specs.SlotTypes.{slot_types}
 use Rattle.aj_levels.specs.Walks.{Visit, Comes, Bad, lock_class, call_visits, expr_visits, sync_visits, visits}
 use Rattle.aj_levels.specs.Contexts.{MayRun, Context}
 

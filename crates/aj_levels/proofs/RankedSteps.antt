@@ -41,8 +41,8 @@ use Rattle.aj_safe.proofs.Calls.{entry_sound}
 use Rattle.aj_safe.proofs.Counting.{none_count}
 use Rattle.aj_safe.proofs.Unfolding.{on_pushed}
 use Rattle.aj_safe.proofs.LockActions.{not_both, one_of, one_more, one_less, none_left}
-use Rattle.aj_typed_runs.specs.SlotTypes.{SlotType, slot_types, IsMarked, Has}
-use Rattle.aj_typed_runs.specs.TypedStates.{IsTypedHeap, AreTypedSlots}
+use Rattle.aj_levels.specs.SlotTypes.{SlotType, slot_types, IsMarked, Has}
+use Rattle.aj_levels.specs.TypedStates.{IsTypedHeap, AreTypedSlots}
 use Rattle.aj_levels.specs.Walks.{Visit, Comes, Bad, class_in, last_type, lock_class, call_visits, expr_visits, sync_visits, visits, body_visits}
 use Rattle.aj_levels.specs.Contexts.{MayRun, RunsFirst, Context, at_start}
 use Rattle.aj_levels.proofs.Ranked.{IsUnder, Stands, At, Fine, RankedAct, Ranked, FramesRanked, RankedThread, AreCounted}

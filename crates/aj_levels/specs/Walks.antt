@@ -10,7 +10,7 @@ use Rattle.aj_core.specs.Locks.{path_of}
 use Rattle.aj_core.specs.Types.{field_type}
 use Rattle.aj_rules.specs.Mentions.{paths_of}
 use Rattle.aj_rules.specs.Effect.{held_under, after_stmt}
-use Rattle.aj_typed_runs.specs.SlotTypes.{SlotType, slot_types}
+use Rattle.aj_levels.specs.SlotTypes.{SlotType, slot_types}
 
 -- what a walk comes to
 pub data Visit : Type 0 where

@@ -6,7 +6,7 @@ ghost use Rattle.aj_core.specs.Typed.{IsTyped};
 ghost use Rattle.aj_rules.specs.Near.{MethodPaths, AreRelevant, rel_of};
 ghost use Rattle.aj_state.specs.States.{State};
 ghost use Rattle.aj_steps.specs.Run.{run};
-ghost use Rattle.aj_typed_runs.specs.SlotTypes.{AreMarked};
+ghost use Rattle.aj_levels.specs.SlotTypes.{AreMarked};
 ghost use Rattle.aj_levels.specs.Contexts.{IsOrdered, IsFirstBad};
 ghost use Rattle.aj_levels.specs.Circles.{Circle};
 

@@ -19,10 +19,10 @@ use Rattle.aj_machine.specs.Reasons.{IsReason}
 use Rattle.aj_machine.specs.Standing.{program_run, StandsFor, IsKindTurn, IsStop}
 use Rattle.aj_noted.specs.declared.calls.Frames.{Frames}
 use Rattle.aj_noted.specs.Calls.{AreCalls, calls_after, frames_seen, methods_at}
-use Rattle.aj_units.specs.Tables.{value_at, put_at}
+use Rattle.aj_noted.specs.Tables.{value_at, put_at}
 use Rattle.aj_noted.proofs.AtomicCalls.{calls_moved, inside_is}
-use Rattle.aj_units.specs.declared.step.Step.{Step}
-use Rattle.aj_units.specs.Entries.{entry_of, entries_of}
+use Rattle.aj_noted.specs.declared.step.Step.{Step}
+use Rattle.aj_noted.specs.Entries.{entry_of, entries_of}
 use Rattle.aj_noted.specs.Made.{IsMade, HaveRun}
 use Rattle.aj_noted.specs.NoRun.{refusal}
 use Rattle.aj_noted.specs.NoRun.{IsNoRun}

@@ -7,9 +7,9 @@ use Rattle.aj_steps.specs.Step.{Outcome, Moves, moved}
 use Rattle.aj_steps.specs.Units.{entries}
 use Rattle.aj_machine.specs.MachineValue.{MachineValue}
 use Rattle.aj_machine.specs.Standing.{program_run, StandsFor}
-use Rattle.aj_units.specs.declared.step.Step.{Step}
+use Rattle.aj_noted.specs.declared.step.Step.{Step}
 use Rattle.aj_noted.specs.Calls.{AreCalls}
-use Rattle.aj_units.specs.Entries.{entries_of}
+use Rattle.aj_noted.specs.Entries.{entries_of}
 
 -- what a step of a thread is told as, where the definition's turn comes to this; for which state the machine stands then, and
 -- the numbers of atomic calls in it

@@ -7,13 +7,13 @@ ghost use Rattle.aj_state.specs.States.{State};
 ghost use Rattle.aj_steps.specs.Run.{is_annotated};
 ghost use Rattle.aj_machine.specs.Standing.{StandsFor};
 ghost use Rattle.aj_noted.specs.Calls.{with_call, without_call, frames_seen, methods_at, is_atomic, calls_after};
-ghost use Rattle.aj_units.specs.Tables.{value_at, put_at};
+ghost use Rattle.aj_noted.specs.Tables.{value_at, put_at};
 
+use crate::tables::{put, value_at};
 use aj_core::CoreProgram;
 use aj_machine::{Machine, is_annotated};
 use aj_paths::MethodId;
 use aj_threads::ThreadCell;
-use aj_units::{put, value_at};
 use std::alloc::AllocError as NoMemory;
 
 /// What is seen of a thread's frames: how many they are, and the innermost one's method.

@@ -1,10 +1,17 @@
-//! Running a schedule with a note of each step: its thread, its kind, and whether its thread stands inside an atomic call
-//! after it.
+//! Running a schedule with a note of each step, and the units of a run, found from its last step to its first.
 #![tactic(auto)]
 
 mod calls;
+mod repeats;
 mod run;
 mod run_end;
+mod step;
+mod tables;
+mod units;
 
+pub use repeats::append;
 pub use run::{make_step, run_noted};
 pub use run_end::RunEnd;
+pub use step::Step;
+pub use tables::{put, value_at};
+pub use units::{UnitTables, unit_tables};

@@ -7,14 +7,15 @@ ghost use Rattle.aj_machine.specs.Standing.{program_run, StandsFor};
 ghost use Rattle.aj_noted.specs.Calls.{AreCalls, calls_after, frames_seen, methods_at};
 ghost use Rattle.aj_noted.specs.Made.{IsMade, HaveRun};
 ghost use Rattle.aj_noted.specs.NoRun.{IsNoRun};
-ghost use Rattle.aj_units.specs.Tables.{value_at, put_at};
+ghost use Rattle.aj_noted.specs.Tables.{value_at, put_at};
 
 use crate::calls::{Frames, frames_at, note_calls};
 use crate::run_end::{RunEnd, refusal};
+use crate::step::Step;
+use crate::tables::value_at;
 use aj_deeds::StepEnd;
 use aj_machine::Machine;
 use aj_state::StepKind;
-use aj_units::{Step, value_at};
 use std::alloc::{AllocError as NoMemory, Global};
 
 /// Notes the step of this kind that a thread made, whose frames were seen so before it.

@@ -11,8 +11,8 @@ use Rattle.aj_held.proofs.Theorem.{words}
 use Rattle.aj_machine.specs.declared.machine.Stopped.{Stopped}
 use Rattle.aj_machine.specs.MachineValue.{MachineValue}
 use Rattle.aj_machine.specs.Standing.{program_run, IsStopped}
-use Rattle.aj_units.specs.declared.step.Step.{Step}
-use Rattle.aj_units.specs.Entries.{entries_of}
+use Rattle.aj_noted.specs.declared.step.Step.{Step}
+use Rattle.aj_noted.specs.Entries.{entries_of}
 use Rattle.aj_noted.specs.Made.{HaveRun}
 use Rattle.aj_noted.proofs.Endings.{runs_not_stops, stops_once}
 use Rattle.aj_open.specs.declared.open_end.OpenEnd.{OpenEnd}

@@ -7,12 +7,12 @@ use Rattle.std.proofs.lemmas.List.{append_assoc}
 use Rattle.aj_steps.specs.Units.{Entry, is_whole, is_commit, units, commit_place, placed, in_order, schedule_of}
 use Rattle.aj_rewrite.proofs.Shape.{Each, each_more, IsOf, IsFine, each_in_order}
 use Rattle.aj_rewrite.proofs.Sorting.{fine_units, each_units}
-use Rattle.aj_units.specs.Entries.{entries_of}
-use Rattle.aj_units.specs.Tables.{value_at, put_at}
-use Rattle.aj_units.specs.UnitMaps.{UnitMaps, unit_maps, spread}
-use Rattle.aj_units.specs.declared.step.Step.{Step}
-use Rattle.aj_units.proofs.Found.{size_at, NoneAt, CommitsApart, size_none, units_apart, maps_found}
-use Rattle.aj_units.proofs.Spread.{Strict, strict_in_order, size_in_order, IsAt, IsStep, are_steps, units_at, at_later, threads_of, thread_in, spread_same, spread_is, rises, strictly}
+use Rattle.aj_noted.specs.Entries.{entries_of}
+use Rattle.aj_noted.specs.Tables.{value_at, put_at}
+use Rattle.aj_noted.specs.UnitMaps.{UnitMaps, unit_maps, spread}
+use Rattle.aj_noted.specs.declared.step.Step.{Step}
+use Rattle.aj_noted.proofs.Found.{size_at, NoneAt, CommitsApart, size_none, units_apart, maps_found}
+use Rattle.aj_noted.proofs.Spread.{Strict, strict_in_order, size_in_order, IsAt, IsStep, are_steps, units_at, at_later, threads_of, thread_in, spread_same, spread_is, rises, strictly}
 use Rattle.aj_open.specs.OpenOrder.{commits, is_uncommitted, thread_of, placed_by_thread, by_thread, open_units}
 use Rattle.aj_open.specs.Spreading.{stays_open, committed_size, left_size, spread_committed, with_left, left_sizes, spread_threads}
 use Rattle.aj_open.proofs.Parts.{kept_by, each_kept}

@@ -1,8 +1,8 @@
 -- Putting a run's steps into the open order, by the sizes of its units.
 use Rattle.std.specs.Prelude.{ℕ, ◌+◌, Bool, not, ◌&&◌, ◌==◌, List, [], ◌∷◌, ◌++◌, replicate, if◌then◌else◌}
 use Rattle.aj_steps.specs.Units.{is_commit}
-use Rattle.aj_units.specs.declared.step.Step.{Step}
-use Rattle.aj_units.specs.Tables.{put_at}
+use Rattle.aj_noted.specs.declared.step.Step.{Step}
+use Rattle.aj_noted.specs.Tables.{put_at}
 
 -- whether a unit that has its commit place at this step doesn't commit: the step is the last one of a call that is left open,
 -- and neither Left nor Other

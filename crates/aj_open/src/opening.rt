@@ -14,12 +14,11 @@ ghost use Rattle.aj_open.specs.Opened.{IsOpened, IsRefused};
 
 use crate::open_end::{OpenEnd, end_of};
 use crate::spreading::in_open_order;
+use aj_book_check::Checked;
 use aj_compile::CodeTable;
 use aj_core::CoreProgram;
-use aj_deriv_check::Checked;
 use aj_machine::Machine;
-use aj_noted::run_noted;
-use aj_units::Step;
+use aj_noted::{Step, run_noted};
 use std::alloc::Global;
 
 /// A schedule in its open order, and the machine that ran it, at its end.

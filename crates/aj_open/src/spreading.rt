@@ -1,14 +1,14 @@
 //! The open order of a run's steps.
 ghost use Rattle.std.specs.Prelude.{◌≡◌, ◌≤◌, ◌++◌, ℕ, length, IfOk, OnOk};
 ghost use Rattle.aj_steps.specs.Units.{units, schedule_of};
-ghost use Rattle.aj_units.specs.Entries.{entries_of};
-ghost use Rattle.aj_units.specs.Tables.{value_at};
-ghost use Rattle.aj_units.specs.UnitMaps.{maps_of};
+ghost use Rattle.aj_noted.specs.Entries.{entries_of};
+ghost use Rattle.aj_noted.specs.Tables.{value_at};
+ghost use Rattle.aj_noted.specs.UnitMaps.{maps_of};
 ghost use Rattle.aj_open.specs.OpenOrder.{open_units};
 ghost use Rattle.aj_open.specs.Spreading.{stays_open, committed_size, left_size, spread_committed, with_left, left_sizes, spread_threads};
 
+use aj_noted::{Step, UnitTables, append, put, unit_tables};
 use aj_state::StepKind;
-use aj_units::{Step, UnitTables, append, put, unit_tables};
 use std::alloc::{AllocError as NoMemory, Global};
 
 /// Whether a unit that has its commit place at this step doesn't commit.

@@ -16,8 +16,8 @@ use Rattle.aj_parser.proofs.Members.{right_program}
 use Rattle.aj_expressions.proofs.Right.{Meets, Goes, RightAt, RightOk, RightErr}
 use Rattle.aj_expressions.specs.Combine.{Res, starts}
 use Rattle.aj_parser.specs.Members.{program}
-use Rattle.aj_expressions.specs.declared.stop.Fault.{Fault}
-use Rattle.aj_expressions.specs.declared.stop.Fault.TheVariants as F
+use Rattle.aj_expressions.specs.declared.stop.SyntaxFault.{SyntaxFault}
+use Rattle.aj_expressions.specs.declared.stop.SyntaxFault.TheVariants as F
 
 abbrev Reads : List Token → ProgramTree → Type 0
 Reads zs t = Wide zs t
@@ -28,14 +28,14 @@ Ends t r = (highest_body t ≤ most_height) × (starts (λ x. true) r ≡ false)
 ok_pair : (y z : ProgramTree × List Token) → (let r : Res ProgramTree = Ok y in r ≡ Ok z) → y ≡ z
 ok_pair y z h = cc
 
-err_pair : (y z : Fault × List Token) → (let r : Res ProgramTree = Err y in r ≡ Err z) → y ≡ z
+err_pair : (y z : SyntaxFault × List Token) → (let r : Res ProgramTree = Err y in r ≡ Err z) → y ≡ z
 err_pair y z h = cc
 
 right_ok : (ts : List Token) (t : ProgramTree) (r : List Token) (s : Res ProgramTree) → RightAt program Reads Ends ts s → s ≡ Ok (t, r) → RightOk program Reads Ends ts t r
 right_ok ts t r (Ok y) g e = subst (λ z. RightOk program Reads Ends ts z.0 z.1) (ok_pair y (t, r) e) g
 right_ok ts t r (Err y) g e = cc
 
-right_err : (ts : List Token) (f : Fault) (r : List Token) (s : Res ProgramTree) → RightAt program Reads Ends ts s → s ≡ Err (f, r) → RightErr program Reads ts f r
+right_err : (ts : List Token) (f : SyntaxFault) (r : List Token) (s : Res ProgramTree) → RightAt program Reads Ends ts s → s ≡ Err (f, r) → RightErr program Reads ts f r
 right_err ts f r (Ok y) g e = cc
 right_err ts f r (Err y) g e = subst (λ z. RightErr program Reads ts z.0 z.1) (err_pair y (f, r) e) g
 
@@ -85,7 +85,7 @@ through_join (x ∷ f) r more g = (refl, through_join f r more g)
 place_is : (ts f r : List Token) (k : ℕ) → ts ≡ f ++ r → k + length r ≡ length ts → k ≡ length f
 place_is ts f r k w e = omega (arith, e, ap length w, length-append f r)
 
-pub place_fits : (ts : List Token) (f : Fault) (r : List Token) → program ts ≡ Err (f, r) → length r ≤ length ts
+pub place_fits : (ts : List Token) (f : SyntaxFault) (r : List Token) → program ts ≡ Err (f, r) → length r ≤ length ts
 place_fits ts f r e =
     let g = right_err ts f r (program ts) (right_program ts).at e in
     omega (arith, ap length g.whole, length-append g.front r)

@@ -11,7 +11,7 @@ ghost use Rattle.aj_expressions.specs.Statements.{goes_on as may_go_on};
 ghost use Rattle.aj_parser.specs.Blocks.{block_at, braces, else_part as else_part_at, if_statement as if_statement_at, statement_at, statement_with, sync_statement as sync_statement_at, while_statement as while_statement_at};
 
 use aj_expressions::{
-    Fault, Lexeme, Stop, accept, begins, begins_statement, condition, goes_on, lock,
+    Lexeme, Stop, SyntaxFault, accept, begins, begins_statement, condition, goes_on, lock,
     plain_statement, take,
 };
 use aj_syntax::{Expr, Lock, Stmt, Terminal};
@@ -185,9 +185,9 @@ pub fn block<'t, 'a>(
 {
     if high == 0 {
         if begins(tokens, Terminal::OpenBrace) {
-            return Err(Stop::Fault(Fault::TooDeep, tokens));
+            return Err(Stop::Fault(SyntaxFault::TooDeep, tokens));
         }
-        return Err(Stop::Fault(Fault::Unexpected, tokens));
+        return Err(Stop::Fault(SyntaxFault::Unexpected, tokens));
     }
     let (at, rest) = take(tokens, Terminal::OpenBrace)?;
     let (statements, rest) = statements(alloc, rest, high - 1)?;
@@ -216,9 +216,9 @@ fn statement<'t, 'a>(
 {
     if high == 0 {
         if begins_statement(tokens, in_block) {
-            return Err(Stop::Fault(Fault::TooDeep, tokens));
+            return Err(Stop::Fault(SyntaxFault::TooDeep, tokens));
         }
-        return Err(Stop::Fault(Fault::Unexpected, tokens));
+        return Err(Stop::Fault(SyntaxFault::Unexpected, tokens));
     }
     if begins(tokens, Terminal::OpenBrace) {
         let (inside, rest) = block(alloc, tokens, high)?;

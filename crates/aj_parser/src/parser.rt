@@ -13,7 +13,7 @@ ghost use Rattle.aj_syntax.specs.Views.{program_of};
 
 use crate::faults::ParseFault;
 use crate::member::classes;
-use aj_expressions::{Fault, Lexeme, Stop, lexemes};
+use aj_expressions::{Lexeme, Stop, SyntaxFault, lexemes};
 use aj_lexer::Token;
 use aj_syntax::Program;
 use std::alloc::Global;
@@ -58,8 +58,8 @@ fn read<'a>(alloc: Global, tokens: &[Lexeme<'a>]) -> Result<Program<'a>, ParseFa
         Err(Stop::Fault(fault, rest)) => {
             let place = (tokens.len() - rest.len()) as u32;
             match fault {
-                Fault::Unexpected => Err(ParseFault::Unexpected(place)),
-                Fault::TooDeep => Err(ParseFault::TooDeep(place)),
+                SyntaxFault::Unexpected => Err(ParseFault::Unexpected(place)),
+                SyntaxFault::TooDeep => Err(ParseFault::TooDeep(place)),
             }
         }
     }

@@ -2,7 +2,7 @@
 use Rattle.std.proofs.Common.{◌≡◌, ℕ, zero, suc, List, ◌++◌, length, Option, Some, slice_get, refl, ap, subst}
 use Rattle.std.proofs.lemmas.Option.{same_Some, none-some}
 use Rattle.aj_core.specs.declared.types.CoreType.{CoreType}
-use Rattle.aj_deriv_rules.specs.Parts.{Part}
+use Rattle.aj_book_rules.specs.Parts.{Part}
 use Rattle.aj_classes.specs.Table.{TableData}
 use Rattle.aj_places.specs.Sources.{Source}
 use Rattle.aj_place_laws.specs.Making.{IsMade, AreMade, end, more, IsMadeAt}

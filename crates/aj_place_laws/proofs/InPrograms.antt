@@ -4,7 +4,7 @@ use Rattle.std.proofs.lemmas.List.{map-append}
 use Rattle.aj_syntax.specs.Trees.{MemberTree, FieldM, CtorM, MethodM, MethodTree, ProgramTree}
 use Rattle.aj_core.specs.Core.{Program, Method}
 use Rattle.aj_algebra.specs.HeldPaths.{Held}
-use Rattle.aj_deriv_rules.specs.Parts.{StmtP}
+use Rattle.aj_book_rules.specs.Parts.{StmtP}
 use Rattle.aj_why.specs.Parts.{stmt_parts}
 use Rattle.aj_why.specs.Visits.{Visit, part_visits}
 use Rattle.aj_why.proofs.Numbering.{part_numbered}

@@ -12,7 +12,7 @@ use Rattle.aj_core.specs.declared.types.CoreOp.TheVariants as core_op
 use Rattle.aj_core.specs.Core as core
 use Rattle.aj_core.specs.Core.{Expr}
 use Rattle.aj_core.specs.Types.{NodeType, ValueT, NullT, boolean_type, int_type, class_type, result_type, binary_type}
-use Rattle.aj_deriv_rules.specs.Parts.{Part, ExprP}
+use Rattle.aj_book_rules.specs.Parts.{Part, ExprP}
 use Rattle.aj_why.specs.Parts.{expr_parts, exprs_parts}
 use Rattle.aj_classes.specs.Table.{TableData, FieldData, MethodData, kind_in}
 use Rattle.aj_type_rules.specs.declared.fault.TypeFault.TheVariants.{UnknownName, NoRule}

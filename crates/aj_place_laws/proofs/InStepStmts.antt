@@ -10,7 +10,7 @@ use Rattle.aj_core.specs.Core as core
 use Rattle.aj_core.specs.Core.{Expr, Stmt, Stmts, BlockS}
 use Rattle.aj_core.specs.Types.{ValueT, fits}
 use Rattle.aj_core.specs.Typed.{is_call_or_new, gives_value, most_locals}
-use Rattle.aj_deriv_rules.specs.Parts.{Part, StmtP}
+use Rattle.aj_book_rules.specs.Parts.{Part, StmtP}
 use Rattle.aj_why.specs.Parts.{expr_parts, stmt_parts, block_parts}
 use Rattle.aj_classes.specs.Table.{TableData, FieldData, kind_in}
 use Rattle.aj_type_rules.specs.declared.fault.TypeFault.TheVariants.{NoRule, FinalAssigned}

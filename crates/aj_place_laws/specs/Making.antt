@@ -4,7 +4,7 @@ use Rattle.aj_syntax.specs.Trees.{ExprTree, LockTree, StmtTree, StmtTrees, Metho
 use Rattle.aj_syntax.specs.Trees as tree
 use Rattle.aj_core.specs.declared.types.CoreType.{CoreType}
 use Rattle.aj_core.specs.Core.{Method, Stmt, Stmts, EmptyS, BlockS}
-use Rattle.aj_deriv_rules.specs.Parts.{Part, ExprP, StmtP}
+use Rattle.aj_book_rules.specs.Parts.{Part, ExprP, StmtP}
 use Rattle.aj_why.specs.Parts.{stmt_parts}
 use Rattle.aj_why.specs.Visits.{Visit}
 use Rattle.aj_classes.specs.Table.{TableData}

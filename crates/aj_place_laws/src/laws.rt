@@ -5,7 +5,7 @@ ghost use Rattle.aj_syntax.specs.Trees.{ExprTree, StmtTree, MethodTree, ProgramT
 ghost use Rattle.aj_algebra.specs.HeldPaths.{Held};
 ghost use Rattle.aj_core.specs.declared.types.CoreType.{CoreType};
 ghost use Rattle.aj_core.specs.Core.{Program, Method, Stmt, Stmts, BlockS};
-ghost use Rattle.aj_deriv_rules.specs.Parts.{Part, StmtP};
+ghost use Rattle.aj_book_rules.specs.Parts.{Part, StmtP};
 ghost use Rattle.aj_why.specs.Parts.{expr_parts, stmt_parts};
 ghost use Rattle.aj_why.specs.Visits.{Visit, part_visits};
 ghost use Rattle.aj_classes.specs.Table.{TableData, table_of};

@@ -11,11 +11,11 @@ use Rattle.aj_lexer.specs.Written.{stops, may_follow}
 use Rattle.aj_lexer.proofs.Written.{written_token, written_gap}
 use Rattle.aj_printer.specs.declared.page.Lead.{Lead}
 use Rattle.aj_printer.specs.declared.page.Lead.TheVariants as L
-use Rattle.aj_printer.specs.declared.page.Place.{Place}
-use Rattle.aj_printer.specs.declared.page.Place.TheVariants as P
+use Rattle.aj_printer.specs.declared.page.NextPlace.{NextPlace}
+use Rattle.aj_printer.specs.declared.page.NextPlace.TheVariants as P
 use Rattle.aj_syntax.specs.declared.terminal.Terminal.{Terminal}
 use Rattle.aj_syntax.specs.declared.terminal.Terminal.TheVariants as T
-use Rattle.aj_printer.specs.Layout.{Lexeme, Fixed, Named, Numeral, gap, indent, layout, lead_of, place_after, depth_after, lexeme_text, line_end, token_at}
+use Rattle.aj_printer.specs.Layout.{PlainToken, Fixed, Named, Numeral, gap, indent, layout, lead_of, place_after, depth_after, lexeme_text, line_end, token_at}
 use Rattle.aj_printer.specs.Reprinted.{lexeme_kind, AreLexemes, Parted, is_bang, begins_with_assign, AreTokensOf}
 use Rattle.aj_syntax.specs.Tokens.{kind_of, spelling}
 
@@ -31,7 +31,7 @@ begins_quietly [] = true
 begins_quietly (c ∷ cs) = is_quiet c
 
 -- within a line a token follows quietly
-spaced_quiet : (x : Lexeme) (depth : ℕ) (rest : List ℕ) → begins_quietly (gap P.Spaced depth (lead_of x) ++ (lexeme_text x ++ rest)) ≡ true
+spaced_quiet : (x : PlainToken) (depth : ℕ) (rest : List ℕ) → begins_quietly (gap P.Spaced depth (lead_of x) ++ (lexeme_text x ++ rest)) ≡ true
 spaced_quiet (Fixed T.Semicolon) depth rest = refl
 spaced_quiet (Fixed T.Comma) depth rest = refl
 spaced_quiet (Fixed T.CloseParen) depth rest = refl
@@ -40,7 +40,7 @@ spaced_quiet (Fixed T.OpenParen) depth rest = refl
 spaced_quiet (Fixed T.CloseBrace) depth rest = refl
 spaced_quiet x depth rest = refl
 
-callee_quiet : (x : Lexeme) (depth : ℕ) (rest : List ℕ) → begins_quietly (gap P.Callee depth (lead_of x) ++ (lexeme_text x ++ rest)) ≡ true
+callee_quiet : (x : PlainToken) (depth : ℕ) (rest : List ℕ) → begins_quietly (gap P.Callee depth (lead_of x) ++ (lexeme_text x ++ rest)) ≡ true
 callee_quiet (Fixed T.Semicolon) depth rest = refl
 callee_quiet (Fixed T.Comma) depth rest = refl
 callee_quiet (Fixed T.CloseParen) depth rest = refl
@@ -115,7 +115,7 @@ bang_number : (bytes rest : List ℕ) → is_number bytes ≡ true → may_follo
 bang_number [] rest h = absurd (cc)
 bang_number (c ∷ cs) rest h = bang_by c (cs ++ rest) (digit_no_assign c (number_digit c cs (c == 48) refl h))
 
-bang_follows : (x : Lexeme) (rest : List ℕ) → IsOfKind (lexeme_kind x) (lexeme_text x) → begins_with_assign x ≡ false → may_follow K.Sign (codes "!") (lexeme_text x ++ rest) ≡ true
+bang_follows : (x : PlainToken) (rest : List ℕ) → IsOfKind (lexeme_kind x) (lexeme_text x) → begins_with_assign x ≡ false → may_follow K.Sign (codes "!") (lexeme_text x ++ rest) ≡ true
 bang_follows (Named name) rest k h = bang_word name rest k.0
 bang_follows (Numeral n) rest k h = bang_number (decimal n) rest k.0
 bang_follows (Fixed T.Assign) rest k h = absurd (cc)
@@ -131,22 +131,22 @@ blank_number : (bytes rest : List ℕ) → is_number bytes ≡ true → stops is
 blank_number [] rest h = absurd (cc)
 blank_number (c ∷ cs) rest h = rw (digit_no_blank c (number_digit c cs (c == 48) refl h)) refl
 
-no_blank : (x : Lexeme) (rest : List ℕ) → IsOfKind (lexeme_kind x) (lexeme_text x) → stops is_blank (lexeme_text x ++ rest) ≡ true
+no_blank : (x : PlainToken) (rest : List ℕ) → IsOfKind (lexeme_kind x) (lexeme_text x) → stops is_blank (lexeme_text x ++ rest) ≡ true
 no_blank (Named name) rest k = blank_word name rest k.0
 no_blank (Numeral n) rest k = blank_number (decimal n) rest k.0
 no_blank (Fixed T.Public) rest k = refl
 no_blank (Fixed t) rest k = refl
 
-spaced_layout : (xs : List Lexeme) (depth : ℕ) → begins_quietly (layout P.Spaced depth xs) ≡ true
+spaced_layout : (xs : List PlainToken) (depth : ℕ) → begins_quietly (layout P.Spaced depth xs) ≡ true
 spaced_layout [] depth = refl
 spaced_layout (x ∷ xs) depth = spaced_quiet x depth (line_end x ++ layout (place_after x) (depth_after depth x) xs)
 
-callee_layout : (xs : List Lexeme) (depth : ℕ) → begins_quietly (layout P.Callee depth xs) ≡ true
+callee_layout : (xs : List PlainToken) (depth : ℕ) → begins_quietly (layout P.Callee depth xs) ≡ true
 callee_layout [] depth = refl
 callee_layout (x ∷ xs) depth = callee_quiet x depth (line_end x ++ layout (place_after x) (depth_after depth x) xs)
 
 -- what is laid out behind a token doesn't go on it
-follow : (x : Lexeme) (xs : List Lexeme) (depth : ℕ) → AreLexemes xs → Parted (is_bang x) xs
+follow : (x : PlainToken) (xs : List PlainToken) (depth : ℕ) → AreLexemes xs → Parted (is_bang x) xs
     → may_follow (lexeme_kind x) (lexeme_text x) (line_end x ++ layout (place_after x) depth xs) ≡ true
 follow (Named name) xs depth k p = word_quiet (layout P.Callee depth xs) (callee_layout xs depth)
 follow (Numeral n) xs depth k p = digit_quiet (layout P.Spaced depth xs) (spaced_layout xs depth)
@@ -171,7 +171,7 @@ indent_blank : (depth : ℕ) → list_all is_blank (indent depth) ≡ true
 indent_blank zero = refl
 indent_blank (suc depth) = indent_blank depth
 
-gap_blank : (place : Place) (depth : ℕ) (lead : Lead) → list_all is_blank (gap place depth lead) ≡ true
+gap_blank : (place : NextPlace) (depth : ℕ) (lead : Lead) → list_all is_blank (gap place depth lead) ≡ true
 gap_blank P.LineStart depth L.CloseBrace = indent_blank (depth - 1)
 gap_blank P.LineStart depth L.OpenParen = indent_blank depth
 gap_blank P.LineStart depth L.Joined = indent_blank depth
@@ -186,7 +186,7 @@ gap_blank P.Spaced depth L.OpenParen = refl
 gap_blank P.Spaced depth L.Joined = refl
 gap_blank P.Spaced depth L.Spaced = refl
 
-line_end_blank : (x : Lexeme) → list_all is_blank (line_end x) ≡ true
+line_end_blank : (x : PlainToken) → list_all is_blank (line_end x) ≡ true
 line_end_blank (Fixed T.OpenBrace) = refl
 line_end_blank (Fixed T.CloseBrace) = refl
 line_end_blank (Fixed T.Semicolon) = refl
@@ -198,12 +198,12 @@ blanks_first : (bytes rest : List ℕ) (at : ℕ) (ts : List Token) → list_all
 blanks_first [] rest at ts b s h = subst (λ n. TokensFrom rest n ts) (omega arith) h
 blanks_first (c ∷ cs) rest at ts b s h = written_gap (c ∷ cs) rest at ts b s h
 
-same_token : (x : Lexeme) (at : ℕ) → record { kind = lexeme_kind x; text = lexeme_text x; at = at } ≡ token_at at x
+same_token : (x : PlainToken) (at : ℕ) → record { kind = lexeme_kind x; text = lexeme_text x; at = at } ≡ token_at at x
 same_token (Fixed t) at = refl
 same_token (Named name) at = refl
 same_token (Numeral n) at = refl
 
-pub cut : (xs : List Lexeme) (place : Place) (depth at : ℕ) (bang : Bool) (before : List ℕ) → list_all is_blank before ≡ true → AreLexemes xs → Parted bang xs
+pub cut : (xs : List PlainToken) (place : NextPlace) (depth at : ℕ) (bang : Bool) (before : List ℕ) → list_all is_blank before ≡ true → AreLexemes xs → Parted bang xs
     → (ts : List Token) × TokensFrom (before ++ layout place depth xs) at ts × AreTokensOf xs ts
 cut [] place depth at bang before b k p = ([], blanks_first before [] at [] b refl at_end, tt)
 cut (x ∷ xs) place depth at bang before b k p =

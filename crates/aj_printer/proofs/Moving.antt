@@ -7,7 +7,7 @@ use Rattle.aj_syntax.specs.declared.tree.Name.{Name}
 use Rattle.aj_syntax.specs.declared.tree.Param.{Param}
 use Rattle.aj_syntax.specs.declared.tree.TypeName.{TypeName}
 use Rattle.aj_syntax.specs.Grammar.{SpellsLock, Repeats, Follows, Separates, SpellsParam, SpellsCtorParam, SpellsSet, SpellsGuard, SpellsFinalField, SpellsMutableField, SpellsRequires, SpellsBare, SpellsMember, SpellsExtends, SpellsRunnable, SpellsClass, Wide}
-use Rattle.aj_printer.specs.Layout.{Lexeme, Fixed, token_at}
+use Rattle.aj_printer.specs.Layout.{PlainToken, Fixed, token_at}
 use Rattle.aj_printer.specs.Printing.{all_lexemes, further_lexemes, listed_lexemes, flag_lexemes, name_lexeme, type_lexeme, result_lexeme, lock_lexemes, stmts_lexemes, param_lexemes, set_lexemes, guard_lexemes, requires_lexemes, member_lexemes, runnable_lexemes, extends_lexemes, class_lexemes, program_lexemes}
 use Rattle.aj_printer.specs.Reprinted.{AreLexemes}
 use Rattle.aj_syntax.specs.Tokens.{token, name_token, guard_word}
@@ -18,7 +18,7 @@ use Rattle.aj_printer.proofs.Placing.{placed, after, placed_both, Known, front, 
 use Rattle.aj_printer.proofs.MovingExprs.{flag_known, flag_placed, type_law, result_law, lock_law}
 use Rattle.aj_printer.proofs.MovingStmts.{end_of, close_of, stmts_law}
 
-pub repeats_law : {A : Type 0} (R : A → List Token → Type 0) (g : A → List Lexeme) (bare : A → A) → ((a : A) (ts : List Token) → R a ts → Known ts → Law R g bare a)
+pub repeats_law : {A : Type 0} (R : A → List Token → Type 0) (g : A → List PlainToken) (bare : A → A) → ((a : A) (ts : List Token) → R a ts → Known ts → Law R g bare a)
     → (all : List A) (ts : List Token) → Repeats R all ts → Known ts → Law (Repeats R) (all_lexemes g) (map bare) all
 repeats_law {A} R g bare law [] ts eq kn = record { known = tt; moved = λ f k. ([], refl, refl) }
 repeats_law {A} R g bare law (a ∷ rest) ts (xs, ys, s, u, eq) kn =
@@ -31,7 +31,7 @@ repeats_law {A} R g bare law (a ∷ rest) ts (xs, ys, s, u, eq) kn =
           (m.0 ∷ q.0, (placed f k (g a), placed f (after k (g a)) (all_lexemes g rest), m.1, q.1, placed_both f k (g a) (all_lexemes g rest)), ap₂ (λ x y. x ∷ y) m.2 q.2);
     }
 
-pub follows_law : {A : Type 0} (R : A → List Token → Type 0) (g : A → List Lexeme) (bare : A → A) → ((a : A) (ts : List Token) → R a ts → Known ts → Law R g bare a)
+pub follows_law : {A : Type 0} (R : A → List Token → Type 0) (g : A → List PlainToken) (bare : A → A) → ((a : A) (ts : List Token) → R a ts → Known ts → Law R g bare a)
     → (all : List A) (ts : List Token) → Follows R all ts → Known ts → Law (Follows R) (further_lexemes g) (map bare) all
 follows_law {A} R g bare law [] ts eq kn = record { known = tt; moved = λ f k. ([], refl, refl) }
 follows_law {A} R g bare law (a ∷ rest) ts (xs, ys, d, s, u, eq) kn =
@@ -47,7 +47,7 @@ follows_law {A} R g bare law (a ∷ rest) ts (xs, ys, d, s, u, eq) kn =
       );
     }
 
-pub separates_law : {A : Type 0} (R : A → List Token → Type 0) (g : A → List Lexeme) (bare : A → A) → ((a : A) (ts : List Token) → R a ts → Known ts → Law R g bare a)
+pub separates_law : {A : Type 0} (R : A → List Token → Type 0) (g : A → List PlainToken) (bare : A → A) → ((a : A) (ts : List Token) → R a ts → Known ts → Law R g bare a)
     → (all : List A) (ts : List Token) → Separates R all ts → Known ts → Law (Separates R) (listed_lexemes g) (map bare) all
 separates_law {A} R g bare law [] ts eq kn = record { known = tt; moved = λ f k. ([], refl, refl) }
 separates_law {A} R g bare law (a ∷ rest) ts (xs, ys, s, u, eq) kn =

@@ -10,7 +10,7 @@ use Rattle.aj_syntax.specs.declared.tree.Name.{Name}
 use Rattle.aj_syntax.specs.declared.tree.TypeName.{TypeName}
 use Rattle.aj_syntax.specs.declared.tree.TypeName.TheVariants as Y
 use Rattle.aj_syntax.specs.Grammar.{sign_of, level, loose, is_postfix, is_call, IsFlag, IsType, IsResultType, SpellsFields, SpellsRoot, SpellsLock, Spells, SpellsArgs, SpellsMoreArgs}
-use Rattle.aj_printer.specs.Layout.{Lexeme, Fixed, lexeme_text, token_at}
+use Rattle.aj_printer.specs.Layout.{PlainToken, Fixed, lexeme_text, token_at}
 use Rattle.aj_printer.specs.Printing.{all_lexemes, flag_lexemes, name_lexeme, type_lexeme, result_lexeme, dotted_lexemes, root_lexeme, lock_lexemes, expr_lexemes, args_lexemes, more_args_lexemes}
 use Rattle.aj_printer.specs.Reprinted.{AreLexemes, lexeme_kind}
 use Rattle.aj_syntax.specs.Tokens.{token, name_token}
@@ -43,7 +43,7 @@ pub same_call : (a b : ExprTree) → bare_expr a ≡ bare_expr b → is_call b �
 same_call a b e h = same_by is_call bare_expr call_bare a b e ∙ h
 
 -- what an expression stands before
-pub expr_placed : (f : ℕ → ℕ) (k : ℕ) (e : ExprTree) (ys : List Lexeme) → placed f k (expr_lexemes e ++ ys) ≡ placed f k (expr_lexemes e) ++ placed f (after k (expr_lexemes e)) ys
+pub expr_placed : (f : ℕ → ℕ) (k : ℕ) (e : ExprTree) (ys : List PlainToken) → placed f k (expr_lexemes e ++ ys) ≡ placed f k (expr_lexemes e) ++ placed f (after k (expr_lexemes e)) ys
 expr_placed f k e ys = placed_both f k (expr_lexemes e) ys
 
 mutual

@@ -3,7 +3,7 @@ use Rattle.std.proofs.Common.{◌≡◌, suc, false, List, [], ◌∷◌, ◌++�
 use Rattle.aj_lexer.specs.declared.tokens.Token.{Token}
 use Rattle.aj_syntax.specs.declared.terminal.Terminal.TheVariants as T
 use Rattle.aj_syntax.specs.Grammar.{is_local, open_if, offset, SpellsStmt, SpellsStmts}
-use Rattle.aj_printer.specs.Layout.{Lexeme, Fixed, token_at}
+use Rattle.aj_printer.specs.Layout.{PlainToken, Fixed, token_at}
 use Rattle.aj_printer.specs.Printing.{flag_lexemes, name_lexeme, type_lexeme, lock_lexemes, expr_lexemes, stmt_lexemes, stmts_lexemes}
 use Rattle.aj_syntax.specs.Tokens.{token, name_token}
 use Rattle.aj_syntax.specs.Trees.{StmtTree, StmtTrees, EmptyS, BlockS, LocalS, SetVarS, SetFieldS, DoS, IfS, IfElseS, WhileS, SyncS, ReturnS, PrintS, StartS, no_stmts, more_stmts}
@@ -38,10 +38,10 @@ same_local a b e h = same_by is_local bare_stmt local_bare a b e ∙ h
 pub same_open : (a b : StmtTree) → bare_stmt a ≡ bare_stmt b → open_if b ≡ false → open_if a ≡ false
 same_open a b e h = same_by open_if bare_stmt open_bare a b e ∙ h
 
-abbrev pub end_of : List Lexeme
+abbrev pub end_of : List PlainToken
 end_of = Fixed T.Semicolon ∷ []
 
-abbrev pub close_of : List Lexeme
+abbrev pub close_of : List PlainToken
 close_of = Fixed T.CloseBrace ∷ []
 
 mutual

@@ -6,7 +6,7 @@ use Rattle.aj_syntax.specs.declared.tree.Param.{Param}
 use Rattle.aj_syntax.specs.declared.tree.TypeName.{TypeName}
 use Rattle.aj_syntax.specs.declared.tree.TypeName.TheVariants as Y
 use Rattle.aj_syntax.specs.Grammar.{sign_of}
-use Rattle.aj_printer.specs.Layout.{Lexeme, Fixed}
+use Rattle.aj_printer.specs.Layout.{PlainToken, Fixed}
 use Rattle.aj_printer.specs.Printing.{all_lexemes, further_lexemes, listed_lexemes, flag_lexemes, name_lexeme, type_lexeme, result_lexeme, dotted_lexemes, root_lexeme, lock_lexemes, expr_lexemes, args_lexemes, more_args_lexemes, stmt_lexemes, stmts_lexemes, param_lexemes, set_lexemes, guard_lexemes, requires_lexemes, member_lexemes, runnable_lexemes, extends_lexemes, class_lexemes, program_lexemes}
 use Rattle.aj_printer.specs.Reprinted.{Parted, is_bang}
 use Rattle.aj_syntax.specs.Trees.{LockTree, ExprTree, ExprTrees, NumberE, LeastE, TruthE, NullE, ThisE, VarE, ParenE, NotE, NegE, BinaryE, GetE, CallE, NewE, no_exprs, more_exprs, StmtTree, StmtTrees, EmptyS, BlockS, LocalS, SetVarS, SetFieldS, DoS, IfS, IfElseS, WhileS, SyncS, ReturnS, PrintS, StartS, no_stmts, more_stmts, MemberTree, FieldM, CtorM, MethodM, ClassTree, ProgramTree}
@@ -14,11 +14,11 @@ use Rattle.aj_syntax.specs.Trees.{LockTree, ExprTree, ExprTrees, NumberE, LeastE
 never : {A : Type 0} → false ≡ true → A
 never h = absurd (cc)
 
-both : (bang : Bool) (xs ys : List Lexeme) → Parted bang xs → Parted false ys → Parted bang (xs ++ ys)
+both : (bang : Bool) (xs ys : List PlainToken) → Parted bang xs → Parted false ys → Parted bang (xs ++ ys)
 both bang [] ys p q = subst (λ b. Parted b ys) (sym p) q
 both bang (x ∷ xs) ys p q = (p.0, both (is_bang x) xs ys p.1 q)
 
-weak : (bang : Bool) (xs : List Lexeme) → Parted true xs → Parted bang xs
+weak : (bang : Bool) (xs : List PlainToken) → Parted true xs → Parted bang xs
 weak bang [] p = absurd (cc)
 weak bang (x ∷ xs) p = ((λ e. p.0 refl), p.1)
 
@@ -50,39 +50,39 @@ mutual
   more_parted (more_exprs e es) = (never, both false (expr_lexemes e) (more_args_lexemes es) (weak false (expr_lexemes e) (expr_parted e)) (more_parted es))
 
 -- an expression and what comes after it
-expr_then : (e : ExprTree) (xs : List Lexeme) → Parted false xs → Parted false (expr_lexemes e ++ xs)
+expr_then : (e : ExprTree) (xs : List PlainToken) → Parted false xs → Parted false (expr_lexemes e ++ xs)
 expr_then e xs p = both false (expr_lexemes e) xs (weak false (expr_lexemes e) (expr_parted e)) p
 
-flag_parted : (fin : Bool) (xs : List Lexeme) → Parted false xs → Parted false (flag_lexemes T.Final fin ++ xs)
+flag_parted : (fin : Bool) (xs : List PlainToken) → Parted false xs → Parted false (flag_lexemes T.Final fin ++ xs)
 flag_parted true xs p = (never, p)
 flag_parted false xs p = p
 
-atomic_parted : (atomic : Bool) (xs : List Lexeme) → Parted false xs → Parted false (flag_lexemes T.Atomic atomic ++ xs)
+atomic_parted : (atomic : Bool) (xs : List PlainToken) → Parted false xs → Parted false (flag_lexemes T.Atomic atomic ++ xs)
 atomic_parted true xs p = (never, p)
 atomic_parted false xs p = p
 
-type_parted : (ty : TypeName) (xs : List Lexeme) → Parted false xs → Parted false (type_lexeme ty ∷ xs)
+type_parted : (ty : TypeName) (xs : List PlainToken) → Parted false xs → Parted false (type_lexeme ty ∷ xs)
 type_parted Y.Int xs p = (never, p)
 type_parted Y.Boolean xs p = (never, p)
 type_parted (Y.Class n) xs p = (never, p)
 
-result_parted : (ty : Option TypeName) (xs : List Lexeme) → Parted false xs → Parted false (result_lexeme ty ∷ xs)
+result_parted : (ty : Option TypeName) (xs : List PlainToken) → Parted false xs → Parted false (result_lexeme ty ∷ xs)
 result_parted None xs p = (never, p)
 result_parted (Some ty) xs p = type_parted ty xs p
 
-all_parted : {A : Type 0} (f : A → List Lexeme) → ((a : A) → Parted false (f a)) → (xs : List A) → Parted false (all_lexemes f xs)
+all_parted : {A : Type 0} (f : A → List PlainToken) → ((a : A) → Parted false (f a)) → (xs : List A) → Parted false (all_lexemes f xs)
 all_parted f h [] = refl
 all_parted f h (x ∷ xs) = both false (f x) (all_lexemes f xs) (h x) (all_parted f h xs)
 
-further_parted : {A : Type 0} (f : A → List Lexeme) → ((a : A) → Parted false (f a)) → (xs : List A) → Parted false (further_lexemes f xs)
+further_parted : {A : Type 0} (f : A → List PlainToken) → ((a : A) → Parted false (f a)) → (xs : List A) → Parted false (further_lexemes f xs)
 further_parted f h [] = refl
 further_parted f h (x ∷ xs) = (never, both false (f x) (further_lexemes f xs) (h x) (further_parted f h xs))
 
-listed_parted : {A : Type 0} (f : A → List Lexeme) → ((a : A) → Parted false (f a)) → (xs : List A) → Parted false (listed_lexemes f xs)
+listed_parted : {A : Type 0} (f : A → List PlainToken) → ((a : A) → Parted false (f a)) → (xs : List A) → Parted false (listed_lexemes f xs)
 listed_parted f h [] = refl
 listed_parted f h (x ∷ xs) = both false (f x) (further_lexemes f xs) (h x) (further_parted f h xs)
 
-root_parted : (root : Option Name) (xs : List Lexeme) → Parted false xs → Parted false (root_lexeme root ∷ xs)
+root_parted : (root : Option Name) (xs : List PlainToken) → Parted false xs → Parted false (root_lexeme root ∷ xs)
 root_parted None xs p = (never, p)
 root_parted (Some n) xs p = (never, p)
 

@@ -14,20 +14,20 @@ use Rattle.aj_lexer.specs.Tokens.{IsOfKind}
 use Rattle.aj_syntax.specs.declared.terminal.Terminal.{Terminal}
 use Rattle.aj_syntax.specs.declared.terminal.Terminal.TheVariants as T
 use Rattle.aj_syntax.specs.declared.tree.Name.{Name}
-use Rattle.aj_printer.specs.Layout.{Lexeme, token_at}
+use Rattle.aj_printer.specs.Layout.{PlainToken, token_at}
 use Rattle.aj_printer.specs.Reprinted.{AreLexemes}
 use Rattle.aj_syntax.specs.Tokens.{kind_of, spelling}
 
 -- the tokens, the first at the offset with the number k, and so on
-abbrev pub placed : (ℕ → ℕ) → ℕ → List Lexeme → List Token
+abbrev pub placed : (ℕ → ℕ) → ℕ → List PlainToken → List Token
 placed f k [] = []
 placed f k (x ∷ xs) = token_at (f k) x ∷ placed f (suc k) xs
 
-abbrev pub after : ℕ → List Lexeme → ℕ
+abbrev pub after : ℕ → List PlainToken → ℕ
 after k [] = k
 after k (x ∷ xs) = after (suc k) xs
 
-pub placed_both : (f : ℕ → ℕ) (k : ℕ) (xs ys : List Lexeme) → placed f k (xs ++ ys) ≡ placed f k xs ++ placed f (after k xs) ys
+pub placed_both : (f : ℕ → ℕ) (k : ℕ) (xs ys : List PlainToken) → placed f k (xs ++ ys) ≡ placed f k xs ++ placed f (after k xs) ys
 placed_both f k [] ys = refl
 placed_both f k (x ∷ xs) ys = ap (λ z. token_at (f k) x ∷ z) (placed_both f (suc k) xs ys)
 
@@ -48,7 +48,7 @@ pub back : (xs ys : List Token) → Known (xs ++ ys) → Known ys
 back [] ys k = k
 back (x ∷ xs) ys k = back xs ys k.1
 
-pub together : (xs ys : List Lexeme) → AreLexemes xs → AreLexemes ys → AreLexemes (xs ++ ys)
+pub together : (xs ys : List PlainToken) → AreLexemes xs → AreLexemes ys → AreLexemes (xs ++ ys)
 together [] ys k l = l
 together (x ∷ xs) ys k l = (k.0, together xs ys k.1 l)
 
@@ -102,6 +102,6 @@ abbrev pub named : Name → ℕ → Name
 named n o = record { text = n.text; at = o }
 
 -- the lexemes of a part are known, and at any offsets they spell a part that differs in offsets alone
-pub record Law {A : Type 0} (R : A → List Token → Type 0) (g : A → List Lexeme) (bare : A → A) (a : A) : Type 0 where
+pub record Law {A : Type 0} (R : A → List Token → Type 0) (g : A → List PlainToken) (bare : A → A) (a : A) : Type 0 where
   pub known : AreLexemes (g a)
   pub moved : (f : ℕ → ℕ) (k : ℕ) → (b : A) × R b (placed f k (g a)) × (bare b ≡ bare a)

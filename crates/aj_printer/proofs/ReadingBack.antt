@@ -3,10 +3,10 @@ use Rattle.std.proofs.Common.{◌≡◌, ℕ, zero, suc, ◌+◌, ◌≤◌, max
 use Rattle.aj_lexer.specs.declared.tokens.Token.{Token}
 use Rattle.aj_lexer.specs.Tokens.{Tokens}
 use Rattle.aj_lexer.proofs.Written.{kinds_from}
-use Rattle.aj_printer.specs.declared.page.Place.TheVariants as P
+use Rattle.aj_printer.specs.declared.page.NextPlace.TheVariants as P
 use Rattle.aj_syntax.specs.Grammar.{Wide, Grammar}
 use Rattle.aj_syntax.specs.Heights.{height, heights, stmt_height, stmt_heights, body_height, highest_member, highest_body}
-use Rattle.aj_printer.specs.Layout.{Lexeme, token_at}
+use Rattle.aj_printer.specs.Layout.{PlainToken, token_at}
 use Rattle.aj_syntax.specs.Limits.{most_height}
 use Rattle.aj_printer.specs.Printing.{canonical, program_lexemes}
 use Rattle.aj_printer.specs.Reprinted.{AreTokensOf, ReadsBack}
@@ -83,12 +83,12 @@ offset_of [] k = 0
 offset_of (t ∷ ts) zero = t.at
 offset_of (t ∷ ts) (suc k) = offset_of ts k
 
-shifted : (t : Token) (ts : List Token) (k : ℕ) (xs : List Lexeme) → placed (offset_of (t ∷ ts)) (suc k) xs ≡ placed (offset_of ts) k xs
+shifted : (t : Token) (ts : List Token) (k : ℕ) (xs : List PlainToken) → placed (offset_of (t ∷ ts)) (suc k) xs ≡ placed (offset_of ts) k xs
 unfolding offset_of
 shifted t ts k [] = refl
 shifted t ts k (x ∷ xs) = ap (λ z. token_at (offset_of ts k) x ∷ z) (shifted t ts (suc k) xs)
 
-placed_are : (xs : List Lexeme) (ts : List Token) → AreTokensOf xs ts → placed (offset_of ts) 0 xs ≡ ts
+placed_are : (xs : List PlainToken) (ts : List Token) → AreTokensOf xs ts → placed (offset_of ts) 0 xs ≡ ts
 unfolding offset_of
 placed_are [] [] h = refl
 placed_are [] (t ∷ ts) h = absurd h

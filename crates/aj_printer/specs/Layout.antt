@@ -4,45 +4,45 @@ use Rattle.aj_lexer.specs.declared.tokens.Token.{Token}
 use Rattle.aj_lexer.specs.declared.tokens.TokenKind.TheVariants as K
 use Rattle.aj_printer.specs.declared.page.Lead.{Lead}
 use Rattle.aj_printer.specs.declared.page.Lead.TheVariants as L
-use Rattle.aj_printer.specs.declared.page.Place.{Place}
-use Rattle.aj_printer.specs.declared.page.Place.TheVariants as P
+use Rattle.aj_printer.specs.declared.page.NextPlace.{NextPlace}
+use Rattle.aj_printer.specs.declared.page.NextPlace.TheVariants as P
 use Rattle.aj_syntax.specs.declared.terminal.Terminal.{Terminal}
 use Rattle.aj_syntax.specs.declared.terminal.Terminal.TheVariants as T
 use Rattle.aj_syntax.specs.Tokens.{spelling, token, number_token}
 
 -- a token without its offset: a terminal of the grammar, a name, or a number
-pub data Lexeme : Type 0 where
-  Fixed : Terminal → Lexeme
-  Named : List ℕ → Lexeme
-  Numeral : ℕ → Lexeme
+pub data PlainToken : Type 0 where
+  Fixed : Terminal → PlainToken
+  Named : List ℕ → PlainToken
+  Numeral : ℕ → PlainToken
 
 -- how a token is written; a number in decimal without leading zeros
-abbrev pub lexeme_text : Lexeme → List ℕ
+abbrev pub lexeme_text : PlainToken → List ℕ
 lexeme_text (Fixed t) = spelling t
 lexeme_text (Named name) = name
 lexeme_text (Numeral n) = decimal n
 
 -- the token at an offset
-abbrev pub token_at : ℕ → Lexeme → Token
+abbrev pub token_at : ℕ → PlainToken → Token
 token_at at (Fixed t) = token t at
 token_at at (Named name) = record { kind = K.Name; text = name; at = at }
 token_at at (Numeral n) = number_token n (decimal n) at
 
 -- a line ends after `{`, `}` and `;`
-abbrev pub line_end : Lexeme → List ℕ
+abbrev pub line_end : PlainToken → List ℕ
 line_end (Fixed T.OpenBrace) = codes "\n"
 line_end (Fixed T.CloseBrace) = codes "\n"
 line_end (Fixed T.Semicolon) = codes "\n"
 line_end x = []
 
 -- the number of open braces after a token
-abbrev pub depth_after : ℕ → Lexeme → ℕ
+abbrev pub depth_after : ℕ → PlainToken → ℕ
 depth_after depth (Fixed T.OpenBrace) = depth + 1
 depth_after depth (Fixed T.CloseBrace) = depth - 1
 depth_after depth x = depth
 
 -- how a token joins what is before it: no blank stands before `;`, `,`, `)` and `.`
-abbrev pub lead_of : Lexeme → Lead
+abbrev pub lead_of : PlainToken → Lead
 lead_of (Fixed T.Semicolon) = L.Joined
 lead_of (Fixed T.Comma) = L.Joined
 lead_of (Fixed T.CloseParen) = L.Joined
@@ -52,7 +52,7 @@ lead_of (Fixed T.CloseBrace) = L.CloseBrace
 lead_of x = L.Spaced
 
 -- the place behind a token: no blank stands after `(`, `.` and `!`; names and `Thread` are followed by a `(` without one
-abbrev pub place_after : Lexeme → Place
+abbrev pub place_after : PlainToken → NextPlace
 place_after (Fixed T.OpenBrace) = P.LineStart
 place_after (Fixed T.CloseBrace) = P.LineStart
 place_after (Fixed T.Semicolon) = P.LineStart
@@ -72,7 +72,7 @@ indent zero = []
 indent (suc depth) = codes "    " ++ indent depth
 
 -- what stands before a token: the indentation of a line, which is less by one before `}`, or one blank, or nothing
-abbrev pub gap : Place → ℕ → Lead → List ℕ
+abbrev pub gap : NextPlace → ℕ → Lead → List ℕ
 gap P.LineStart depth L.CloseBrace = indent (depth - 1)
 gap P.LineStart depth L.OpenParen = indent depth
 gap P.LineStart depth L.Joined = indent depth
@@ -88,22 +88,22 @@ gap P.Spaced depth L.Joined = []
 gap P.Spaced depth L.Spaced = codes " "
 
 -- tokens laid out from a place on, where so many braces are open
-abbrev pub layout : Place → ℕ → List Lexeme → List ℕ
+abbrev pub layout : NextPlace → ℕ → List PlainToken → List ℕ
 layout place depth [] = []
 layout place depth (x ∷ xs) = gap place depth (lead_of x) ++ (lexeme_text x ++ (line_end x ++ layout (place_after x) (depth_after depth x) xs))
 
 -- tokens laid out from the start of a text on
-abbrev pub laid_out : List Lexeme → List ℕ
+abbrev pub laid_out : List PlainToken → List ℕ
 laid_out xs = layout P.LineStart 0 xs
 
 -- what is written, how many braces are open, and the place of the next token
 pub record Page : Type 0 where
   pub text : List ℕ
   pub depth : ℕ
-  pub place : Place
+  pub place : NextPlace
 
 -- the page with one token more
-unfoldable pub put : Page → Lexeme → Page
+unfoldable pub put : Page → PlainToken → Page
 put page x = record {
   text = page.text ++ (gap page.place page.depth (lead_of x) ++ (lexeme_text x ++ line_end x));
   depth = depth_after page.depth x;
@@ -111,7 +111,7 @@ put page x = record {
 }
 
 -- the page with more tokens
-unfoldable pub writes : Page → List Lexeme → Page
+unfoldable pub writes : Page → List PlainToken → Page
 writes page [] = page
 writes page (x ∷ xs) = writes (put page x) xs
 

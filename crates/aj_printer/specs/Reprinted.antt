@@ -6,40 +6,40 @@ use Rattle.aj_lexer.specs.declared.tokens.TokenKind.TheVariants as K
 use Rattle.aj_lexer.specs.Tokens.{IsOfKind, Tokens}
 use Rattle.aj_syntax.specs.declared.terminal.Terminal.TheVariants as T
 use Rattle.aj_syntax.specs.Grammar.{Grammar}
-use Rattle.aj_printer.specs.Layout.{Lexeme, Fixed, Named, Numeral, lexeme_text, token_at}
+use Rattle.aj_printer.specs.Layout.{PlainToken, Fixed, Named, Numeral, lexeme_text, token_at}
 use Rattle.aj_syntax.specs.Tokens.{kind_of}
 use Rattle.aj_syntax.specs.Trees.{ProgramTree}
 use Rattle.aj_printer.specs.Unplaced.{without_offsets}
 
 -- the kind of the token that a lexer makes of this lexeme
-abbrev pub lexeme_kind : Lexeme → TokenKind
+abbrev pub lexeme_kind : PlainToken → TokenKind
 lexeme_kind (Fixed t) = kind_of t
 lexeme_kind (Named name) = K.Name
 lexeme_kind (Numeral n) = K.Number n
 
 -- each text is that of a token of its kind
-abbrev pub AreLexemes : List Lexeme → Type 0
+abbrev pub AreLexemes : List PlainToken → Type 0
 AreLexemes [] = Unit {0}
 AreLexemes (x ∷ xs) = IsOfKind (lexeme_kind x) (lexeme_text x) × AreLexemes xs
 
 -- whether a lexeme is `!`, which would be another token with a `=` directly after it
-abbrev pub is_bang : Lexeme → Bool
+abbrev pub is_bang : PlainToken → Bool
 is_bang (Fixed T.Bang) = true
 is_bang x = false
 
 -- whether a lexeme begins with `=`: the signs `=` and `==`
-abbrev pub begins_with_assign : Lexeme → Bool
+abbrev pub begins_with_assign : PlainToken → Bool
 begins_with_assign (Fixed T.Assign) = true
 begins_with_assign (Fixed T.EqualTo) = true
 begins_with_assign x = false
 
 -- after each `!` comes something that doesn't begin with `=`; the flag says that a `!` stands before
-abbrev pub Parted : Bool → List Lexeme → Type 0
+abbrev pub Parted : Bool → List PlainToken → Type 0
 Parted bang [] = bang ≡ false
 Parted bang (x ∷ xs) = (bang ≡ true → begins_with_assign x ≡ false) × Parted (is_bang x) xs
 
 -- the tokens are these, each at its own offset
-abbrev pub AreTokensOf : List Lexeme → List Token → Type 0
+abbrev pub AreTokensOf : List PlainToken → List Token → Type 0
 AreTokensOf [] [] = Unit {0}
 AreTokensOf [] (t ∷ ts) = ⊥
 AreTokensOf (x ∷ xs) [] = ⊥

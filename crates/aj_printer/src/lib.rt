@@ -6,5 +6,5 @@ mod page;
 mod print;
 
 pub use laws::printing_laws;
-pub use page::{Lead, Place, Printer};
+pub use page::{Lead, NextPlace, Printer};
 pub use print::print_program;

@@ -2,7 +2,7 @@
 
 ghost use Rattle.std.specs.Prelude.{◌≡◌, ◌+◌, ◌<◌, ◌^◌, [], ◌++◌, ◌≤◌, OnOk, OnErr, string_bytes, string_len};
 ghost use Rattle.aj_printer.specs.Layout.{Fixed, KeepsPage, KeepsText, Named, Numeral, Page, depth_after, gap, indent, lead_of, line_end, place_after, put};
-ghost use Rattle.aj_printer.specs.declared.page.Place.TheVariants as places;
+ghost use Rattle.aj_printer.specs.declared.page.NextPlace.TheVariants as places;
 
 use aj_syntax::Terminal;
 use itoa::Buffer;
@@ -11,7 +11,7 @@ use std::marker::Model;
 
 /// The place of the next token, as far as the token before it matters.
 #[derive(Clone, Copy)]
-pub enum Place {
+pub enum NextPlace {
     LineStart,
     /// Behind a token that no blank follows.
     Joined,
@@ -35,7 +35,7 @@ pub enum Lead {
 pub struct Printer {
     text: String,
     depth: usize,
-    place: Place,
+    place: NextPlace,
 }
 
 impl Model for Printer {
@@ -57,7 +57,7 @@ impl Printer {
         Printer {
             text: String::new(alloc),
             depth: 0,
-            place: Place::LineStart,
+            place: NextPlace::LineStart,
         }
     }
 
@@ -90,7 +90,7 @@ impl Printer {
     {
         write_gap(&mut self.text, self.place, self.depth, Lead::Spaced)?;
         self.text.push_str(name)?;
-        self.place = Place::Callee;
+        self.place = NextPlace::Callee;
         Ok(())
     }
 
@@ -103,7 +103,7 @@ impl Printer {
         let mut digits = Buffer::new();
         write_gap(&mut self.text, self.place, self.depth, Lead::Spaced)?;
         self.text.push_str(digits.format(number))?;
-        self.place = Place::Spaced;
+        self.place = NextPlace::Spaced;
         Ok(())
     }
 }
@@ -121,15 +121,15 @@ fn write_indent(text: &mut String, depth: usize) -> Result<(), NoMemory>
 }
 
 #[tactic(auto, using(crate::proofs::Kept::kept_itself))]
-fn write_gap(text: &mut String, place: Place, depth: usize, lead: Lead) -> Result<(), NoMemory>
+fn write_gap(text: &mut String, place: NextPlace, depth: usize, lead: Lead) -> Result<(), NoMemory>
     ensures text { OnOk result (string_bytes text.new ≡ string_bytes text.old ++ gap place depth lead) }
     ensures kept { OnErr result (KeepsText (string_bytes text.old) (string_bytes text.new)) }
     ensures longer { string_len text.old ≤ string_len text.new }
 {
     match (place, lead) {
-        (Place::LineStart, Lead::CloseBrace) => write_indent(text, depth.saturating_sub(1)),
-        (Place::LineStart, _) => write_indent(text, depth),
-        (Place::Joined, _) | (_, Lead::Joined) | (Place::Callee, Lead::OpenParen) => Ok(()),
+        (NextPlace::LineStart, Lead::CloseBrace) => write_indent(text, depth.saturating_sub(1)),
+        (NextPlace::LineStart, _) => write_indent(text, depth),
+        (NextPlace::Joined, _) | (_, Lead::Joined) | (NextPlace::Callee, Lead::OpenParen) => Ok(()),
         _ => text.push_str(" "),
     }
 }
@@ -158,14 +158,14 @@ fn lead_to(terminal: Terminal) -> Lead
     }
 }
 
-fn place_behind(terminal: Terminal) -> Place
+fn place_behind(terminal: Terminal) -> NextPlace
     ensures { result ≡ place_after (Fixed terminal) }
 {
     match terminal {
-        Terminal::OpenBrace | Terminal::CloseBrace | Terminal::Semicolon => Place::LineStart,
-        Terminal::OpenParen | Terminal::Dot | Terminal::Bang => Place::Joined,
-        Terminal::Thread | Terminal::Out | Terminal::Println | Terminal::Start => Place::Callee,
-        _ => Place::Spaced,
+        Terminal::OpenBrace | Terminal::CloseBrace | Terminal::Semicolon => NextPlace::LineStart,
+        Terminal::OpenParen | Terminal::Dot | Terminal::Bang => NextPlace::Joined,
+        Terminal::Thread | Terminal::Out | Terminal::Println | Terminal::Start => NextPlace::Callee,
+        _ => NextPlace::Spaced,
     }
 }
 

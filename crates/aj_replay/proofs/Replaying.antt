@@ -9,19 +9,19 @@ use Rattle.aj_steps.specs.Step.{Outcome, Moves, Absent, IsDone, HadFaulted, Wait
 use Rattle.aj_steps.specs.Run.{run, inside, IsUninterrupted}
 use Rattle.aj_machine.specs.MachineValue.{MachineValue}
 use Rattle.aj_machine.specs.Standing.{StandsFor}
-use Rattle.aj_plain.specs.Records.{Told, AreTold, HasNoDeep, IsTooDeep}
-use Rattle.aj_plain.specs.Scanning.{Begun, Goes, Deep, next_of}
+use Rattle.aj_replay.specs.Records.{Told, AreTold, HasNoDeep, IsTooDeep}
+use Rattle.aj_replay.specs.Scanning.{Begun, Goes, Deep, next_of}
 use Rattle.aj_replay.specs.declared.calls.ReplayEnd.{ReplayEnd}
 use Rattle.aj_replay.specs.declared.calls.ReplayEnd.TheVariants as ends
 use Rattle.aj_replay.specs.Views.{IsDeepEnd}
 use Rattle.aj_noted.specs.Calls.{AreCalls}
 use Rattle.aj_noted.specs.Made.{IsMade}
 use Rattle.aj_noted.proofs.Running.{no_calls}
-use Rattle.aj_units.specs.declared.step.Step.{Step}
-use Rattle.aj_units.specs.Tables.{value_at}
-use Rattle.aj_plain.proofs.Schedules.{prefix_runs, entry_steps}
-use Rattle.aj_plain.proofs.Scan.{first_outside, told_none, all_told, no_deep}
-use Rattle.aj_plain.proofs.Scanned.{Scanned, goes_right, deep_right}
+use Rattle.aj_noted.specs.declared.step.Step.{Step}
+use Rattle.aj_noted.specs.Tables.{value_at}
+use Rattle.aj_replay.proofs.Schedules.{prefix_runs, entry_steps}
+use Rattle.aj_replay.proofs.Scan.{first_outside, told_none, all_told, no_deep}
+use Rattle.aj_replay.proofs.Scanned.{Scanned, goes_right, deep_right}
 
 -- what holds in any case
 pub on_ok : {T E A : Type 0} (r : Result T E) → A → OnOk r A

@@ -6,8 +6,8 @@ use Rattle.aj_state.specs.States.{Frame, Thread, ThreadOf, Ready, Running, Done,
 use Rattle.aj_threads.specs.Frames.{CellFrame, code_frame, code_thread}
 use Rattle.aj_compile.specs.declared.stack.Code.{Code}
 use Rattle.aj_deeds.specs.Likeness.{FramesStand, no_frames, more_frames, ThreadStands, ready_stands, running_stands, done_stands, faulted_stands, ThreadsStand, no_threads, more_threads}
-use Rattle.aj_plain.specs.Calls.{result_in}
-use Rattle.aj_plain.specs.Scanning.{innermost}
+use Rattle.aj_replay.specs.Calls.{result_in}
+use Rattle.aj_replay.specs.Scanning.{innermost}
 use Rattle.aj_replay.specs.Sights.{sight_of, frames_call, cell_top, cell_sight}
 
 module _ (P : Program) (code : List Code) where

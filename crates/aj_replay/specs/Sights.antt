@@ -5,8 +5,8 @@ use Rattle.aj_state.specs.declared.value.Value.{Value}
 use Rattle.aj_state.specs.Values.{top}
 use Rattle.aj_state.specs.States.{ThreadOf, Running, Thread}
 use Rattle.aj_threads.specs.Frames.{CellFrame, frames_in}
-use Rattle.aj_plain.specs.Calls.{depth, result_in}
-use Rattle.aj_plain.specs.Scanning.{first_receiver, entered_in}
+use Rattle.aj_replay.specs.Calls.{depth, result_in}
+use Rattle.aj_replay.specs.Scanning.{first_receiver, entered_in}
 use Rattle.aj_replay.specs.declared.sight.Sight.{Sight}
 
 -- how many frames a thread has, the method and the receiver of the innermost, and its topmost operand where the thread runs

@@ -1,7 +1,7 @@
 -- Calls in memory as plain data.
 use Rattle.std.specs.Prelude.{◌≡◌, List, [], ◌∷◌, Option, Some, None}
-use Rattle.aj_plain.specs.Records.{Told}
-use Rattle.aj_plain.specs.Scanning as scan
+use Rattle.aj_replay.specs.Records.{Told}
+use Rattle.aj_replay.specs.Scanning as scan
 use Rattle.aj_replay.specs.declared.calls.CallRecord.{CallRecord}
 use Rattle.aj_replay.specs.declared.calls.ReplayEnd.{ReplayEnd}
 use Rattle.aj_replay.specs.declared.calls.ReplayEnd.TheVariants as ends

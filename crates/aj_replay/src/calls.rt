@@ -4,7 +4,7 @@ ghost use Rattle.aj_core.specs.Views.{program_of};
 ghost use Rattle.aj_state.specs.States.{State};
 ghost use Rattle.aj_compile.specs.IsCode.{IsCodeOf};
 ghost use Rattle.aj_steps.specs.Run.{run, inside, IsUninterrupted};
-ghost use Rattle.aj_plain.specs.Records.{AreTold, HasNoDeep, IsTooDeep};
+ghost use Rattle.aj_replay.specs.Records.{AreTold, HasNoDeep, IsTooDeep};
 ghost use Rattle.aj_replay.specs.Views.{told_in, all_told_in};
 ghost use Rattle.aj_replay.specs.declared.calls.ReplayEnd.TheVariants as ends;
 

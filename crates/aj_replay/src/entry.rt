@@ -5,10 +5,10 @@ ghost use Rattle.aj_state.specs.States.{State};
 ghost use Rattle.aj_steps.specs.Step.{step, has_result};
 ghost use Rattle.aj_machine.specs.Standing.{program_run, StandsFor};
 ghost use Rattle.aj_noted.specs.Calls.{AreCalls};
-ghost use Rattle.aj_plain.specs.Scanning as scan;
-ghost use Rattle.aj_plain.specs.Calls.{depth, result_in};
+ghost use Rattle.aj_replay.specs.Scanning as scan;
+ghost use Rattle.aj_replay.specs.Calls.{depth, result_in};
 ghost use Rattle.aj_replay.specs.Views.{told_in, all_told_in, begun_of, open_of, IsDeepEnd};
-ghost use Rattle.aj_units.specs.Tables.{value_at};
+ghost use Rattle.aj_noted.specs.Tables.{value_at};
 
 use crate::begun::Begun;
 use crate::calls::{CallRecord, ReplayEnd};

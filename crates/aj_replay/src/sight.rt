@@ -3,7 +3,7 @@ ghost use Rattle.std.specs.Prelude.{◌≡◌, Some, slice_get};
 ghost use Rattle.aj_state.specs.States.{State};
 ghost use Rattle.aj_threads.specs.Frames.{frames_in};
 ghost use Rattle.aj_machine.specs.Standing.{StandsFor};
-ghost use Rattle.aj_plain.specs.Scanning.{first_receiver};
+ghost use Rattle.aj_replay.specs.Scanning.{first_receiver};
 ghost use Rattle.aj_replay.specs.Sights.{sight_of, frames_call, cell_top, cell_sight};
 
 use aj_deeds::operand;

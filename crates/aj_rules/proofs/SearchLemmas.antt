@@ -9,7 +9,7 @@ use Rattle.aj_paths.specs.Paths.{PathData, path_order, path_eq}
 use Rattle.aj_core.specs.Core.{Program}
 use Rattle.aj_paths.proofs.PathOrder.{eq_is, eq_itself}
 use Rattle.aj_algebra.specs.HeldPaths.{has_path}
-use Rattle.aj_rules.specs.declared.clauses.Place.{Place}
+use Rattle.aj_rules.specs.declared.clauses.NearPath.{NearPath}
 use Rattle.aj_rules.specs.declared.clauses.Link.{Link}
 use Rattle.aj_rules.specs.declared.clauses.Clause.{Clause}
 use Rattle.aj_rules.specs.declared.clauses.Clause.TheVariants as clause
@@ -25,12 +25,12 @@ use Rattle.aj_lemmas.proofs.Lists.{contains_later, next_take}
 
 -- One place.
 
-module _ (near new : List (List PathData)) (queue longer : List Place) (place : Place) (agree : Agree near queue)
+module _ (near new : List (List PathData)) (queue longer : List NearPath) (place : NearPath) (agree : Agree near queue)
     (ascends : IsStrictlySortedBy path_order (row_at new place.method))
     (here : (q : PathData) → has_path (row_at new place.method) q ≡ (path_eq place.path q || has_path (row_at near place.method) q))
     (others : (n : ℕ) → (n ≡ place.method → ⊥) → row_at new n ≡ row_at near n)
-    (kept : (x : Place) → Contains queue x → Contains longer x)
-    (only : (x : Place) → Contains longer x → Contains queue x ⊎ (x ≡ place))
+    (kept : (x : NearPath) → Contains queue x → Contains longer x)
+    (only : (x : NearPath) → Contains longer x → Contains queue x ⊎ (x ≡ place))
     (has : Contains longer place) where
   at_method : (m : ℕ) → (m ≡ place.method) ⊎ (m ≡ place.method → ⊥)
   at_method m = elim (m == place.method) as (λ b. (m == place.method) ≡ b → (m ≡ place.method) ⊎ (m ≡ place.method → ⊥)) [
@@ -65,14 +65,14 @@ module _ (near new : List (List PathData)) (queue longer : List Place) (place : 
   listed : (m : ℕ) (p : PathData) → Contains longer (record { method = m; path = p }) → has_path (row_at new m) p ≡ true
   listed m p in_queue = elim (only _ in_queue) as (λ _. has_path (row_at new m) p ≡ true) [
     | inl old ↦ listed_old m p ((agree.same m p).1 old)
-    | inr is ↦ subst (λ (x : Place). has_path (row_at new x.method) x.path ≡ true) (sym is) (here place.path ∙ or_left _ _ (eq_itself place.path))
+    | inr is ↦ subst (λ (x : NearPath). has_path (row_at new x.method) x.path ≡ true) (sym is) (here place.path ∙ or_left _ _ (eq_itself place.path))
   ]
 
   grown_agree : Agree new longer
   grown_agree = record { ascends = grown_ascends; same = λ m p. (found m p, listed m p) }
 
 -- a place that wasn't known
-pub grows_new : (near new : List (List PathData)) (queue longer : List Place) (place : Place) → Agree near queue → IsStrictlySortedBy path_order (row_at new place.method) → ((q : PathData) → has_path (row_at new place.method) q ≡ (path_eq place.path q || has_path (row_at near place.method) q)) → ((n : ℕ) → (n ≡ place.method → ⊥) → row_at new n ≡ row_at near n) → longer ≡ queue ++ place ∷ [] → Grows queue (λ x. x ≡ place) new longer
+pub grows_new : (near new : List (List PathData)) (queue longer : List NearPath) (place : NearPath) → Agree near queue → IsStrictlySortedBy path_order (row_at new place.method) → ((q : PathData) → has_path (row_at new place.method) q ≡ (path_eq place.path q || has_path (row_at near place.method) q)) → ((n : ℕ) → (n ≡ place.method → ⊥) → row_at new n ≡ row_at near n) → longer ≡ queue ++ place ∷ [] → Grows queue (λ x. x ≡ place) new longer
 grows_new near new queue longer place agree ascends here others is =
     let has : Contains longer place = subst (λ l. Contains l place) (sym is) (Contains-append_right queue (place ∷ []) place (contains_here place [])) in
     record {
@@ -87,7 +87,7 @@ grows_new near new queue longer place agree ascends here others is =
     }
 
 -- a place that was known
-pub grows_known : (near new : List (List PathData)) (queue longer : List Place) (place : Place) → Agree near queue → IsStrictlySortedBy path_order (row_at new place.method) → ((q : PathData) → has_path (row_at new place.method) q ≡ (path_eq place.path q || has_path (row_at near place.method) q)) → ((n : ℕ) → (n ≡ place.method → ⊥) → row_at new n ≡ row_at near n) → has_path (row_at near place.method) place.path ≡ true → longer ≡ queue → Grows queue (λ x. x ≡ place) new longer
+pub grows_known : (near new : List (List PathData)) (queue longer : List NearPath) (place : NearPath) → Agree near queue → IsStrictlySortedBy path_order (row_at new place.method) → ((q : PathData) → has_path (row_at new place.method) q ≡ (path_eq place.path q || has_path (row_at near place.method) q)) → ((n : ℕ) → (n ≡ place.method → ⊥) → row_at new n ≡ row_at near n) → has_path (row_at near place.method) place.path ≡ true → longer ≡ queue → Grows queue (λ x. x ≡ place) new longer
 grows_known near new queue longer place agree ascends here others known is =
     let has : Contains longer place = subst (λ l. Contains l place) (sym is) ((agree.same place.method place.path).0 known) in
     record {
@@ -103,7 +103,7 @@ grows_known near new queue longer place agree ascends here others known is =
 
 -- Several places.
 
-pub grows_none : (near : List (List PathData)) (queue : List Place) (N : Place → Type 0) → Agree near queue → ((x : Place) → N x → ⊥) → Grows queue N near queue
+pub grows_none : (near : List (List PathData)) (queue : List NearPath) (N : NearPath → Type 0) → Agree near queue → ((x : NearPath) → N x → ⊥) → Grows queue N near queue
 grows_none near queue N agree none = record {
   agree = agree;
   added = [];
@@ -112,10 +112,10 @@ grows_none near queue N agree none = record {
   each = λ x h. absurd (none x h);
 }
 
-pub grows_same : (near : List (List PathData)) (queue longer : List Place) (N M : Place → Type 0) → ((x : Place) → N x → M x) → ((x : Place) → M x → N x) → Grows queue N near longer → Grows queue M near longer
+pub grows_same : (near : List (List PathData)) (queue longer : List NearPath) (N M : NearPath → Type 0) → ((x : NearPath) → N x → M x) → ((x : NearPath) → M x → N x) → Grows queue N near longer → Grows queue M near longer
 grows_same near queue longer N M to back g = record { agree = g.agree; added = g.added; is = g.is; only = λ x h. to x (g.only x h); each = λ x h. g.each x (back x h) }
 
-pub grows_two : (near new : List (List PathData)) (queue longer longest : List Place) (N M L : Place → Type 0) → ((x : Place) → N x → L x) → ((x : Place) → M x → L x) → ((x : Place) → L x → N x ⊎ M x) → Grows queue N near longer → Grows longer M new longest → Grows queue L new longest
+pub grows_two : (near new : List (List PathData)) (queue longer longest : List NearPath) (N M L : NearPath → Type 0) → ((x : NearPath) → N x → L x) → ((x : NearPath) → M x → L x) → ((x : NearPath) → L x → N x ⊎ M x) → Grows queue N near longer → Grows longer M new longest → Grows queue L new longest
 grows_two near new queue longer longest N M L left right split g h = record {
   agree = h.agree;
   added = g.added ++ h.added;
@@ -125,7 +125,7 @@ grows_two near new queue longer longest N M L left right split g h = record {
 }
 
 -- the links before a place and the one there
-pub led_more : (P : Program) (near new : List (List PathData)) (queue longer longest : List Place) (links front : List Link) (link : Link) (place : Place) → front ≡ links ++ link ∷ [] → Grows queue (IsLed P links place) near longer → Grows longer (LeadsTo P link place) new longest → Grows queue (IsLed P front place) new longest
+pub led_more : (P : Program) (near new : List (List PathData)) (queue longer longest : List NearPath) (links front : List Link) (link : Link) (place : NearPath) → front ≡ links ++ link ∷ [] → Grows queue (IsLed P links place) near longer → Grows longer (LeadsTo P link place) new longest → Grows queue (IsLed P front place) new longest
 led_more P near new queue longer longest links front link place is g h = grows_two near new queue longer longest (IsLed P links place) (LeadsTo P link place) (IsLed P front place)
     (λ x n. (n.0, subst (λ l. Contains l n.0) (sym is) (Contains-append_left links (link ∷ []) n.0 n.1), n.2))
     (λ x m. (link, subst (λ l. Contains l link) (sym is) (Contains-append_right links (link ∷ []) link (contains_here link [])), m))
@@ -144,10 +144,10 @@ abbrev leads_is : (c : Clause) (link : Link) → Link
 leads_is (clause.Fact x) link = link
 leads_is (clause.Leads l) link = l
 
-fact_is_no_link : (x : Place) (link : Link) → clause.Fact x ≡ clause.Leads link → ⊥
+fact_is_no_link : (x : NearPath) (link : Link) → clause.Fact x ≡ clause.Leads link → ⊥
 fact_is_no_link x link e = absurd cc
 
-pub links_fact : (cs all : List Clause) (links : List (List Link)) (x : Place) → all ≡ cs ++ clause.Fact x ∷ [] → AreLinks cs links → AreLinks all links
+pub links_fact : (cs all : List Clause) (links : List (List Link)) (x : NearPath) → all ≡ cs ++ clause.Fact x ∷ [] → AreLinks cs links → AreLinks all links
 links_fact cs all links x is a = record {
   exact = λ m link. (
     λ h. let k = (a.exact m link).0 h in (subst (λ l. Contains l (clause.Leads link)) (sym is) (Contains-append_left cs (clause.Fact x ∷ []) (clause.Leads link) k.0), k.1),
@@ -219,21 +219,21 @@ facts_none = record { ascends = λ m. none_ascends; same = λ m p. (λ h. absurd
 pub has_facts_none : HasFacts [] [] []
 has_facts_none = record { agree = facts_none; facts = λ x. (λ h. contains_none x h, λ h. contains_none (clause.Fact x) h) }
 
-abbrev fact_of : (c : Clause) → Place → Place
+abbrev fact_of : (c : Clause) → NearPath → NearPath
 fact_of (clause.Fact x) y = x
 fact_of (clause.Leads l) y = y
 
-module _ (clauses : List Clause) (near new : List (List PathData)) (queue longer : List Place) (i : ℕ) (c : Clause) (below : i < length clauses) (at : c ≡ get_or clauses i c) (f : HasFacts (take i clauses) near queue) (g : Grows queue (λ x. c ≡ clause.Fact x) new longer) where
+module _ (clauses : List Clause) (near new : List (List PathData)) (queue longer : List NearPath) (i : ℕ) (c : Clause) (below : i < length clauses) (at : c ≡ get_or clauses i c) (f : HasFacts (take i clauses) near queue) (g : Grows queue (λ x. c ≡ clause.Fact x) new longer) where
   next_is : take (i + 1) clauses ≡ take i clauses ++ c ∷ []
   next_is = next_take clauses i c below at
 
-  facts_to : (x : Place) → Contains longer x → Contains (take (i + 1) clauses) (clause.Fact x)
+  facts_to : (x : NearPath) → Contains longer x → Contains (take (i + 1) clauses) (clause.Fact x)
   facts_to x h = subst (λ cs. Contains cs (clause.Fact x)) (sym next_is) (elim (Contains-append_cases queue g.added x (subst (λ q. Contains q x) g.is h)) as (λ _. Contains (take i clauses ++ c ∷ []) (clause.Fact x)) [
     | inl old ↦ Contains-append_left (take i clauses) (c ∷ []) (clause.Fact x) ((f.facts x).0 old)
     | inr added ↦ Contains-append_right (take i clauses) (c ∷ []) (clause.Fact x) (subst (Contains (c ∷ [])) (g.only x added) (contains_here c []))
   ])
 
-  facts_back : (x : Place) → Contains (take (i + 1) clauses) (clause.Fact x) → Contains longer x
+  facts_back : (x : NearPath) → Contains (take (i + 1) clauses) (clause.Fact x) → Contains longer x
   facts_back x h = elim (Contains-append_cases (take i clauses) (c ∷ []) (clause.Fact x) (subst (λ cs. Contains cs (clause.Fact x)) next_is h)) as (λ _. Contains longer x) [
     | inl old ↦ subst (λ q. Contains q x) (sym g.is) (Contains-append_left queue g.added x ((f.facts x).1 old))
     | inr one ↦ g.each x (contains_one c (clause.Fact x) one)
@@ -242,15 +242,15 @@ module _ (clauses : List Clause) (near new : List (List PathData)) (queue longer
   pub facts_next : HasFacts (take (i + 1) clauses) new longer
   facts_next = record { agree = g.agree; facts = λ x. (facts_to x, facts_back x) }
 
-pub facts_start : (near : List (Vec PathData Global)) (queue : List Place) → near ≡ [] → queue ≡ [] → HasFacts [] (rows_of near) queue
+pub facts_start : (near : List (Vec PathData Global)) (queue : List NearPath) → near ≡ [] → queue ≡ [] → HasFacts [] (rows_of near) queue
 facts_start near queue no_near no_queue = subst (λ n. HasFacts [] (rows_of n) queue) (sym no_near) (subst (HasFacts [] []) (sym no_queue) has_facts_none)
 
-pub put_fact_some : {A E : Type 0} (r : Result A E) (c : Clause) (place copied : Place) (near : List (List PathData)) (queue longer : List Place) → c ≡ clause.Fact place → copied ≡ place → OnOk r (Grows queue (λ x. x ≡ copied) near longer) → OnOk r (Grows queue (λ x. c ≡ clause.Fact x) near longer)
+pub put_fact_some : {A E : Type 0} (r : Result A E) (c : Clause) (place copied : NearPath) (near : List (List PathData)) (queue longer : List NearPath) → c ≡ clause.Fact place → copied ≡ place → OnOk r (Grows queue (λ x. x ≡ copied) near longer) → OnOk r (Grows queue (λ x. c ≡ clause.Fact x) near longer)
 put_fact_some r c place copied near queue longer is copy h = on_ok r (λ g. grows_same near queue longer (λ x. x ≡ copied) (λ x. c ≡ clause.Fact x)
     (λ x e. is ∙ ap clause.Fact (sym copy ∙ sym e))
     (λ x e. sym (ap (λ d. fact_of d x) (sym is ∙ e)) ∙ sym copy) g) h
 
-pub put_fact_none : (c : Clause) (link : Link) (near : List (List PathData)) (queue : List Place) → c ≡ clause.Leads link → Agree near queue → Grows queue (λ x. c ≡ clause.Fact x) near queue
+pub put_fact_none : (c : Clause) (link : Link) (near : List (List PathData)) (queue : List NearPath) → c ≡ clause.Leads link → Agree near queue → Grows queue (λ x. c ≡ clause.Fact x) near queue
 put_fact_none c link near queue is agree = grows_none near queue (λ x. c ≡ clause.Fact x) agree (λ x e. fact_is_no_link x link (sym e ∙ is))
 
 -- The queue, place by place.
@@ -269,7 +269,7 @@ get_append [] ys k x below is = absurd (omega arith)
 get_append (y ∷ xs) ys zero x below is = is
 get_append (y ∷ xs) ys (suc k) x below is = get_append xs ys k x (omega arith) is
 
-pub done_none : (P : Program) (cs : List Clause) (links : List (List Link)) (near : List (List PathData)) (queue : List Place) → HasFacts cs near queue → HasDone P cs links 0 near queue
+pub done_none : (P : Program) (cs : List Clause) (links : List (List Link)) (near : List (List PathData)) (queue : List NearPath) → HasFacts cs near queue → HasDone P cs links 0 near queue
 done_none P cs links near queue f = record {
   agree = f.agree;
   starts = λ x h. (f.facts x).1 h;
@@ -277,17 +277,17 @@ done_none P cs links near queue f = record {
   done = λ k x y below at leads. absurd (omega arith);
 }
 
-module _ (P : Program) (cs : List Clause) (links : List (List Link)) (next : ℕ) (near new : List (List PathData)) (queue longer : List Place) (place : Place) (a : AreLinks cs links) (d : HasDone P cs links next near queue) (below : next < length queue) (at : slice_get queue next ≡ Some place) (g : Grows queue (IsLed P (row_at links place.method) place) new longer) where
-  still : (x : Place) → Contains queue x → Contains longer x
+module _ (P : Program) (cs : List Clause) (links : List (List Link)) (next : ℕ) (near new : List (List PathData)) (queue longer : List NearPath) (place : NearPath) (a : AreLinks cs links) (d : HasDone P cs links next near queue) (below : next < length queue) (at : slice_get queue next ≡ Some place) (g : Grows queue (IsLed P (row_at links place.method) place) new longer) where
+  still : (x : NearPath) → Contains queue x → Contains longer x
   still x h = subst (λ q. Contains q x) (sym g.is) (Contains-append_left queue g.added x h)
 
-  reach : (x : Place) → IsLed P (row_at links place.method) place x → Reached P cs x.method x.path
+  reach : (x : NearPath) → IsLed P (row_at links place.method) place x → Reached P cs x.method x.path
   reach x l =
       let k = (a.exact place.method l.0).0 l.1 in
       subst (λ m. Reached P cs m x.path) (sym l.2.method)
       (led l.0 place.path (subst (λ m. Reached P cs m place.path) (sym k.1) (d.sound place (get_in queue next place at))) k.0 l.2.path)
 
-  step : (k : ℕ) (x y : Place) (b : Bool) → nat_lt k next ≡ b → k < next + 1 → slice_get queue k ≡ Some x → IsLed P (row_at links x.method) x y → Contains longer y
+  step : (k : ℕ) (x y : NearPath) (b : Bool) → nat_lt k next ≡ b → k < next + 1 → slice_get queue k ≡ Some x → IsLed P (row_at links x.method) x y → Contains longer y
   step k x y true e under get leads = still y (d.done k x y (grind (arith, nat_tests)) get leads)
   step k x y false e under get leads =
       let same : k ≡ next = grind (arith, nat_tests) in
@@ -310,15 +310,15 @@ module _ (P : Program) (cs : List Clause) (links : List (List Link)) (next : ℕ
 at_place : {A : Type 0} (xs : List A) (x : A) → Contains xs x → (k : ℕ) × (k < length xs) × (slice_get xs k ≡ Some x)
 at_place xs x (k, below, is) = (k, below, slice_get-get_or xs k x below ∙ ap Some is)
 
-pub reached_all : (P : Program) (cs : List Clause) (links : List (List Link)) (next : ℕ) (near : List (List PathData)) (queue : List Place) → AreLinks cs links → HasDone P cs links next near queue → length queue ≤ next → (m : ℕ) (p : PathData) → Reached P cs m p → Contains queue (record { method = m; path = p })
+pub reached_all : (P : Program) (cs : List Clause) (links : List (List Link)) (next : ℕ) (near : List (List PathData)) (queue : List NearPath) → AreLinks cs links → HasDone P cs links next near queue → length queue ≤ next → (m : ℕ) (p : PathData) → Reached P cs m p → Contains queue (record { method = m; path = p })
 reached_all P cs links next near queue a d all m p (given has) = d.starts (record { method = m; path = p }) has
 reached_all P cs links next near queue a d all m p (led link q reached has fits) =
-    let from : Place = record { method = link.from; path = q } in
+    let from : NearPath = record { method = link.from; path = q } in
     let at = at_place queue from (reached_all P cs links next near queue a d all link.from q reached) in
     d.done at.0 from (record { method = link.to; path = p }) (omega (arith, at.1)) at.2
     (link, (a.exact link.from link).1 (has, refl), record { path = fits; method = refl })
 
-pub least_family : (P : Program) (cs : List Clause) (links : List (List Link)) (next : ℕ) (near : List (List PathData)) (queue : List Place) → AreLinks cs links → HasDone P cs links next near queue → length queue ≤ next → IsLeastFamily P cs near
+pub least_family : (P : Program) (cs : List Clause) (links : List (List Link)) (next : ℕ) (near : List (List PathData)) (queue : List NearPath) → AreLinks cs links → HasDone P cs links next near queue → length queue ≤ next → IsLeastFamily P cs near
 least_family P cs links next near queue a d all = record {
   ascends = d.agree.ascends;
   exact = λ m p. (
@@ -332,10 +332,10 @@ least_family P cs links next near queue a d all = record {
 had_is : (rows grown : List (Vec PathData Global)) (had : Vec PathData Global) (i m : ℕ) → i ≡ m → i + 1 ≤ length grown → ((n : ℕ) → row_at (rows_of grown) n ≡ row_at (rows_of rows) n) → had ≡ get_or grown i had → had.items ≡ row_at (rows_of rows) m
 had_is rows grown had i m is long same at = ap (λ v. v.items) at ∙ sym (row_is grown i had (omega arith)) ∙ same i ∙ ap (row_at (rows_of rows)) is
 
-pub had_ascends : (rows grown : List (Vec PathData Global)) (had : Vec PathData Global) (i m : ℕ) (queue : List Place) → i ≡ m → i + 1 ≤ length grown → ((n : ℕ) → row_at (rows_of grown) n ≡ row_at (rows_of rows) n) → had ≡ get_or grown i had → Agree (rows_of rows) queue → IsStrictlySortedBy path_order had.items
+pub had_ascends : (rows grown : List (Vec PathData Global)) (had : Vec PathData Global) (i m : ℕ) (queue : List NearPath) → i ≡ m → i + 1 ≤ length grown → ((n : ℕ) → row_at (rows_of grown) n ≡ row_at (rows_of rows) n) → had ≡ get_or grown i had → Agree (rows_of rows) queue → IsStrictlySortedBy path_order had.items
 had_ascends rows grown had i m queue is long same at agree = subst (IsStrictlySortedBy path_order) (sym (had_is rows grown had i m is long same at)) (agree.ascends m)
 
-module _ (rows grown : List (Vec PathData Global)) (had row : Vec PathData Global) (i : ℕ) (queue : List Place) (place : Place) (is : i ≡ place.method) (long : i + 1 ≤ length grown)
+module _ (rows grown : List (Vec PathData Global)) (had row : Vec PathData Global) (i : ℕ) (queue : List NearPath) (place : NearPath) (is : i ≡ place.method) (long : i + 1 ≤ length grown)
     (same : (n : ℕ) → row_at (rows_of grown) n ≡ row_at (rows_of rows) n) (at : had ≡ get_or grown i had) (agree : Agree (rows_of rows) queue)
     (ascends : IsStrictlySortedBy path_order row.items) (paths : (q : PathData) → has_path row.items q ≡ (path_eq place.path q || has_path had.items q)) where
   row_now : row_at (rows_of (set grown i row)) place.method ≡ row.items
@@ -350,7 +350,7 @@ module _ (rows grown : List (Vec PathData Global)) (had row : Vec PathData Globa
   others_now : (n : ℕ) → (n ≡ place.method → ⊥) → row_at (rows_of (set grown i row)) n ≡ row_at (rows_of rows) n
   others_now n differ = row_set_other grown i n row (λ e. differ (e ∙ is)) ∙ same n
 
-  pub put_new : (longer : List Place) → longer ≡ queue ++ place ∷ [] → Grows queue (λ x. x ≡ place) (rows_of (set grown i row)) longer
+  pub put_new : (longer : List NearPath) → longer ≡ queue ++ place ∷ [] → Grows queue (λ x. x ≡ place) (rows_of (set grown i row)) longer
   put_new longer e = grows_new (rows_of rows) (rows_of (set grown i row)) queue longer place agree ascends_now paths_now others_now e
 
   pub put_known : (is_new : Bool) → is_new ≡ not (has_path had.items place.path) → is_new ≡ false → Grows queue (λ x. x ≡ place) (rows_of (set grown i row)) queue
@@ -374,7 +374,7 @@ read_at xs i read copied below at copy = slice_get-get_or xs i read below ∙ ap
 none_some : (p : PathData) → None ≡ Some p → ⊥
 none_some p e = absurd cc
 
-pub follow_some : {A E : Type 0} (P : Program) (r : Result A E) (link : Link) (place : Place) (p : PathData) (near : List (List PathData)) (queue longer : List Place) → led_by P link.way place.path ≡ Some p → OnOk r (Grows queue (λ x. x ≡ record { method = link.to; path = p }) near longer) → OnOk r (Grows queue (LeadsTo P link place) near longer)
+pub follow_some : {A E : Type 0} (P : Program) (r : Result A E) (link : Link) (place : NearPath) (p : PathData) (near : List (List PathData)) (queue longer : List NearPath) → led_by P link.way place.path ≡ Some p → OnOk r (Grows queue (λ x. x ≡ record { method = link.to; path = p }) near longer) → OnOk r (Grows queue (LeadsTo P link place) near longer)
 follow_some P r link place p near queue longer is h = on_ok r (λ g. grows_same near queue longer (λ x. x ≡ record { method = link.to; path = p }) (LeadsTo P link place)
     (λ x e. subst (LeadsTo P link place) (sym e) (record { path = is; method = refl }))
     (λ x l.
@@ -383,14 +383,14 @@ follow_some P r link place p near queue longer is h = on_ok r (λ g. grows_same 
     λ i. record { method = m i; path = e i })
     g) h
 
-pub follow_none : (P : Program) (link : Link) (place : Place) (near : List (List PathData)) (queue : List Place) → led_by P link.way place.path ≡ None → Agree near queue → Grows queue (LeadsTo P link place) near queue
+pub follow_none : (P : Program) (link : Link) (place : NearPath) (near : List (List PathData)) (queue : List NearPath) → led_by P link.way place.path ≡ None → Agree near queue → Grows queue (LeadsTo P link place) near queue
 follow_none P link place near queue is agree = grows_none near queue (LeadsTo P link place) agree (λ x l. none_some x.path (sym is ∙ l.path))
 
-pub led_none : (P : Program) (place : Place) (near : List (List PathData)) (queue : List Place) → Agree near queue → Grows queue (IsLed P [] place) near queue
+pub led_none : (P : Program) (place : NearPath) (near : List (List PathData)) (queue : List NearPath) → Agree near queue → Grows queue (IsLed P [] place) near queue
 led_none P place near queue agree = grows_none near queue (IsLed P [] place) agree (λ x l. contains_none l.0 l.1)
 
-pub led_next : (P : Program) (near new : List (List PathData)) (queue longer longest : List Place) (links : List Link) (i : ℕ) (link : Link) (place : Place) → i < length links → link ≡ get_or links i link → Grows queue (IsLed P (take i links) place) near longer → Grows longer (LeadsTo P link place) new longest → Grows queue (IsLed P (take (i + 1) links) place) new longest
+pub led_next : (P : Program) (near new : List (List PathData)) (queue longer longest : List NearPath) (links : List Link) (i : ℕ) (link : Link) (place : NearPath) → i < length links → link ≡ get_or links i link → Grows queue (IsLed P (take i links) place) near longer → Grows longer (LeadsTo P link place) new longest → Grows queue (IsLed P (take (i + 1) links) place) new longest
 led_next P near new queue longer longest links i link place below is g h = led_more P near new queue longer longest (take i links) (take (i + 1) links) link place (take_more links i link below ∙ ap (λ x. take i links ++ x ∷ []) (sym is)) g h
 
-pub led_whole : (P : Program) (near : List (List PathData)) (queue longer : List Place) (links : List Link) (i : ℕ) (place : Place) → length links ≤ i → Grows queue (IsLed P (take i links) place) near longer → Grows queue (IsLed P links place) near longer
+pub led_whole : (P : Program) (near : List (List PathData)) (queue longer : List NearPath) (links : List Link) (i : ℕ) (place : NearPath) → length links ≤ i → Grows queue (IsLed P (take i links) place) near longer → Grows queue (IsLed P links place) near longer
 led_whole P near queue longer links i place all g = subst (λ l. Grows queue (IsLed P l place) near longer) (take_all i links all) g

@@ -5,7 +5,7 @@ use Rattle.std.specs.declared.alloc.Global.{Global}
 use Rattle.aj_paths.specs.Paths.{PathData, path_order}
 use Rattle.aj_core.specs.Core.{Program}
 use Rattle.aj_algebra.specs.HeldPaths.{has_path}
-use Rattle.aj_rules.specs.declared.clauses.Place.{Place}
+use Rattle.aj_rules.specs.declared.clauses.NearPath.{NearPath}
 use Rattle.aj_rules.specs.declared.clauses.Link.{Link}
 use Rattle.aj_rules.specs.declared.clauses.Clause.{Clause}
 use Rattle.aj_rules.specs.declared.clauses.Clause.TheVariants as clause
@@ -25,12 +25,12 @@ abbrev pub rows_of : {A : Type 0} → List (Vec A Global) → List (List A)
 rows_of rows = map (λ row. row.items) rows
 
 -- the link leads from the first place to the second
-pub record LeadsTo (P : Program) (link : Link) (from to : Place) : Type 0 where
+pub record LeadsTo (P : Program) (link : Link) (from to : NearPath) : Type 0 where
   pub path : led_by P link.way from.path ≡ Some to.path
   pub method : to.method ≡ link.to
 
 -- one of the links leads from the first place to the second
-abbrev pub IsLed : Program → List Link → Place → Place → Type 0
+abbrev pub IsLed : Program → List Link → NearPath → NearPath → Type 0
 IsLed P links from to = (link : Link) × Contains links link × LeadsTo P link from to
 
 -- the links of a method, and that of the clause if it is one of this method
@@ -43,29 +43,29 @@ pub record AreLinks (clauses : List Clause) (links : List (List Link)) : Type 0 
   pub exact : (m : ℕ) (link : Link) → Contains (row_at links m) link ↔ (Contains clauses (clause.Leads link) × (link.from ≡ m))
 
 -- the lists ascend, and have the paths of the places in the queue
-pub record Agree (near : List (List PathData)) (queue : List Place) : Type 0 where
+pub record Agree (near : List (List PathData)) (queue : List NearPath) : Type 0 where
   pub ascends : (m : ℕ) → IsStrictlySortedBy path_order (row_at near m)
   pub same : (m : ℕ) (p : PathData) → (has_path (row_at near m) p ≡ true) ↔ Contains queue (record { method = m; path = p })
 
 -- the queue has become longer by some of the next places, and has them all
-pub record Grows (queue : List Place) (IsNext : Place → Type 0) (near : List (List PathData)) (longer : List Place) : Type 0 where
+pub record Grows (queue : List NearPath) (IsNext : NearPath → Type 0) (near : List (List PathData)) (longer : List NearPath) : Type 0 where
   pub agree : Agree near longer
-  pub added : List Place
+  pub added : List NearPath
   pub is : longer ≡ queue ++ added
-  pub only : (x : Place) → Contains added x → IsNext x
-  pub each : (x : Place) → IsNext x → Contains longer x
+  pub only : (x : NearPath) → Contains added x → IsNext x
+  pub each : (x : NearPath) → IsNext x → Contains longer x
 
 -- the queue has the places of the clauses' facts
-pub record HasFacts (clauses : List Clause) (near : List (List PathData)) (queue : List Place) : Type 0 where
+pub record HasFacts (clauses : List Clause) (near : List (List PathData)) (queue : List NearPath) : Type 0 where
   pub agree : Agree near queue
-  pub facts : (x : Place) → Contains queue x ↔ Contains clauses (clause.Fact x)
+  pub facts : (x : NearPath) → Contains queue x ↔ Contains clauses (clause.Fact x)
 
 -- the queue has all facts and nothing that isn't reached, and what its first places lead to
-pub record HasDone (P : Program) (clauses : List Clause) (links : List (List Link)) (next : ℕ) (near : List (List PathData)) (queue : List Place) : Type 0 where
+pub record HasDone (P : Program) (clauses : List Clause) (links : List (List Link)) (next : ℕ) (near : List (List PathData)) (queue : List NearPath) : Type 0 where
   pub agree : Agree near queue
-  pub starts : (x : Place) → Contains clauses (clause.Fact x) → Contains queue x
-  pub sound : (x : Place) → Contains queue x → Reached P clauses x.method x.path
-  pub done : (k : ℕ) (x y : Place) → k < next → slice_get queue k ≡ Some x → IsLed P (row_at links x.method) x y → Contains queue y
+  pub starts : (x : NearPath) → Contains clauses (clause.Fact x) → Contains queue x
+  pub sound : (x : NearPath) → Contains queue x → Reached P clauses x.method x.path
+  pub done : (k : ℕ) (x y : NearPath) → k < next → slice_get queue k ≡ Some x → IsLed P (row_at links x.method) x y → Contains queue y
 
 -- the lists ascend, and have exactly the paths that are reached
 pub record IsLeastFamily (P : Program) (clauses : List Clause) (near : List (List PathData)) : Type 0 where

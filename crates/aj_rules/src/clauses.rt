@@ -15,7 +15,7 @@ use std::alloc::{AllocError as NoMemory, Global};
 
 /// A path near a method.
 #[derive(Drop)]
-pub(crate) struct Place {
+pub(crate) struct NearPath {
     pub(crate) method: MethodId,
     pub(crate) path: Path,
 }
@@ -39,12 +39,12 @@ pub(crate) struct Link {
     pub(crate) way: Way,
 }
 
-impl Place {
+impl NearPath {
     /// The same place once more.
-    pub(crate) fn copy(&self) -> Place
+    pub(crate) fn copy(&self) -> NearPath
         ensures { result ≡ self.now }
     {
-        Place {
+        NearPath {
             method: self.method,
             path: self.path.copy(),
         }
@@ -84,7 +84,7 @@ impl Link {
 /// A path that is near a method by itself, or a link that leads from near paths to near paths.
 #[derive(Drop)]
 pub(crate) enum Clause {
-    Fact(Place),
+    Fact(NearPath),
     Leads(Link),
 }
 
@@ -307,7 +307,7 @@ fn add_method(
 fn add_fact(method: MethodId, path: Path, clauses: &mut Vec<Clause>) -> Result<(), NoMemory>
     ensures { OnOk result (clauses.new.items ≡ clauses.old.items ++ fact method path ∷ []) }
 {
-    clauses.push(Clause::Fact(Place { method, path }))?;
+    clauses.push(Clause::Fact(NearPath { method, path }))?;
     Ok(())
 }
 

@@ -7,11 +7,11 @@ ghost use Rattle.aj_core.specs.Views.{program_of};
 ghost use Rattle.aj_rules.specs.Clauses.{led_by};
 ghost use Rattle.aj_rules.specs.Near.{begins_in};
 ghost use Rattle.aj_algebra.specs.HeldPaths.{has_path};
-ghost use Rattle.aj_rules.specs.declared.clauses.Place.{Place};
+ghost use Rattle.aj_rules.specs.declared.clauses.NearPath.{NearPath};
 ghost use Rattle.aj_rules.specs.declared.clauses.Clause.TheVariants as Clause;
 ghost use Rattle.aj_rules.specs.Search.{row_at, rows_of, with_link, LeadsTo, IsLed, AreLinks, Agree, Grows, HasFacts, IsLeastFamily};
 
-use crate::clauses::{Clause, Link, Place, Way};
+use crate::clauses::{Clause, Link, NearPath, Way};
 use crate::lookups::has;
 use aj_core::CoreProgram;
 use aj_paths::{ClassId, FieldId, MethodId, Path, extend};
@@ -24,7 +24,7 @@ const SHORT: usize = 16;
 #[derive(Drop)]
 struct Family {
     near: Vec<Vec<Path>>,
-    queue: Vec<Place>,
+    queue: Vec<NearPath>,
 }
 
 /// The near paths of each method that some clause names, ascending. A place is followed once, along the links of
@@ -224,7 +224,7 @@ impl Family {
     }
 
     /// One more place, if it isn't known.
-    fn put(&mut self, alloc: Global, place: &Place) -> Result<(), NoMemory>
+    fn put(&mut self, alloc: Global, place: &NearPath) -> Result<(), NoMemory>
         requires { Agree (rows_of self.old.near.items) self.old.queue.items }
         ensures { OnOk result (Grows self.old.queue.items (λ x. x ≡ place.now) (rows_of self.new.near.items) self.new.queue.items) }
     {
@@ -242,7 +242,7 @@ impl Family {
         alloc: Global,
         program: &CoreProgram,
         link: &Link,
-        place: &Place,
+        place: &NearPath,
     ) -> Result<(), NoMemory>
         requires { Agree (rows_of self.old.near.items) self.old.queue.items }
         ensures { OnOk result (Grows self.old.queue.items (LeadsTo (program_of program.now) link.now place.now) (rows_of self.new.near.items) self.new.queue.items) }
@@ -250,7 +250,7 @@ impl Family {
         match led_by(program, &link.way, &place.path) {
             None => Ok(()),
             Some(path) => {
-                let place = Place {
+                let place = NearPath {
                     method: link.to,
                     path,
                 };
@@ -265,7 +265,7 @@ impl Family {
         alloc: Global,
         program: &CoreProgram,
         links: &[Link],
-        place: &Place,
+        place: &NearPath,
     ) -> Result<(), NoMemory>
         requires { Agree (rows_of self.old.near.items) self.old.queue.items }
         ensures { OnOk result (Grows self.old.queue.items (IsLed (program_of program.now) links.now place.now) (rows_of self.new.near.items) self.new.queue.items) }
@@ -282,7 +282,7 @@ impl Family {
         alloc: Global,
         program: &CoreProgram,
         links: &[Vec<Link>],
-        place: &Place,
+        place: &NearPath,
     ) -> Result<(), NoMemory>
         requires { Agree (rows_of self.old.near.items) self.old.queue.items }
         ensures { OnOk result (Grows self.old.queue.items (IsLed (program_of program.now) (row_at (rows_of links.now) place.now.method) place.now)

@@ -7,3 +7,7 @@ pub mod ScheduleEndings
 pub mod OpenEndings
 pub mod GenerateEndings
 pub mod Counts
+-- Public lemma, for the crates above: each ending of `replay` has its fact, and one alone (ReplayEndings).
+pub mod ReplayEndings
+mod Evaluating
+mod ReplayRows

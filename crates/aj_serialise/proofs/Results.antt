@@ -13,8 +13,8 @@ use Rattle.aj_rewrite.proofs.Whole.{written}
 use Rattle.aj_machine.specs.declared.machine.Stopped.{Stopped}
 use Rattle.aj_machine.specs.MachineValue.{MachineValue}
 use Rattle.aj_machine.specs.Standing.{program_run, StandsFor, IsStopped}
-use Rattle.aj_units.specs.declared.step.Step.{Step}
-use Rattle.aj_units.specs.Entries.{entries_of}
+use Rattle.aj_noted.specs.declared.step.Step.{Step}
+use Rattle.aj_noted.specs.Entries.{entries_of}
 use Rattle.aj_noted.specs.Made.{HaveRun}
 use Rattle.aj_serialise.specs.declared.serial_end.SerialEnd.{SerialEnd}
 use Rattle.aj_serialise.specs.declared.serial_end.SerialEnd.TheVariants as ends

@@ -1,10 +1,10 @@
 //! The written order of a run's steps.
 ghost use Rattle.std.specs.Prelude.{◌≡◌, ◌≤◌, length, IfOk};
 ghost use Rattle.aj_steps.specs.Units.{units, in_order, schedule_of};
-ghost use Rattle.aj_units.specs.Entries.{entries_of};
-ghost use Rattle.aj_units.specs.UnitMaps.{maps_of, spread};
+ghost use Rattle.aj_noted.specs.Entries.{entries_of};
+ghost use Rattle.aj_noted.specs.UnitMaps.{maps_of, spread};
 
-use aj_units::{Step, UnitTables, append, unit_tables};
+use aj_noted::{Step, UnitTables, append, unit_tables};
 use std::alloc::{AllocError as NoMemory, Global};
 
 /// The threads of the steps, each as often as the unit that commits there has steps.

@@ -14,12 +14,11 @@ ghost use Rattle.aj_serialise.specs.Rewritten.{IsRewritten, EndsInside, IsRefuse
 
 use crate::order::in_order;
 use crate::serial_end::{SerialEnd, end_of};
+use aj_book_check::Checked;
 use aj_compile::CodeTable;
 use aj_core::CoreProgram;
-use aj_deriv_check::Checked;
 use aj_machine::Machine;
-use aj_noted::run_noted;
-use aj_units::Step;
+use aj_noted::{Step, run_noted};
 use std::alloc::Global;
 
 /// A schedule in its written order, and the machine that ran it, at its end.

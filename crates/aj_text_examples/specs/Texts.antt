@@ -3,9 +3,9 @@ use Rattle.std.specs.Prelude.{ℕ, List, [], ◌∷◌, ◌++◌, codes}
 use Rattle.aj_paths.specs.Paths.{PathData}
 use Rattle.aj_algebra.specs.declared.basic.Basic.TheVariants.{Const, Mover, Atomic, Cmpd, Error}
 use Rattle.aj_cond.specs.Conditions.{Cond, LeafC, TestC}
-use Rattle.aj_book_grammar.specs.declared.word.Word.TheVariants as w
-use Rattle.aj_book_grammar.specs.Derivations.{Node, node, Nodes, no_nodes, and_node}
-use Rattle.aj_book_grammar.specs.Books.{Book}
+use Rattle.aj_books.specs.declared.word.Word.TheVariants as w
+use Rattle.aj_books.specs.Derivations.{Node, node, Nodes, no_nodes, and_node}
+use Rattle.aj_books.specs.Books.{Book}
 use Rattle.aj_blame.specs.Lines.{LineData}
 
 -- two steps of the first thread, a comment, and one of the second

@@ -1,7 +1,7 @@
 //! Certificates of refusal as texts.
 ghost use Rattle.std.specs.Prelude.{◌≡◌, List, [], ◌∷◌, Some, None, Ok, Err, codes};
 ghost use Rattle.aj_algebra.specs.declared.basic.Basic.TheVariants.{Mover, Atomic};
-ghost use Rattle.aj_book_grammar.specs.declared.stop.Kind.TheVariants.{Form};
+ghost use Rattle.aj_books.specs.declared.stop.Kind.TheVariants.{Form};
 ghost use Rattle.aj_blame_text.specs.Texts.{held_text, line_text, blame_text};
 ghost use Rattle.aj_blame_text.specs.Reading.{later_path, held_most, held_at, line_at, count_at, blame_at, first_fault};
 ghost use Rattle.aj_text_examples.specs.Texts.{path, three_lines, three_text};

@@ -4,7 +4,7 @@ ghost use Rattle.aj_algebra.specs.declared.basic.Basic.TheVariants.{Const, Mover
 ghost use Rattle.aj_algebra.specs.HeldPaths.{has_path};
 ghost use Rattle.aj_cond.specs.Conditions.{LeafC, TestC, value_of, cond_eq, IsCanonical};
 ghost use Rattle.aj_cond.specs.Texts.{path_text, text_of};
-ghost use Rattle.aj_book_grammar.specs.Books.{tests_high, is_canonical, most_height};
+ghost use Rattle.aj_books.specs.Books.{tests_high, is_canonical, most_height};
 ghost use Rattle.aj_text_examples.specs.Texts.{path, mover_or_atomic, mover_or_error, two_tests};
 
 /// A test is its first branch where the path is held, else the second one.

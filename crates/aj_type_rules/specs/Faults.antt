@@ -1,6 +1,6 @@
 -- The order of type faults.
 use Rattle.std.specs.Prelude.{ℕ, ◌^◌}
-use Rattle.aj_class_rules.specs.declared.first.Place.{Place}
+use Rattle.aj_class_rules.specs.declared.first.FaultPlace.{FaultPlace}
 use Rattle.aj_type_rules.specs.declared.fault.TypeFault.{TypeFault}
 use Rattle.aj_type_rules.specs.declared.fault.TypeFault.TheVariants.{UnknownName, NoRule, FinalAssigned, NotALock, MissingReturn, Unreachable, TooManyLocals, Redeclared, NoMemory}
 
@@ -29,5 +29,5 @@ rank_of (Redeclared at) = 8
 rank_of NoMemory = 9
 
 -- where a fault stands
-abbrev pub place_of : TypeFault → Place
+abbrev pub place_of : TypeFault → FaultPlace
 place_of f = record { offset = offset_of f; rank = rank_of f }

@@ -4,7 +4,7 @@ ghost use Rattle.std.specs.Prelude.{◌≡◌, []};
 ghost use Rattle.aj_type_rules.specs.declared.fault.TypeFault.TheVariants.{NoMemory as OutOfMemory};
 ghost use Rattle.aj_type_rules.specs.Faults.{offset_of, rank_of, place_of};
 
-use aj_class_rules::{Fault, Place};
+use aj_class_rules::{FaultPlace, Placed};
 use std::alloc::{AllocError, AllocFailed};
 
 /// A fault of a program's types, with the offset in bytes, from 0, at which it stands.
@@ -64,11 +64,11 @@ impl TypeFault {
     }
 }
 
-impl Fault for TypeFault {
+impl Placed for TypeFault {
     ghost place_of = { place_of };
 
-    fn place(self) -> Place {
-        Place {
+    fn place(self) -> FaultPlace {
+        FaultPlace {
             offset: self.offset(),
             rank: self.rank(),
         }

@@ -6,8 +6,8 @@ use Rattle.aj_state.specs.declared.value.Value.{Value}
 use Rattle.aj_state.specs.declared.value.Value.TheVariants.{Int}
 use Rattle.aj_state.specs.Memory.{address_cmp}
 use Rattle.aj_steps.specs.Step.{object_class, target_at}
-use Rattle.aj_plain.specs.Calls.{asked_target}
-use Rattle.aj_plain.specs.Evaluation.{Lower, dispatch}
+use Rattle.aj_replay.specs.Calls.{asked_target}
+use Rattle.aj_replay.specs.Evaluation.{Lower, dispatch}
 use Rattle.aj_examples.specs.Seen.{here, there, object_of, four_fields}
 use Rattle.aj_upper_examples.specs.Plain.{quiet, one_object, one_lock}
 use Rattle.aj_upper_examples.specs.Walked.{crossed, each_waits, held_by}

@@ -7,19 +7,19 @@ use Rattle.aj_paths.specs.Paths.{PathData}
 use Rattle.aj_core.specs.Core.{Method, Stmt}
 use Rattle.aj_core.specs.Dispatch.{Overrides}
 use Rattle.aj_core.specs.Examples.{plain_method}
-use Rattle.aj_book_grammar.specs.Books.{Line}
-use Rattle.aj_deriv_rules.specs.Conclusions.{table_value}
-use Rattle.aj_deriv_rules.specs.Parts.{StmtP, Place, places, Fits, Each}
-use Rattle.aj_deriv_check.specs.Good.{book_assignment, IsStep, IsShaped, IsGoodLine, IsGoodBook}
-use Rattle.aj_deriv_check.specs.Faults.{AreShaped}
+use Rattle.aj_books.specs.Books.{Line}
+use Rattle.aj_book_rules.specs.Conclusions.{table_value}
+use Rattle.aj_book_rules.specs.Parts.{StmtP, PlacedNode, places, Fits, Each}
+use Rattle.aj_book_check.specs.Good.{book_assignment, IsStep, IsShaped, IsGoodLine, IsGoodBook}
+use Rattle.aj_book_check.specs.Faults.{AreShaped}
 use Rattle.aj_upper_examples.specs.Small.{main_with, trees, book}
 
-pub each_of : (Good : Place → Type 0) (xs : List Place) → AllByRecursion Good xs → Each Good xs
+pub each_of : (Good : PlacedNode → Type 0) (xs : List PlacedNode) → AllByRecursion Good xs → Each Good xs
 each_of Good [] all k x at = absurd (none-some x at)
 each_of Good (y ∷ ys) all zero x at = subst Good (same_Some y x at) all.0
 each_of Good (y ∷ ys) all (suc k) x at = each_of Good ys all.1 k x at
 
-pub before_of : (Good : Place → Type 0) (n : ℕ) (xs : List Place) → AllByRecursion Good (take n xs) → (j : ℕ) (x : Place) → j < n → slice_get xs j ≡ Some x → Good x
+pub before_of : (Good : PlacedNode → Type 0) (n : ℕ) (xs : List PlacedNode) → AllByRecursion Good (take n xs) → (j : ℕ) (x : PlacedNode) → j < n → slice_get xs j ≡ Some x → Good x
 before_of Good zero xs all j x less at = absurd (omega arith)
 before_of Good (suc n) [] all j x less at = absurd (none-some x at)
 before_of Good (suc n) (y ∷ ys) all zero x less at = subst Good (same_Some y x at) all.0
@@ -37,7 +37,7 @@ module _ (annotated : Bool) (body : Stmt) where
   pub its_fits : (l : Line) → AllByRecursion Fits (places (StmtP body) l.body) → Each Fits (places (StmtP body) l.body)
   its_fits l all = each_of Fits (places (StmtP body) l.body) all
 
-  abbrev pub ItsStep : (rel : ℕ → List PathData) → Line → Place → Type 0
+  abbrev pub ItsStep : (rel : ℕ → List PathData) → Line → PlacedNode → Type 0
   ItsStep rel l = IsStep (main_with annotated body) rel (table_value trees) (book_assignment (book (l ∷ [])))
 
   pub its_steps : (rel : ℕ → List PathData) (l : Line) → AllByRecursion (ItsStep rel l) (places (StmtP body) l.body) → Each (ItsStep rel l) (places (StmtP body) l.body)

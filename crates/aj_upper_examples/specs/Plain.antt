@@ -12,10 +12,10 @@ use Rattle.aj_state.specs.Values.{unary_value}
 use Rattle.aj_state.specs.Memory.{Object, Hold}
 use Rattle.aj_state.specs.States.{Running, Frame}
 use Rattle.aj_state.specs.Work.{Act, Call}
-use Rattle.aj_plain.specs.Plain.{Plain}
-use Rattle.aj_plain.specs.Calls.{Asked}
-use Rattle.aj_plain.specs.Answers.{Answer, Gives, then_do, Returns, GoesOn, Ended}
-use Rattle.aj_plain.specs.Evaluation.{Lower, expr, stmt}
+use Rattle.aj_replay.specs.Plain.{Plain}
+use Rattle.aj_replay.specs.Calls.{Asked}
+use Rattle.aj_replay.specs.Answers.{Answer, Gives, then_do, Returns, GoesOn, Ended}
+use Rattle.aj_replay.specs.Evaluation.{Lower, expr, stmt}
 use Rattle.aj_examples.specs.Seen.{here, there, object_of, four_fields, frame_with}
 use Rattle.aj_examples.specs.Small.{one, two}
 

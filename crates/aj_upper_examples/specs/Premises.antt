@@ -8,9 +8,9 @@ use Rattle.aj_core.specs.Core.{Expr, Exprs, IntE, TruthE, NullE, ThisE, VarE, No
 use Rattle.aj_core.specs.Core.{Stmt, Stmts, EmptyS, BlockS, LocalS, SetVarS, SetFieldS, DoS, IfS, WhileS, SyncS, ReturnS, PrintS, StartS, no_stmts, and_stmt}
 use Rattle.aj_core.specs.Examples.{this_path, block_of, put_seven}
 use Rattle.aj_cond.specs.Conditions.{Cond, LeafC, TestC}
-use Rattle.aj_book_grammar.specs.declared.word.Word.TheVariants as w
-use Rattle.aj_book_grammar.specs.Derivations.{Node, node, no_nodes, and_node}
-use Rattle.aj_deriv_rules.specs.Parts.{Part, ExprP, StmtP, Place}
+use Rattle.aj_books.specs.declared.word.Word.TheVariants as w
+use Rattle.aj_books.specs.Derivations.{Node, node, no_nodes, and_node}
+use Rattle.aj_book_rules.specs.Parts.{Part, ExprP, StmtP, PlacedNode}
 use Rattle.aj_effects.specs.Rules.{Value}
 use Rattle.aj_examples.specs.Small.{one, two}
 
@@ -73,5 +73,5 @@ abbrev pub sync_node : Node
 sync_node = node w.Sync 0 (and_node put_node no_nodes)
 
 -- a part beside its node
-abbrev pub place : Part → Node → Place
+abbrev pub place : Part → Node → PlacedNode
 place part at = record { part = part; at = at }

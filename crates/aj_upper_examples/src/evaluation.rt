@@ -9,9 +9,9 @@ ghost use Rattle.aj_state.specs.declared.value.Value.TheVariants.{Int, Truth, Nu
 ghost use Rattle.aj_state.specs.declared.value.Fault.TheVariants as fault;
 ghost use Rattle.aj_state.specs.States.{Ready, Running, Done, Faulted};
 ghost use Rattle.aj_steps.specs.Step.{FieldIs, LockIs, Prints, Starts, changed};
-ghost use Rattle.aj_plain.specs.Plain.{Plain, plain_thread, plain_of};
-ghost use Rattle.aj_plain.specs.Answers.{Answer, Gives, Fails, Blocked, Short, Deep, GoesOn, Returns, ended_value, goes_on, next_after};
-ghost use Rattle.aj_plain.specs.Evaluation.{most_number, most_depth, unless_full, written, write_field, start_run, start_on, take_lock, give_lock, locked, synchronized, inner, lower_of, result_of, asked_body};
+ghost use Rattle.aj_replay.specs.Plain.{Plain, plain_thread, plain_of};
+ghost use Rattle.aj_replay.specs.Answers.{Answer, Gives, Fails, Blocked, Short, Deep, GoesOn, Returns, ended_value, goes_on, next_after};
+ghost use Rattle.aj_replay.specs.Evaluation.{most_number, most_depth, unless_full, written, write_field, start_run, start_on, take_lock, give_lock, locked, synchronized, inner, lower_of, result_of, asked_body};
 ghost use Rattle.aj_examples.specs.Seen.{here, there, four_fields, seven, frame_with};
 ghost use Rattle.aj_examples.specs.Insides.{called, with_threads};
 ghost use Rattle.aj_examples.specs.Fields.{path};

@@ -1,11 +1,11 @@
 //! Judged books: good ones, and such with each cause of refusal.
 ghost use Rattle.std.specs.Prelude.{[], ◌∷◌, true, false};
 ghost use Rattle.aj_core.specs.Core.{EmptyS};
-ghost use Rattle.aj_book_grammar.specs.declared.word.Word.TheVariants as w;
-ghost use Rattle.aj_book_grammar.specs.Derivations.{node, no_nodes, and_node};
-ghost use Rattle.aj_deriv_check.specs.declared.wrong.Wrong.TheVariants as wrong;
-ghost use Rattle.aj_deriv_check.specs.Good.{IsGoodBook};
-ghost use Rattle.aj_deriv_check.specs.Faults.{IsWrong};
+ghost use Rattle.aj_books.specs.declared.word.Word.TheVariants as w;
+ghost use Rattle.aj_books.specs.Derivations.{node, no_nodes, and_node};
+ghost use Rattle.aj_book_check.specs.declared.wrong.Wrong.TheVariants as wrong;
+ghost use Rattle.aj_book_check.specs.Good.{IsGoodBook};
+ghost use Rattle.aj_book_check.specs.Faults.{IsWrong};
 ghost use Rattle.aj_upper_examples.specs.Small.{main_with, print_one, print_twice, prints_below, no_paths, this_path_only, line, book, skip, literal, print, block};
 
 /// Books that are good: conclusions may be greater than what the rules give, up to the bound.

@@ -3,7 +3,7 @@ ghost use Rattle.std.specs.Prelude.{◌≡◌, pos, true, false, List, [], ◌�
 ghost use Rattle.aj_state.specs.declared.value.Value.TheVariants.{Int, Ref};
 ghost use Rattle.aj_state.specs.States.{Ready, Running, Done};
 ghost use Rattle.aj_state.specs.Work.{Act, Call, Ret};
-ghost use Rattle.aj_plain.specs.Calls.{asked_target, asked_on, asked_call, asked_act, asked_next, asked_by, result_in, depth};
+ghost use Rattle.aj_replay.specs.Calls.{asked_target, asked_on, asked_call, asked_act, asked_next, asked_by, result_in, depth};
 ghost use Rattle.aj_examples.specs.Seen.{here, four_fields, two_parameters, seven, frame_with};
 ghost use Rattle.aj_upper_examples.specs.Plain.{quiet, asks, two_operands, calling};
 

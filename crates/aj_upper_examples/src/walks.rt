@@ -5,7 +5,7 @@ ghost use Rattle.aj_core.specs.declared.types.CoreType.TheVariants as type;
 ghost use Rattle.aj_core.specs.Core.{IntE, NullE, ThisE, VarE, NotE, NegE, BinaryE, AndE, OrE, GetE, CallE, NewE, no_exprs, and_expr};
 ghost use Rattle.aj_core.specs.Core.{EmptyS, BlockS, LocalS, SetVarS, SetFieldS, DoS, IfS, WhileS, SyncS, ReturnS, PrintS, StartS, no_stmts, and_stmt};
 ghost use Rattle.aj_core.specs.Examples.{this_path, plain_method};
-ghost use Rattle.aj_typed_runs.specs.SlotTypes.{local_types, slot_types, result_of, taken_by_method, taken_by_new, type_of, top_type, under_types, taken_types, dropped_types};
+ghost use Rattle.aj_levels.specs.SlotTypes.{local_types, slot_types, result_of, taken_by_method, taken_by_new, type_of, top_type, under_types, taken_types, dropped_types};
 ghost use Rattle.aj_levels.specs.Walks.{level_in, class_in, last_type, lock_class, syncs_in, expr_visits, visits, body_visits};
 ghost use Rattle.aj_levels.specs.Contexts.{Context, IsBadAt};
 ghost use Rattle.aj_levels.specs.Circles.{Circle};

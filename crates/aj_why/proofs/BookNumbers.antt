@@ -3,8 +3,8 @@ use Rattle.std.proofs.Common.{◌≡◌, ◌+◌, List, [], ◌∷◌, ◌++◌,
 use Rattle.aj_lemmas.proofs.Lists.{at_left, get_right}
 use Rattle.aj_core.specs.Core.{Exprs, IntE, TruthE, NullE, ThisE, VarE, NotE, NegE, BinaryE, AndE, OrE, GetE, CallE, NewE, no_exprs, and_expr}
 use Rattle.aj_core.specs.Core.{Stmts, EmptyS, BlockS, LocalS, SetVarS, SetFieldS, DoS, IfS, WhileS, SyncS, ReturnS, PrintS, StartS, no_stmts, and_stmt}
-use Rattle.aj_book_grammar.specs.Derivations.{Node, node, Nodes, no_nodes, and_node, count_nodes}
-use Rattle.aj_deriv_rules.specs.Parts.{Part, ExprP, StmtP, args_parts, block_parts as stmts_of, parts_of, Place, places, places_of, Fits, Each}
+use Rattle.aj_books.specs.Derivations.{Node, node, Nodes, no_nodes, and_node, count_nodes}
+use Rattle.aj_book_rules.specs.Parts.{Part, ExprP, StmtP, args_parts, block_parts as stmts_of, parts_of, PlacedNode, places, places_of, Fits, Each}
 use Rattle.aj_why.specs.Parts.{expr_parts, exprs_parts, stmt_parts, block_parts, parts_in}
 
 -- all parts of each, one after the other
@@ -65,17 +65,17 @@ unfolds (StmtP (ReturnS (Some e))) = alone _ (ExprP e)
 unfolds (StmtP (PrintS e)) = alone _ (ExprP e)
 unfolds (StmtP (StartS e)) = alone _ (ExprP e)
 
-abbrev parts_at : List Place → List Part
+abbrev parts_at : List PlacedNode → List Part
 parts_at xs = map (λ place. place.part) xs
 
 -- facts on all places of two lists, and of a list behind one place
-at_first : (Good : Place → Type 0) (xs ys : List Place) → Each Good (xs ++ ys) → Each Good xs
+at_first : (Good : PlacedNode → Type 0) (xs ys : List PlacedNode) → Each Good (xs ++ ys) → Each Good xs
 at_first Good xs ys each k x is = each k x (at_left xs ys k x is)
 
-at_second : (Good : Place → Type 0) (xs ys : List Place) → Each Good (xs ++ ys) → Each Good ys
+at_second : (Good : PlacedNode → Type 0) (xs ys : List PlacedNode) → Each Good (xs ++ ys) → Each Good ys
 at_second Good xs ys each k x is = each (length xs + k) x (get_right xs ys k ∙ is)
 
-map_both : (xs ys : List Place) → parts_at (xs ++ ys) ≡ (parts_at xs ++ parts_at ys)
+map_both : (xs ys : List PlacedNode) → parts_at (xs ++ ys) ≡ (parts_at xs ++ parts_at ys)
 map_both [] ys = refl
 map_both (x ∷ xs) ys = ap (λ l. x.part ∷ l) (map_both xs ys)
 

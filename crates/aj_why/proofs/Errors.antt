@@ -14,7 +14,7 @@ use Rattle.aj_core.specs.Core.{Stmt, Stmts, EmptyS, BlockS, LocalS, SetVarS, Set
 use Rattle.aj_core.specs.Sizes.{nodes_of, stmt_nodes}
 use Rattle.aj_rules.specs.Effect.{Assignment, after_stmt, variable_effect, sync_effect, expr_effect, exprs_effect, effect, block_effect}
 use Rattle.aj_rules.proofs.BasicLemmas.{every, each, implies}
-use Rattle.aj_deriv_rules.specs.Parts.{Part, ExprP, StmtP}
+use Rattle.aj_book_rules.specs.Parts.{Part, ExprP, StmtP}
 use Rattle.aj_why.specs.Parts.{own_of, part_effect, lock_effect}
 use Rattle.aj_why.specs.Visits.{Visit, visit, by_lock, expr_visits, exprs_visits, stmt_visits, block_visits, part_visits}
 use Rattle.aj_why.specs.Readings.{is_error, first_where, IsFirst, own_at, first_error, IsFirstError}

@@ -12,7 +12,7 @@ use Rattle.aj_core.specs.Core.{Program, Expr, Exprs, IntE, TruthE, NullE, ThisE,
 use Rattle.aj_core.specs.Core.{Stmt, Stmts, EmptyS, BlockS, LocalS, SetVarS, SetFieldS, DoS, IfS, WhileS, SyncS, ReturnS, PrintS, StartS, no_stmts, and_stmt}
 use Rattle.aj_core.specs.Sizes.{nodes_of, stmt_nodes}
 use Rattle.aj_rules.specs.Effect.{Assignment, after_stmt, effect}
-use Rattle.aj_deriv_rules.specs.Parts.{Part, ExprP, StmtP}
+use Rattle.aj_book_rules.specs.Parts.{Part, ExprP, StmtP}
 use Rattle.aj_why.specs.Parts.{own_of, lock_effect}
 use Rattle.aj_why.specs.Visits.{Visit, visit, by_lock}
 use Rattle.aj_why.specs.Steps.{of_taken, own_step, expr_steps, exprs_steps, stmt_steps, block_steps, steps}

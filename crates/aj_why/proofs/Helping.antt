@@ -14,7 +14,7 @@ use Rattle.aj_rules.specs.Guards.{guard_of}
 use Rattle.aj_rules.specs.Mentions.{paths_of}
 use Rattle.aj_rules.specs.Effect.{Assignment, access_effect, write_guarded, call_of}
 use Rattle.aj_rules.specs.Rules.{AtMost}
-use Rattle.aj_deriv_rules.specs.Parts.{Part, ExprP, StmtP}
+use Rattle.aj_book_rules.specs.Parts.{Part, ExprP, StmtP}
 use Rattle.aj_why.specs.Parts.{own_of, lock_effect}
 use Rattle.aj_why.specs.Helping.{guard_help, first_path, names_here, help}
 

@@ -8,7 +8,7 @@ use Rattle.aj_core.specs.Core.{Program, Expr, Exprs, IntE, TruthE, NullE, ThisE,
 use Rattle.aj_core.specs.Core.{Stmt, Stmts, EmptyS, BlockS, LocalS, SetVarS, SetFieldS, DoS, IfS, WhileS, SyncS, ReturnS, PrintS, StartS, no_stmts, and_stmt}
 use Rattle.aj_core.specs.Sizes.{nodes_of, nodes_of_each, value_nodes, stmt_nodes, stmt_nodes_each}
 use Rattle.aj_rules.specs.Effect.{after_stmt}
-use Rattle.aj_deriv_rules.specs.Parts.{Part, ExprP, StmtP}
+use Rattle.aj_book_rules.specs.Parts.{Part, ExprP, StmtP}
 use Rattle.aj_why.specs.Parts.{expr_parts, exprs_parts, value_parts, stmt_parts, block_parts, parts_in}
 use Rattle.aj_why.specs.Visits.{Visit, visit, by_lock, expr_visits, exprs_visits, value_visits, stmt_visits, block_visits, part_visits}
 use Rattle.aj_why.specs.Readings.{IsNumbered}

@@ -11,7 +11,7 @@ use Rattle.aj_core.specs.Core.{Program, Stmt}
 use Rattle.aj_rules.specs.Effect.{Assignment, effect}
 use Rattle.aj_rules.specs.Rules.{AtMost}
 use Rattle.aj_rules.proofs.BasicLemmas.{every, each, implies, follows}
-use Rattle.aj_deriv_rules.specs.Parts.{Part}
+use Rattle.aj_book_rules.specs.Parts.{Part}
 use Rattle.aj_why.specs.Parts.{part_effect}
 use Rattle.aj_why.specs.Visits.{Visit}
 use Rattle.aj_why.specs.Steps.{steps, stmt_steps}

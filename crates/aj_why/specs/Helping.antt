@@ -13,7 +13,7 @@ use Rattle.aj_rules.specs.declared.guard.Guard.TheVariants.{Final, Free, Named, 
 use Rattle.aj_rules.specs.Guards.{guard_of}
 use Rattle.aj_rules.specs.Mentions.{paths_of}
 use Rattle.aj_rules.specs.Effect.{Assignment, call_of}
-use Rattle.aj_deriv_rules.specs.Parts.{Part, ExprP, StmtP}
+use Rattle.aj_book_rules.specs.Parts.{Part, ExprP, StmtP}
 
 -- the path of the guard with which an access can be moved; none where nothing guards the field or the guard has no path, and none
 -- for a write of a field that is guarded for writing only

@@ -6,7 +6,7 @@ use Rattle.aj_algebra.specs.declared.basic.Basic.{Basic}
 use Rattle.aj_algebra.specs.declared.basic.Basic.TheVariants.{Const, Mover, Atomic, Cmpd, Error}
 use Rattle.aj_core.specs.Core.{Program}
 use Rattle.aj_rules.specs.Effect.{Assignment}
-use Rattle.aj_deriv_rules.specs.Parts.{Part}
+use Rattle.aj_book_rules.specs.Parts.{Part}
 use Rattle.aj_why.specs.Parts.{own_of}
 use Rattle.aj_why.specs.Visits.{Visit}
 

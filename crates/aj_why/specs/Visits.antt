@@ -5,7 +5,7 @@ use Rattle.aj_core.specs.Core.{Program, Expr, Exprs, IntE, TruthE, NullE, ThisE,
 use Rattle.aj_core.specs.Core.{Stmt, Stmts, EmptyS, BlockS, LocalS, SetVarS, SetFieldS, DoS, IfS, WhileS, SyncS, ReturnS, PrintS, StartS, no_stmts, and_stmt}
 use Rattle.aj_core.specs.Sizes.{nodes_of, stmt_nodes}
 use Rattle.aj_rules.specs.Effect.{after_stmt}
-use Rattle.aj_deriv_rules.specs.Parts.{Part, ExprP, StmtP}
+use Rattle.aj_book_rules.specs.Parts.{Part, ExprP, StmtP}
 
 -- a part that a walk comes to: its number, as the nodes of a derivation are numbered; the part; the set of held paths there; and
 -- the number of the innermost loop that repeats it, if there is one

@@ -2,11 +2,10 @@
 //! program, and copies of a machine's parts.
 
 use crate::machine_tests::{BOOK, COUNTER, checked_of, schedule_of, source_of};
-use aj_book_grammar::{BookCursor, BookFault, Word, read_table};
+use aj_book_check::{Checked, Refused, Wrong, accept};
+use aj_books::{BookCursor, BookFault, DerivBook, Word, read_book, read_table, write_book};
 use aj_compile::compile;
 use aj_cond::Tree;
-use aj_deriv::{DerivBook, read_book, write_book};
-use aj_deriv_check::{Checked, Refused, Wrong, accept};
 use aj_machine::Machine;
 use aj_open::{OpenEnd, serialise_open};
 use aj_serialise::{SerialEnd, serialise};

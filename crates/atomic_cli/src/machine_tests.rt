@@ -7,10 +7,10 @@ ghost use Rattle.aj_compile.specs.IsCode.{IsCodeOf};
 ghost use Rattle.aj_steps.specs.Run.{Runs};
 ghost use Rattle.aj_sources.specs.Checking.{IsSourceOf};
 
+use aj_book_check::{Checked, accept_text};
 use aj_compile::{CodeTable, compile};
 use aj_core::CoreProgram;
 use aj_deeds::StepEnd;
-use aj_deriv_check::{Checked, accept_text};
 use aj_held::Watched;
 use aj_machine::Machine;
 use aj_sources::{Source, read_source};

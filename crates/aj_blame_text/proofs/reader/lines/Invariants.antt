@@ -1,6 +1,6 @@
 use Rattle.std.proofs.Common.{◌≡◌}
-use Rattle.aj_book_grammar.specs.Combine.{exactly}
-use Rattle.aj_book_grammar.specs.Views.{after_those}
+use Rattle.aj_books.specs.Combine.{exactly}
+use Rattle.aj_books.specs.Views.{after_those}
 use Rattle.aj_blame_text.specs.Reading.{line_at}
 use Rattle.aj_blame_text.proofs.reader.lines.Given as goal
 

@@ -1,5 +1,5 @@
 use Rattle.std.proofs.Common.{◌≡◌, None, length}
-use Rattle.aj_book_grammar.specs.Combine.{unread}
+use Rattle.aj_books.specs.Combine.{unread}
 use Rattle.aj_blame_text.specs.Reading.{held_at}
 use Rattle.aj_blame_text.proofs.skip.held.Given as goal
 

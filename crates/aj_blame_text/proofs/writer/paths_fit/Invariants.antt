@@ -1,6 +1,6 @@
 use Rattle.std.proofs.Common.{drop}
 use Rattle.std.specs.List.{AllByRecursion}
-use Rattle.aj_book_grammar.specs.Books.{IsPath}
+use Rattle.aj_books.specs.Books.{IsPath}
 use Rattle.aj_blame_text.proofs.writer.paths_fit.Given as goal
 
 -- where the rest can be written, all can

@@ -3,7 +3,7 @@ use Rattle.std.proofs.Common.{map}
 use Rattle.std.proofs.lemmas.Result.{err_from_is_err_and}
 use Rattle.aj_cond.specs.Conditions.{cond_of}
 use Rattle.aj_core.specs.Views.{program_of}
-use Rattle.aj_deriv.specs.Memory.{book_of}
+use Rattle.aj_books.specs.Memory.{book_of}
 use Rattle.aj_sources.specs.Verdicts.{NoAccepted}
 use Rattle.aj_book_commands.specs.Derive.{DeriveAnswer}
 use Rattle.aj_book_commands.proofs.BookRows.{not_accepted_derive, source_keeps, derived_text}

@@ -5,8 +5,8 @@ use Rattle.aj_core.specs.Views.{program_of}
 use Rattle.aj_rules.specs.Near.{rel_of}
 use Rattle.aj_nodes.specs.Shown.{AreThere, node_tree, trees_at}
 use Rattle.aj_nodes.proofs.Tables.{grows_itself, grows_chain}
-use Rattle.aj_deriv.specs.Memory.{nodes_at}
-use Rattle.aj_deriv_rules.specs.Conclusions.{conclusions, table_value}
+use Rattle.aj_books.specs.Memory.{nodes_at}
+use Rattle.aj_book_rules.specs.Conclusions.{conclusions, table_value}
 use Rattle.aj_effects.specs.Rules.{rule_of}
 use Rattle.aj_effects.specs.Bodies.{list_of, part_of}
 use Rattle.aj_derive.specs.Concluded.{ConcludesOn, ConcludeAllOn}

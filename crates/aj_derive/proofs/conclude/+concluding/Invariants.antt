@@ -2,8 +2,8 @@ use Rattle.std.proofs.Common.{◌+◌, ◌*◌, ◌≤◌, ◌++◌, List, lengt
 use Rattle.aj_cond.specs.Conditions.{Cond}
 use Rattle.aj_nodes.specs.Nodes.{Grows}
 use Rattle.aj_nodes.specs.Shown.{AreThere, trees_at}
-use Rattle.aj_deriv.specs.Memory.{nodes_at}
-use Rattle.aj_deriv.specs.declared.derivation.Derivation.{Derivation}
+use Rattle.aj_books.specs.Memory.{nodes_at}
+use Rattle.aj_books.specs.declared.derivation.Derivation.{Derivation}
 use Rattle.aj_effects.specs.Bodies.{list_of, part_of}
 use Rattle.aj_derive.specs.Concluded.{BeginsWith, ConcludeAllOn}
 use Rattle.aj_effects.proofs.Sizes.{size_part, size_parts}

@@ -1,8 +1,8 @@
 -- One premise more.
 use Rattle.std.proofs.Common.{ap, length, sym, subst}
-use Rattle.aj_book_grammar.specs.Derivations.{number_of}
-use Rattle.aj_deriv.specs.Memory.{nodes_at}
-use Rattle.aj_deriv_rules.specs.Conclusions.{conclusions, table_value}
+use Rattle.aj_books.specs.Derivations.{number_of}
+use Rattle.aj_books.specs.Memory.{nodes_at}
+use Rattle.aj_book_rules.specs.Conclusions.{conclusions, table_value}
 use Rattle.aj_nodes.specs.Shown.{AreThere, node_value, trees_at}
 use Rattle.aj_derive.proofs.PremiseLemmas.{values_more}
 use Rattle.aj_derive.proofs.Tables.{there_pushed}

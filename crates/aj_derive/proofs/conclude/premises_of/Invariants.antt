@@ -1,7 +1,7 @@
 use Rattle.std.proofs.Common.{◌≡◌, ◌++◌, map, drop, length}
 use Rattle.aj_nodes.specs.Shown.{AreThere, node_value, trees_at}
-use Rattle.aj_deriv.specs.Memory.{nodes_at}
-use Rattle.aj_deriv_rules.specs.Conclusions.{conclusions, table_value}
+use Rattle.aj_books.specs.Memory.{nodes_at}
+use Rattle.aj_book_rules.specs.Conclusions.{conclusions, table_value}
 use Rattle.aj_derive.proofs.conclude.premises_of.Given as goal
 
 -- the nodes so far, and then those of the rest, are all

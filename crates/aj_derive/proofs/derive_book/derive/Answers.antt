@@ -2,8 +2,8 @@
 use Rattle.std.proofs.Common.{length, map, sym, ap, subst, arith}
 use Rattle.aj_cond.specs.Conditions.{cond_of}
 use Rattle.aj_core.specs.Views.{program_of}
-use Rattle.aj_deriv.specs.Memory.{book_of, line_of}
-use Rattle.aj_deriv_check.specs.Good.{IsGoodBook}
+use Rattle.aj_books.specs.Memory.{book_of, line_of}
+use Rattle.aj_book_check.specs.Good.{IsGoodBook}
 use Rattle.aj_derive.specs.Derived.{IsDerived}
 use Rattle.aj_derive.specs.Lines.{AreLinesOf}
 use Rattle.aj_derive.specs.Pools.{pool_table}

@@ -5,8 +5,8 @@ use Rattle.aj_cond.specs.Conditions.{cond_of, IsCanonical}
 use Rattle.aj_core.specs.Views.{method_of, program_of}
 use Rattle.aj_nodes.specs.Shown.{trees_at}
 use Rattle.aj_nodes.proofs.Tables.{grows_chain}
-use Rattle.aj_book_grammar.specs.Books.{IsNumbered}
-use Rattle.aj_deriv.specs.Memory.{node_of}
+use Rattle.aj_books.specs.Books.{IsNumbered}
+use Rattle.aj_books.specs.Memory.{node_of}
 use Rattle.aj_effects.specs.Parts.{StmtP}
 use Rattle.aj_derive.specs.Bases.{own_trees, trees_assign}
 use Rattle.aj_derive.specs.Moved.{IsMoved}

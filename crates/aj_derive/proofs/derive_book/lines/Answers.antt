@@ -2,7 +2,7 @@
 use Rattle.std.proofs.Common.{◌≡◌, map, [], ◌∷◌, length, Some, slice_get, sym, ap, subst, arith, ◌∙◌}
 use Rattle.std.proofs.lemmas.List.{map-append, length-map}
 use Rattle.aj_core.specs.Views.{method_of, program_of}
-use Rattle.aj_deriv.specs.Memory.{line_of}
+use Rattle.aj_books.specs.Memory.{line_of}
 use Rattle.aj_derive.specs.Bases.{own_trees}
 use Rattle.aj_derive.specs.Lines.{AreLinesOf}
 use Rattle.aj_derive.specs.Pools.{pool_table}

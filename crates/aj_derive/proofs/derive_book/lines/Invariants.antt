@@ -1,6 +1,6 @@
 use Rattle.std.proofs.Common.{map}
 use Rattle.aj_core.specs.Views.{program_of}
-use Rattle.aj_deriv.specs.Memory.{line_of}
+use Rattle.aj_books.specs.Memory.{line_of}
 use Rattle.aj_rules.specs.Near.{rel_of}
 use Rattle.aj_derive.specs.Bases.{own_trees}
 use Rattle.aj_derive.specs.Lines.{AreLinesOf}

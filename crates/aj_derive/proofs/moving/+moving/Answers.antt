@@ -2,9 +2,9 @@
 use Rattle.std.proofs.Common.{append-nil, [], ◌∷◌, length, get_or, arith, sym, ap, subst}
 use Rattle.aj_nodes.specs.declared.table.Node.{Node as TableNode}
 use Rattle.aj_nodes.specs.Shown.{node_tree, trees_at}
-use Rattle.aj_book_grammar.specs.Books.{IsNumbered, AreNumbered, nodes_high}
-use Rattle.aj_book_grammar.specs.Derivations.{node}
-use Rattle.aj_deriv.specs.Memory.{node_of, nodes_at}
+use Rattle.aj_books.specs.Books.{IsNumbered, AreNumbered, nodes_high}
+use Rattle.aj_books.specs.Derivations.{node}
+use Rattle.aj_books.specs.Memory.{node_of, nodes_at}
 use Rattle.aj_derive.specs.Moved.{IsMoved, AreMoved}
 use Rattle.aj_derive.specs.Pools.{pool_table}
 use Rattle.aj_derive.proofs.Rows.{pushed_more}

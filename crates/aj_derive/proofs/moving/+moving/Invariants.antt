@@ -1,9 +1,9 @@
 use Rattle.std.proofs.Common.{◌+◌, ◌*◌, ◌≤◌, ◌++◌, List, length}
 use Rattle.aj_cond.specs.Conditions.{Cond}
 use Rattle.aj_nodes.specs.Shown.{trees_at}
-use Rattle.aj_book_grammar.specs.Books.{AreNumbered, node_high, nodes_high}
-use Rattle.aj_deriv.specs.Memory.{node_of, nodes_at}
-use Rattle.aj_deriv.specs.declared.derivation.Derivation.{Derivation}
+use Rattle.aj_books.specs.Books.{AreNumbered, node_high, nodes_high}
+use Rattle.aj_books.specs.Memory.{node_of, nodes_at}
+use Rattle.aj_books.specs.declared.derivation.Derivation.{Derivation}
 use Rattle.aj_derive.specs.Moved.{AreMoved}
 use Rattle.aj_derive.specs.Pools.{pool_table, IsPool}
 use Rattle.aj_derive.proofs.moving.+moving.Given as goal

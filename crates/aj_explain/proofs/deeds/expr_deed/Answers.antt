@@ -3,7 +3,7 @@ use Rattle.aj_algebra.specs.HeldPaths.{has_path}
 use Rattle.aj_core.specs.Views.{expr_of, program_of}
 use Rattle.aj_core.proofs.ViewLemmas.{expr_of-Call}
 use Rattle.aj_rules.specs.Near.{rel_of}
-use Rattle.aj_deriv_rules.specs.Parts.{ExprP}
+use Rattle.aj_book_rules.specs.Parts.{ExprP}
 use Rattle.aj_explain.proofs.Stepping.{call_done}
 use Rattle.aj_explain.proofs.deeds.expr_deed.Goals as goal
 

@@ -5,7 +5,7 @@ use Rattle.aj_algebra.specs.HeldPaths.{has_path}
 use Rattle.aj_core.proofs.ViewLemmas.{expr_of-Call}
 use Rattle.aj_core.specs.Locks.{path_of}
 use Rattle.aj_core.specs.Views.{expr_of, exprs_from, program_of}
-use Rattle.aj_deriv_rules.specs.Parts.{ExprP}
+use Rattle.aj_book_rules.specs.Parts.{ExprP}
 use Rattle.aj_rules.specs.Effect.{held_under}
 use Rattle.aj_rules.specs.Mentions.{paths_of}
 use Rattle.aj_rules.specs.Near.{rel_of}

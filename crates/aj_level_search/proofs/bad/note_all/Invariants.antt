@@ -1,5 +1,5 @@
 use Rattle.std.proofs.Common.{◌≡◌, drop, map}
-use Rattle.aj_ordered.specs.Told.{told_of}
+use Rattle.aj_level_search.specs.Told.{told_of}
 use Rattle.aj_level_search.specs.Bad.{firsts, bads_in}
 use Rattle.aj_level_search.proofs.bad.note_all.Given as goal
 

@@ -1,5 +1,5 @@
 use Rattle.std.proofs.Common.{take, map}
-use Rattle.aj_ordered.specs.Told.{told_of}
+use Rattle.aj_level_search.specs.Told.{told_of}
 use Rattle.aj_level_search.specs.Cells.{queue_of, AreAdded}
 use Rattle.aj_level_search.proofs.explore.add_calls.Given as goal
 

@@ -3,7 +3,7 @@ use Rattle.std.proofs.Common.{sym, subst, ap, ◌∙◌, map}
 use Rattle.std.specs.Prelude.{IfOk, ◌≡◌}
 use Rattle.aj_core.specs.Views.{program_of, method_of}
 use Rattle.aj_algebra.specs.HeldPaths.{has_path}
-use Rattle.aj_ordered.specs.Told.{told_of}
+use Rattle.aj_level_search.specs.Told.{told_of}
 use Rattle.aj_level_search.specs.Bodies.{told_by}
 use Rattle.aj_level_search.proofs.Tells.{found_method, no_method}
 use Rattle.aj_level_search.proofs.judged.seen_in.Goals as goal

@@ -3,7 +3,7 @@ use Rattle.std.proofs.lemmas.Result.{err_from_is_err_and}
 use Rattle.aj_core.specs.Views.{program_of}
 use Rattle.aj_steps.specs.Step.{outcome}
 use Rattle.aj_machine.specs.Standing.{program_run}
-use Rattle.aj_units.specs.Tables.{value_at}
+use Rattle.aj_noted.specs.Tables.{value_at}
 use Rattle.aj_noted.proofs.Running.{was_made, was_refused, only_memory}
 use Rattle.aj_noted.proofs.run.make_step.Goals as goal
 

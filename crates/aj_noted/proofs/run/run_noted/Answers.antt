@@ -8,7 +8,7 @@ use Rattle.aj_machine.specs.Reasons.{IsReason}
 use Rattle.aj_machine.specs.Standing.{program_run, StandsFor}
 use Rattle.aj_noted.specs.Made.{HaveRun}
 use Rattle.aj_noted.specs.NoRun.{IsNoRun}
-use Rattle.aj_units.specs.Tables.{value_at}
+use Rattle.aj_noted.specs.Tables.{value_at}
 use Rattle.aj_noted.proofs.Running.{starts, length_more, run_more, run_stops}
 use Rattle.aj_noted.proofs.run.run_noted.Goals as goal
 

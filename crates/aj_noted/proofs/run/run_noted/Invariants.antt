@@ -1,7 +1,7 @@
 use Rattle.std.proofs.Common.{◌≡◌, length}
 use Rattle.std.specs.Prelude.{take}
 use Rattle.aj_noted.specs.Made.{HaveRun}
-use Rattle.aj_units.specs.Tables.{value_at}
+use Rattle.aj_noted.specs.Tables.{value_at}
 use Rattle.aj_noted.proofs.run.run_noted.Given as goal
 
 abbrev pub invariant-loop-place : goal.invariant-loop-place

@@ -1,5 +1,5 @@
 use Rattle.std.proofs.Common.{ap, ◌∙◌, ◌++◌}
-use Rattle.aj_units.specs.UnitMaps.{maps_of}
+use Rattle.aj_noted.specs.UnitMaps.{maps_of}
 use Rattle.aj_open.specs.Spreading.{spread_committed, spread_threads}
 use Rattle.aj_open.proofs.Spreads.{opened_spread}
 use Rattle.aj_open.proofs.spreading.in_open_order.Goals as goal

@@ -1,7 +1,7 @@
 use Rattle.std.proofs.Common.{◌≡◌, ◌≤◌, ℕ, length}
 use Rattle.std.specs.Prelude.{drop}
-use Rattle.aj_units.specs.Tables.{value_at}
-use Rattle.aj_units.specs.UnitMaps.{maps_of}
+use Rattle.aj_noted.specs.Tables.{value_at}
+use Rattle.aj_noted.specs.UnitMaps.{maps_of}
 use Rattle.aj_open.specs.Spreading.{left_sizes}
 use Rattle.aj_open.proofs.spreading.left_sizes.Given as goal
 

@@ -1,6 +1,6 @@
 use Rattle.std.proofs.Common.{◌≡◌, ◌++◌}
 use Rattle.std.specs.Prelude.{drop}
-use Rattle.aj_units.specs.UnitMaps.{maps_of}
+use Rattle.aj_noted.specs.UnitMaps.{maps_of}
 use Rattle.aj_open.specs.Spreading.{spread_committed}
 use Rattle.aj_open.proofs.spreading.spread_committed.Given as goal
 

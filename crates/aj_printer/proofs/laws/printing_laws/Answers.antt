@@ -1,5 +1,5 @@
 use Rattle.std.proofs.Common.{[], false, refl}
-use Rattle.aj_printer.specs.declared.page.Place.TheVariants as P
+use Rattle.aj_printer.specs.declared.page.NextPlace.TheVariants as P
 use Rattle.aj_printer.specs.Printing.{program_lexemes}
 use Rattle.aj_printer.proofs.Cutting.{cut}
 use Rattle.aj_printer.proofs.Parting.{program_parted}

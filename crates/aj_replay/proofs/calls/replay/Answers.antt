@@ -4,11 +4,11 @@ use Rattle.aj_core.specs.Views.{program_of}
 use Rattle.aj_state.specs.States.{State}
 use Rattle.aj_steps.specs.Step.{step}
 use Rattle.aj_machine.specs.Standing.{StandsFor}
-use Rattle.aj_plain.specs.Scanning as scan
+use Rattle.aj_replay.specs.Scanning as scan
 use Rattle.aj_replay.specs.declared.calls.ReplayEnd.TheVariants as ends
 use Rattle.aj_replay.specs.Views.{told_in, all_told_in, open_of, IsDeepEnd}
 use Rattle.aj_noted.specs.Calls.{AreCalls}
-use Rattle.aj_units.specs.Tables.{value_at}
+use Rattle.aj_noted.specs.Tables.{value_at}
 use Rattle.aj_replay.proofs.Replaying.{Reached, reached_none, reached_more, reached_end, reached_all, deep_not_few, which_end}
 use Rattle.aj_replay.proofs.calls.replay.Goals as goal
 

@@ -2,7 +2,7 @@ use Rattle.std.proofs.Common.{◌≡◌, map}
 use Rattle.aj_core.specs.Views.{program_of}
 use Rattle.aj_replay.specs.Views.{told_in, open_of}
 use Rattle.aj_replay.proofs.Replaying.{Reached}
-use Rattle.aj_units.specs.Tables.{value_at}
+use Rattle.aj_noted.specs.Tables.{value_at}
 use Rattle.aj_replay.proofs.calls.replay.Given as goal
 
 abbrev pub invariant-loop-thread : goal.invariant-loop-thread

@@ -3,8 +3,8 @@ use Rattle.std.specs.Prelude.{MatchResult}
 use Rattle.aj_core.specs.Views.{program_of}
 use Rattle.aj_steps.specs.Step.{outcome}
 use Rattle.aj_machine.specs.Standing.{program_run}
-use Rattle.aj_plain.specs.Scanning as scan
-use Rattle.aj_units.specs.Tables.{value_at}
+use Rattle.aj_replay.specs.Scanning as scan
+use Rattle.aj_noted.specs.Tables.{value_at}
 use Rattle.aj_replay.specs.Views.{all_told_in, open_of, IsDeepEnd}
 use Rattle.aj_replay.proofs.Replaying.{on_ok, was_made}
 use Rattle.aj_replay.proofs.entry.enter.Goals as goal

@@ -1,7 +1,7 @@
 use Rattle.std.proofs.Common.{◌∙◌}
 use Rattle.std.proofs.lemmas.Result.{IfOk-weaker}
-use Rattle.aj_units.specs.UnitMaps.{maps_of}
-use Rattle.aj_units.proofs.Spread.{units_spread}
+use Rattle.aj_noted.specs.UnitMaps.{maps_of}
+use Rattle.aj_noted.proofs.Spread.{units_spread}
 use Rattle.aj_serialise.proofs.order.in_order.Goals as goal
 
 pub returns : goal.returns

@@ -1,6 +1,6 @@
 use Rattle.std.proofs.Common.{◌≡◌, ◌++◌}
 use Rattle.std.specs.Prelude.{drop}
-use Rattle.aj_units.specs.UnitMaps.{maps_of, spread}
+use Rattle.aj_noted.specs.UnitMaps.{maps_of, spread}
 use Rattle.aj_serialise.proofs.order.spread.Given as goal
 
 abbrev pub invariant-loop-place : goal.invariant-loop-place

@@ -2,7 +2,7 @@ use Rattle.std.proofs.Common.{ap, subst, ◌∙◌}
 use Rattle.std.proofs.lemmas.Result.{err_from_is_err_and}
 use Rattle.aj_core.specs.Views.{program_of}
 use Rattle.aj_steps.specs.Units.{units, in_order, schedule_of}
-use Rattle.aj_units.specs.Entries.{entries_of}
+use Rattle.aj_noted.specs.Entries.{entries_of}
 use Rattle.aj_serialise.specs.Rewritten.{IsRefused}
 use Rattle.aj_noted.proofs.Running.{stands_at_end}
 use Rattle.aj_serialise.proofs.Results.{finished, left_open}

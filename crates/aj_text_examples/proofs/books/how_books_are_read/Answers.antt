@@ -1,6 +1,6 @@
 use Rattle.std.proofs.Common.{refl}
-use Rattle.aj_book_grammar.specs.Combine.{several}
-use Rattle.aj_book_grammar.specs.Reading.{number_at, path_at, leaf_at, tree_at, canonical_at, word_at_front, node_at, line_at, count_at, lines_at, book_at}
+use Rattle.aj_books.specs.Combine.{several}
+use Rattle.aj_books.specs.Reading.{number_at, path_at, leaf_at, tree_at, canonical_at, word_at_front, node_at, line_at, count_at, lines_at, book_at}
 use Rattle.aj_text_examples.proofs.books.how_books_are_read.Goals as goal
 
 pub returns-clause-number : goal.returns-clause-number

@@ -1,6 +1,6 @@
 use Rattle.std.proofs.Common.{refl}
-use Rattle.aj_book_grammar.specs.Combine.{several}
-use Rattle.aj_book_grammar.specs.Reading.{number_at, path_at, leaf_at}
+use Rattle.aj_books.specs.Combine.{several}
+use Rattle.aj_books.specs.Reading.{number_at, path_at, leaf_at}
 use Rattle.aj_blame_text.specs.Reading.{later_path, held_at, line_at, count_at, end_at, blame_at}
 use Rattle.aj_text_examples.proofs.certificates.how_certificates_are_read.Goals as goal
 

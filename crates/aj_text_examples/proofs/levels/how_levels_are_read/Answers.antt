@@ -1,5 +1,5 @@
 use Rattle.std.proofs.Common.{refl}
-use Rattle.aj_book_grammar.specs.Reading.{number_at}
+use Rattle.aj_books.specs.Reading.{number_at}
 use Rattle.aj_level_text.specs.Reading.{name_at, level_at}
 use Rattle.aj_text_examples.proofs.levels.how_levels_are_read.Goals as goal
 

@@ -1,6 +1,6 @@
 use Rattle.std.proofs.Common.{[], ap}
-use Rattle.aj_plain.specs.Answers.{then_do, goes_on, in_turn}
-use Rattle.aj_plain.specs.Evaluation.{take_lock, locked, start_run, lower_of, stmt}
+use Rattle.aj_replay.specs.Answers.{then_do, goes_on, in_turn}
+use Rattle.aj_replay.specs.Evaluation.{take_lock, locked, start_run, lower_of, stmt}
 use Rattle.aj_core.specs.Core.{WhileS, SyncS, EmptyS}
 use Rattle.aj_steps.specs.Step.{object_class, run_of}
 use Rattle.aj_examples.specs.Fields.{path}

@@ -1,7 +1,7 @@
 use Rattle.std.proofs.Common.{ap}
 use Rattle.std.specs.Prelude.{slice_get}
 use Rattle.aj_state.specs.Memory.{field_value}
-use Rattle.aj_plain.specs.Evaluation.{found}
+use Rattle.aj_replay.specs.Evaluation.{found}
 use Rattle.aj_examples.specs.Seen.{four_fields}
 use Rattle.aj_upper_examples.specs.Plain.{quiet}
 use Rattle.aj_upper_examples.proofs.Found.{object_is}

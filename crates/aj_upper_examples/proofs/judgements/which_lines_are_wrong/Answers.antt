@@ -5,10 +5,10 @@ use Rattle.aj_core.specs.Core.{EmptyS}
 use Rattle.aj_core.specs.Dispatch.{Overrides}
 use Rattle.aj_rules.specs.Rules.{IsPart}
 use Rattle.aj_core.specs.Examples.{plain_method}
-use Rattle.aj_deriv_rules.specs.Conclusions.{table_value}
-use Rattle.aj_deriv_rules.specs.Parts.{StmtP, places, Fits}
-use Rattle.aj_deriv_check.specs.Good.{book_assignment, IsStep}
-use Rattle.aj_deriv_check.specs.Faults.{AreShaped}
+use Rattle.aj_book_rules.specs.Conclusions.{table_value}
+use Rattle.aj_book_rules.specs.Parts.{StmtP, places, Fits}
+use Rattle.aj_book_check.specs.Good.{book_assignment, IsStep}
+use Rattle.aj_book_check.specs.Faults.{AreShaped}
 use Rattle.aj_examples.specs.Bodies.{nothing_held, this_held}
 use Rattle.aj_upper_examples.specs.Small.{print_one, print_twice, prints_below, no_paths, this_path_only, book, trees, line, skip, print, block}
 use Rattle.aj_upper_examples.proofs.Places.{each_of, before_of, its_main, its_fits, ItsStep, its_steps, shaped_alone, none_over}

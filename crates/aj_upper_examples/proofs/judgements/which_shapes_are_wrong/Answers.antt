@@ -1,10 +1,10 @@
 use Rattle.std.proofs.Common.{◌≡◌, ℕ, zero, suc, ◌<◌, refl, arith, inl, inr, [], ◌∷◌}
 use Rattle.std.specs.Prelude.{false, slice_get}
 use Rattle.aj_core.specs.Core.{EmptyS}
-use Rattle.aj_book_grammar.specs.declared.word.Word.TheVariants as w
-use Rattle.aj_book_grammar.specs.Derivations.{node, no_nodes, and_node}
-use Rattle.aj_deriv_rules.specs.Parts.{StmtP, places, Fits}
-use Rattle.aj_deriv_check.specs.Faults.{IsShapedAt}
+use Rattle.aj_books.specs.declared.word.Word.TheVariants as w
+use Rattle.aj_books.specs.Derivations.{node, no_nodes, and_node}
+use Rattle.aj_book_rules.specs.Parts.{StmtP, places, Fits}
+use Rattle.aj_book_check.specs.Faults.{IsShapedAt}
 use Rattle.aj_upper_examples.specs.Small.{main_with, print_one, book, line, skip}
 use Rattle.aj_upper_examples.proofs.Places.{each_of, before_of}
 use Rattle.aj_upper_examples.proofs.judgements.which_shapes_are_wrong.Goals as goal

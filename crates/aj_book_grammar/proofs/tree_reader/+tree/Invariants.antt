@@ -1,4 +1,0 @@
-use Rattle.aj_book_grammar.proofs.tree_reader.+tree.Given as goal
-
-abbrev pub decreases-tree : goal.decreases-tree
-decreases-tree l = l.room

@@ -1,0 +1,24 @@
+-- What is read of a text is its text (Sound, SoundTrees), and of each part's text the part is read (Complete); lemmas on digits, on
+-- words and names at the front of a text, and on items side by side; books read in place, and their laws.
+pub mod PassBooks
+pub mod BookLaws
+pub mod CursorLaws
+pub mod TableLaws
+pub mod BeforeFaults
+mod Digits
+mod Fronts
+pub mod Sound
+pub mod SoundTrees
+pub mod Several
+pub mod PassLemmas
+pub mod Complete
+-- What is read depends on nothing behind the next byte (Locals, Numbers, Words, Trees), so a fault is the same in each text that has the
+-- bytes up to it (There).
+mod Locals
+mod NumberFaults
+mod WordFaults
+mod TreeFaults
+mod There
+-- The lemmas that several proofs share.
+mod Built
+mod MemoryLemmas

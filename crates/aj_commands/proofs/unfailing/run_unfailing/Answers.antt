@@ -1,0 +1,16 @@
+-- A count that stays 0 didn't rise; and words that are a row of no file that couldn't be read are a row, or have the usage's status.
+use Rattle.std.proofs.Common.{◌≡◌, inl, inr, sym, ◌∙◌, arith}
+use Rattle.aj_edge.specs.Faults.{Rose}
+use Rattle.aj_commands.proofs.unfailing.run_unfailing.Goals as goal
+
+no_rise : Rose 0 0 → ⊥
+no_rise rose = omega (arith, rose)
+
+pub returns-clause-read : goal.returns-clause-read
+returns-clause-read c = λ e. elim (c.run.ensures.usage (λ row is. no_rise (c.run.ensures.cannot_read row is e).unread.first.rose)) [
+  | inl says ↦ absurd (let both : 6 ≡ 9 = sym e ∙ says.0 in cc)
+  | inr fails ↦ no_rise (fails.2)
+]
+
+pub returns-clause-written : goal.returns-clause-written
+returns-clause-written c = λ e. no_rise (c.run.ensures.cannot_write e)

@@ -1,3 +1,0 @@
--- The lemmas that several proofs share.
-mod Built
-mod MemoryLemmas

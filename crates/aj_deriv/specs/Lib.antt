@@ -1,2 +1,0 @@
--- What derivations and books in memory are as plain data.
-pub mod Memory

@@ -1,2 +1,0 @@
--- What lists of held paths are as sets.
-pub mod ListedSets

@@ -1,3 +1,0 @@
--- Lemmas on levels that rise to what links ask.
-pub mod Raising
-pub mod Settled

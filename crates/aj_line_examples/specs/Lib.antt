@@ -1,2 +1,0 @@
--- A small table of names, which the lines are written by.
-pub mod Names

@@ -1,3 +1,0 @@
--- Lemmas on what walks tell, and on the sizes of bodies.
-pub mod ToldLemmas
-pub mod Light
