@@ -1,10 +1,11 @@
 -- Values of classes that are put one after the other, each class after the one above it.
 use Rattle.std.proofs.Common.{◌≡◌, ◌<◌, ◌≤◌, ◌+◌, ◌==◌, ◌⊎◌, inl, inr, ℕ, zero, suc, Bool, true, false, List, [], ◌∷◌, length, take, get_or, Option, Some, None, refl, sym, ap, subst, ◌∙◌, arith, slice_get, slice_set, option_map}
-use Rattle.std.proofs.lemmas.List.{length-set}
+use Rattle.std.proofs.lemmas.List.{length-set, take_all}
 use Rattle.std.proofs.lemmas.Bool.{eqb-true, eq-eqb}
 use Rattle.std.proofs.lemmas.Option.{none-some, same_Some}
 use Rattle.aj_elaborate.specs.Order.{stands_in, IsFromAbove}
-use Rattle.aj_elaborate.proofs.Ordering.{stands_before, after_at, next_take, take_all, set_at, set_other}
+use Rattle.aj_lemmas.proofs.Lists.{next_take}
+use Rattle.aj_elaborate.proofs.Ordering.{stands_before, after_at, set_at, set_other}
 
 module _ {X V : Type 0} (view : X → V) (value : ℕ → Option V) where
   -- the values of the classes of a list are known
@@ -43,7 +44,7 @@ module _ {X V : Type 0} (view : X → V) (value : ℕ → Option V) where
   -- all are known
   pub all_known : (above : ℕ → Option ℕ) (count : ℕ) (order : List ℕ) (i : ℕ) (known : List X) → IsFromAbove above count order → length order ≤ i
       → AreKnown count (take i order) known → (c : ℕ) → c < count → option_map view (slice_get known c) ≡ value c
-  all_known above count order i known from enough h c low = h.there c (ap (λ z. stands_in z c) (take_all order i enough) ∙ from.all c low)
+  all_known above count order i known from enough h c low = h.there c (ap (λ z. stands_in z c) (take_all i order enough) ∙ from.all c low)
 
 -- a value that is seen as it is
 pub plain_known : {X : Type 0} (o : Option X) (x : X) → option_map (λ x. x) o ≡ Some x → o ≡ Some x

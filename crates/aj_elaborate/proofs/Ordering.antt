@@ -55,19 +55,6 @@ after_at above seen (x ∷ xs) zero c d h within at is = ap (λ z. stands_in z d
 after_at above seen (x ∷ xs) (suc i) c d h within at is =
     ap (λ z. stands_in z d) (sym (append_assoc seen (x ∷ []) (take i xs))) ∙ after_at above (seen ++ x ∷ []) xs i c d h.1 (omega (arith, within)) at is
 
-pub next_take : {A : Type 0} (xs : List A) (i : ℕ) (x : A) → i < length xs → x ≡ get_or xs i x → take (i + 1) xs ≡ take i xs ++ x ∷ []
-next_take [] i x within at = absurd (omega (arith, within))
-next_take (y ∷ ys) zero x within at = ap (λ z. z ∷ []) (sym at)
-next_take (y ∷ ys) (suc i) x within at =
-    let more : suc i + 1 ≡ suc (i + 1) = omega arith in
-    ap (λ n. take n (y ∷ ys)) more ∙ ap (λ z. y ∷ z) (next_take ys i x (omega (arith, within)) at)
-
-pub take_all : {A : Type 0} (xs : List A) (n : ℕ) → length xs ≤ n → take n xs ≡ xs
-take_all [] zero h = refl
-take_all [] (suc n) h = refl
-take_all (x ∷ xs) zero h = absurd (omega (arith, h))
-take_all (x ∷ xs) (suc n) h = ap (λ z. x ∷ z) (take_all xs n (omega (arith, h)))
-
 pub there_at : {A : Type 0} (xs : List A) (i : ℕ) (x : A) → i < length xs → x ≡ get_or xs i x → slice_get xs i ≡ Some x
 there_at xs i x within at = slice_get-get_or xs i x within ∙ ap Some (sym at)
 
