@@ -13,12 +13,11 @@ use Rattle.aj_core.specs.Views.{program_of}
 use Rattle.aj_books.specs.Books.{Book}
 use Rattle.aj_books.specs.Texts.{IsTextOf}
 use Rattle.aj_books.specs.declared.stop.BookFault.TheVariants as faults
-use Rattle.aj_book_check.specs.Checks.{IsJudged}
+use Rattle.aj_book_check.specs.Checks.{IsJudged, IsTextUnjudged}
 use Rattle.aj_book_rules.specs.Conclusions.{tree_value}
 use Rattle.aj_book_check.specs.Good.{IsGoodBook}
 use Rattle.aj_book_check.specs.declared.wrong.TextWrong.{TextWrong}
 use Rattle.aj_book_check.specs.declared.wrong.TextWrong.TheVariants as text
-use Rattle.aj_book_check.specs.declared.wrong.Wrong.TheVariants as wrong
 use Rattle.aj_derive.specs.Derived.{IsDerived, KeepsRules}
 use Rattle.aj_derive.specs.Bases.{trees_assign}
 use Rattle.aj_infer.proofs.LeastLemmas.{least_accepts}
@@ -142,19 +141,19 @@ told_book P sets bytes (text.Book (faults.TooDeep place)) line relevant is told 
 told_book P sets bytes (text.Book faults.NoMemory) line relevant is told = absurd (told.0 refl)
 told_book P sets bytes (text.Wrong fault) line relevant is told = subst (NoBook P bytes ending.BookRefused) (sym told.1) (wrong_first sets is.0 fault relevant is.1 is.2 told.0)
 
--- such a line isn't want of memory
-not_memory : (why : TextWrong) (line : List ℕ) → IsLineFor why line → why ≡ text.Wrong wrong.Memory → ⊥
-not_memory (text.Book fault) line told e = absurd cc
-not_memory (text.Wrong fault) line told e = told.0 (let same : fault ≡ wrong.Memory = cc in same)
+-- where there is such a line, the book was judged
+was_judged : (why : TextWrong) (line : List ℕ) → IsLineFor why line → IsTextUnjudged why → ⊥
+was_judged (text.Book fault) line told unjudged = unjudged
+was_judged (text.Wrong fault) line told unjudged = told.0 unjudged
 
--- where a good book is refused for want of memory only, a text that is refused for another cause is no good book's
+-- where a good book is refused only if it isn't judged, a text that is refused for another cause is no good book's
 none_good : (P : Program) (sets : List MethodPaths) (bytes : List ℕ) (why : TextWrong) (line : List ℕ) → AreRelevant P sets → IsLineFor why line
-    → ((book : Book) → IsTextOf bytes book → IsGoodBook P (rel_of sets) book → why ≡ text.Wrong wrong.Memory) → HasGoodBook P bytes → ⊥
+    → ((book : Book) → IsTextOf bytes book → IsGoodBook P (rel_of sets) book → IsTextUnjudged why) → HasGoodBook P bytes → ⊥
 none_good P sets bytes why line relevant told only has =
-    not_memory why line told (only has.book has.text (subst (λ s. IsGoodBook P (rel_of s) has.book) (unique_sets P has.sets sets has.relevant relevant) has.good))
+    was_judged why line told (only has.book has.text (subst (λ s. IsGoodBook P (rel_of s) has.book) (unique_sets P has.sets sets has.relevant relevant) has.good))
 
 pub book_refusal : (file bytes : List ℕ) (source : Source) (why : TextWrong) (r : Refusal) → IsSourceOf file source → IsJudged (program_of source.program) (rel_of source.sets) bytes (Err why)
-    → ((book : Book) → IsTextOf bytes book → IsGoodBook (program_of source.program) (rel_of source.sets) book → why ≡ text.Wrong wrong.Memory) → IsRight (Refuses why) r → IsRight (VerifyAnswer file bytes) r
+    → ((book : Book) → IsTextOf bytes book → IsGoodBook (program_of source.program) (rel_of source.sets) book → IsTextUnjudged why) → IsRight (Refuses why) r → IsRight (VerifyAnswer file bytes) r
 book_refusal file bytes source why r is judged only right =
     let P = program_of source.program in
     right_of_more (Refuses why) (VerifyAnswer file bytes)

@@ -2,17 +2,17 @@
 use Rattle.std.specs.Prelude.{◌≡◌, ◌≢◌, ℕ, List}
 use Rattle.aj_book_commands.specs.Books.{book_fault_line}
 use Rattle.aj_books.specs.declared.stop.BookFault.TheVariants as faults
+use Rattle.aj_book_check.specs.Faults.{IsUnjudged}
 use Rattle.aj_book_check.specs.declared.wrong.TextWrong.{TextWrong}
 use Rattle.aj_book_check.specs.declared.wrong.TextWrong.TheVariants as text
-use Rattle.aj_book_check.specs.declared.wrong.Wrong.TheVariants as wrong
 use Rattle.aj_sources.specs.declared.refusal.Ending.{Ending}
 use Rattle.aj_sources.specs.declared.refusal.Ending.TheVariants.{BookRefused}
 use Rattle.aj_book_commands.specs.Verify.{told_line}
 
--- what is wrong isn't want of memory, and this is its line
+-- what is wrong was judged, and this is its line
 abbrev pub IsLineFor : TextWrong → List ℕ → Type 0
 IsLineFor (text.Book fault) line = (fault ≢ faults.NoMemory) × (line ≡ book_fault_line fault)
-IsLineFor (text.Wrong fault) line = (fault ≢ wrong.Memory) × (line ≡ told_line fault)
+IsLineFor (text.Wrong fault) line = (IsUnjudged fault → ⊥) × (line ≡ told_line fault)
 
 -- the ending and the line that refuse a text with which this is wrong
 abbrev pub Refuses : TextWrong → Ending → List ℕ → Type 0

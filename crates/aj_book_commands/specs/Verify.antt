@@ -1,5 +1,5 @@
 -- `verify FILE BOOK`: judges the source, without the rules of atomicity, and then the book, whoever wrote it.
-use Rattle.std.specs.Prelude.{◌≡◌, ◌≢◌, ℕ, List, [], ◌∷◌, ◌++◌, Some, None, codes}
+use Rattle.std.specs.Prelude.{◌≡◌, ℕ, List, [], ◌∷◌, ◌++◌, Some, None, codes}
 use Rattle.aj_book_commands.specs.Books.{form_line, too_deep_line, wrong_line}
 use Rattle.aj_book_commands.specs.declared.books.WrongKind.TheVariants as kinds
 use Rattle.aj_core.specs.Core.{Program}
@@ -7,7 +7,7 @@ use Rattle.aj_books.specs.Books.{Book}
 use Rattle.aj_books.specs.Faults.{first_fault}
 use Rattle.aj_books.specs.Texts.{IsTextOf}
 use Rattle.aj_books.specs.declared.stop.BookFault.TheVariants as faults
-use Rattle.aj_book_check.specs.Faults.{IsWrong}
+use Rattle.aj_book_check.specs.Faults.{IsUnjudged, IsWrong}
 use Rattle.aj_book_check.specs.Good.{IsGoodBook}
 use Rattle.aj_book_check.specs.declared.wrong.Wrong.{Wrong}
 use Rattle.aj_book_check.specs.declared.wrong.Wrong.TheVariants as wrong
@@ -31,7 +31,7 @@ pub record HasGoodBook (P : Program) (bytes : List ℕ) : Type 0 where
   pub text : IsTextOf bytes book
   pub good : IsGoodBook P (rel_of sets) book
 
--- the line for what is wrong with a book first; none for want of memory
+-- the line for what is wrong with a book first; none where it isn't judged
 abbrev pub told_line : Wrong → List ℕ
 told_line (wrong.Shape method node) = wrong_line method (Some node) kinds.Shape
 told_line (wrong.Step method node) = wrong_line method (Some node) kinds.Step
@@ -39,13 +39,14 @@ told_line (wrong.Table method) = wrong_line method None kinds.Table
 told_line (wrong.Bound method) = wrong_line method None kinds.Bound
 told_line (wrong.Override method) = wrong_line method None kinds.Override
 told_line wrong.Memory = codes ""
+told_line wrong.Work = codes ""
 
 -- the line that refuses bytes for a program: the first fault of a text that is no book's, or what is wrong with its book first
 pub data NoBook (P : Program) (bytes : List ℕ) : Ending → List ℕ → Type 0 where
   form : (place : ℕ) → first_fault bytes ≡ Some (faults.Form place) → NoBook P bytes ending.BookRefused (form_line place)
   too_deep : (place : ℕ) → first_fault bytes ≡ Some (faults.TooDeep place) → NoBook P bytes ending.BookRefused (too_deep_line place)
   wrong_first : (sets : List MethodPaths) (book : Book) (fault : Wrong) → AreRelevant P sets → IsTextOf bytes book
-      → IsWrong P (rel_of sets) book fault → fault ≢ wrong.Memory → NoBook P bytes ending.BookRefused (told_line fault)
+      → IsWrong P (rel_of sets) book fault → (IsUnjudged fault → ⊥) → NoBook P bytes ending.BookRefused (told_line fault)
 
 -- the line that refuses the source, else the book; or what is written where the book is good, and so the source accepted
 pub data VerifyAnswer (file bytes : List ℕ) : Ending → List ℕ → Type 0 where

@@ -2,6 +2,7 @@
 
 ghost use Rattle.std.specs.Prelude.{◌≡◌, ◌≢◌, ◌≤◌, List, length, IfOk, MatchResult, string_bytes};
 ghost use Rattle.aj_book_commands.specs.Books.{book_fault_line};
+ghost use Rattle.aj_book_check.specs.Faults.{IsUnjudged};
 ghost use Rattle.aj_core.specs.Views.{program_of};
 ghost use Rattle.aj_rules.specs.Rules.{IsAccepted};
 ghost use Rattle.aj_sources.specs.Refusals.{IsRight};
@@ -31,7 +32,7 @@ fn fault_line(alloc: Global, fault: BookFault) -> Result<String, NoMemory>
 
 /// The line for what is wrong with a book first.
 fn wrong_line(alloc: Global, wrong: Wrong) -> Result<String, NoMemory>
-    ensures { IfOk result (λ line. (wrong ≢ Wrong.Memory) × (string_bytes line ≡ told_line wrong)) }
+    ensures { IfOk result (λ line. (IsUnjudged wrong → ⊥) × (string_bytes line ≡ told_line wrong)) }
 {
     match wrong {
         Wrong::Shape { method, node } => wrong_text(alloc, method, Some(node), WrongKind::Shape),
@@ -39,7 +40,7 @@ fn wrong_line(alloc: Global, wrong: Wrong) -> Result<String, NoMemory>
         Wrong::Table { method } => wrong_text(alloc, method, None, WrongKind::Table),
         Wrong::Bound { method } => wrong_text(alloc, method, None, WrongKind::Bound),
         Wrong::Override { method } => wrong_text(alloc, method, None, WrongKind::Override),
-        Wrong::Memory => Err(NoMemory),
+        Wrong::Memory | Wrong::Work => Err(NoMemory),
     }
 }
 

@@ -8,5 +8,6 @@ mod MoveLemmas
 mod PartSizes
 mod LineLemmas
 mod Whole
+mod NearLemmas
 mod Shown
 mod PremiseLemmas

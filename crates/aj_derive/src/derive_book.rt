@@ -5,6 +5,7 @@ ghost use Rattle.aj_core.specs.Typed.{IsTyped};
 ghost use Rattle.aj_core.specs.Views.{method_of, program_of};
 ghost use Rattle.aj_books.specs.Memory.{book_of, line_of};
 ghost use Rattle.aj_book_check.specs.Good.{IsGoodBook};
+ghost use Rattle.aj_book_check.specs.NearBooks.{IsNearBook};
 ghost use Rattle.aj_book_rules.specs.Judges.{AreCanonical};
 ghost use Rattle.aj_derive.specs.Bases.{own_trees, trees_assign};
 ghost use Rattle.aj_derive.specs.Derived.{IsDerived, KeepsRules};
@@ -12,7 +13,7 @@ ghost use Rattle.aj_derive.specs.Lines.{AreLinesOf, IsLineMade};
 ghost use Rattle.aj_derive.specs.Pools.{pool_table, ArePooled, IsPool};
 ghost use Rattle.aj_nodes.specs.Nodes.{Items, Grows};
 ghost use Rattle.aj_nodes.specs.Shown.{IsThere, node_tree};
-ghost use Rattle.aj_rules.specs.Near.{AreRelevant, rel_of};
+ghost use Rattle.aj_rules.specs.Near.{AreRelevant, loc_of, rel_of};
 
 use crate::basis::Basis;
 use crate::conclude::concluded;
@@ -100,8 +101,8 @@ fn lines(
 
 /// The book that shows what the bodies of a typed program conclude under an assignment, of which `inferred` has a canonical tree for
 /// each method. Each line has its method's tree, each node concludes exactly its rule's value, and the table has each different
-/// conclusion once, in order of first use. Of an assignment that keeps the rules of atomicity the book is good, so it is never
-/// refused but for want of memory.
+/// conclusion once, in order of first use. Of an assignment that keeps the rules of atomicity the book is good, and its trees test only
+/// paths near their methods, so it is never refused but for want of memory.
 pub fn derive(
     alloc: Global,
     program: &CoreProgram,
@@ -115,6 +116,8 @@ pub fn derive(
     ensures derived { IfOk result (λ book. IsDerived (program_of program.now) (rel_of sets.now) (map cond_of inferred.now.methods.items) (book_of book)) }
     ensures good { KeepsRules (program_of program.now) (rel_of sets.now) (trees_assign (map cond_of inferred.now.methods.items)) →
         IfOk result (λ book. IsGoodBook (program_of program.now) (rel_of sets.now) (book_of book)) }
+    ensures near { KeepsRules (program_of program.now) (rel_of sets.now) (trees_assign (map cond_of inferred.now.methods.items)) →
+        IfOk result (λ book. IsNearBook (rel_of sets.now) (loc_of sets.now) (book_of book)) }
 {
     let own = inferred.methods.as_slice();
     let basis = Basis { program, sets, own };

@@ -20,7 +20,7 @@ pub fn how_books_are_judged()
     ensures names { map names_node (kind.Shape ∷ kind.Step ∷ kind.Table ∷ kind.Bound ∷ kind.Override ∷ []) ≡ true ∷ true ∷ false ∷ false ∷ false ∷ [] }
     ensures node { map at_node (Some 11 ∷ None ∷ []) ≡ codes " node 11" ∷ [] ∷ [] }
     ensures line { wrong_line 3 (Some 4) kind.Step ≡ codes "book refused: method 3 node 4: step\n" }
-    ensures told { map told_line (wrong.Shape 1 2 ∷ wrong.Step 3 4 ∷ wrong.Table 5 ∷ wrong.Bound 6 ∷ wrong.Override 7 ∷ wrong.Memory ∷ [])
+    ensures told { map told_line (wrong.Shape 1 2 ∷ wrong.Step 3 4 ∷ wrong.Table 5 ∷ wrong.Bound 6 ∷ wrong.Override 7 ∷ wrong.Memory ∷ wrong.Work ∷ [])
         ≡ codes "book refused: method 1 node 2: shape\n" ∷ codes "book refused: method 3 node 4: step\n" ∷ codes "book refused: method 5: table\n"
-        ∷ codes "book refused: method 6: bound\n" ∷ codes "book refused: method 7: override\n" ∷ [] ∷ [] }
+        ∷ codes "book refused: method 6: bound\n" ∷ codes "book refused: method 7: override\n" ∷ [] ∷ [] ∷ [] }
 {}

@@ -7,9 +7,12 @@ use Rattle.aj_book_check.specs.Good.{IsGoodBook}
 use Rattle.aj_derive.specs.Derived.{IsDerived}
 use Rattle.aj_derive.specs.Lines.{AreLinesOf}
 use Rattle.aj_derive.specs.Pools.{pool_table}
+use Rattle.aj_book_check.specs.NearBooks.{IsNearBook}
+use Rattle.aj_book_check.proofs.CanonicalLemmas.{trees_canonical}
+use Rattle.aj_derive.proofs.NearLemmas.{near_book}
 use Rattle.aj_derive.proofs.Whole.{derived, written, good}
 use Rattle.aj_rules.proofs.Required.{required_in_rel}
-use Rattle.aj_rules.specs.Near.{rel_of}
+use Rattle.aj_rules.specs.Near.{loc_of, rel_of}
 use Rattle.aj_derive.proofs.derive_book.derive.Goals as goal
 
 pub lines-requires-clause-few : goal.lines-requires-clause-few
@@ -46,3 +49,18 @@ returns-clause-good c = λ keeps.
     let made = subst (λ own. AreLinesOf P rel (map cond_of own) (length P.methods) table lines) c.as_slice-own.ensures.value c.in_ok-methods.ensures.lines in
     subst (λ book. IsGoodBook P rel (book_of book)) (sym c.new.ensures)
     (good P rel trees table lines made c.requires.count (λ m method is. required_in_rel P c.args.sets.now c.requires.relevant c.requires.typed m method is) c.requires.canonical keeps)
+
+pub returns-clause-near : goal.returns-clause-near
+returns-clause-near c = λ keeps.
+    let P = program_of c.args.program.now in
+    let sets = c.args.sets.now in
+    let rel = rel_of sets in
+    let trees = map cond_of c.args.inferred.now.methods.items in
+    let table = pool_table c.lines.new.pool in
+    let lines = map line_of c.in_ok-methods.methods.items in
+    let pool = c.in_ok-methods.ensures.pool in
+    let made = subst (λ own. AreLinesOf P rel (map cond_of own) (length P.methods) table lines) c.as_slice-own.ensures.value c.in_ok-methods.ensures.lines in
+    subst (λ book. IsNearBook rel (loc_of sets) (book_of book)) (sym c.new.ensures)
+    (near_book P sets c.requires.relevant trees table lines made
+    (good P rel trees table lines made c.requires.count (λ m method is. required_in_rel P sets c.requires.relevant c.requires.typed m method is) c.requires.canonical keeps)
+    (trees_canonical table pool.trees))
