@@ -1,5 +1,5 @@
 -- From what a walk found to an explanation.
-use Rattle.std.proofs.Common.{◌≡◌, ℕ, zero, suc, ◌+◌, ◌<◌, ◌≤◌, Bool, true, false, List, [], ◌∷◌, ◌++◌, Option, Some, None, IsSome, length, drop, get_or, refl, sym, ap, ◌∙◌, subst, if◌then◌else◌}
+use Rattle.std.proofs.Common.{◌≡◌, ℕ, zero, suc, ◌+◌, ◌<◌, ◌≤◌, Bool, true, false, List, [], ◌∷◌, ◌++◌, Option, Some, None, IsSome, length, drop, get_or, refl, sym, ap, not, ◌∙◌, subst, if◌then◌else◌}
 use Rattle.std.specs.Prelude.{map, slice_get, option_map}
 use Rattle.std.proofs.Math.ListN.{drop_of_length-le}
 use Rattle.std.proofs.lemmas.List.{drop-map}
@@ -20,13 +20,13 @@ use Rattle.aj_rules.specs.Guards.{guard_of}
 use Rattle.aj_core.specs.Locks.{path_of}
 use Rattle.aj_rules.specs.Rules.{held_in}
 use Rattle.aj_why.specs.Parts.{own_of, lock_effect}
-use Rattle.aj_why.specs.Readings.{first_where, is_cmpd}
+use Rattle.aj_why.specs.Readings.{first_where, is_cmpd, own_at}
 use Rattle.aj_why.specs.Steps.{stmt_steps}
 use Rattle.aj_why.specs.Visits.{Visit, stmt_visits}
 use Rattle.aj_explain.specs.declared.found.Found.{Found}
 use Rattle.aj_explain.specs.declared.found.Visited.{Visited}
 use Rattle.aj_explain.specs.Basics.{stmt_basics}
-use Rattle.aj_explain.specs.Explaining.{compound_or, first_wrong, is_own, over_of, with_first, wrong_of, wrong_or}
+use Rattle.aj_explain.specs.Explaining.{calls, compound_or, first_wrong, is_own, looped_or, only_step_why, over_of, steps_of, steps_why, with_first, wrong_of, wrong_or}
 use Rattle.aj_explain.specs.Views.{errors_in, part_of, visit_of, visits_of}
 use Rattle.aj_explain.specs.Walked.{WalkedStmt}
 use Rattle.aj_explain.specs.Whys.{WhyData, Wrong, Compound, Two, Overridden, Nothing}
@@ -57,6 +57,23 @@ module _ (test : Visit → Bool) where
 
   pub first_nowhere : (vs : List Visited) (k : ℕ) → length vs ≤ k → Left vs k → first_where test (visits_of vs) ≡ None
   first_nowhere vs k past left = sym left ∙ ap (λ l. first_where test (visits_of l)) (drop_of_length-le vs past)
+
+-- ---- a step alone
+
+-- a compound step that is alone, whether or not it calls the method itself
+alone : (v : Visit) (test : Bool) → compound_or (if test then Some v else None) None (v ∷ []) ≡ Compound v
+alone v true = refl
+alone v false = refl
+
+only_step : (self : ℕ) (v : Visit) (compound : Bool)
+    → (if compound then Compound v else looped_or v v.loop Nothing) ≡ steps_why self (if not compound then v ∷ [] else []) (if compound then v ∷ [] else [])
+only_step self v true = sym (alone v (not (calls self v.part)))
+only_step self v false = refl
+
+-- why a body with these steps, which are one, is compound
+pub only_steps : (P : Program) (rel : ℕ → List PathData) (A : Assignment) (self : ℕ) (vs : List Visited) (v : Visited) → vs ≡ v ∷ []
+    → only_step_why P rel A (visit_of v) ≡ steps_of P rel A self (visits_of vs)
+only_steps P rel A self vs v is = only_step self (visit_of v) (is_cmpd (own_at P rel A (visit_of v))) ∙ sym (ap (λ l. steps_of P rel A self (visits_of l)) is)
 
 -- ---- errors
 

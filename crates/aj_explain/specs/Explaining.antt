@@ -79,6 +79,10 @@ module _ (P : Program) (rel : ℕ → List PathData) (A : Assignment) where
   abbrev pub steps_of : (self : ℕ) → List Visit → WhyData
   steps_of self vs = steps_why self (filter (λ v. not (is_cmpd (own_at P rel A v))) vs) (filter (λ v. is_cmpd (own_at P rel A v)) vs)
 
+  -- why a body with this step alone is compound
+  abbrev pub only_step_why : Visit → WhyData
+  only_step_why v = if is_cmpd (own_at P rel A v) then Compound v else looped_or v v.loop Nothing
+
   -- why a body with this effect is an error or compound
   abbrev pub body_why : (self : ℕ) → Basic → (errors steps : List Visit) → WhyData
   body_why self b errors steps = if is_error b then wrong_of P rel errors else steps_of self steps

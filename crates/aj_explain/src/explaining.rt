@@ -1,6 +1,6 @@
 //! Why a method is more than it may be.
 
-ghost use Rattle.std.specs.Prelude.{◌≡◌, ◌∷◌, ◌++◌, List, [], map, slice_get, drop, filter, not, option_map, IfOk, OnOk, MatchOption, IsSome, None, if◌then◌else◌};
+ghost use Rattle.std.specs.Prelude.{◌≡◌, ◌∷◌, ◌++◌, List, [], map, slice_get, drop, filter, not, option_map, IfOk, IfSome, IfNone, OnOk, MatchOption, IsSome, None, if◌then◌else◌};
 ghost use Rattle.aj_algebra.specs.HeldPaths.{has_path};
 ghost use Rattle.aj_core.specs.Views.{expr_of, method_of, program_of, stmt_of, stmts_from};
 ghost use Rattle.aj_book_rules.specs.Parts.{ExprP, StmtP};
@@ -11,7 +11,7 @@ ghost use Rattle.aj_why.specs.Readings.{first_where, is_cmpd, is_error, own_at};
 ghost use Rattle.aj_why.specs.Steps.{stmt_steps};
 ghost use Rattle.aj_why.specs.Visits.{Visit, stmt_visits};
 ghost use Rattle.aj_explain.specs.Basics.{stmt_basics};
-ghost use Rattle.aj_explain.specs.Explaining.{body_why, calls, compound_or, compound_why, first_wrong, is_own, lock_of, method_lock, has_lock, have_locks, only_lock, over_of, steps_of, steps_why, why_of, with_first, wrong_of};
+ghost use Rattle.aj_explain.specs.Explaining.{body_why, calls, compound_or, compound_why, first_wrong, is_own, lock_of, method_lock, has_lock, have_locks, only_lock, only_step_why, over_of, steps_of, steps_why, why_of, with_first, wrong_of};
 ghost use Rattle.aj_explain.specs.Views.{errors_in, part_of, visit_of, visits_of, why_data};
 
 use crate::found::{CorePart, Found, Visited};
@@ -270,6 +270,30 @@ fn steps_why<'p>(id: MethodId, own: Vec<Visited<'p>>, compounds: Vec<Visited<'p>
     }
 }
 
+/// Why a body with this step alone is compound.
+fn only_step_why<'p, A: Assigned>(
+    walk: &Walk<'_, A>,
+    step: Visited<'p>,
+) -> Result<Why<'p>, NoMemory>
+    ensures { IfOk result (λ why. why_data why ≡ only_step_why (program_of walk.now.program.now) (rel_of walk.now.sets.now) (A.Assigned.assigned walk.now.assigned.now) (visit_of step.entry)) }
+{
+    if is_compound(walk, &step)? {
+        return Ok(Why::Compound(step));
+    }
+    match step.looped {
+        Some(around) => Ok(Why::Looped(step, around)),
+        None => Ok(Why::Nothing),
+    }
+}
+
+/// Takes out the only step, where there is one step.
+fn take_only<'p>(steps: &mut Vec<Visited<'p>>) -> Option<Visited<'p>>
+    ensures some { IfSome result (λ step. steps.old.items ≡ step ∷ []) }
+    ensures none { IfNone result (steps.new.items ≡ steps.old.items) }
+{
+    if steps.len() == 1 { steps.pop() } else { None }
+}
+
 /// Why a body with these steps is compound.
 fn compound_body<'p, A: Assigned>(
     walk: &Walk<'_, A>,
@@ -278,6 +302,10 @@ fn compound_body<'p, A: Assigned>(
 ) -> Result<Why<'p>, NoMemory>
     ensures { IfOk result (λ why. why_data why ≡ steps_of (program_of walk.now.program.now) (rel_of walk.now.sets.now) (A.Assigned.assigned walk.now.assigned.now) id (visits_of steps.entry.items)) }
 {
+    let mut steps = steps;
+    if let Some(step) = take_only(&mut steps) {
+        return only_step_why(walk, step);
+    }
     let (own, compounds) = parted(walk, steps)?;
     Ok(steps_why(id, own, compounds))
 }
