@@ -6,12 +6,13 @@ use Rattle.std.proofs.lemmas.List.{take_more, length-set}
 use Rattle.std.proofs.lemmas.Option.{slice_get_within, slice_get-get_or}
 use Rattle.std.proofs.lemmas.List.Elements.{Contains-push, Contains-push_cases, Contains-append_left, Contains-append_right, Contains-append_cases}
 use Rattle.std.proofs.lemmas.Bool.{eqb-true, or_right, or_left, eq-eqb}
+use Rattle.aj_lemmas.proofs.Lists.{set_here}
 use Rattle.aj_core.specs.Core.{Program, Method, Expr, Exprs, IntE, TruthE, NullE, ThisE, VarE, NotE, NegE, BinaryE, AndE, OrE, GetE, CallE, NewE, no_exprs, and_expr}
 use Rattle.aj_core.specs.Core.{Stmt, Stmts, EmptyS, BlockS, LocalS, SetVarS, SetFieldS, DoS, IfS, WhileS, SyncS, ReturnS, PrintS, StartS, no_stmts, and_stmt}
 use Rattle.aj_core.specs.declared.program.CoreMethod.{CoreMethod}
 use Rattle.aj_core.specs.Views.{method_of, stmt_of}
 use Rattle.aj_callers.proofs.Lookups.{found_method}
-use Rattle.aj_fix.proofs.NoteLemmas.{contains_none, contains_cases, set_here, set_at}
+use Rattle.aj_fix.proofs.NoteLemmas.{contains_none, contains_cases, set_at}
 use Rattle.aj_callers.specs.Called.{expr_calls, exprs_call, stmt_calls, block_calls, expr_callees, exprs_callees, stmt_callees, block_callees, method_calls, calls, row_of, row_at, HasCaller, HasCallers, has_method, AreCallers}
 
 or_has : (callee : ℕ) (a b : Bool) (xs ys : List ℕ) → (a || b) ≡ true → (a ≡ true → Contains xs callee) → (b ≡ true → Contains ys callee) → Contains (xs ++ ys) callee

@@ -92,25 +92,32 @@ fn note_circle(class: &Name, is_on_circle: bool, first: Option<ClassFault>) -> O
     }
 }
 
+/// Which class extends which, and the headings of the methods of each class where one extends another.
+#[derive(Clone, Copy)]
+struct Inheritance<'f, 'p, 'a> {
+    family: &'f Family<'p, 'a>,
+    headings: &'f [Vec<Heading<'p, 'a>>],
+}
+
 /// The faults of a class but for the names of its fields. It inherits from the classes of this line, and it has the members
 /// of these classes in order.
 #[tactic(auto, using(crate::proofs::Noting::noted_append))]
 fn note_others(
     alloc: Global,
-    family: &Family,
-    rows: &[Vec<Heading>],
+    inheritance: &Inheritance,
     number: usize,
     class: &Class,
     line: &[usize],
     order: &[usize],
     first: Option<ClassFault>,
 ) -> Result<Option<ClassFault>, NoMemory>
-    requires family { IsFamily family.now }
-    requires rows { AreHeadings (tree_of family.now) (row_at (rows_data rows.now)) }
-    requires line { line.now ≡ lines.line (tree_of family.now) number }
-    requires order { members_along (tree_of family.now) order.now ≡ all_members (tree_of family.now) number }
-    ensures { IfOk result (λ f. f ≡ noted first (other_faults (tree_of family.now) number (class_of class.now))) }
+    requires family { IsFamily inheritance.now.family.now }
+    requires rows { AreHeadings (tree_of inheritance.now.family.now) (row_at (rows_data inheritance.now.headings.now)) }
+    requires line { line.now ≡ lines.line (tree_of inheritance.now.family.now) number }
+    requires order { members_along (tree_of inheritance.now.family.now) order.now ≡ all_members (tree_of inheritance.now.family.now) number }
+    ensures { IfOk result (λ f. f ≡ noted first (other_faults (tree_of inheritance.now.family.now) number (class_of class.now))) }
 {
+    let family = inheritance.family;
     let members = class.members.as_slice();
     let classes = family.classes;
     let found = note_methods(alloc, members, first)?;
@@ -121,69 +128,71 @@ fn note_others(
     let found = note_missing_run(&class.name, family.counts(number), classes, order, found);
     let found = note_excess(field_at(classes, order, MOST_FIELDS), found);
     let found = note_circle(&class.name, family.is_on_circle(number), found);
-    Ok(note_overrides(rows, line, number, found))
+    Ok(note_overrides(inheritance.headings, line, number, found))
 }
 
 /// The faults of a class that extends none.
 fn note_alone<'p, 'a>(
     alloc: Global,
-    family: &Family<'p, 'a>,
-    rows: &[Vec<Heading>],
+    inheritance: &Inheritance<'_, 'p, 'a>,
     number: usize,
     class: &Class<'a>,
     first: Option<ClassFault>,
 ) -> Result<Option<ClassFault>, NoMemory>
-    requires family { IsFamily family.now }
-    requires rows { AreHeadings (tree_of family.now) (row_at (rows_data rows.now)) }
-    requires alone { lines.above (tree_of family.now) number ≡ None }
-    ensures { IfOk result (λ f. f ≡ noted first (class_faults (tree_of family.now) number (class_of class.now))) }
+    requires family { IsFamily inheritance.now.family.now }
+    requires rows { AreHeadings (tree_of inheritance.now.family.now) (row_at (rows_data inheritance.now.headings.now)) }
+    requires alone { lines.above (tree_of inheritance.now.family.now) number ≡ None }
+    ensures { IfOk result (λ f. f ≡ noted first (class_faults (tree_of inheritance.now.family.now) number (class_of class.now))) }
 {
     let members = class.members.as_slice();
-    let found = note_fields(alloc, family.classes, &[], members, first)?;
-    note_others(alloc, family, rows, number, class, &[], &[number], found)
+    let found = note_fields(alloc, inheritance.family.classes, &[], members, first)?;
+    note_others(alloc, inheritance, number, class, &[], &[number], found)
 }
 
 /// The faults of a class.
 fn note_class<'p, 'a>(
     alloc: Global,
-    family: &Family<'p, 'a>,
-    rows: &[Vec<Heading>],
+    inheritance: &Inheritance<'_, 'p, 'a>,
     number: usize,
     class: &Class<'a>,
     first: Option<ClassFault>,
 ) -> Result<Option<ClassFault>, NoMemory>
-    requires family { IsFamily family.now }
-    requires rows { AreHeadings (tree_of family.now) (row_at (rows_data rows.now)) }
-    ensures { IfOk result (λ f. f ≡ noted first (class_faults (tree_of family.now) number (class_of class.now))) }
+    requires family { IsFamily inheritance.now.family.now }
+    requires rows { AreHeadings (tree_of inheritance.now.family.now) (row_at (rows_data inheritance.now.headings.now)) }
+    ensures { IfOk result (λ f. f ≡ noted first (class_faults (tree_of inheritance.now.family.now) number (class_of class.now))) }
 {
-    match family.above(number) {
-        Some(_) => note_heir(alloc, family, rows, number, class, first),
-        None => note_alone(alloc, family, rows, number, class, first),
+    match inheritance.family.above(number) {
+        Some(_) => note_heir(alloc, inheritance, number, class, first),
+        None => note_alone(alloc, inheritance, number, class, first),
     }
 }
 
 /// The faults of a class that may extend another.
 fn note_heir<'p, 'a>(
     alloc: Global,
-    family: &Family<'p, 'a>,
-    rows: &[Vec<Heading>],
+    inheritance: &Inheritance<'_, 'p, 'a>,
     number: usize,
     class: &Class<'a>,
     first: Option<ClassFault>,
 ) -> Result<Option<ClassFault>, NoMemory>
-    requires family { IsFamily family.now }
-    requires rows { AreHeadings (tree_of family.now) (row_at (rows_data rows.now)) }
-    ensures { IfOk result (λ f. f ≡ noted first (class_faults (tree_of family.now) number (class_of class.now))) }
+    requires family { IsFamily inheritance.now.family.now }
+    requires rows { AreHeadings (tree_of inheritance.now.family.now) (row_at (rows_data inheritance.now.headings.now)) }
+    ensures { IfOk result (λ f. f ≡ noted first (class_faults (tree_of inheritance.now.family.now) number (class_of class.now))) }
 {
     let members = class.members.as_slice();
-    let line = family.line(alloc, number)?;
+    let line = inheritance.family.line(alloc, number)?;
     let mut order = reversed(alloc, line.as_slice())?;
-    let found = note_fields(alloc, family.classes, order.as_slice(), members, first)?;
+    let found = note_fields(
+        alloc,
+        inheritance.family.classes,
+        order.as_slice(),
+        members,
+        first,
+    )?;
     order.push(number)?;
     note_others(
         alloc,
-        family,
-        rows,
+        inheritance,
         number,
         class,
         line.as_slice(),
@@ -194,17 +203,16 @@ fn note_heir<'p, 'a>(
 
 fn note_classes(
     alloc: Global,
-    family: &Family,
-    rows: &[Vec<Heading>],
+    inheritance: &Inheritance,
     first: Option<ClassFault>,
 ) -> Result<Option<ClassFault>, NoMemory>
-    requires family { IsFamily family.now }
-    requires rows { AreHeadings (tree_of family.now) (row_at (rows_data rows.now)) }
-    ensures { IfOk result (λ f. f ≡ noted first (faults_from (tree_of family.now) 0 (tree_of family.now))) }
+    requires family { IsFamily inheritance.now.family.now }
+    requires rows { AreHeadings (tree_of inheritance.now.family.now) (row_at (rows_data inheritance.now.headings.now)) }
+    ensures { IfOk result (λ f. f ≡ noted first (faults_from (tree_of inheritance.now.family.now) 0 (tree_of inheritance.now.family.now))) }
 {
     let mut found = first;
-    for (number, class) in family.classes.iter().enumerate() {
-        found = note_class(alloc, family, rows, number, class, found)?;
+    for (number, class) in inheritance.family.classes.iter().enumerate() {
+        found = note_class(alloc, inheritance, number, class, found)?;
     }
     Ok(found)
 }
@@ -301,8 +309,12 @@ fn note_all<'p, 'a>(
         (missing_main (map class_of classes.entry.now))) }
 {
     let family = Family::new(alloc, classes, names, firsts)?;
-    let rows = headings_where_inherited(alloc, &family)?;
-    let found = note_classes(alloc, &family, rows.as_slice(), first)?;
+    let headings = headings_where_inherited(alloc, &family)?;
+    let inheritance = Inheritance {
+        family: &family,
+        headings: headings.as_slice(),
+    };
+    let found = note_classes(alloc, &inheritance, first)?;
     note_missing_main(alloc, &family, found)
 }
 

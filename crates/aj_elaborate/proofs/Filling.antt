@@ -4,8 +4,8 @@ use Rattle.std.proofs.lemmas.List.{length-set, take_all}
 use Rattle.std.proofs.lemmas.Bool.{eqb-true, eq-eqb}
 use Rattle.std.proofs.lemmas.Option.{none-some, same_Some}
 use Rattle.aj_elaborate.specs.Order.{stands_in, IsFromAbove}
-use Rattle.aj_lemmas.proofs.Lists.{next_take}
-use Rattle.aj_elaborate.proofs.Ordering.{stands_before, after_at, set_at, set_other}
+use Rattle.aj_lemmas.proofs.Lists.{next_take, set_other, set_here}
+use Rattle.aj_elaborate.proofs.Ordering.{stands_before, after_at}
 
 module _ {X V : Type 0} (view : X → V) (value : ℕ → Option V) where
   -- the values of the classes of a list are known
@@ -25,7 +25,7 @@ module _ {X V : Type 0} (view : X → V) (value : ℕ → Option V) where
   }
     where
       here : option_map view (slice_get more c) ≡ value c
-      here = let long = h.long in ap (option_map view) (ap (λ z. slice_get z c) more_is ∙ set_at known c x (omega (arith, low, long))) ∙ is
+      here = let long = h.long in ap (option_map view) (ap (λ z. slice_get z c) more_is ∙ set_here known c x (omega (arith, low, long))) ∙ is
 
       by_test : (d : ℕ) (b : Bool) → (d == c) ≡ b → stands_in (take i order) d ≡ true → option_map view (slice_get more d) ≡ value d
       by_test d true same before = ap (λ z. option_map view (slice_get more z)) (eqb-true d c same) ∙ here ∙ ap value (sym (eqb-true d c same))

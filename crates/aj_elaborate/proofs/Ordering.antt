@@ -2,11 +2,12 @@
 use Rattle.std.proofs.Common.{◌≡◌, ◌≢◌, ◌<◌, ◌≤◌, ◌+◌, ◌-◌, ◌==◌, ◌||◌, ◌⊎◌, inl, inr, ℕ, zero, suc, Bool, true, false, List, [], ◌∷◌, ◌++◌, length, map, take, drop, reverse, get_or, Option, Some, None, refl, sym, ap, ap₂, subst, ◌∙◌, arith, slice_get, slice_set, replicate, unwrap_or, append_assoc, append-nil, length-append}
 use Rattle.std.specs.List.{list_any}
 use Rattle.std.specs.Option.{option_and_then, is_some}
-use Rattle.std.proofs.lemmas.List.{reverse-append, length-set, get_or-set_same, get_or-set_other}
+use Rattle.std.proofs.lemmas.List.{reverse-append, length-set}
 use Rattle.std.proofs.lemmas.List.Folds.{list_any-append}
 use Rattle.std.proofs.lemmas.Bool.{eqb-true, eq-eqb, or_right, or_cases}
 use Rattle.std.proofs.lemmas.Bool.Decides.{nat_tests}
-use Rattle.std.proofs.lemmas.Option.{none-some, same_Some, slice_get-get_or, slice_get_within, slice_get_past, unwrap_or-slice_get}
+use Rattle.std.proofs.lemmas.Option.{none-some, same_Some, slice_get-get_or, slice_get_past, unwrap_or-slice_get}
+use Rattle.aj_lemmas.proofs.Lists.{set_other}
 use Rattle.aj_ancestors.specs.Ancestors.{AreBelow, IsAncestor, up}
 use Rattle.aj_elaborate.specs.Order.{stands_in, ComeAfter, IsFromAbove, is_marked, Climbs, IsClimb, IsOrdered}
 use Rattle.aj_elaborate.proofs.Ancestry.{going}
@@ -65,26 +66,6 @@ stands_at (y ∷ ys) zero x within at = ap (λ b. b || stands_in ys x) (eq-eqb y
 stands_at (y ∷ ys) (suc i) x within at = or_right (y == x) (stands_in ys x) (stands_at ys i x (omega (arith, within)) at)
 
 -- ---- marks
-
-pub set_at : {A : Type 0} (xs : List A) (c : ℕ) (v : A) → c < length xs → slice_get (slice_set xs c v) c ≡ Some v
-set_at xs c v low =
-    let long : c < length (slice_set xs c v) = omega (arith, low, length-set xs c v) in
-    slice_get-get_or (slice_set xs c v) c v long ∙ ap Some (get_or-set_same xs c v v low)
-
-pub set_other : {A : Type 0} (xs : List A) (c d : ℕ) (v : A) → d ≢ c → slice_get (slice_set xs c v) d ≡ slice_get xs d
-set_other xs c d v other = by_end (slice_get xs d) refl
-  where
-    by_end : (o : Option _) → slice_get xs d ≡ o → slice_get (slice_set xs c v) d ≡ slice_get xs d
-    by_end (Some x) is =
-        let low = slice_get_within xs d x is in
-        slice_get-get_or (slice_set xs c v) d x (omega (arith, low, length-set xs c v)) ∙ ap Some (get_or-set_other xs c d v x other) ∙ sym (slice_get-get_or xs d x low)
-    by_end None is = past (slice_get (slice_set xs c v) d) refl ∙ sym is
-      where
-        past : (o : Option _) → slice_get (slice_set xs c v) d ≡ o → o ≡ None
-        past None at = refl
-        past (Some y) at =
-            let low = slice_get_within (slice_set xs c v) d y at in
-            absurd (none-some (get_or xs d y) (sym is ∙ slice_get-get_or xs d y (omega (arith, low, length-set xs c v))))
 
 unmarked : (n : ℕ) (d : ℕ) → is_marked (replicate n false) d ≡ true → ⊥
 unmarked zero d h = let e : false ≡ true = h in cc

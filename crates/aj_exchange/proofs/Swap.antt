@@ -4,6 +4,7 @@ use Rattle.std.specs.Prelude.{Option, is_some, slice_get, slice_set, ifâ—Œthenâ—
 use Rattle.std.specs.FinMap as M
 use Rattle.std.proofs.lemmas.Option.{same_Some}
 use Rattle.std.proofs.lemmas.List.{length-set}
+use Rattle.aj_lemmas.proofs.Lists.{set_other}
 use Rattle.aj_core.specs.Core.{Program, Field}
 use Rattle.aj_state.specs.declared.value.Address.{Address}
 use Rattle.aj_state.specs.declared.value.Value.{Value}
@@ -11,7 +12,6 @@ use Rattle.aj_state.specs.declared.value.StepKind.{StepKind}
 use Rattle.aj_state.specs.declared.value.StepKind.TheVariants.{Other}
 use Rattle.aj_state.specs.Memory.{Object, Hold, Heap, Locks, value_in, next_address, IsNumbered}
 use Rattle.aj_state.specs.States.{Thread, Ready, State}
-use Rattle.aj_state.proofs.MemoryLemmas.{set_other}
 use Rattle.aj_state.proofs.Numbering.{next_free}
 use Rattle.aj_steps.specs.Step.{Change, Nothing, FieldIs, ObjectIs, LockIs, Prints, Starts, Move, Moves, Absent, outcome, moved, turn, seen_by, index_of, unless_final, access_kind, taken_again, given_back}
 use Rattle.aj_steps.specs.Asks.{Ask, Alone, Reads, Writes, Counts, Takes, Gives, Runs, asks}

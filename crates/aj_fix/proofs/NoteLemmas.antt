@@ -16,11 +16,6 @@ set_at (y ∷ xs) (suc m) x (suc k) = elim (set_at xs m x k) as (λ _. ((suc m �
   | inr other ↦ inr other
 ]
 
-pub set_here : {A : Type 0} (xs : List A) (m : ℕ) (x : A) → m < length xs → slice_get (slice_set xs m x) m ≡ Some x
-set_here [] m x below = absurd (omega arith)
-set_here (y ∷ xs) zero x below = refl
-set_here (y ∷ xs) (suc m) x below = set_here xs m x (omega arith)
-
 -- what lists contain
 pub contains_none : (c : ℕ) → Contains [] c → ⊥
 contains_none c h = omega (arith, h.1)

@@ -5,10 +5,11 @@ use Rattle.std.proofs.lemmas.List.Elements.{Contains-push, Contains-append_left,
 use Rattle.std.proofs.lemmas.Bool.Decides.{nat_tests}
 use Rattle.std.proofs.lemmas.List.{drop_more, length-set}
 use Rattle.std.proofs.lemmas.Option.{slice_get_within}
+use Rattle.aj_lemmas.proofs.Lists.{set_here}
 use Rattle.aj_fix.specs.Assignments.{Assignment, IsAbove, IsClosed, IsBetween}
 use Rattle.aj_fix.specs.Waiting.{IsNoted, AreWaiting}
 use Rattle.aj_fix.proofs.AssignmentLemmas.{IsAbove-trans, length-above}
-use Rattle.aj_fix.proofs.NoteLemmas.{set_at, set_here, contains_none, contains_cases, flag, not_both}
+use Rattle.aj_fix.proofs.NoteLemmas.{set_at, contains_none, contains_cases, flag, not_both}
 
 -- between the start and each closed assignment, and on from there
 pub between_then : (met : Assignment → ℕ → Bool) (start x y : Assignment) → IsBetween met start x → IsBetween met x y → IsBetween met start y

@@ -16,10 +16,10 @@ use Rattle.aj_steps.proofs.RunLemmas.{step_numbered, initial_numbered, moves_in}
 use Rattle.aj_safe.specs.Phases.{Phase, phase_of, allowed}
 use Rattle.aj_safe.specs.Safe.{IsFree, IsSafe, flags_after}
 use Rattle.aj_safe.specs.Turn.{Accepted}
-use Rattle.aj_state.proofs.MemoryLemmas.{set_other}
 use Rattle.std.specs.Prelude.{slice_set}
 use Rattle.std.proofs.lemmas.Bool.{eqb-false, eq-eqb}
 use Rattle.std.proofs.lemmas.Option.{same_Some}
+use Rattle.aj_lemmas.proofs.Lists.{set_other}
 use Rattle.aj_steps.proofs.Changed.{ThreadAfter, kept, begun, thread_after}
 use Rattle.aj_held.proofs.SafeSteps.{step_fine, step_safe, initial_safe}
 use Rattle.aj_held.proofs.UnitWords.{Judged, added_entry, judged_words}

@@ -4,13 +4,14 @@ use Rattle.std.specs.Prelude.{Option, slice_get, slice_set, if◌then◌else◌}
 use Rattle.std.specs.FinMap as M
 use Rattle.std.specs.FinMap.{get-empty}
 use Rattle.std.proofs.lemmas.Bool.{eqb-true, eqb-false}
+use Rattle.aj_lemmas.proofs.Lists.{set_other}
 use Rattle.aj_paths.specs.Paths.{PathData}
 use Rattle.aj_core.specs.Core.{Program}
 use Rattle.aj_rules.specs.Effect.{Assignment}
 use Rattle.aj_state.specs.declared.value.Address.{Address}
 use Rattle.aj_state.specs.Memory.{Hold, IsNumbered, address_cmp}
 use Rattle.aj_state.specs.States.{Thread, Ready, Running, Done, Faulted, State, initial}
-use Rattle.aj_state.proofs.MemoryLemmas.{set_other, set_same}
+use Rattle.aj_state.proofs.MemoryLemmas.{set_same}
 use Rattle.aj_state.proofs.Numbering.{next_free}
 use Rattle.aj_steps.specs.Step.{Change, Move, Outcome, Moves, Absent, seen_by, turn, outcome, moved}
 use Rattle.aj_steps.specs.Run.{inside}

@@ -2,6 +2,7 @@
 use Rattle.std.proofs.Common.{◌≡◌, ℕ, zero, suc, ◌<◌, Bool, true, false, ◌==◌, List, [], ◌∷◌, length, map, slice_get, slice_set, Some, None, refl, sym, ap, subst, ◌∙◌, arith, inl, inr, ◌⊎◌}
 use Rattle.std.specs.Prelude.{Option}
 use Rattle.std.proofs.lemmas.Bool.{and_from, eq-eqb}
+use Rattle.aj_lemmas.proofs.Lists.{set_here}
 use Rattle.aj_paths.specs.Paths.{PathData}
 use Rattle.aj_algebra.specs.declared.basic.Basic.{Basic}
 use Rattle.aj_algebra.specs.declared.basic.Basic.TheVariants.{Const, Mover, Atomic, Cmpd, Error}
@@ -9,7 +10,7 @@ use Rattle.aj_algebra.specs.Basics.{below_of, join_of}
 use Rattle.aj_algebra.specs.HeldPaths.{Held, has_path}
 use Rattle.aj_core.specs.Core.{Program, Method}
 use Rattle.aj_rules.proofs.SetLemmas.{second}
-use Rattle.aj_fix.proofs.NoteLemmas.{set_at, set_here}
+use Rattle.aj_fix.proofs.NoteLemmas.{set_at}
 use Rattle.aj_callers.specs.Called.{method_calls, calls}
 use Rattle.aj_infer.specs.Tables.{chosen, table_of, assigned}
 use Rattle.aj_infer.specs.Cells.{at_parts, demands_of, demands_at, are_below, joined, table_falls, is_met_by, AreTables}

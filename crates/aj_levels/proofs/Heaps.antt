@@ -4,7 +4,7 @@ use Rattle.std.specs.Prelude.{Option, slice_get, slice_set, replicate, filter, c
 use Rattle.std.specs.List.{cons_option}
 use Rattle.std.proofs.lemmas.Bool.{eqb-true}
 use Rattle.std.proofs.lemmas.Option.{none-some, same_Some, slice_get_within}
-use Rattle.aj_lemmas.proofs.Lists.{get_left, at_either}
+use Rattle.aj_lemmas.proofs.Lists.{get_left, at_either, set_other}
 use Rattle.aj_lemmas.proofs.Options.{if_taken}
 use Rattle.aj_core.specs.declared.types.CoreType.{CoreType}
 use Rattle.aj_core.specs.declared.types.CoreType.TheVariants as type
@@ -17,7 +17,7 @@ use Rattle.aj_state.specs.declared.value.Value.TheVariants as value
 use Rattle.aj_state.specs.Values.{default_value, top, under, taken, dropped, address_eq}
 use Rattle.aj_state.specs.Memory.{Object, lists, field_value, with_value, new_value, left_after, new_values}
 use Rattle.aj_state.specs.States.{fields_of, new_object, new_slots}
-use Rattle.aj_state.proofs.MemoryLemmas.{lists_is, set_other, set_same}
+use Rattle.aj_state.proofs.MemoryLemmas.{lists_is, set_same}
 use Rattle.aj_steps.specs.Changes.{object_with}
 use Rattle.aj_steps.proofs.Changed.{same_address, other_number}
 use Rattle.aj_safe.proofs.FrameLemmas.{one_field}

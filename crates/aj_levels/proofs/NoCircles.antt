@@ -6,6 +6,7 @@ use Rattle.std.specs.FinMap.{get-empty}
 use Rattle.std.proofs.lemmas.Bool.Decides.{nat_tests}
 use Rattle.std.proofs.lemmas.Bool.{eqb-true, eqb-false, eq-eqb, ltb-true}
 use Rattle.std.proofs.lemmas.Option.{none-some, same_Some}
+use Rattle.aj_lemmas.proofs.Lists.{set_other}
 use Rattle.aj_paths.specs.Paths.{PathData}
 use Rattle.aj_algebra.specs.HeldPaths.{with_path}
 use Rattle.aj_core.specs.Core.{Program, Method}
@@ -21,7 +22,7 @@ use Rattle.aj_state.specs.Memory.{Object, Hold, IsNumbered, address_cmp}
 use Rattle.aj_state.specs.Work as W
 use Rattle.aj_state.specs.Work.{Action, Item, Act, Next, unfolded}
 use Rattle.aj_state.specs.States.{Frame, Thread, Ready, Running, Done, Faulted, State, initial}
-use Rattle.aj_state.proofs.MemoryLemmas.{set_other, set_same}
+use Rattle.aj_state.proofs.MemoryLemmas.{set_same}
 use Rattle.aj_state.proofs.Numbering.{next_free}
 use Rattle.aj_steps.specs.Step.{Change, Prints, Shared, Move, Moves, holds, seen_by, act, act_next, enter_first, turn, outcome, moved}
 use Rattle.aj_steps.specs.Changes.{objects_after, locks_after}

@@ -5,13 +5,14 @@ use Rattle.std.specs.FinMap as M
 use Rattle.std.specs.FinMap.{get-empty}
 use Rattle.std.proofs.lemmas.Bool.{eqb-true, eqb-false}
 use Rattle.std.proofs.lemmas.Option.{none-some, same_Some}
+use Rattle.aj_lemmas.proofs.Lists.{set_other}
 use Rattle.aj_core.specs.Core.{Program, Class, Method}
 use Rattle.aj_core.specs.Types.{field_types}
 use Rattle.aj_core.specs.Typed.{IsTyped}
 use Rattle.aj_state.specs.declared.value.Address.{Address}
 use Rattle.aj_state.specs.Memory.{Object, IsNumbered, address_cmp, field_value}
 use Rattle.aj_state.specs.States.{Thread, State, initial, main_address, new_object}
-use Rattle.aj_state.proofs.MemoryLemmas.{set_other, set_same, get-insert_same}
+use Rattle.aj_state.proofs.MemoryLemmas.{set_same, get-insert_same}
 use Rattle.aj_state.proofs.Numbering.{next_free}
 use Rattle.aj_steps.specs.Step.{Change, ObjectIs, Shared, Move, Moves, seen_by, turn, outcome, moved, step}
 use Rattle.aj_steps.specs.Changes.{objects_after}

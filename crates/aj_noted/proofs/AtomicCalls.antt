@@ -3,6 +3,7 @@ use Rattle.std.proofs.Common.{◌≡◌, ◌≢◌, ℕ, zero, suc, ◌==◌, Bo
 use Rattle.std.proofs.lemmas.Bool.Decides.{nat_tests}
 use Rattle.std.specs.Prelude.{Option, map, slice_get, slice_set, if◌then◌else◌}
 use Rattle.std.specs.List.{list_any}
+use Rattle.aj_lemmas.proofs.Lists.{set_other}
 use Rattle.aj_core.specs.Core.{Program, Class, Field, Method, Expr, Stmt}
 use Rattle.aj_state.specs.declared.value.Address.{Address}
 use Rattle.aj_state.specs.declared.value.Value.{Value}
@@ -12,7 +13,6 @@ use Rattle.aj_state.specs.Memory.{Hold}
 use Rattle.aj_state.specs.Work as W
 use Rattle.aj_state.specs.Work.{Action, Item, Next}
 use Rattle.aj_state.specs.States.{Frame, Thread, Ready, Running, Done, Faulted, State}
-use Rattle.aj_state.proofs.MemoryLemmas.{set_other}
 use Rattle.aj_steps.specs.Run.{is_annotated, is_inside_some, inside}
 use Rattle.aj_steps.specs.Step.{Shared, Change, Nothing, FieldIs, ObjectIs, LockIs, Prints, Starts, Move, Outcome, Moves, Absent, IsDone, HadFaulted, Waits, load, store, binary, and_then, or_else, choose, loop, get, get_value, put, put_value, new, call, call_on, enter, enter_some, dispatch, acquire, take, take_held, release, release_held, return_to, start, start_run, act, act_next, enter_first, turn, seen_by, outcome, moved, changed}
 use Rattle.aj_rewrite.proofs.Slides.{own_after}

@@ -4,10 +4,10 @@ use Rattle.std.specs.Prelude.{ℤ, nat_le, nat_lt, Option, length, take, replica
 use Rattle.std.proofs.lemmas.List.{replicate-append-replicate, take_all}
 use Rattle.std.proofs.lemmas.Bool.{leb-true, leb-false, ltb-true, ltb-false, eqb-true, eqb-false}
 use Rattle.std.proofs.lemmas.Option.{none-some, same_Some, slice_get_within}
+use Rattle.aj_lemmas.proofs.Lists.{set_other}
 use Rattle.aj_core.specs.Core.{Program}
 use Rattle.aj_state.specs.declared.value.Value.{Value}
 use Rattle.aj_state.specs.States.{Thread, State, initial}
-use Rattle.aj_state.proofs.MemoryLemmas.{set_other}
 use Rattle.aj_steps.specs.Step.{Change, Moves, Absent, IsDone, HadFaulted, Waits, outcome, step, state_after, has_result}
 use Rattle.aj_steps.specs.Run.{run, run_from, inside, is_inside_some, IsUninterrupted}
 use Rattle.aj_steps.proofs.RunLemmas.{run_from-append}

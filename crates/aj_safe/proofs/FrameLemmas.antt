@@ -4,6 +4,7 @@ use Rattle.std.specs.Prelude.{Option, slice_get, slice_set, unwrap_or, nat_lt, i
 use Rattle.std.proofs.lemmas.Bool.Decides.{nat_tests}
 use Rattle.std.proofs.lemmas.Bool.{eqb-true, and_parts}
 use Rattle.aj_lemmas.proofs.Options.{if_taken}
+use Rattle.aj_lemmas.proofs.Lists.{set_other}
 use Rattle.aj_core.specs.Core as core
 use Rattle.aj_core.specs.Core.{Program}
 use Rattle.aj_core.specs.Locks.{leads_on}
@@ -12,7 +13,7 @@ use Rattle.aj_state.specs.declared.value.Value.{Value}
 use Rattle.aj_state.specs.declared.value.Value.TheVariants as value
 use Rattle.aj_state.specs.Values.{address_eq}
 use Rattle.aj_state.specs.Memory.{Object, lists, field_value, with_value}
-use Rattle.aj_state.proofs.MemoryLemmas.{lists_is, set_other, set_same}
+use Rattle.aj_state.proofs.MemoryLemmas.{lists_is, set_same}
 use Rattle.aj_state.specs.Work as W
 use Rattle.aj_state.specs.Work.{Item, Ex, St, Act}
 use Rattle.aj_state.specs.States.{Frame}

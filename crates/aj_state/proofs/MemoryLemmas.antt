@@ -6,6 +6,7 @@ use Rattle.std.specs.FinMap.{get-insert}
 use Rattle.std.specs.Ordering.{eq_by_cmp}
 use Rattle.std.proofs.lemmas.Option.{none-some}
 use Rattle.std.proofs.lemmas.Bool.{eqb-true}
+use Rattle.aj_lemmas.proofs.Lists.{set_other}
 use Rattle.aj_core.specs.Core.{Program, Class, Field}
 use Rattle.aj_state.specs.declared.value.Address.{Address}
 use Rattle.aj_state.specs.declared.value.Value.{Value}
@@ -43,13 +44,6 @@ listed_is x (Some y) e = ap Some (eqb-true y x e)
 pub lists_is : (c : Option Class) (i x : ℕ) → lists c i x ≡ true → (class : Class) × (c ≡ Some class) × (slice_get class.fields i ≡ Some x)
 lists_is None i x e = absurd cc
 lists_is (Some class) i x e = (class, refl, listed_is x (slice_get class.fields i) e)
-
-pub set_other : {A : Type 0} (xs : List A) (i j : ℕ) (x : A) → j ≢ i → slice_get (slice_set xs i x) j ≡ slice_get xs j
-set_other [] i j x other = refl
-set_other (y ∷ ys) zero zero x other = absurd (other refl)
-set_other (y ∷ ys) zero (suc j) x other = refl
-set_other (y ∷ ys) (suc i) zero x other = refl
-set_other (y ∷ ys) (suc i) (suc j) x other = set_other ys i j x (λ e. other (ap suc e))
 
 pub set_same : {A : Type 0} (xs : List A) (i : ℕ) (x y : A) → slice_get xs i ≡ Some y → slice_get (slice_set xs i x) i ≡ Some x
 set_same [] i x y e = absurd (none-some y e)

@@ -5,5 +5,5 @@ use Rattle.aj_class_rules.proofs.check.note_classes.Goals as goal
 
 pub loop-number-preserved : goal.loop-number-preserved
 loop-number-preserved c =
-    classes_step (tree_of c.args.family.now) c.args.family.now.classes.now c.loop-number.number c.class-item.result c.loop-number.found c.in_ok-found.found _
+    classes_step (tree_of c.args.inheritance.now.family.now) c.args.inheritance.now.family.now.classes.now c.loop-number.number c.class-item.result c.loop-number.found c.in_ok-found.found _
     c.loop-number-test.true (sym c.class-item.is) c.loop-number.invariant c.in_ok-found.ensures

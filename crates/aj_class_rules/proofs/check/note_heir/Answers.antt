@@ -6,8 +6,8 @@ use Rattle.aj_class_rules.proofs.check.note_heir.Goals as goal
 
 pub returns : goal.returns
 returns c =
-    class_result (tree_of c.args.family.now) c.args.number (class_of c.args.class.now) (map member_of c.as_slice-members.result.now)
-    (members_along (tree_of c.args.family.now) c.as_slice-2.result.now) c.args.first c.in_ok-found.found c.note_others.result
+    class_result (tree_of c.args.inheritance.now.family.now) c.args.number (class_of c.args.class.now) (map member_of c.as_slice-members.result.now)
+    (members_along (tree_of c.args.inheritance.now.family.now) c.as_slice-2.result.now) c.args.first c.in_ok-found.found c.note_others.result
     (ap (map member_of) c.as_slice-members.ensures.value)
-    (ap (members_along (tree_of c.args.family.now)) (c.as_slice-2.ensures.value ∙ c.in_ok-order.ensures ∙ ap reverse (c.as_slice.ensures.value ∙ c.in_ok-line.ensures)))
+    (ap (members_along (tree_of c.args.inheritance.now.family.now)) (c.as_slice-2.ensures.value ∙ c.in_ok-order.ensures ∙ ap reverse (c.as_slice.ensures.value ∙ c.in_ok-line.ensures)))
     c.in_ok-found.ensures c.note_others.ensures
