@@ -3,8 +3,10 @@
 
 mod algebra;
 mod basic;
+mod held;
 mod laws;
 
 pub use algebra::Algebra;
 pub use basic::Basic;
+pub use held::has;
 pub use laws::basic_laws;

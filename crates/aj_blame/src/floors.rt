@@ -7,8 +7,8 @@ ghost use Rattle.aj_rules.specs.Search.{row_at};
 ghost use Rattle.aj_blame.specs.Lines.{LineData};
 ghost use Rattle.aj_blame.specs.Tables.{IsRaised, Says, consts, entry, raised};
 
-use aj_algebra::Basic;
-use aj_effect_at::{Assigned, has};
+use aj_algebra::{Basic, has};
+use aj_effect_at::Assigned;
 use aj_paths::{MethodId, Path};
 use aj_rules::RelevantSets;
 use std::alloc::{AllocError as NoMemory, Global};

@@ -3,7 +3,7 @@ ghost use Rattle.std.specs.Prelude.{◌≡◌, ◌≤◌, length, IfOk};
 ghost use Rattle.std.specs.List.{list_all};
 ghost use Rattle.aj_algebra.specs.HeldPaths.{has_path};
 
-use aj_effect_at::has;
+use aj_algebra::has;
 use aj_paths::{FieldId, Path};
 use arrayvec::ArrayVec;
 use std::alloc::{AllocError as NoMemory, Global};

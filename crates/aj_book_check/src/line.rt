@@ -29,7 +29,7 @@ use aj_cond::{Tree, Trees};
 use aj_core::CoreMethod;
 use aj_effects::BodyPart;
 use aj_paths::{MethodId, Path};
-use aj_rules::OverridingMethods;
+use aj_rules::{OverridingMethods, bound_of};
 use std::alloc::Global;
 use std::cell::Cell;
 
@@ -162,24 +162,13 @@ fn are_under_in(
     Ok(true)
 }
 
-/// The greatest basic that a method may have at its required locks.
-fn bound(annotated: bool) -> Basic
-    ensures { result ≡ declared_bound annotated }
-{
-    if annotated {
-        Basic::Atomic
-    } else {
-        Basic::Cmpd
-    }
-}
-
 /// Whether a method's tree at its required paths keeps the bound.
 fn is_bounded(t: &Tree, method: &CoreMethod) -> bool
     requires { IsCanonical (cond_of t.now) }
     ensures { result ≡ below_of (value_of (cond_of t.now) (has_path (method_of method.now).requires_)) (declared_bound (method_of method.now).annotated) }
 {
     let found = Trees.at(t, method.requires_.as_slice());
-    found.below(bound(method.annotated))
+    found.below(bound_of(method.annotated))
 }
 
 /// What is wrong with a method line beside its method first, if anything is: its tree, then its steps, then the trees of the

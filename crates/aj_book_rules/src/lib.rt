@@ -15,8 +15,8 @@ mod work;
 
 pub use accesses::access;
 pub use judge::Judge;
-pub use lookups::{assigned, conclusion, is_near, is_own_near, line_number, required, tree_at};
-pub use names::{call_name, holds, tests_either, tests_only, where_held, within};
+pub use lookups::{assigned, conclusion, is_near, is_own_near, line_number, tree_at};
+pub use names::{call_name, tests_either, tests_only, where_held, within};
 pub use parts::{part_word, same_length};
 pub use refusal::Refusal;
 pub use rules::{call, keeps_paths, paths, rule};

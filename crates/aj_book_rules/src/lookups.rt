@@ -2,12 +2,10 @@
 ghost use Rattle.std.specs.Prelude.{◌≡◌, IfErr, IfOk, MatchOption, None, Some, map, slice_get};
 ghost use Rattle.aj_algebra.specs.HeldPaths.{Held};
 ghost use Rattle.aj_cond.specs.Conditions.{cond_of, value_of, IsCanonical};
-ghost use Rattle.aj_rules.specs.Effect.{required_paths};
 ghost use Rattle.aj_book_rules.specs.declared.refusal.Refusal.{Refusal};
 ghost use Rattle.aj_book_rules.specs.Works.{IsUnbounded};
 ghost use Rattle.aj_book_rules.specs.Conclusions.{cond_at, tests_only as tests_only_of};
 ghost use Rattle.aj_book_rules.specs.Judges.{judge_near, judge_table, judge_value, judge_assignment, own_near, AreCanonical};
-ghost use Rattle.aj_core.specs.Views.{program_of};
 
 use crate::judge::Judge;
 use crate::names::{tests_either, tests_only};
@@ -16,8 +14,7 @@ use crate::values::{copied, leaf};
 use crate::work::Work;
 use aj_algebra::Basic;
 use aj_cond::Tree;
-use aj_core::CoreProgram;
-use aj_paths::{MethodId, Path};
+use aj_paths::MethodId;
 use std::alloc::Global;
 
 /// The tree with this number.
@@ -91,15 +88,5 @@ pub fn is_own_near(judge: &Judge<'_>, m: MethodId) -> bool
     match tree_at(judge.table, number) {
         Some(tree) => tests_only(judge.sets.rel(m), tree),
         None => true,
-    }
-}
-
-/// The required paths of a method; none where it isn't there.
-pub fn required(program: &CoreProgram, m: MethodId) -> &[Path]
-    ensures { result.now ≡ required_paths (slice_get (program_of program.now).methods m) }
-{
-    match program.methods().get(m.0 as usize) {
-        Some(method) => method.requires_.as_slice(),
-        None => &[],
     }
 }

@@ -16,7 +16,7 @@ ghost use Rattle.aj_book_rules.specs.Judges.{call_name as call_name_of, local_na
 use crate::refusal::Refusal;
 use crate::values::{held_or, leaf};
 use crate::work::Work;
-use aj_algebra::Basic;
+use aj_algebra::{Basic, has};
 use aj_cond::Tree;
 use aj_core::{CoreProgram, CoreStmt, path_of};
 use aj_paths::{Path, extend, under_call};
@@ -85,18 +85,11 @@ pub(crate) fn before(
     before_local(alloc, work, *slot, path.as_ref(), &rest)
 }
 
-/// Whether the list has the path.
-pub fn holds(paths: &[Path], path: &Path) -> bool
-    ensures { result ≡ has_path paths.now path.now }
-{
-    paths.iter().any(|other| other.same(path))
-}
-
 /// Whether one of the lists has the path.
 fn holds_either(paths: &[Path], others: &[Path], path: &Path) -> bool
     ensures { result ≡ has_path (paths.now ++ others.now) path.now }
 {
-    holds(paths, path) || holds(others, path)
+    has(paths, path) || has(others, path)
 }
 
 /// Whether each test of a tree is on one of these paths.
@@ -106,7 +99,7 @@ pub fn tests_only(paths: &[Path], t: &Tree) -> bool
     match t {
         Tree::Leaf(_) => true,
         Tree::Test(path, a, b) => {
-            holds(paths, path) && (tests_only(paths, a) && tests_only(paths, b))
+            has(paths, path) && (tests_only(paths, a) && tests_only(paths, b))
         }
     }
 }
@@ -128,7 +121,7 @@ pub fn tests_either(paths: &[Path], others: &[Path], t: &Tree) -> bool
 fn own_name(paths: &[Path], path: &Path) -> Option<Path>
     ensures { result ≡ own_name_of paths.now path.now }
 {
-    if holds(paths, path) {
+    if has(paths, path) {
         Some(path.copy())
     } else {
         None
@@ -172,7 +165,7 @@ pub fn call_name(
 ) -> Option<Path>
     ensures { result ≡ call_name_of rel.now (option_copied receiver.entry) args.now path.now }
 {
-    if holds(rel, path) {
+    if has(rel, path) {
         under_call(path, receiver, args)
     } else {
         None

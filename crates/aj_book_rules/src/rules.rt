@@ -1,5 +1,5 @@
 //! The rules on trees: the value of a node from the numbers of its premises' conclusions.
-ghost use Rattle.std.specs.Prelude.{◌≡◌, ◌==◌, ◌&&◌, ℕ, true, IfErr, IfOk, map, slice_get};
+ghost use Rattle.std.specs.Prelude.{◌≡◌, ◌==◌, ◌&&◌, ℕ, true, IfErr, IfOk, map};
 ghost use Rattle.std.specs.List.{list_any};
 ghost use Rattle.std.specs.Option.{option_copied};
 ghost use Rattle.aj_algebra.specs.declared.basic.Basic.TheVariants.{Const};
@@ -8,7 +8,7 @@ ghost use Rattle.aj_algebra.specs.HeldPaths.{Held};
 ghost use Rattle.aj_cond.specs.Conditions.{cond_of, value_of, IsCanonical};
 ghost use Rattle.aj_core.specs.Locks.{path_of};
 ghost use Rattle.aj_core.specs.Views.{expr_of, exprs_from, program_of, stmt_of, stmts_from};
-ghost use Rattle.aj_rules.specs.Effect.{after_stmt, call_of, required_paths};
+ghost use Rattle.aj_rules.specs.Effect.{after_stmt, call_of};
 ghost use Rattle.aj_rules.specs.Mentions.{paths_of};
 ghost use Rattle.aj_rules.specs.Near.{rel_of};
 ghost use Rattle.aj_book_rules.specs.Judges.{judge_assignment, judge_program, judge_rel, judge_table, judge_value, AreCanonical};
@@ -21,7 +21,7 @@ ghost use Rattle.aj_effects.specs.Bodies.{part_of};
 
 use crate::charged::Charged;
 use crate::judge::Judge;
-use crate::lookups::{assigned, conclusion, required};
+use crate::lookups::{assigned, conclusion};
 use crate::names::{at_call, before, with_required};
 use crate::refusal::Refusal;
 use crate::values::seq;
@@ -31,6 +31,7 @@ use aj_cond::Tree;
 use aj_core::{CoreExpr, CoreProgram, CoreStmt, path_of};
 use aj_effects::BodyPart;
 use aj_paths::{MethodId, Path};
+use aj_rules::required_of;
 use std::alloc::{AllocError as NoMemory, Global};
 
 /// How many numbers are noted at most.
@@ -93,7 +94,7 @@ fn call_by_paths(
         rel,
         receiver,
         args,
-        required(judge.program, callee),
+        required_of(judge.program, callee),
         value,
     )
 }

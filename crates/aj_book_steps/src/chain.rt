@@ -20,11 +20,12 @@ ghost use Rattle.aj_effects.specs.Bodies.{part_of};
 
 use crate::pairs::all_keep_paths;
 use aj_algebra::Basic;
-use aj_book_rules::{Judge, call_name, line_number, paths, required, tree_at};
+use aj_book_rules::{Judge, call_name, line_number, paths, tree_at};
 use aj_cond::Tree;
 use aj_core::{CoreExpr, CoreProgram, CoreStmt, path_of};
 use aj_effects::{BodyPart, Branching, access_value};
 use aj_paths::{FieldId, MethodId, Path};
+use aj_rules::required_of;
 use std::alloc::Global;
 
 /// Whether a tree is an error at every set.
@@ -177,7 +178,13 @@ fn call_by_paths(
         call_of (judge_program judge.now) (judge_rel judge.now) (judge_assignment judge.now) callee (option_copied receiver.entry) args.now H ≡ b) }
 {
     let rel = judge.sets.rel(callee);
-    if !has_required(chain, rel, receiver, args, required(judge.program, callee)) {
+    if !has_required(
+        chain,
+        rel,
+        receiver,
+        args,
+        required_of(judge.program, callee),
+    ) {
         return None;
     }
     let number = line_number(judge.lines, callee)?;

@@ -8,7 +8,7 @@ ghost use Rattle.aj_cond.specs.Operations.{node, each_leaf, both_leaves, sync_tr
 ghost use Rattle.aj_cond.specs.Calls.{single_of, pair_of};
 
 use crate::tree::{Tree, same_tree};
-use aj_algebra::Basic;
+use aj_algebra::{Basic, has};
 use aj_paths::{Path, order};
 use std::alloc::{AllocError as NoMemory, Global};
 use std::cmp::Ordering;
@@ -221,13 +221,6 @@ pub(crate) fn below_in(t: &Tree, u: &Tree) -> bool
     }
 }
 
-/// Whether the list has the path.
-fn holds(held: &[Path], p: &Path) -> bool
-    ensures { result ≡ has_path held.now p.now }
-{
-    held.iter().any(|q| q.same(p))
-}
-
 /// The basic at the set of these paths.
 pub(crate) fn at_in(t: &Tree, held: &[Path]) -> Basic
     ensures { result ≡ value_of (cond_of t.now) (has_path held.now) }
@@ -235,7 +228,7 @@ pub(crate) fn at_in(t: &Tree, held: &[Path]) -> Basic
     match t {
         Tree::Leaf(x) => *x,
         Tree::Test(p, a, b) => {
-            if holds(held, p) {
+            if has(held, p) {
                 return at_in(a, held);
             }
             at_in(b, held)

@@ -8,8 +8,7 @@ ghost use Rattle.aj_nodes.specs.Shown.{IsThere, node_value};
 ghost use Rattle.aj_book_rules.specs.Judges.{named_set};
 ghost use Rattle.aj_derive.specs.Named.{Keeping, name_under};
 
-use aj_algebra::{Algebra, Basic};
-use aj_book_rules::holds;
+use aj_algebra::{Algebra, Basic, has};
 use aj_cond::Tree;
 use aj_nodes::{Node, NodeTable};
 use aj_paths::{Path, extend, under_call};
@@ -38,7 +37,7 @@ fn name_of(names: &Names<'_>, path: &Path) -> Option<Path>
             }
         }
         Names::At(rel, receiver, args) => {
-            if holds(rel, path) {
+            if has(rel, path) {
                 under_call(path, receiver, args)
             } else {
                 None

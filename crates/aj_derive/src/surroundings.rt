@@ -15,11 +15,12 @@ ghost use Rattle.aj_derive.specs.Named.{Keeping, name_under};
 use crate::basis::Basis;
 use crate::names::{Names, named, with_required};
 use aj_algebra::Basic;
-use aj_book_rules::{paths, required};
+use aj_book_rules::paths;
 use aj_core::{CoreExpr, CoreProgram, CoreStmt, path_of};
 use aj_effects::Context;
 use aj_nodes::{Node, NodeTable};
 use aj_paths::{MethodId, Path};
+use aj_rules::required_of;
 use std::alloc::{AllocError as NoMemory, Global};
 
 /// What is assigned to a method, under these names; const where it isn't there.
@@ -57,7 +58,13 @@ fn call_by_paths(
 {
     let names = Names::At(basis.sets.rel(callee), receiver, args);
     let value = assigned(alloc, basis, table, &names, callee)?;
-    with_required(alloc, table, &names, required(basis.program, callee), value)
+    with_required(
+        alloc,
+        table,
+        &names,
+        required_of(basis.program, callee),
+        value,
+    )
 }
 
 /// The last part of a call.

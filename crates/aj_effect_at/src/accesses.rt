@@ -5,8 +5,7 @@ ghost use Rattle.aj_core.specs.Locks.{path_of};
 ghost use Rattle.aj_core.specs.Views.{expr_of, program_of};
 ghost use Rattle.aj_rules.specs.Effect.{access_of, variable_effect};
 
-use crate::lists::has;
-use aj_algebra::Basic;
+use aj_algebra::{Basic, has};
 use aj_core::{CoreExpr, CoreProgram};
 use aj_paths::{FieldId, Path};
 use aj_rules::{Guard, guard_at};

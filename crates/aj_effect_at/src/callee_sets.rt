@@ -9,7 +9,7 @@ ghost use Rattle.aj_rules.specs.Near.{rel_of};
 ghost use Rattle.aj_rules.specs.Rules.{held_in};
 ghost use Rattle.aj_effect_at.specs.HeldLists.{held_pairs};
 
-use crate::lists::has;
+use aj_algebra::has;
 use aj_core::{CoreExpr, CoreProgram};
 use aj_paths::{MethodId, Path, Renaming};
 use aj_rules::{RelevantSets, renaming_at};

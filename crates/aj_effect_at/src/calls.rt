@@ -1,9 +1,9 @@
 //! The last part of a call.
-ghost use Rattle.std.specs.Prelude.{◌≡◌, IfOk, slice_get};
+ghost use Rattle.std.specs.Prelude.{◌≡◌, IfOk};
 ghost use Rattle.aj_algebra.specs.HeldPaths.{has_path};
 ghost use Rattle.aj_core.specs.Locks.{path_of};
 ghost use Rattle.aj_core.specs.Views.{expr_of, exprs_from, program_of};
-ghost use Rattle.aj_rules.specs.Effect.{call_of, required_paths};
+ghost use Rattle.aj_rules.specs.Effect.{call_of};
 ghost use Rattle.aj_rules.specs.Mentions.{paths_of};
 ghost use Rattle.aj_rules.specs.Near.{rel_of};
 
@@ -13,18 +13,8 @@ use crate::lists::has_all;
 use aj_algebra::Basic;
 use aj_core::{CoreExpr, CoreProgram};
 use aj_paths::{MethodId, Path};
-use aj_rules::RelevantSets;
+use aj_rules::{RelevantSets, required_of};
 use std::alloc::{AllocError as NoMemory, Global};
-
-/// The required paths of a method; none where it isn't there.
-fn required_paths(program: &CoreProgram, method: MethodId) -> &[Path]
-    ensures { result.now ≡ required_paths (slice_get (program_of program.now).methods method) }
-{
-    match program.methods().get(method.0 as usize) {
-        Some(method) => method.requires_.as_slice(),
-        None => &[],
-    }
-}
 
 /// What is assigned to a callee at the set with which a call begins it, an error where that lacks a required path.
 pub fn call_effect<A: Assigned>(
@@ -42,7 +32,7 @@ pub fn call_effect<A: Assigned>(
         b ≡ call_of P (rel_of sets.now) (A.Assigned.assigned assigned.now) callee (path_of P (expr_of receiver.now)) (paths_of P (exprs_from args.now)) (has_path held.now)) }
 {
     let known = held_under(alloc, program, sets, receiver, callee, args, held)?;
-    if has_all(known.as_slice(), required_paths(program, callee)) {
+    if has_all(known.as_slice(), required_of(program, callee)) {
         Ok(assigned.at(callee, known.as_slice()))
     } else {
         Ok(Basic::Error)

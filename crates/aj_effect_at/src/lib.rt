@@ -14,6 +14,6 @@ pub use accesses::{access, variable};
 pub use assigned::Assigned;
 pub use callee_sets::{among, held_under};
 pub use calls::call_effect;
-pub use lists::{copied, has, has_all, with_path};
+pub use lists::{copied, has_all, with_path};
 pub use locals::{after, local_name};
 pub use walk::{expr_effect, stmt_effect};

@@ -3,20 +3,9 @@ ghost use Rattle.std.specs.Prelude.{◌≡◌, ◌∷◌, IfOk};
 ghost use Rattle.std.specs.List.{list_all};
 ghost use Rattle.aj_algebra.specs.HeldPaths.{has_path};
 
+use aj_algebra::has;
 use aj_paths::Path;
 use std::alloc::{AllocError as NoMemory, Global};
-
-/// Whether a path is held.
-pub fn has(held: &[Path], path: &Path) -> bool
-    ensures { result ≡ has_path held.now path.now }
-{
-    for p in held {
-        if p.same(path) {
-            return true;
-        }
-    }
-    false
-}
 
 /// Whether each of these paths is held.
 pub fn has_all(held: &[Path], paths: &[Path]) -> bool

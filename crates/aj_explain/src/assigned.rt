@@ -4,9 +4,9 @@ ghost use Rattle.std.specs.Prelude.{◌≡◌};
 ghost use Rattle.aj_algebra.specs.HeldPaths.{has_path};
 ghost use Rattle.aj_cond.specs.Conditions.{cond_of, value_of};
 
-use aj_algebra::Basic;
+use aj_algebra::{Basic, has};
 use aj_cond::Tree;
-use aj_effect_at::{Assigned, has};
+use aj_effect_at::Assigned;
 use aj_paths::{MethodId, Path};
 
 /// A tree for each method, which shows what is assigned to it.

@@ -15,11 +15,11 @@ ghost use Rattle.aj_explain.specs.Views.{part_of};
 use crate::found::CorePart;
 use crate::names::{Alias, Lack, lack_of, name_at_call, passed_expr, second_name};
 use crate::walk::Walk;
-use aj_book_rules::required;
+use aj_algebra::has;
 use aj_core::{CoreExpr, CoreProgram, CoreStmt, path_of};
-use aj_effect_at::{has, held_under};
+use aj_effect_at::held_under;
 use aj_paths::{FieldId, MethodId, Path};
-use aj_rules::{Guard, guard_at};
+use aj_rules::{Guard, guard_at, required_of};
 use std::alloc::AllocError as NoMemory;
 
 /// What is wrong with a part that is an error by itself.
@@ -178,7 +178,7 @@ fn call_cause<A>(
         args,
         held,
     )?;
-    let paths = required(walk.program, callee);
+    let paths = required_of(walk.program, callee);
     let path = first_lacking(paths, known.as_slice());
     let call = Call {
         receiver,

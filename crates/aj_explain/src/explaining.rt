@@ -17,10 +17,10 @@ ghost use Rattle.aj_explain.specs.Views.{errors_in, part_of, visit_of, visits_of
 use crate::found::{CorePart, Found, Visited};
 use crate::walk::{Walk, walk_stmt};
 use aj_algebra::Basic;
-use aj_book_rules::required;
 use aj_core::{CoreExpr, CoreMethod, CoreStmt};
 use aj_effect_at::{Assigned, among, call_effect, has_all, held_under};
 use aj_paths::{MethodId, Path};
+use aj_rules::required_of;
 use std::alloc::{AllocError as NoMemory, Global};
 
 /// Why a method is more than it may be.
@@ -73,7 +73,7 @@ fn is_own_expr<A: Assigned>(
                 args.as_slice(),
                 held,
             )?;
-            Ok(!has_all(known.as_slice(), required(walk.program, *callee)))
+            Ok(!has_all(known.as_slice(), required_of(walk.program, *callee)))
         }
         _ => Ok(true),
     }

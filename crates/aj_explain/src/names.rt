@@ -12,8 +12,9 @@ ghost use Rattle.aj_paths.specs.Paths.{path_order};
 ghost use Rattle.aj_explain.specs.Causes.{ArePaths};
 ghost use Rattle.aj_explain.specs.Names.{aliases_after, aliases_after_each, lack_of, meant, names_from, passed_expr, second_name, through, with_alias};
 
+use aj_algebra::has;
 use aj_core::{CoreExpr, CoreProgram, CoreStmt, CoreType, path_of};
-use aj_effect_at::{has, local_name};
+use aj_effect_at::local_name;
 use aj_paths::{FieldId, Path, extend};
 use std::alloc::{AllocError as NoMemory, Global};
 use std::collections::BTreeSet;

@@ -5,7 +5,6 @@ ghost use Rattle.std.specs.Option.{option_copied};
 ghost use Rattle.aj_core.specs.Core.{Method};
 ghost use Rattle.aj_core.specs.Views.{method_of, program_of};
 ghost use Rattle.aj_rules.specs.Near.{rel_of};
-ghost use Rattle.aj_rules.specs.Rules.{declared_bound};
 ghost use Rattle.aj_rules.specs.Search.{row_at};
 ghost use Rattle.aj_explain.specs.Programs.{called_by, explained, explanations, explanations_from, keeps, led, led_to, marked, methods_of, IsNext};
 ghost use Rattle.aj_explain.specs.Views.{explained_data, part_of, why_data};
@@ -17,7 +16,7 @@ use aj_algebra::Basic;
 use aj_core::{CoreExpr, CoreMethod, CoreProgram};
 use aj_effect_at::Assigned;
 use aj_paths::MethodId;
-use aj_rules::OverridingMethods;
+use aj_rules::{OverridingMethods, bound_of};
 use std::alloc::AllocError as NoMemory;
 
 /// A method with the greatest basic that it may have, what it has at its required paths, and why that is more. `is_refused` is false of
@@ -29,17 +28,6 @@ pub struct Explained<'p> {
     pub limit: Basic,
     pub found: Basic,
     pub why: Why<'p>,
-}
-
-/// The greatest basic that a method may have at its required paths.
-fn bound(annotated: bool) -> Basic
-    ensures { result ≡ declared_bound annotated }
-{
-    if annotated {
-        Basic::Atomic
-    } else {
-        Basic::Cmpd
-    }
 }
 
 /// The method that a part calls, where it is a call.
@@ -91,7 +79,7 @@ fn keeps<A: Assigned>(walk: &Walk<'_, A>, id: MethodId, method: &CoreMethod) -> 
     ensures { result ≡ keeps (A.Assigned.assigned walk.now.assigned.now) id (method_of method.now) }
 {
     let found = walk.assigned.at(id, method.requires_.as_slice());
-    found.below(bound(method.annotated))
+    found.below(bound_of(method.annotated))
 }
 
 /// Whether a method is told already; one that isn't there counts as told.
@@ -188,7 +176,7 @@ fn add_refused<'p, A: Assigned>(
     if keeps(walk, id, method) {
         return Ok(());
     }
-    let limit = bound(method.annotated);
+    let limit = bound_of(method.annotated);
     let x = explain_method(walk, over, id, method, true, limit)?;
     let next = led_to(&x.why);
     all.push(x)?;

@@ -12,9 +12,9 @@ ghost use Rattle.aj_explain.specs.Views.{part_of, visits_of};
 ghost use Rattle.aj_explain.specs.Walked.{InsideExpr, InsideStmt, WalkedBlock, WalkedBranches, WalkedExpr, WalkedExprs, WalkedStmt, next};
 
 use crate::found::{CorePart, Found, Reached};
-use aj_algebra::Basic;
+use aj_algebra::{Basic, has};
 use aj_core::{CoreExpr, CoreProgram, CoreStmt};
-use aj_effect_at::{Assigned, access, after, call_effect, copied, has, variable, with_path};
+use aj_effect_at::{Assigned, access, after, call_effect, copied, variable, with_path};
 use aj_paths::Path;
 use aj_rules::RelevantSets;
 use std::alloc::{AllocError as NoMemory, Global};

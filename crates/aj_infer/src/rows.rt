@@ -3,9 +3,8 @@ ghost use Rattle.std.specs.Prelude.{◌≡◌, ◌≤◌, ◌++◌, length, drop
 ghost use Rattle.aj_algebra.specs.HeldPaths.{has_path};
 ghost use Rattle.aj_infer.specs.Cells.{at_parts, below_some, are_below, join_some, joined};
 
-use aj_algebra::{Algebra, Basic};
+use aj_algebra::{Algebra, Basic, has};
 use aj_paths::Path;
-use aj_rules::has;
 use std::alloc::{AllocError as NoMemory, Global};
 
 /// Adds once more what stands from a place on.

@@ -9,8 +9,9 @@ ghost use Rattle.aj_level_search.specs.Told.{told_bad, told_of, stmt_told, block
 use crate::expressions::{walk_expr, walk_two};
 use crate::told::Seen;
 use crate::walk::{Carried, Walk, level_of, lock_class};
+use aj_algebra::has;
 use aj_core::CoreStmt;
-use aj_effect_at::{after, copied, has, with_path};
+use aj_effect_at::{after, copied, with_path};
 use aj_paths::{ClassId, Path};
 use std::alloc::{AllocError as NoMemory, Global};
 

@@ -7,7 +7,7 @@ ghost use Rattle.aj_nodes.specs.Nodes.{tree_at, IsTable};
 ghost use Rattle.aj_nodes.specs.Halving.{IsSplit};
 
 use crate::rows::{Item, Rows};
-use aj_algebra::Basic;
+use aj_algebra::{Basic, has};
 use aj_cond::Tree;
 use aj_paths::{Path, order};
 use std::alloc::{AllocError as NoMemory, Global};
@@ -19,13 +19,6 @@ use std::cmp::Ordering;
 pub enum Split {
     Leaves(Basic, Basic),
     Tests(Path, usize, usize, usize, usize),
-}
-
-/// Whether the list has the path.
-fn holds(held: &[Path], p: &Path) -> bool
-    ensures { result ≡ has_path held.now p.now }
-{
-    held.iter().any(|q| q.same(p))
 }
 
 impl Rows {
@@ -68,7 +61,7 @@ impl Rows {
         match self.item(n) {
             Item::Leaf(b) => b,
             Item::Test(p, a, b) => {
-                if holds(held, &p) {
+                if has(held, &p) {
                     return self.at(a, held);
                 }
                 self.at(b, held)

@@ -18,7 +18,7 @@ pub use laws::{
     closed_above_larger_sets, greater_assignments_rise, more_held_paths_fall,
     only_near_paths_count, relevant_sets_are_unique, well_formed_methods_have_few,
 };
-pub use lookups::{bound_of, has, required_of};
+pub use lookups::{bound_of, required_of};
 pub use overriding::{OverridingMethods, overriders};
 pub use relevance::{RuleEnd, relevant};
 pub use renaming::renaming_at;

@@ -1,20 +1,12 @@
 //! What the rules ask of a method and of a list of paths.
 ghost use Rattle.std.specs.Prelude.{◌≡◌, slice_get};
 ghost use Rattle.aj_core.specs.Views.{program_of};
-ghost use Rattle.aj_algebra.specs.HeldPaths.{has_path};
 ghost use Rattle.aj_rules.specs.Effect.{required_paths};
 ghost use Rattle.aj_rules.specs.Rules.{declared_bound};
 
 use aj_algebra::Basic;
 use aj_core::CoreProgram;
 use aj_paths::{MethodId, Path};
-
-/// Whether the list has the path.
-pub fn has(paths: &[Path], path: &Path) -> bool
-    ensures { result ≡ has_path paths.now path.now }
-{
-    paths.iter().any(|other| other.same(path))
-}
 
 /// The paths that a method requires; none where there is no such method.
 pub fn required_of(program: &CoreProgram, method: MethodId) -> &[Path]

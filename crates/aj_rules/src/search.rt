@@ -12,7 +12,7 @@ ghost use Rattle.aj_rules.specs.declared.clauses.Clause.TheVariants as Clause;
 ghost use Rattle.aj_rules.specs.Search.{row_at, rows_of, with_link, LeadsTo, IsLed, AreLinks, Agree, Grows, HasFacts, IsLeastFamily};
 
 use crate::clauses::{Clause, Link, NearPath, Way};
-use crate::lookups::has;
+use aj_algebra::has;
 use aj_core::CoreProgram;
 use aj_paths::{ClassId, FieldId, MethodId, Path, extend};
 use std::alloc::{AllocError as NoMemory, Global};

@@ -19,5 +19,5 @@ returns-in_ok-known-in-Call g c =
     let known : has_path c.as_slice-in-Call.result.now ≡ held_under (rel m) (path_of P (expr_of c.in-Call.receiver.value)) (paths_of P (exprs_from c.in-Call.args.items)) H =
     ap has_path c.as_slice-in-Call.ensures.value ∙ c.in_ok-known-in-Call.ensures
     ∙ (λ i. held_under (rel m) (path_of P (expr_of (c.deref.ensures i))) (paths_of P (exprs_from (c.as_slice.ensures.value i))) H) in
-    ap not (c.has_all.ensures ∙ (λ i. list_all (known i) (c.required.ensures i)))
+    ap not (c.has_all.ensures ∙ (λ i. list_all (known i) (c.required_of.ensures i)))
     ∙ ap (λ z. is_own P rel (ExprP z) H) (sym (ap expr_of c.in-Call.is ∙ expr_of-Call c.in-Call.receiver c.in-Call.callee c.in-Call.args))

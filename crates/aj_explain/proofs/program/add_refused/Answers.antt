@@ -16,5 +16,5 @@ returns g c =
     let method = method_of c.args.method.now in
     refused_told P rel A overs c.follow.result c.args.told.now.items c.follow.new.told.items c.args.all.now.items c.push.new.self.items c.follow.new.all.items c.args.id method c.in_ok-x.x c.led_to-next.result
     (length c.methods.result.now) (sym c.keeps.ensures ∙ c.if-keeps.false)
-    (c.in_ok-x.ensures ∙ ap (λ b. explained P rel A overs true b c.args.id method) c.bound-limit.ensures) c.led_to-next.ensures
+    (c.in_ok-x.ensures ∙ ap (λ b. explained P rel A overs true b c.args.id method) c.bound_of-limit.ensures) c.led_to-next.ensures
     (sym (length-map c.methods.result.now method_of) ∙ ap length c.methods.ensures) c.in_ok-push.ensures.items c.follow.ensures.all c.follow.ensures.told
