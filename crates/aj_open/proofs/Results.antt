@@ -17,7 +17,7 @@ use Rattle.aj_noted.specs.Made.{HaveRun}
 use Rattle.aj_noted.proofs.Endings.{runs_not_stops, stops_once}
 use Rattle.aj_open.specs.declared.open_end.OpenEnd.{OpenEnd}
 use Rattle.aj_open.specs.declared.open_end.OpenEnd.TheVariants as ends
-use Rattle.aj_open.specs.Opened.{IsOpened, IsRefused}
+use Rattle.aj_open.specs.Opened.{IsOpened, IsOpening, IsRefused}
 use Rattle.aj_open.specs.OpenOrder.{open_units, open_order}
 use Rattle.aj_open.specs.Whole.{IsGathered}
 use Rattle.aj_open.proofs.Gathered.{gathered, closed_order}
@@ -37,12 +37,29 @@ finished P typed accepted s m steps calls is done r ordered =
     }
 
 module _ (P : Program) (s : List ℕ) {T : Type 0} (items : T → List ℕ) where
-  pub opens : (result : Result T OpenEnd) (q : State) → run P s ≡ Some q → IfOk result (λ r. IsOpened P s (items r)) → IfErr result (IsRefused P s) → MatchResult result (λ r. IsOpened P s (items r)) (λ e. e ≡ ends.NoMemory)
+  opens : (result : Result T OpenEnd) (q : State) → run P s ≡ Some q → IfOk result (λ r. IsOpened P s (items r)) → IfErr result (IsRefused P s) → MatchResult result (λ r. IsOpened P s (items r)) (λ e. e ≡ ends.NoMemory)
   opens (Ok r) q ran good refused = good
   opens (Err (ends.Stopped stopped)) q ran good refused = absurd (runs_not_stops P s q stopped ran refused)
   opens (Err ends.NoMemory) q ran good refused = refl
 
-  pub stops : (result : Result T OpenEnd) (stopped : Stopped) → IsStopped P (initial P) s stopped → IfOk result (λ r. IsOpened P s (items r)) → IfErr result (IsRefused P s) → MatchResult result (λ _. ⊥) (λ e. (e ≡ ends.Stopped stopped) ⊎ (e ≡ ends.NoMemory))
+  stops : (result : Result T OpenEnd) (stopped : Stopped) → IsStopped P (initial P) s stopped → IfOk result (λ r. IsOpened P s (items r)) → IfErr result (IsRefused P s) → MatchResult result (λ _. ⊥) (λ e. (e ≡ ends.Stopped stopped) ⊎ (e ≡ ends.NoMemory))
   stops (Ok r) stopped is good refused = runs_not_stops P s good.end stopped good.ran is
   stops (Err (ends.Stopped other)) stopped is good refused = inl (ap ends.Stopped (stops_once P s other stopped refused is))
   stops (Err ends.NoMemory) stopped is good refused = inr refl
+
+  pub opening : (result : Result T OpenEnd) → IfOk result (λ r. IsOpened P s (items r)) → IfErr result (IsRefused P s) → IsOpening P s result items
+  opening result good refused = record {
+    opened = good;
+    refused = refused;
+    opens = λ q ran. opens result q ran good refused;
+    stops = λ stopped is. stops result stopped is good refused;
+  }
+
+  -- the order alone of an answer, and a refusal of any answer
+  pub order_alone : {U : Type 0} (others : U → List ℕ) (r : T) (o : U) → others o ≡ items r → IsOpening P s (Ok r) items → IsOpening P s (Ok o) others
+  order_alone others r o same told =
+      let good = subst (IsOpened P s) (sym same) told.opened in
+      record { opened = good; refused = told.refused; opens = λ q ran. good; stops = told.stops }
+
+  pub refused_alone : {U : Type 0} (others : U → List ℕ) (e : OpenEnd) → IsOpening P s (Err e) items → IsOpening P s (Err e) others
+  refused_alone others e told = record { opened = told.opened; refused = told.refused; opens = told.opens; stops = told.stops }

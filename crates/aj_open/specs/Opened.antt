@@ -1,9 +1,10 @@
 -- What comes of a schedule: it is put in its open order, or it stops.
-use Rattle.std.specs.Prelude.{◌≡◌, ℕ, List, Some, None}
+use Rattle.std.specs.Prelude.{◌≡◌, ◌⊎◌, ℕ, List, Some, None, Result, IfOk, IfErr, MatchResult}
 use Rattle.aj_core.specs.Core.{Program}
 use Rattle.aj_state.specs.States.{State, initial}
 use Rattle.aj_steps.specs.Run.{run, open_thread}
 use Rattle.aj_steps.specs.Units.{written_order}
+use Rattle.aj_machine.specs.declared.machine.Stopped.{Stopped}
 use Rattle.aj_machine.specs.Standing.{IsStopped}
 use Rattle.aj_open.specs.declared.open_end.OpenEnd.{OpenEnd}
 use Rattle.aj_open.specs.declared.open_end.OpenEnd.TheVariants as ends
@@ -23,3 +24,12 @@ pub record IsOpened (P : Program) (s r : List ℕ) : Type 0 where
 abbrev pub IsRefused : Program → List ℕ → OpenEnd → Type 0
 IsRefused P s (ends.Stopped stopped) = IsStopped P (initial P) s stopped
 IsRefused P s ends.NoMemory = Unit {0}
+
+-- What comes of a schedule that is to be put in its open order, where `order` tells the schedule that an answer has: an answer has
+-- the open order, and each refusal its reason. A schedule that runs is put in its open order, and one that stops is refused where
+-- it stops, each time unless memory was wanting.
+pub record IsOpening {T : Type 0} (P : Program) (s : List ℕ) (result : Result T OpenEnd) (order : T → List ℕ) : Type 0 where
+  pub opened : IfOk result (λ r. IsOpened P s (order r))
+  pub refused : IfErr result (IsRefused P s)
+  pub opens : (q : State) → run P s ≡ Some q → MatchResult result (λ r. IsOpened P s (order r)) (λ e. e ≡ ends.NoMemory)
+  pub stops : (stopped : Stopped) → IsStopped P (initial P) s stopped → MatchResult result (λ _. ⊥) (λ e. (e ≡ ends.Stopped stopped) ⊎ (e ≡ ends.NoMemory))

@@ -1,16 +1,14 @@
 //! Putting a schedule in its open order.
-ghost use Rattle.std.specs.Prelude.{◌≡◌, ◌⊎◌, ◌≤◌, ℕ, length, Some, IfOk, IfErr, MatchResult};
+ghost use Rattle.std.specs.Prelude.{◌≡◌, ◌≤◌, ℕ, length, Some, IfOk, IfErr};
 ghost use Rattle.aj_core.specs.Views.{program_of};
 ghost use Rattle.aj_core.specs.Typed.{IsTyped};
 ghost use Rattle.aj_rules.specs.Rules.{IsAccepted};
 ghost use Rattle.aj_state.specs.States.{State, initial};
 ghost use Rattle.aj_compile.specs.IsCode.{IsCodeOf};
 ghost use Rattle.aj_steps.specs.Run.{run};
-ghost use Rattle.aj_machine.specs.declared.machine.Stopped.{Stopped};
-ghost use Rattle.aj_machine.specs.Standing.{program_run, StandsFor, IsStopped};
+ghost use Rattle.aj_machine.specs.Standing.{program_run, StandsFor};
 ghost use Rattle.aj_noted.specs.Made.{HaveRun};
-ghost use Rattle.aj_open.specs.declared.open_end.OpenEnd.TheVariants as ends;
-ghost use Rattle.aj_open.specs.Opened.{IsOpened, IsRefused};
+ghost use Rattle.aj_open.specs.Opened.{IsOpened, IsOpening, IsRefused};
 
 use crate::open_end::{OpenEnd, end_of};
 use crate::spreading::in_open_order;
@@ -81,14 +79,9 @@ pub fn opened_with_machine<'p>(
     requires typed { IsTyped (program_of program.now) }
     requires accepted { IsAccepted (program_of program.now) }
     requires size { length schedule.now ≤ 200000 }
-    ensures opened { IfOk result (λ r. IsOpened (program_of program.now) schedule.now r.order.items) }
+    ensures order { IsOpening (program_of program.now) schedule.now result (λ r. r.order.items) }
     ensures stands { IfOk result (λ r. (q : State) → run (program_of program.now) schedule.now ≡ Some q → StandsFor r.machine q) }
     ensures program { IfOk result (λ r. r.machine.program ≡ program.now) }
-    ensures refused { IfErr result (IsRefused (program_of program.now) schedule.now) }
-    ensures opens { (q : State) → run (program_of program.now) schedule.now ≡ Some q →
-        MatchResult result (λ r. IsOpened (program_of program.now) schedule.now r.order.items) (λ e. e ≡ ends.NoMemory) }
-    ensures stops { (stopped : Stopped) → IsStopped (program_of program.now) (initial (program_of program.now)) schedule.now stopped →
-        MatchResult result (λ _. ⊥) (λ e. (e ≡ ends.Stopped stopped) ⊎ (e ≡ ends.NoMemory)) }
 {
     run_in_order(alloc, program, code, schedule)
 }
@@ -105,12 +98,7 @@ pub fn opened(
     requires typed { IsTyped (program_of program.now) }
     requires accepted { IsAccepted (program_of program.now) }
     requires size { length schedule.now ≤ 200000 }
-    ensures opened { IfOk result (λ r. IsOpened (program_of program.now) schedule.now r.items) }
-    ensures refused { IfErr result (IsRefused (program_of program.now) schedule.now) }
-    ensures opens { (q : State) → run (program_of program.now) schedule.now ≡ Some q →
-        MatchResult result (λ r. IsOpened (program_of program.now) schedule.now r.items) (λ e. e ≡ ends.NoMemory) }
-    ensures stops { (stopped : Stopped) → IsStopped (program_of program.now) (initial (program_of program.now)) schedule.now stopped →
-        MatchResult result (λ _. ⊥) (λ e. (e ≡ ends.Stopped stopped) ⊎ (e ≡ ends.NoMemory)) }
+    ensures { IsOpening (program_of program.now) schedule.now result (λ r. r.items) }
 {
     match opened_with_machine(alloc, program, code, schedule) {
         Ok(found) => Ok(found.order),
@@ -127,12 +115,7 @@ pub fn serialise_open(
 ) -> Result<Vec<u32>, OpenEnd>
     requires code { IsCodeOf (program_of checked.now.0) code.now.code.items code.now.entry.items code.now.room.items }
     requires size { length schedule.now ≤ 200000 }
-    ensures opened { IfOk result (λ r. IsOpened (program_of checked.now.0) schedule.now r.items) }
-    ensures refused { IfErr result (IsRefused (program_of checked.now.0) schedule.now) }
-    ensures opens { (q : State) → run (program_of checked.now.0) schedule.now ≡ Some q →
-        MatchResult result (λ r. IsOpened (program_of checked.now.0) schedule.now r.items) (λ e. e ≡ ends.NoMemory) }
-    ensures stops { (stopped : Stopped) → IsStopped (program_of checked.now.0) (initial (program_of checked.now.0)) schedule.now stopped →
-        MatchResult result (λ _. ⊥) (λ e. (e ≡ ends.Stopped stopped) ⊎ (e ≡ ends.NoMemory)) }
+    ensures { IsOpening (program_of checked.now.0) schedule.now result (λ r. r.items) }
 {
     opened(alloc, checked.program(), code, schedule)
 }

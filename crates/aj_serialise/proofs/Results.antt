@@ -18,7 +18,7 @@ use Rattle.aj_noted.specs.Entries.{entries_of}
 use Rattle.aj_noted.specs.Made.{HaveRun}
 use Rattle.aj_serialise.specs.declared.serial_end.SerialEnd.{SerialEnd}
 use Rattle.aj_serialise.specs.declared.serial_end.SerialEnd.TheVariants as ends
-use Rattle.aj_serialise.specs.Rewritten.{IsRewritten, EndsInside, IsRefused}
+use Rattle.aj_serialise.specs.Rewritten.{IsRewritten, IsRewriting, EndsInside, IsRefused}
 use Rattle.aj_noted.proofs.Endings.{runs_not_stops, stops_once}
 
 -- what came of a run with no thread inside an atomic call at its end, and with one
@@ -48,7 +48,7 @@ module _ (P : Program) (s : List ℕ) where
   same_open q r ran other a b is k = sym is ∙ ap (open_thread P) (ap (λ o. unwrap_or o q) (sym ran ∙ other)) ∙ k
 
   module _ {T : Type 0} (items : T → List ℕ) (result : Result T SerialEnd) where
-    pub rewrites : (q : State) → run P s ≡ Some q → open_thread P q ≡ None → IfOk result (λ r. IsRewritten P s (items r)) → IfErr result (IsRefused P s) → MatchResult result (λ r. IsRewritten P s (items r)) (λ e. e ≡ ends.NoMemory)
+    rewrites : (q : State) → run P s ≡ Some q → open_thread P q ≡ None → IfOk result (λ r. IsRewritten P s (items r)) → IfErr result (IsRefused P s) → MatchResult result (λ r. IsRewritten P s (items r)) (λ e. e ≡ ends.NoMemory)
     rewrites q ran closed good refused = by result good refused
       where
         by : (result : Result T SerialEnd) → IfOk result (λ r. IsRewritten P s (items r)) → IfErr result (IsRefused P s) → MatchResult result (λ r. IsRewritten P s (items r)) (λ e. e ≡ ends.NoMemory)
@@ -57,7 +57,7 @@ module _ (P : Program) (s : List ℕ) where
         by (Err (ends.Open thread)) good refused = absurd (let c = same_open refused.end q refused.ran ran (Some thread) None refused.least closed in cc)
         by (Err ends.NoMemory) good refused = refl
 
-    pub stops : (stopped : Stopped) → IsStopped P (initial P) s stopped → IfOk result (λ r. IsRewritten P s (items r)) → IfErr result (IsRefused P s) → MatchResult result (λ _. ⊥) (λ e. (e ≡ ends.Stopped stopped) ⊎ (e ≡ ends.NoMemory))
+    stops : (stopped : Stopped) → IsStopped P (initial P) s stopped → IfOk result (λ r. IsRewritten P s (items r)) → IfErr result (IsRefused P s) → MatchResult result (λ _. ⊥) (λ e. (e ≡ ends.Stopped stopped) ⊎ (e ≡ ends.NoMemory))
     stops stopped is good refused = by result good refused
       where
         by : (result : Result T SerialEnd) → IfOk result (λ r. IsRewritten P s (items r)) → IfErr result (IsRefused P s) → MatchResult result (λ _. ⊥) (λ e. (e ≡ ends.Stopped stopped) ⊎ (e ≡ ends.NoMemory))
@@ -66,7 +66,7 @@ module _ (P : Program) (s : List ℕ) where
         by (Err (ends.Open thread)) good refused = absurd (runs_not_stops P s refused.end stopped refused.ran is)
         by (Err ends.NoMemory) good refused = inr refl
 
-    pub opens : (thread : ℕ) → EndsInside P s thread → IfOk result (λ r. IsRewritten P s (items r)) → IfErr result (IsRefused P s) → MatchResult result (λ _. ⊥) (λ e. (e ≡ ends.Open thread) ⊎ (e ≡ ends.NoMemory))
+    opens : (thread : ℕ) → EndsInside P s thread → IfOk result (λ r. IsRewritten P s (items r)) → IfErr result (IsRefused P s) → MatchResult result (λ _. ⊥) (λ e. (e ≡ ends.Open thread) ⊎ (e ≡ ends.NoMemory))
     opens thread is good refused = by result good refused
       where
         number : (one other : ℕ) → Some one ≡ Some other → one ≡ other
@@ -77,3 +77,22 @@ module _ (P : Program) (s : List ℕ) where
         by (Err (ends.Stopped stopped)) good refused = absurd (runs_not_stops P s is.end stopped is.ran refused)
         by (Err (ends.Open other)) good refused = inl (ap ends.Open (number other thread (same_open refused.end is.end refused.ran is.ran (Some other) (Some thread) refused.least is.least)))
         by (Err ends.NoMemory) good refused = inr refl
+
+    pub rewriting : IfOk result (λ r. IsRewritten P s (items r)) → IfErr result (IsRefused P s) → IsRewriting P s result items
+    rewriting good refused = record {
+      rewritten = good;
+      refused = refused;
+      rewrites = λ q ran closed. rewrites q ran closed good refused;
+      stops = λ stopped is. stops stopped is good refused;
+      opens = λ thread is. opens thread is good refused;
+    }
+
+  -- the order alone of an answer, and a refusal of any answer
+  pub order_alone : {T : Type 0} {U : Type 0} (items : T → List ℕ) (others : U → List ℕ) (r : T) (o : U) → others o ≡ items r → IsRewriting P s (Ok r) items → IsRewriting P s (Ok o) others
+  order_alone items others r o same told =
+      let good = subst (IsRewritten P s) (sym same) told.rewritten in
+      record { rewritten = good; refused = told.refused; rewrites = λ q ran closed. good; stops = told.stops; opens = told.opens }
+
+  pub refused_alone : {T : Type 0} {U : Type 0} (items : T → List ℕ) (others : U → List ℕ) (e : SerialEnd) → IsRewriting P s (Err e) items → IsRewriting P s (Err e) others
+  refused_alone items others e told =
+      record { rewritten = told.rewritten; refused = told.refused; rewrites = told.rewrites; stops = told.stops; opens = told.opens }

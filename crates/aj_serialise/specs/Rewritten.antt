@@ -1,10 +1,11 @@
 -- What comes of a schedule: it is rewritten, it stops, or it ends with a thread inside an atomic call.
-use Rattle.std.specs.Prelude.{◌≡◌, ℕ, List, Some, None}
+use Rattle.std.specs.Prelude.{◌≡◌, ◌⊎◌, ℕ, List, Some, None, Result, IfOk, IfErr, MatchResult}
 use Rattle.aj_core.specs.Core.{Program}
 use Rattle.aj_state.specs.States.{State, initial}
 use Rattle.aj_steps.specs.Run.{run, open_thread}
 use Rattle.aj_steps.specs.Units.{written_order}
 use Rattle.aj_rewrite.specs.Serial.{IsSerial}
+use Rattle.aj_machine.specs.declared.machine.Stopped.{Stopped}
 use Rattle.aj_machine.specs.Standing.{IsStopped}
 use Rattle.aj_serialise.specs.declared.serial_end.SerialEnd.{SerialEnd}
 use Rattle.aj_serialise.specs.declared.serial_end.SerialEnd.TheVariants as ends
@@ -29,3 +30,14 @@ abbrev pub IsRefused : Program → List ℕ → SerialEnd → Type 0
 IsRefused P s (ends.Stopped stopped) = IsStopped P (initial P) s stopped
 IsRefused P s (ends.Open thread) = EndsInside P s thread
 IsRefused P s ends.NoMemory = Unit {0}
+
+-- What comes of a schedule that is to be rewritten, where `order` tells the schedule that an answer has: an answer has the
+-- written order, and each refusal its reason. A schedule that runs to a state with no thread inside an atomic call is rewritten,
+-- one that stops is refused where it stops, and one that ends inside an atomic call for the least such thread, each time unless
+-- memory was wanting.
+pub record IsRewriting {T : Type 0} (P : Program) (s : List ℕ) (result : Result T SerialEnd) (order : T → List ℕ) : Type 0 where
+  pub rewritten : IfOk result (λ r. IsRewritten P s (order r))
+  pub refused : IfErr result (IsRefused P s)
+  pub rewrites : (q : State) → run P s ≡ Some q → open_thread P q ≡ None → MatchResult result (λ r. IsRewritten P s (order r)) (λ e. e ≡ ends.NoMemory)
+  pub stops : (stopped : Stopped) → IsStopped P (initial P) s stopped → MatchResult result (λ _. ⊥) (λ e. (e ≡ ends.Stopped stopped) ⊎ (e ≡ ends.NoMemory))
+  pub opens : (thread : ℕ) → EndsInside P s thread → MatchResult result (λ _. ⊥) (λ e. (e ≡ ends.Open thread) ⊎ (e ≡ ends.NoMemory))

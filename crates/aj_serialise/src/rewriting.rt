@@ -1,16 +1,14 @@
 //! Rewriting a schedule.
-ghost use Rattle.std.specs.Prelude.{◌≡◌, ◌⊎◌, ◌≤◌, ℕ, length, Some, None, IfOk, IfErr, MatchResult};
+ghost use Rattle.std.specs.Prelude.{◌≡◌, ◌≤◌, ℕ, length, Some, IfOk, IfErr};
 ghost use Rattle.aj_core.specs.Views.{program_of};
 ghost use Rattle.aj_core.specs.Typed.{IsTyped};
 ghost use Rattle.aj_rules.specs.Rules.{IsAccepted};
 ghost use Rattle.aj_state.specs.States.{State, initial};
 ghost use Rattle.aj_compile.specs.IsCode.{IsCodeOf};
-ghost use Rattle.aj_steps.specs.Run.{run, open_thread};
-ghost use Rattle.aj_machine.specs.declared.machine.Stopped.{Stopped};
-ghost use Rattle.aj_machine.specs.Standing.{program_run, StandsFor, IsStopped};
+ghost use Rattle.aj_steps.specs.Run.{run};
+ghost use Rattle.aj_machine.specs.Standing.{program_run, StandsFor};
 ghost use Rattle.aj_noted.specs.Made.{HaveRun};
-ghost use Rattle.aj_serialise.specs.declared.serial_end.SerialEnd.TheVariants as ends;
-ghost use Rattle.aj_serialise.specs.Rewritten.{IsRewritten, EndsInside, IsRefused};
+ghost use Rattle.aj_serialise.specs.Rewritten.{IsRewritten, IsRewriting, IsRefused};
 
 use crate::order::in_order;
 use crate::serial_end::{SerialEnd, end_of};
@@ -86,16 +84,9 @@ pub fn rewritten_with_machine<'p>(
     requires typed { IsTyped (program_of program.now) }
     requires accepted { IsAccepted (program_of program.now) }
     requires size { length schedule.now ≤ 200000 }
-    ensures rewritten { IfOk result (λ r. IsRewritten (program_of program.now) schedule.now r.order.items) }
+    ensures order { IsRewriting (program_of program.now) schedule.now result (λ r. r.order.items) }
     ensures stands { IfOk result (λ r. (q : State) → run (program_of program.now) schedule.now ≡ Some q → StandsFor r.machine q) }
     ensures program { IfOk result (λ r. r.machine.program ≡ program.now) }
-    ensures refused { IfErr result (IsRefused (program_of program.now) schedule.now) }
-    ensures rewrites { (q : State) → run (program_of program.now) schedule.now ≡ Some q → open_thread (program_of program.now) q ≡ None →
-        MatchResult result (λ r. IsRewritten (program_of program.now) schedule.now r.order.items) (λ e. e ≡ ends.NoMemory) }
-    ensures stops { (stopped : Stopped) → IsStopped (program_of program.now) (initial (program_of program.now)) schedule.now stopped →
-        MatchResult result (λ _. ⊥) (λ e. (e ≡ ends.Stopped stopped) ⊎ (e ≡ ends.NoMemory)) }
-    ensures opens { (thread : ℕ) → EndsInside (program_of program.now) schedule.now thread →
-        MatchResult result (λ _. ⊥) (λ e. (e ≡ ends.Open thread) ⊎ (e ≡ ends.NoMemory)) }
 {
     rewrite(alloc, program, code, schedule)
 }
@@ -113,14 +104,7 @@ pub fn rewritten(
     requires typed { IsTyped (program_of program.now) }
     requires accepted { IsAccepted (program_of program.now) }
     requires size { length schedule.now ≤ 200000 }
-    ensures rewritten { IfOk result (λ r. IsRewritten (program_of program.now) schedule.now r.items) }
-    ensures refused { IfErr result (IsRefused (program_of program.now) schedule.now) }
-    ensures rewrites { (q : State) → run (program_of program.now) schedule.now ≡ Some q → open_thread (program_of program.now) q ≡ None →
-        MatchResult result (λ r. IsRewritten (program_of program.now) schedule.now r.items) (λ e. e ≡ ends.NoMemory) }
-    ensures stops { (stopped : Stopped) → IsStopped (program_of program.now) (initial (program_of program.now)) schedule.now stopped →
-        MatchResult result (λ _. ⊥) (λ e. (e ≡ ends.Stopped stopped) ⊎ (e ≡ ends.NoMemory)) }
-    ensures opens { (thread : ℕ) → EndsInside (program_of program.now) schedule.now thread →
-        MatchResult result (λ _. ⊥) (λ e. (e ≡ ends.Open thread) ⊎ (e ≡ ends.NoMemory)) }
+    ensures { IsRewriting (program_of program.now) schedule.now result (λ r. r.items) }
 {
     match rewritten_with_machine(alloc, program, code, schedule) {
         Ok(found) => Ok(found.order),
@@ -137,14 +121,7 @@ pub fn serialise(
 ) -> Result<Vec<u32>, SerialEnd>
     requires code { IsCodeOf (program_of checked.now.0) code.now.code.items code.now.entry.items code.now.room.items }
     requires size { length schedule.now ≤ 200000 }
-    ensures rewritten { IfOk result (λ r. IsRewritten (program_of checked.now.0) schedule.now r.items) }
-    ensures refused { IfErr result (IsRefused (program_of checked.now.0) schedule.now) }
-    ensures rewrites { (q : State) → run (program_of checked.now.0) schedule.now ≡ Some q → open_thread (program_of checked.now.0) q ≡ None →
-        MatchResult result (λ r. IsRewritten (program_of checked.now.0) schedule.now r.items) (λ e. e ≡ ends.NoMemory) }
-    ensures stops { (stopped : Stopped) → IsStopped (program_of checked.now.0) (initial (program_of checked.now.0)) schedule.now stopped →
-        MatchResult result (λ _. ⊥) (λ e. (e ≡ ends.Stopped stopped) ⊎ (e ≡ ends.NoMemory)) }
-    ensures opens { (thread : ℕ) → EndsInside (program_of checked.now.0) schedule.now thread →
-        MatchResult result (λ _. ⊥) (λ e. (e ≡ ends.Open thread) ⊎ (e ≡ ends.NoMemory)) }
+    ensures { IsRewriting (program_of checked.now.0) schedule.now result (λ r. r.items) }
 {
     rewritten(alloc, checked.program(), code, schedule)
 }
