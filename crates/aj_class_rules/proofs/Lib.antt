@@ -8,6 +8,7 @@ pub mod Parted
 mod Repeats
 mod Wholes
 mod Alone
+pub mod OwnLemmas
 pub mod Leasts
 pub mod FirstFaults
 pub mod Noting

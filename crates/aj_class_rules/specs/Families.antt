@@ -12,6 +12,7 @@ use Rattle.aj_class_rules.specs.declared.overriding.LockReach.{LockReach}
 use Rattle.aj_class_rules.specs.declared.overriding.Heading as code_heading
 use Rattle.aj_class_rules.specs.Names.{has_text, distinct}
 use Rattle.aj_class_rules.specs.Members.{class_names}
+use Rattle.aj_class_rules.specs.Own.{all_own_names}
 use Rattle.aj_class_rules.specs.Lines.{above_in, line, members_at}
 use Rattle.aj_class_rules.specs.Overriding.{FieldPlace, FoundField, Reach, Heading, headings, headings_at}
 
@@ -40,6 +41,7 @@ tree_of f = map class_of f.classes.now
 -- what a family keeps of its classes is theirs
 pub record IsFamily (f : Family) : Type 0 where
   pub names : f.names.now ≡ distinct (class_names (tree_of f))
+  pub own : f.own.now ≡ all_own_names (tree_of f)
   pub firsts : f.firsts.items ≡ first_places (class_names (tree_of f))
   pub above : f.above.items ≡ all_above (tree_of f)
 

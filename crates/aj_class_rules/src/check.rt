@@ -10,6 +10,7 @@ ghost use Rattle.aj_class_rules.specs.Lines.{all_members, members_at};
 ghost use Rattle.aj_class_rules.specs.Lines as lines;
 ghost use Rattle.aj_class_rules.specs.Faults.{twice_faults, missing_run, circle_faults, other_faults, class_faults, faults_from, is_main, has_main, missing_main, faults_of};
 ghost use Rattle.aj_class_rules.specs.Families.{members_along, first_places, tree_of, IsFamily, rows_data, row_at, AreHeadings};
+ghost use Rattle.aj_class_rules.specs.Own.{all_own_names};
 ghost use Rattle.aj_class_rules.specs.Noted.{noted};
 
 use crate::constructors::{has_finals, note_constructors, note_missing_constructor};
@@ -20,6 +21,7 @@ use crate::limits::MOST_FIELDS;
 use crate::members::{field_at, note_above, note_excess, note_fields, note_members, note_methods};
 use crate::names::NameSet;
 use crate::overriding::{Heading, headings_where_inherited, note_overrides};
+use crate::own::OwnNames;
 use aj_syntax::{Class, Member, Name, Program};
 use std::alloc::{AllocError as NoMemory, Global};
 
@@ -113,6 +115,7 @@ fn note_others(
 ) -> Result<Option<ClassFault>, NoMemory>
     requires family { IsFamily inheritance.now.family.now }
     requires rows { AreHeadings (tree_of inheritance.now.family.now) (row_at (rows_data inheritance.now.headings.now)) }
+    requires own { members_at (tree_of inheritance.now.family.now) number ≡ map member_of class.now.members.items }
     requires line { line.now ≡ lines.line (tree_of inheritance.now.family.now) number }
     requires order { members_along (tree_of inheritance.now.family.now) order.now ≡ all_members (tree_of inheritance.now.family.now) number }
     ensures { IfOk result (λ f. f ≡ noted first (other_faults (tree_of inheritance.now.family.now) number (class_of class.now))) }
@@ -120,7 +123,7 @@ fn note_others(
     let family = inheritance.family;
     let members = class.members.as_slice();
     let classes = family.classes;
-    let found = note_methods(alloc, members, first)?;
+    let found = note_methods(alloc, family, number, members, first)?;
     let found = note_above(family.names, &class.above, found);
     let found = note_members(alloc, family.names, members, found)?;
     let found = note_missing_constructor(&class.name, classes, order, members, found);
@@ -141,11 +144,12 @@ fn note_alone<'p, 'a>(
 ) -> Result<Option<ClassFault>, NoMemory>
     requires family { IsFamily inheritance.now.family.now }
     requires rows { AreHeadings (tree_of inheritance.now.family.now) (row_at (rows_data inheritance.now.headings.now)) }
+    requires own { members_at (tree_of inheritance.now.family.now) number ≡ map member_of class.now.members.items }
     requires alone { lines.above (tree_of inheritance.now.family.now) number ≡ None }
     ensures { IfOk result (λ f. f ≡ noted first (class_faults (tree_of inheritance.now.family.now) number (class_of class.now))) }
 {
     let members = class.members.as_slice();
-    let found = note_fields(alloc, inheritance.family.classes, &[], members, first)?;
+    let found = note_fields(alloc, inheritance.family, number, &[], members, first)?;
     note_others(alloc, inheritance, number, class, &[], &[number], found)
 }
 
@@ -159,6 +163,7 @@ fn note_class<'p, 'a>(
 ) -> Result<Option<ClassFault>, NoMemory>
     requires family { IsFamily inheritance.now.family.now }
     requires rows { AreHeadings (tree_of inheritance.now.family.now) (row_at (rows_data inheritance.now.headings.now)) }
+    requires own { members_at (tree_of inheritance.now.family.now) number ≡ map member_of class.now.members.items }
     ensures { IfOk result (λ f. f ≡ noted first (class_faults (tree_of inheritance.now.family.now) number (class_of class.now))) }
 {
     match inheritance.family.above(number) {
@@ -177,6 +182,7 @@ fn note_heir<'p, 'a>(
 ) -> Result<Option<ClassFault>, NoMemory>
     requires family { IsFamily inheritance.now.family.now }
     requires rows { AreHeadings (tree_of inheritance.now.family.now) (row_at (rows_data inheritance.now.headings.now)) }
+    requires own { members_at (tree_of inheritance.now.family.now) number ≡ map member_of class.now.members.items }
     ensures { IfOk result (λ f. f ≡ noted first (class_faults (tree_of inheritance.now.family.now) number (class_of class.now))) }
 {
     let members = class.members.as_slice();
@@ -184,7 +190,8 @@ fn note_heir<'p, 'a>(
     let mut order = reversed(alloc, line.as_slice())?;
     let found = note_fields(
         alloc,
-        inheritance.family.classes,
+        inheritance.family,
+        number,
         order.as_slice(),
         members,
         first,
@@ -300,15 +307,17 @@ fn note_all<'p, 'a>(
     alloc: Global,
     classes: &'p [Class<'a>],
     names: &'p NameSet<'a>,
+    own: &'p [OwnNames<'a>],
     firsts: Vec<usize>,
     first: Option<ClassFault>,
 ) -> Result<Option<ClassFault>, NoMemory>
     requires names { names.now ≡ distinct (class_names (map class_of classes.now)) }
+    requires own { own.now ≡ all_own_names (map class_of classes.now) }
     requires firsts { firsts.items ≡ first_places (class_names (map class_of classes.now)) }
     ensures { IfOk result (λ f. f ≡ noted (noted first (faults_from (map class_of classes.entry.now) 0 (map class_of classes.entry.now)))
         (missing_main (map class_of classes.entry.now))) }
 {
-    let family = Family::new(alloc, classes, names, firsts)?;
+    let family = Family::new(alloc, classes, names, own, firsts)?;
     let headings = headings_where_inherited(alloc, &family)?;
     let inheritance = Inheritance {
         family: &family,
@@ -318,20 +327,22 @@ fn note_all<'p, 'a>(
     note_missing_main(alloc, &family, found)
 }
 
-/// The first fault of a program, if it has one. The set has then the names of its classes, each once, in order of
-/// first appearance.
+/// The first fault of a program whose classes have these own names, if it has one. The set has then the names of its classes, each
+/// once, in order of first appearance.
 #[tactic(auto, using(crate::proofs::Noting::noted_append))]
 pub fn first_fault<'a>(
     alloc: Global,
     program: &Program<'a>,
+    own: &[OwnNames<'a>],
     names: &mut NameSet<'a>,
 ) -> Result<Option<ClassFault>, NoMemory>
-    requires { names.old ≡ [] }
+    requires own { own.now ≡ all_own_names (program_of program.now) }
+    requires names { names.old ≡ [] }
     ensures fault { IfOk result (λ f. f ≡ noted None (faults_of (program_of program.now))) }
     ensures names { OnOk result (names.new ≡ distinct (class_names (program_of program.now))) }
 {
     let classes = program.classes.as_slice();
     let mut firsts = Vec::new(alloc);
     let found = note_class_names(classes, names, &mut firsts)?;
-    note_all(alloc, classes, names, firsts, found)
+    note_all(alloc, classes, names, own, firsts, found)
 }

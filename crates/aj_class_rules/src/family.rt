@@ -4,13 +4,15 @@ ghost use Rattle.std.specs.Prelude.{◌≡◌, Some, reverse, map, position, byt
 ghost use Rattle.std.specs.List.{list_any};
 ghost use Rattle.aj_syntax.specs.Trees.{ProgramTree};
 ghost use Rattle.aj_syntax.specs.Views.{member_of, class_of};
-ghost use Rattle.aj_class_rules.specs.Members.{class_names};
-ghost use Rattle.aj_class_rules.specs.Names.{distinct};
+ghost use Rattle.aj_class_rules.specs.Members.{class_names, field_names};
+ghost use Rattle.aj_class_rules.specs.Names.{distinct, has_text, texts_of};
+ghost use Rattle.aj_class_rules.specs.Own.{all_own_names};
 ghost use Rattle.aj_class_rules.specs.Lines.{above, above_in, is_on_circle, line, members_at, says_runnable, counts, class_named};
 ghost use Rattle.aj_class_rules.specs.Overriding.{class_of_type, field_from, field_named};
-ghost use Rattle.aj_class_rules.specs.Families.{first_places, all_above, tree_of, IsFamily, field_data};
+ghost use Rattle.aj_class_rules.specs.Families.{first_places, all_above, members_along, tree_of, IsFamily, field_data};
 
 use crate::names::NameSet;
+use crate::own::OwnNames;
 use aj_syntax::{Class, Member, TypeName};
 use std::alloc::{AllocError as NoMemory, Global};
 
@@ -35,6 +37,8 @@ pub(crate) struct Family<'p, 'a> {
     pub(crate) classes: &'p [Class<'a>],
     /// The names of the classes, each once.
     pub(crate) names: &'p NameSet<'a>,
+    /// For each class the names of its own fields and methods.
+    pub(crate) own: &'p [OwnNames<'a>],
     /// For each of these names the first class that has it.
     pub(crate) firsts: Vec<usize>,
     pub(crate) above: Vec<Option<usize>>,
@@ -84,9 +88,11 @@ impl<'p, 'a> Family<'p, 'a> {
         alloc: Global,
         classes: &'p [Class<'a>],
         names: &'p NameSet<'a>,
+        own: &'p [OwnNames<'a>],
         firsts: Vec<usize>,
     ) -> Result<Family<'p, 'a>, NoMemory>
         requires names { names.now ≡ distinct (class_names (map class_of classes.now)) }
+        requires own { own.now ≡ all_own_names (map class_of classes.now) }
         requires firsts { firsts.items ≡ first_places (class_names (map class_of classes.now)) }
         ensures family { IfOk result (λ family. IsFamily family) }
         ensures classes { IfOk result (λ family. family.classes.now ≡ classes.entry.now) }
@@ -96,9 +102,34 @@ impl<'p, 'a> Family<'p, 'a> {
         Ok(Family {
             classes,
             names,
+            own,
             firsts,
             above,
         })
+    }
+
+    /// Whether a class itself declares a field of this name.
+    fn declares(&self, number: usize, text: &str) -> bool
+        requires { IsFamily self.now }
+        ensures { result ≡ has_text (texts_of (field_names (members_at (tree_of self.now) number))) text.now }
+    {
+        match self.own.get(number) {
+            Some(own) => own.fields.contains(text),
+            None => false,
+        }
+    }
+
+    /// Whether one of these classes declares a field of this name.
+    pub(crate) fn declare(&self, order: &[usize], text: &str) -> bool
+        requires { IsFamily self.now }
+        ensures { result ≡ has_text (texts_of (field_names (members_along (tree_of self.now) order.now))) text.now }
+    {
+        for number in order {
+            if self.declares(*number, text) {
+                return true;
+            }
+        }
+        false
     }
 
     /// The number of the first class with a name.

@@ -11,9 +11,11 @@ mod limits;
 mod members;
 mod names;
 mod overriding;
+mod own;
 
 pub use check::first_fault;
 pub use fault::ClassFault;
 pub use first::{FaultPlace, Placed, first_of};
 pub use limits::{MOST_FIELDS, MOST_PARAMS};
 pub use names::NameSet;
+pub use own::{OwnNames, all_own_names};

@@ -1,15 +1,17 @@
 //! Notes the faults of the members of a class, each by itself.
 
-ghost use Rattle.std.specs.Prelude.{◌≡◌, ◌∷◌, [], Option, Some, None, map, flat_map, slice_get, length, option_map, IfOk, OnOk, if◌then◌else◌};
+ghost use Rattle.std.specs.Prelude.{◌≡◌, ◌∷◌, [], true, Option, Some, None, map, flat_map, slice_get, length, option_map, IfOk, OnOk, if◌then◌else◌};
+ghost use Rattle.std.specs.List.{list_any};
 ghost use Rattle.aj_syntax.specs.Views.{member_of, class_of};
 ghost use Rattle.aj_class_rules.specs.Lines.{members_at};
 ghost use Rattle.aj_class_rules.specs.declared.fault.ClassFault.TheVariants as kind;
-ghost use Rattle.aj_class_rules.specs.Names.{has_text, with_text, distinct_after, distinct, repeats_after};
+ghost use Rattle.aj_class_rules.specs.Names.{has_text, texts_of, with_text, distinct_after, distinct, repeats, repeats_after};
 ghost use Rattle.aj_class_rules.specs.Members.{field_names, method_names, param_names};
 ghost use Rattle.aj_class_rules.specs.Faults.{twice_faults, field_faults, above_faults, too_many_faults, type_faults, result_faults, params_faults, member_faults};
-ghost use Rattle.aj_class_rules.specs.Families.{members_along};
+ghost use Rattle.aj_class_rules.specs.Families.{members_along, tree_of, IsFamily};
 ghost use Rattle.aj_class_rules.specs.Noted.{noted};
 
+use crate::family::Family;
 use crate::fault::ClassFault;
 use crate::first::first_of;
 use crate::limits::MOST_PARAMS;
@@ -74,8 +76,54 @@ fn names_of_fields<'a>(
     Ok(seen)
 }
 
-/// Fields that have the name of one of these classes, or of one that stood before.
+/// Whether the own names of a class tell that its fields have different names.
+fn have_fields_apart(family: &Family, number: usize, members: &[Member]) -> bool
+    requires family { IsFamily family.now }
+    requires members { members_at (tree_of family.now) number ≡ map member_of members.now }
+    ensures { result ≡ true → repeats (field_names (map member_of members.now)) ≡ [] }
+{
+    match family.own.get(number) {
+        Some(own) => own.fields.len() == count_fields(members),
+        None => false,
+    }
+}
+
+/// Whether a field has the name of a field of one of these classes.
+fn repeat_fields(family: &Family, order: &[usize], members: &[Member]) -> bool
+    requires { IsFamily family.now }
+    ensures { result ≡ list_any (λ n. has_text (texts_of (field_names (members_along (tree_of family.now) order.now))) n.text) (field_names (map member_of members.now)) }
+{
+    for member in members {
+        if let Member::Field { name, .. } = member {
+            if family.declare(order, name.text) {
+                return true;
+            }
+        }
+    }
+    false
+}
+
+/// Fields of a class that have the name of a field of one of these classes, or of one that stood before. Only where there are
+/// some are the names gone through again, for their offsets.
 pub(crate) fn note_fields<'a>(
+    alloc: Global,
+    family: &Family<'_, 'a>,
+    number: usize,
+    order: &[usize],
+    members: &[Member<'a>],
+    first: Option<ClassFault>,
+) -> Result<Option<ClassFault>, NoMemory>
+    requires family { IsFamily family.now }
+    requires members { members_at (tree_of family.now) number ≡ map member_of members.now }
+    ensures { IfOk result (λ f. f ≡ noted first (field_faults (members_along (tree_of family.now) order.now) (map member_of members.now))) }
+{
+    if have_fields_apart(family, number, members) && !repeat_fields(family, order, members) {
+        return Ok(first);
+    }
+    note_repeated_fields(alloc, family.classes, order, members, first)
+}
+
+fn note_repeated_fields<'a>(
     alloc: Global,
     classes: &[Class<'a>],
     order: &[usize],
@@ -105,8 +153,50 @@ fn note_fields_after<'a>(
     Ok(found)
 }
 
-/// The first fault so far, or a method's name that stands a second time in its class, whichever comes first.
+fn count_methods(members: &[Member]) -> usize
+    ensures { result ≡ length (method_names (map member_of members.now)) }
+{
+    let mut count = 0;
+    for member in members {
+        if let Member::Method { .. } = member {
+            count += 1;
+        }
+    }
+    count
+}
+
+/// Whether the own names of a class tell that its methods have different names.
+fn have_methods_apart(family: &Family, number: usize, members: &[Member]) -> bool
+    requires family { IsFamily family.now }
+    requires members { members_at (tree_of family.now) number ≡ map member_of members.now }
+    ensures { result ≡ true → repeats (method_names (map member_of members.now)) ≡ [] }
+{
+    match family.own.get(number) {
+        Some(own) => own.methods.len() == count_methods(members),
+        None => false,
+    }
+}
+
+/// The first fault so far, or a method's name that stands a second time in its class, whichever comes first. Only where there is
+/// such a name are the names gone through again, for its offset.
 pub(crate) fn note_methods(
+    alloc: Global,
+    family: &Family,
+    number: usize,
+    members: &[Member],
+    first: Option<ClassFault>,
+) -> Result<Option<ClassFault>, NoMemory>
+    requires family { IsFamily family.now }
+    requires members { members_at (tree_of family.now) number ≡ map member_of members.now }
+    ensures { IfOk result (λ f. f ≡ noted first (twice_faults (method_names (map member_of members.now)))) }
+{
+    if have_methods_apart(family, number, members) {
+        return Ok(first);
+    }
+    note_repeated_methods(alloc, members, first)
+}
+
+fn note_repeated_methods(
     alloc: Global,
     members: &[Member],
     first: Option<ClassFault>,

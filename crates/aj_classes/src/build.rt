@@ -2,8 +2,7 @@
 
 ghost use Rattle.std.specs.Prelude.{◌≡◌, ◌+◌, ◌^◌, ◌<◌, ◌++◌, map, option_map, IfOk, OnOk};
 ghost use Rattle.aj_syntax.specs.Views.{member_of, class_of};
-ghost use Rattle.aj_class_rules.specs.Names.{distinct};
-ghost use Rattle.aj_class_rules.specs.Members.{field_names, method_names};
+ghost use Rattle.aj_class_rules.specs.Own.{own_names, all_own_names};
 ghost use Rattle.aj_classes.specs.Table.{type_of, param_of, fields_of, methods_of};
 ghost use Rattle.aj_classes.specs.Views.{class_data, method_data};
 ghost use Rattle.aj_classes.specs.Building.{parts_data, class_entry_of, with_class, parts_from};
@@ -11,7 +10,7 @@ ghost use Rattle.aj_classes.specs.Building.{parts_data, class_entry_of, with_cla
 use crate::above::{above_at, classes_above, counts_runnable};
 use crate::entries::{ClassEntry, FieldEntry, MethodEntry, ParamEntry};
 use crate::numbers::number;
-use aj_class_rules::NameSet;
+use aj_class_rules::{NameSet, OwnNames};
 use aj_core::CoreType;
 use aj_paths::ClassId;
 use aj_syntax::{Class, Member, Name, Param, TypeName};
@@ -164,53 +163,29 @@ fn add_methods<'a>(
     Ok(())
 }
 
-fn field_set<'a>(alloc: Global, members: &[Member<'a>]) -> Result<NameSet<'a>, NoMemory>
-    ensures { IfOk result (λ s. s ≡ distinct (field_names (map member_of members.now))) }
-{
-    let mut names = NameSet::new(alloc);
-    for member in members {
-        if let Member::Field { name, .. } = member {
-            names.add(name.text)?;
-        }
-    }
-    Ok(names)
-}
-
-fn method_set<'a>(alloc: Global, members: &[Member<'a>]) -> Result<NameSet<'a>, NoMemory>
-    ensures { IfOk result (λ s. s ≡ distinct (method_names (map member_of members.now))) }
-{
-    let mut names = NameSet::new(alloc);
-    for member in members {
-        if let Member::Method { name, .. } = member {
-            names.add(name.text)?;
-        }
-    }
-    Ok(names)
-}
-
 /// A class, where so many fields and methods stand before. There is no memory for a class whose members are too many for ids.
 fn class_entry<'a>(
-    alloc: Global,
     class: &Class<'a>,
+    own: OwnNames<'a>,
     above: Option<ClassId>,
     runnable: bool,
     first_field: u32,
     first_method: u32,
 ) -> Result<ClassEntry<'a>, NoMemory>
+    requires { own ≡ own_names (class_of class.now) }
     ensures { IfOk result (λ c. class_data c ≡ class_entry_of above runnable first_field first_method (class_of class.now)) }
 {
     let members = class.members.as_slice();
     check_room(first_field, members.len())?;
     check_room(first_method, members.len())?;
-    let field_names = field_set(alloc, members)?;
-    let method_names = method_set(alloc, members)?;
+    let OwnNames { fields, methods } = own;
     Ok(ClassEntry {
         above,
         runnable,
         first_field,
-        field_names,
+        field_names: fields,
         first_method,
-        method_names,
+        method_names: methods,
     })
 }
 
@@ -223,7 +198,7 @@ pub(crate) struct TableParts<'a> {
 }
 
 impl<'a> TableParts<'a> {
-    /// Adds the next one of the classes.
+    /// Adds the next one of the classes, which has these own names.
     fn add(
         &mut self,
         alloc: Global,
@@ -231,7 +206,9 @@ impl<'a> TableParts<'a> {
         classes: &[Class],
         aboves: &[Option<ClassId>],
         class: &Class<'a>,
+        own: OwnNames<'a>,
     ) -> Result<(), NoMemory>
+        requires { own ≡ own_names (class_of class.now) }
         ensures { OnOk result (parts_data self.new ≡ with_class (map class_of classes.now) aboves.now names.now (class_of class.now) (parts_data self.old)) }
     {
         let id = ClassId(number(self.classes.len())?);
@@ -242,18 +219,20 @@ impl<'a> TableParts<'a> {
         let members = class.members.as_slice();
         add_fields(names, id, members, &mut self.fields)?;
         add_methods(alloc, names, id, members, &mut self.methods)?;
-        let entry = class_entry(alloc, class, above, runnable, first_field, first_method)?;
+        let entry = class_entry(class, own, above, runnable, first_field, first_method)?;
         self.classes.push(entry)?;
         Ok(())
     }
 }
 
-/// The parts of the table of these classes.
+/// The parts of the table of these classes, which have these own names.
 pub(crate) fn parts_of<'a>(
     alloc: Global,
     names: &NameSet,
     classes: &[Class<'a>],
+    own: Vec<OwnNames<'a>>,
 ) -> Result<TableParts<'a>, NoMemory>
+    requires { own.entry.items ≡ all_own_names (map class_of classes.now) }
     ensures { IfOk result (λ p. parts_data p ≡ parts_from names.now (map class_of classes.now)) }
 {
     let aboves = classes_above(alloc, names, classes)?;
@@ -262,8 +241,13 @@ pub(crate) fn parts_of<'a>(
         fields: Vec::new(alloc),
         methods: Vec::new(alloc),
     };
-    for class in classes {
-        parts.add(alloc, names, classes, aboves.as_slice(), class)?;
+    let mut rest = classes;
+    for own in own {
+        let Some((class, others)) = rest.split_first() else {
+            return Ok(parts);
+        };
+        parts.add(alloc, names, classes, aboves.as_slice(), class, own)?;
+        rest = others;
     }
     Ok(parts)
 }

@@ -1,4 +1,4 @@
-use Rattle.std.proofs.Common.{[], map, ap, sym}
+use Rattle.std.proofs.Common.{[], map, ap, sym, ◌∙◌}
 use Rattle.aj_syntax.specs.Views.{member_of, class_of}
 use Rattle.aj_class_rules.specs.Families.{tree_of}
 use Rattle.aj_class_rules.proofs.Alone.{members_alone}
@@ -19,3 +19,6 @@ returns c =
     (ap (map member_of) c.as_slice-members.ensures.value)
     (sym (nothing_inherited (tree_of c.args.inheritance.now.family.now) c.args.number c.requires.alone).1)
     c.in_ok-found.ensures c.note_others.ensures
+
+pub note_fields-requires-clause-members : goal.note_fields-requires-clause-members
+note_fields-requires-clause-members c = c.requires.own ∙ sym (ap (map member_of) c.as_slice-members.ensures.value)

@@ -1,4 +1,4 @@
-use Rattle.std.proofs.Common.{map, reverse, ap, ◌∙◌}
+use Rattle.std.proofs.Common.{map, reverse, ap, sym, ◌∙◌}
 use Rattle.aj_syntax.specs.Views.{member_of, class_of}
 use Rattle.aj_class_rules.specs.Families.{members_along, tree_of}
 use Rattle.aj_class_rules.proofs.Wholes.{class_result}
@@ -11,3 +11,6 @@ returns c =
     (ap (map member_of) c.as_slice-members.ensures.value)
     (ap (members_along (tree_of c.args.inheritance.now.family.now)) (c.as_slice-2.ensures.value ∙ c.in_ok-order.ensures ∙ ap reverse (c.as_slice.ensures.value ∙ c.in_ok-line.ensures)))
     c.in_ok-found.ensures c.note_others.ensures
+
+pub note_fields-requires-clause-members : goal.note_fields-requires-clause-members
+note_fields-requires-clause-members c = c.requires.own ∙ sym (ap (map member_of) c.as_slice-members.ensures.value)

@@ -1,4 +1,4 @@
-use Rattle.std.proofs.Common.{map, refl, ap, ◌∙◌}
+use Rattle.std.proofs.Common.{map, refl, ap, sym, ◌∙◌}
 use Rattle.aj_syntax.specs.Views.{member_of, class_of}
 use Rattle.aj_class_rules.specs.Faults.{too_many_faults}
 use Rattle.aj_class_rules.specs.Families.{members_along, tree_of, rows_data, row_at}
@@ -19,3 +19,6 @@ returns c =
     (c.note_excess-found.ensures ∙ ap (λ o. noted c.note_missing_run-found.result (too_many_faults o)) c.field_at.ensures)
     c.note_circle-found.ensures
     (c.note_overrides.ensures ∙ ap (noted c.note_circle-found.result) (same_overrides (tree_of c.args.inheritance.now.family.now) (row_at (rows_data c.args.inheritance.now.headings.now)) c.args.line.now c.args.number c.requires.rows c.requires.line))
+
+pub note_methods-requires-clause-members : goal.note_methods-requires-clause-members
+note_methods-requires-clause-members c = c.requires.own ∙ sym (ap (map member_of) c.as_slice-members.ensures.value)

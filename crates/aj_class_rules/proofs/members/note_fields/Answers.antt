@@ -1,10 +1,11 @@
-use Rattle.std.proofs.Common.{map}
-use Rattle.aj_syntax.specs.Views.{member_of, class_of}
-use Rattle.aj_class_rules.specs.Families.{members_along}
-use Rattle.aj_class_rules.proofs.Repeats.{fields_result}
+use Rattle.std.proofs.Common.{map, sym, ◌∙◌}
+use Rattle.std.proofs.lemmas.Bool.{not-true}
+use Rattle.aj_syntax.specs.Views.{member_of}
+use Rattle.aj_class_rules.specs.Families.{members_along, tree_of}
+use Rattle.aj_class_rules.proofs.OwnLemmas.{fields_apart}
 use Rattle.aj_class_rules.proofs.members.note_fields.Goals as goal
 
-pub returns : goal.returns
-returns c =
-    fields_result (members_along (map class_of c.args.classes.now) c.args.order.now) (map member_of c.args.members.now) c.in_ok-seen.seen c.args.first c.note_fields_after.result
-    c.in_ok-seen.ensures c.note_fields_after.ensures
+pub returns-then-not-repeat_fields : goal.returns-then-not-repeat_fields
+returns-then-not-repeat_fields c =
+    fields_apart (members_along (tree_of c.args.family.now) c.args.order.now) (map member_of c.args.members.now) c.args.first (c.have_fields_apart.ensures c.if-have_fields_apart.true)
+    (sym c.repeat_fields.ensures ∙ c.if-not-repeat_fields.true)

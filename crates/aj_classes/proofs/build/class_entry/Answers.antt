@@ -11,8 +11,8 @@ invariant_of-result c =
     let count = length-map members member_of in
     let fields = few_fields (map member_of members) in
     let methods = few_methods (map member_of members) in
-    let own_fields = ap length c.in_ok-field_names.ensures in
-    let own_methods = ap length c.in_ok-method_names.ensures in
+    let own_fields = ap length (ap (λ o. o.fields) c.requires) in
+    let own_methods = ap length (ap (λ o. o.methods) c.requires) in
     record {
       few_fields = omega (arith, c.in_ok-check_room.ensures);
       few_methods = omega (arith, c.in_ok-check_room-2.ensures);

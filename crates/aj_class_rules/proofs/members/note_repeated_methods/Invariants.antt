@@ -5,7 +5,7 @@ use Rattle.aj_class_rules.specs.Names.{repeats_after}
 use Rattle.aj_class_rules.specs.Members.{method_names}
 use Rattle.aj_class_rules.specs.Faults.{twice_faults}
 use Rattle.aj_class_rules.specs.Noted.{noted}
-use Rattle.aj_class_rules.proofs.members.note_methods.Given as goal
+use Rattle.aj_class_rules.proofs.members.note_repeated_methods.Given as goal
 
 abbrev pub invariant-loop-member : goal.invariant-loop-member
 invariant-loop-member l =

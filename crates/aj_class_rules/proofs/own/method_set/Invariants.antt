@@ -2,7 +2,7 @@ use Rattle.std.proofs.Common.{◌≡◌, drop, map}
 use Rattle.aj_syntax.specs.Views.{member_of}
 use Rattle.aj_class_rules.specs.Names.{distinct, distinct_after}
 use Rattle.aj_class_rules.specs.Members.{method_names}
-use Rattle.aj_classes.proofs.build.method_set.Given as goal
+use Rattle.aj_class_rules.proofs.own.method_set.Given as goal
 
 abbrev pub invariant-loop-member : goal.invariant-loop-member
 invariant-loop-member l =
