@@ -29,6 +29,9 @@ pub fn held_under(
         let P = program_of program.now in
         has_path known.items ≡ held_under (rel_of sets.now callee) (path_of P (expr_of receiver.now)) (paths_of P (exprs_from args.now)) (has_path held.now)) }
 {
+    if held.is_empty() {
+        return Ok(Vec::new(alloc));
+    }
     let renaming = renaming_at(alloc, program, sets, receiver, callee, args)?;
     held_pairs(alloc, &renaming, held)
 }

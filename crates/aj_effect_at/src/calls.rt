@@ -16,24 +16,38 @@ use aj_paths::{MethodId, Path};
 use aj_rules::{RelevantSets, required_of};
 use std::alloc::{AllocError as NoMemory, Global};
 
+/// A call of a method on this receiver with these arguments.
+#[derive(Clone, Copy)]
+pub struct Called<'a> {
+    pub receiver: &'a CoreExpr,
+    pub callee: MethodId,
+    pub args: &'a [CoreExpr],
+}
+
 /// What is assigned to a callee at the set with which a call begins it, an error where that lacks a required path.
 pub fn call_effect<A: Assigned>(
     alloc: Global,
     program: &CoreProgram,
     sets: &RelevantSets,
     assigned: &A,
-    receiver: &CoreExpr,
-    callee: MethodId,
-    args: &[CoreExpr],
+    call: &Called<'_>,
     held: &[Path],
 ) -> Result<Basic, NoMemory>
     ensures { IfOk result (λ b.
         let P = program_of program.now in
-        b ≡ call_of P (rel_of sets.now) (A.Assigned.assigned assigned.now) callee (path_of P (expr_of receiver.now)) (paths_of P (exprs_from args.now)) (has_path held.now)) }
+        b ≡ call_of P (rel_of sets.now) (A.Assigned.assigned assigned.now) call.now.callee (path_of P (expr_of call.now.receiver.now)) (paths_of P (exprs_from call.now.args.now)) (has_path held.now)) }
 {
-    let known = held_under(alloc, program, sets, receiver, callee, args, held)?;
-    if has_all(known.as_slice(), required_of(program, callee)) {
-        Ok(assigned.at(callee, known.as_slice()))
+    let known = held_under(
+        alloc,
+        program,
+        sets,
+        call.receiver,
+        call.callee,
+        call.args,
+        held,
+    )?;
+    if has_all(known.as_slice(), required_of(program, call.callee)) {
+        Ok(assigned.at(call.callee, known.as_slice()))
     } else {
         Ok(Basic::Error)
     }

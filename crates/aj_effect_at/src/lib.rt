@@ -13,7 +13,7 @@ mod walk;
 pub use accesses::{access, variable};
 pub use assigned::Assigned;
 pub use callee_sets::{among, held_under};
-pub use calls::call_effect;
+pub use calls::{Called, call_effect};
 pub use lists::{copied, has_all, with_path};
 pub use locals::{after, local_name};
 pub use walk::{expr_effect, stmt_effect};

@@ -7,7 +7,7 @@ ghost use Rattle.aj_rules.specs.Near.{rel_of};
 
 use crate::accesses::{access, variable};
 use crate::assigned::Assigned;
-use crate::calls::call_effect;
+use crate::calls::{Called, call_effect};
 use crate::lists::{copied, with_path};
 use crate::locals::after;
 use aj_algebra::{Basic, has};
@@ -45,16 +45,12 @@ pub fn expr_effect<A: Assigned>(
         CoreExpr::Call(a, callee, args) => {
             let receiver = expr_effect(alloc, program, sets, assigned, a, held)?;
             let passed = exprs_effect(alloc, program, sets, assigned, args.as_slice(), held)?;
-            let called = call_effect(
-                alloc,
-                program,
-                sets,
-                assigned,
-                a,
-                *callee,
-                args.as_slice(),
-                held,
-            )?;
+            let call = Called {
+                receiver: a,
+                callee: *callee,
+                args: args.as_slice(),
+            };
+            let called = call_effect(alloc, program, sets, assigned, &call, held)?;
             Ok(receiver.seq(passed.seq(called)))
         }
         CoreExpr::New(_, args) => {
