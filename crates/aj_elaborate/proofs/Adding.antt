@@ -1,5 +1,5 @@
 -- The members of a class and the classes of a program, one after the other.
-use Rattle.std.proofs.Common.{◌≡◌, ℕ, ◌+◌, ◌<◌, List, ◌∷◌, Option, option_map, map, flat_map, length, drop, get_or, refl, ap, sym, ◌∙◌}
+use Rattle.std.proofs.Common.{◌≡◌, ℕ, ◌+◌, ◌<◌, List, ◌∷◌, Option, option_map, map, flat_map, length, drop, get_or, refl, ap, sym, subst, ◌∙◌}
 use Rattle.aj_lemmas.proofs.Lists.{next_drop}
 use Rattle.aj_core.specs.Core.{Field, Method}
 use Rattle.aj_syntax.specs.declared.tree.Class.{Class}
@@ -9,6 +9,7 @@ use Rattle.aj_syntax.specs.Views.{member_of, class_of}
 use Rattle.aj_classes.specs.Table.{TableData}
 use Rattle.aj_type_rules.specs.declared.fault.TypeFault.{TypeFault}
 use Rattle.aj_elaborate.specs.Classes.{inherited_count}
+use Rattle.aj_elaborate.specs.Entries.{HasEntry, HaveEntries, AllHaveEntries, method_after, fields_after, methods_after}
 use Rattle.aj_elaborate.specs.Gathered.{appended, with_field, with_method, index_after}
 use Rattle.aj_type_rules.specs.Noted.{noted}
 use Rattle.aj_elaborate.specs.Programs.{all_there, guard_path, field_node, method_core, fields_core, methods_core, member_faults, faults_from, all_fields, all_methods}
@@ -115,3 +116,60 @@ module _ (t : TableData) where
       ∙ sym (noted_append found own (faults_from t (k + 1) others))
       ∙ ap (λ z. noted found (faults_from t k (map class_of z))) (sym (next_drop cs place c within at))
       ∙ so
+
+  -- ---- entries
+
+  pub entries_next : (k : ℕ) (ms : List Member) (place i j : ℕ) (m : Member)
+      → place < length ms → m ≡ get_or ms place m
+      → HaveEntries t k (map member_of (drop place ms)) i j
+      → HasEntry t k (member_of m) i j
+  entries_next k ms place i j m within at have =
+      (subst (λ z. HaveEntries t k (map member_of z) i j) (next_drop ms place m within at) have).0
+
+  pub entries_step : (k : ℕ) (ms : List Member) (place i j field method : ℕ) (m : Member)
+      → place < length ms → m ≡ get_or ms place m
+      → HaveEntries t k (map member_of (drop place ms)) i j
+      → field ≡ index_after (member_of m) i → method ≡ method_after (member_of m) j
+      → HaveEntries t k (map member_of (drop (place + 1) ms)) field method
+  entries_step k ms place i j field method m within at have field_is method_is =
+      let others = map member_of (drop (place + 1) ms) in
+      subst (λ z. HaveEntries t k others z method) (sym field_is)
+      (subst (λ z. HaveEntries t k others (index_after (member_of m) i) z) (sym method_is)
+      (subst (λ z. HaveEntries t k (map member_of z) i j) (next_drop ms place m within at) have).1)
+
+  pub all_entries_next : (k : ℕ) (cs : List Class) (place i j : ℕ) (c : Class)
+      → place < length cs → c ≡ get_or cs place c
+      → AllHaveEntries t k (map class_of (drop place cs)) i j
+      → HaveEntries t k (map member_of c.members.items) i j
+  all_entries_next k cs place i j c within at have =
+      (subst (λ z. AllHaveEntries t k (map class_of z) i j) (next_drop cs place c within at) have).0
+
+  pub all_entries_step : (k after : ℕ) (cs : List Class) (place i j field method : ℕ) (c : Class)
+      → place < length cs → c ≡ get_or cs place c
+      → AllHaveEntries t k (map class_of (drop place cs)) i j
+      → field ≡ fields_after (map member_of c.members.items) i → method ≡ methods_after (map member_of c.members.items) j → after ≡ k + 1
+      → AllHaveEntries t after (map class_of (drop (place + 1) cs)) field method
+  all_entries_step k after cs place i j field method c within at have field_is method_is counted =
+      let others = map class_of (drop (place + 1) cs) in
+      subst (λ z. AllHaveEntries t z others field method) (sym counted)
+      (subst (λ z. AllHaveEntries t (k + 1) others z method) (sym field_is)
+      (subst (λ z. AllHaveEntries t (k + 1) others (fields_after (map member_of c.members.items) i) z) (sym method_is)
+      (subst (λ z. AllHaveEntries t k (map class_of z) i j) (next_drop cs place c within at) have).1))
+
+pub fields_step : (ms : List Member) (place i field whole : ℕ) (m : Member)
+    → place < length ms → m ≡ get_or ms place m
+    → fields_after (map member_of (drop place ms)) i ≡ whole → field ≡ index_after (member_of m) i
+    → fields_after (map member_of (drop (place + 1) ms)) field ≡ whole
+fields_step ms place i field whole m within at so is =
+    ap (fields_after (map member_of (drop (place + 1) ms))) is
+    ∙ ap (λ z. fields_after (map member_of z) i) (sym (next_drop ms place m within at))
+    ∙ so
+
+pub methods_step : (ms : List Member) (place j method whole : ℕ) (m : Member)
+    → place < length ms → m ≡ get_or ms place m
+    → methods_after (map member_of (drop place ms)) j ≡ whole → method ≡ method_after (member_of m) j
+    → methods_after (map member_of (drop (place + 1) ms)) method ≡ whole
+methods_step ms place j method whole m within at so is =
+    ap (methods_after (map member_of (drop (place + 1) ms))) is
+    ∙ ap (λ z. methods_after (map member_of z) j) (sym (next_drop ms place m within at))
+    ∙ so

@@ -34,4 +34,5 @@ pub mod Ascending
 pub mod Adding
 pub mod Answering
 pub mod Bodies
+pub mod TableEntries
 pub mod Measures

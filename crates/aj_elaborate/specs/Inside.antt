@@ -1,14 +1,31 @@
--- What the definitions of statements say inside a body.
+-- What the definitions of expressions say in an environment, and those of statements inside a body.
 use Rattle.std.specs.Prelude.{ℕ, Bool, List, Option}
 use Rattle.aj_core.specs.Core.{Stmt, Stmts}
-use Rattle.aj_syntax.specs.Trees.{StmtTree, StmtTrees, ExprTree}
+use Rattle.aj_syntax.specs.Trees.{StmtTree, StmtTrees, ExprTree, ExprTrees}
 use Rattle.aj_classes.specs.Views.{table_data}
 use Rattle.aj_elaborate.specs.declared.body.Body.{Body}
+use Rattle.aj_elaborate.specs.declared.exprs.Environment.{Environment}
 use Rattle.aj_type_rules.specs.declared.fault.TypeFault.{TypeFault}
-use Rattle.aj_type_rules.specs.Exprs.{elaborated, expr_faults}
-use Rattle.aj_type_rules.specs.Rules.{TypedData}
+use Rattle.aj_type_rules.specs.Exprs.{elaborated, elaborated_each, expr_faults, each_faults}
+use Rattle.aj_type_rules.specs.Rules.{TypedData, TypedList}
 use Rattle.aj_type_rules.specs.Scopes.{Scope}
 use Rattle.aj_type_rules.specs.Stmts.{scope_after, stmt_core, block_core, stmt_faults, block_faults}
+
+-- the type and core node of an expression in an environment
+abbrev pub typed_there : Environment → ExprTree → Option TypedData
+typed_there v = elaborated (table_data v.table.now) v.class v.scope.now
+
+-- the types and core nodes of expressions in an environment, where each has one
+abbrev pub typed_each : Environment → ExprTrees → Option TypedList
+typed_each v = elaborated_each (table_data v.table.now) v.class v.scope.now
+
+-- the faults of an expression in an environment
+abbrev pub faults_there : Environment → ExprTree → List TypeFault
+faults_there v = expr_faults (table_data v.table.now) v.class v.scope.now
+
+-- the faults of expressions in an environment
+abbrev pub faults_of_each : Environment → ExprTrees → List TypeFault
+faults_of_each v = each_faults (table_data v.table.now) v.class v.scope.now
 
 -- the type and core node of an expression
 abbrev pub typed_in : Body → Scope → ExprTree → Option TypedData

@@ -6,6 +6,7 @@ pub mod Classes
 pub mod Programs
 pub mod Alone
 pub mod Gathered
+pub mod Entries
 pub mod Making
 pub mod Order
 pub mod Merged

@@ -9,7 +9,7 @@ ghost use Rattle.aj_type_rules.specs.Rulings.{broken, given};
 ghost use Rattle.aj_type_rules.specs.Stmts.{condition_rule};
 ghost use Rattle.aj_type_rules.specs.Views.{boxed_data, boxed_expr as boxed_node};
 
-use crate::exprs::boxed_expr;
+use crate::exprs::{Environment, boxed_expr};
 use aj_classes::ClassTable;
 use aj_core::{CoreExpr, CoreType};
 use aj_paths::ClassId;
@@ -38,7 +38,12 @@ pub(crate) fn typed(
     ensures typed { IfOk result (λ r. option_map boxed_data r ≡ typed_in body.now scope.now (expr_of e.now)) }
     ensures fault { OnOk result (first.new ≡ noted first.old (expr_faults_in body.now scope.now (expr_of e.now))) }
 {
-    boxed_expr(body.alloc, body.table, body.class, scope, e, first)
+    let environment = Environment {
+        table: body.table,
+        class: body.class,
+        scope,
+    };
+    boxed_expr(body.alloc, &environment, e, first)
 }
 
 /// A condition with these variables in scope.

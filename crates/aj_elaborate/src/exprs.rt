@@ -2,10 +2,9 @@
 #![tactic(auto, using(aj_type_rules::proofs::Noting::noted_append))]
 
 ghost use Rattle.std.specs.Prelude.{◌≡◌, map, option_map, IfOk, OnOk};
-ghost use Rattle.aj_classes.specs.Views.{table_data};
 ghost use Rattle.aj_syntax.specs.Trees.{BinaryE, CallE, GetE, NegE, NewE, NotE};
 ghost use Rattle.aj_syntax.specs.Views.{expr_of, exprs_from};
-ghost use Rattle.aj_type_rules.specs.Exprs.{elaborated, elaborated_each, expr_faults, each_faults};
+ghost use Rattle.aj_elaborate.specs.Inside.{typed_there, typed_each, faults_there, faults_of_each};
 ghost use Rattle.aj_type_rules.specs.Noted.{noted};
 ghost use Rattle.aj_type_rules.specs.Views.{boxed_data, typed_data, typed_list};
 
@@ -20,18 +19,24 @@ use aj_type_rules::{
 };
 use std::alloc::{AllocError as NoMemory, Global};
 
-/// An expression in a class, with these variables in scope. None where it has no type; its faults are noted.
+/// What the names of an expression are looked up in: the class table, the class that it stands in, and the variables in scope.
+#[derive(Clone, Copy)]
+pub(crate) struct Environment<'t, 'a> {
+    pub(crate) table: &'t ClassTable<'a>,
+    pub(crate) class: ClassId,
+    pub(crate) scope: &'t [Bound<'a>],
+}
+
+/// An expression in an environment. None where it has no type; its faults are noted.
 #[cycle(expressions)]
 fn expr(
     alloc: Global,
-    table: &ClassTable,
-    class: ClassId,
-    scope: &[Bound],
+    environment: &Environment,
     e: &Expr,
     first: &mut FirstFault,
 ) -> Result<Option<TypedExpr>, NoMemory>
-    ensures typed { IfOk result (λ r. option_map typed_data r ≡ elaborated (table_data table.now) class scope.now (expr_of e.now)) }
-    ensures fault { OnOk result (first.new ≡ noted first.old (expr_faults (table_data table.now) class scope.now (expr_of e.now))) }
+    ensures typed { IfOk result (λ r. option_map typed_data r ≡ typed_there environment.now (expr_of e.now)) }
+    ensures fault { OnOk result (first.new ≡ noted first.old (faults_there environment.now (expr_of e.now))) }
 {
     match e {
         Expr::Number(number, at) => Ok(number_rule(*number, *at, first)),
@@ -41,19 +46,19 @@ fn expr(
             ty: ExprType::Null,
             node: CoreExpr::Null,
         })),
-        Expr::This(_) => Ok(Some(value(CoreType::Class(class), CoreExpr::This))),
-        Expr::Var(name) => Ok(variable_rule(scope, name, first)),
-        Expr::Paren(inner, _) => expr(alloc, table, class, scope, inner, first),
-        Expr::Not(part, at) => not_expr(alloc, table, class, scope, part, *at, first),
-        Expr::Neg(part, at) => neg_expr(alloc, table, class, scope, part, *at, first),
+        Expr::This(_) => Ok(Some(value(CoreType::Class(environment.class), CoreExpr::This))),
+        Expr::Var(name) => Ok(variable_rule(environment.scope, name, first)),
+        Expr::Paren(inner, _) => expr(alloc, environment, inner, first),
+        Expr::Not(part, at) => not_expr(alloc, environment, part, *at, first),
+        Expr::Neg(part, at) => neg_expr(alloc, environment, part, *at, first),
         Expr::Binary(op, left, right, at) => {
-            binary_expr(alloc, table, class, scope, *op, left, right, *at, first)
+            binary_expr(alloc, environment, *op, left, right, *at, first)
         }
-        Expr::Get(receiver, name) => get_expr(alloc, table, class, scope, receiver, name, first),
+        Expr::Get(receiver, name) => get_expr(alloc, environment, receiver, name, first),
         Expr::Call(receiver, name, args) => {
-            call_expr(alloc, table, class, scope, receiver, name, args, first)
+            call_expr(alloc, environment, receiver, name, args, first)
         }
-        Expr::New(name, args, _) => new_expr(alloc, table, class, scope, name, args, first),
+        Expr::New(name, args, _) => new_expr(alloc, environment, name, args, first),
     }
 }
 
@@ -61,16 +66,14 @@ fn expr(
 #[cycle(expressions)]
 pub(crate) fn boxed_expr(
     alloc: Global,
-    table: &ClassTable,
-    class: ClassId,
-    scope: &[Bound],
+    environment: &Environment,
     e: &Expr,
     first: &mut FirstFault,
 ) -> Result<Option<BoxedExpr>, NoMemory>
-    ensures typed { IfOk result (λ r. option_map boxed_data r ≡ elaborated (table_data table.now) class scope.now (expr_of e.now)) }
-    ensures fault { OnOk result (first.new ≡ noted first.old (expr_faults (table_data table.now) class scope.now (expr_of e.now))) }
+    ensures typed { IfOk result (λ r. option_map boxed_data r ≡ typed_there environment.now (expr_of e.now)) }
+    ensures fault { OnOk result (first.new ≡ noted first.old (faults_there environment.now (expr_of e.now))) }
 {
-    let Some(made) = expr(alloc, table, class, scope, e, first)? else {
+    let Some(made) = expr(alloc, environment, e, first)? else {
         return Ok(None);
     };
     let node = Box::new(alloc, made.node)?;
@@ -81,17 +84,15 @@ pub(crate) fn boxed_expr(
 #[inline(never)]
 fn not_expr(
     alloc: Global,
-    table: &ClassTable,
-    class: ClassId,
-    scope: &[Bound],
+    environment: &Environment,
     part: &Expr,
     at: u32,
     first: &mut FirstFault,
 ) -> Result<Option<TypedExpr>, NoMemory>
-    ensures typed { IfOk result (λ r. option_map typed_data r ≡ elaborated (table_data table.now) class scope.now (NotE (expr_of part.now) at)) }
-    ensures fault { OnOk result (first.new ≡ noted first.old (expr_faults (table_data table.now) class scope.now (NotE (expr_of part.now) at))) }
+    ensures typed { IfOk result (λ r. option_map typed_data r ≡ typed_there environment.now (NotE (expr_of part.now) at)) }
+    ensures fault { OnOk result (first.new ≡ noted first.old (faults_there environment.now (NotE (expr_of part.now) at))) }
 {
-    let part = boxed_expr(alloc, table, class, scope, part, first)?;
+    let part = boxed_expr(alloc, environment, part, first)?;
     Ok(not_rule(at, part, first))
 }
 
@@ -99,17 +100,15 @@ fn not_expr(
 #[inline(never)]
 fn neg_expr(
     alloc: Global,
-    table: &ClassTable,
-    class: ClassId,
-    scope: &[Bound],
+    environment: &Environment,
     part: &Expr,
     at: u32,
     first: &mut FirstFault,
 ) -> Result<Option<TypedExpr>, NoMemory>
-    ensures typed { IfOk result (λ r. option_map typed_data r ≡ elaborated (table_data table.now) class scope.now (NegE (expr_of part.now) at)) }
-    ensures fault { OnOk result (first.new ≡ noted first.old (expr_faults (table_data table.now) class scope.now (NegE (expr_of part.now) at))) }
+    ensures typed { IfOk result (λ r. option_map typed_data r ≡ typed_there environment.now (NegE (expr_of part.now) at)) }
+    ensures fault { OnOk result (first.new ≡ noted first.old (faults_there environment.now (NegE (expr_of part.now) at))) }
 {
-    let part = boxed_expr(alloc, table, class, scope, part, first)?;
+    let part = boxed_expr(alloc, environment, part, first)?;
     Ok(neg_rule(at, part, first))
 }
 
@@ -117,94 +116,84 @@ fn neg_expr(
 #[inline(never)]
 fn binary_expr(
     alloc: Global,
-    table: &ClassTable,
-    class: ClassId,
-    scope: &[Bound],
+    environment: &Environment,
     op: Op,
     left: &Expr,
     right: &Expr,
     at: u32,
     first: &mut FirstFault,
 ) -> Result<Option<TypedExpr>, NoMemory>
-    ensures typed { IfOk result (λ r. option_map typed_data r ≡ elaborated (table_data table.now) class scope.now (BinaryE op (expr_of left.now) (expr_of right.now) at)) }
-    ensures fault { OnOk result (first.new ≡ noted first.old (expr_faults (table_data table.now) class scope.now (BinaryE op (expr_of left.now) (expr_of right.now) at))) }
+    ensures typed { IfOk result (λ r. option_map typed_data r ≡ typed_there environment.now (BinaryE op (expr_of left.now) (expr_of right.now) at)) }
+    ensures fault { OnOk result (first.new ≡ noted first.old (faults_there environment.now (BinaryE op (expr_of left.now) (expr_of right.now) at))) }
 {
-    let left = boxed_expr(alloc, table, class, scope, left, first)?;
-    let right = boxed_expr(alloc, table, class, scope, right, first)?;
-    Ok(binary_rule(table, op, at, left, right, first))
+    let left = boxed_expr(alloc, environment, left, first)?;
+    let right = boxed_expr(alloc, environment, right, first)?;
+    Ok(binary_rule(environment.table, op, at, left, right, first))
 }
 
 #[cycle(expressions)]
 #[inline(never)]
 fn get_expr(
     alloc: Global,
-    table: &ClassTable,
-    class: ClassId,
-    scope: &[Bound],
+    environment: &Environment,
     receiver: &Expr,
     name: &Name,
     first: &mut FirstFault,
 ) -> Result<Option<TypedExpr>, NoMemory>
-    ensures typed { IfOk result (λ r. option_map typed_data r ≡ elaborated (table_data table.now) class scope.now (GetE (expr_of receiver.now) name.now)) }
-    ensures fault { OnOk result (first.new ≡ noted first.old (expr_faults (table_data table.now) class scope.now (GetE (expr_of receiver.now) name.now))) }
+    ensures typed { IfOk result (λ r. option_map typed_data r ≡ typed_there environment.now (GetE (expr_of receiver.now) name.now)) }
+    ensures fault { OnOk result (first.new ≡ noted first.old (faults_there environment.now (GetE (expr_of receiver.now) name.now))) }
 {
-    let receiver = boxed_expr(alloc, table, class, scope, receiver, first)?;
-    Ok(get_rule(table, name, receiver, first))
+    let receiver = boxed_expr(alloc, environment, receiver, first)?;
+    Ok(get_rule(environment.table, name, receiver, first))
 }
 
 #[cycle(expressions)]
 #[inline(never)]
 fn call_expr(
     alloc: Global,
-    table: &ClassTable,
-    class: ClassId,
-    scope: &[Bound],
+    environment: &Environment,
     receiver: &Expr,
     name: &Name,
     args: &[Expr],
     first: &mut FirstFault,
 ) -> Result<Option<TypedExpr>, NoMemory>
-    ensures typed { IfOk result (λ r. option_map typed_data r ≡ elaborated (table_data table.now) class scope.now (CallE (expr_of receiver.now) name.now (exprs_from (map expr_of args.now)))) }
-    ensures fault { OnOk result (first.new ≡ noted first.old (expr_faults (table_data table.now) class scope.now (CallE (expr_of receiver.now) name.now (exprs_from (map expr_of args.now))))) }
+    ensures typed { IfOk result (λ r. option_map typed_data r ≡ typed_there environment.now (CallE (expr_of receiver.now) name.now (exprs_from (map expr_of args.now)))) }
+    ensures fault { OnOk result (first.new ≡ noted first.old (faults_there environment.now (CallE (expr_of receiver.now) name.now (exprs_from (map expr_of args.now))))) }
 {
-    let receiver = boxed_expr(alloc, table, class, scope, receiver, first)?;
-    let args = arguments(alloc, table, class, scope, args, first)?;
-    call_rule(alloc, table, name, receiver, args, first)
+    let receiver = boxed_expr(alloc, environment, receiver, first)?;
+    let args = arguments(alloc, environment, args, first)?;
+    call_rule(alloc, environment.table, name, receiver, args, first)
 }
 
 #[cycle(expressions)]
 #[inline(never)]
 fn new_expr(
     alloc: Global,
-    table: &ClassTable,
-    class: ClassId,
-    scope: &[Bound],
+    environment: &Environment,
     name: &Name,
     args: &[Expr],
     first: &mut FirstFault,
 ) -> Result<Option<TypedExpr>, NoMemory>
-    ensures typed { IfOk result (λ r. option_map typed_data r ≡ elaborated (table_data table.now) class scope.now (NewE name.now (exprs_from (map expr_of args.now)) 0)) }
-    ensures fault { OnOk result (first.new ≡ noted first.old (expr_faults (table_data table.now) class scope.now (NewE name.now (exprs_from (map expr_of args.now)) 0))) }
+    ensures typed { IfOk result (λ r. option_map typed_data r ≡ typed_there environment.now (NewE name.now (exprs_from (map expr_of args.now)) 0)) }
+    ensures fault { OnOk result (first.new ≡ noted first.old (faults_there environment.now (NewE name.now (exprs_from (map expr_of args.now)) 0))) }
 {
-    let args = arguments(alloc, table, class, scope, args, first)?;
-    new_rule(alloc, table, name, args, first)
+    let args = arguments(alloc, environment, args, first)?;
+    new_rule(alloc, environment.table, name, args, first)
 }
 
 #[cycle(expressions)]
 fn arguments(
     alloc: Global,
-    table: &ClassTable,
-    class: ClassId,
-    scope: &[Bound],
+    environment: &Environment,
     args: &[Expr],
     first: &mut FirstFault,
 ) -> Result<Option<Vec<TypedExpr>>, NoMemory>
-    ensures typed { IfOk result (λ r. option_map (λ a. typed_list a.items) r ≡ elaborated_each (table_data table.now) class scope.now (exprs_from (map expr_of args.now))) }
-    ensures fault { OnOk result (first.new ≡ noted first.old (each_faults (table_data table.now) class scope.now (exprs_from (map expr_of args.now)))) }
+    ensures typed { IfOk result (λ r. option_map (λ a. typed_list a.items) r ≡ typed_each environment.now (exprs_from (map expr_of args.now))) }
+    ensures fault { OnOk result (first.new ≡ noted first.old (faults_of_each environment.now (exprs_from (map expr_of args.now)))) }
 {
     let mut parts = Gathered::new(alloc);
     for arg in args {
-        parts.add(expr(alloc, table, class, scope, arg, first)?)?;
+        parts.add(expr(alloc, environment, arg, first)?)?;
     }
     Ok(parts.all())
 }

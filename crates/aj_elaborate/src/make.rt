@@ -82,7 +82,12 @@ fn assembled(
     requires whole { (P : CoreData) × (option_map (program_node (table_data table.now)) (both (fields_data parts) (methods_data parts)) ≡ Some P) }
     ensures { IfOk result (λ p. Some (core.program_of p) ≡ option_map (program_node (table_data table.now)) (both (fields_data parts) (methods_data parts))) }
 {
-    let Members { fields, methods } = parts;
+    let Members {
+        fields,
+        methods,
+        next_field: _,
+        next_method: _,
+    } = parts;
     let fields = fields.all().unwrap();
     let methods = methods.all().unwrap();
     core_program(alloc, table, order, lineages, fields, methods)

@@ -2,10 +2,12 @@
 #![tactic(auto, using(aj_type_rules::proofs::Noting::noted_append))]
 
 ghost use Rattle.std.specs.Prelude.{false, ◌≡◌, ◌+◌, ◌<◌, ℕ, Some, length, map, option_map, slice_get, IfOk, OnOk};
-ghost use Rattle.aj_classes.specs.Table.{type_of};
-ghost use Rattle.aj_classes.specs.Views.{table_data};
+ghost use Rattle.aj_classes.specs.Seen.{FieldData};
+ghost use Rattle.aj_classes.specs.Table.{MethodData};
+ghost use Rattle.aj_classes.specs.Views.{method_data, table_data};
 ghost use Rattle.aj_core.specs.Views.{field_of};
 ghost use Rattle.aj_syntax.specs.Views.{lock_of, member_of, class_of};
+ghost use Rattle.aj_elaborate.specs.Entries.{HasEntry, HaveEntries, AllHaveEntries, method_after, fields_after, methods_after};
 ghost use Rattle.aj_elaborate.specs.Gathered.{appended, with_field, with_method, index_after};
 ghost use Rattle.aj_type_rules.specs.Noted.{noted};
 ghost use Rattle.aj_elaborate.specs.Programs.{all_there, guard_faults, guard_path, member_faults, faults_from, fields_core, methods_core, all_fields, all_methods};
@@ -16,19 +18,21 @@ ghost use Rattle.aj_elaborate.specs.Lineages.{lineage_of};
 use crate::columns::value_of;
 use crate::gather::Gathered;
 use crate::lineage::Lineage;
-use crate::methods::{core_type, method};
-use aj_classes::ClassTable;
+use crate::methods::method;
+use aj_classes::{ClassTable, FieldEntry, MethodEntry};
 use aj_core::{CoreField, CoreMethod};
 use aj_paths::{ClassId, Path};
-use aj_syntax::{Class, Lock, Member, TypeName};
+use aj_syntax::{Class, Lock, Member};
 use aj_type_rules::{FirstFault, lock_path};
 use std::alloc::{AllocError as NoMemory, Global};
 
-/// The core fields and methods so far.
+/// The core fields and methods so far, and the numbers of the next ones in the class table.
 #[derive(Drop)]
 pub(crate) struct Members {
     pub(crate) fields: Gathered<CoreField>,
     pub(crate) methods: Gathered<CoreMethod>,
+    pub(crate) next_field: u32,
+    pub(crate) next_method: u32,
 }
 
 /// The path of a guard, if there is one. None where the guard is no lock.
@@ -48,23 +52,37 @@ fn guard_path(
     Some(Some(path))
 }
 
+/// The entry of a field of the class table.
+fn field_entry<'t, 'a>(table: &'t ClassTable<'a>, number: u32) -> &'t FieldEntry<'a>
+    requires { (f : FieldData) × (slice_get (table_data table.now).fields number ≡ Some f) }
+    ensures { slice_get (table_data table.now).fields number ≡ Some result.now }
+{
+    &table.fields()[number as usize]
+}
+
+/// The entry of a method of the class table.
+fn method_entry<'t, 'a>(table: &'t ClassTable<'a>, number: u32) -> &'t MethodEntry<'a>
+    requires { (m : MethodData) × (slice_get (table_data table.now).methods number ≡ Some m) }
+    ensures { slice_get (table_data table.now).methods number ≡ Some (method_data result.now) }
+{
+    &table.methods()[number as usize]
+}
+
+/// The core field of a field with this entry.
 fn field(
-    table: &ClassTable,
-    class: ClassId,
+    entry: &FieldEntry,
     index: u16,
-    is_final: bool,
-    ty: &TypeName,
     guard: Option<Option<Path>>,
     writes_only: bool,
 ) -> Option<CoreField>
-    ensures { option_map field_of result ≡ option_map (λ g. record { class = class; index = index; is_final = is_final; ty = type_of (table_data table.now).names ty.now; guard = g; writes_only = writes_only }) guard }
+    ensures { option_map field_of result ≡ option_map (λ g. record { class = entry.now.class; index = index; is_final = entry.now.is_final; ty = entry.now.ty; guard = g; writes_only = writes_only }) guard }
 {
     let guard = guard?;
     Some(CoreField {
-        class,
+        class: entry.class,
         index,
-        is_final,
-        ty: core_type(table, ty),
+        is_final: entry.is_final,
+        ty: entry.ty,
         guard,
         writes_only,
     })
@@ -90,28 +108,32 @@ fn add_member(
     parts: &mut Members,
     first: &mut FirstFault,
 ) -> Result<u16, NoMemory>
+    requires { HasEntry (table_data table.now) class (member_of member.now) parts.old.next_field parts.old.next_method }
     ensures fields { OnOk result (fields_data parts.new ≡ with_field (table_data table.now) class index (member_of member.now) (fields_data parts.old)) }
     ensures methods { OnOk result (methods_data parts.new ≡ with_method (table_data table.now) class (member_of member.now) (methods_data parts.old)) }
+    ensures next_field { OnOk result (parts.new.next_field ≡ index_after (member_of member.now) parts.old.next_field) }
+    ensures next_method { OnOk result (parts.new.next_method ≡ method_after (member_of member.now) parts.old.next_method) }
     ensures index { IfOk result (λ n. n ≡ index_after (member_of member.now) index) }
     ensures fault { OnOk result (first.new ≡ noted first.old (member_faults (table_data table.now) class (member_of member.now))) }
 {
     match member {
         Member::Field {
-            is_final,
-            ty,
             guard,
             writes_only,
-            name: _,
+            ..
         } => {
+            let entry = field_entry(table, parts.next_field);
             let guard = guard_path(table, class, guard, first);
-            let field = field(table, class, index, *is_final, ty, guard, *writes_only);
-            parts.fields.add(field)?;
+            parts.fields.add(field(entry, index, guard, *writes_only))?;
+            parts.next_field = next_number(parts.next_field)?;
             next_index(index)
         }
         Member::Ctor { .. } => Ok(index),
         Member::Method { .. } => {
-            let method = method(alloc, table, class, member, first)?;
+            let entry = method_entry(table, parts.next_method);
+            let method = method(alloc, table, class, entry, member, first)?;
             parts.methods.add(method)?;
+            parts.next_method = next_number(parts.next_method)?;
             Ok(index)
         }
     }
@@ -127,8 +149,11 @@ fn add_members(
     parts: &mut Members,
     first: &mut FirstFault,
 ) -> Result<(), NoMemory>
+    requires { HaveEntries (table_data table.now) class (map member_of members.now) parts.old.next_field parts.old.next_method }
     ensures fields { OnOk result (fields_data parts.new ≡ appended (fields_data parts.old) (all_there (fields_core (table_data table.now) class inherited (map member_of members.now)))) }
     ensures methods { OnOk result (methods_data parts.new ≡ appended (methods_data parts.old) (all_there (methods_core (table_data table.now) class (map member_of members.now)))) }
+    ensures next_field { OnOk result (parts.new.next_field ≡ fields_after (map member_of members.now) parts.old.next_field) }
+    ensures next_method { OnOk result (parts.new.next_method ≡ methods_after (map member_of members.now) parts.old.next_method) }
     ensures fault { OnOk result (first.new ≡ noted first.old (flat_map (member_faults (table_data table.now) class) (map member_of members.now))) }
 {
     let mut index = inherited;
@@ -157,6 +182,7 @@ pub(crate) fn parts_of(
     first: &mut FirstFault,
 ) -> Result<Members, NoMemory>
     requires many { length classes.now ≡ length (table_data table.now).classes }
+    requires entries { AllHaveEntries (table_data table.now) 0 (map class_of classes.now) 0 0 }
     requires lineages { (c : ℕ) → c < length (table_data table.now).classes → slice_get lineages.now c ≡ Some (lineage_of (table_data table.now) c) }
     ensures fields { IfOk result (λ p. fields_data p ≡ all_there (all_fields (table_data table.now) 0 (map class_of classes.now))) }
     ensures methods { IfOk result (λ p. methods_data p ≡ all_there (all_methods (table_data table.now) 0 (map class_of classes.now))) }
@@ -165,6 +191,8 @@ pub(crate) fn parts_of(
     let mut parts = Members {
         fields: Gathered::new(alloc),
         methods: Gathered::new(alloc),
+        next_field: 0,
+        next_method: 0,
     };
     let mut number = 0;
     for class in classes {

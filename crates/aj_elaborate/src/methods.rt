@@ -1,9 +1,10 @@
 //! Methods: their parameters, locks and bodies.
 #![tactic(auto, using(aj_type_rules::proofs::Noting::noted_append))]
 
-ghost use Rattle.std.specs.Prelude.{true, ◌≡◌, ◌+◌, length, map, flat_map, option_map, is_some, IfOk, OnOk};
-ghost use Rattle.aj_classes.specs.Table.{type_of};
-ghost use Rattle.aj_classes.specs.Views.{table_data};
+ghost use Rattle.std.specs.Prelude.{true, ◌≡◌, ◌<◌, ◌+◌, Some, length, map, flat_map, option_map, slice_get, IfOk, OnOk};
+ghost use Rattle.aj_classes.specs.Seen.{ParamData};
+ghost use Rattle.aj_classes.specs.Table.{param_of};
+ghost use Rattle.aj_classes.specs.Views.{method_data, table_data};
 ghost use Rattle.aj_core.specs.Views.{method_of, stmt_of};
 ghost use Rattle.aj_core.specs.Core.{BlockS};
 ghost use Rattle.aj_syntax.specs.Views.{lock_of, member_of, stmt_of as tree_of, stmts_from};
@@ -11,6 +12,7 @@ ghost use Rattle.aj_elaborate.specs.Inside.{block_faults_in, block_in};
 ghost use Rattle.aj_type_rules.specs.Completion.{locals_in_each, completes_each};
 ghost use Rattle.aj_elaborate.specs.Gathered.{method_in, faults_in_method};
 ghost use Rattle.aj_type_rules.specs.Locks.{lock_rule};
+ghost use Rattle.aj_elaborate.specs.Entries.{IsEntryOf};
 ghost use Rattle.aj_elaborate.specs.Making.{method_with, types_in};
 ghost use Rattle.aj_type_rules.specs.Noted.{noted};
 ghost use Rattle.aj_elaborate.specs.Programs.{all_there, ascending};
@@ -21,35 +23,13 @@ use crate::body::Body;
 use crate::gather::Gathered;
 use crate::nodes::StmtPart;
 use crate::stmts::block;
-use aj_classes::ClassTable;
+use aj_classes::{ClassTable, MethodEntry, ParamEntry};
 use aj_core::{CoreMethod, CoreType};
 use aj_paths::{ClassId, Path};
-use aj_syntax::{Lock, Member, Param, Stmt, TypeName};
+use aj_syntax::{Lock, Member, Param, Stmt};
 use aj_type_rules::{Bound, FirstFault, lock_path, note_missing_return};
 use std::alloc::{AllocError as NoMemory, Global};
 use std::collections::BTreeSet;
-
-/// The type that is written; that of class 0 for a name of no class.
-pub(crate) fn core_type(table: &ClassTable, ty: &TypeName) -> CoreType
-    ensures { result ≡ type_of (table_data table.now).names ty.now }
-{
-    match ty {
-        TypeName::Int => CoreType::Int,
-        TypeName::Boolean => CoreType::Boolean,
-        TypeName::Class(name) => {
-            CoreType::Class(table.class_named(name.text).unwrap_or(ClassId(0)))
-        }
-    }
-}
-
-fn result_of(table: &ClassTable, returns: &Option<TypeName>) -> Option<CoreType>
-    ensures { result ≡ option_map (type_of (table_data table.now).names) returns.now }
-{
-    match returns {
-        Some(ty) => Some(core_type(table, ty)),
-        None => None,
-    }
-}
 
 /// The slot after this one. There is no memory for a method with more parameters than slots.
 fn next_slot(slot: u16) -> Result<u16, NoMemory>
@@ -61,21 +41,33 @@ fn next_slot(slot: u16) -> Result<u16, NoMemory>
     }
 }
 
+/// The type of a parameter by its entry.
+fn type_at(entries: &[ParamEntry], place: usize) -> CoreType
+    requires { place < length entries.now }
+    ensures { (e : ParamData) → slice_get entries.now place ≡ Some e → result ≡ e.ty }
+{
+    let entry = &entries[place];
+    entry.ty
+}
+
+/// The parameters of a method, which have these entries in the class table, as they are in scope.
 fn parameters<'a>(
     alloc: Global,
     table: &ClassTable,
     params: &[Param<'a>],
+    entries: &[ParamEntry],
 ) -> Result<Vec<Bound<'a>>, NoMemory>
+    requires { entries.now ≡ map (param_of (table_data table.now).names) params.now }
     ensures { IfOk result (λ scope. scope.items ≡ parameters_from (table_data table.now) 1 params.now) }
 {
     let mut scope = Vec::new(alloc);
     let mut slot = 1;
-    for param in params {
+    for (place, param) in params.iter().enumerate() {
         let bound = Bound {
             name: param.name.text,
             slot,
             is_final: param.is_final,
-            ty: core_type(table, &param.ty),
+            ty: type_at(entries, place),
         };
         scope.push(bound)?;
         slot = next_slot(slot)?;
@@ -156,14 +148,16 @@ struct MethodParts {
     body: StmtPart,
 }
 
-/// The parts of a method with these parameters.
+/// The parts of a method with these parameters, which have these entries in the class table.
 fn method_parts<'a>(
     body: &Body,
     params: &[Param<'a>],
+    entries: &[ParamEntry],
     locks: &[Lock],
     stmts: &[Stmt<'a>],
     first: &mut FirstFault,
 ) -> Result<MethodParts, NoMemory>
+    requires { entries.now ≡ map (param_of (table_data body.now.table.now).names) params.now }
     ensures types { IfOk result (λ made. made.types.items ≡ types_in (table_data body.now.table.now) params.now) }
     ensures locks { IfOk result (λ made. option_map (λ v. v.items) made.locks ≡ all_there (map (λ l. gain (lock_rule (table_data body.now.table.now) body.now.class (parameters_from (table_data body.now.table.now) 1 params.now) l)) (map lock_of locks.now))) }
     ensures node { IfOk result (λ made. option_map stmt_of made.body.node ≡ option_map BlockS (block_in body.now (parameters_from (table_data body.now.table.now) 1 params.now) 0 (stmts_from (map tree_of stmts.now)))) }
@@ -171,7 +165,7 @@ fn method_parts<'a>(
     ensures completes { IfOk result (λ made. made.body.completes ≡ completes_each (stmts_from (map tree_of stmts.now))) }
     ensures fault { OnOk result (first.new ≡ noted (noted first.old (flat_map (λ l. loss (lock_rule (table_data body.now.table.now) body.now.class (parameters_from (table_data body.now.table.now) 1 params.now) l)) (map lock_of locks.now))) (block_faults_in body.now (parameters_from (table_data body.now.table.now) 1 params.now) 0 true (stmts_from (map tree_of stmts.now)))) }
 {
-    let mut scope = parameters(body.alloc, body.table, params)?;
+    let mut scope = parameters(body.alloc, body.table, params, entries)?;
     let locks = required(
         body.alloc,
         body.table,
@@ -228,14 +222,16 @@ fn core_method(
     }))
 }
 
-/// A method of a class. None for another member.
+/// A method of a class, which has this entry in the class table. None for another member.
 pub(crate) fn method(
     alloc: Global,
     table: &ClassTable,
     class: ClassId,
+    entry: &MethodEntry,
     member: &Member,
     first: &mut FirstFault,
 ) -> Result<Option<CoreMethod>, NoMemory>
+    requires { IsEntryOf (table_data table.now) class (member_of member.now) (method_data entry.now) }
     ensures node { IfOk result (λ m. option_map method_of m ≡ method_in (table_data table.now) class (member_of member.now)) }
     ensures fault { OnOk result (first.new ≡ noted first.old (faults_in_method (table_data table.now) class (member_of member.now))) }
 {
@@ -256,10 +252,17 @@ pub(crate) fn method(
         alloc,
         table,
         class,
-        returns: result_of(table, returns),
+        returns: entry.returns,
         first_local: first_local(params)?,
     };
-    let made = method_parts(&body, params, requires_.as_slice(), stmts.as_slice(), first)?;
+    let made = method_parts(
+        &body,
+        params,
+        entry.params.as_slice(),
+        requires_.as_slice(),
+        stmts.as_slice(),
+        first,
+    )?;
     note_missing_return(returns.is_some(), made.body.completes, *at, first);
     core_method(&body, *atomic, name.at, made)
 }

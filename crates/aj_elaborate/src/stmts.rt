@@ -45,27 +45,34 @@ fn simple(node: Option<CoreStmt>) -> StmtPart
     }
 }
 
+/// A declaration of a local.
+#[derive(Clone, Copy)]
+struct Declaration<'s, 'a> {
+    is_final: bool,
+    ty: &'s TypeName<'a>,
+    name: &'s Name<'a>,
+    value: &'s Expr<'a>,
+}
+
 fn local(
     body: &Body,
     scope: &[Bound],
     before: usize,
-    is_final: bool,
-    ty: &TypeName,
-    name: &Name,
-    value: &Expr,
+    declaration: &Declaration,
     first: &mut FirstFault,
 ) -> Result<StmtPart, NoMemory>
-    ensures node { IfOk result (λ p. option_map core.stmt_of p.node ≡ core_in body.now scope.now before (tree.LocalS is_final ty.now name.now (expr_of value.now) 0)) }
+    ensures node { IfOk result (λ p. option_map core.stmt_of p.node ≡ core_in body.now scope.now before (tree.LocalS declaration.now.is_final declaration.now.ty.now declaration.now.name.now (expr_of declaration.now.value.now) 0)) }
     ensures locals { IfOk result (λ p. p.locals ≡ 1) }
     ensures completes { IfOk result (λ p. p.completes ≡ true) }
-    ensures declared { IfOk result (λ p. p.declared ≡ gain (type_rule (table_data body.now.table.now) ty.now)) }
-    ensures fault { OnOk result (first.new ≡ noted first.old (faults_in body.now scope.now before (tree.LocalS is_final ty.now name.now (expr_of value.now) 0))) }
+    ensures declared { IfOk result (λ p. p.declared ≡ gain (type_rule (table_data body.now.table.now) declaration.now.ty.now)) }
+    ensures fault { OnOk result (first.new ≡ noted first.old (faults_in body.now scope.now before (tree.LocalS declaration.now.is_final declaration.now.ty.now declaration.now.name.now (expr_of declaration.now.value.now) 0))) }
 {
-    let ty = type_rule(body.table, ty, first);
-    let value = typed(body, scope, value, first)?;
+    let name = declaration.name;
+    let ty = type_rule(body.table, declaration.ty, first);
+    let value = typed(body, scope, declaration.value, first)?;
     let value = local_value(body.table, name.at, &ty, value, first);
     note_declaration(scope, before, name, first);
-    let node = local_node(body.first_local, before, is_final, value);
+    let node = local_node(body.first_local, before, declaration.is_final, value);
     Ok(StmtPart {
         node,
         locals: 1,
@@ -94,25 +101,31 @@ fn set_var(
     Ok(simple(node))
 }
 
+/// An assignment to a field.
+#[derive(Clone, Copy)]
+struct FieldAssignment<'s, 'a> {
+    receiver: &'s Expr<'a>,
+    name: &'s Name<'a>,
+    value: &'s Expr<'a>,
+    at: u32,
+}
+
 fn set_field(
     body: &Body,
     scope: &[Bound],
-    receiver: &Expr,
-    name: &Name,
-    value: &Expr,
-    at: u32,
+    assignment: &FieldAssignment,
     first: &mut FirstFault,
 ) -> Result<StmtPart, NoMemory>
-    ensures node { IfOk result (λ p. option_map core.stmt_of p.node ≡ core_in body.now scope.now 0 (tree.SetFieldS (expr_of receiver.now) name.now (expr_of value.now) at)) }
+    ensures node { IfOk result (λ p. option_map core.stmt_of p.node ≡ core_in body.now scope.now 0 (tree.SetFieldS (expr_of assignment.now.receiver.now) assignment.now.name.now (expr_of assignment.now.value.now) assignment.now.at)) }
     ensures locals { IfOk result (λ p. p.locals ≡ 0) }
     ensures completes { IfOk result (λ p. p.completes ≡ true) }
     ensures declared { IfOk result (λ p. p.declared ≡ None) }
-    ensures fault { OnOk result (first.new ≡ noted first.old (faults_in body.now scope.now 0 (tree.SetFieldS (expr_of receiver.now) name.now (expr_of value.now) at))) }
+    ensures fault { OnOk result (first.new ≡ noted first.old (faults_in body.now scope.now 0 (tree.SetFieldS (expr_of assignment.now.receiver.now) assignment.now.name.now (expr_of assignment.now.value.now) assignment.now.at))) }
 {
-    let receiver = typed(body, scope, receiver, first)?;
-    let target = field_target(body.table, name, receiver, first);
-    let value = typed(body, scope, value, first)?;
-    let node = put_rule(body.table, at, target, value, first);
+    let receiver = typed(body, scope, assignment.receiver, first)?;
+    let target = field_target(body.table, assignment.name, receiver, first);
+    let value = typed(body, scope, assignment.value, first)?;
+    let node = put_rule(body.table, assignment.at, target, value, first);
     Ok(simple(node))
 }
 
@@ -275,22 +288,73 @@ fn stmt<'a>(
             name,
             value,
             at: _,
-        } => local(body, seen, before, *is_final, ty, name, value, first),
+        } => {
+            let declaration = Declaration {
+                is_final: *is_final,
+                ty,
+                name,
+                value,
+            };
+            local(body, seen, before, &declaration, first)
+        }
         Stmt::SetVar(name, value, at) => set_var(body, seen, name, value, *at, first),
         Stmt::SetField(receiver, name, value, at) => {
-            set_field(body, seen, receiver, name, value, *at, first)
+            let assignment = FieldAssignment {
+                receiver,
+                name,
+                value,
+                at: *at,
+            };
+            set_field(body, seen, &assignment, first)
         }
         Stmt::Do(part, at) => call(body, seen, part, *at, first),
-        Stmt::If(part, then, None, at) => if_then(body, scope, before, part, then, *at, first),
-        Stmt::If(part, then, Some(other), at) => {
-            if_else(body, scope, before, part, then, other, *at, first)
+        Stmt::If(part, then, None, at) => {
+            let conditional = Conditional {
+                condition: part,
+                inner: then,
+                at: *at,
+            };
+            if_then(body, scope, before, &conditional, first)
         }
-        Stmt::While(part, inner, at) => while_loop(body, scope, before, part, inner, *at, first),
+        Stmt::If(part, then, Some(other), at) => {
+            let choice = Choice {
+                condition: part,
+                then,
+                other,
+                at: *at,
+            };
+            if_else(body, scope, before, &choice, first)
+        }
+        Stmt::While(part, inner, at) => {
+            let conditional = Conditional {
+                condition: part,
+                inner,
+                at: *at,
+            };
+            while_loop(body, scope, before, &conditional, first)
+        }
         Stmt::Sync(lock, stmts, _) => sync(body, scope, before, lock, stmts, first),
         Stmt::Return(value, at) => return_part(body, seen, value, *at, first),
         Stmt::Print(part, at) => print(body, seen, part, *at, first),
         Stmt::Start(part, at) => start(body, seen, part, *at, first),
     }
+}
+
+/// A condition with the statement that runs where it holds: an `if` without `else`, or a loop.
+#[derive(Clone, Copy)]
+struct Conditional<'s, 'a> {
+    condition: &'s Expr<'a>,
+    inner: &'s Stmt<'a>,
+    at: u32,
+}
+
+/// A choice between two statements by a condition.
+#[derive(Clone, Copy)]
+struct Choice<'s, 'a> {
+    condition: &'s Expr<'a>,
+    then: &'s Stmt<'a>,
+    other: &'s Stmt<'a>,
+    at: u32,
 }
 
 #[cycle(statements)]
@@ -299,20 +363,24 @@ fn if_then<'a>(
     body: &Body,
     scope: &mut Vec<Bound<'a>>,
     before: usize,
-    part: &Expr,
-    then: &Stmt<'a>,
-    at: u32,
+    conditional: &Conditional<'_, 'a>,
     first: &mut FirstFault,
 ) -> Result<StmtPart, NoMemory>
-    ensures node { IfOk result (λ p. option_map core.stmt_of p.node ≡ core_in body.now scope.old.items before (tree.IfS (expr_of part.now) (stmt_of then.now) at)) }
+    ensures node { IfOk result (λ p. option_map core.stmt_of p.node ≡ core_in body.now scope.old.items before (tree.IfS (expr_of conditional.now.condition.now) (stmt_of conditional.now.inner.now) conditional.now.at)) }
     ensures scope { OnOk result (scope.new.items ≡ scope.old.items) }
-    ensures locals { IfOk result (λ p. p.locals ≡ locals_in (stmt_of then.now)) }
+    ensures locals { IfOk result (λ p. p.locals ≡ locals_in (stmt_of conditional.now.inner.now)) }
     ensures completes { IfOk result (λ p. p.completes ≡ true) }
     ensures declared { IfOk result (λ p. p.declared ≡ None) }
-    ensures fault { OnOk result (first.new ≡ noted first.old (faults_in body.now scope.old.items before (tree.IfS (expr_of part.now) (stmt_of then.now) at))) }
+    ensures fault { OnOk result (first.new ≡ noted first.old (faults_in body.now scope.old.items before (tree.IfS (expr_of conditional.now.condition.now) (stmt_of conditional.now.inner.now) conditional.now.at))) }
 {
-    let part = condition(body, scope.as_slice(), part, at, first)?;
-    let then = stmt(body, scope, before, then, first)?;
+    let part = condition(
+        body,
+        scope.as_slice(),
+        conditional.condition,
+        conditional.at,
+        first,
+    )?;
+    let then = stmt(body, scope, before, conditional.inner, first)?;
     if_alone(body.alloc, part, then)
 }
 
@@ -322,24 +390,21 @@ fn if_else<'a>(
     body: &Body,
     scope: &mut Vec<Bound<'a>>,
     before: usize,
-    part: &Expr,
-    then: &Stmt<'a>,
-    other: &Stmt<'a>,
-    at: u32,
+    choice: &Choice<'_, 'a>,
     first: &mut FirstFault,
 ) -> Result<StmtPart, NoMemory>
-    ensures node { IfOk result (λ p. option_map core.stmt_of p.node ≡ core_in body.now scope.old.items before (tree.IfElseS (expr_of part.now) (stmt_of then.now) (stmt_of other.now) at)) }
+    ensures node { IfOk result (λ p. option_map core.stmt_of p.node ≡ core_in body.now scope.old.items before (tree.IfElseS (expr_of choice.now.condition.now) (stmt_of choice.now.then.now) (stmt_of choice.now.other.now) choice.now.at)) }
     ensures scope { OnOk result (scope.new.items ≡ scope.old.items) }
-    ensures locals { IfOk result (λ p. p.locals ≡ locals_in (stmt_of then.now) + locals_in (stmt_of other.now)) }
-    ensures completes { IfOk result (λ p. p.completes ≡ (completes (stmt_of then.now) || completes (stmt_of other.now))) }
+    ensures locals { IfOk result (λ p. p.locals ≡ locals_in (stmt_of choice.now.then.now) + locals_in (stmt_of choice.now.other.now)) }
+    ensures completes { IfOk result (λ p. p.completes ≡ (completes (stmt_of choice.now.then.now) || completes (stmt_of choice.now.other.now))) }
     ensures declared { IfOk result (λ p. p.declared ≡ None) }
-    ensures fault { OnOk result (first.new ≡ noted first.old (faults_in body.now scope.old.items before (tree.IfElseS (expr_of part.now) (stmt_of then.now) (stmt_of other.now) at))) }
+    ensures fault { OnOk result (first.new ≡ noted first.old (faults_in body.now scope.old.items before (tree.IfElseS (expr_of choice.now.condition.now) (stmt_of choice.now.then.now) (stmt_of choice.now.other.now) choice.now.at))) }
 {
-    let part = condition(body, scope.as_slice(), part, at, first)?;
-    let then = stmt(body, scope, before, then, first)?;
+    let part = condition(body, scope.as_slice(), choice.condition, choice.at, first)?;
+    let then = stmt(body, scope, before, choice.then, first)?;
     let then = boxed_part(body.alloc, then)?;
     let before_other = total(before, then.locals)?;
-    let other = stmt(body, scope, before_other, other, first)?;
+    let other = stmt(body, scope, before_other, choice.other, first)?;
     if_part(body.alloc, part, then, other)
 }
 
@@ -349,21 +414,25 @@ fn while_loop<'a>(
     body: &Body,
     scope: &mut Vec<Bound<'a>>,
     before: usize,
-    part: &Expr,
-    inner: &Stmt<'a>,
-    at: u32,
+    conditional: &Conditional<'_, 'a>,
     first: &mut FirstFault,
 ) -> Result<StmtPart, NoMemory>
-    ensures node { IfOk result (λ p. option_map core.stmt_of p.node ≡ core_in body.now scope.old.items before (tree.WhileS (expr_of part.now) (stmt_of inner.now) at)) }
+    ensures node { IfOk result (λ p. option_map core.stmt_of p.node ≡ core_in body.now scope.old.items before (tree.WhileS (expr_of conditional.now.condition.now) (stmt_of conditional.now.inner.now) conditional.now.at)) }
     ensures scope { OnOk result (scope.new.items ≡ scope.old.items) }
-    ensures locals { IfOk result (λ p. p.locals ≡ locals_in (stmt_of inner.now)) }
-    ensures completes { IfOk result (λ p. p.completes ≡ not (literal_true (expr_of part.now))) }
+    ensures locals { IfOk result (λ p. p.locals ≡ locals_in (stmt_of conditional.now.inner.now)) }
+    ensures completes { IfOk result (λ p. p.completes ≡ not (literal_true (expr_of conditional.now.condition.now))) }
     ensures declared { IfOk result (λ p. p.declared ≡ None) }
-    ensures fault { OnOk result (first.new ≡ noted first.old (faults_in body.now scope.old.items before (tree.WhileS (expr_of part.now) (stmt_of inner.now) at))) }
+    ensures fault { OnOk result (first.new ≡ noted first.old (faults_in body.now scope.old.items before (tree.WhileS (expr_of conditional.now.condition.now) (stmt_of conditional.now.inner.now) conditional.now.at))) }
 {
-    let ends = !is_true_literal(part);
-    let part = condition(body, scope.as_slice(), part, at, first)?;
-    let inner = stmt(body, scope, before, inner, first)?;
+    let ends = !is_true_literal(conditional.condition);
+    let part = condition(
+        body,
+        scope.as_slice(),
+        conditional.condition,
+        conditional.at,
+        first,
+    )?;
+    let inner = stmt(body, scope, before, conditional.inner, first)?;
     while_part(body.alloc, part, ends, inner)
 }
 

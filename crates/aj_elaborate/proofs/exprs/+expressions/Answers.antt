@@ -34,24 +34,24 @@ arguments-expr-requires t c =
 
 pub arguments-loop-arg-preserved : goal.arguments-loop-arg-preserved
 arguments-loop-arg-preserved t c = (
-  argument_step (table_data c.args.table.now) c.args.class c.args.scope.now c.args.args.now c.loop-arg.arg-index c.arg-item.result
-      (gathered c.loop-arg.parts) (gathered c.add.new.self) c.in_ok-expr.field-0 (elaborated_each (table_data c.args.table.now) c.args.class c.args.scope.now (exprs_from (map expr_of c.args.args.now)))
+  argument_step (table_data c.args.environment.now.table.now) c.args.environment.now.class c.args.environment.now.scope.now c.args.args.now c.loop-arg.arg-index c.arg-item.result
+      (gathered c.loop-arg.parts) (gathered c.add.new.self) c.in_ok-expr.field-0 (elaborated_each (table_data c.args.environment.now.table.now) c.args.environment.now.class c.args.environment.now.scope.now (exprs_from (map expr_of c.args.args.now)))
       c.loop-arg-test.true c.arg-item.is c.loop-arg.invariant.0 c.in_ok-expr.ensures.typed c.in_ok-add.ensures,
-  argument_fault (table_data c.args.table.now) c.args.class c.args.scope.now c.args.args.now c.loop-arg.arg-index c.arg-item.result
-      c.loop-arg.first c.expr.new.first (noted c.args.first.now (each_faults (table_data c.args.table.now) c.args.class c.args.scope.now (exprs_from (map expr_of c.args.args.now))))
+  argument_fault (table_data c.args.environment.now.table.now) c.args.environment.now.class c.args.environment.now.scope.now c.args.args.now c.loop-arg.arg-index c.arg-item.result
+      c.loop-arg.first c.expr.new.first (noted c.args.first.now (each_faults (table_data c.args.environment.now.table.now) c.args.environment.now.class c.args.environment.now.scope.now (exprs_from (map expr_of c.args.args.now))))
       c.loop-arg-test.true c.arg-item.is c.loop-arg.invariant.1 c.in_ok-expr.ensures.fault,
 )
 
 pub arguments-returns-clause-typed : goal.arguments-returns-clause-typed
 arguments-returns-clause-typed t c =
-    all_typed c.all.result (gathered c.loop-arg.parts) (elaborated_each (table_data c.args.table.now) c.args.class c.args.scope.now (exprs_from (map expr_of c.args.args.now))) c.all.ensures
-    (ap (λ z. so_far typed_data with_argument (gathered c.loop-arg.parts) (elaborated_each (table_data c.args.table.now) c.args.class c.args.scope.now (exprs_from (map expr_of z)))) (sym (drop_of_length-le c.args.args.now c.loop-arg-test.false)) ∙ c.loop-arg.invariant.0)
+    all_typed c.all.result (gathered c.loop-arg.parts) (elaborated_each (table_data c.args.environment.now.table.now) c.args.environment.now.class c.args.environment.now.scope.now (exprs_from (map expr_of c.args.args.now))) c.all.ensures
+    (ap (λ z. so_far typed_data with_argument (gathered c.loop-arg.parts) (elaborated_each (table_data c.args.environment.now.table.now) c.args.environment.now.class c.args.environment.now.scope.now (exprs_from (map expr_of z)))) (sym (drop_of_length-le c.args.args.now c.loop-arg-test.false)) ∙ c.loop-arg.invariant.0)
 
 pub call_expr-returns-clause-fault : goal.call_expr-returns-clause-fault
 call_expr-returns-clause-fault t c =
-    let T = table_data c.args.table.now in
-    let C = c.args.class in
-    let S = c.args.scope.now in
+    let T = table_data c.args.environment.now.table.now in
+    let C = c.args.environment.now.class in
+    let S = c.args.environment.now.scope.now in
     let e = expr_of c.args.receiver.now in
     let es = exprs_from (map expr_of c.args.args.now) in
     subst (λ z. OnOk c.call_rule.result (c.call_rule.new.first ≡ z))
@@ -63,7 +63,7 @@ call_expr-returns-clause-fault t c =
 
 pub expr-returns-in-Call-clause-typed : goal.expr-returns-in-Call-clause-typed
 expr-returns-in-Call-clause-typed t c =
-    subst (λ z. IfOk c.call_expr.result (λ r. option_map typed_data r ≡ elaborated (table_data c.args.table.now) c.args.class c.args.scope.now z))
+    subst (λ z. IfOk c.call_expr.result (λ r. option_map typed_data r ≡ elaborated (table_data c.args.environment.now.table.now) c.args.environment.now.class c.args.environment.now.scope.now z))
     (ap (λ z. CallE (expr_of z) c.in-Call.name (exprs_from (map expr_of c.deref-in-Call-2.result.now))) c.deref-in-Call.ensures
     ∙ ap (λ z. CallE (expr_of c.in-Call.receiver.value) c.in-Call.name (exprs_from (map expr_of z))) c.deref-in-Call-2.ensures.value
     ∙ sym (ap expr_of c.in-Call.is ∙ view_call c.in-Call.receiver c.in-Call.name c.in-Call.args))
@@ -71,7 +71,7 @@ expr-returns-in-Call-clause-typed t c =
 
 pub expr-returns-in-Call-clause-fault : goal.expr-returns-in-Call-clause-fault
 expr-returns-in-Call-clause-fault t c =
-    subst (λ z. OnOk c.call_expr.result (c.call_expr.new.first ≡ noted c.args.first.now (expr_faults (table_data c.args.table.now) c.args.class c.args.scope.now z)))
+    subst (λ z. OnOk c.call_expr.result (c.call_expr.new.first ≡ noted c.args.first.now (expr_faults (table_data c.args.environment.now.table.now) c.args.environment.now.class c.args.environment.now.scope.now z)))
     (ap (λ z. CallE (expr_of z) c.in-Call.name (exprs_from (map expr_of c.deref-in-Call-2.result.now))) c.deref-in-Call.ensures
     ∙ ap (λ z. CallE (expr_of c.in-Call.receiver.value) c.in-Call.name (exprs_from (map expr_of z))) c.deref-in-Call-2.ensures.value
     ∙ sym (ap expr_of c.in-Call.is ∙ view_call c.in-Call.receiver c.in-Call.name c.in-Call.args))
@@ -80,13 +80,13 @@ expr-returns-in-Call-clause-fault t c =
 pub expr-returns-in-New-clause-typed : goal.expr-returns-in-New-clause-typed
 expr-returns-in-New-clause-typed t c =
     subst (λ z. IfOk c.new_expr.result (λ r. option_map typed_data r ≡ z))
-    (ap (λ z. elaborated (table_data c.args.table.now) c.args.class c.args.scope.now (NewE c.in-New.name (exprs_from (map expr_of z)) 0)) c.deref-in-New.ensures.value
-    ∙ sym (ap (elaborated (table_data c.args.table.now) c.args.class c.args.scope.now) (ap expr_of c.in-New.is ∙ view_new c.in-New.name c.in-New.args c.in-New.field-2)))
+    (ap (λ z. elaborated (table_data c.args.environment.now.table.now) c.args.environment.now.class c.args.environment.now.scope.now (NewE c.in-New.name (exprs_from (map expr_of z)) 0)) c.deref-in-New.ensures.value
+    ∙ sym (ap (elaborated (table_data c.args.environment.now.table.now) c.args.environment.now.class c.args.environment.now.scope.now) (ap expr_of c.in-New.is ∙ view_new c.in-New.name c.in-New.args c.in-New.field-2)))
     c.new_expr.ensures.typed
 
 pub expr-returns-in-New-clause-fault : goal.expr-returns-in-New-clause-fault
 expr-returns-in-New-clause-fault t c =
     subst (λ z. OnOk c.new_expr.result (c.new_expr.new.first ≡ noted c.args.first.now z))
-    (ap (λ z. expr_faults (table_data c.args.table.now) c.args.class c.args.scope.now (NewE c.in-New.name (exprs_from (map expr_of z)) 0)) c.deref-in-New.ensures.value
-    ∙ sym (ap (expr_faults (table_data c.args.table.now) c.args.class c.args.scope.now) (ap expr_of c.in-New.is ∙ view_new c.in-New.name c.in-New.args c.in-New.field-2)))
+    (ap (λ z. expr_faults (table_data c.args.environment.now.table.now) c.args.environment.now.class c.args.environment.now.scope.now (NewE c.in-New.name (exprs_from (map expr_of z)) 0)) c.deref-in-New.ensures.value
+    ∙ sym (ap (expr_faults (table_data c.args.environment.now.table.now) c.args.environment.now.class c.args.environment.now.scope.now) (ap expr_of c.in-New.is ∙ view_new c.in-New.name c.in-New.args c.in-New.field-2)))
     c.new_expr.ensures.fault

@@ -39,7 +39,7 @@ decreases-arguments l = exprs_measure (exprs_from (map expr_of l.args.now))
 
 abbrev pub invariant-arguments-loop-arg : goal.invariant-arguments-loop-arg
 invariant-arguments-loop-arg l =
-    (so_far typed_data with_argument (gathered l.parts) (elaborated_each (table_data l.table) l.class l.scope (exprs_from (map expr_of (drop l.arg-index l.args))))
-    ≡ elaborated_each (table_data l.table) l.class l.scope (exprs_from (map expr_of l.args)))
-    × (noted l.first (each_faults (table_data l.table) l.class l.scope (exprs_from (map expr_of (drop l.arg-index l.args))))
-    ≡ noted l.fn.first (each_faults (table_data l.table) l.class l.scope (exprs_from (map expr_of l.args))))
+    (so_far typed_data with_argument (gathered l.parts) (elaborated_each (table_data l.environment.table.now) l.environment.class l.environment.scope.now (exprs_from (map expr_of (drop l.arg-index l.args))))
+    ≡ elaborated_each (table_data l.environment.table.now) l.environment.class l.environment.scope.now (exprs_from (map expr_of l.args)))
+    × (noted l.first (each_faults (table_data l.environment.table.now) l.environment.class l.environment.scope.now (exprs_from (map expr_of (drop l.arg-index l.args))))
+    ≡ noted l.fn.first (each_faults (table_data l.environment.table.now) l.environment.class l.environment.scope.now (exprs_from (map expr_of l.args))))

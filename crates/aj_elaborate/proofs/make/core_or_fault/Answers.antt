@@ -6,6 +6,7 @@ use Rattle.aj_type_rules.specs.Noted.{noted}
 use Rattle.aj_elaborate.specs.Programs.{faults_from}
 use Rattle.aj_elaborate.specs.Views.{fields_data, methods_data}
 use Rattle.aj_elaborate.proofs.Answering.{found_in, told, made, all_are_there}
+use Rattle.aj_elaborate.proofs.TableEntries.{entries_as}
 use Rattle.aj_elaborate.proofs.TreeLines.{lined_as, many_as}
 use Rattle.aj_elaborate.proofs.make.core_or_fault.Goals as goal
 
@@ -58,3 +59,7 @@ parts_of-requires-clause-many c =
 
 pub assembled-requires-clause-lined : goal.assembled-requires-clause-lined
 assembled-requires-clause-lined c = lined_as (program_of c.args.program.now) (table_data c.args.table.now) c.requires.no_class_faults c.requires.table
+
+pub parts_of-requires-clause-entries : goal.parts_of-requires-clause-entries
+parts_of-requires-clause-entries c =
+    entries_as (program_of c.args.program.now) (table_data c.args.table.now) (map class_of c.as_slice-classes.result.now) c.requires.table (ap (map class_of) c.as_slice-classes.ensures.value)

@@ -1,11 +1,12 @@
 use Rattle.std.proofs.Common.{map, flat_map}
 use Rattle.aj_classes.specs.Views.{table_data}
 use Rattle.aj_syntax.specs.Views.{member_of}
+use Rattle.aj_elaborate.specs.Entries.{fields_after, methods_after}
 use Rattle.aj_elaborate.specs.Gathered.{appended}
 use Rattle.aj_type_rules.specs.Noted.{noted}
 use Rattle.aj_elaborate.specs.Programs.{all_there, fields_core, methods_core, member_faults}
 use Rattle.aj_elaborate.specs.Views.{fields_data, methods_data}
-use Rattle.aj_elaborate.proofs.Adding.{field_step, method_step, member_fault}
+use Rattle.aj_elaborate.proofs.Adding.{field_step, method_step, member_fault, entries_next, entries_step, fields_step, methods_step}
 use Rattle.aj_elaborate.proofs.members.add_members.Goals as goal
 
 pub loop-member-preserved : goal.loop-member-preserved
@@ -23,4 +24,18 @@ loop-member-preserved c =
           c.loop-member.first c.add_member.new.first
           (noted c.args.first.now (flat_map (member_faults T c.args.class) (map member_of c.args.members.now)))
           c.loop-member-test.true c.member-item.is c.loop-member.invariant.2 c.in_ok-index.ensures.fault,
+      entries_step T c.args.class c.args.members.now c.loop-member.member-index c.loop-member.parts.next_field c.loop-member.parts.next_method
+          c.add_member.new.parts.next_field c.add_member.new.parts.next_method c.member-item.result
+          c.loop-member-test.true c.member-item.is c.loop-member.invariant.3 c.in_ok-index.ensures.next_field c.in_ok-index.ensures.next_method,
+      fields_step c.args.members.now c.loop-member.member-index c.loop-member.parts.next_field c.add_member.new.parts.next_field
+          (fields_after (map member_of c.args.members.now) c.args.parts.now.next_field) c.member-item.result
+          c.loop-member-test.true c.member-item.is c.loop-member.invariant.4 c.in_ok-index.ensures.next_field,
+      methods_step c.args.members.now c.loop-member.member-index c.loop-member.parts.next_method c.add_member.new.parts.next_method
+          (methods_after (map member_of c.args.members.now) c.args.parts.now.next_method) c.member-item.result
+          c.loop-member-test.true c.member-item.is c.loop-member.invariant.5 c.in_ok-index.ensures.next_method,
     )
+
+pub add_member-requires : goal.add_member-requires
+add_member-requires c =
+    entries_next (table_data c.args.table.now) c.args.class c.args.members.now c.loop-member.member-index c.loop-member.parts.next_field c.loop-member.parts.next_method c.member-item.result
+    c.loop-member-test.true c.member-item.is c.loop-member.invariant.3

@@ -1,12 +1,13 @@
-use Rattle.std.proofs.Common.{map, flat_map, ap, sym, ◌∙◌, arith}
+use Rattle.std.proofs.Common.{map, flat_map, ap, sym, subst, ◌∙◌, arith}
 use Rattle.std.proofs.lemmas.Option.{same_Some}
 use Rattle.aj_classes.specs.Views.{table_data}
 use Rattle.aj_syntax.specs.Views.{class_of, member_of}
+use Rattle.aj_elaborate.specs.Entries.{HaveEntries, fields_after, methods_after}
 use Rattle.aj_elaborate.specs.Gathered.{appended}
 use Rattle.aj_type_rules.specs.Noted.{noted}
 use Rattle.aj_elaborate.specs.Programs.{all_there, fields_core, methods_core, member_faults, faults_from, all_fields, all_methods}
 use Rattle.aj_elaborate.specs.Views.{fields_data, methods_data}
-use Rattle.aj_elaborate.proofs.Adding.{class_fields_step, class_methods_step, class_fault}
+use Rattle.aj_elaborate.proofs.Adding.{class_fields_step, class_methods_step, class_fault, all_entries_next, all_entries_step}
 use Rattle.aj_elaborate.proofs.members.parts_of.Goals as goal
 
 pub loop-class-preserved : goal.loop-class-preserved
@@ -30,4 +31,17 @@ loop-class-preserved c =
           (c.in_ok-add_members.ensures.fault ∙ ap (λ z. noted c.loop-class.first (flat_map (member_faults T k) (map member_of z))) c.as_slice.ensures.value)
           c.in_ok-number.ensures,
       omega (arith, c.loop-class.invariant.3, c.in_ok-number.ensures),
+      all_entries_step T k c.in_ok-number.number c.args.classes.now c.loop-class.class-index c.loop-class.parts.next_field c.loop-class.parts.next_method
+          c.add_members.new.parts.next_field c.add_members.new.parts.next_method c.class-item.result
+          c.loop-class-test.true c.class-item.is c.loop-class.invariant.4
+          (c.in_ok-add_members.ensures.next_field ∙ ap (λ z. fields_after (map member_of z) c.loop-class.parts.next_field) c.as_slice.ensures.value)
+          (c.in_ok-add_members.ensures.next_method ∙ ap (λ z. methods_after (map member_of z) c.loop-class.parts.next_method) c.as_slice.ensures.value)
+          c.in_ok-number.ensures,
     )
+
+pub add_members-requires : goal.add_members-requires
+add_members-requires c =
+    let T = table_data c.args.table.now in
+    subst (λ z. HaveEntries T c.loop-class.number (map member_of z) c.loop-class.parts.next_field c.loop-class.parts.next_method) (sym c.as_slice.ensures.value)
+    (all_entries_next T c.loop-class.number c.args.classes.now c.loop-class.class-index c.loop-class.parts.next_field c.loop-class.parts.next_method c.class-item.result
+    c.loop-class-test.true c.class-item.is c.loop-class.invariant.4)

@@ -1,5 +1,6 @@
 use Rattle.std.proofs.Common.{◌≡◌, ◌+◌, ◌&&◌, true, is_some, length, map, flat_map, ap, sym, ◌∙◌, subst, IfOk, option_map}
-use Rattle.aj_classes.specs.Views.{table_data}
+use Rattle.aj_classes.specs.Table.{param_of}
+use Rattle.aj_classes.specs.Views.{method_data, table_data}
 use Rattle.aj_core.specs.Core.{BlockS}
 use Rattle.aj_core.specs.Views as core
 use Rattle.aj_syntax.specs.Trees.{MethodTree}
@@ -8,6 +9,7 @@ use Rattle.aj_type_rules.specs.Completion.{completes_each, locals_in_each}
 use Rattle.aj_elaborate.specs.Gathered.{method_in, faults_in_method}
 use Rattle.aj_type_rules.specs.Stmts.{return_faults}
 use Rattle.aj_type_rules.specs.Locks.{lock_rule}
+use Rattle.aj_elaborate.specs.Entries.{IsEntryOf}
 use Rattle.aj_elaborate.specs.Making.{method_with, types_in}
 use Rattle.aj_type_rules.specs.Noted.{noted}
 use Rattle.aj_elaborate.specs.Programs.{all_there}
@@ -31,7 +33,8 @@ returns-clause-node c =
       end = c.in-Method.at;
     } in
     let scope = parameters_from T 1 c.as_slice-params.result.now in
-    let returns = c.result_of.result in
+    let entry = subst (λ z. IsEntryOf T k z (method_data c.args.entry.now)) (ap member_of c.in-Method.is) c.requires in
+    let returns = c.args.entry.now.returns in
     let first = c.in_ok-first_local.field-0 in
     let made = c.in_ok-made.made in
     subst (λ z. IfOk c.core_method.result (λ r. option_map core.method_of r ≡ z))
@@ -40,11 +43,11 @@ returns-clause-node c =
     (c.in_ok-made.ensures.types ∙ ap (types_in T) c.as_slice-params.ensures.value)
     ∙ node_made T k m scope returns first (option_map (λ v. v.items) made.locks) (option_map core.stmt_of made.body.node) made.body.locals
     (ap (parameters_from T 1) c.as_slice-params.ensures.value)
-    c.result_of.ensures
+    (ap (λ e. e.returns) entry)
     (c.in_ok-first_local.ensures ∙ ap (λ z. 1 + length z) c.as_slice-params.ensures.value)
-    (c.in_ok-made.ensures.locks ∙ ap (λ z. all_there (map (λ l. gain (lock_rule T k scope l)) (map lock_of z))) c.as_slice.ensures.value)
-    (c.in_ok-made.ensures.node ∙ ap (λ z. option_map BlockS (block_core T k returns first scope 0 (stmts_from (map stmt_of z)))) c.as_slice-2.ensures.value)
-    (c.in_ok-made.ensures.locals ∙ ap (λ z. locals_in_each (stmts_from (map stmt_of z))) c.as_slice-2.ensures.value)
+    (c.in_ok-made.ensures.locks ∙ ap (λ z. all_there (map (λ l. gain (lock_rule T k scope l)) (map lock_of z))) c.as_slice-2.ensures.value)
+    (c.in_ok-made.ensures.node ∙ ap (λ z. option_map BlockS (block_core T k returns first scope 0 (stmts_from (map stmt_of z)))) c.as_slice-3.ensures.value)
+    (c.in_ok-made.ensures.locals ∙ ap (λ z. locals_in_each (stmts_from (map stmt_of z))) c.as_slice-3.ensures.value)
     ∙ ap (method_in T k) (sym (ap member_of c.in-Method.is)))
     c.core_method.ensures
 
@@ -62,17 +65,24 @@ returns-clause-fault c =
       end = c.in-Method.at;
     } in
     let scope = parameters_from T 1 c.as_slice-params.result.now in
-    let returns = c.result_of.result in
+    let entry = subst (λ z. IsEntryOf T k z (method_data c.args.entry.now)) (ap member_of c.in-Method.is) c.requires in
+    let returns = c.args.entry.now.returns in
     let first = c.in_ok-first_local.field-0 in
-    let locks = noted c.args.first.now (flat_map (λ l. loss (lock_rule T k scope l)) (map lock_of c.as_slice.result.now)) in
+    let locks = noted c.args.first.now (flat_map (λ l. loss (lock_rule T k scope l)) (map lock_of c.as_slice-2.result.now)) in
     on_ok c.core_method.result
     (faults_told T k m scope returns first c.args.first.now locks c.method_parts.new.first c.note_missing_return.new.first
     (ap (parameters_from T 1) c.as_slice-params.ensures.value)
-    c.result_of.ensures
+    (ap (λ e. e.returns) entry)
     (c.in_ok-first_local.ensures ∙ ap (λ z. 1 + length z) c.as_slice-params.ensures.value)
-    (ap (λ z. noted c.args.first.now (flat_map (λ l. loss (lock_rule T k scope l)) (map lock_of z))) c.as_slice.ensures.value)
-    (c.in_ok-made.ensures.fault ∙ ap (λ z. noted locks (block_faults T k returns first scope 0 true (stmts_from (map stmt_of z)))) c.as_slice-2.ensures.value)
+    (ap (λ z. noted c.args.first.now (flat_map (λ l. loss (lock_rule T k scope l)) (map lock_of z))) c.as_slice-2.ensures.value)
+    (c.in_ok-made.ensures.fault ∙ ap (λ z. noted locks (block_faults T k returns first scope 0 true (stmts_from (map stmt_of z)))) c.as_slice-3.ensures.value)
     (c.note_missing_return.ensures
     ∙ ap (λ z. noted c.method_parts.new.first (return_faults (z && c.in_ok-made.made.body.completes) c.in-Method.at)) c.is_some.ensures
-    ∙ ap (λ z. noted c.method_parts.new.first (return_faults (is_some c.in-Method.returns && z) c.in-Method.at)) (c.in_ok-made.ensures.completes ∙ ap (λ z. completes_each (stmts_from (map stmt_of z))) c.as_slice-2.ensures.value))
+    ∙ ap (λ z. noted c.method_parts.new.first (return_faults (is_some c.in-Method.returns && z) c.in-Method.at)) (c.in_ok-made.ensures.completes ∙ ap (λ z. completes_each (stmts_from (map stmt_of z))) c.as_slice-3.ensures.value))
     ∙ ap (λ z. noted c.args.first.now (faults_in_method T k z)) (sym (ap member_of c.in-Method.is)))
+
+pub method_parts-requires : goal.method_parts-requires
+method_parts-requires c =
+    let T = table_data c.args.table.now in
+    let entry = subst (λ z. IsEntryOf T c.args.class z (method_data c.args.entry.now)) (ap member_of c.in-Method.is) c.requires in
+    c.as_slice.ensures.value ∙ ap (λ e. e.params) entry ∙ ap (map (param_of T.names)) (sym c.as_slice-params.ensures.value)

@@ -16,13 +16,13 @@ abbrev pub decreases-stmt : goal.decreases-stmt
 decreases-stmt l = stmt_measure (stmt_of l.s.now)
 
 abbrev pub decreases-if_then : goal.decreases-if_then
-decreases-if_then l = 1 + stmt_measure (stmt_of l.then.now)
+decreases-if_then l = 1 + stmt_measure (stmt_of l.conditional.now.inner.now)
 
 abbrev pub decreases-if_else : goal.decreases-if_else
-decreases-if_else l = 1 + (stmt_measure (stmt_of l.then.now) + stmt_measure (stmt_of l.other.now))
+decreases-if_else l = 1 + (stmt_measure (stmt_of l.choice.now.then.now) + stmt_measure (stmt_of l.choice.now.other.now))
 
 abbrev pub decreases-while_loop : goal.decreases-while_loop
-decreases-while_loop l = 1 + stmt_measure (stmt_of l.inner.now)
+decreases-while_loop l = 1 + stmt_measure (stmt_of l.conditional.now.inner.now)
 
 abbrev pub decreases-sync : goal.decreases-sync
 decreases-sync l = 1 + stmts_measure (stmts_from (map stmt_of l.stmts.now))
