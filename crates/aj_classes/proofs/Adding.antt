@@ -1,19 +1,33 @@
 -- Parts of a table, class by class.
-use Rattle.std.proofs.Common.{◌≡◌, ℕ, ◌+◌, ◌<◌, suc, List, ◌∷◌, Option, length, map, drop, get_or, ap, sym, ◌∙◌, arith}
+use Rattle.std.proofs.Common.{◌≡◌, ℕ, suc, ◌+◌, ◌<◌, List, [], ◌∷◌, length, Option, map, drop, get_or, ap, sym, ◌∙◌, arith}
 use Rattle.std.proofs.Math.Seq.{drop-cons}
 use Rattle.aj_syntax.specs.declared.tree.Class.{Class}
 use Rattle.aj_syntax.specs.Trees.{ProgramTree}
 use Rattle.aj_syntax.specs.Views.{class_of}
+use Rattle.aj_class_rules.specs.declared.own.OwnNames.{OwnNames}
+use Rattle.aj_class_rules.specs.Own.{all_own_names}
 use Rattle.aj_classes.specs.Building.{PartsData, with_class, with_classes}
 
--- the parts with one class more
-pub one_added : (tree : ProgramTree) (aboves lent : List (Option ℕ)) (names : List (List ℕ)) (classes : List Class) (i : ℕ) (class : Class) (before after whole : PartsData)
-    → i < length classes → get_or classes i class ≡ class → lent ≡ aboves → with_classes tree aboves names before (map class_of (drop i classes)) ≡ whole
-    → after ≡ with_class tree lent names (class_of class) before → with_classes tree aboves names after (map class_of (drop (i + 1) classes)) ≡ whole
-one_added tree aboves lent names classes i class before after whole within at same so_far is =
+abbrev tail_of : {A : Type 0} → List A → List A
+tail_of [] = []
+tail_of (y ∷ ys) = ys
+
+-- the own names that are left, behind those of the next class, are those of the others
+pub own_left : (left more : List OwnNames) (own : OwnNames) (rest others : List Class) (class : Class) → rest ≡ class ∷ others → left ≡ own ∷ more → left ≡ all_own_names (map class_of rest)
+    → more ≡ all_own_names (map class_of others)
+own_left left more own rest others class split next theirs = ap tail_of (sym next ∙ theirs ∙ ap (λ z. all_own_names (map class_of z)) split)
+
+-- the next class and those behind it
+pub class_next : (classes : List Class) (i : ℕ) (class : Class) → i < length classes → class ≡ get_or classes i class → drop i classes ≡ class ∷ drop (i + 1) classes
+class_next classes i class within at =
     let next_is : suc i ≡ i + 1 = omega arith in
-    let e : drop i classes ≡ class ∷ drop (i + 1) classes =
-    drop-cons classes i class within ∙ ap (λ z. z ∷ drop (suc i) classes) at ∙ ap (λ n. class ∷ drop n classes) next_is in
-    ap (λ p. with_classes tree aboves names p (map class_of (drop (i + 1) classes))) (is ∙ ap (λ z. with_class tree z names (class_of class) before) same)
-    ∙ ap (λ z. with_classes tree aboves names before (map class_of z)) (sym e)
+    drop-cons classes i class within ∙ ap (λ z. z ∷ drop (suc i) classes) (sym at) ∙ ap (λ n. class ∷ drop n classes) next_is
+
+-- the parts with one class more
+pub one_added : (tree : ProgramTree) (aboves lent : List (Option ℕ)) (names : List (List ℕ)) (rest others : List Class) (class : Class) (before after whole : PartsData)
+    → rest ≡ class ∷ others → lent ≡ aboves → with_classes tree aboves names before (map class_of rest) ≡ whole
+    → after ≡ with_class tree lent names (class_of class) before → with_classes tree aboves names after (map class_of others) ≡ whole
+one_added tree aboves lent names rest others class before after whole split same so_far is =
+    ap (λ p. with_classes tree aboves names p (map class_of others)) (is ∙ ap (λ z. with_class tree z names (class_of class) before) same)
+    ∙ ap (λ z. with_classes tree aboves names before (map class_of z)) (sym split)
     ∙ so_far

@@ -232,7 +232,7 @@ pub(crate) fn parts_of<'a>(
     classes: &[Class<'a>],
     own: Vec<OwnNames<'a>>,
 ) -> Result<TableParts<'a>, NoMemory>
-    requires { own.entry.items ≡ all_own_names (map class_of classes.now) }
+    requires { own.items ≡ all_own_names (map class_of classes.now) }
     ensures { IfOk result (λ p. parts_data p ≡ parts_from names.now (map class_of classes.now)) }
 {
     let aboves = classes_above(alloc, names, classes)?;
@@ -241,13 +241,13 @@ pub(crate) fn parts_of<'a>(
         fields: Vec::new(alloc),
         methods: Vec::new(alloc),
     };
-    let mut rest = classes;
+    let mut number = 0;
     for own in own {
-        let Some((class, others)) = rest.split_first() else {
+        let Some(class) = classes.get(number) else {
             return Ok(parts);
         };
         parts.add(alloc, names, classes, aboves.as_slice(), class, own)?;
-        rest = others;
+        number += 1;
     }
     Ok(parts)
 }

@@ -28,7 +28,7 @@ fn build<'a>(
 ) -> Result<ClassTable<'a>, NoMemory>
     requires no_faults { faults_of (program_of program.now) ≡ [] }
     requires names { names ≡ distinct (class_names (program_of program.now)) }
-    requires own { own.entry.items ≡ all_own_names (program_of program.now) }
+    requires own { own.items ≡ all_own_names (program_of program.now) }
     ensures { IfOk result (λ t. table_data t ≡ table_of (program_of program.now)) }
 {
     // A program with more classes than ids is refused before anything is built.

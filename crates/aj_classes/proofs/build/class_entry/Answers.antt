@@ -7,12 +7,13 @@ use Rattle.aj_classes.proofs.build.class_entry.Goals as goal
 
 pub invariant_of-result : goal.invariant_of-result
 invariant_of-result c =
-    let members = c.as_slice-members.result.now in
+    let members = c.args.class.now.members.items in
+    let lent = ap length c.as_slice-members.ensures.value in
     let count = length-map members member_of in
     let fields = few_fields (map member_of members) in
     let methods = few_methods (map member_of members) in
-    let own_fields = ap length (ap (λ o. o.fields) c.requires) in
-    let own_methods = ap length (ap (λ o. o.methods) c.requires) in
+    let own_fields = ap (λ o. length o.fields) c.requires in
+    let own_methods = ap (λ o. length o.methods) c.requires in
     record {
       few_fields = omega (arith, c.in_ok-check_room.ensures);
       few_methods = omega (arith, c.in_ok-check_room-2.ensures);

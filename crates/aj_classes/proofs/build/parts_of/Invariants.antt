@@ -1,4 +1,4 @@
-use Rattle.std.proofs.Common.{◌≡◌, length, map}
+use Rattle.std.proofs.Common.{◌≡◌, drop, length, map}
 use Rattle.std.specs.Vec.Iter.{into_iter_items, into_iter_len}
 use Rattle.aj_syntax.specs.Views.{class_of}
 use Rattle.aj_class_rules.specs.Own.{all_own_names}
@@ -7,6 +7,6 @@ use Rattle.aj_classes.proofs.build.parts_of.Given as goal
 
 abbrev pub invariant-loop-own : goal.invariant-loop-own
 invariant-loop-own l =
-    (with_classes (map class_of l.classes) l.aboves.items l.names (parts_data l.parts) (map class_of l.rest) ≡ parts_from l.names (map class_of l.classes))
-    × (into_iter_items l.own-iterator ≡ all_own_names (map class_of l.rest))
+    (with_classes (map class_of l.classes) l.aboves.items l.names (parts_data l.parts) (map class_of (drop l.number l.classes)) ≡ parts_from l.names (map class_of l.classes))
+    × (into_iter_items l.own-iterator ≡ all_own_names (map class_of (drop l.number l.classes)))
     × (into_iter_len l.own-iterator ≡ length (into_iter_items l.own-iterator))
