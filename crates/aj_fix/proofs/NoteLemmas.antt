@@ -3,6 +3,7 @@ use Rattle.std.proofs.Common.{◌≡◌, ◌⊎◌, ℕ, zero, suc, ◌+◌, ◌
 use Rattle.std.specs.Prelude.{Option, Contains}
 use Rattle.std.proofs.lemmas.List.Elements.{Contains-push, Contains-push_cases, Contains-append_left, Contains-append_cases}
 use Rattle.std.proofs.lemmas.List.{take_more, length-set}
+use Rattle.aj_lemmas.proofs.Lists.{set_here}
 use Rattle.aj_fix.specs.Waiting.{IsNoted}
 
 -- an item of a list that had one item set
