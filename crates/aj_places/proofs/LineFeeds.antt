@@ -181,3 +181,27 @@ begin_later text feeds at (suc k) v are within is later here =
 -- it has a line feed before it
 pub begin_there : (text feeds : List ℕ) (at k : ℕ) → feeds ≡ feeds_from 0 text → k ≡ count_by is_line_feed (take at text) → 0 < k → k - 1 < length feeds
 begin_there text feeds at k are is later = omega (arith, is, later, ap length are, enough 0 text at)
+
+-- so many stand before an offset, where the last of them is less than it and the next one isn't
+pub placed : (text feeds : List ℕ) (at k : ℕ) → feeds ≡ feeds_from 0 text → (0 < k → get_or feeds (k - 1) 0 < at) → k ≤ length feeds → (k < length feeds → at ≤ get_or feeds k 0)
+    → k ≡ count_by is_line_feed (take at text)
+placed text feeds at k are behind within next = counted 0 text at k (record {
+  within = subst (λ xs. k ≤ length xs) are within;
+  before = λ i below. omega (arith, subst (λ xs. get_or xs i 0 < at) are (before i below));
+  behind = λ i le below. omega (arith, subst (λ xs. at ≤ get_or xs i 0) are (above i le (subst (λ xs. i < length xs) (sym are) below)));
+})
+  where
+    all : Rises 0 feeds
+    all = subst (Rises 0) (sym are) (rises 0 text)
+
+    before : (i : ℕ) → i < k → get_or feeds i 0 < at
+    before i below = elim (cases_eq i (k - 1)) as (λ _. get_or feeds i 0 < at) [
+      | inl same ↦ omega (arith, ap (λ n. get_or feeds n 0) same, behind (omega (arith, below)))
+      | inr apart ↦ omega (arith, all.up i (k - 1) (omega (arith, below, apart)) (omega (arith, below, within)), behind (omega (arith, below)))
+    ]
+
+    above : (i : ℕ) → k ≤ i → i < length feeds → at ≤ get_or feeds i 0
+    above i le below = elim (cases_eq k i) as (λ _. at ≤ get_or feeds i 0) [
+      | inl same ↦ omega (arith, ap (λ n. get_or feeds n 0) same, next (omega (arith, same, below)))
+      | inr apart ↦ omega (arith, all.up k i (omega (arith, le, apart)) below, next (omega (arith, le, below)))
+    ]

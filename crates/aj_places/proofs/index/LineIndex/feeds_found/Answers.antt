@@ -1,7 +1,7 @@
 use Rattle.std.proofs.Common.{ap, ◌∙◌}
 use Rattle.aj_places.specs.Feeds.{feeds_from}
 use Rattle.aj_places.proofs.LineFeeds.{found_ok, found_err}
-use Rattle.aj_places.proofs.index.LineIndex.feeds_before.Goals as goal
+use Rattle.aj_places.proofs.index.LineIndex.feeds_found.Goals as goal
 
 pub returns-in-Ok : goal.returns-in-Ok
 returns-in-Ok c =
