@@ -23,7 +23,7 @@ use crate::names::{Alias, Lack, lack_of, name_at_call, second_name};
 use crate::walk::Walk;
 use aj_algebra::Basic;
 use aj_core::{CoreExpr, CoreProgram, CoreStmt, path_of};
-use aj_effect_at::{Assigned, call_effect, with_path};
+use aj_effect_at::{Assigned, Called, call_effect, with_path};
 use aj_paths::{FieldId, MethodId, Path};
 use aj_rules::{Guard, guard_at, renaming_at};
 use std::alloc::AllocError as NoMemory;
@@ -112,14 +112,17 @@ fn call_deed<A: Assigned>(
     ensures { IfOk result (λ deed. let part = ExprP (CallE (expr_of receiver.now) callee (exprs_from args.now)) in
         deed ≡ deed_of (program_of walk.now.program.now) (rel_of walk.now.sets.now) (A.Assigned.assigned walk.now.assigned.now) locks.now part (has_path held.now)) }
 {
+    let call = Called {
+        receiver,
+        callee,
+        args,
+    };
     let own = call_effect(
         walk.alloc,
         walk.program,
         walk.sets,
         walk.assigned,
-        receiver,
-        callee,
-        args,
+        &call,
         held,
     )?;
     let lock = locks.get(callee.0 as usize);
@@ -219,14 +222,17 @@ fn moves_with<A: Assigned>(
         b ≡ below_of (call_of P (rel_of walk.now.sets.now) (A.Assigned.assigned walk.now.assigned.now) callee (path_of P (expr_of receiver.now)) (paths_of P (exprs_from args.now)) (with_path path.now (has_path held.now))) Mover) }
 {
     let more = with_path(walk.alloc, path, held)?;
+    let call = Called {
+        receiver,
+        callee,
+        args,
+    };
     let with = call_effect(
         walk.alloc,
         walk.program,
         walk.sets,
         walk.assigned,
-        receiver,
-        callee,
-        args,
+        &call,
         more.as_slice(),
     )?;
     Ok(with.below(Basic::Mover))

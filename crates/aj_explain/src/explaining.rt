@@ -18,7 +18,7 @@ use crate::found::{CorePart, Found, Visited};
 use crate::walk::{Walk, walk_stmt};
 use aj_algebra::Basic;
 use aj_core::{CoreExpr, CoreMethod, CoreStmt};
-use aj_effect_at::{Assigned, among, call_effect, has_all, held_under};
+use aj_effect_at::{Assigned, Called, among, call_effect, has_all, held_under};
 use aj_paths::{MethodId, Path};
 use aj_rules::required_of;
 use std::alloc::{AllocError as NoMemory, Global};
@@ -129,14 +129,17 @@ fn is_compound_call<A: Assigned>(
 {
     match e {
         CoreExpr::Call(receiver, callee, args) => {
+            let call = Called {
+                receiver,
+                callee: *callee,
+                args: args.as_slice(),
+            };
             let own = call_effect(
                 walk.alloc,
                 walk.program,
                 walk.sets,
                 walk.assigned,
-                receiver,
-                *callee,
-                args.as_slice(),
+                &call,
                 held,
             )?;
             Ok(is_cmpd(own))

@@ -14,7 +14,7 @@ ghost use Rattle.aj_explain.specs.Walked.{InsideExpr, InsideStmt, WalkedBlock, W
 use crate::found::{CorePart, Found, Reached};
 use aj_algebra::{Basic, has};
 use aj_core::{CoreExpr, CoreProgram, CoreStmt};
-use aj_effect_at::{Assigned, access, after, call_effect, copied, variable, with_path};
+use aj_effect_at::{Assigned, Called, access, after, call_effect, copied, variable, with_path};
 use aj_paths::Path;
 use aj_rules::RelevantSets;
 use std::alloc::{AllocError as NoMemory, Global};
@@ -91,14 +91,17 @@ fn inside_expr<'p, A: Assigned>(
         CoreExpr::Call(a, callee, args) => {
             let receiver = walk_expr(walk, a, held, looped, found)?;
             let passed = walk_exprs(walk, args.as_slice(), held, looped, found)?;
+            let call = Called {
+                receiver: a,
+                callee: *callee,
+                args: args.as_slice(),
+            };
             let own = call_effect(
                 walk.alloc,
                 walk.program,
                 walk.sets,
                 walk.assigned,
-                a,
-                *callee,
-                args.as_slice(),
+                &call,
                 held,
             )?;
             found.note(walk.alloc, own, reached)?;
