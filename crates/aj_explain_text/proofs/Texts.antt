@@ -1,5 +1,5 @@
 -- Texts that are written one behind the other.
-use Rattle.std.proofs.Common.{◌≡◌, ℕ, List, ◌++◌, ◌∙◌, ap, append_assoc, Result, Ok, Err, OnOk}
+use Rattle.std.proofs.Common.{◌≡◌, ℕ, List, ◌++◌, ◌∙◌, ap, sym, append_assoc, codes, Result, Ok, Err, OnOk}
 use Rattle.std.specs.Bool.{if◌then◌else◌}
 use Rattle.std.specs.Result.{is_ok}
 
@@ -32,3 +32,11 @@ pushes (Err x) new piece so_far is = tt
 pub pushed : {T E : Type 0} (r : Result T E) (done left : List ℕ) {new : List ℕ} → new ≡ (if is_ok r then done else left) → OnOk r (new ≡ done)
 pushed (Ok x) done left is = is
 pushed (Err x) done left is = tt
+
+-- a line feed that stands in the words is the one behind them
+pub noted : (old front words text : List ℕ) {new : List ℕ} → words ≡ text ++ codes "\n" → new ≡ old ++ (front ++ words) → new ≡ old ++ (front ++ text ++ codes "\n")
+noted old front words text ends_so is = is ∙ ap (λ bytes. old ++ bytes) (ap (λ bytes. front ++ bytes) ends_so ∙ sym (append_assoc front text (codes "\n")))
+
+-- pieces behind a start, one by one
+pub begun : (start gap kind : List ℕ) → start ++ (gap ++ kind ++ gap) ≡ start ++ gap ++ kind ++ gap
+begun start gap kind = sym (append_assoc start (gap ++ kind) gap) ∙ ap (λ bytes. bytes ++ gap) (sym (append_assoc start gap kind))

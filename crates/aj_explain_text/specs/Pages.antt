@@ -15,9 +15,13 @@ pub record PageData : Type 0 where
 abbrev pub offset_of : PageData → ℕ → ℕ
 offset_of page node = unwrap_or (slice_get page.offsets node) 0
 
+-- `FILE:LINE:COLUMN`
+abbrev pub place_start : PageData → ℕ → List ℕ
+place_start page at = page.file ++ codes ":" ++ place_text (line_of page.text at) (column_of page.text at)
+
 -- `FILE:LINE:COLUMN: `
 abbrev pub place_front : PageData → ℕ → List ℕ
-place_front page at = page.file ++ codes ":" ++ place_text (line_of page.text at) (column_of page.text at) ++ codes ": "
+place_front page at = place_start page at ++ codes ": "
 
 -- `FILE:LINE:COLUMN: KIND: `
 abbrev pub front : PageData → ℕ → List ℕ → List ℕ

@@ -1,6 +1,7 @@
 //! The lines of one method.
 
-ghost use Rattle.std.specs.Prelude.{◌≡◌, ◌++◌, ℕ, List, codes, slice_get, string_bytes, OnOk};
+ghost use Rattle.std.specs.Prelude.{◌≡◌, ◌++◌, ℕ, List, codes, slice_get, string_bytes, IfSome, OnOk};
+ghost use Rattle.aj_algebra.specs.Basics.{name_of};
 ghost use Rattle.aj_core.specs.Views.{program_of};
 ghost use Rattle.aj_rules.specs.Near.{rel_of};
 ghost use Rattle.aj_explain.specs.Whys.{Looped, Compound, Two};
@@ -8,7 +9,7 @@ ghost use Rattle.aj_explain.specs.Views.{explained_data, visit_of, why_data};
 ghost use Rattle.aj_explain_text.specs.CauseTexts.{cause_text};
 ghost use Rattle.aj_explain_text.specs.DeedTexts.{deed_text, help_text};
 ghost use Rattle.aj_explain_text.specs.Pages.{note_front, note_line, offset_of};
-ghost use Rattle.aj_explain_text.specs.Blocks.{IsBlock, IsErrorLine, IsWhyText, head_line, help_line, is_words, kind_word, name_offset, over_line, over_text, step_line, steps_lines};
+ghost use Rattle.aj_explain_text.specs.Blocks.{IsBlock, IsErrorLine, IsWhyText, head_line, help_line, is_words, name_offset, over_line, over_text, step_line, steps_lines};
 ghost use Rattle.aj_explain_text.specs.Views.{page_data};
 
 use crate::causes::write_cause;
@@ -26,13 +27,13 @@ use std::alloc::AllocError as NoMemory;
 
 /// What is told of a loop that repeats a step.
 const EACH_TIME: &str =
-    "this loop makes it each time round, and between two times another thread may come in";
+    "this loop makes it each time round, and between two times another thread may come in\n";
 
 /// What is told of a step that is compound by itself.
-const INSIDE: &str = "inside it another thread may come in";
+const INSIDE: &str = "inside it another thread may come in\n";
 
 /// What is told of two steps.
-const BETWEEN: &str = "between the two another thread may come in";
+const BETWEEN: &str = "between the two another thread may come in\n";
 
 /// The offset of a method's name; 0 where there is no such method.
 fn name_offset(program: &CoreProgram, method: MethodId) -> u32
@@ -42,13 +43,6 @@ fn name_offset(program: &CoreProgram, method: MethodId) -> u32
         Some(method) => method.place_at,
         None => 0,
     }
-}
-
-/// The kind of a method's first line.
-fn kind_word(is_refused: bool) -> &'static str
-    ensures { result.now ≡ kind_word is_refused }
-{
-    if is_refused { "error" } else { "note" }
 }
 
 /// Writes the words between a method and what it is.
@@ -63,6 +57,48 @@ fn write_is(out: &mut String, is_refused: bool, limit: Basic) -> Result<(), NoMe
     out.push_str(", found ")
 }
 
+/// What stands behind a method up to the end of its line, in one piece for the basics that most methods have that are told.
+fn usual_words(is_refused: bool, limit: Basic, found: Basic) -> Option<&'static str>
+    ensures { IfSome result (λ words. words.now ≡ is_words is_refused limit ++ name_of found ++ codes "\n") }
+{
+    match (is_refused, limit, found) {
+        (true, Basic::Atomic, Basic::Cmpd) => Some(" is declared atomic, found cmpd\n"),
+        (true, Basic::Atomic, Basic::Error) => Some(" is declared atomic, found error\n"),
+        (true, Basic::Cmpd, Basic::Error) => Some(" is declared cmpd, found error\n"),
+        (false, _, Basic::Cmpd) => Some(" is cmpd\n"),
+        _ => None,
+    }
+}
+
+/// Writes what stands behind a method, piece by piece.
+fn write_pieces(
+    out: &mut String,
+    is_refused: bool,
+    limit: Basic,
+    found: Basic,
+) -> Result<(), NoMemory>
+    ensures { OnOk result (string_bytes out.new ≡ string_bytes out.old ++ (is_words is_refused limit ++ name_of found ++ codes "\n")) }
+{
+    write_is(out, is_refused, limit)?;
+    out.push_str(found.name())?;
+    out.push_str("\n")
+}
+
+/// Writes what stands behind a method up to the end of its line.
+fn write_found(
+    out: &mut String,
+    is_refused: bool,
+    limit: Basic,
+    found: Basic,
+) -> Result<(), NoMemory>
+    ensures { OnOk result (string_bytes out.new ≡ string_bytes out.old ++ (is_words is_refused limit ++ name_of found ++ codes "\n")) }
+{
+    match usual_words(is_refused, limit, found) {
+        Some(words) => out.push_str(words),
+        None => write_pieces(out, is_refused, limit, found),
+    }
+}
+
 /// Writes what a method is.
 fn write_head(
     out: &mut String,
@@ -72,16 +108,9 @@ fn write_head(
 ) -> Result<(), NoMemory>
     ensures { OnOk result (string_bytes out.new ≡ string_bytes out.old ++ head_line (program_of program.now) (page_data page.now) (explained_data x.now)) }
 {
-    begin_line(
-        out,
-        page,
-        name_offset(program, x.method),
-        kind_word(x.is_refused),
-    )?;
+    begin_line(out, page, name_offset(program, x.method), x.is_refused)?;
     write_title(out, page.table, x.method)?;
-    write_is(out, x.is_refused, x.limit)?;
-    out.push_str(x.found.name())?;
-    out.push_str("\n")
+    write_found(out, x.is_refused, x.limit, x.found)
 }
 
 /// What a step is asked in: the walk, for each method the lock of its only step, and the final locals of the method that is told.
@@ -251,7 +280,7 @@ fn write_over(
 ) -> Result<(), NoMemory>
     ensures { OnOk result (string_bytes out.new ≡ string_bytes out.old ++ over_line (program_of program.now) (page_data page.now) over own) }
 {
-    begin_line(out, page, name_offset(program, over), "note")?;
+    begin_line(out, page, name_offset(program, over), false)?;
     write_overrides(out, page, over, own)?;
     out.push_str("\n")
 }

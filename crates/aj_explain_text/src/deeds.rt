@@ -1,6 +1,7 @@
 //! What a step does and which lock would help it, in words.
 
-ghost use Rattle.std.specs.Prelude.{◌≡◌, ◌++◌, string_bytes, OnOk};
+ghost use Rattle.std.specs.Prelude.{◌≡◌, ◌++◌, codes, string_bytes, OnOk};
+ghost use Rattle.aj_algebra.specs.Basics.{name_of};
 ghost use Rattle.aj_explain_text.specs.DeedTexts.{deed_text, guard_text, help_text, second_text, takes_text};
 ghost use Rattle.aj_explain_text.specs.Views.{page_data};
 
@@ -28,6 +29,19 @@ fn write_guard(out: &mut String, page: &Page<'_, '_>, guard: &Guard) -> Result<(
     }
 }
 
+/// What a called method is, in one piece.
+fn which_is(own: Basic) -> &'static str
+    ensures { result.now ≡ codes ", which is " ++ name_of own }
+{
+    match own {
+        Basic::Const => ", which is const",
+        Basic::Mover => ", which is mover",
+        Basic::Atomic => ", which is atomic",
+        Basic::Cmpd => ", which is cmpd",
+        Basic::Error => ", which is error",
+    }
+}
+
 /// Writes what a called method does, as far as it is known.
 fn write_takes(
     out: &mut String,
@@ -44,10 +58,7 @@ fn write_takes(
             out.push_str(" and gives it back")
         }
         Takes::Unnamed => out.push_str(", which takes a lock and gives it back"),
-        Takes::Unknown => {
-            out.push_str(", which is ")?;
-            out.push_str(own.name())
-        }
+        Takes::Unknown => out.push_str(which_is(own)),
     }
 }
 

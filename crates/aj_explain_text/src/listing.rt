@@ -4,7 +4,7 @@ ghost use Rattle.std.specs.Prelude.{◌≡◌, ◌++◌, decimal, string_bytes, 
 ghost use Rattle.aj_explain_text.specs.Listings.{basic_line, listing_from, part_lines};
 ghost use Rattle.aj_explain_text.specs.Views.{page_data};
 
-use crate::page::{Page, offset_of, write_front};
+use crate::page::{Page, begin_with, offset_of};
 use aj_algebra::Basic;
 use aj_paths::MethodId;
 use aj_report::write_title;
@@ -29,7 +29,7 @@ fn write_basic(
 ) -> Result<(), NoMemory>
     ensures { OnOk result (string_bytes out.new ≡ string_bytes out.old ++ basic_line (page_data page.now) method node basic) }
 {
-    write_front(out, page, offset_of(page, node))?;
+    begin_with(out, page, offset_of(page, node), ": ")?;
     out.push_str(basic.name())?;
     out.push_str(": ")?;
     write_title(out, page.table, method)?;

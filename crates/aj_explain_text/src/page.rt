@@ -2,7 +2,8 @@
 
 ghost use Rattle.std.specs.Prelude.{◌≡◌, ◌++◌, codes, string_bytes, IfOk, OnOk};
 ghost use Rattle.aj_lexer.specs.Places.{place_text};
-ghost use Rattle.aj_explain_text.specs.Pages.{front, note_front, offset_of, place_front};
+ghost use Rattle.aj_explain_text.specs.Pages.{front, note_front, offset_of, place_start};
+ghost use Rattle.aj_explain_text.specs.Blocks.{kind_word};
 ghost use Rattle.aj_explain_text.specs.Views.{page_data};
 
 use aj_classes::ClassTable;
@@ -38,35 +39,45 @@ fn write_place(out: &mut String, place: Place) -> Result<(), NoMemory>
     write_number(out, place.column)
 }
 
-/// Begins a line with a place.
-pub(crate) fn write_front(out: &mut String, page: &Page<'_, '_>, at: u32) -> Result<(), NoMemory>
-    ensures { OnOk result (string_bytes out.new ≡ string_bytes out.old ++ place_front (page_data page.now) at) }
+/// Begins a line with a place and these words.
+pub(crate) fn begin_with(
+    out: &mut String,
+    page: &Page<'_, '_>,
+    at: u32,
+    words: &str,
+) -> Result<(), NoMemory>
+    ensures { OnOk result (string_bytes out.new ≡ string_bytes out.old ++ (place_start (page_data page.now) at ++ words.now)) }
 {
     out.push_str(page.file)?;
     out.push_str(":")?;
     write_place(out, page.index.place(at))?;
-    out.push_str(": ")
+    out.push_str(words)
 }
 
-/// Begins a line with a place and a kind.
+/// What stands between the place and the text of an error, or of a note.
+fn kind_words(is_error: bool) -> &'static str
+    ensures { result.now ≡ codes ": " ++ kind_word is_error ++ codes ": " }
+{
+    if is_error { ": error: " } else { ": note: " }
+}
+
+/// Begins an error or a note with a place and its kind.
 pub(crate) fn begin_line(
     out: &mut String,
     page: &Page<'_, '_>,
     at: u32,
-    kind: &str,
+    is_error: bool,
 ) -> Result<(), NoMemory>
-    ensures { OnOk result (string_bytes out.new ≡ string_bytes out.old ++ front (page_data page.now) at kind.now) }
+    ensures { OnOk result (string_bytes out.new ≡ string_bytes out.old ++ front (page_data page.now) at (kind_word is_error)) }
 {
-    write_front(out, page, at)?;
-    out.push_str(kind)?;
-    out.push_str(": ")
+    begin_with(out, page, at, kind_words(is_error))
 }
 
 /// Begins a note at a node.
 pub(crate) fn begin_note(out: &mut String, page: &Page<'_, '_>, node: usize) -> Result<(), NoMemory>
     ensures { OnOk result (string_bytes out.new ≡ string_bytes out.old ++ note_front (page_data page.now) node) }
 {
-    begin_line(out, page, offset_of(page, node), "note")
+    begin_line(out, page, offset_of(page, node), false)
 }
 
 /// How many bytes are asked for to begin with, for what notes begin with.
@@ -85,11 +96,10 @@ pub(crate) fn note_front(
     Ok(front)
 }
 
-/// Writes a note of fixed words behind what it begins with.
-pub(crate) fn write_note(out: &mut String, front: &str, text: &str) -> Result<(), NoMemory>
-    ensures { OnOk result (string_bytes out.new ≡ string_bytes out.old ++ (front.now ++ text.now ++ codes "\n")) }
+/// Writes a note of fixed words, with the line feed, behind what it begins with.
+pub(crate) fn write_note(out: &mut String, front: &str, words: &str) -> Result<(), NoMemory>
+    ensures { OnOk result (string_bytes out.new ≡ string_bytes out.old ++ (front.now ++ words.now)) }
 {
     out.push_str(front)?;
-    out.push_str(text)?;
-    out.push_str("\n")
+    out.push_str(words)
 }

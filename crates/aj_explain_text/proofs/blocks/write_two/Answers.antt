@@ -1,10 +1,13 @@
-use Rattle.std.proofs.Common.{string_bytes, ◌∙◌}
-use Rattle.aj_explain_text.proofs.Texts.{ends, next, wrote}
+use Rattle.std.proofs.Common.{string_bytes, ◌∙◌, codes, refl}
+use Rattle.aj_explain_text.specs.Pages.{note_front}
+use Rattle.aj_explain_text.specs.Views.{page_data}
+use Rattle.aj_explain_text.proofs.Texts.{ends, next, noted, wrote}
 use Rattle.aj_explain_text.proofs.blocks.write_two.Goals as goal
 
 pub returns : goal.returns
 returns g c =
-    let note = rw (c.as_str-other.ensures.value ∙ c.in_ok-at_second.ensures) at c.in_ok-write_note.ensures in
+    let words = rw (c.as_str-other.ensures.value ∙ c.in_ok-at_second.ensures) at c.in_ok-write_note.ensures in
+    let note = noted _ (note_front (page_data c.args.page.now) c.args.second.now.node) _ (codes "between the two another thread may come in") refl words in
     ends c.write_helping-2.result _ _
     (next _ (next _ (next _ (wrote (string_bytes c.args.out.now) _ c.in_ok-write_step.ensures) c.in_ok-write_step-2.ensures) note) c.in_ok-write_helping.ensures)
     c.write_helping-2.ensures
