@@ -1,12 +1,12 @@
 //! What is still to be said of one method.
-ghost use Rattle.std.specs.Prelude.{◌≡◌, ◌∷◌, ◌<◌, [], length, slice_get, Some, IfOk, OnOk, IsTrue};
+ghost use Rattle.std.specs.Prelude.{◌∷◌, ◌<◌, [], length, IfOk, OnOk};
 ghost use Rattle.std.specs.List.{AllByRecursion};
 ghost use Rattle.std.specs.List.Sorted.{IsStrictlySortedBy};
 ghost use Rattle.aj_paths.specs.Paths.{path_order};
 ghost use Rattle.aj_core.specs.Views.{program_of, method_of};
 ghost use Rattle.aj_rules.specs.Near.{AreRelevant, rel_of};
 ghost use Rattle.aj_rules.specs.Overriding.{AreOverriders};
-ghost use Rattle.aj_blame.specs.Passes.{Cell, cells_in, parts_of};
+ghost use Rattle.aj_blame.specs.Passes.{cells_in, parts_of};
 ghost use Rattle.aj_blame.specs.Ends.{Agrees, IsAsked, cells_at};
 ghost use Rattle.aj_blame.specs.Waiting.{Adds};
 

@@ -1,6 +1,5 @@
 //! The checker of certificates.
-ghost use Rattle.std.specs.Prelude.{◌≡◌, ◌<◌, ◌-◌, ◌^◌, ◌∷◌, ◌++◌, List, [], true, length, slice_get, take, IfOk, IfSome, MatchOption, MatchResult};
-ghost use Rattle.aj_algebra.specs.Basics.{below_of};
+ghost use Rattle.std.specs.Prelude.{◌≡◌, ◌<◌, ◌-◌, ◌^◌, ◌∷◌, ◌++◌, List, [], true, length, slice_get, IfOk, IfSome, MatchOption, MatchResult};
 ghost use Rattle.aj_core.specs.Views.{program_of};
 ghost use Rattle.aj_rules.specs.Near.{rel_of};
 ghost use Rattle.aj_rules.specs.Overriding.{AreOverriders};

@@ -1,5 +1,5 @@
 //! The sets of a method's relevant paths that have its required ones.
-ghost use Rattle.std.specs.Prelude.{◌≡◌, ◌∷◌, ◌++◌, [], filter, IfOk, OnOk};
+ghost use Rattle.std.specs.Prelude.{◌≡◌, filter, IfOk};
 ghost use Rattle.std.specs.List.{list_all};
 ghost use Rattle.aj_algebra.specs.HeldPaths.{has_path};
 ghost use Rattle.aj_blame.specs.Passes.{parts_of, with_and_without};

@@ -6,8 +6,8 @@ ghost use Rattle.aj_rules.specs.Overriding.{AreOverriders};
 ghost use Rattle.aj_rules.specs.Search.{row_at as overs_at};
 ghost use Rattle.aj_callers.specs.Called.{AreCallers};
 ghost use Rattle.aj_blame.specs.Certificates.{IsCertificate};
-ghost use Rattle.aj_blame.specs.Passes.{Passes, Written, pass, cells_of};
-ghost use Rattle.aj_blame.specs.Ends.{Agrees, IsEnd, IsGoing};
+ghost use Rattle.aj_blame.specs.Passes.{Passes, pass, cells_of};
+ghost use Rattle.aj_blame.specs.Ends.{Agrees, IsEnd};
 ghost use Rattle.aj_blame.specs.Waiting.{AreSettled};
 
 use crate::floors::Floors;
@@ -20,7 +20,7 @@ use aj_callers::{Callers, callers_of};
 use aj_core::CoreProgram;
 use aj_paths::MethodId;
 use aj_rules::{RelevantSets, overriders};
-use std::alloc::{AllocError, AllocError as NoMemory, AllocFailed, Global};
+use std::alloc::{AllocError, AllocError as NoMemory, Global};
 
 /// Why there is no certificate.
 #[derive(Clone, Copy, Debug, PartialEq, Eq)]

@@ -1,5 +1,5 @@
 //! Asking one method, and which methods wait then.
-ghost use Rattle.std.specs.Prelude.{◌≡◌, ◌<◌, ◌≤◌, ◌∷◌, [], ℕ, length, Some, IfOk, OnOk, false, slice_get};
+ghost use Rattle.std.specs.Prelude.{◌≡◌, ◌<◌, [], length, Some, IfOk, OnOk, false, slice_get};
 ghost use Rattle.aj_core.specs.Views.{program_of, method_of};
 ghost use Rattle.aj_rules.specs.Near.{AreRelevant, rel_of};
 ghost use Rattle.aj_rules.specs.Overriding.{AreOverriders};
@@ -7,7 +7,7 @@ ghost use Rattle.aj_rules.specs.Search.{row_at as overs_at};
 ghost use Rattle.aj_callers.specs.Called.{AreCallers, row_at};
 ghost use Rattle.aj_blame.specs.Ends.{Agrees, IsAsked};
 ghost use Rattle.aj_blame.specs.Passes.{cells_in, parts_of};
-ghost use Rattle.aj_blame.specs.Waiting.{AreSettled, AreWoken, IsAsleep};
+ghost use Rattle.aj_blame.specs.Waiting.{AreSettled, AreWoken};
 
 use crate::ask::ask_method;
 use crate::judged::Judged;

@@ -20,7 +20,6 @@ use Rattle.aj_blame_text.specs.Reading.{first_fault}
 use Rattle.aj_blame_text.specs.Texts.{IsTextOf}
 use Rattle.aj_blame_text.proofs.Laws.{one_blame, no_fault}
 use Rattle.aj_sources.specs.declared.checking.Source.{Source}
-use Rattle.aj_sources.specs.declared.refusal.Ending.{Ending}
 use Rattle.aj_sources.specs.declared.refusal.Ending.TheVariants as ending
 use Rattle.aj_sources.specs.declared.refusal.Refusal.{Refusal}
 use Rattle.aj_sources.specs.declared.refusal.Refusal.TheVariants.{NoMemory}

@@ -1,5 +1,5 @@
 -- `blame FILE`: judges the source, and writes the certificate that refuses it, where no assignment is admissible.
-use Rattle.std.specs.Prelude.{◌≡◌, ℕ, true, List, []}
+use Rattle.std.specs.Prelude.{ℕ, true, List, []}
 use Rattle.aj_core.specs.Core.{Program}
 use Rattle.aj_rules.specs.Near.{MethodPaths, AreRelevant, rel_of}
 use Rattle.aj_rules.specs.Rules.{IsAccepted}

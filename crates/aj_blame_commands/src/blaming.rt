@@ -1,5 +1,5 @@
 //! `blame FILE`.
-ghost use Rattle.std.specs.Prelude.{◌≡◌, ◌≤◌, ℕ, List, length, MatchResult};
+ghost use Rattle.std.specs.Prelude.{◌≤◌, ℕ, List, length, MatchResult};
 ghost use Rattle.aj_blame_text.specs.Texts.{IsTextOf};
 ghost use Rattle.aj_sources.specs.Checking.{IsSourceOf};
 ghost use Rattle.aj_sources.specs.Refusals.{IsRight, Tells};

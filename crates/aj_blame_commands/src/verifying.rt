@@ -8,7 +8,7 @@ ghost use Rattle.aj_blame_commands.specs.Refused.{IsFaultLine};
 ghost use Rattle.aj_blame_commands.specs.Verifying.{VerifyBlameAnswer};
 
 use crate::lines::{form_text, wrong_text};
-use aj_blame::{Blame, BlameWrong, check_blame};
+use aj_blame::{Blame, check_blame};
 use aj_blame_text::{BlameFault, read_blame};
 use aj_sources::{Ending, Refusal, Source, read_source};
 use std::alloc::{AllocError as NoMemory, Global};

@@ -1,5 +1,5 @@
 //! Passing over a text with no memory, up to its first fault.
-ghost use Rattle.std.specs.Prelude.{◌≡◌, None};
+ghost use Rattle.std.specs.Prelude.{None};
 ghost use Rattle.aj_books.specs.Combine.{unread};
 ghost use Rattle.aj_books.specs.Faults.{Gives};
 ghost use Rattle.aj_blame_text.specs.Passing.{pass_blame, pass_line, pass_lines};

@@ -1,6 +1,6 @@
 //! `verify FILE BOOK`.
 
-ghost use Rattle.std.specs.Prelude.{◌≡◌, ◌≢◌, ◌≤◌, List, length, IfOk, MatchResult, string_bytes};
+ghost use Rattle.std.specs.Prelude.{◌≡◌, ◌≢◌, ◌≤◌, length, IfOk, MatchResult, string_bytes};
 ghost use Rattle.aj_book_commands.specs.Books.{book_fault_line};
 ghost use Rattle.aj_book_check.specs.Faults.{IsUnjudged};
 ghost use Rattle.aj_core.specs.Views.{program_of};

@@ -6,7 +6,7 @@ ghost use Rattle.aj_algebra.specs.declared.basic.Basic.TheVariants.{Error};
 ghost use Rattle.aj_algebra.specs.HeldPaths.{Held, has_path};
 ghost use Rattle.aj_cond.specs.Conditions.{cond_of, value_of, IsCanonical};
 ghost use Rattle.aj_core.specs.Views.{program_of, stmt_of};
-ghost use Rattle.aj_rules.specs.Effect.{after_stmt, held_under};
+ghost use Rattle.aj_rules.specs.Effect.{after_stmt};
 ghost use Rattle.aj_rules.specs.Rules.{held_in};
 ghost use Rattle.aj_book_rules.specs.declared.refusal.Refusal.{Refusal};
 ghost use Rattle.aj_book_rules.specs.Works.{IsUnbounded};

@@ -10,7 +10,6 @@ ghost use Rattle.aj_core.specs.Locks.{path_of};
 ghost use Rattle.aj_core.specs.Views.{expr_of, exprs_from, program_of, stmt_of, stmts_from};
 ghost use Rattle.aj_rules.specs.Effect.{after_stmt, call_of};
 ghost use Rattle.aj_rules.specs.Mentions.{paths_of};
-ghost use Rattle.aj_rules.specs.Near.{rel_of};
 ghost use Rattle.aj_book_rules.specs.Judges.{judge_assignment, judge_program, judge_rel, judge_table, judge_value, AreCanonical};
 ghost use Rattle.aj_effects.specs.Rules.{block_value, rule_of, stmt_rule as stmt_rule_of, AreAllKnown, Value};
 ghost use Rattle.aj_book_rules.specs.declared.refusal.Refusal.{Refusal};

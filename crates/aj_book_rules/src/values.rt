@@ -2,8 +2,6 @@
 //! work has none, memory alone may be wanting.
 ghost use Rattle.std.specs.Prelude.{◌≡◌, ◌↔◌, true, IfErr, IfOk, if◌then◌else◌};
 ghost use Rattle.std.specs.Option.{option_copied};
-ghost use Rattle.std.specs.List.{list_all};
-ghost use Rattle.aj_algebra.specs.declared.basic.Basic.TheVariants.{Error};
 ghost use Rattle.aj_algebra.specs.Basics.{seq_of, join_of, star_of};
 ghost use Rattle.aj_algebra.specs.HeldPaths.{Held, holds_at, renamed as renamed_set};
 ghost use Rattle.aj_algebra.specs.Values.{sync_of};

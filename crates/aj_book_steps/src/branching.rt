@@ -1,5 +1,5 @@
 //! Values that look at one path at most, and steps whose premises and conclusion are such values: they take no tree.
-ghost use Rattle.std.specs.Prelude.{◌≡◌, ◌↔◌, ◌∷◌, ℕ, List, true, map, IfSome, if◌then◌else◌};
+ghost use Rattle.std.specs.Prelude.{◌≡◌, ◌↔◌, ℕ, List, true, map, IfSome, if◌then◌else◌};
 ghost use Rattle.aj_paths.specs.Paths.{PathData};
 ghost use Rattle.aj_algebra.specs.Basics.{seq_of, star_of};
 ghost use Rattle.aj_algebra.specs.HeldPaths.{Held};

@@ -1,5 +1,5 @@
 -- What is read, and where it goes wrong, depends on nothing behind the next byte.
-use Rattle.std.proofs.Common.{◌≡◌, ◌⊎◌, inl, inr, ℕ, zero, suc, ◌==◌, Bool, true, false, List, [], ◌∷◌, ◌++◌, if◌then◌else◌, Ok, Err, refl, sym, ◌∙◌, ap, subst, append_assoc}
+use Rattle.std.proofs.Common.{◌≡◌, ◌⊎◌, inl, inr, ℕ, ◌==◌, Bool, true, false, List, [], ◌∷◌, ◌++◌, if◌then◌else◌, Ok, Err, refl, sym, ◌∙◌, ap, subst, append_assoc}
 use Rattle.aj_books.specs.declared.stop.Kind.{Kind}
 use Rattle.aj_books.specs.declared.stop.Kind.TheVariants.{Form}
 use Rattle.aj_books.specs.Combine.{Res, ◌>>=◌, begins, expect}

@@ -1,17 +1,16 @@
 -- No book goes on with the byte of the first fault.
-use Rattle.std.proofs.Common.{◌≡◌, ◌⊎◌, inl, inr, ℕ, zero, suc, ◌+◌, ◌-◌, ◌<◌, ◌≤◌, ◌^◌, List, [], ◌∷◌, ◌++◌, length, length-append, take, drop, codes, Option, Some, None, Ok, Err, refl, sym, ◌∙◌, ap, subst, arith, append_assoc}
+use Rattle.std.proofs.Common.{◌≡◌, ◌⊎◌, inl, inr, ℕ, suc, ◌+◌, ◌-◌, ◌<◌, ◌≤◌, ◌^◌, List, [], ◌∷◌, ◌++◌, length, length-append, take, drop, codes, Some, None, Ok, Err, refl, sym, ◌∙◌, ap, subst, arith, append_assoc}
 use Rattle.std.proofs.lemmas.Option.{same_Some}
 use Rattle.aj_books.specs.declared.stop.Kind.{Kind}
-use Rattle.aj_books.specs.declared.stop.BookFault.TheVariants as faults
 use Rattle.aj_books.specs.Books.{Book}
 use Rattle.aj_books.specs.Texts.{newline, IsTextOf}
-use Rattle.aj_books.specs.Combine.{Res, ◌>>=◌, expect, exactly}
+use Rattle.aj_books.specs.Combine.{Res, expect, exactly}
 use Rattle.aj_books.specs.Faults.{fault_at, fault_of, first_fault}
 use Rattle.aj_books.specs.Reading.{number_at, table_line, lines_at, count_at, book_at}
 use Rattle.aj_books.proofs.Sound.{SoundAt, sound_seq, sound_expect, sound_number, Bytes, IsNumber}
 use Rattle.aj_books.proofs.BookLaws.{complete_book}
 use Rattle.aj_books.proofs.BeforeFaults.{place_in, place_in-is}
-use Rattle.aj_books.specs.Broken.{IsPast, IsUncanonical, Counts, IsBroken, root, number, conclusion, tree}
+use Rattle.aj_books.specs.Broken.{IsPast, Counts, IsBroken, root, number, conclusion, tree}
 use Rattle.aj_books.proofs.Locals.{AfterErr, IsLocal, Local, local_known, local_seq, local_done, local_expect}
 use Rattle.aj_books.proofs.NumberFaults.{local_number}
 use Rattle.aj_books.proofs.TreeFaults.{local_table_line, local_lines, local_exactly}

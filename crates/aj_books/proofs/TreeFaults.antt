@@ -1,13 +1,13 @@
 -- Trees, nodes, method lines, and the whole book.
-use Rattle.std.proofs.Common.{◌≡◌, inl, inr, ℕ, zero, suc, ◌<◌, ◌≤◌, ◌^◌, Bool, true, false, List, [], ◌∷◌, ◌++◌, length, codes, if◌then◌else◌, Ok, Err, refl, sym, ◌∙◌, ap, subst, arith, length-append}
+use Rattle.std.proofs.Common.{◌≡◌, inl, inr, ℕ, zero, suc, ◌<◌, ◌≤◌, ◌^◌, Bool, true, false, List, [], ◌∷◌, ◌++◌, length, codes, if◌then◌else◌, Ok, Err, refl, ◌∙◌, ap, arith, length-append}
 use Rattle.aj_cond.specs.Conditions.{Cond, LeafC, TestC}
 use Rattle.aj_books.specs.declared.stop.Kind.{Kind}
 use Rattle.aj_books.specs.declared.stop.Kind.TheVariants.{Form, TooDeep}
 use Rattle.aj_books.specs.Derivations.{Node, node, nodes_from}
-use Rattle.aj_books.specs.Books.{Line, Book, is_canonical, most_height}
+use Rattle.aj_books.specs.Books.{Line, is_canonical, most_height}
 use Rattle.aj_books.specs.Texts.{newline, line_text}
 use Rattle.aj_books.specs.Combine.{Res, ◌>>=◌, begins, expect, several, exactly}
-use Rattle.aj_books.specs.Reading.{number_at, path_at, leaf_at, test_with, tree_at, canonical_at, table_line, word_at_front, premise_with, node_at, line_at, lines_at, nothing, count_at, book_at}
+use Rattle.aj_books.specs.Reading.{number_at, path_at, leaf_at, test_with, tree_at, canonical_at, table_line, word_at_front, premise_with, node_at, line_at, lines_at, nothing}
 use Rattle.aj_books.proofs.Several.{Takes, several_done, several_fault, several_more}
 use Rattle.aj_books.proofs.Sound.{SoundAt}
 use Rattle.aj_books.proofs.SoundTrees.{ReadsLine, sound_line}

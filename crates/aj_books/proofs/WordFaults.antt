@@ -1,11 +1,9 @@
 -- Words and names of basics: one of some texts.
-use Rattle.std.proofs.Common.{◌≡◌, inl, inr, ℕ, zero, suc, ◌+◌, ◌<◌, ◌≤◌, Bool, true, false, List, [], ◌∷◌, ◌++◌, length, length-append, nat_le, codes, if◌then◌else◌, Ok, Err, refl, sym, ◌∙◌, ap, subst, arith}
+use Rattle.std.proofs.Common.{◌≡◌, inl, inr, ℕ, zero, suc, ◌+◌, ◌<◌, ◌≤◌, Bool, true, false, List, [], ◌∷◌, ◌++◌, length, length-append, nat_le, codes, if◌then◌else◌, Ok, Err, refl, sym, ◌∙◌, ap, arith}
 use Rattle.std.proofs.lemmas.Bool.{leb-true, le-leb, leb-false, lt-leb}
-use Rattle.aj_algebra.specs.declared.basic.Basic.{Basic}
 use Rattle.aj_algebra.specs.Basics.{name_of}
 use Rattle.aj_books.specs.declared.stop.Kind.{Kind}
 use Rattle.aj_books.specs.declared.stop.Kind.TheVariants.{Form}
-use Rattle.aj_books.specs.declared.word.Word.{Word}
 use Rattle.aj_books.specs.Derivations.{word_text, words}
 use Rattle.aj_books.specs.Combine.{Res, ◌>>=◌, expect, further, one_of}
 use Rattle.aj_books.specs.Reading.{basics, leaf_at, word_at_front}

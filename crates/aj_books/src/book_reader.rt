@@ -1,5 +1,5 @@
 //! The parts of a book, passed over from its first byte to its last.
-ghost use Rattle.std.specs.Prelude.{◌≡◌, ◌≤◌, ◌<◌, ◌^◌, length, IfOk};
+ghost use Rattle.std.specs.Prelude.{◌≤◌, ◌<◌, ◌^◌};
 ghost use Rattle.aj_books.specs.Faults.{Gives};
 ghost use Rattle.aj_books.specs.Passing.{pass_book, pass_line, pass_lines, pass_several, pass_table, pass_table_line};
 ghost use Rattle.aj_books.specs.Reading.{count_at, nothing};

@@ -1,5 +1,5 @@
 //! Books read in place: each part is lent from the bytes, and nothing takes memory.
-ghost use Rattle.std.specs.Prelude.{◌≡◌, ◌≤◌, ◌^◌, length, IfOk, IfErr, Some, MatchResult};
+ghost use Rattle.std.specs.Prelude.{◌≡◌, ◌≤◌, length, IfOk, IfErr, Some, MatchResult};
 ghost use Rattle.aj_books.specs.Derivations.{Node, Nodes, premises_of};
 ghost use Rattle.aj_books.specs.Books.{Book};
 ghost use Rattle.aj_books.specs.Texts.{IsTextOf};

@@ -1,5 +1,5 @@
 //! Bytes at the front of a text.
-ghost use Rattle.std.specs.Prelude.{◌≡◌, ◌∷◌, [], ◌&&◌};
+ghost use Rattle.std.specs.Prelude.{◌≡◌, ◌∷◌, []};
 ghost use Rattle.aj_books.specs.Combine.{begins as begins_with, expect as expect_at};
 ghost use Rattle.aj_books.specs.Faults.{Gives};
 

@@ -1,7 +1,7 @@
 //! Method lines of a book, wherever they are kept.
 ghost use Rattle.std.specs.Prelude.{◌≡◌, ◌∷◌, [], map, IfNone, IfSome};
 ghost use Rattle.aj_books.specs.Derivations.{node};
-ghost use Rattle.aj_books.specs.Memory.{line_of, nodes_at};
+ghost use Rattle.aj_books.specs.Memory.{line_of};
 ghost use Rattle.aj_books.specs.Views.{lines_in, IsAtSome};
 
 use crate::cursor::{BookCursor, Premises};

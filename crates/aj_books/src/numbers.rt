@@ -1,5 +1,5 @@
 //! Numbers at the front of a text.
-ghost use Rattle.std.specs.Prelude.{◌≡◌, ◌≤◌, ◌<◌, ◌^◌, ◌&&◌, ◌||◌, not, length, nat_lt, take, if◌then◌else◌, Some, None, true, IfOk};
+ghost use Rattle.std.specs.Prelude.{◌≡◌, ◌≤◌, ◌<◌, ◌^◌, ◌&&◌, length, nat_lt, if◌then◌else◌, Some, None, true, IfOk};
 ghost use Rattle.std.specs.Char.{is_ascii_digit};
 ghost use Rattle.std.specs.List.{take_while};
 ghost use Rattle.std.specs.Str.{all_ascii_digits};

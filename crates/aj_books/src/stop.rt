@@ -2,7 +2,7 @@
 ghost use Rattle.std.specs.Prelude.{◌≡◌, ◌-◌, ◌<◌, ◌^◌, length};
 ghost use Rattle.aj_books.specs.Faults.{fault_at};
 
-use std::alloc::{AllocError, AllocFailed, Global};
+use std::alloc::{AllocError, AllocFailed};
 
 /// Why bytes are no book. Places count bytes from 0.
 #[derive(Clone, Copy, Debug, PartialEq, Eq)]

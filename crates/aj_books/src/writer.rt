@@ -3,7 +3,7 @@ ghost use Rattle.std.specs.Prelude.{◌≡◌, ◌++◌, ◌∷◌, [], map, IfO
 ghost use Rattle.aj_cond.specs.Conditions.{cond_of};
 ghost use Rattle.aj_cond.specs.Texts.{text_of};
 ghost use Rattle.aj_books.specs.Memory.{book_of, line_of, node_of, nodes_at};
-ghost use Rattle.aj_books.specs.Texts.{book_text, line_text, lines_text, node_text, nodes_text, table_text, IsTextOf};
+ghost use Rattle.aj_books.specs.Texts.{line_text, lines_text, node_text, nodes_text, table_text, IsTextOf};
 
 use crate::books::DerivBook;
 use crate::derivation::Derivation;

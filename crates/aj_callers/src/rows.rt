@@ -1,8 +1,8 @@
 //! Which methods call a method. A method counts as a caller of those that override it.
-ghost use Rattle.std.specs.Prelude.{◌≡◌, ◌++◌, ◌∷◌, ℕ, ◌<◌, ◌≤◌, ◌^◌, List, Contains, length, IfOk, OnOk};
+ghost use Rattle.std.specs.Prelude.{◌≡◌, ◌++◌, ℕ, ◌<◌, ◌≤◌, ◌^◌, List, length, IfOk, OnOk};
 ghost use Rattle.aj_core.specs.Views.{program_of, expr_of, exprs_from, stmt_of, stmts_from};
 ghost use Rattle.aj_rules.specs.Search.{row_at as overs_at};
-ghost use Rattle.aj_callers.specs.Called.{expr_callees, exprs_callees, stmt_callees, block_callees, row_at, HasCaller, HasCallers, AreCallers};
+ghost use Rattle.aj_callers.specs.Called.{expr_callees, exprs_callees, stmt_callees, block_callees, HasCaller, HasCallers, AreCallers};
 
 use aj_core::{CoreExpr, CoreProgram, CoreStmt};
 use aj_paths::MethodId;

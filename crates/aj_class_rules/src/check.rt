@@ -8,7 +8,7 @@ ghost use Rattle.aj_class_rules.specs.declared.fault.ClassFault.TheVariants as k
 ghost use Rattle.aj_class_rules.specs.Members.{class_names, is_entry};
 ghost use Rattle.aj_class_rules.specs.Lines.{all_members, members_at};
 ghost use Rattle.aj_class_rules.specs.Lines as lines;
-ghost use Rattle.aj_class_rules.specs.Faults.{twice_faults, missing_run, circle_faults, other_faults, class_faults, faults_from, is_main, has_main, missing_main, faults_of};
+ghost use Rattle.aj_class_rules.specs.Faults.{twice_faults, missing_run, circle_faults, other_faults, class_faults, faults_from, is_main, missing_main, faults_of};
 ghost use Rattle.aj_class_rules.specs.Families.{members_along, first_places, tree_of, IsFamily, rows_data, row_at, AreHeadings};
 ghost use Rattle.aj_class_rules.specs.Own.{all_own_names};
 ghost use Rattle.aj_class_rules.specs.Noted.{noted};

@@ -3,7 +3,7 @@
 ghost use Rattle.std.specs.Prelude.{◌≡◌, None, map, option_map, IfOk, if◌then◌else◌};
 ghost use Rattle.std.specs.List.{list_any};
 ghost use Rattle.aj_syntax.specs.Views.{member_of, lock_of};
-ghost use Rattle.aj_class_rules.specs.Overriding.{class_of_type, reach_from, along, param_root, lock_root, meaning_of, meanings_of, is_same_lock, are_same_places, are_among, same_where_known, same_mark, are_alike, is_same_result, is_same_signature, headings, headings_at, clashes, overrides_badly};
+ghost use Rattle.aj_class_rules.specs.Overriding.{class_of_type, reach_from, along, param_root, lock_root, meaning_of, meanings_of, is_same_lock, are_same_places, are_among, same_where_known, are_alike, is_same_result, is_same_signature, headings, headings_at, clashes, overrides_badly};
 ghost use Rattle.aj_class_rules.specs.Faults.{override_faults};
 ghost use Rattle.aj_class_rules.specs.Families.{tree_of, IsFamily, place_data, reach_data, locks_data, heading_data, rows_data, row_at, AreHeadings};
 ghost use Rattle.aj_class_rules.specs.Noted.{noted};

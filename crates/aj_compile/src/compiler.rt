@@ -1,5 +1,5 @@
 //! The code of a program.
-ghost use Rattle.std.specs.Prelude.{◌≡◌, ◌++◌, IfOk, [], map, vec_len, ◌+◌};
+ghost use Rattle.std.specs.Prelude.{◌≡◌, ◌++◌, IfOk, vec_len, ◌+◌};
 ghost use Rattle.aj_core.specs.Views.{program_of, method_of};
 ghost use Rattle.aj_compile.specs.IsCode.{IsCodeOf};
 ghost use Rattle.aj_compile.specs.Rooms.{stmt_room, method_rooms};

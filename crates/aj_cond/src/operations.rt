@@ -1,10 +1,9 @@
 //! The operations on canonical trees, each exactly the function of its name on plain trees.
-ghost use Rattle.std.specs.Prelude.{◌≡◌, IfOk, map};
-ghost use Rattle.aj_paths.specs.Paths.{path_eq, path_order};
-ghost use Rattle.aj_algebra.specs.Basics.{lift_of, below_of};
+ghost use Rattle.std.specs.Prelude.{◌≡◌, IfOk};
+ghost use Rattle.aj_algebra.specs.Basics.{lift_of};
 ghost use Rattle.aj_algebra.specs.HeldPaths.{has_path, is_named};
-ghost use Rattle.aj_cond.specs.Conditions.{cond_of, cond_eq, value_of};
-ghost use Rattle.aj_cond.specs.Operations.{node, each_leaf, both_leaves, sync_tree, hold, hold_some, hold_partners, rename_tree, below_tree};
+ghost use Rattle.aj_cond.specs.Conditions.{cond_of, value_of};
+ghost use Rattle.aj_cond.specs.Operations.{node, each_leaf, both_leaves, sync_tree, hold, hold_partners, rename_tree, below_tree};
 ghost use Rattle.aj_cond.specs.Calls.{single_of, pair_of};
 
 use crate::tree::{Tree, same_tree};

@@ -1,7 +1,5 @@
 //! Conditional atomicities: trees of tests on paths.
 ghost use Rattle.std.specs.Prelude.{◌≡◌, ◌↔◌, true, IfOk};
-ghost use Rattle.aj_paths.specs.Paths.{path_eq, path_order};
-ghost use Rattle.aj_algebra.specs.Basics.{rank_of};
 ghost use Rattle.aj_algebra.specs.HeldPaths.{Held};
 ghost use Rattle.aj_cond.specs.Conditions.{Cond, cond_of, cond_eq, value_of, IsCanonical};
 

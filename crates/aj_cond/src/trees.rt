@@ -1,5 +1,4 @@
 //! Canonical trees as an algebra.
-ghost use Rattle.std.specs.Prelude.{◌≡◌};
 ghost use Rattle.aj_cond.specs.Conditions.{cond_of, value_of, IsCanonical};
 
 use crate::operations::{Pair, Single, at_in, below_in, both, each_tree, hold, rename_in, sync_in};

@@ -1,6 +1,6 @@
 -- What runs for a method and a class is the method itself, or overrides it: going up the classes, which ends.
-use Rattle.std.proofs.Common.{◌≡◌, ◌≢◌, ◌<◌, ◌⊎◌, inl, inr, ℕ, zero, suc, Bool, true, false, ◌==◌, List, [], ◌∷◌, length, Option, Some, None, is_some, refl, sym, ap, subst, ◌∙◌, arith}
-use Rattle.std.specs.Prelude.{IfSome, IsSome, slice_get}
+use Rattle.std.proofs.Common.{◌≡◌, ◌<◌, ◌⊎◌, inl, inr, ℕ, zero, suc, Bool, true, false, ◌==◌, length, Option, Some, None, refl, sym, ap, subst, ◌∙◌}
+use Rattle.std.specs.Prelude.{IfSome, slice_get}
 use Rattle.std.specs.Option.{option_and_then}
 use Rattle.std.proofs.lemmas.Bool.{eqb-true, eqb-false}
 use Rattle.std.proofs.lemmas.Option.{none-some, same_Some, slice_get_within}
@@ -8,7 +8,7 @@ use Rattle.aj_ancestors.specs.Ancestors.{up}
 use Rattle.aj_ancestors.proofs.Going.{going_ends}
 use Rattle.aj_core.specs.Core.{Program, Class, Method}
 use Rattle.aj_core.specs.Dispatch.{above_in, above_of, partner, targets_in, target_of, inherited_target, IsOwn, Overrides}
-use Rattle.aj_core.specs.Typed.{IsTarget, own, overridden, inherited, AreTargets, IsTyped}
+use Rattle.aj_core.specs.Typed.{own, overridden, inherited, IsTyped}
 
 module _ (P : Program) (typed : IsTyped P) where
   -- the class above a class is there

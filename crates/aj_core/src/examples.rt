@@ -1,8 +1,4 @@
 //! Example programs are typed.
-ghost use Rattle.std.specs.Prelude.{◌≡◌, Some, None, pos, false, []};
-ghost use Rattle.aj_core.specs.declared.types.CoreType.TheVariants as type;
-ghost use Rattle.aj_core.specs.Core.{GetE, ThisE, IntE, VarE};
-ghost use Rattle.aj_core.specs.Locks.{path_of, slot_path};
 ghost use Rattle.aj_core.specs.Typed.{IsTyped};
 ghost use Rattle.aj_core.specs.Examples.{counter, nested, returns_locked, divides_by_zero, reads_unlocked};
 

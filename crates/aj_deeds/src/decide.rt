@@ -1,6 +1,5 @@
 //! What a thread does next, decided before anything is changed.
-ghost use Rattle.std.specs.Prelude.{◌≡◌, reverse, length, nat_lt, Some, slice_get};
-ghost use Rattle.aj_core.specs.Core.{Method};
+ghost use Rattle.std.specs.Prelude.{◌≡◌, reverse, nat_lt, Some, slice_get};
 ghost use Rattle.std.specs.Option.{option_map};
 ghost use Rattle.aj_core.specs.Views.{program_of};
 ghost use Rattle.aj_state.specs.Memory.{lists, field_value};

@@ -1,7 +1,7 @@
 //! Values: what one of another kind is read as, and the results of operators.
-ghost use Rattle.std.specs.Prelude.{◌≡◌, reverse, int_lt, int_rem};
+ghost use Rattle.std.specs.Prelude.{◌≡◌, reverse, int_rem};
 ghost use Rattle.std.specs.Int.{w32, int_wrapping_div};
-ghost use Rattle.aj_state.specs.Values.{as_int, as_truth, address_of, value_eq, unary_value, unless_zero, binary_value, top, under, dropped};
+ghost use Rattle.aj_state.specs.Values.{as_int, as_truth, address_of, value_eq, unary_value, unless_zero, binary_value, top, dropped};
 
 use aj_core::{CoreOp, UnaryOp};
 use aj_state::{Address, Value};

@@ -1,5 +1,5 @@
 //! A sink in memory, which fails at chosen calls.
-ghost use Rattle.std.specs.Prelude.{◌≡◌, ◌<◌, ◌≤◌, ◌+◌, ℕ, [], Some, take, length, is_err, IfOk, OnErr};
+ghost use Rattle.std.specs.Prelude.{◌≡◌, ◌<◌, ◌≤◌, ◌+◌, [], Some, take, length, is_err, IfOk, OnErr};
 ghost use Rattle.aj_edge.specs.Faults.{HasCause};
 ghost use Rattle.aj_edge.specs.InMemory.{is_failing, write_fails, taken_count, after_write, after_failed_write};
 

@@ -1,5 +1,5 @@
 //! A folder and a sink that never fail.
-ghost use Rattle.std.specs.Prelude.{◌≡◌, ◌≢◌, ◌+◌, ◌≤◌, ℕ, List, Some, None, false, length, take, drop, is_err, IfOk, OnOk, IsSome};
+ghost use Rattle.std.specs.Prelude.{◌≡◌, ◌≤◌, ℕ, List, Some, None, false, length, drop, is_err, IfOk};
 ghost use Rattle.aj_edge.specs.Faults.{HasCause};
 ghost use Rattle.aj_edge.specs.Pieces.{GivesFrom};
 ghost use Rattle.aj_edge.specs.InMemory.{stored_files, bytes_or_none, given_count};

@@ -5,7 +5,7 @@ ghost use Rattle.aj_edge.specs.Faults.{Rose, HasCause};
 ghost use Rattle.aj_edge.specs.Pieces.{AppendsFront};
 
 use crate::{Folder, Sink};
-use std::alloc::{AllocError, AllocFailed, Global};
+use std::alloc::{AllocError, Global};
 
 /// A write failed before all bytes were written.
 #[derive(Clone, Copy, Debug, PartialEq, Eq)]

@@ -12,7 +12,7 @@ use crate::lists::{copied, with_path};
 use crate::locals::after;
 use aj_algebra::{Basic, has};
 use aj_core::{CoreExpr, CoreProgram, CoreStmt};
-use aj_paths::{MethodId, Path};
+use aj_paths::Path;
 use aj_rules::RelevantSets;
 use std::alloc::{AllocError as NoMemory, Global};
 

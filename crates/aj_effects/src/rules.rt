@@ -1,10 +1,10 @@
 //! The rule of a part: its value from those of the parts that it is made of, and from what its context tells.
-ghost use Rattle.std.specs.Prelude.{◌≡◌, ◌∷◌, [], map, IfNone, IfOk, IfSome};
+ghost use Rattle.std.specs.Prelude.{◌≡◌, map, IfOk};
 ghost use Rattle.aj_algebra.specs.Basics.{seq_of};
 ghost use Rattle.aj_algebra.specs.HeldPaths.{Held};
 ghost use Rattle.aj_algebra.specs.Values.{Keeps};
 ghost use Rattle.aj_core.specs.Locks.{path_of};
-ghost use Rattle.aj_core.specs.Views.{expr_of, exprs_from, program_of, stmt_of, stmts_from};
+ghost use Rattle.aj_core.specs.Views.{expr_of, exprs_from, stmt_of, stmts_from};
 ghost use Rattle.aj_rules.specs.Effect.{access_of};
 ghost use Rattle.aj_rules.specs.Mentions.{paths_of};
 ghost use Rattle.aj_effects.specs.Bodies.{part_of};

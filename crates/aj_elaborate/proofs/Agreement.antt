@@ -1,45 +1,42 @@
 -- The core program of a tree agrees with its class table.
-use Rattle.std.proofs.Common.{◌≡◌, ℕ, ◌+◌, ◌<◌, ◌≤◌, zero, suc, Bool, true, false, cond, not, ◌&&◌, ◌||◌, ◌==◌, List, [], ◌∷◌, ◌++◌, map, flat_map, length, reverse, take, drop, filter, Option, Some, None, is_some, is_none, refl, ap, ap₂, sym, ◌∙◌, subst, inl, inr, slice_get, position, bytes_eq, arith, option_map, option_and_then, unwrap_or, if◌then◌else◌, append-nil}
-use Rattle.std.specs.Prelude.{codes}
-use Rattle.std.specs.List.{list_any, filter_map, range_with_len}
+use Rattle.std.proofs.Common.{◌≡◌, ℕ, ◌+◌, ◌<◌, zero, suc, Bool, true, false, cond, ◌==◌, List, [], ◌∷◌, ◌++◌, map, flat_map, length, reverse, take, drop, filter, Option, Some, None, refl, ap, ap₂, sym, ◌∙◌, subst, slice_get, position, bytes_eq, arith, option_map, option_and_then, unwrap_or, append-nil}
+use Rattle.std.specs.List.{filter_map, range_with_len}
 use Rattle.std.specs.Option.{option_or}
 use Rattle.std.proofs.Math.Path.{fun_ext}
 use Rattle.std.proofs.Math.Seq.{drop-append_seam, take-append_seam}
-use Rattle.std.proofs.lemmas.Bool.{and_parts, or_cases, eq-eqb}
 use Rattle.std.proofs.lemmas.List.{map-append, length-map}
-use Rattle.std.proofs.lemmas.List.Folds.{list_any-append}
 use Rattle.std.proofs.lemmas.List.Elements.{filter_map-append}
 use Rattle.std.proofs.lemmas.List.Quantifiers.{position-Some}
-use Rattle.std.proofs.lemmas.Option.{none-some, same_Some, slice_get_within, slice_get_past}
+use Rattle.std.proofs.lemmas.Option.{none-some, same_Some, slice_get_within}
 use Rattle.aj_ancestors.specs.Ancestors.{reaches}
 use Rattle.aj_core.specs.declared.types.CoreType.{CoreType}
 use Rattle.aj_core.specs.Core.{Program, Method}
 use Rattle.aj_core.specs.Dispatch.{above_in, above_of, is_kind_of}
 use Rattle.aj_core.specs.Types as typing
 use Rattle.aj_core.specs.Types.{field_type, field_types}
-use Rattle.aj_core.specs.Typed.{fields_from, IsEntry, IsRunnable}
-use Rattle.aj_syntax.specs.Trees.{MemberTree, ClassTree, ProgramTree}
+use Rattle.aj_core.specs.Typed.{fields_from}
+use Rattle.aj_syntax.specs.Trees.{ClassTree, ProgramTree}
 use Rattle.aj_lemmas.proofs.Options.{then_parts}
 use Rattle.aj_lemmas.proofs.Numbers.{other_below, other_above}
 use Rattle.aj_class_rules.specs.Names.{texts_of}
-use Rattle.aj_class_rules.specs.Members.{class_names, field_names, method_names}
+use Rattle.aj_class_rules.specs.Members.{class_names, field_names}
 use Rattle.aj_class_rules.specs.Lines.{ancestors}
 use Rattle.aj_class_rules.proofs.Faultless.{IsFaultless}
-use Rattle.aj_classes.specs.Table.{TableData, ClassData, FieldData, MethodData, class_number, above_in_table, line_of, kind_in, field_in, own_field, field_number, method_in, own_method, method_number, first_found, table_of}
-use Rattle.aj_type_rules.specs.Rules.{field_named, numbered_field, method_named, numbered_method, parameter_types, own_fields, class_fields, types_of_finals, final_types, fields_in}
-use Rattle.aj_elaborate.specs.Classes.{numbers_in, is_final_in, field_numbers, inherited_count, class_core, class_of_number}
+use Rattle.aj_classes.specs.Table.{ClassData, FieldData, MethodData, class_number, above_in_table, line_of, kind_in, field_in, own_field, field_number, method_in, own_method, method_number, first_found}
+use Rattle.aj_type_rules.specs.Rules.{field_named, numbered_field, method_named, numbered_method, parameter_types, own_fields, types_of_finals, final_types, fields_in}
+use Rattle.aj_elaborate.specs.Classes.{numbers_in, is_final_in, inherited_count, class_core, class_of_number}
 use Rattle.aj_elaborate.specs.Order.{IsLined}
 use Rattle.aj_elaborate.specs.Programs.{field_node, guard_path}
 use Rattle.aj_elaborate.proofs.Ancestry.{found_there}
 use Rattle.aj_elaborate.proofs.Inversions.{map_of}
 use Rattle.aj_elaborate.proofs.Lined.{class_there, all_many}
 use Rattle.aj_elaborate.proofs.Paired.{line_named}
-use Rattle.aj_elaborate.proofs.TypedExprs.{IsFieldOf, IsMethodOf, IsMade, Agrees}
-use Rattle.aj_elaborate.proofs.Parts.{Each, each_at, each_along, each_mapped, at_left, at_right, get_below, mapped_at, before_mapped, result_at, told_alike}
+use Rattle.aj_elaborate.proofs.TypedExprs.{IsFieldOf, IsMethodOf, IsMade}
+use Rattle.aj_elaborate.proofs.Parts.{each_at, each_along, each_mapped, at_left, at_right, get_below, mapped_at, before_mapped, result_at, told_alike}
 use Rattle.aj_elaborate.proofs.Places as written
 use Rattle.aj_elaborate.proofs.Places.{FieldAt, MethodAt, fields_at, methods_at, field_entry, method_entry, core_field, core_method, field_entries, method_entries, own_fields_long, own_class, places, fields_from_is, places_both, places_none, places_all}
 use Rattle.aj_elaborate.proofs.Built.{IsBuilt, IsField, field_is, IsMethod, method_is, params_alike, Reads, types_read, reads}
-use Rattle.aj_elaborate.proofs.TreeLines.{the_table, table_long, place, class_known, same_entry, above_same, lined}
+use Rattle.aj_elaborate.proofs.TreeLines.{the_table, table_long, place, class_known, same_entry, lined}
 
 pub filter_both : {A : Type 0} (p : A → Bool) (xs ys : List A) → filter p (xs ++ ys) ≡ filter p xs ++ filter p ys
 filter_both p [] ys = refl

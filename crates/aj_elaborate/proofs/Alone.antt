@@ -1,24 +1,24 @@
 -- Where no class extends another, a core class has its own members alone.
-use Rattle.std.proofs.Common.{◌≡◌, ◌<◌, ◌+◌, ◌==◌, ℕ, zero, suc, Bool, true, false, List, [], ◌∷◌, map, filter, length, Option, Some, None, refl, sym, ap, ap₂, ◌∙◌, arith, slice_get, option_and_then, if◌then◌else◌}
+use Rattle.std.proofs.Common.{◌≡◌, ◌<◌, ◌+◌, ◌==◌, ℕ, suc, Bool, true, false, List, [], ◌∷◌, map, filter, length, Some, None, refl, sym, ap, ap₂, ◌∙◌, arith, slice_get, if◌then◌else◌}
 use Rattle.std.specs.Prelude.{codes}
 use Rattle.std.proofs.Math.Path.{fun_ext}
 use Rattle.std.proofs.lemmas.Bool.{eqb-true}
 use Rattle.std.proofs.lemmas.Option.{slice_get_within}
 use Rattle.aj_lemmas.proofs.Numbers.{eqb_turned}
-use Rattle.aj_core.specs.Core.{Program, Class, Method}
+use Rattle.aj_core.specs.Core.{Program, Method}
 use Rattle.aj_core.specs.Typed.{fields_from, is_final_at}
 use Rattle.aj_syntax.specs.Trees.{ClassTree, ProgramTree}
 use Rattle.aj_class_rules.specs.Faults as class_fault
 use Rattle.aj_class_rules.specs.Lines.{ancestors, says_in, counts}
-use Rattle.aj_class_rules.proofs.Faultless.{IsFaultless, faultless, nothing_above, nothing_counts}
-use Rattle.aj_classes.specs.Table.{TableData, ClassData, MethodData, above_in_table, kind_in, own_method, method_number, table_of}
+use Rattle.aj_class_rules.proofs.Faultless.{faultless, nothing_above, nothing_counts}
+use Rattle.aj_classes.specs.Table.{TableData, MethodData, above_in_table, kind_in, own_method, method_number, table_of}
 use Rattle.aj_elaborate.specs.Alone.{AreAlone, own_targets, class_alone}
-use Rattle.aj_elaborate.specs.Classes.{is_final_in, field_numbers, inherited_count, fields_of_each, runner, targets_from, class_core}
+use Rattle.aj_elaborate.specs.Classes.{is_final_in, field_numbers, inherited_count, fields_of_each, runner, targets_from}
 use Rattle.aj_elaborate.specs.Order.{IsLined}
 use Rattle.aj_elaborate.specs.Programs.{IsCoreOf}
 use Rattle.aj_elaborate.proofs.Ancestry.{kind_top, nothing_above_it}
 use Rattle.aj_elaborate.proofs.Agreement.{core_class, methods_owned, numbers}
-use Rattle.aj_elaborate.proofs.Built.{IsBuilt, built}
+use Rattle.aj_elaborate.proofs.Built.{built}
 use Rattle.aj_elaborate.proofs.Lined.{fields_top, named_top}
 use Rattle.aj_elaborate.proofs.Paired.{own_runs}
 use Rattle.aj_elaborate.proofs.Parts.{head_same, tail_same}

@@ -1,5 +1,5 @@
 -- What a program's class table tells holds of its core program.
-use Rattle.std.proofs.Common.{◌≡◌, ℕ, ◌+◌, zero, suc, Bool, true, false, cond, ◌||◌, List, [], ◌∷◌, ◌++◌, map, length, get_or, filter, Option, Some, None, refl, ap, ap₂, sym, ◌∙◌, subst, slice_get, position, bytes_eq, arith, if◌then◌else◌}
+use Rattle.std.proofs.Common.{◌≡◌, ℕ, ◌+◌, zero, suc, Bool, true, false, cond, ◌||◌, List, [], ◌∷◌, ◌++◌, map, length, get_or, filter, Option, Some, refl, ap, ap₂, sym, ◌∙◌, subst, slice_get, position, bytes_eq, arith, if◌then◌else◌}
 use Rattle.std.specs.List.{list_any, filter_map, cons_option, range_with_len}
 use Rattle.std.proofs.lemmas.List.Quantifiers.{position-Some}
 use Rattle.std.proofs.lemmas.List.Folds.{list_any-append}

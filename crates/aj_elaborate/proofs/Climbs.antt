@@ -1,8 +1,7 @@
 -- What a place of an order tells, and how the marks of an order begin.
-use Rattle.std.proofs.Common.{◌≡◌, ◌<◌, ◌+◌, ◌-◌, ℕ, Bool, true, false, List, [], ◌∷◌, ◌++◌, length, length-append, map, take, get_or, replicate, Option, Some, None, refl, sym, ap, ◌∙◌, arith, slice_get}
+use Rattle.std.proofs.Common.{◌≡◌, ◌<◌, ◌+◌, ◌-◌, ℕ, Bool, false, List, [], ◌∷◌, ◌++◌, length, length-append, map, get_or, replicate, Option, sym, ap, ◌∙◌, arith}
 use Rattle.std.proofs.lemmas.List.{length-map, length-replicate}
-use Rattle.std.proofs.lemmas.Option.{slice_get_within}
-use Rattle.aj_elaborate.specs.Order.{IsFromAbove, IsOrdered, stands_in}
+use Rattle.aj_elaborate.specs.Order.{IsFromAbove, IsOrdered}
 use Rattle.aj_elaborate.proofs.Ordering.{none_ordered, stands_at}
 
 -- a list that was mapped is as long

@@ -1,5 +1,5 @@
 -- How many fields a class has itself.
-use Rattle.std.proofs.Common.{◌≡◌, ℕ, length, Option, Some, None, refl, sym, option_map, unwrap_or}
+use Rattle.std.proofs.Common.{◌≡◌, length, Option, Some, None, refl, sym, option_map, unwrap_or}
 use Rattle.std.proofs.lemmas.List.FromFn.{length-range_with_len}
 use Rattle.aj_classes.specs.Table.{ClassData}
 use Rattle.aj_elaborate.specs.Classes.{numbers_in}

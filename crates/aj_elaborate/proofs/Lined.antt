@@ -1,13 +1,11 @@
 -- What a class of a table has, from what the class above it has.
-use Rattle.std.proofs.Common.{◌≡◌, ◌<◌, ◌+◌, ℕ, zero, suc, List, [], ◌∷◌, ◌++◌, length, filter, flat_map, reverse, Option, Some, None, refl, sym, ap, ap₂, ◌∙◌, arith, slice_get, option_map, option_and_then, if◌then◌else◌, append-nil, length-append}
+use Rattle.std.proofs.Common.{◌≡◌, ◌<◌, ◌+◌, ℕ, zero, suc, List, [], ◌∷◌, ◌++◌, length, filter, flat_map, reverse, Option, Some, None, refl, sym, ap, ap₂, ◌∙◌, arith, slice_get, option_map, if◌then◌else◌, append-nil, length-append}
 use Rattle.std.specs.Prelude.{codes}
 use Rattle.std.specs.Option.{option_or}
 use Rattle.std.proofs.lemmas.List.{reverse-append}
 use Rattle.std.proofs.lemmas.Grind.{flat_map-append}
-use Rattle.std.proofs.lemmas.Option.{same_Some}
 use Rattle.aj_core.specs.Core.{Class}
 use Rattle.aj_classes.specs.Table.{TableData, ClassData, above_in_table, own_method, method_number}
-use Rattle.aj_classes.proofs.Parts.{nothing_at}
 use Rattle.aj_elaborate.specs.Classes.{numbers_in, is_final_in, fields_of_each, field_numbers, ancestors_in, inherited_count, targets_from, class_core, class_of_number, all_classes}
 use Rattle.aj_elaborate.specs.Merged.{fields_over, merged, class_over}
 use Rattle.aj_elaborate.specs.Order.{IsLined}

@@ -1,7 +1,7 @@
 -- What a lock of a `requires` means tells its path: locks with equal meanings have equal paths.
-use Rattle.std.proofs.Common.{◌≡◌, ℕ, ◌+◌, ◌<◌, ◌≤◌, ◌==◌, zero, suc, Bool, true, false, cond, ◌&&◌, ◌||◌, ◌⊎◌, inl, inr, List, [], ◌∷◌, ◌++◌, map, length, Option, Some, None, Ok, refl, ap, ap₂, sym, ◌∙◌, subst, slice_get, position, bytes_eq, arith, option_map, option_and_then, unwrap_or, if◌then◌else◌, length-append}
-use Rattle.std.specs.Prelude.{ok_or, nat_le}
-use Rattle.std.specs.List.{list_any, list_all, position_from}
+use Rattle.std.proofs.Common.{◌≡◌, ℕ, ◌+◌, ◌≤◌, ◌==◌, suc, Bool, true, false, cond, ◌&&◌, ◌||◌, inl, inr, List, [], ◌∷◌, ◌++◌, map, length, Option, Some, None, Ok, refl, ap, ap₂, sym, ◌∙◌, subst, slice_get, position, bytes_eq, arith, option_map, option_and_then, unwrap_or, if◌then◌else◌, length-append}
+use Rattle.std.specs.Prelude.{ok_or}
+use Rattle.std.specs.List.{list_any, position_from}
 use Rattle.std.specs.Cmp.{both_ways}
 use Rattle.std.specs.Option.{option_or}
 use Rattle.std.proofs.lemmas.Bool.{and_parts, eqb-true, le-leb}
@@ -10,31 +10,28 @@ use Rattle.std.proofs.lemmas.Option.{none-some, same_Some}
 use Rattle.std.proofs.lemmas.Iterator.Adapters.{position_from-zero}
 use Rattle.std.proofs.lemmas.Slice.Eq.{bytes_eq-Decides}
 use Rattle.aj_paths.specs.Paths.{PathData, extended_some, most_fields}
-use Rattle.aj_core.specs.declared.types.CoreType.{CoreType}
 use Rattle.aj_core.specs.declared.types.CoreType.TheVariants as type
-use Rattle.aj_core.specs.Core.{Program}
 use Rattle.aj_core.specs.Locks.{slot_path, is_class}
 use Rattle.aj_core.specs.Types.{Variable}
 use Rattle.aj_syntax.specs.declared.tree.Name.{Name}
 use Rattle.aj_syntax.specs.declared.tree.Param.{Param}
 use Rattle.aj_syntax.specs.declared.tree.TypeName.{TypeName}
 use Rattle.aj_syntax.specs.declared.tree.TypeName.TheVariants as Y
-use Rattle.aj_syntax.specs.Trees.{LockTree, MethodTree, MemberTree, FieldM, CtorM, MethodM, ClassTree, ProgramTree}
+use Rattle.aj_syntax.specs.Trees.{LockTree, MemberTree, FieldM, CtorM, MethodM, ClassTree, ProgramTree}
 use Rattle.aj_class_rules.specs.Names.{texts_of}
 use Rattle.aj_class_rules.specs.Members.{field_names}
-use Rattle.aj_class_rules.specs.Lines.{class_named, line, members_in, members_at}
+use Rattle.aj_class_rules.specs.Lines.{members_in, members_at}
 use Rattle.aj_class_rules.specs.Faults.{type_faults, is_class_in}
 use Rattle.aj_class_rules.specs.Overriding.{FieldPlace, FoundField, field_from, field_along, class_of_type, reach_from, reach_on, param_root, lock_root, most_lock_fields, meaning_of, meanings_of, are_same_places, is_same_lock, are_among}
 use Rattle.aj_class_rules.specs.Overriding as meant
 use Rattle.aj_class_rules.specs.declared.fault.ClassFault.TheVariants.{UnknownClass}
 use Rattle.aj_class_rules.proofs.Faultless.{IsFaultless, is_class_named}
-use Rattle.aj_classes.specs.Table.{TableData, ClassData, FieldData, type_of, field_in, own_field, field_number, first_found, line_of, table_of}
+use Rattle.aj_classes.specs.Table.{TableData, ClassData, type_of, field_in, own_field, field_number, first_found, line_of}
 use Rattle.aj_type_rules.specs.declared.fault.TypeFault.TheVariants.{UnknownName, NotALock}
 use Rattle.aj_type_rules.specs.Rulings.{gain, demand, then_rule}
-use Rattle.aj_type_rules.specs.Scopes.{Scope, variable, this_variable, parameters_from}
+use Rattle.aj_type_rules.specs.Scopes.{variable, this_variable, parameters_from}
 use Rattle.aj_type_rules.specs.Rules.{class_in, field_named, numbered_field}
 use Rattle.aj_type_rules.specs.Locks.{Reach, reach_of, through, lock_field, along, lock_end, root_rule, lock_rule}
-use Rattle.aj_elaborate.specs.Programs.{all_there}
 use Rattle.aj_elaborate.specs.Classes.{inherited_count}
 use Rattle.aj_lemmas.proofs.Options.{then_parts}
 use Rattle.aj_elaborate.proofs.Inversions.{same_ok, gain_of, demand_of, then_of, ok_or_of, map_of}

@@ -1,18 +1,17 @@
 -- The pairs of a class from those of the class above it: its own methods stand in for those that they override, and are put among them.
-use Rattle.std.proofs.Common.{◌≡◌, ℕ, zero, suc, ◌+◌, ◌<◌, ◌≤◌, ◌==◌, ◌||◌, Bool, true, false, List, [], ◌∷◌, ◌++◌, length, map, take, drop, Option, Some, None, refl, sym, ap, ap₂, subst, ◌∙◌, arith, slice_get, position, bytes_eq, option_map, option_and_then, unwrap_or, nat_lt, if◌then◌else◌, append-nil, length-append}
+use Rattle.std.proofs.Common.{◌≡◌, ℕ, zero, suc, ◌+◌, ◌<◌, ◌≤◌, ◌==◌, ◌||◌, Bool, true, false, List, [], ◌∷◌, ◌++◌, length, map, take, drop, Option, Some, None, refl, sym, ap, ap₂, subst, ◌∙◌, arith, slice_get, option_map, option_and_then, unwrap_or, nat_lt, if◌then◌else◌, append-nil}
 use Rattle.std.specs.List.{AllByRecursion, range_with_len, prefix_len}
 use Rattle.std.specs.Option.{option_or}
-use Rattle.std.proofs.lemmas.Bool.{eqb-true, eq-eqb, false_from_ne_true, lt-ltb, le-ltb}
-use Rattle.std.proofs.lemmas.Option.{none-some, same_Some}
-use Rattle.std.proofs.lemmas.List.{map-append, length-map}
+use Rattle.std.proofs.lemmas.Bool.{false_from_ne_true, lt-ltb, le-ltb}
+use Rattle.std.proofs.lemmas.List.{length-map}
 use Rattle.std.proofs.Math.Seq.{drop-append_seam, take-append_seam}
 use Rattle.aj_classes.specs.Table.{TableData, ClassData, MethodData, above_in_table, kind_in, method_in, own_method, method_number}
 use Rattle.aj_elaborate.specs.Classes.{runner, targets_from}
 use Rattle.aj_elaborate.specs.Order.{IsOwnPart, IsLined}
 use Rattle.aj_elaborate.specs.Merged.{overridden, own_pairs, merged}
 use Rattle.aj_elaborate.proofs.Ancestry.{kind_on, kind_top, kind_itself, not_below, found_on, found_top}
-use Rattle.aj_classes.proofs.Parts.{mapped_at, nothing_at}
-use Rattle.aj_lemmas.proofs.Lists.{get_right, get_left}
+use Rattle.aj_classes.proofs.Parts.{nothing_at}
+use Rattle.aj_lemmas.proofs.Lists.{get_right}
 
 module _ (t : TableData) where
   -- ---- parts of the pairs

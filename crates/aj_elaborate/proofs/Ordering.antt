@@ -1,12 +1,11 @@
 -- Orders in which each class comes after the one above it: how one grows by a climb, and what is known at a place of it.
-use Rattle.std.proofs.Common.{◌≡◌, ◌≢◌, ◌<◌, ◌≤◌, ◌+◌, ◌-◌, ◌==◌, ◌||◌, ◌⊎◌, inl, inr, ℕ, zero, suc, Bool, true, false, List, [], ◌∷◌, ◌++◌, length, map, take, drop, reverse, get_or, Option, Some, None, refl, sym, ap, ap₂, subst, ◌∙◌, arith, slice_get, slice_set, replicate, unwrap_or, append_assoc, append-nil, length-append}
-use Rattle.std.specs.List.{list_any}
-use Rattle.std.specs.Option.{option_and_then, is_some}
+use Rattle.std.proofs.Common.{◌≡◌, ◌≢◌, ◌<◌, ◌≤◌, ◌+◌, ◌-◌, ◌==◌, ◌||◌, ◌⊎◌, inl, inr, ℕ, zero, suc, Bool, true, false, List, [], ◌∷◌, ◌++◌, length, take, reverse, get_or, Option, Some, None, refl, sym, ap, subst, ◌∙◌, arith, slice_get, slice_set, replicate, unwrap_or, append_assoc, append-nil}
+use Rattle.std.specs.Option.{option_and_then}
 use Rattle.std.proofs.lemmas.List.{reverse-append, length-set}
 use Rattle.std.proofs.lemmas.List.Folds.{list_any-append}
 use Rattle.std.proofs.lemmas.Bool.{eqb-true, eq-eqb, or_right, or_cases}
 use Rattle.std.proofs.lemmas.Bool.Decides.{nat_tests}
-use Rattle.std.proofs.lemmas.Option.{none-some, same_Some, slice_get-get_or, slice_get_past, unwrap_or-slice_get}
+use Rattle.std.proofs.lemmas.Option.{none-some, same_Some, slice_get-get_or}
 use Rattle.aj_lemmas.proofs.Lists.{set_other}
 use Rattle.aj_ancestors.specs.Ancestors.{AreBelow, IsAncestor, up}
 use Rattle.aj_elaborate.specs.Order.{stands_in, ComeAfter, IsFromAbove, is_marked, Climbs, IsClimb, IsOrdered}

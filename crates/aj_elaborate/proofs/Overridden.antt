@@ -1,9 +1,9 @@
 -- The method that runs is like the one that it runs for: what the class rules ask of methods that override, read on the core program.
-use Rattle.std.proofs.Common.{◌≡◌, ◌≢◌, ℕ, ◌+◌, ◌<◌, ◌≤◌, ◌==◌, ◌||◌, ◌&&◌, ◌⊎◌, zero, suc, Bool, true, false, not, List, [], ◌∷◌, ◌++◌, map, length, Option, Some, None, is_none, refl, ap, ap₂, sym, ◌∙◌, subst, inl, inr, slice_get, position, bytes_eq, arith, option_map, option_and_then, unwrap_or}
+use Rattle.std.proofs.Common.{◌≡◌, ◌≢◌, ℕ, ◌+◌, ◌<◌, ◌==◌, ◌||◌, ◌&&◌, ◌⊎◌, zero, suc, Bool, true, false, List, [], ◌∷◌, ◌++◌, map, length, Option, Some, None, is_none, refl, ap, ap₂, sym, ◌∙◌, subst, inl, inr, slice_get, position, bytes_eq, arith, option_map, unwrap_or}
 use Rattle.std.specs.Prelude.{IsSome}
 use Rattle.std.specs.List.{list_any}
 use Rattle.std.specs.Option.{option_or, is_some}
-use Rattle.std.proofs.lemmas.Bool.{and_parts, or_cases, eqb-true, eqb-false, eq-eqb}
+use Rattle.std.proofs.lemmas.Bool.{and_parts, or_cases, eqb-true, eqb-false}
 use Rattle.std.proofs.lemmas.List.Folds.{list_any-append}
 use Rattle.std.proofs.lemmas.Option.{none-some, same_Some, slice_get_within}
 use Rattle.std.proofs.lemmas.Slice.Eq.{bytes_eq-Decides}
@@ -16,15 +16,14 @@ use Rattle.aj_core.specs.Typed.{AreAlike, IsEntry}
 use Rattle.aj_syntax.specs.declared.tree.Param.{Param}
 use Rattle.aj_syntax.specs.declared.tree.TypeName.{TypeName}
 use Rattle.aj_syntax.specs.declared.tree.TypeName.TheVariants as Y
-use Rattle.aj_syntax.specs.Trees.{LockTree, MethodTree, MemberTree, FieldM, CtorM, MethodM, ClassTree, ProgramTree}
+use Rattle.aj_syntax.specs.Trees.{MemberTree, FieldM, CtorM, MethodM, ClassTree, ProgramTree}
 use Rattle.aj_class_rules.specs.Members.{is_empty, is_bare, is_entry, is_same_type}
 use Rattle.aj_class_rules.specs.Lines.{above, line, members_in, members_at, all_members}
 use Rattle.aj_class_rules.specs.Overriding.{Reach, meanings_of, are_among, same_where_known, same_mark, are_alike, is_same_result, may_override}
 use Rattle.aj_class_rules.proofs.Faultless.{IsFaultless, along_lines, inherited_step, inherited_none, overriding}
-use Rattle.aj_classes.specs.Table.{TableData, MethodData, type_of, above_in_table, kind_in, own_method, method_number, line_of, table_of}
+use Rattle.aj_classes.specs.Table.{TableData, MethodData, type_of, above_in_table, kind_in, own_method, method_number}
 use Rattle.aj_type_rules.specs.Rulings.{gain}
 use Rattle.aj_type_rules.specs.Locks.{lock_rule}
-use Rattle.aj_type_rules.specs.Scopes.{parameters_from}
 use Rattle.aj_elaborate.specs.Classes.{runner, inherited_count}
 use Rattle.aj_elaborate.specs.Order.{IsLined}
 use Rattle.aj_elaborate.specs.Programs.{all_there, ascending, method_scope}
@@ -32,9 +31,9 @@ use Rattle.aj_elaborate.proofs.Ancestry.{from_above, kind_itself, kind_up, kind_
 use Rattle.aj_elaborate.proofs.Inversions.{none_of}
 use Rattle.aj_elaborate.proofs.Lined.{named_on, named_top}
 use Rattle.aj_elaborate.proofs.Paired.{own_named, named_itself, line_named, pair_is, entry_of}
-use Rattle.aj_elaborate.proofs.Parts.{Each, each_at, nothing_at, mapped_at, before_mapped, at_either, get_below, there_are}
+use Rattle.aj_elaborate.proofs.Parts.{Each, each_at, nothing_at, mapped_at, before_mapped, at_either, there_are}
 use Rattle.aj_elaborate.proofs.PathsInOrder.{Among, same_ascending}
-use Rattle.aj_elaborate.proofs.Meanings.{IsKnown, shown, AreMeant, locks_meant, all_among}
+use Rattle.aj_elaborate.proofs.Meanings.{IsKnown, shown, locks_meant, all_among}
 use Rattle.aj_elaborate.proofs.Places.{MethodAt, own_methods, own_method_class, fields_at, methods_at, method_entry, method_entries}
 use Rattle.aj_elaborate.proofs.Built.{IsBuilt, IsMethod, empty_is}
 use Rattle.aj_elaborate.proofs.Built as parts

@@ -1,5 +1,5 @@
 -- The pairs of a class of a table without circles are as a typed core program has them.
-use Rattle.std.proofs.Common.{◌≡◌, ◌<◌, ◌≤◌, ◌+◌, ◌==◌, ◌||◌, ◌⊎◌, inl, inr, ℕ, zero, suc, Bool, true, false, List, [], ◌∷◌, ◌++◌, length, map, nat_cmp, Option, Some, None, refl, sym, ap, subst, ◌∙◌, arith, slice_get, position, bytes_eq, option_map, option_and_then, unwrap_or, length-append}
+use Rattle.std.proofs.Common.{◌≡◌, ◌<◌, ◌+◌, ◌==◌, ◌||◌, inl, inr, ℕ, zero, suc, Bool, true, false, List, [], ◌∷◌, ◌++◌, length, map, Option, Some, None, refl, sym, ap, subst, ◌∙◌, arith, slice_get, position, bytes_eq, option_map, option_and_then, unwrap_or}
 use Rattle.std.specs.Prelude.{IsSome, All}
 use Rattle.std.specs.Option.{option_or, is_some}
 use Rattle.std.specs.List.{AllByRecursion}
@@ -10,15 +10,15 @@ use Rattle.std.proofs.lemmas.List.Quantifiers.{position-Some}
 use Rattle.std.proofs.lemmas.Slice.Eq.{bytes_eq-Decides}
 use Rattle.aj_lemmas.proofs.Lists.{at_either, get_below, get_right, at_left}
 use Rattle.aj_lemmas.proofs.Options.{then_parts}
-use Rattle.aj_core.specs.Core.{Program, Class, Method}
-use Rattle.aj_core.specs.Dispatch.{above_in, above_of, partner, targets_in, target_of, inherited_target, is_kind_of, IsOwn}
+use Rattle.aj_core.specs.Core.{Program, Method}
+use Rattle.aj_core.specs.Dispatch.{partner, targets_in, target_of, inherited_target, IsOwn}
 use Rattle.aj_core.specs.Typed.{IsTarget, own, overridden, inherited, AreTargets}
 use Rattle.aj_classes.specs.Table.{TableData, ClassData, MethodData, above_in_table, kind_in, method_in, own_method, method_number}
 use Rattle.aj_classes.proofs.Parts.{mapped_at, before_mapped}
 use Rattle.aj_elaborate.specs.Classes.{runner, targets_from, class_core, class_of_number, all_classes}
-use Rattle.aj_elaborate.specs.Order.{IsOwnPart, IsLined}
+use Rattle.aj_elaborate.specs.Order.{IsLined}
 use Rattle.aj_elaborate.proofs.Ancestry.{kind_itself, kind_up, kind_on, kind_top, found_there}
-use Rattle.aj_elaborate.proofs.Lined.{class_there, all_many, named_on, named_top}
+use Rattle.aj_elaborate.proofs.Lined.{class_there, named_on}
 use Rattle.aj_elaborate.proofs.Merging.{found_first}
 use Rattle.aj_elaborate.proofs.Pairs.{paired, stands, ascending_pairs, pairs_within}
 

@@ -1,22 +1,22 @@
 -- The class table of a tree without class faults has no circles, and its classes have what the classes above them in the tree have.
-use Rattle.std.proofs.Common.{◌≡◌, ◌<◌, ◌≤◌, ◌+◌, ◌==◌, ℕ, zero, suc, Bool, true, false, List, [], ◌∷◌, ◌++◌, length, map, Option, Some, None, refl, sym, ap, ap₂, subst, ◌∙◌, arith, slice_get, position, bytes_eq, option_and_then, length-append}
+use Rattle.std.proofs.Common.{◌≡◌, ◌<◌, ◌≤◌, ◌+◌, ◌==◌, ℕ, false, List, [], ◌∷◌, ◌++◌, length, map, Option, Some, None, refl, sym, ap, ap₂, subst, ◌∙◌, arith, slice_get, position, bytes_eq, option_and_then}
 use Rattle.std.specs.List.{AllByRecursion}
 use Rattle.std.proofs.Math.Path.{fun_ext}
 use Rattle.std.proofs.lemmas.List.{map-append, length-map}
-use Rattle.std.proofs.lemmas.Option.{none-some, same_Some, slice_get_within}
+use Rattle.std.proofs.lemmas.Option.{none-some, same_Some}
 use Rattle.aj_lemmas.proofs.Numbers.{eqb_turned, other_below, other_above}
 use Rattle.aj_ancestors.specs.Ancestors.{AreBelow, IsAncestor}
 use Rattle.aj_syntax.specs.Trees.{ClassTree, ProgramTree}
 use Rattle.aj_class_rules.specs.Names.{texts_of}
-use Rattle.aj_class_rules.specs.Members.{class_names, method_names}
-use Rattle.aj_class_rules.specs.Lines.{ancestors, above_in, above, ancestors_of, line}
+use Rattle.aj_class_rules.specs.Members.{method_names}
+use Rattle.aj_class_rules.specs.Lines.{ancestors, above_in, above, line}
 use Rattle.aj_class_rules.specs.Faults.{faults_of}
 use Rattle.aj_class_rules.proofs.Faultless.{IsFaultless, faultless, below, no_circle, line_is}
-use Rattle.aj_classes.specs.Table.{TableData, ClassData, MethodData, above_in_table, line_of, kind_in, table_of}
+use Rattle.aj_classes.specs.Table.{TableData, ClassData, MethodData, above_in_table, line_of, table_of}
 use Rattle.aj_elaborate.specs.Classes.{inherited_count, ancestors_in}
 use Rattle.aj_elaborate.specs.Order.{IsOwnPart, IsLined}
 use Rattle.aj_elaborate.proofs.Built.{place_of_name}
-use Rattle.aj_elaborate.proofs.Parts.{Each, each_at, get_below, mapped_at, before_mapped}
+use Rattle.aj_elaborate.proofs.Parts.{Each, each_at, mapped_at, before_mapped}
 use Rattle.aj_elaborate.proofs.Places.{MethodAt, own_methods, methods_at, method_entry, method_entries, own_method_names, own_method_class, method_classes_between, class_entry, IsPlaced, placed, class_of_entry, entries_many}
 
 -- what holds of each of the parts holds of what they are in the table

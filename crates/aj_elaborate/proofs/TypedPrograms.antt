@@ -19,7 +19,7 @@ use Rattle.aj_core.specs.Dispatch.{fields_in, inherited_fields, Overrides}
 use Rattle.aj_core.specs.Sizes.{stmt_nodes}
 use Rattle.aj_core.specs.Types.{field_type, Variable}
 use Rattle.aj_core.specs.Typed as typed
-use Rattle.aj_core.specs.Typed.{fields_from, is_final_at, IsEntry, IsRunnable, IsType, IsLock, parameters, size_of, most_nodes, AreAlike, IsTypedClass, IsTypedField, IsTypedMethod, AreTypedStmts, IsTyped}
+use Rattle.aj_core.specs.Typed.{fields_from, is_final_at, IsEntry, IsRunnable, IsType, IsLock, size_of, most_nodes, AreAlike, IsTypedClass, IsTypedField, IsTypedMethod, AreTypedStmts, IsTyped}
 use Rattle.aj_syntax.specs.declared.tree.Param.{Param}
 use Rattle.aj_syntax.specs.declared.tree.TypeName.{TypeName}
 use Rattle.aj_syntax.specs.declared.tree.TypeName.TheVariants as Y

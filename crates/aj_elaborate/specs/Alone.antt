@@ -1,5 +1,5 @@
 -- Programs in which no class extends another.
-use Rattle.std.specs.Prelude.{◌≡◌, ℕ, ◌+◌, ◌==◌, List, [], ◌∷◌, Option, Some, None, filter, slice_get, codes, if◌then◌else◌}
+use Rattle.std.specs.Prelude.{◌≡◌, ℕ, ◌+◌, ◌==◌, List, [], ◌∷◌, Some, None, filter, slice_get, codes, if◌then◌else◌}
 use Rattle.aj_core.specs.Core.{Class, Field, Method}
 use Rattle.aj_core.specs.Typed.{fields_from, is_final_at}
 use Rattle.aj_syntax.specs.Trees.{ClassTree, ProgramTree}

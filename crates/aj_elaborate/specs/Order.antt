@@ -1,5 +1,5 @@
 -- Class tables without circles, and orders in which each class comes after the one that it extends.
-use Rattle.std.specs.Prelude.{◌≡◌, ℕ, ◌<◌, ◌==◌, Bool, true, false, List, [], ◌∷◌, ◌++◌, Option, Some, None, map, length, position, bytes_eq, unwrap_or, slice_get}
+use Rattle.std.specs.Prelude.{◌≡◌, ℕ, ◌<◌, ◌==◌, Bool, true, false, List, [], ◌∷◌, ◌++◌, Option, Some, map, length, position, bytes_eq, unwrap_or, slice_get}
 use Rattle.std.specs.List.{AllByRecursion, list_any}
 use Rattle.aj_ancestors.specs.Ancestors.{AreBelow, IsAncestor}
 use Rattle.aj_classes.specs.Table.{TableData, ClassData, MethodData, above_in_table}

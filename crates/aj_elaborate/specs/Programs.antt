@@ -6,7 +6,7 @@ use Rattle.aj_paths.specs.Paths.{PathData, path_order}
 use Rattle.aj_core.specs.declared.types.CoreType.{CoreType}
 use Rattle.aj_core.specs.Core.{Program, Field, Method, Stmts, BlockS}
 use Rattle.aj_class_rules.specs.First.{IsFirst}
-use Rattle.aj_syntax.specs.Trees.{LockTree, MethodTree, FieldTree, MemberTree, FieldM, CtorM, MethodM, ClassTree, ProgramTree}
+use Rattle.aj_syntax.specs.Trees.{LockTree, MethodTree, FieldTree, MemberTree, FieldM, CtorM, MethodM, ProgramTree}
 use Rattle.aj_classes.specs.Table.{TableData, type_of, class_number, method_number, table_of}
 use Rattle.aj_type_rules.specs.declared.fault.TypeFault.{TypeFault}
 use Rattle.aj_type_rules.specs.declared.fault.TypeFault.TheVariants.{MissingReturn}

@@ -1,7 +1,7 @@
 //! The fields and methods of all classes.
 #![tactic(auto, using(aj_type_rules::proofs::Noting::noted_append))]
 
-ghost use Rattle.std.specs.Prelude.{false, ◌≡◌, ◌+◌, ◌<◌, ℕ, Some, length, map, option_map, slice_get, IfOk, OnOk};
+ghost use Rattle.std.specs.Prelude.{◌≡◌, ◌+◌, ◌<◌, ℕ, Some, length, map, option_map, slice_get, IfOk, OnOk};
 ghost use Rattle.aj_classes.specs.Seen.{FieldData};
 ghost use Rattle.aj_classes.specs.Table.{MethodData};
 ghost use Rattle.aj_classes.specs.Views.{method_data, table_data};

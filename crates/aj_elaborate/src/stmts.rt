@@ -28,7 +28,7 @@ use aj_type_rules::{
     lock_path, note_declaration, print_rule, put_rule, return_rule, set_rule, start_rule,
     target_rule, type_rule, value_rule,
 };
-use std::alloc::{AllocError as NoMemory, Global};
+use std::alloc::AllocError as NoMemory;
 
 /// A statement that declares nothing and can complete.
 fn simple(node: Option<CoreStmt>) -> StmtPart

@@ -3,21 +3,20 @@ use Rattle.std.proofs.Common.{◌≡◌, ◌≤◌, ℕ, zero, suc, Bool, true, 
 use Rattle.std.specs.Prelude.{nat_le, if◌then◌else◌}
 use Rattle.std.specs.List.{list_all}
 use Rattle.std.proofs.lemmas.Bool.{and_parts, leb-true, eqb-true, false≢true}
-use Rattle.aj_paths.specs.Paths.{PathData}
 use Rattle.aj_algebra.specs.declared.basic.Basic.{Basic}
 use Rattle.aj_algebra.specs.declared.basic.Basic.TheVariants.{Const, Mover, Atomic, Cmpd, Error}
-use Rattle.aj_algebra.specs.Basics.{seq_of, below_of}
-use Rattle.aj_algebra.specs.HeldPaths.{Held, has_path}
+use Rattle.aj_algebra.specs.Basics.{seq_of}
+use Rattle.aj_algebra.specs.HeldPaths.{Held}
 use Rattle.aj_core.specs.Core.{Program, Class, Method, ThisE, no_exprs, EmptyS}
 use Rattle.aj_core.specs.Dispatch.{partner, Overrides}
 use Rattle.aj_core.proofs.DispatchLemmas.{none_overrides}
 use Rattle.std.proofs.lemmas.Option.{none-some, same_Some}
 use Rattle.aj_core.specs.Examples.{this_path, synchronized_this}
-use Rattle.aj_core.proofs.ExampleProofs.{EachFrom, each}
+use Rattle.aj_core.proofs.ExampleProofs.{each}
 use Rattle.aj_rules.specs.Near.{required, locked, called, MethodPaths, AreRelevant, AreFew, rel_of, loc_of}
 use Rattle.aj_rules.specs.Effect.{Assignment, effect, sync_effect}
 use Rattle.aj_rules.specs.Rules.{IsPart, AtMost, IsFalling, HoldsBound, IsAdmissible, IsAccepted}
-use Rattle.aj_rules.proofs.BasicLemmas.{below_chain, below_itself}
+use Rattle.aj_rules.proofs.BasicLemmas.{below_chain}
 use Rattle.aj_rules.proofs.UniqueSets.{unique_sets}
 use Rattle.aj_examples.specs.Bodies.{all_movers, nothing_held}
 use Rattle.aj_examples.specs.Judged.{just, two_writes, no_lock, requiring, call_put, overridden, put_free}

@@ -1,5 +1,5 @@
 -- Relevant sets by computation: rows of paths in which nothing is missing that the rules give, and each of which is near.
-use Rattle.std.proofs.Common.{◌≡◌, ◌≤◌, ℕ, zero, suc, ◌+◌, Bool, true, false, ◌==◌, ◌&&◌, List, [], ◌∷◌, length, Some, None, refl, sym, ap, subst, arith, inl, inr}
+use Rattle.std.proofs.Common.{◌≡◌, ℕ, zero, suc, ◌+◌, Bool, true, false, ◌==◌, ◌&&◌, List, [], ◌∷◌, length, Some, None, refl, sym, subst, arith, inl, inr}
 use Rattle.std.specs.Prelude.{Option, Contains, Ok, slice_get, nat_le, if◌then◌else◌}
 use Rattle.std.specs.List.{list_all, AllByRecursion}
 use Rattle.std.specs.List.Sorted.{IsStrictlySortedBy}
@@ -18,7 +18,7 @@ use Rattle.aj_core.specs.Locks.{path_of}
 use Rattle.aj_rules.specs.Guards.{guard_of, guard_path}
 use Rattle.aj_rules.specs.Mentions.{Mention, Accesses, Calls, Locks, Names, mentions, paths_of}
 use Rattle.aj_rules.specs.Clauses.{program_clauses}
-use Rattle.aj_rules.specs.Search.{row_at, IsLeastFamily}
+use Rattle.aj_rules.specs.Search.{row_at}
 use Rattle.aj_rules.specs.Limits.{parted_from}
 use Rattle.aj_rules.specs.Near.{begins_in, Near, required, locked, guarded, called, overriding, named, AreRelevant}
 use Rattle.aj_rules.proofs.Reaching.{partner_in, class_with, near_from_reached, reached_from_near}

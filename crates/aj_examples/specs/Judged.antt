@@ -3,7 +3,7 @@ use Rattle.std.specs.Prelude.{ℕ, pos, Bool, true, false, List, [], ◌∷◌, 
 use Rattle.aj_paths.specs.Paths.{PathData}
 use Rattle.aj_core.specs.Core.{Program, Method, Expr, IntE, ThisE, VarE, GetE, CallE, NewE, no_exprs, and_expr}
 use Rattle.aj_core.specs.Core.{Stmt, EmptyS, BlockS, LocalS, SetFieldS, DoS, SyncS, PrintS, no_stmts, and_stmt}
-use Rattle.aj_core.specs.Examples.{this_path, plain_class, plain_method, block_of, synchronized_this, put_seven, guarded_main}
+use Rattle.aj_core.specs.Examples.{this_path, plain_class, plain_method, block_of, put_seven, guarded_main}
 use Rattle.aj_rules.specs.Near.{MethodPaths}
 use Rattle.aj_examples.specs.Fields.{path, node_type, node_fields, of_this}
 use Rattle.aj_examples.specs.Family.{free_field}

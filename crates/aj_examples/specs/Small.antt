@@ -1,5 +1,5 @@
 -- Small expressions and states.
-use Rattle.std.specs.Prelude.{ℕ, ℤ, pos, List, [], ◌∷◌, Option, Some, None, if◌then◌else◌}
+use Rattle.std.specs.Prelude.{pos, List, [], ◌∷◌, Option, Some, None, if◌then◌else◌}
 use Rattle.std.specs.FinMap as map
 use Rattle.aj_core.specs.Core.{Expr, IntE}
 use Rattle.aj_state.specs.declared.value.Address.{Address}
@@ -7,9 +7,9 @@ use Rattle.aj_state.specs.declared.value.Value.{Value}
 use Rattle.aj_state.specs.declared.value.Value.TheVariants.{Int, Null, Ref}
 use Rattle.aj_state.specs.Values.{address_eq}
 use Rattle.aj_state.specs.Memory.{Object, Hold, Heap}
-use Rattle.aj_state.specs.States.{Thread, Ready, Done, State}
+use Rattle.aj_state.specs.States.{Ready, Done, State}
 use Rattle.aj_steps.specs.Step.{Shared}
-use Rattle.aj_examples.specs.Seen.{here, there, object_of, held_by}
+use Rattle.aj_examples.specs.Seen.{here, there, object_of}
 
 -- the literal `1`
 abbrev pub one : Expr

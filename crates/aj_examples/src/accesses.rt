@@ -1,5 +1,5 @@
 //! The kinds of accesses, and what they read and write.
-ghost use Rattle.std.specs.Prelude.{◌≡◌, pos, [], ◌∷◌, Some, None};
+ghost use Rattle.std.specs.Prelude.{◌≡◌, pos, [], ◌∷◌, None};
 ghost use Rattle.aj_state.specs.declared.value.Fault.TheVariants as fault;
 ghost use Rattle.aj_state.specs.declared.value.StepKind.TheVariants.{Both, Other, Bare};
 ghost use Rattle.aj_state.specs.declared.value.Value.TheVariants.{Int, Null, Ref};

@@ -1,5 +1,5 @@
 //! What the actions on a thread's own frame come to.
-ghost use Rattle.std.specs.Prelude.{◌≡◌, pos, [], ◌∷◌, Some, None};
+ghost use Rattle.std.specs.Prelude.{◌≡◌, pos, [], ◌∷◌, None};
 ghost use Rattle.aj_core.specs.declared.types.CoreOp.TheVariants.{Sub, Div};
 ghost use Rattle.aj_core.specs.declared.types.UnaryOp.TheVariants.{Neg};
 ghost use Rattle.aj_core.specs.Core.{Expr, Stmt, WhileS};
@@ -7,7 +7,7 @@ ghost use Rattle.aj_state.specs.declared.value.Fault.TheVariants as fault;
 ghost use Rattle.aj_state.specs.declared.value.StepKind.TheVariants.{Both, Other};
 ghost use Rattle.aj_state.specs.declared.value.Value.TheVariants.{Int, Null, Ref};
 ghost use Rattle.aj_state.specs.States.{Running};
-ghost use Rattle.aj_state.specs.Work.{Ex, St, Act, Push, Load, Store, Drop, Unary, Binary, AndThen, OrElse, Choose, Loop, Print};
+ghost use Rattle.aj_state.specs.Work.{Ex, St, Push, Load, Store, Drop, Unary, Binary, AndThen, OrElse, Choose, Loop, Print};
 ghost use Rattle.aj_steps.specs.Step.{Moves, Nothing, Prints, act};
 ghost use Rattle.aj_examples.specs.Seen.{four_fields, seven, minus_two, yes_value, no_value, here, sees, does, gives, goes, faults_with, frame_with, rest};
 

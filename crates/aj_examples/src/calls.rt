@@ -1,5 +1,5 @@
 //! What calls, returns, new objects and new threads come to.
-ghost use Rattle.std.specs.Prelude.{◌≡◌, pos, false, [], ◌∷◌, Some, None, replicate};
+ghost use Rattle.std.specs.Prelude.{◌≡◌, pos, [], ◌∷◌, None, replicate};
 ghost use Rattle.aj_core.specs.Core.{EmptyS};
 ghost use Rattle.aj_state.specs.declared.value.Fault.TheVariants as fault;
 ghost use Rattle.aj_state.specs.declared.value.StepKind.TheVariants.{Both, Other};

@@ -2,7 +2,7 @@
 ghost use Rattle.std.specs.Prelude.{◌≡◌, true, false, [], ◌∷◌, Some, None, map, slice_get};
 ghost use Rattle.aj_core.specs.declared.types.CoreOp.TheVariants.{Eq, Ne, Lt, Le, Gt, Ge, Add, Sub, Mul, Div, Rem};
 ghost use Rattle.aj_core.specs.declared.types.CoreType.TheVariants.{Int, Boolean, Class};
-ghost use Rattle.aj_core.specs.Core.{IntE, TruthE, NullE, ThisE, VarE, NotE, NegE, BinaryE, AndE, OrE, GetE, CallE, NewE, no_exprs, and_expr};
+ghost use Rattle.aj_core.specs.Core.{TruthE, ThisE, NotE, NegE, BinaryE, AndE, OrE, CallE, NewE, no_exprs, and_expr};
 ghost use Rattle.aj_core.specs.Core.{EmptyS, BlockS, LocalS, SetVarS, SetFieldS, DoS, IfS, WhileS, SyncS, ReturnS, PrintS, StartS, no_stmts, and_stmt};
 ghost use Rattle.aj_core.specs.Dispatch.{is_kind_of};
 ghost use Rattle.aj_core.specs.Types.{ValueT, NullT, VoidT, int_type, boolean_type, class_type, result_type, fits, binary_type, field_types, parameter_types};

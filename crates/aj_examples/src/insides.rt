@@ -1,6 +1,5 @@
 //! Who stands inside an atomic call.
 ghost use Rattle.std.specs.Prelude.{◌≡◌, true, false, [], ◌∷◌, Some, None};
-ghost use Rattle.std.specs.FinMap as map;
 ghost use Rattle.aj_core.specs.Examples.{counter};
 ghost use Rattle.aj_state.specs.declared.value.Fault.TheVariants as fault;
 ghost use Rattle.aj_state.specs.States.{Ready, Running, Done, Faulted};

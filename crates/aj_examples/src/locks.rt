@@ -1,5 +1,5 @@
 //! What taking a lock and giving it back come to.
-ghost use Rattle.std.specs.Prelude.{◌≡◌, [], ◌∷◌, Some, None};
+ghost use Rattle.std.specs.Prelude.{◌≡◌, [], ◌∷◌, None};
 ghost use Rattle.aj_core.specs.Core.{Stmt};
 ghost use Rattle.aj_state.specs.declared.value.Fault.TheVariants as fault;
 ghost use Rattle.aj_state.specs.declared.value.StepKind.TheVariants.{Both, Right, Left};

@@ -1,5 +1,5 @@
 //! What each operator gives.
-ghost use Rattle.std.specs.Prelude.{◌≡◌, pos, negsuc, [], ◌∷◌, Some, None};
+ghost use Rattle.std.specs.Prelude.{◌≡◌, pos, negsuc, Some, None};
 ghost use Rattle.aj_core.specs.declared.types.CoreOp.TheVariants.{Eq, Ne, Lt, Le, Gt, Ge, Add, Sub, Mul, Div, Rem};
 ghost use Rattle.aj_core.specs.declared.types.UnaryOp.TheVariants.{Not, Neg};
 ghost use Rattle.aj_state.specs.declared.value.Value.TheVariants.{Int, Null, Ref};

@@ -3,7 +3,6 @@
 ghost use Rattle.std.specs.Prelude.{◌≡◌, ◌≢◌, ℕ, List, true, length, Some};
 ghost use Rattle.aj_core.specs.Core.{Program};
 ghost use Rattle.aj_core.specs.Typed.{IsTyped};
-ghost use Rattle.aj_state.specs.declared.value.StepKind.TheVariants.{Bare};
 ghost use Rattle.aj_state.specs.States.{State, initial};
 ghost use Rattle.aj_steps.specs.Run.{run};
 ghost use Rattle.aj_steps.specs.Step.{Move, Moves, outcome, moved};

@@ -7,7 +7,7 @@ ghost use Rattle.aj_book_rules.specs.Parts.{ExprP, StmtP};
 ghost use Rattle.aj_rules.specs.Effect.{effect};
 ghost use Rattle.aj_rules.specs.Near.{rel_of};
 ghost use Rattle.aj_why.specs.Parts.{own_of};
-ghost use Rattle.aj_why.specs.Readings.{first_where, is_cmpd, is_error, own_at};
+ghost use Rattle.aj_why.specs.Readings.{first_where, is_cmpd, own_at};
 ghost use Rattle.aj_why.specs.Steps.{stmt_steps};
 ghost use Rattle.aj_why.specs.Visits.{Visit, stmt_visits};
 ghost use Rattle.aj_explain.specs.Basics.{stmt_basics};
@@ -21,7 +21,7 @@ use aj_core::{CoreExpr, CoreMethod, CoreStmt};
 use aj_effect_at::{Assigned, Called, among, call_effect, has_all, held_under};
 use aj_paths::{MethodId, Path};
 use aj_rules::required_of;
-use std::alloc::{AllocError as NoMemory, Global};
+use std::alloc::AllocError as NoMemory;
 
 /// Why a method is more than it may be.
 #[derive(Drop)]

@@ -1,6 +1,6 @@
 //! What is answered to the bytes of a source.
 
-ghost use Rattle.std.specs.Prelude.{◌≡◌, ◌≤◌, ◌^◌, length, map, IfOk, MatchResult, string_bytes};
+ghost use Rattle.std.specs.Prelude.{◌≤◌, ◌^◌, length, map, IfOk, MatchResult, string_bytes};
 ghost use Rattle.aj_cond.specs.Conditions.{cond_of};
 ghost use Rattle.aj_core.specs.Views.{program_of};
 ghost use Rattle.aj_explain.specs.Shown.{shown as shown_by};

@@ -1,6 +1,6 @@
 //! Expressions. `high` is the height that is still allowed, and bounds the depth of the recursion.
 
-ghost use Rattle.std.specs.Prelude.{◌≡◌, ℕ, suc, ◌+◌, ◌-◌, ◌<◌, ◌≤◌, map, length, IfOk};
+ghost use Rattle.std.specs.Prelude.{◌≡◌, ◌+◌, ◌-◌, ◌<◌, ◌≤◌, map, length, IfOk};
 ghost use Rattle.aj_syntax.specs.Heights.{height as height_of, heights};
 ghost use Rattle.aj_syntax.specs.Limits.{most_height};
 ghost use Rattle.aj_syntax.specs.Trees.{BinaryE, CallE, NewE};

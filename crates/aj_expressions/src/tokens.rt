@@ -4,7 +4,7 @@ ghost use Rattle.std.specs.Prelude.{◌≡◌, Ok, true, false, IfSome, IfNone};
 ghost use Rattle.aj_syntax.specs.Grammar.{level as level_of, offset as offset_of};
 ghost use Rattle.aj_syntax.specs.Tokens.{is};
 ghost use Rattle.aj_expressions.specs.Answer.{Gives};
-ghost use Rattle.aj_expressions.specs.Combine.{Res, beyond as beyond_at, first, flag as flag_at, starts, take_one};
+ghost use Rattle.aj_expressions.specs.Combine.{first, flag as flag_at, starts, take_one};
 ghost use Rattle.aj_expressions.specs.Words.{a_least, a_name, a_number, an_op, is_least, is_name, is_number, is_any_op, is_op, op_of};
 ghost use Rattle.aj_expressions.specs.Expressions.{begins_expression as may_begin_expression, is_leaf as may_be_leaf};
 

@@ -1,5 +1,5 @@
 //! Reachability in a graph of a few nodes, by the sweeps.
-ghost use Rattle.std.specs.Prelude.{◌≡◌, ℕ, ◌∷◌, [], max, map, sum, nat_le, slice_get, slice_index, unwrap_or, vec_len};
+ghost use Rattle.std.specs.Prelude.{◌≡◌, ◌∷◌, [], max, map, sum, nat_le, slice_get, slice_index, unwrap_or, vec_len};
 ghost use Rattle.std.specs.Option.{option_map};
 
 use crate::*;

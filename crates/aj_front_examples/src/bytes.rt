@@ -1,5 +1,5 @@
 //! Bytes, the pieces of a text, what these mean, and places.
-ghost use Rattle.std.specs.Prelude.{◌≡◌, ℕ, true, false, List, [], ◌∷◌, ◌++◌, length, map, replicate, Option, Some, None, Ok, Err, codes};
+ghost use Rattle.std.specs.Prelude.{◌≡◌, true, false, [], ◌∷◌, ◌++◌, length, map, replicate, Some, None, Ok, Err, codes};
 ghost use Rattle.std.specs.List.{list_all, list_any};
 ghost use Rattle.aj_lexer.specs.declared.pieces.Piece.TheVariants as piece;
 ghost use Rattle.aj_lexer.specs.declared.tokens.TokenKind.TheVariants as token;

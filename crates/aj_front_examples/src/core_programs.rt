@@ -1,5 +1,5 @@
 //! Core programs: methods, fields and classes, and the faults of a whole program.
-ghost use Rattle.std.specs.Prelude.{◌≡◌, pos, true, false, List, [], ◌∷◌, map, Some, None, codes, slice_get};
+ghost use Rattle.std.specs.Prelude.{◌≡◌, pos, true, false, [], ◌∷◌, map, Some, None, codes, slice_get};
 ghost use Rattle.std.specs.declared.cmp.Ordering.TheVariants.{Less, Equal, Greater};
 ghost use Rattle.aj_core.specs.declared.types.CoreType.TheVariants as T;
 ghost use Rattle.aj_core.specs.Core as core;

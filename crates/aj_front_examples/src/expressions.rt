@@ -1,14 +1,13 @@
 //! The types of expressions, and their faults.
-ghost use Rattle.std.specs.Prelude.{◌≡◌, pos, negsuc, true, false, List, [], ◌∷◌, map, Some, None, Ok, Err, codes};
+ghost use Rattle.std.specs.Prelude.{◌≡◌, pos, negsuc, true, false, [], ◌∷◌, map, Some, None, Ok, Err, codes};
 ghost use Rattle.aj_core.specs.declared.types.CoreType.TheVariants as T;
 ghost use Rattle.aj_core.specs.declared.types.CoreOp.TheVariants as core_op;
 ghost use Rattle.aj_core.specs.Core as core;
-ghost use Rattle.aj_core.specs.Types.{ValueT, NullT, VoidT, int_type, boolean_type, class_type};
+ghost use Rattle.aj_core.specs.Types.{NullT, VoidT, int_type, boolean_type, class_type};
 ghost use Rattle.aj_syntax.specs.declared.tree.Op.TheVariants as O;
 ghost use Rattle.aj_syntax.specs.declared.tree.TypeName.TheVariants as Y;
 ghost use Rattle.aj_syntax.specs.Trees.{NumberE, LeastE, TruthE, NullE, ThisE, ParenE, NotE, NegE, BinaryE, GetE, CallE, NewE, no_exprs, more_exprs};
 ghost use Rattle.aj_type_rules.specs.declared.fault.TypeFault.TheVariants.{UnknownName, NoRule};
-ghost use Rattle.aj_type_rules.specs.Exprs.{elaborated, elaborated_each, expr_faults};
 ghost use Rattle.aj_type_rules.specs.Rules.{typed, type_rule, final_types, logical_node};
 ghost use Rattle.aj_type_rules.specs.Scopes.{is_bound, this_variable, parameters_from};
 ghost use Rattle.aj_front_examples.specs.Written.{name, x, variable_at, one_expr};

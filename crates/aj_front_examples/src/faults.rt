@@ -1,5 +1,5 @@
 //! The faults of classes: each of them, and which is told.
-ghost use Rattle.std.specs.Prelude.{◌≡◌, true, false, List, [], ◌∷◌, map, Some, None, codes};
+ghost use Rattle.std.specs.Prelude.{◌≡◌, true, false, [], ◌∷◌, map, Some, None, codes};
 ghost use Rattle.aj_syntax.specs.declared.tree.TypeName.TheVariants as Y;
 ghost use Rattle.aj_syntax.specs.Trees.{no_stmts, CtorM, MethodM};
 ghost use Rattle.aj_class_rules.specs.declared.fault.ClassFault.TheVariants.{Twice, UnknownClass, BadConstructor, NoMain, NoRun, TooMany, NoMemory, Circle, BadOverride};

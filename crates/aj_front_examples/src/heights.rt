@@ -1,13 +1,13 @@
 //! Heights of trees, and where expressions and statements begin.
-ghost use Rattle.std.specs.Prelude.{◌≡◌, true, false, List, [], ◌∷◌, map, Some, None, codes};
+ghost use Rattle.std.specs.Prelude.{◌≡◌, true, [], ◌∷◌, map, Some, None};
 ghost use Rattle.aj_syntax.specs.declared.tree.Op.TheVariants as O;
 ghost use Rattle.aj_syntax.specs.declared.tree.TypeName.TheVariants as Y;
 ghost use Rattle.aj_syntax.specs.Heights.{height, stmt_height, body_height, highest_body};
 ghost use Rattle.aj_syntax.specs.Limits.{most_height, most_tokens};
 ghost use Rattle.aj_syntax.specs.Offsets.{first_at, begins_at};
-ghost use Rattle.aj_syntax.specs.Trees.{ThisE, VarE, ParenE, NotE, NegE, BinaryE, GetE, CallE, NewE, no_exprs, more_exprs};
-ghost use Rattle.aj_syntax.specs.Trees.{EmptyS, BlockS, LocalS, SetVarS, SetFieldS, DoS, IfS, IfElseS, WhileS, SyncS, ReturnS, PrintS, StartS, no_stmts, more_stmts, CtorM};
-ghost use Rattle.aj_front_examples.specs.Written.{name, x_name, x, seven, this_lock, all_exprs, all_stmts, one_expr, one_stmt, field, method, class_tree};
+ghost use Rattle.aj_syntax.specs.Trees.{NotE, BinaryE, CallE, NewE, more_exprs};
+ghost use Rattle.aj_syntax.specs.Trees.{EmptyS, BlockS, SetFieldS, IfS, IfElseS, WhileS, SyncS, ReturnS, PrintS, no_stmts, more_stmts, CtorM};
+ghost use Rattle.aj_front_examples.specs.Written.{x_name, x, seven, this_lock, all_exprs, all_stmts, one_expr, one_stmt, field, method, class_tree};
 
 /// Each node is one higher than its highest part, and parentheses are a node.
 pub fn how_high_expressions_are()

@@ -1,5 +1,5 @@
 //! Which class stands above which, and what a class inherits.
-ghost use Rattle.std.specs.Prelude.{◌≡◌, true, false, List, [], ◌∷◌, map, Some, None, codes};
+ghost use Rattle.std.specs.Prelude.{◌≡◌, true, false, [], ◌∷◌, map, Some, None, codes};
 ghost use Rattle.aj_class_rules.specs.Lines.{ancestors, class_named, above, ancestors_of, is_on_circle, line, members_at, inherited, all_members, says_runnable, counts};
 ghost use Rattle.aj_front_examples.specs.Lined.{lined, a_field, m_method, b_field, other_a_field, c_field, g_field};
 

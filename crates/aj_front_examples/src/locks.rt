@@ -1,5 +1,5 @@
 //! Which lock expressions are locks, and with which paths.
-ghost use Rattle.std.specs.Prelude.{◌≡◌, List, [], ◌∷◌, Some, None, Ok, Err, codes};
+ghost use Rattle.std.specs.Prelude.{◌≡◌, [], ◌∷◌, Some, None, Ok, Err, codes};
 ghost use Rattle.aj_type_rules.specs.declared.fault.TypeFault.TheVariants.{UnknownName, NotALock};
 ghost use Rattle.aj_type_rules.specs.Locks.{lock_rule};
 ghost use Rattle.aj_front_examples.specs.Written.{name, lock_of};

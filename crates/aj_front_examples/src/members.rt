@@ -1,7 +1,7 @@
 //! The members of a class by kind, constructors, methods to begin with, and names that stand again.
-ghost use Rattle.std.specs.Prelude.{◌≡◌, true, false, List, [], ◌∷◌, map, Some, None, codes};
+ghost use Rattle.std.specs.Prelude.{◌≡◌, true, false, [], ◌∷◌, map, Some, None, codes};
 ghost use Rattle.aj_syntax.specs.declared.tree.TypeName.TheVariants as Y;
-ghost use Rattle.aj_syntax.specs.Trees.{CtorM, MethodM, no_stmts};
+ghost use Rattle.aj_syntax.specs.Trees.{CtorM, no_stmts};
 ghost use Rattle.aj_class_rules.specs.Names.{texts_of, has_text, with_text, repeats, repeats_after, distinct};
 ghost use Rattle.aj_class_rules.specs.Members.{is_empty, class_names, field_names, method_names, param_names, finals_of, is_constructor, is_same_type, are_params_of, are_sets_of, is_bare, is_entry};
 ghost use Rattle.aj_class_rules.specs.Faults.{is_right, constructor_faults, missing_constructor};

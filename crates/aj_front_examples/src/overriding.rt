@@ -1,5 +1,5 @@
 //! What the locks of `requires` mean, and which methods may override which.
-ghost use Rattle.std.specs.Prelude.{◌≡◌, ◌==◌, if◌then◌else◌, true, false, List, [], ◌∷◌, map, Some, None, codes};
+ghost use Rattle.std.specs.Prelude.{◌≡◌, ◌==◌, if◌then◌else◌, true, false, [], ◌∷◌, map, Some, None, codes};
 ghost use Rattle.aj_syntax.specs.declared.tree.TypeName.TheVariants as Y;
 ghost use Rattle.aj_class_rules.specs.Overriding.{field_from, field_named, class_of_type, reach_from, meaning_of, meanings_of, param_root, most_lock_fields, are_same_places, is_same_lock, are_among, same_where_known, same_mark, are_alike, is_same_result, is_same_signature, signature_of, may_override, headings_at, clashes, overrides_badly};
 ghost use Rattle.aj_front_examples.specs.Written.{name, class_type, param, this_lock, lock_of, field, bare_method};

@@ -1,14 +1,14 @@
 //! The productions of the grammar: the tokens of a tree for each of them, and trees that no tokens spell.
-ghost use Rattle.std.specs.Prelude.{◌≡◌, ◌++◌, true, false, List, [], ◌∷◌, Some, None, codes};
+ghost use Rattle.std.specs.Prelude.{true, false, List, [], ◌∷◌, Some, None, codes};
 ghost use Rattle.aj_lexer.specs.declared.tokens.Token.{Token};
 ghost use Rattle.aj_syntax.specs.declared.terminal.Terminal.TheVariants as T;
 ghost use Rattle.aj_syntax.specs.declared.tree.Op.TheVariants as O;
 ghost use Rattle.aj_syntax.specs.declared.tree.TypeName.TheVariants as Y;
-ghost use Rattle.aj_syntax.specs.Grammar.{Spells, SpellsLock, SpellsStmt, SpellsParam, SpellsCtorParam, SpellsBare, SpellsMember, SpellsClass, Wide, Grammar};
-ghost use Rattle.aj_syntax.specs.Tokens.{token, name_token, number_token};
+ghost use Rattle.aj_syntax.specs.Grammar.{Spells, SpellsLock, SpellsStmt, SpellsParam, SpellsCtorParam, SpellsBare, SpellsMember, SpellsClass, Grammar};
+ghost use Rattle.aj_syntax.specs.Tokens.{token, number_token};
 ghost use Rattle.aj_syntax.specs.Trees.{NumberE, LeastE, TruthE, NullE, ThisE, ParenE, NotE, NegE, BinaryE, GetE, CallE, NewE, no_exprs, more_exprs};
-ghost use Rattle.aj_syntax.specs.Trees.{EmptyS, BlockS, LocalS, SetVarS, SetFieldS, DoS, IfS, IfElseS, WhileS, SyncS, ReturnS, PrintS, StartS, no_stmts, more_stmts, FieldM, CtorM, MethodM};
-ghost use Rattle.aj_front_examples.specs.Written.{name, class_type, x_name, x, seven, param, field_tree, field, method_tree, this_lock, lock_of, one_expr, one_stmt, class_tree, class_below};
+ghost use Rattle.aj_syntax.specs.Trees.{BlockS, LocalS, SetVarS, SetFieldS, DoS, IfS, IfElseS, WhileS, SyncS, ReturnS, PrintS, StartS, no_stmts, more_stmts, FieldM, CtorM, MethodM};
+ghost use Rattle.aj_front_examples.specs.Written.{x_name, x, seven, param, field_tree, field, method_tree, this_lock, lock_of, one_expr, one_stmt, class_tree, class_below};
 ghost use Rattle.aj_front_examples.specs.Spelled.{x_token, seven_token, f, f_token, sum, empty, empty_token, full_method};
 
 /// Expressions without parts, and those with one.

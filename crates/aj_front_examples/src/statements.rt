@@ -1,5 +1,5 @@
 //! Statements: the core node of each, its faults, scopes, and what can complete.
-ghost use Rattle.std.specs.Prelude.{◌≡◌, pos, true, false, List, [], ◌∷◌, map, Some, None, codes};
+ghost use Rattle.std.specs.Prelude.{◌≡◌, pos, true, false, [], ◌∷◌, map, Some, None, codes};
 ghost use Rattle.aj_core.specs.declared.types.CoreType.TheVariants as T;
 ghost use Rattle.aj_core.specs.Core as core;
 ghost use Rattle.aj_syntax.specs.declared.tree.TypeName.TheVariants as Y;
@@ -11,7 +11,7 @@ ghost use Rattle.aj_type_rules.specs.Stmts.{stmt_core, stmt_faults, block_faults
 ghost use Rattle.aj_front_examples.specs.Written.{name, class_type, x, variable_at, this_lock, lock_of, one_expr, one_stmt};
 ghost use Rattle.aj_front_examples.specs.Shop.{shop_table, in_scope};
 ghost use Rattle.aj_front_examples.specs.Knots.{core_path};
-ghost use Rattle.aj_front_examples.specs.Typing.{stmt_at, stmt_faults_at, block_at, block_faults_at, var_n, var_b, var_r, var_i, n_core, b_core, r_core, i_core, call_on, new_of, local_y, y_at, sold, sold_core, twin_left, twin_left_core, block_y, block_y_at};
+ghost use Rattle.aj_front_examples.specs.Typing.{stmt_at, stmt_faults_at, block_at, block_faults_at, var_n, var_b, var_r, var_i, n_core, b_core, r_core, call_on, new_of, local_y, y_at, sold, sold_core, twin_left, twin_left_core, block_y, block_y_at};
 ghost use Rattle.aj_front_examples.specs.Whole.{jobs_table};
 
 /// A local has the next slot, and a value that fits its type; it is one of at most 64, and has a name that isn't in scope.

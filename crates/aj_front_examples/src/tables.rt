@@ -1,10 +1,10 @@
 //! The class table of a program, and what is looked up in it.
-ghost use Rattle.std.specs.Prelude.{◌≡◌, true, false, List, [], ◌∷◌, map, Some, None, codes};
+ghost use Rattle.std.specs.Prelude.{◌≡◌, true, false, [], ◌∷◌, map, Some, None, codes};
 ghost use Rattle.aj_core.specs.declared.types.CoreType.TheVariants as T;
 ghost use Rattle.aj_syntax.specs.declared.tree.TypeName.TheVariants as Y;
 ghost use Rattle.aj_classes.specs.Table.{type_of, table_of, class_number, above_in_table, line_of, kind_in, own_field, field_number, own_method, method_number, method_title, slot_title};
 ghost use Rattle.aj_front_examples.specs.Written.{class_type};
-ghost use Rattle.aj_front_examples.specs.Shop.{shop, shop_table};
+ghost use Rattle.aj_front_examples.specs.Shop.{shop_table};
 
 /// Classes, fields and methods are numbered in source order over the whole program.
 pub fn what_a_table_has()

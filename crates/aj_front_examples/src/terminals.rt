@@ -1,15 +1,12 @@
 //! Terminals of the grammar, operators, and which expressions and statements stand where.
-ghost use Rattle.std.specs.Prelude.{◌≡◌, true, false, List, [], ◌∷◌, map, Some, None, codes};
+ghost use Rattle.std.specs.Prelude.{◌≡◌, true, false, [], ◌∷◌, map, codes};
 ghost use Rattle.std.specs.List.{list_all};
 ghost use Rattle.aj_lexer.specs.declared.tokens.TokenKind.TheVariants as token_kind;
 ghost use Rattle.aj_syntax.specs.declared.terminal.Terminal.TheVariants as T;
-ghost use Rattle.aj_syntax.specs.declared.tree.Op.TheVariants as O;
-ghost use Rattle.aj_syntax.specs.declared.tree.TypeName.TheVariants as Y;
 ghost use Rattle.aj_syntax.specs.Grammar.{level, sign_of, loose, is_postfix, is_local, open_if, is_call, offset};
 ghost use Rattle.aj_syntax.specs.Tokens.{spelling, kind_of, guard_word, same_kind, is, token, name_token, number_token};
-ghost use Rattle.aj_syntax.specs.Trees.{NumberE, LeastE, TruthE, NullE, ThisE, VarE, ParenE, NotE, NegE, BinaryE, GetE, CallE, NewE, no_exprs};
-ghost use Rattle.aj_syntax.specs.Trees.{EmptyS, BlockS, LocalS, SetVarS, SetFieldS, DoS, IfS, IfElseS, WhileS, SyncS, ReturnS, PrintS, StartS, no_stmts};
-ghost use Rattle.aj_front_examples.specs.Written.{all_ops, all_exprs, all_stmts, x_name, x, this_lock};
+ghost use Rattle.aj_syntax.specs.Trees.{EmptyS, IfS, IfElseS, WhileS};
+ghost use Rattle.aj_front_examples.specs.Written.{all_ops, all_exprs, all_stmts, x_name, x};
 
 /// How each terminal is written.
 pub fn how_terminals_are_written()

@@ -1,5 +1,5 @@
 //! The tokens of whole texts, and their first faults: each piece is the longest that begins where the one before it ends.
-ghost use Rattle.std.specs.Prelude.{◌≡◌, ◌++◌, [], ◌∷◌, codes, replicate};
+ghost use Rattle.std.specs.Prelude.{◌++◌, [], ◌∷◌, codes, replicate};
 ghost use Rattle.aj_lexer.specs.declared.tokens.TokenKind.TheVariants as kind;
 ghost use Rattle.aj_lexer.specs.declared.faults.LexFault.TheVariants as fault;
 ghost use Rattle.aj_lexer.specs.Tokens.{Tokens, FirstFault};

@@ -1,8 +1,8 @@
 -- Two workers that step side by side while all others rest.
-use Rattle.std.proofs.Common.{◌≡◌, ℕ, zero, suc, ◌+◌, ◌==◌, ◌&&◌, ◌||◌, Bool, true, false, not, List, [], ◌∷◌, ◌++◌, length, refl, sym, ap, subst, ◌∙◌, arith, replicate, nat_lt, append-nil, append_assoc}
-use Rattle.std.specs.List.{list_all, list_any}
-use Rattle.std.proofs.Math.Bool.{or-false, and-false, or_assoc}
-use Rattle.std.proofs.lemmas.Bool.{and_parts, not-true, not_from_false}
+use Rattle.std.proofs.Common.{◌≡◌, ℕ, zero, suc, ◌+◌, ◌==◌, ◌&&◌, ◌||◌, Bool, true, false, not, List, [], ◌∷◌, ◌++◌, refl, sym, ap, subst, ◌∙◌, arith, replicate, nat_lt, append-nil, append_assoc}
+use Rattle.std.specs.List.{list_any}
+use Rattle.std.proofs.Math.Bool.{or-false, and-false}
+use Rattle.std.proofs.lemmas.Bool.{and_parts, not-true}
 use Rattle.std.proofs.lemmas.List.{length-replicate}
 use Rattle.aj_generate.specs.Rounds.{worker_steps, acquires, holds, goes, turned, entry, after, steps, are_done, AreRounds, ended, round}
 use Rattle.aj_generate.proofs.Resting.{rests, none_holds, none_at_all, after_resting, steps_resting, after_last, steps_last, all_rest}

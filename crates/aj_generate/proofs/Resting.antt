@@ -3,7 +3,7 @@ use Rattle.std.proofs.Common.{◌≡◌, ◌⊎◌, inl, inr, ℕ, zero, suc, �
 use Rattle.std.specs.List.{list_all, list_any}
 use Rattle.std.proofs.Math.Bool.{or-false, and-false}
 use Rattle.std.proofs.lemmas.Bool.{and_parts, and_from, eqb-true, or_cases, not-true}
-use Rattle.aj_generate.specs.Rounds.{worker_steps, acquires, holds, goes, turned, entry, after, steps, are_done}
+use Rattle.aj_generate.specs.Rounds.{worker_steps, acquires, holds, goes, turned, entry, after, steps}
 
 -- where `held` says whether some other worker holds the lock
 abbrev pub rests : Bool → ℕ → Bool

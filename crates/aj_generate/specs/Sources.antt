@@ -1,5 +1,5 @@
 -- The source for a number of workers, in three lines.
-use Rattle.std.specs.Prelude.{ℕ, zero, suc, List, [], ◌∷◌, ◌++◌, codes}
+use Rattle.std.specs.Prelude.{ℕ, zero, suc, List, [], ◌++◌, codes}
 
 -- a text so many times
 abbrev pub repeated : ℕ → List ℕ → List ℕ

@@ -1,8 +1,8 @@
 //! The source and the schedule for a number of workers.
-ghost use Rattle.std.specs.Prelude.{◌≡◌, ℕ, List, ◌<◌, ◌≤◌, ◌+◌, ◌-◌, ◌++◌, IfOk, OnOk, length, replicate, string_bytes};
+ghost use Rattle.std.specs.Prelude.{◌≡◌, ℕ, List, ◌<◌, ◌+◌, ◌-◌, ◌++◌, IfOk, OnOk, replicate, string_bytes};
 ghost use Rattle.aj_generate.specs.Sources.{generated_source, repeated};
 ghost use Rattle.aj_generate.specs.Rounds.{IsGenerated, AreRounds};
-ghost use Rattle.aj_generate.specs.Made.{by_turns, each_once, each_times, handed, handed_on, handed_back, called, several_rounds};
+ghost use Rattle.aj_generate.specs.Made.{by_turns, each_once, handed_on, handed_back, called, several_rounds};
 
 use std::alloc::{AllocError as NoMemory, Global};
 

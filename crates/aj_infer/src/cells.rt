@@ -1,6 +1,6 @@
 //! The tables of all methods as cells of a least fixpoint: what the calls of a method demand of its table.
 ghost use Rattle.std.specs.Prelude.{◌≡◌, ◌<◌, Some, IfOk, OnOk, slice_get};
-ghost use Rattle.aj_algebra.specs.HeldPaths.{Held, has_path};
+ghost use Rattle.aj_algebra.specs.HeldPaths.{Held};
 ghost use Rattle.aj_algebra.specs.Values.{Keeps};
 ghost use Rattle.aj_core.specs.Views.{program_of, method_of};
 ghost use Rattle.aj_rules.specs.Near.{AreRelevant, rel_of};

@@ -1,16 +1,15 @@
 -- Which ending comes for the answer to `levels`, and what follows where it is done.
-use Rattle.std.proofs.Common.{◌≡◌, ◌≤◌, ℕ, List, length, Some, refl, sym, subst, ap, ◌∙◌, arith}
+use Rattle.std.proofs.Common.{◌≡◌, ◌≤◌, ℕ, List, length, Some, refl, sym, subst, arith}
 use Rattle.aj_classes.specs.Table.{TableData, table_of}
 use Rattle.aj_core.specs.Core.{Program}
 use Rattle.aj_core.specs.Typed.{IsTyped}
 use Rattle.aj_elaborate.proofs.TypedPrograms.{core_is_typed}
 use Rattle.aj_levels.specs.Circles.{Circle}
-use Rattle.aj_levels.specs.Contexts.{IsOrdered, IsFirstBad}
+use Rattle.aj_levels.specs.Contexts.{IsFirstBad}
 use Rattle.aj_levels.specs.Walks.{level_in}
 use Rattle.aj_levels.proofs.NoCircles.{no_circles}
-use Rattle.aj_level_text.specs.Faults.{AreLevels}
 use Rattle.aj_level_text.proofs.Single.{levels_or_fault, one_told}
-use Rattle.aj_rules.specs.Near.{MethodPaths, AreRelevant, rel_of}
+use Rattle.aj_rules.specs.Near.{rel_of}
 use Rattle.aj_rules.proofs.UniqueSets.{unique_sets}
 use Rattle.aj_sources.specs.declared.refusal.Ending.{Ending}
 use Rattle.aj_sources.specs.declared.refusal.Ending.TheVariants as ending

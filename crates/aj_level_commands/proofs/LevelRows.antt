@@ -1,8 +1,8 @@
 -- Refusals and answers of `levels`.
-use Rattle.std.proofs.Common.{◌≡◌, ◌⊎◌, ℕ, ◌≤◌, List, length, map, Result, Ok, Err, MatchResult, Vec, Global, refl, sym, subst, ap, ◌∙◌, arith, inl, inr}
+use Rattle.std.proofs.Common.{◌≡◌, ◌⊎◌, ℕ, List, length, Result, Ok, Err, MatchResult, Vec, Global, sym, subst, ap, ◌∙◌, inl, inr}
 use Rattle.std.proofs.lemmas.List.{length-map}
 use Rattle.aj_class_rules.specs.Members.{class_names}
-use Rattle.aj_classes.specs.Table.{TableData, table_of}
+use Rattle.aj_classes.specs.Table.{table_of}
 use Rattle.aj_classes.specs.Views.{table_data}
 use Rattle.aj_core.specs.Core.{Program}
 use Rattle.aj_core.specs.Views.{program_of}
@@ -18,7 +18,6 @@ use Rattle.aj_level_text.specs.declared.reader.LevelsFault.TheVariants as faults
 use Rattle.aj_level_text.specs.Faults.{AreLevels, IsFirstFault}
 use Rattle.aj_rules.specs.Near.{rel_of}
 use Rattle.aj_sources.specs.declared.checking.Source.{Source}
-use Rattle.aj_sources.specs.declared.refusal.Ending.{Ending}
 use Rattle.aj_sources.specs.declared.refusal.Ending.TheVariants as ending
 use Rattle.aj_sources.specs.declared.refusal.Refusal.{Refusal}
 use Rattle.aj_sources.specs.declared.refusal.Refusal.TheVariants.{NoMemory}

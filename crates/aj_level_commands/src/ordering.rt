@@ -4,7 +4,7 @@ ghost use Rattle.std.specs.Prelude.{◌≡◌, ◌≤◌, ℕ, List, length, Mat
 ghost use Rattle.aj_classes.specs.Views.{table_data};
 ghost use Rattle.aj_sources.specs.Checking.{IsSourceOf};
 ghost use Rattle.aj_sources.specs.Refusals.{IsRight, Tells};
-ghost use Rattle.aj_level_commands.specs.Lines.{ordered_line, fault_line, takes_line};
+ghost use Rattle.aj_level_commands.specs.Lines.{ordered_line, takes_line};
 ghost use Rattle.aj_level_commands.specs.Levels.{LevelsAnswer};
 ghost use Rattle.aj_level_commands.specs.Refused.{RefusesText, RefusesOrder};
 

@@ -6,7 +6,6 @@ use Rattle.std.proofs.lemmas.List.Elements.{Contains-append_left, Contains-appen
 use Rattle.std.proofs.lemmas.List.{take_all, map-append}
 use Rattle.std.proofs.lemmas.Option.{none-some, same_Some, slice_get_within}
 use Rattle.aj_lemmas.proofs.Lists.{at_left, at_either, get_last, get_left, get_below, contains_cases, next_take}
-use Rattle.aj_paths.specs.Paths.{PathData}
 use Rattle.aj_algebra.specs.HeldPaths.{Held, has_path}
 use Rattle.aj_core.specs.Core.{Class}
 use Rattle.aj_level_search.specs.declared.told.Seen.{Seen}
@@ -14,7 +13,7 @@ use Rattle.aj_level_search.specs.Told.{Told, Calls, Wrong, told_of}
 use Rattle.aj_level_search.specs.declared.link.Link.{Link}
 use Rattle.aj_level_search.specs.Greatest.{links_at}
 use Rattle.aj_level_search.specs.declared.cells.Cell.{Cell}
-use Rattle.aj_level_search.specs.Cells.{set_of, Queue, IsEven, IsAt, HasCell, HasLevel, IsAdded, run_in, runs_of, AreBegun, AreLinks, AreAdded, IsNoted, Telling, AreFollowed, IsCalled, called_first, called_next, AreReached, AreAllFollowed}
+use Rattle.aj_level_search.specs.Cells.{set_of, Queue, IsEven, IsAt, HasCell, HasLevel, IsAdded, run_in, runs_of, AreBegun, AreLinks, AreAdded, IsNoted, Telling, AreFollowed, IsCalled, called_first, called_next, AreReached}
 use Rattle.aj_level_search.proofs.Tells.{nothing_there, first_there, told_method, told_set, told_level, told_is_call}
 
 -- Both lists of a queue.

@@ -20,7 +20,7 @@ use crate::levelled::greatest;
 use crate::scan::first_bad;
 use aj_core::CoreProgram;
 use aj_levels::{Levels, answer_laws, level_laws};
-use aj_rules::{OverridingMethods, RelevantSets, overriders};
+use aj_rules::{RelevantSets, overriders};
 use std::alloc::{AllocError as NoMemory, Global};
 
 /// Whether a program is ordered for these levels of its classes.

@@ -1,8 +1,8 @@
 //! The walk through statements.
-ghost use Rattle.std.specs.Prelude.{◌≡◌, ◌≤◌, ◌+◌, ◌^◌, ◌∷◌, [], ◌++◌, map, max, IfOk, OnOk};
+ghost use Rattle.std.specs.Prelude.{◌≡◌, ◌≤◌, ◌+◌, ◌^◌, ◌++◌, map, max, IfOk, OnOk};
 ghost use Rattle.aj_algebra.specs.HeldPaths.{has_path, with_path};
 ghost use Rattle.aj_core.specs.Core.{SyncS};
-ghost use Rattle.aj_core.specs.Views.{program_of, expr_of, stmt_of, stmts_from};
+ghost use Rattle.aj_core.specs.Views.{program_of, stmt_of, stmts_from};
 ghost use Rattle.aj_levels.specs.Walks.{level_in, syncs_in, syncs_in_each, lock_class};
 ghost use Rattle.aj_level_search.specs.Told.{told_bad, told_of, stmt_told, block_told};
 

@@ -3,7 +3,7 @@
 ghost use Rattle.std.specs.Prelude.{◌≡◌, slice_get, Some};
 ghost use Rattle.aj_core.specs.Types.{field_type};
 ghost use Rattle.aj_core.specs.Views.{program_of};
-ghost use Rattle.aj_levels.specs.Walks.{level_in, class_in, last_type, lock_class};
+ghost use Rattle.aj_levels.specs.Walks.{level_in, class_in, lock_class};
 
 use aj_core::{CoreProgram, CoreType};
 use aj_paths::{ClassId, FieldId, Path};

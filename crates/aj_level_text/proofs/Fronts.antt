@@ -1,12 +1,11 @@
 -- Lines at the front of a text: a text has one list of them, up to its end or up to where it stops.
-use Rattle.std.proofs.Common.{◌≡◌, ℕ, ◌-◌, ◌<◌, ◌≤◌, ◌^◌, ◌⊎◌, true, false, List, [], ◌∷◌, ◌++◌, length, decimal, Option, Some, None, Ok, Err, Contains, refl, sym, ◌∙◌, ap, subst, arith, append_assoc, append-nil, inl, inr}
-use Rattle.aj_books.specs.declared.stop.Kind.{Kind}
+use Rattle.std.proofs.Common.{◌≡◌, ℕ, ◌-◌, ◌<◌, ◌⊎◌, List, [], ◌∷◌, ◌++◌, length, decimal, Some, None, Ok, refl, sym, ◌∙◌, ap, subst, arith, append_assoc, append-nil, inl, inr}
 use Rattle.aj_books.specs.declared.stop.Kind.TheVariants.{Form}
 use Rattle.aj_classes.specs.Table.{TableData, class_number}
 use Rattle.aj_level_text.specs.declared.lines.Flaw.{Flaw}
 use Rattle.aj_level_text.specs.Texts.{LevelLine, line_text, lines_text, IsLine}
 use Rattle.aj_level_text.specs.Reading.{name_at, level_at}
-use Rattle.aj_level_text.specs.Faults.{HasStood, IsNew, AreNew, Begins, Stops, no_name, unknown, twice, no_level, HasFlaw}
+use Rattle.aj_level_text.specs.Faults.{IsNew, AreNew, Begins, Stops, no_name, unknown, twice, no_level, HasFlaw}
 use Rattle.aj_level_text.proofs.Parts.{complete_name, complete_level, nothing_named, same_read, same_fault, read_or_not}
 
 -- one more line

@@ -13,7 +13,6 @@ use Rattle.aj_core.specs.Core.{Program, Class}
 use Rattle.aj_core.specs.Dispatch.{above_of, above_in}
 use Rattle.aj_levels.specs.Walks.{level_in}
 use Rattle.aj_levels.specs.SlotTypes.{AreMarked}
-use Rattle.aj_level_text.specs.declared.lines.Flaw.TheVariants as flaw
 use Rattle.aj_levels.specs.declared.levels.Levels.{Levels}
 use Rattle.aj_level_text.specs.declared.reader.LevelsFault.{LevelsFault}
 use Rattle.aj_level_text.specs.declared.reader.LevelsFault.TheVariants as faults

@@ -1,23 +1,20 @@
 -- A text gives one list of levels, or has one first fault.
-use Rattle.std.proofs.Common.{◌≡◌, ◌≢◌, ℕ, zero, suc, ◌+◌, ◌<◌, ◌≤◌, ◌==◌, ◌⊎◌, Bool, true, false, List, [], ◌∷◌, ◌++◌, length, Option, Some, None, Result, Ok, Err, MatchResult, IfOk, IfErr, Contains, slice_get, get_or, bytes_eq, position, if◌then◌else◌, refl, sym, ◌∙◌, ap, subst, arith, append_assoc, inl, inr}
+use Rattle.std.proofs.Common.{◌≡◌, ℕ, suc, ◌+◌, ◌<◌, ◌≤◌, ◌⊎◌, Bool, true, false, List, [], ◌∷◌, ◌++◌, length, Option, Some, None, Result, Ok, Err, MatchResult, IfOk, IfErr, Contains, slice_get, get_or, bytes_eq, if◌then◌else◌, refl, sym, ◌∙◌, ap, subst, arith, inl, inr}
 use Rattle.std.proofs.lemmas.Bool.{cases_lt, eqb-true, eq-eqb}
 use Rattle.std.proofs.lemmas.List.Elements.{Contains-append_left, Contains-append_right}
 use Rattle.std.proofs.lemmas.List.Quantifiers.{position-Some}
-use Rattle.std.proofs.lemmas.Option.{slice_get-get_or, slice_get_within, same_Some}
+use Rattle.std.proofs.lemmas.Option.{same_Some}
 use Rattle.std.proofs.lemmas.Slice.Eq.{bytes_eq-Decides}
 use Rattle.aj_lemmas.proofs.Lists.{contains_cases, get_below}
 use Rattle.aj_classes.specs.Table.{TableData, class_number}
 use Rattle.aj_core.specs.Core.{Program}
-use Rattle.aj_core.specs.Dispatch.{above_of}
-use Rattle.aj_levels.specs.Walks.{level_in}
-use Rattle.aj_levels.specs.SlotTypes.{AreMarked}
 use Rattle.aj_levels.specs.declared.levels.Levels.{Levels}
 use Rattle.aj_level_text.specs.declared.lines.Flaw.{Flaw}
 use Rattle.aj_level_text.specs.declared.lines.Flaw.TheVariants as flaw
 use Rattle.aj_level_text.specs.declared.reader.LevelsFault.{LevelsFault}
 use Rattle.aj_level_text.specs.declared.reader.LevelsFault.TheVariants as faults
-use Rattle.aj_level_text.specs.Texts.{LevelLine, IsLine}
-use Rattle.aj_level_text.specs.Faults.{HasStood, IsNew, AreNew, Begins, HasFlaw, HasLevel, AreTold, AreLevels, IsMissing, Differs, IsUnequal, IsFirstFault}
+use Rattle.aj_level_text.specs.Texts.{LevelLine}
+use Rattle.aj_level_text.specs.Faults.{HasStood, AreNew, Begins, HasFlaw, HasLevel, AreTold, AreLevels, IsMissing, Differs, IsUnequal, IsFirstFault}
 use Rattle.aj_level_text.specs.Kept.{is_at, level_on, IsAnswer}
 use Rattle.aj_level_text.proofs.Fronts.{one_text, one_flaw, ends_or_not}
 

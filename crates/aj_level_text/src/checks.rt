@@ -1,14 +1,13 @@
 //! What is asked of levels that were read.
-ghost use Rattle.std.specs.Prelude.{◌≡◌, ◌<◌, ◌^◌, ◌==◌, ℕ, true, length, position, slice_get, IfSome, IfNone, map};
-ghost use Rattle.aj_core.specs.Core.{Program};
-ghost use Rattle.aj_core.specs.Views.{program_of, class_of};
+ghost use Rattle.std.specs.Prelude.{◌≡◌, ◌<◌, ◌^◌, ◌==◌, ℕ, length, position, IfSome, IfNone};
+ghost use Rattle.aj_core.specs.Views.{program_of};
 ghost use Rattle.aj_levels.specs.Walks.{level_in};
 ghost use Rattle.aj_levels.specs.SlotTypes.{AreMarked};
 ghost use Rattle.aj_level_text.specs.Faults.{Differs};
 ghost use Rattle.aj_level_text.specs.Kept.{differs};
 
 use crate::lines::level_of;
-use aj_core::{CoreClass, CoreProgram};
+use aj_core::CoreProgram;
 use aj_paths::ClassId;
 
 /// The first place at which there is no level.

@@ -1,5 +1,5 @@
 //! Lines, one after another.
-ghost use Rattle.std.specs.Prelude.{◌≡◌, ◌<◌, ◌-◌, ℕ, List, [], ◌∷◌, ◌++◌, Some, Ok, length, MatchResult, OnOk, set};
+ghost use Rattle.std.specs.Prelude.{◌≡◌, ◌<◌, ◌-◌, ℕ, List, [], Some, Ok, length, MatchResult};
 ghost use Rattle.aj_classes.specs.Table.{class_number};
 ghost use Rattle.aj_classes.specs.Views.{table_data};
 ghost use Rattle.aj_levels.specs.Walks.{level_in};

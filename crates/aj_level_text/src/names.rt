@@ -1,5 +1,5 @@
 //! The parts of a line.
-ghost use Rattle.std.specs.Prelude.{◌≡◌, ◌≤◌, length, true, IfOk};
+ghost use Rattle.std.specs.Prelude.{◌≡◌, ◌≤◌, length, true};
 ghost use Rattle.std.specs.List.{take_while};
 ghost use Rattle.aj_books.specs.Faults.{Gives};
 ghost use Rattle.aj_classes.specs.Table.{class_number};

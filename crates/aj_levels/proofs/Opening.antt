@@ -21,7 +21,7 @@ use Rattle.aj_state.specs.Memory.{Object}
 use Rattle.aj_state.specs.Work as W
 use Rattle.aj_state.specs.Work.{Action, Item, Ex, St, Act, Next, exprs_items, stmts_items, gets, open_expr, open_new, open_stmt, open_block, opened, first_release, open_return, settled, settled_some, unfolded}
 use Rattle.aj_steps.specs.Step.{has_result}
-use Rattle.aj_safe.specs.Leads.{Env, Memory, memory_of, Grows, Sound, Paths, LeadsTo, MayLeadTo, with_slot, top_path, under_path, taken_paths, dropped_paths}
+use Rattle.aj_safe.specs.Leads.{Env, memory_of, Grows, Paths, MayLeadTo, with_slot, top_path, under_path, taken_paths, dropped_paths}
 use Rattle.aj_safe.specs.Fits.{Agrees, Fresh, FreshEach, TidyE, TidyEach, TidyS, TidyBlock, count_of, arity_of, finals_of, stores, stores_each, has_release, pushed, awaited}
 use Rattle.aj_safe.specs.Safe.{held_by}
 use Rattle.aj_state.specs.States.{Frame}
@@ -31,7 +31,7 @@ use Rattle.aj_safe.proofs.SetLemmas.{after_sound, after_fresh}
 use Rattle.aj_safe.proofs.Unfolding.{pushed_each, taken_all, dropped_all, on_pushed, exprs_release, stmts_release}
 use Rattle.aj_levels.specs.SlotTypes.{slot_types}
 use Rattle.aj_levels.specs.TypedStates.{Stays}
-use Rattle.aj_levels.specs.Walks.{Visit, lock_class, call_visits, expr_visits, exprs_visits, sync_visits, visits, block_visits}
+use Rattle.aj_levels.specs.Walks.{Visit, call_visits, expr_visits, exprs_visits, visits, block_visits}
 use Rattle.aj_levels.proofs.Ranked.{IsUnder, Stands, At, Fine, RankedAct, RankedItem, Ranked, RankedNext, RankedOpens, FramesRanked}
 
 -- Releases in lists of parts.

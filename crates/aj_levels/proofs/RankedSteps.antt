@@ -25,7 +25,7 @@ use Rattle.aj_state.specs.declared.value.StepKind.TheVariants.{Both, Right, Othe
 use Rattle.aj_state.specs.Values.{top, under, taken, dropped, address_of, address_eq}
 use Rattle.aj_state.specs.Memory.{Object, Hold, field_value}
 use Rattle.aj_state.specs.Work as W
-use Rattle.aj_state.specs.Work.{Action, Item, Ex, St, Act, Next, first_release, unfolded}
+use Rattle.aj_state.specs.Work.{Item, Ex, St, Act, first_release}
 use Rattle.aj_state.specs.States.{Frame, new_object}
 use Rattle.aj_steps.specs.Step.{Change, Nothing, FieldIs, ObjectIs, Starts, Shared, Move, Outcome, Moves, Absent, IsDone, HadFaulted, Waits, most_frames, has_result, with_result, unless_final, object_class, run_of, run_of_class, target_at, value_at, access_kind, taken_again, given_back, faults, goes_on, load, store, binary, and_then, or_else, choose, loop, get_value, get, put_value, put, new_address, new, enter, enter_some, dispatch, call_on, call, takes, take_held, take, acquire, release_held, release, return_to, start_run, start}
 use Rattle.aj_steps.specs.Changes.{objects_after, locks_after}

@@ -1,6 +1,6 @@
 -- A thread's turn keeps the types of its values, and those of the heap.
 use Rattle.std.proofs.Common.{◌≡◌, ℕ, Bool, true, false, ◌==◌, List, [], ◌∷◌, ◌++◌, length, Some, None, refl, sym, ap, subst, ◌∙◌}
-use Rattle.std.specs.Prelude.{Option, slice_get, slice_set, map, filter, nat_lt, if◌then◌else◌}
+use Rattle.std.specs.Prelude.{Option, slice_get, map, filter, nat_lt, if◌then◌else◌}
 use Rattle.std.proofs.lemmas.Option.{none-some, same_Some}
 use Rattle.aj_core.specs.declared.types.CoreType.{CoreType}
 use Rattle.aj_core.specs.declared.types.CoreType.TheVariants as type
@@ -19,12 +19,12 @@ use Rattle.aj_state.specs.declared.value.Fault.{Fault}
 use Rattle.aj_state.specs.declared.value.Fault.TheVariants as fault
 use Rattle.aj_state.specs.declared.value.StepKind.{StepKind}
 use Rattle.aj_state.specs.declared.value.StepKind.TheVariants.{Both, Right, Other}
-use Rattle.aj_state.specs.Values.{top, under, taken, dropped, as_int, as_truth, address_of, unary_value, binary_value, unless_zero}
+use Rattle.aj_state.specs.Values.{top, under, taken, dropped, as_int, as_truth, address_of, unary_value, binary_value}
 use Rattle.aj_state.specs.Memory.{Object, Hold, field_value}
 use Rattle.aj_state.specs.Work as W
 use Rattle.aj_state.specs.Work.{Action, Item, Ex, St, Act, Next, unfolded}
 use Rattle.aj_state.specs.States.{Frame, Thread, Ready, Running, Done, Faulted, new_object}
-use Rattle.aj_steps.specs.Step.{Change, Nothing, FieldIs, ObjectIs, LockIs, Prints, Starts, Shared, Move, Outcome, Moves, Absent, IsDone, HadFaulted, Waits, most_frames, has_result, with_result, index_of, unless_final, object_class, run_of, run_of_class, target_at, value_at, access_kind, faults, goes_on, load, store, binary, and_then, or_else, choose, loop, get_value, get, put_value, put, new_address, new, enter, enter_some, dispatch, call_on, call, takes, take_held, take, acquire, release_held, release, return_to, start_run, start, act, act_next, enter_first, turn}
+use Rattle.aj_steps.specs.Step.{Change, Nothing, FieldIs, ObjectIs, LockIs, Prints, Starts, Shared, Move, Outcome, Moves, Absent, IsDone, HadFaulted, Waits, most_frames, has_result, with_result, unless_final, object_class, run_of, run_of_class, target_at, value_at, access_kind, faults, goes_on, load, store, binary, and_then, or_else, choose, loop, get_value, get, put_value, put, new_address, new, enter, enter_some, dispatch, call_on, call, takes, take_held, take, acquire, release_held, release, return_to, start_run, start, act, act_next, enter_first, turn}
 use Rattle.aj_steps.specs.Changes.{objects_after}
 use Rattle.aj_safe.specs.Fits.{arity_of, finals_of, TidyS}
 use Rattle.aj_levels.specs.SlotTypes.{SlotType, slot_types, result_of, taken_by_method, taken_by_new, type_of, Suits, SuitEach, Has, HasEach, top_type, under_types, taken_types, dropped_types}

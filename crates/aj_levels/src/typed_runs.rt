@@ -3,7 +3,6 @@ ghost use Rattle.std.specs.Prelude.{◌≡◌, ℕ, List, Some};
 ghost use Rattle.aj_core.specs.Core.{Program};
 ghost use Rattle.aj_core.specs.Typed.{IsTyped};
 ghost use Rattle.aj_state.specs.States.{State, initial};
-ghost use Rattle.aj_steps.specs.Step.{step};
 ghost use Rattle.aj_steps.specs.Run.{run};
 ghost use Rattle.aj_levels.specs.SlotTypes.{AreMarked};
 ghost use Rattle.aj_levels.specs.TypedStates.{IsTypedState};

@@ -1,6 +1,6 @@
 //! Cuts a source into its tokens.
 
-ghost use Rattle.std.specs.Prelude.{◌≡◌, ◌+◌, ◌<◌, ◌≤◌, ◌++◌, ◌⊎◌, true, List, length, nat_lt, Option, Some, None, Ok, IfOk, IfErr, IfSome, IsErrOf, MatchResult, OnOk, IsUtf8, take, drop, if◌then◌else◌};
+ghost use Rattle.std.specs.Prelude.{◌≡◌, ◌+◌, ◌<◌, ◌≤◌, ◌++◌, ◌⊎◌, true, List, length, nat_lt, Option, Some, None, Ok, IfOk, IfErr, MatchResult, OnOk, IsUtf8, take, drop, if◌then◌else◌};
 ghost use Rattle.std.specs.Str.Parse.{digits_value};
 ghost use Rattle.aj_lexer.specs.declared.tokens.Token.{Token};
 ghost use Rattle.aj_lexer.specs.declared.faults.LexFault.{LexFault};

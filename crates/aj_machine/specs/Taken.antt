@@ -14,7 +14,6 @@ use Rattle.aj_machine.specs.MachineValue.{MachineValue, code_state}
 use Rattle.aj_machine.specs.Deeds.{seen_of}
 use Rattle.aj_machine.specs.Reasons.{IsReason}
 use Rattle.aj_deeds.specs.declared.deed.Turn.{Turn}
-use Rattle.aj_deeds.specs.declared.deed.Turn.TheVariants as turn
 use Rattle.aj_deeds.specs.declared.deed.StepEnd.TheVariants as ends
 use Rattle.aj_deeds.specs.CodeMachine.{code_frame_at}
 use Rattle.aj_deeds.specs.Turns.{next_turn}

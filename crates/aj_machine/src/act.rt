@@ -1,8 +1,6 @@
 //! What is done, on one thread and what all threads share.
-ghost use Rattle.std.specs.Prelude.{◌≡◌, ◌<◌, ◌≤◌, ◌+◌, ℕ, List, IsOk, ◌++◌, ◌∷◌, [], ◌-◌, length, reverse, map, Option, Some, None, true, IsSome, OnOk, OnErr, IfOk, slice_get, slice_set};
+ghost use Rattle.std.specs.Prelude.{◌≡◌, ◌<◌, ◌≤◌, ◌+◌, ℕ, List, IsOk, ◌++◌, ◌∷◌, [], ◌-◌, length, reverse, map, Option, Some, None, IsSome, OnOk, OnErr, IfOk, slice_get};
 ghost use Rattle.std.specs.FinMap as map;
-ghost use Rattle.aj_state.specs.Values.{under};
-ghost use Rattle.std.specs.Bool.{OnTrue};
 ghost use Rattle.aj_core.specs.Views.{program_of};
 ghost use Rattle.aj_state.specs.Memory.{IsNumbered, with_field, with_lock, made_by, new_values};
 ghost use Rattle.aj_state.specs.States.{fields_of};

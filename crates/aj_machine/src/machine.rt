@@ -1,5 +1,5 @@
 //! The machine.
-ghost use Rattle.std.specs.Prelude.{◌≡◌, ◌≢◌, false, Err, ◌<◌, ◌≤◌, ◌++◌, ◌∷◌, [], ◌+◌, length, Some, None, OnOk, OnErr, IfOk, IfErr, MatchResult, slice_get};
+ghost use Rattle.std.specs.Prelude.{◌≡◌, ◌≢◌, false, Err, ◌<◌, ◌≤◌, [], ◌+◌, length, Some, None, OnOk, OnErr, IfOk, IfErr, MatchResult, slice_get};
 ghost use Rattle.std.specs.Option.{option_map};
 ghost use Rattle.aj_core.specs.Views.{program_of};
 ghost use Rattle.aj_core.specs.Typed.{IsTyped};

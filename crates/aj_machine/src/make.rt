@@ -1,16 +1,16 @@
 //! The slots of a new frame, and the values of a new object.
-ghost use Rattle.std.specs.Prelude.{◌≡◌, ◌++◌, ◌-◌, ◌∷◌, [], reverse, replicate, pos, vec_len, IfOk, OnOk, slice_get};
+ghost use Rattle.std.specs.Prelude.{◌≡◌, ◌++◌, ◌-◌, reverse, replicate, pos, vec_len, IfOk, OnOk, slice_get};
 ghost use Rattle.aj_state.specs.declared.value.Value.TheVariants as value;
-ghost use Rattle.aj_core.specs.Views.{program_of, method_of, field_of};
+ghost use Rattle.aj_core.specs.Views.{program_of};
 ghost use Rattle.aj_core.specs.Core.{Method};
 ghost use Rattle.aj_state.specs.Values.{top, default_value};
 ghost use Rattle.aj_state.specs.Memory.{new_value, new_values, left_after};
-ghost use Rattle.aj_state.specs.States.{new_slots, fields_of};
+ghost use Rattle.aj_state.specs.States.{new_slots};
 ghost use Rattle.aj_machine.specs.Listed.{listed};
 
 use aj_core::{CoreProgram, CoreType};
 use aj_deeds::operand;
-use aj_paths::{ClassId, FieldId, MethodId};
+use aj_paths::FieldId;
 use aj_state::Value;
 use std::alloc::{AllocError as NoMemory, Global};
 

@@ -1,6 +1,5 @@
 //! A deed is done.
-ghost use Rattle.std.specs.Prelude.{◌≡◌, ◌<◌, ℕ, List, IsOk, ◌++◌, ◌∷◌, [], ◌+◌, Option, Some, None, true, IsSome, OnOk, OnErr, slice_get};
-ghost use Rattle.std.specs.FinMap as map;
+ghost use Rattle.std.specs.Prelude.{◌≡◌, ◌<◌, ℕ, List, IsOk, ◌+◌, Option, Some, None, true, IsSome, OnOk, OnErr, slice_get};
 ghost use Rattle.aj_core.specs.Views.{program_of, method_of};
 ghost use Rattle.aj_state.specs.declared.value.Value.TheVariants as value;
 ghost use Rattle.aj_state.specs.States.{Faulted};

@@ -1,6 +1,5 @@
 //! In how many atomic calls each thread stands.
 ghost use Rattle.std.specs.Prelude.{◌≡◌, ◌-◌, ℕ, map, slice_get, IfOk, OnOk, Some};
-ghost use Rattle.std.specs.Option.{option_map};
 ghost use Rattle.aj_core.specs.Views.{program_of};
 ghost use Rattle.aj_threads.specs.Frames.{frames_in};
 ghost use Rattle.aj_state.specs.States.{State};

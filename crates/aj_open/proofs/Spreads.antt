@@ -1,6 +1,6 @@
 -- The open order, written by the sizes of a run's units.
 use Rattle.std.proofs.Common.{◌≡◌, ◌≢◌, ℕ, zero, suc, ◌+◌, ◌<◌, ◌≤◌, Bool, true, false, not, ◌||◌, ◌&&◌, ◌==◌, List, [], ◌∷◌, ◌++◌, length, replicate, refl, sym, ap, subst, ◌∙◌, arith}
-use Rattle.std.specs.Prelude.{map, nat_le, filter, cond, unwrap_or, slice_get, if◌then◌else◌}
+use Rattle.std.specs.Prelude.{map, nat_le, filter, cond, if◌then◌else◌}
 use Rattle.std.specs.List.{list_any}
 use Rattle.std.proofs.lemmas.Bool.{eqb-true, eqb-false, ne_eqb, eq-eqb, leb-true, leb-false, or_right}
 use Rattle.std.proofs.lemmas.List.{append_assoc}
@@ -11,12 +11,12 @@ use Rattle.aj_noted.specs.Entries.{entries_of}
 use Rattle.aj_noted.specs.Tables.{value_at, put_at}
 use Rattle.aj_noted.specs.UnitMaps.{UnitMaps, unit_maps, spread}
 use Rattle.aj_noted.specs.declared.step.Step.{Step}
-use Rattle.aj_noted.proofs.Found.{size_at, NoneAt, CommitsApart, size_none, units_apart, maps_found}
+use Rattle.aj_noted.proofs.Found.{size_at, CommitsApart, size_none, units_apart, maps_found}
 use Rattle.aj_noted.proofs.Spread.{Strict, strict_in_order, size_in_order, IsAt, IsStep, are_steps, units_at, at_later, threads_of, thread_in, spread_same, spread_is, rises, strictly}
 use Rattle.aj_open.specs.OpenOrder.{commits, is_uncommitted, thread_of, placed_by_thread, by_thread, open_units}
-use Rattle.aj_open.specs.Spreading.{stays_open, committed_size, left_size, spread_committed, with_left, left_sizes, spread_threads}
+use Rattle.aj_open.specs.Spreading.{stays_open, spread_committed, with_left, left_sizes, spread_threads}
 use Rattle.aj_open.proofs.Parts.{kept_by, each_kept}
-use Rattle.aj_open.proofs.Turns.{AreApart, by_thread_in_order}
+use Rattle.aj_open.proofs.Turns.{AreApart}
 use Rattle.aj_open.proofs.Lasts.{alone_left, alone_apart, last_units}
 use Rattle.aj_open.proofs.Moves.{each_put, each_by_thread}
 

@@ -2,7 +2,6 @@
 
 ghost use Rattle.std.specs.Prelude.{◌≡◌, ◌-◌, ◌<◌, ◌≤◌, map, length, true, IfOk};
 ghost use Rattle.aj_syntax.specs.Limits.{most_height};
-ghost use Rattle.aj_syntax.specs.Tokens.{is};
 ghost use Rattle.aj_syntax.specs.Trees.{BlockS, IfS, IfElseS, SyncS};
 ghost use Rattle.aj_syntax.specs.Views.{expr_of, lock_of, stmt_of, stmts_from};
 ghost use Rattle.aj_expressions.specs.Answer.{Gives};

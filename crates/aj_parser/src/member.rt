@@ -2,7 +2,6 @@
 
 ghost use Rattle.std.specs.Prelude.{◌≡◌, ◌<◌, map, length, true, IfOk};
 ghost use Rattle.std.specs.Option.{option_map};
-ghost use Rattle.aj_syntax.specs.Tokens.{is};
 ghost use Rattle.aj_syntax.specs.Views.{class_of, lock_of, member_of};
 ghost use Rattle.aj_expressions.specs.Answer.{Gives};
 ghost use Rattle.aj_expressions.specs.Combine.{comma_step, item_step, several, starts};

@@ -2,7 +2,6 @@
 
 ghost use Rattle.std.specs.Prelude.{◌≡◌, ℕ, ◌≤◌, length, List, IfOk, IsErrOf, MatchResult};
 ghost use Rattle.std.specs.List.{All, Contains};
-ghost use Rattle.aj_lexer.specs.declared.tokens.Token.{Token as TokenData};
 ghost use Rattle.aj_syntax.specs.Faults.{IsTooDeep, IsUnexpected};
 ghost use Rattle.aj_syntax.specs.Grammar.{Grammar};
 ghost use Rattle.aj_syntax.specs.Limits.{most_tokens};

@@ -10,7 +10,6 @@ use Rattle.aj_core.specs.declared.types.CoreType.{CoreType}
 use Rattle.aj_core.specs.declared.types.CoreOp.{CoreOp}
 use Rattle.aj_core.specs.declared.types.CoreOp.TheVariants as core_op
 use Rattle.aj_core.specs.Core as core
-use Rattle.aj_core.specs.Core.{Expr}
 use Rattle.aj_core.specs.Types.{NodeType, ValueT, NullT, boolean_type, int_type, class_type, result_type, binary_type}
 use Rattle.aj_book_rules.specs.Parts.{Part, ExprP}
 use Rattle.aj_why.specs.Parts.{expr_parts, exprs_parts}

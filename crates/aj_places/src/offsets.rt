@@ -1,8 +1,8 @@
 //! The offsets of nodes.
 
-ghost use Rattle.std.specs.Prelude.{◌≡◌, ◌++◌, map, option_map, IfOk, OnOk};
+ghost use Rattle.std.specs.Prelude.{◌≡◌, ◌++◌, map, IfOk, OnOk};
 ghost use Rattle.aj_syntax.specs.Views.{expr_of, exprs_from, member_of, stmt_of, stmts_from};
-ghost use Rattle.aj_places.specs.Sources.{block_sources, expr_place, expr_sources, exprs_sources, member_places, place_of, stmt_sources, value_sources};
+ghost use Rattle.aj_places.specs.Sources.{block_sources, expr_place, expr_sources, exprs_sources, member_places, place_of, stmt_sources};
 
 use aj_syntax::{Expr, Member, Stmt};
 use std::alloc::{AllocError as NoMemory, Global};

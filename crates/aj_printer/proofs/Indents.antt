@@ -1,5 +1,5 @@
 -- Blanks at the start of a line.
-use Rattle.std.proofs.Common.{◌≡◌, ℕ, suc, ◌+◌, ◌-◌, ◌<◌, List, [], ◌++◌, codes, ap, sym, arith, append_assoc}
+use Rattle.std.proofs.Common.{◌≡◌, ℕ, suc, ◌+◌, ◌-◌, ◌<◌, List, ◌++◌, codes, ap, sym, arith, append_assoc}
 use Rattle.aj_printer.specs.Layout.{indent}
 
 pub indent_more : (n k : ℕ) → k < n → indent (n - k) ≡ codes "    " ++ indent (n - (k + 1))

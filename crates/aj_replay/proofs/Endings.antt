@@ -1,5 +1,5 @@
 -- A method that calls itself, with few turns and with many.
-use Rattle.std.proofs.Common.{◌≡◌, ℕ, zero, suc, ◌+◌, ◌≤◌, ◌<◌, Bool, true, false, List, [], ◌∷◌, Some, refl, sym, ap, ◌∙◌, arith}
+use Rattle.std.proofs.Common.{◌≡◌, ℕ, zero, suc, ◌+◌, ◌≤◌, Bool, true, false, List, [], ◌∷◌, Some, ap, ◌∙◌, arith}
 use Rattle.std.specs.Prelude.{Option, nat_lt, ◌==◌}
 use Rattle.std.specs.FinMap as M
 use Rattle.std.proofs.lemmas.Bool.{lt-ltb}
@@ -12,7 +12,7 @@ use Rattle.aj_steps.specs.Step.{target_at, object_class}
 use Rattle.aj_core.specs.Dispatch.{target_of}
 use Rattle.aj_replay.specs.Plain.{Plain}
 use Rattle.aj_replay.specs.Answers.{Answer, Gives, Blocked, Short, Deep, then_do, Ended, ended_value, goes_on, in_turn}
-use Rattle.aj_replay.specs.Evaluation.{Lower, lower_of, stmt, stmts, dispatch, inner, evaluate, take_lock, take_held, locked}
+use Rattle.aj_replay.specs.Evaluation.{Lower, lower_of, stmt, dispatch, inner, evaluate, take_lock, take_held, locked}
 use Rattle.aj_replay.specs.Examples.{calls_main, calls_itself}
 
 abbrev own_slots : List Value

@@ -11,7 +11,7 @@ use Rattle.aj_state.specs.Work as W
 use Rattle.aj_state.specs.Work.{Action, Item, Ex, Act, exprs_items, unfolded}
 use Rattle.aj_state.specs.States.{Frame}
 use Rattle.aj_steps.specs.Step as S
-use Rattle.aj_steps.specs.Step.{seen_by, with_result, has_result, act}
+use Rattle.aj_steps.specs.Step.{seen_by, has_result, act}
 use Rattle.aj_safe.specs.Fits.{count_of, valued, TidyE, TidyEach}
 use Rattle.aj_replay.specs.Plain.{Plain}
 use Rattle.aj_replay.specs.Answers.{Gives, then_do}

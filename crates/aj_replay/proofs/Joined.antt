@@ -1,6 +1,6 @@
 -- The thread alone beside the whole state, and plain states beside those with frames.
 use Rattle.std.proofs.Common.{◌≡◌, ℕ, zero, suc, ◌+◌, ◌<◌, ◌≤◌, Bool, true, false, ◌||◌, List, [], ◌∷◌, ◌++◌, Some, refl, sym, ap, subst, ◌∙◌, arith}
-use Rattle.std.specs.Prelude.{Option, length, map, replicate, slice_get, slice_set}
+use Rattle.std.specs.Prelude.{Option, length, replicate, slice_get, slice_set}
 use Rattle.std.specs.List.{list_any}
 use Rattle.std.proofs.lemmas.List.{map-append, set-append_left, set-set}
 use Rattle.std.proofs.lemmas.Option.{none-some, same_Some, slice_get_within}
@@ -9,7 +9,7 @@ use Rattle.aj_core.specs.Core.{Program}
 use Rattle.aj_state.proofs.MemoryLemmas.{set_same}
 use Rattle.aj_state.specs.States.{Frame, Thread, Ready, State}
 use Rattle.aj_steps.specs.Step.{Change, Nothing, FieldIs, ObjectIs, LockIs, Prints, Starts, Outcome, Moves, Absent, IsDone, HadFaulted, Waits, changed, seen_by, turn, step, state_after}
-use Rattle.aj_steps.specs.Run.{run_from, inside, is_inside, is_annotated, frames_of}
+use Rattle.aj_steps.specs.Run.{run_from, inside, is_annotated, frames_of}
 use Rattle.aj_replay.specs.Plain.{Plain, plain_thread, plain_of}
 use Rattle.aj_replay.specs.Calls.{depth}
 use Rattle.aj_replay.specs.Evaluation.{most_depth}

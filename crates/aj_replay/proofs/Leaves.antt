@@ -11,7 +11,7 @@ use Rattle.aj_state.specs.declared.value.Fault.{Fault}
 use Rattle.aj_state.specs.Values.{taken, dropped}
 use Rattle.aj_state.specs.Memory.{Hold, made_by}
 use Rattle.aj_state.specs.Work as W
-use Rattle.aj_state.specs.Work.{Action, Item, Ex, St, Act, unfolded, first_release, open_return}
+use Rattle.aj_state.specs.Work.{Action, Item, St, Act, unfolded, first_release, open_return}
 use Rattle.aj_state.specs.States.{Frame, Running, Faulted, new_object}
 use Rattle.aj_steps.specs.Step as S
 use Rattle.aj_steps.specs.Step.{Outcome, Moves, Absent, IsDone, HadFaulted, Waits, changed, seen_by, with_result, act, act_next}

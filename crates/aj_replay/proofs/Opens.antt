@@ -16,7 +16,7 @@ use Rattle.aj_state.specs.Work.{Action, Item, Next, unfolded}
 use Rattle.aj_state.specs.States.{Frame, Thread, Ready, Running, Done, Faulted, State, new_frame}
 use Rattle.aj_steps.specs.Step.{Change, Nothing, FieldIs, ObjectIs, LockIs, Prints, Starts, Move, Outcome, Moves, Absent, IsDone, HadFaulted, Waits, seen_by, most_frames, object_class, target_at}
 use Rattle.aj_steps.specs.Step.{load, store, binary, and_then, or_else, choose, loop, get, get_value, put, put_value, new, call, call_on, enter, enter_some, dispatch, acquire, take, take_held, release, release_held, return_to, start, start_run, act, act_next, enter_first, turn, outcome, step, state_after, changed}
-use Rattle.aj_steps.specs.Run.{is_annotated, is_inside, inside, frames_of, run_from}
+use Rattle.aj_steps.specs.Run.{is_annotated, is_inside, inside}
 use Rattle.aj_replay.specs.Plain.{plain_of}
 use Rattle.aj_replay.specs.Calls.{Asked, asked_target, asked_on, asked_call, asked_next, asked_by, IsReady, depth}
 

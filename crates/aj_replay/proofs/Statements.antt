@@ -10,7 +10,7 @@ use Rattle.aj_state.specs.Work as W
 use Rattle.aj_state.specs.Work.{Action, Item, Ex, St, Act, stmts_items, gets, open_stmt, open_block, opened, first_release, open_return, settled_some, unfolded}
 use Rattle.aj_state.specs.States.{Frame}
 use Rattle.aj_steps.specs.Step as S
-use Rattle.aj_steps.specs.Step.{Prints, changed, seen_by, with_result, act}
+use Rattle.aj_steps.specs.Step.{Prints, changed, seen_by, act}
 use Rattle.aj_safe.specs.Fits.{valued, TidyE, TidyS, TidyBlock}
 use Rattle.aj_replay.specs.Plain.{Plain}
 use Rattle.aj_replay.specs.Answers.{Answer, Gives, then_do, End, GoesOn, Returns, Ended, goes_on, next_after, in_turn}

@@ -19,7 +19,7 @@ use Rattle.aj_replay.specs.Plain.{Plain, plain_thread, plain_of}
 use Rattle.aj_replay.specs.Answers.{Answer, Gives, Fails, Blocked, Short, Deep, then_do, End, GoesOn, Returns, Ended, ended_value}
 use Rattle.aj_replay.specs.Evaluation.{most_depth, lower_of, stmt, result_of, evaluate, asked_body}
 use Rattle.aj_replay.specs.Calls.{depth, result_in, IsDeep, Agrees, IsReplayed}
-use Rattle.aj_replay.proofs.Comes.{Local, LocalOf, Own, bottom, Comes, there, IsFull, After, frame, at}
+use Rattle.aj_replay.proofs.Comes.{Local, Own, bottom, Comes, there, IsFull, After, frame, at}
 use Rattle.aj_replay.proofs.Leaves.{returned_ops, ShortOk, DeepOk, Leads, EndsIn, Ends, acts}
 use Rattle.aj_replay.proofs.Statements.{sim_stmt, fuel}
 use Rattle.aj_replay.proofs.Joined.{Here, bare, HasEntry, joined, Within, Met, met, inside_joined, depth_joined}

@@ -1,5 +1,5 @@
 //! Single effects on a plain state.
-ghost use Rattle.std.specs.Prelude.{◌≡◌, ◌++◌, ◌∷◌, [], ◌<◌, ℕ, List, Some, None, Option, MatchResult, IfOk, IfErr, IfSome, IsSome, OnOk, nat_lt, true, false, not, is_some, slice_get};
+ghost use Rattle.std.specs.Prelude.{◌≡◌, ◌<◌, Some, None, Option, MatchResult, IfOk, IfErr, IfSome, IsSome, OnOk, nat_lt, true, false, not, is_some, slice_get};
 ghost use Rattle.std.specs.FinMap as map;
 ghost use Rattle.aj_core.specs.Views.{program_of, method_of};
 ghost use Rattle.aj_state.specs.Memory.{value_in, made_by};

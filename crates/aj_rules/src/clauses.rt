@@ -1,5 +1,5 @@
 //! The rules of the family of near paths, as the bodies of a program have them.
-ghost use Rattle.std.specs.Prelude.{◌≡◌, ◌≤◌, ◌^◌, ◌+◌, ◌++◌, ◌∷◌, [], true, Some, length, OnOk, IfOk, map, slice_get};
+ghost use Rattle.std.specs.Prelude.{◌≡◌, ◌≤◌, ◌^◌, ◌+◌, ◌++◌, ◌∷◌, [], true, Some, length, OnOk, IfOk, slice_get};
 ghost use Rattle.aj_core.specs.Locks.{path_of};
 ghost use Rattle.aj_core.specs.Views.{program_of, method_of, expr_of, exprs_from, stmt_of, stmts_from};
 ghost use Rattle.aj_rules.specs.Mentions.{expr_mentions, exprs_mentions, mentions, block_mentions, paths_of};

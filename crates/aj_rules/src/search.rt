@@ -1,5 +1,5 @@
 //! The search for the near paths of all methods: from the facts along the links, each place once.
-ghost use Rattle.std.specs.Prelude.{Some, None, ◌≡◌, ◌≤◌, ◌<◌, ◌^◌, ◌∷◌, ◌++◌, ◌==◌, ◌||◌, ◌&&◌, nat_le, [], ℕ, Bool, length, not, map, slice_get, IfOk, OnOk, if◌then◌else◌};
+ghost use Rattle.std.specs.Prelude.{Some, None, ◌≡◌, ◌≤◌, ◌<◌, ◌^◌, ◌∷◌, ◌++◌, ◌==◌, ◌||◌, ◌&&◌, nat_le, [], ℕ, length, not, slice_get, IfOk, OnOk, if◌then◌else◌};
 ghost use Rattle.std.specs.List.Sorted.{IsStrictlySortedBy};
 ghost use Rattle.aj_paths.specs.Paths.{PathData, path_order, path_eq, extended};
 ghost use Rattle.aj_core.specs.Dispatch.{has_field, fields_in};

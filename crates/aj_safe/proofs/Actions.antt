@@ -22,7 +22,7 @@ use Rattle.aj_state.specs.declared.value.Fault.TheVariants as fault
 use Rattle.aj_state.specs.declared.value.StepKind.{StepKind}
 use Rattle.aj_state.specs.declared.value.StepKind.TheVariants.{Both, Other}
 use Rattle.aj_state.specs.Values.{top, under, dropped, as_int, address_of}
-use Rattle.aj_state.specs.Memory.{Object, Hold, field_value}
+use Rattle.aj_state.specs.Memory.{Hold, field_value}
 use Rattle.aj_state.specs.Work as W
 use Rattle.aj_state.specs.Work.{Item, Ex, St}
 use Rattle.aj_state.specs.States.{Frame}

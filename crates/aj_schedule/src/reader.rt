@@ -5,7 +5,7 @@ ghost use Rattle.aj_schedule.specs.Text.{Piece, IsSchedule, BeginsWith, BeginsWi
 ghost use Rattle.aj_schedule.specs.Faults.{HasFormFault, HasLengthFault, IsAnswer, form_fault, count_fault};
 
 use crate::numbers::number_within;
-use std::alloc::{AllocError, AllocFailed, Global};
+use std::alloc::{AllocError, Global};
 
 /// How many steps a schedule has at most.
 const MOST_STEPS: usize = 200_000;

@@ -1,6 +1,5 @@
 -- Which ending comes for the answer to `generate`.
-use Rattle.std.proofs.Common.{◌≡◌, ℕ, List, refl, sym, ap, subst, ◌∙◌}
-use Rattle.aj_generate.specs.Rounds.{IsGenerated}
+use Rattle.std.proofs.Common.{◌≡◌, ℕ, List, subst}
 use Rattle.aj_generate.specs.Sources.{generated_source}
 use Rattle.aj_generate.proofs.Counted.{generated_once}
 use Rattle.aj_schedule.specs.Written.{written}

@@ -1,6 +1,5 @@
 -- Refusals and answers of `generate`.
-use Rattle.std.proofs.Common.{◌≡◌, ◌≤◌, ◌<◌, ◌^◌, ◌*◌, ◌+◌, List, ℕ, Some, length, get_or, ap, refl, sym, subst, ◌∙◌, arith}
-use Rattle.aj_core.specs.Core.{Program}
+use Rattle.std.proofs.Common.{◌≡◌, ◌≤◌, ◌<◌, ◌^◌, List, ℕ, length, get_or, ap, refl, subst, ◌∙◌, arith}
 use Rattle.aj_core.specs.Views.{program_of}
 use Rattle.aj_generate.specs.Rounds.{IsGenerated}
 use Rattle.aj_generate.specs.Sources.{generated_source}
@@ -18,9 +17,6 @@ use Rattle.aj_sources.specs.Checking.{NoSource, IsSourceOf}
 use Rattle.aj_sources.specs.Facts.{RefusedAs}
 use Rattle.aj_sources.specs.Verdicts.{NoAccepted, no_source as no_source_accepted}
 use Rattle.aj_sources.proofs.Apart.{no_accepted_is}
-use Rattle.aj_state.specs.States.{State}
-use Rattle.aj_steps.specs.Run.{run}
-use Rattle.aj_steps.specs.Units.{written_order}
 use Rattle.aj_schedule_commands.specs.Schedules.{NoOrder}
 use Rattle.aj_schedule_commands.specs.Serialise.{not_accepted, no_order}
 use Rattle.aj_schedule_commands.specs.Generate.{GenerateAnswer, refused, generated, figures}

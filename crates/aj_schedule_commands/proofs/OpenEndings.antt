@@ -1,6 +1,5 @@
 -- Which ending comes for the answer to `serialise-open`.
-use Rattle.std.proofs.Common.{◌≡◌, ℕ, List, Some, refl, sym, subst}
-use Rattle.aj_core.specs.Core.{Program}
+use Rattle.std.proofs.Common.{◌≡◌, ℕ, List, refl, sym, subst}
 use Rattle.aj_rules.specs.Rules.{IsAccepted}
 use Rattle.aj_sources.specs.declared.refusal.Ending.{Ending}
 use Rattle.aj_sources.specs.declared.refusal.Ending.TheVariants as ending

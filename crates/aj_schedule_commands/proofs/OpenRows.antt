@@ -2,7 +2,6 @@
 use Rattle.std.proofs.Common.{◌≡◌, ◌≤◌, ◌++◌, List, ℕ, Some, length, ap, sym, subst, ◌∙◌, arith}
 use Rattle.aj_classes.specs.Table.{table_of}
 use Rattle.aj_classes.specs.Views.{table_data}
-use Rattle.aj_core.specs.Core.{Program}
 use Rattle.aj_core.specs.Views.{program_of}
 use Rattle.aj_open.specs.OpenOrder.{open_order}
 use Rattle.aj_open.specs.Opened.{IsOpened}

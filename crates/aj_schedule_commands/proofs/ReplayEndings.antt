@@ -1,5 +1,5 @@
 -- Which ending comes for the answer to `replay`.
-use Rattle.std.proofs.Common.{◌≡◌, ℕ, Bool, true, false, List, refl, sym, ap, subst, ◌∙◌}
+use Rattle.std.proofs.Common.{◌≡◌, ℕ, Bool, true, false, List, refl, sym, subst, ◌∙◌}
 use Rattle.aj_core.specs.Core.{Program}
 use Rattle.aj_replay.specs.Records.{HasNoDeep}
 use Rattle.aj_rules.specs.Rules.{IsAccepted}

@@ -1,7 +1,6 @@
 -- Refusals and answers of `replay`.
 use Rattle.std.proofs.Common.{◌≡◌, ◌≤◌, ℕ, List, Some, false, Result, Ok, Err, MatchResult, Vec, Global, length, ap, sym, subst, ◌∙◌, arith}
 use Rattle.std.proofs.lemmas.Option.{same_Some}
-use Rattle.aj_classes.specs.Table.{table_of}
 use Rattle.aj_classes.specs.Views.{table_data}
 use Rattle.aj_core.specs.Core.{Program}
 use Rattle.aj_core.specs.Views.{program_of}

@@ -21,7 +21,6 @@ use Rattle.aj_sources.proofs.Told.{right_of_more, more_refused}
 use Rattle.aj_sources.proofs.Verdicts.{well_formed_source, few_methods}
 use Rattle.aj_source_commands.specs.Check.{CheckAnswer, not_accepted, judged, report_from}
 use Rattle.aj_source_commands.specs.Print.{PrintAnswer, no_program, printed}
-use Rattle.aj_sources.specs.declared.refusal.Ending.{Ending}
 
 pub source_refused : (file : List ℕ) (r : Refusal) → IsRight (NoSource file) r → IsRight (CheckAnswer file) r
 source_refused file r is = right_of_more (NoSource file) (CheckAnswer file) (λ ending line i. not_accepted (no_source i)) r is

@@ -1,6 +1,6 @@
 //! `print FILE`.
 
-ghost use Rattle.std.specs.Prelude.{◌≡◌, ◌≤◌, List, length, MatchResult};
+ghost use Rattle.std.specs.Prelude.{◌≤◌, length, MatchResult};
 ghost use Rattle.aj_sources.specs.Refusals.{IsRight};
 ghost use Rattle.aj_source_commands.specs.Print.{PrintAnswer};
 

@@ -1,6 +1,6 @@
 //! Asks whether the rules accept a well-formed source.
 
-ghost use Rattle.std.specs.Prelude.{◌≡◌, ℕ, List, map, MatchResult};
+ghost use Rattle.std.specs.Prelude.{ℕ, List, map, MatchResult};
 ghost use Rattle.aj_classes.specs.Views.{table_data};
 ghost use Rattle.aj_cond.specs.Conditions.{cond_of};
 ghost use Rattle.aj_core.specs.Views.{program_of};

@@ -1,6 +1,6 @@
 //! Takes a tree of the grammar to its core program and the locks that matter, or to the line that refuses it.
 
-ghost use Rattle.std.specs.Prelude.{◌≡◌, ◌≤◌, ℕ, List, [], length, MatchResult, slice_get};
+ghost use Rattle.std.specs.Prelude.{◌≡◌, ◌≤◌, ℕ, [], length, MatchResult, slice_get};
 ghost use Rattle.aj_lexer.specs.Limits.{longest_source};
 ghost use Rattle.aj_syntax.specs.Trees.{ProgramTree};
 ghost use Rattle.aj_syntax.specs.Views.{program_of as tree_of};

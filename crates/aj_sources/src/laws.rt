@@ -1,6 +1,6 @@
 //! What refusals exclude.
 
-ghost use Rattle.std.specs.Prelude.{◌≡◌, ℕ, List};
+ghost use Rattle.std.specs.Prelude.{ℕ, List};
 ghost use Rattle.aj_sources.specs.declared.refusal.Ending.{Ending as EndingData};
 ghost use Rattle.aj_sources.specs.Programs.{NoProgram};
 ghost use Rattle.aj_sources.specs.Checking.{NoSource};

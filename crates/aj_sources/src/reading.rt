@@ -1,6 +1,6 @@
 //! Reads the text and the tree of a source, or tells its first fault.
 
-ghost use Rattle.std.specs.Prelude.{◌≡◌, ◌≤◌, ◌⊎◌, ℕ, List, length, IfOk, MatchResult, IsUtf8};
+ghost use Rattle.std.specs.Prelude.{◌≡◌, ◌≤◌, ◌⊎◌, length, MatchResult};
 ghost use Rattle.std.specs.Str.{IsValidUpTo};
 ghost use Rattle.aj_lexer.specs.Limits.{longest_source};
 ghost use Rattle.aj_lexer.specs.Tokens.{Tokens, FirstFault};

@@ -1,5 +1,5 @@
 //! A table by addresses: a row for each thread that makes objects, and in it a slot for each count.
-ghost use Rattle.std.specs.Prelude.{count_by, ◌≡◌, ◌==◌, ◌<◌, ◌≤◌, ◌^◌, ◌+◌, max, vec_len, ℕ, List, [], ◌∷◌, Option, Some, None, IsSome, MatchOption, IfOk, OnOk, OnErr, OnSome, length, slice_get, if◌then◌else◌};
+ghost use Rattle.std.specs.Prelude.{count_by, ◌≡◌, ◌==◌, ◌<◌, ◌≤◌, ◌^◌, ◌+◌, max, vec_len, ℕ, List, [], ◌∷◌, Option, Some, None, IsSome, MatchOption, IfOk, OnOk, OnErr, OnSome, length, slice_get};
 ghost use Rattle.std.specs.Option.{option_copied, option_map};
 ghost use Rattle.std.specs.FinMap as map;
 ghost use Rattle.aj_state.specs.declared.value.Value.{Value};

@@ -1,5 +1,5 @@
 //! The held locks by the addresses of their objects.
-ghost use Rattle.std.specs.Prelude.{count_by, ◌≡◌, ◌==◌, ◌<◌, ◌^◌, ◌-◌, Some, None, IsSome, MatchOption, IfOk, OnOk, OnErr, slice_get};
+ghost use Rattle.std.specs.Prelude.{count_by, ◌≡◌, ◌==◌, ◌<◌, ◌-◌, Some, None, IsSome, MatchOption, IfOk, OnOk, OnErr, slice_get};
 ghost use Rattle.std.specs.FinMap as map;
 ghost use Rattle.aj_state.specs.Memory.{with_lock};
 ghost use Rattle.aj_state.specs.Stored.{found_lock, MayTake, taken_by, given_back};

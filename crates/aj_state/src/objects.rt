@@ -1,5 +1,5 @@
 //! The heap: the objects by their addresses.
-ghost use Rattle.std.specs.Prelude.{◌≡◌, ◌<◌, Some, None, IsSome, MatchOption, IfOk, OnOk, OnErr, length, slice_get};
+ghost use Rattle.std.specs.Prelude.{◌≡◌, ◌<◌, Some, None, MatchOption, IfOk, OnOk, OnErr, slice_get};
 ghost use Rattle.std.specs.FinMap as map;
 ghost use Rattle.aj_state.specs.Memory.{with_value, with_field, made_by};
 ghost use Rattle.aj_state.specs.Stored.{found_object, HasField};

@@ -1,5 +1,5 @@
 //! Laws of steps, runs and words.
-ghost use Rattle.std.specs.Prelude.{◌≡◌, ◌≢◌, ◌↔◌, ◌⊎◌, ◌++◌, ◌==◌, ℕ, List, [], ◌∷◌, length, true, false, Option, Some, None, option_and_then, slice_get};
+ghost use Rattle.std.specs.Prelude.{◌≡◌, ◌↔◌, ◌⊎◌, ◌++◌, ℕ, List, [], ◌∷◌, length, true, Option, Some, None, option_and_then, slice_get};
 ghost use Rattle.std.specs.FinMap as map;
 ghost use Rattle.aj_core.specs.Core.{Program};
 ghost use Rattle.aj_state.specs.declared.value.Address.{Address};

@@ -1,5 +1,5 @@
 //! Laws of neighbouring steps.
-ghost use Rattle.std.specs.Prelude.{◌≡◌, ◌+◌, ℕ, List, IsSome, slice_get};
+ghost use Rattle.std.specs.Prelude.{◌+◌, ℕ, List, IsSome, slice_get};
 ghost use Rattle.aj_core.specs.Core.{Program};
 ghost use Rattle.aj_state.specs.States.{State};
 ghost use Rattle.aj_steps.specs.Step.{Move};

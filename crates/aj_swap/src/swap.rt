@@ -1,5 +1,5 @@
 //! Two neighbouring entries of a schedule are exchanged.
-ghost use Rattle.std.specs.Prelude.{◌≡◌, ◌≢◌, ◌↔◌, ◌+◌, ◌≤◌, ◌<◌, ℕ, length, true, Some, Err, IsSome, IfOk, slice_get};
+ghost use Rattle.std.specs.Prelude.{◌≡◌, ◌≢◌, ◌↔◌, ◌+◌, ◌≤◌, ◌<◌, ℕ, length, true, Err, IfOk, slice_get};
 ghost use Rattle.aj_core.specs.Views.{program_of};
 ghost use Rattle.aj_core.specs.Typed.{IsTyped};
 ghost use Rattle.aj_state.specs.declared.value.StepKind.{StepKind as KindData};
@@ -7,7 +7,7 @@ ghost use Rattle.aj_state.specs.States.{State};
 ghost use Rattle.aj_compile.specs.IsCode.{IsCodeOf};
 ghost use Rattle.aj_steps.specs.Step.{Move};
 ghost use Rattle.aj_steps.specs.Run.{run, Runs};
-ghost use Rattle.aj_exchange.specs.Swapped.{MayPass, Swapped};
+ghost use Rattle.aj_exchange.specs.Swapped.{MayPass};
 ghost use Rattle.aj_swap.specs.declared.swap.SwapEnd.TheVariants as ends;
 ghost use Rattle.aj_swap.specs.Seen.{IsSeen};
 ghost use Rattle.aj_swap.specs.Exchanged.{exchanged, AreNeighbours, IsStartOf, AreNotMovers, ArePassed};

@@ -6,9 +6,6 @@ mod offsets;
 mod terminal;
 mod tree;
 
-ghost use Rattle.aj_syntax.specs.Faults.{IsTooDeep, IsUnexpected};
-ghost use Rattle.aj_syntax.specs.Views.{program_of};
-
 pub use laws::name_laws;
 pub use terminal::Terminal;
 pub use tree::{Class, Expr, Lock, MOST_HEIGHT, Member, Name, Op, Param, Program, Stmt, TypeName};

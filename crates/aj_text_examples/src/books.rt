@@ -1,17 +1,16 @@
 //! Books: how they are written, how they are read, and their first faults.
-ghost use Rattle.std.specs.Prelude.{◌≡◌, true, false, List, [], ◌∷◌, map, replicate, Some, None, Ok, Err, codes};
-ghost use Rattle.aj_algebra.specs.declared.basic.Basic.TheVariants.{Const, Mover, Atomic, Error};
-ghost use Rattle.aj_cond.specs.Conditions.{LeafC};
+ghost use Rattle.std.specs.Prelude.{◌≡◌, false, [], ◌∷◌, map, replicate, Some, None, Ok, Err, codes};
+ghost use Rattle.aj_algebra.specs.declared.basic.Basic.TheVariants.{Atomic};
 ghost use Rattle.aj_books.specs.declared.stop.BookFault.TheVariants as fault;
 ghost use Rattle.aj_books.specs.declared.stop.Kind.TheVariants.{Form, TooDeep};
 ghost use Rattle.aj_books.specs.declared.word.Word.TheVariants as w;
-ghost use Rattle.aj_books.specs.Derivations.{node, no_nodes, and_node, word_at, number_of, premises_of, count_nodes, word_text, words};
+ghost use Rattle.aj_books.specs.Derivations.{node, no_nodes, word_at, number_of, premises_of, count_nodes, word_text, words};
 ghost use Rattle.aj_books.specs.Books.{node_high};
 ghost use Rattle.aj_books.specs.Texts.{node_text, line_text, lines_text, book_text};
 ghost use Rattle.aj_books.specs.Reading.{number_digits, number_at, path_at, leaf_at, tree_at, canonical_at, word_at_front, node_at, line_at, count_at, nothing, book_at};
 ghost use Rattle.aj_books.specs.Combine.{begins, expect, at_most, several};
 ghost use Rattle.aj_books.specs.Faults.{first_fault};
-ghost use Rattle.aj_text_examples.specs.Texts.{path, mover_or_atomic, two_tests, one_node, put_node, body_node, locked_book, locked_text};
+ghost use Rattle.aj_text_examples.specs.Texts.{path, mover_or_atomic, two_tests, put_node, body_node, locked_book, locked_text};
 
 /// A book is its count of trees, the trees, a derivation for each method, and `end`.
 pub fn how_books_are_written()

@@ -1,5 +1,5 @@
 //! Lines of `replay`, and the parts of a call of the program.
-ghost use Rattle.std.specs.Prelude.{◌≡◌, ℕ, pos, negsuc, List, [], ◌∷◌, map, Some, None, codes};
+ghost use Rattle.std.specs.Prelude.{◌≡◌, pos, negsuc, [], ◌∷◌, map, Some, None, codes};
 ghost use Rattle.aj_state.specs.declared.value.Value.TheVariants.{Int};
 ghost use Rattle.aj_edge.specs.Faults.{next_count};
 ghost use Rattle.aj_schedule_commands.specs.Lines.{result_text, prints_text, call_line, calls_text, too_deep_line};

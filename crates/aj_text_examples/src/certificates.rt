@@ -1,5 +1,5 @@
 //! Certificates of refusal as texts.
-ghost use Rattle.std.specs.Prelude.{◌≡◌, List, [], ◌∷◌, Some, None, Ok, Err, codes};
+ghost use Rattle.std.specs.Prelude.{◌≡◌, [], ◌∷◌, Some, None, Ok, Err, codes};
 ghost use Rattle.aj_algebra.specs.declared.basic.Basic.TheVariants.{Mover, Atomic};
 ghost use Rattle.aj_books.specs.declared.stop.Kind.TheVariants.{Form};
 ghost use Rattle.aj_blame_text.specs.Texts.{held_text, line_text, blame_text};

@@ -1,5 +1,5 @@
 //! Lines of refused sources, schedules, books, certificates and levels.
-ghost use Rattle.std.specs.Prelude.{◌≡◌, true, false, List, [], ◌∷◌, map, Some, None, codes};
+ghost use Rattle.std.specs.Prelude.{◌≡◌, [], ◌∷◌, map, None, codes};
 ghost use Rattle.aj_lexer.specs.declared.faults.LexFault.TheVariants as lex;
 ghost use Rattle.aj_lexer.specs.declared.tokens.TokenKind.TheVariants as token;
 ghost use Rattle.aj_parser.specs.declared.faults.ParseFault.TheVariants as parse;

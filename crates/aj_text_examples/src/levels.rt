@@ -1,5 +1,5 @@
 //! Lock levels as texts.
-ghost use Rattle.std.specs.Prelude.{◌≡◌, List, [], ◌∷◌, map, Ok, Err, codes};
+ghost use Rattle.std.specs.Prelude.{◌≡◌, [], ◌∷◌, map, Ok, Err, codes};
 ghost use Rattle.aj_books.specs.declared.stop.Kind.TheVariants.{Form};
 ghost use Rattle.aj_level_text.specs.Texts.{line_text, lines_text};
 ghost use Rattle.aj_level_text.specs.Reading.{first_word, name_at, level_at};

@@ -1,5 +1,5 @@
 //! The texts of schedules: what they write, where they go wrong, and how they are written.
-ghost use Rattle.std.specs.Prelude.{◌≡◌, true, false, List, [], ◌∷◌, ◌++◌, length, map, replicate, Some, None, codes};
+ghost use Rattle.std.specs.Prelude.{◌≡◌, true, false, [], ◌∷◌, map, Some, None, codes};
 ghost use Rattle.aj_schedule.specs.Text.{blank, comment, single, group, spelled, is_blank, ends_entry, ends_comment, count_of, thread_of, entry_of, joined, total, steps, IsSchedule};
 ghost use Rattle.aj_schedule.specs.Faults.{writes_number, first_digits, after_digits, begins_count, form_fault, HasFormFault, HasLengthFault};
 ghost use Rattle.aj_schedule.specs.Fronts.{ends_in_star, may_stand};

@@ -1,5 +1,5 @@
 //! The text of a state.
-ghost use Rattle.std.specs.Prelude.{◌≡◌, pos, negsuc, true, false, List, [], ◌∷◌, map, Some, None, codes};
+ghost use Rattle.std.specs.Prelude.{◌≡◌, pos, negsuc, true, false, [], ◌∷◌, map, Some, None, codes};
 ghost use Rattle.aj_state.specs.declared.value.Value.TheVariants.{Int, Truth, Null, Ref};
 ghost use Rattle.aj_state.specs.declared.value.Fault.TheVariants as fault;
 ghost use Rattle.aj_state.specs.declared.value.ThreadState.TheVariants as status;

@@ -1,8 +1,8 @@
 //! Conditional atomicities: their values, how they are written, and which are canonical.
-ghost use Rattle.std.specs.Prelude.{◌≡◌, true, false, List, [], ◌∷◌, map, replicate, Some, None, codes};
+ghost use Rattle.std.specs.Prelude.{◌≡◌, true, false, [], ◌∷◌, map, codes};
 ghost use Rattle.aj_algebra.specs.declared.basic.Basic.TheVariants.{Const, Mover, Atomic, Cmpd, Error};
 ghost use Rattle.aj_algebra.specs.HeldPaths.{has_path};
-ghost use Rattle.aj_cond.specs.Conditions.{LeafC, TestC, value_of, cond_eq, IsCanonical};
+ghost use Rattle.aj_cond.specs.Conditions.{LeafC, TestC, value_of, cond_eq};
 ghost use Rattle.aj_cond.specs.Texts.{path_text, text_of};
 ghost use Rattle.aj_books.specs.Books.{tests_high, is_canonical, most_height};
 ghost use Rattle.aj_text_examples.specs.Texts.{path, mover_or_atomic, mover_or_error, two_tests};

@@ -1,5 +1,5 @@
 //! Lines of verdicts: a method's atomicity, and a bound that is broken.
-ghost use Rattle.std.specs.Prelude.{◌≡◌, List, [], ◌∷◌, map, codes};
+ghost use Rattle.std.specs.Prelude.{◌≡◌, [], ◌∷◌, map, codes};
 ghost use Rattle.aj_algebra.specs.declared.basic.Basic.TheVariants.{Const, Mover, Atomic, Cmpd, Error};
 ghost use Rattle.aj_cond.specs.Conditions.{LeafC, TestC};
 ghost use Rattle.aj_report.specs.Verdicts.{title_text, slot_text, field_text, fields_text, path_text, condition_text, atomicity_line, broken_line};

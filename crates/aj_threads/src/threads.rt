@@ -1,5 +1,5 @@
 //! Threads of the machine that runs code.
-ghost use Rattle.std.specs.Prelude.{◌≡◌, ◌<◌, ◌≤◌, ◌+◌, ◌-◌, ◌∷◌, [], max, reverse, length, map, Option, Some, None, true, IsTrue, IsSome, IsOk, IfOk, OnOk, OnErr, OnSome, IfNone, IfSome, slice_get, slice_set, MatchOption};
+ghost use Rattle.std.specs.Prelude.{◌≡◌, ◌<◌, ◌≤◌, ◌+◌, ◌-◌, ◌∷◌, [], max, reverse, length, map, Option, Some, None, true, IsSome, IsOk, IfOk, OnOk, OnErr, OnSome, IfNone, slice_get, slice_set};
 ghost use Rattle.std.specs.Option.{option_map, option_copied};
 ghost use Rattle.aj_state.specs.Values.{under};
 ghost use Rattle.aj_state.specs.States.{ThreadOf, Ready, Running, Faulted};

@@ -1,6 +1,6 @@
 //! Why a program has no core program.
 
-ghost use Rattle.std.specs.Prelude.{◌≡◌, []};
+ghost use Rattle.std.specs.Prelude.{◌≡◌};
 ghost use Rattle.aj_type_rules.specs.declared.fault.TypeFault.TheVariants.{NoMemory as OutOfMemory};
 ghost use Rattle.aj_type_rules.specs.Faults.{offset_of, rank_of, place_of};
 

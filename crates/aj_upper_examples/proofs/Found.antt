@@ -1,9 +1,8 @@
 -- What stands in the maps of the plain state, by computation.
-use Rattle.std.proofs.Common.{◌≡◌, ℕ, pos, List, [], ◌∷◌, Option, Some, ap}
+use Rattle.std.proofs.Common.{◌≡◌, ℕ, List, Option, Some, ap}
 use Rattle.std.specs.FinMap as M
 use Rattle.std.specs.FinMap.{get-from_sorted}
 use Rattle.aj_state.specs.declared.value.Value.{Value}
-use Rattle.aj_state.specs.declared.value.Value.TheVariants.{Int}
 use Rattle.aj_state.specs.Memory.{address_cmp}
 use Rattle.aj_steps.specs.Step.{object_class, target_at}
 use Rattle.aj_replay.specs.Calls.{asked_target}

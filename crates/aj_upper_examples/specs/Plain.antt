@@ -1,10 +1,10 @@
 -- A plain state, and parts that are evaluated in it.
-use Rattle.std.specs.Prelude.{ℕ, pos, Bool, true, false, List, [], ◌∷◌, Option, Some, None, slice_get}
+use Rattle.std.specs.Prelude.{ℕ, pos, true, false, List, [], ◌∷◌, Option, Some, slice_get}
 use Rattle.std.specs.FinMap as M
 use Rattle.aj_core.specs.declared.types.CoreOp.TheVariants.{Div}
 use Rattle.aj_core.specs.declared.types.CoreType.TheVariants as type
 use Rattle.aj_core.specs.declared.types.UnaryOp.TheVariants.{Neg}
-use Rattle.aj_core.specs.Core.{Expr, IntE, TruthE, VarE, BinaryE, GetE, CallE, and_expr, no_exprs, Stmt, WhileS, ReturnS}
+use Rattle.aj_core.specs.Core.{Expr, IntE, TruthE, VarE, BinaryE, CallE, and_expr, no_exprs, Stmt, WhileS, ReturnS}
 use Rattle.aj_state.specs.declared.value.Address.{Address}
 use Rattle.aj_state.specs.declared.value.Value.{Value}
 use Rattle.aj_state.specs.declared.value.Value.TheVariants.{Int, Truth, Ref}

@@ -1,12 +1,12 @@
 -- Values of premises, parts of bodies, and derivations.
-use Rattle.std.specs.Prelude.{ℕ, pos, true, false, List, [], ◌∷◌, Some, None}
+use Rattle.std.specs.Prelude.{pos, true, List, [], ◌∷◌, Some, None}
 use Rattle.aj_algebra.specs.declared.basic.Basic.{Basic}
 use Rattle.aj_algebra.specs.declared.basic.Basic.TheVariants.{Const, Mover, Atomic}
 use Rattle.aj_core.specs.declared.types.CoreOp.TheVariants.{Add}
 use Rattle.aj_core.specs.declared.types.CoreType.TheVariants as type
-use Rattle.aj_core.specs.Core.{Expr, Exprs, IntE, TruthE, NullE, ThisE, VarE, NotE, NegE, BinaryE, AndE, OrE, GetE, CallE, NewE, no_exprs, and_expr}
-use Rattle.aj_core.specs.Core.{Stmt, Stmts, EmptyS, BlockS, LocalS, SetVarS, SetFieldS, DoS, IfS, WhileS, SyncS, ReturnS, PrintS, StartS, no_stmts, and_stmt}
-use Rattle.aj_core.specs.Examples.{this_path, block_of, put_seven}
+use Rattle.aj_core.specs.Core.{Exprs, IntE, TruthE, NullE, ThisE, VarE, NotE, NegE, BinaryE, AndE, OrE, GetE, CallE, NewE, no_exprs, and_expr}
+use Rattle.aj_core.specs.Core.{Stmts, EmptyS, BlockS, LocalS, SetVarS, SetFieldS, DoS, IfS, WhileS, SyncS, ReturnS, PrintS, StartS, no_stmts, and_stmt}
+use Rattle.aj_core.specs.Examples.{this_path}
 use Rattle.aj_cond.specs.Conditions.{Cond, LeafC, TestC}
 use Rattle.aj_books.specs.declared.word.Word.TheVariants as w
 use Rattle.aj_books.specs.Derivations.{Node, node, no_nodes, and_node}

@@ -1,12 +1,12 @@
 -- Small programs, and books for them.
-use Rattle.std.specs.Prelude.{ℕ, pos, Bool, true, false, List, [], ◌∷◌, None, Some}
+use Rattle.std.specs.Prelude.{ℕ, Bool, false, List, [], ◌∷◌, None, Some}
 use Rattle.aj_paths.specs.Paths.{PathData}
 use Rattle.aj_algebra.specs.declared.basic.Basic.TheVariants.{Const, Atomic, Cmpd}
 use Rattle.aj_core.specs.Core.{Program, Stmt, EmptyS, BlockS, PrintS, no_stmts, and_stmt}
 use Rattle.aj_core.specs.Examples.{this_path, plain_method, guarded_main}
 use Rattle.aj_cond.specs.Conditions.{Cond, LeafC, TestC}
 use Rattle.aj_books.specs.declared.word.Word.TheVariants as w
-use Rattle.aj_books.specs.Derivations.{Node, node, Nodes, no_nodes, and_node}
+use Rattle.aj_books.specs.Derivations.{Node, node, no_nodes, and_node}
 use Rattle.aj_books.specs.Books.{Line, Book}
 use Rattle.aj_examples.specs.Family.{class_with, family}
 use Rattle.aj_examples.specs.Small.{one}

@@ -20,7 +20,7 @@ use Rattle.aj_state.specs.Memory.{Hold}
 use Rattle.aj_state.specs.States.{Thread, Running, State}
 use Rattle.aj_state.specs.Work.{Act, Acquire}
 use Rattle.aj_rules.specs.Effect.{held_under}
-use Rattle.aj_examples.specs.Bodies.{nothing_held, one_path}
+use Rattle.aj_examples.specs.Bodies.{one_path}
 use Rattle.aj_examples.specs.Fields.{path}
 use Rattle.aj_examples.specs.Seen.{here, there}
 use Rattle.aj_levels.specs.Walks.{Visit, Comes, Bad}

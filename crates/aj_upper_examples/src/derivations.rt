@@ -1,7 +1,6 @@
 //! The rules of derivations: the word and the parts of each part of a body, the places of a derivation, and the value that each rule gives.
-ghost use Rattle.std.specs.Prelude.{◌≡◌, true, false, List, [], ◌∷◌, map, Some, None, pos};
+ghost use Rattle.std.specs.Prelude.{◌≡◌, true, false, [], ◌∷◌, map, Some, None, pos};
 ghost use Rattle.aj_algebra.specs.declared.basic.Basic.TheVariants.{Const, Mover, Atomic, Cmpd, Error};
-ghost use Rattle.aj_algebra.specs.HeldPaths.{has_path};
 ghost use Rattle.aj_core.specs.declared.types.CoreOp.TheVariants.{Add};
 ghost use Rattle.aj_core.specs.declared.types.CoreType.TheVariants as type;
 ghost use Rattle.aj_core.specs.Core.{IntE, TruthE, NullE, ThisE, VarE, NotE, NegE, BinaryE, AndE, OrE, GetE, CallE, NewE, no_exprs, and_expr};
@@ -16,10 +15,10 @@ ghost use Rattle.aj_book_rules.specs.Judges.{number_value, named_set, local_name
 ghost use Rattle.aj_book_check.specs.Good.{line_value, book_assignment, tests_only, cond_at, rule_at};
 ghost use Rattle.aj_cond.specs.Conditions.{LeafC, TestC};
 ghost use Rattle.aj_examples.specs.Seen.{four_fields};
-ghost use Rattle.aj_examples.specs.Bodies.{nothing_held, this_held, one_path, one_held, mover_under, with_required, this_relevant, both_relevant, all_movers, by_locks};
+ghost use Rattle.aj_examples.specs.Bodies.{nothing_held, this_held, one_path, mover_under, with_required, this_relevant, both_relevant, all_movers, by_locks};
 ghost use Rattle.aj_examples.specs.Small.{one, two};
 ghost use Rattle.aj_examples.specs.Fields.{path};
-ghost use Rattle.aj_upper_examples.specs.Premises.{always, con, mov, ato, two_arguments, two_statements, expressions, statements, mover_or_atomic, table, leaf_node, put_node, sync_node, place};
+ghost use Rattle.aj_upper_examples.specs.Premises.{con, mov, ato, two_arguments, two_statements, expressions, statements, mover_or_atomic, table, leaf_node, put_node, sync_node, place};
 
 /// The word of each part.
 pub fn which_words_parts_have()

@@ -1,18 +1,18 @@
 //! Plain evaluation: what each expression and each statement gives in a plain state.
-ghost use Rattle.std.specs.Prelude.{◌≡◌, pos, negsuc, true, false, List, [], ◌∷◌, map, Some, None};
-ghost use Rattle.aj_core.specs.declared.types.CoreOp.TheVariants.{Sub, Div};
+ghost use Rattle.std.specs.Prelude.{◌≡◌, pos, negsuc, true, false, [], ◌∷◌, map, Some, None};
+ghost use Rattle.aj_core.specs.declared.types.CoreOp.TheVariants.{Sub};
 ghost use Rattle.aj_core.specs.declared.types.CoreType.TheVariants as type;
-ghost use Rattle.aj_core.specs.Core.{EmptyS, IntE, NullE, ThisE, VarE, NotE, NegE, BinaryE, AndE, OrE, GetE, CallE, NewE, no_exprs, and_expr};
+ghost use Rattle.aj_core.specs.Core.{EmptyS, NullE, ThisE, VarE, NotE, NegE, BinaryE, AndE, OrE, GetE, CallE, NewE, no_exprs, and_expr};
 ghost use Rattle.aj_core.specs.Core.{BlockS, LocalS, SetVarS, SetFieldS, DoS, IfS, WhileS, SyncS, ReturnS, PrintS, StartS, no_stmts, and_stmt};
 ghost use Rattle.aj_core.specs.Examples.{plain_method};
 ghost use Rattle.aj_state.specs.declared.value.Value.TheVariants.{Int, Truth, Null, Ref};
 ghost use Rattle.aj_state.specs.declared.value.Fault.TheVariants as fault;
 ghost use Rattle.aj_state.specs.States.{Ready, Running, Done, Faulted};
 ghost use Rattle.aj_steps.specs.Step.{FieldIs, LockIs, Prints, Starts, changed};
-ghost use Rattle.aj_replay.specs.Plain.{Plain, plain_thread, plain_of};
-ghost use Rattle.aj_replay.specs.Answers.{Answer, Gives, Fails, Blocked, Short, Deep, GoesOn, Returns, ended_value, goes_on, next_after};
+ghost use Rattle.aj_replay.specs.Plain.{plain_thread, plain_of};
+ghost use Rattle.aj_replay.specs.Answers.{Gives, Fails, Blocked, Short, Deep, GoesOn, Returns, ended_value, goes_on, next_after};
 ghost use Rattle.aj_replay.specs.Evaluation.{most_number, most_depth, unless_full, written, write_field, start_run, start_on, take_lock, give_lock, locked, synchronized, inner, lower_of, result_of, asked_body};
-ghost use Rattle.aj_examples.specs.Seen.{here, there, four_fields, seven, frame_with};
+ghost use Rattle.aj_examples.specs.Seen.{here, there, four_fields, seven};
 ghost use Rattle.aj_examples.specs.Insides.{called, with_threads};
 ghost use Rattle.aj_examples.specs.Fields.{path};
 ghost use Rattle.aj_examples.specs.Small.{one, two};

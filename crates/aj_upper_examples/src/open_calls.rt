@@ -1,5 +1,5 @@
 //! The open order of a schedule: which units commit, and where the others stand.
-ghost use Rattle.std.specs.Prelude.{◌≡◌, true, false, List, [], ◌∷◌, map};
+ghost use Rattle.std.specs.Prelude.{◌≡◌, true, false, [], ◌∷◌, map};
 ghost use Rattle.aj_state.specs.declared.value.StepKind.TheVariants.{Both, Right, Left, Other};
 ghost use Rattle.aj_steps.specs.Units.{units, schedule_of};
 ghost use Rattle.aj_open.specs.OpenOrder.{commits, is_uncommitted, thread_of, placed_by_thread, by_thread, open_units};

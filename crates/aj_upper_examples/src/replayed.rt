@@ -1,8 +1,8 @@
 //! Which call a thread's next step begins, and what is left of it on the operands.
-ghost use Rattle.std.specs.Prelude.{◌≡◌, pos, true, false, List, [], ◌∷◌, map, Some, None};
+ghost use Rattle.std.specs.Prelude.{◌≡◌, pos, true, false, [], ◌∷◌, map, Some, None};
 ghost use Rattle.aj_state.specs.declared.value.Value.TheVariants.{Int, Ref};
 ghost use Rattle.aj_state.specs.States.{Ready, Running, Done};
-ghost use Rattle.aj_state.specs.Work.{Act, Call, Ret};
+ghost use Rattle.aj_state.specs.Work.{Call, Ret};
 ghost use Rattle.aj_replay.specs.Calls.{asked_target, asked_on, asked_call, asked_act, asked_next, asked_by, result_in, depth};
 ghost use Rattle.aj_examples.specs.Seen.{here, four_fields, two_parameters, seven, frame_with};
 ghost use Rattle.aj_upper_examples.specs.Plain.{quiet, asks, two_operands, calling};

@@ -1,8 +1,8 @@
 //! Walks through bodies by levels of locks: what they come to, under which level and with which locks; and circles of threads.
-ghost use Rattle.std.specs.Prelude.{◌≡◌, true, false, List, [], ◌∷◌, map, Some, None};
+ghost use Rattle.std.specs.Prelude.{◌≡◌, true, false, [], ◌∷◌, map, Some, None};
 ghost use Rattle.aj_core.specs.declared.types.CoreOp.TheVariants.{Add};
 ghost use Rattle.aj_core.specs.declared.types.CoreType.TheVariants as type;
-ghost use Rattle.aj_core.specs.Core.{IntE, NullE, ThisE, VarE, NotE, NegE, BinaryE, AndE, OrE, GetE, CallE, NewE, no_exprs, and_expr};
+ghost use Rattle.aj_core.specs.Core.{NullE, ThisE, VarE, NotE, NegE, BinaryE, AndE, OrE, GetE, CallE, NewE, no_exprs, and_expr};
 ghost use Rattle.aj_core.specs.Core.{EmptyS, BlockS, LocalS, SetVarS, SetFieldS, DoS, IfS, WhileS, SyncS, ReturnS, PrintS, StartS, no_stmts, and_stmt};
 ghost use Rattle.aj_core.specs.Examples.{this_path, plain_method};
 ghost use Rattle.aj_levels.specs.SlotTypes.{local_types, slot_types, result_of, taken_by_method, taken_by_new, type_of, top_type, under_types, taken_types, dropped_types};
@@ -10,8 +10,8 @@ ghost use Rattle.aj_levels.specs.Walks.{level_in, class_in, last_type, lock_clas
 ghost use Rattle.aj_levels.specs.Contexts.{Context, IsBadAt};
 ghost use Rattle.aj_levels.specs.Circles.{Circle};
 ghost use Rattle.aj_examples.specs.Bodies.{nothing_held, this_held, one_path};
-ghost use Rattle.aj_examples.specs.Small.{one, two};
-ghost use Rattle.aj_upper_examples.specs.Walked.{buf, other, buffers, to_path, from_path, of_buffers, all_one, no_levels, Calls, Takes, seen, length_call, run_call, sees_length, sees_run, take_this, held_in_append, each_waits};
+ghost use Rattle.aj_examples.specs.Small.{one};
+ghost use Rattle.aj_upper_examples.specs.Walked.{buf, other, buffers, to_path, of_buffers, all_one, no_levels, Calls, Takes, seen, length_call, run_call, sees_length, sees_run, take_this, held_in_append, each_waits};
 
 /// The types of slots: `this`, the parameters, and the locals in order; and of what stands on the operands.
 pub fn which_types_slots_have()

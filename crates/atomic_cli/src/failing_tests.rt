@@ -5,7 +5,6 @@ use crate::tests::{add_file, words_of};
 use aj_commands::run;
 use aj_edge::{MemFolder, MemSink, NeverFailsFolder, NeverFailsSink};
 use std::alloc::Global;
-use std::process::Abort;
 use std::test::Fail;
 
 /// A cell, workers that raise it, and a `main` that starts two of them.

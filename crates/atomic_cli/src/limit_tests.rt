@@ -3,7 +3,6 @@
 use crate::schedule_tests::expect as expect_input;
 use crate::tests::{LOCKED, expect, numbered, with_body};
 use std::alloc::Global;
-use std::process::Abort;
 use std::test::Fail;
 
 const ENDLESS: &str = "class Main { void main() { while (true) { } } }";

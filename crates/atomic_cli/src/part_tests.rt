@@ -5,11 +5,10 @@ use crate::tests::{add_file, answer_over};
 use aj_algebra::{Algebra, Basic};
 use aj_cond::{Tree, Trees, tree_text};
 use aj_lexer::lex;
-use aj_paths::{FieldId, MethodId, Path, under_call};
+use aj_paths::{MethodId, Path, under_call};
 use aj_state::{Address, Value};
 use aj_threads::{Entered, ThreadCell};
 use std::alloc::Global;
-use std::process::Abort;
 use std::test::Fail;
 
 /// A thread that has just begun a method with one slot.

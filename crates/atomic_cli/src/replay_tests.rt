@@ -10,7 +10,6 @@ use aj_paths::MethodId;
 use aj_replay::{EvalEnd, Plain, PlainCall, evaluate};
 use aj_state::{Address, Fault, Value};
 use std::alloc::Global;
-use std::process::Abort;
 use std::test::Fail;
 
 /// A method that is called twice, with what it gives.

@@ -1,5 +1,4 @@
 use Rattle.std.proofs.Common.{map, sym, ◌∙◌}
-use Rattle.std.proofs.lemmas.Bool.{not-true}
 use Rattle.aj_syntax.specs.Views.{member_of}
 use Rattle.aj_class_rules.specs.Families.{members_along, tree_of}
 use Rattle.aj_class_rules.proofs.OwnLemmas.{fields_apart}

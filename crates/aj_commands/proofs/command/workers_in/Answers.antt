@@ -1,5 +1,5 @@
 -- A word that is no number of workers is the decimal digits of none.
-use Rattle.std.proofs.Common.{◌≡◌, ◌<◌, ◌≤◌, ◌^◌, ◌∙◌, ℕ, decimal, Result, Ok, Err, true, false, not, sym, ap, arith}
+use Rattle.std.proofs.Common.{◌≡◌, ◌∙◌, decimal, true, false, not, sym, ap, arith}
 use Rattle.std.proofs.lemmas.Fmt.{parse-decimal}
 use Rattle.std.proofs.lemmas.Slice.Eq.{bytes_eq-Decides}
 use Rattle.aj_commands.proofs.command.workers_in.Goals as goal

@@ -1,4 +1,4 @@
-use Rattle.std.proofs.Common.{◌<◌, ◌++◌, length, ◌∙◌, arith}
+use Rattle.std.proofs.Common.{◌<◌, ◌++◌, length, arith}
 use Rattle.std.specs.List.{range_with_len}
 use Rattle.aj_classes.specs.Views.{class_data}
 use Rattle.aj_elaborate.proofs.Inheriting.{own_step}

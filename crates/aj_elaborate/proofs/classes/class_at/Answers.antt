@@ -1,7 +1,6 @@
-use Rattle.std.proofs.Common.{◌≡◌, ◌<◌, Some, None, [], length, ap, ap₂, sym, ◌∙◌, slice_get, option_map}
+use Rattle.std.proofs.Common.{◌≡◌, Some, [], ap, ap₂, sym, ◌∙◌, option_map}
 use Rattle.std.proofs.lemmas.Result.{IfOk-weaker}
 use Rattle.aj_classes.specs.Views.{class_data, table_data}
-use Rattle.aj_core.specs.declared.program.CoreClass.{CoreClass}
 use Rattle.aj_core.specs.Views as core
 use Rattle.aj_elaborate.specs.Classes.{class_core, class_of_number}
 use Rattle.aj_elaborate.specs.Merged.{class_over}

@@ -1,4 +1,4 @@
-use Rattle.std.proofs.Common.{◌≡◌, ◌<◌, Some, length, arith, ap, sym, ◌∙◌, slice_get, option_map}
+use Rattle.std.proofs.Common.{length, arith, ap, sym, ◌∙◌, slice_get, option_map}
 use Rattle.std.proofs.lemmas.Option.{same_Some, slice_get_within}
 use Rattle.aj_classes.specs.Table.{above_in_table}
 use Rattle.aj_classes.specs.Views.{table_data}

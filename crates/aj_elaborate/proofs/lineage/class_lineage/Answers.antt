@@ -1,4 +1,4 @@
-use Rattle.std.proofs.Common.{◌≡◌, ◌+◌, Some, codes, length, sym, ap, ◌∙◌, slice_get, unwrap_or}
+use Rattle.std.proofs.Common.{◌+◌, sym, ap, ◌∙◌, slice_get, unwrap_or}
 use Rattle.std.specs.Option.{option_or}
 use Rattle.std.proofs.lemmas.Option.{same_Some}
 use Rattle.aj_classes.specs.Views.{table_data}

@@ -1,4 +1,4 @@
-use Rattle.std.proofs.Common.{◌≡◌, ◌<◌, Some, length, arith, ap, sym, subst, ◌∙◌, slice_get}
+use Rattle.std.proofs.Common.{Some, length, arith, ap, ◌∙◌, slice_get}
 use Rattle.aj_classes.specs.Table.{above_in_table}
 use Rattle.aj_classes.specs.Views.{table_data}
 use Rattle.aj_elaborate.specs.declared.lineage.Lineage.{Lineage}

@@ -1,4 +1,4 @@
-use Rattle.std.proofs.Common.{◌≡◌, ◌<◌, ◌-◌, Some, [], ◌∷◌, length, refl, ap, sym, subst, ◌∙◌, arith, length-append}
+use Rattle.std.proofs.Common.{◌-◌, Some, length, refl, sym, subst, ◌∙◌}
 use Rattle.aj_classes.specs.Table.{above_in_table}
 use Rattle.aj_classes.specs.Views.{table_data}
 use Rattle.aj_elaborate.specs.Order.{Climbs, is_marked}

@@ -1,4 +1,4 @@
-use Rattle.std.proofs.Common.{length, reverse, ap, ◌∙◌, ◌++◌, subst}
+use Rattle.std.proofs.Common.{length, reverse, ap, ◌∙◌, subst}
 use Rattle.std.proofs.lemmas.Result.{on_ok_weaker}
 use Rattle.aj_classes.specs.Table.{above_in_table}
 use Rattle.aj_classes.specs.Views.{table_data}

@@ -1,4 +1,4 @@
-use Rattle.std.proofs.Common.{◌≡◌, ℕ, suc, ◌+◌, ◌-◌, ◌∷◌, [], ◌++◌, replicate, refl, ap, sym, subst, ◌∙◌, append_assoc, append-nil, arith}
+use Rattle.std.proofs.Common.{◌+◌, ◌-◌, ◌++◌, refl, ap, ◌∙◌, append_assoc, arith}
 use Rattle.aj_generate.specs.Made.{handed_on, handed_back, called}
 use Rattle.aj_generate.proofs.Growing.{one_less}
 use Rattle.aj_generate.proofs.making.put_calls.Goals as goal

@@ -1,4 +1,4 @@
-use Rattle.std.proofs.Common.{◌≡◌, ℕ, suc, ◌+◌, ◌-◌, ◌∷◌, [], ◌++◌, replicate, refl, ap, sym, ◌∙◌, append_assoc, arith, string_bytes}
+use Rattle.std.proofs.Common.{◌+◌, ◌-◌, ◌∷◌, [], ◌++◌, refl, arith}
 use Rattle.aj_generate.specs.Made.{each_once}
 use Rattle.aj_generate.proofs.Growing.{one_on}
 use Rattle.aj_generate.proofs.making.put_each.Goals as goal

@@ -1,4 +1,4 @@
-use Rattle.std.proofs.Common.{◌≡◌, ℕ, ◌+◌, ◌≤◌, ◌++◌, [], List, replicate, refl, ap, sym, subst, ◌∙◌, append-nil, arith}
+use Rattle.std.proofs.Common.{[], replicate, sym, subst, append-nil, arith}
 use Rattle.aj_generate.specs.Rounds.{AreRounds}
 use Rattle.aj_generate.specs.Made.{several_rounds}
 use Rattle.aj_generate.proofs.Several.{several, alone, nobody}

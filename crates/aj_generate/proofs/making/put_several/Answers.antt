@@ -1,5 +1,5 @@
-use Rattle.std.proofs.Common.{◌≡◌, ℕ, suc, ◌+◌, ◌-◌, ◌<◌, ◌∷◌, [], ◌++◌, List, replicate, refl, ap, sym, subst, ◌∙◌, append_assoc, append-nil, arith}
-use Rattle.aj_generate.specs.Made.{each_once, each_times, handed_on, called, several_rounds}
+use Rattle.std.proofs.Common.{◌≡◌, ℕ, ◌+◌, ◌-◌, ◌++◌, List, replicate, refl, ap, sym, ◌∙◌, append_assoc, append-nil, arith}
+use Rattle.aj_generate.specs.Made.{each_once, each_times, handed_on, called}
 use Rattle.aj_generate.proofs.Growing.{one_less}
 use Rattle.aj_generate.proofs.making.put_several.Goals as goal
 

@@ -1,5 +1,5 @@
-use Rattle.std.proofs.Common.{◌≡◌, ◌≤◌, ◌+◌, ◌-◌, ◌++◌, string_bytes, replicate}
-use Rattle.aj_generate.specs.Made.{by_turns, each_once, each_times, handed_on, called}
+use Rattle.std.proofs.Common.{◌≡◌, ◌+◌, ◌-◌, ◌++◌}
+use Rattle.aj_generate.specs.Made.{each_times}
 use Rattle.aj_generate.proofs.making.put_several.Given as goal
 
 abbrev pub invariant-loop-round : goal.invariant-loop-round

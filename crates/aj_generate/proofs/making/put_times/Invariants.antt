@@ -1,4 +1,4 @@
-use Rattle.std.proofs.Common.{◌≡◌, ◌≤◌, ◌+◌, ◌-◌, ◌++◌, string_bytes, replicate}
+use Rattle.std.proofs.Common.{◌≡◌, ◌+◌, ◌-◌, ◌++◌, replicate}
 use Rattle.aj_generate.proofs.making.put_times.Given as goal
 
 abbrev pub invariant-loop-entry : goal.invariant-loop-entry

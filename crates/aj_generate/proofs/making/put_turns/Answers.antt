@@ -1,4 +1,4 @@
-use Rattle.std.proofs.Common.{◌≡◌, ℕ, suc, ◌+◌, ◌-◌, ◌∷◌, [], ◌++◌, replicate, refl, ap, sym, ◌∙◌, append_assoc, arith, string_bytes}
+use Rattle.std.proofs.Common.{◌+◌, ◌-◌, ◌∷◌, [], ◌++◌, refl, ap, ◌∙◌, append_assoc, arith}
 use Rattle.aj_generate.specs.Made.{by_turns}
 use Rattle.aj_generate.proofs.Growing.{one_less}
 use Rattle.aj_generate.proofs.making.put_turns.Goals as goal

@@ -1,5 +1,5 @@
-use Rattle.std.proofs.Common.{◌≡◌, ◌≤◌, ◌+◌, ◌-◌, ◌++◌, string_bytes, replicate}
-use Rattle.aj_generate.specs.Made.{by_turns, each_once, each_times, handed_on, called}
+use Rattle.std.proofs.Common.{◌≡◌, ◌+◌, ◌-◌, ◌++◌}
+use Rattle.aj_generate.specs.Made.{by_turns}
 use Rattle.aj_generate.proofs.making.put_turns.Given as goal
 
 abbrev pub invariant-loop-turn : goal.invariant-loop-turn

@@ -1,4 +1,4 @@
-use Rattle.std.proofs.Common.{◌≡◌, ℕ, suc, ◌+◌, ◌-◌, ◌∷◌, [], ◌++◌, replicate, refl, ap, sym, ◌∙◌, append_assoc, arith, string_bytes}
+use Rattle.std.proofs.Common.{◌+◌, ◌-◌, ◌++◌, refl, arith, string_bytes}
 use Rattle.aj_generate.specs.Sources.{repeated}
 use Rattle.aj_generate.proofs.Growing.{one_less}
 use Rattle.aj_generate.proofs.making.write_times.Goals as goal

@@ -1,4 +1,4 @@
-use Rattle.std.proofs.Common.{◌≡◌, ◌≤◌, ◌+◌, ◌-◌, ◌++◌, string_bytes, replicate}
+use Rattle.std.proofs.Common.{◌≡◌, ◌+◌, ◌-◌, ◌++◌, string_bytes}
 use Rattle.aj_generate.specs.Sources.{repeated}
 use Rattle.aj_generate.proofs.making.write_times.Given as goal
 

@@ -1,7 +1,7 @@
 use Rattle.std.proofs.Common.{◌++◌, codes, string_bytes, arith}
+use Rattle.aj_lemmas.proofs.Texts.{kept_more}
 use Rattle.aj_printer.specs.Layout.{indent}
 use Rattle.aj_printer.proofs.Indents.{indent_step}
-use Rattle.aj_printer.proofs.Kept.{kept_more}
 use Rattle.aj_printer.proofs.page.write_indent.Goals as goal
 
 pub loop-level-preserved : goal.loop-level-preserved

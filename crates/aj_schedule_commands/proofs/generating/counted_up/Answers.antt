@@ -1,5 +1,5 @@
 -- The exits of `generate`, and what is written.
-use Rattle.std.proofs.Common.{length, ap, refl, sym, subst, ◌∙◌, arith}
+use Rattle.std.proofs.Common.{ap, ◌∙◌, arith}
 use Rattle.std.proofs.lemmas.Result.{err_from_is_err_and}
 use Rattle.aj_core.specs.Views.{program_of}
 use Rattle.aj_generate.specs.Sources.{generated_source}

@@ -1,5 +1,5 @@
 -- The lines of the calls as plain data.
-use Rattle.std.proofs.Common.{◌++◌, map, flat_map, sym, ap, ◌∙◌}
+use Rattle.std.proofs.Common.{◌++◌, flat_map, sym, ap, ◌∙◌}
 use Rattle.std.proofs.lemmas.List.Folds.{flat_map-map}
 use Rattle.aj_classes.specs.Views.{table_data}
 use Rattle.aj_replay.specs.Views.{told_in}

@@ -1,4 +1,4 @@
-use Rattle.std.proofs.Common.{◌≡◌, Bool, true, false, refl, [], ◌∷◌}
+use Rattle.std.proofs.Common.{◌≡◌, Bool, true, false, refl}
 use Rattle.std.specs.Prelude.{if◌then◌else◌}
 use Rattle.aj_algebra.specs.declared.basic.Basic.TheVariants.{Const, Atomic}
 use Rattle.aj_core.specs.Core.{EmptyS}

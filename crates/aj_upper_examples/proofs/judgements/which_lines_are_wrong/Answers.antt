@@ -1,12 +1,11 @@
-use Rattle.std.proofs.Common.{◌≡◌, ℕ, zero, suc, true, false, refl, arith, inl, inr, [], ◌∷◌}
-use Rattle.std.specs.Prelude.{slice_get}
+use Rattle.std.proofs.Common.{◌≡◌, zero, suc, true, false, refl, arith, inl, inr, [], ◌∷◌}
 use Rattle.aj_algebra.specs.HeldPaths.{Held}
 use Rattle.aj_core.specs.Core.{EmptyS}
 use Rattle.aj_core.specs.Dispatch.{Overrides}
 use Rattle.aj_rules.specs.Rules.{IsPart}
 use Rattle.aj_core.specs.Examples.{plain_method}
 use Rattle.aj_book_rules.specs.Conclusions.{table_value}
-use Rattle.aj_book_rules.specs.Parts.{StmtP, places, Fits}
+use Rattle.aj_book_rules.specs.Parts.{StmtP, places}
 use Rattle.aj_book_check.specs.Good.{book_assignment, IsStep}
 use Rattle.aj_book_check.specs.Faults.{AreShaped}
 use Rattle.aj_examples.specs.Bodies.{nothing_held, this_held}

@@ -1,6 +1,5 @@
-use Rattle.std.proofs.Common.{refl, arith, [], ◌∷◌, take}
+use Rattle.std.proofs.Common.{refl, [], ◌∷◌}
 use Rattle.aj_algebra.specs.declared.basic.Basic.TheVariants.{Const, Mover}
-use Rattle.aj_blame.specs.Certificates.{is_placed, is_justified}
 use Rattle.aj_blame.specs.Wrongs.{placed_at, justified_at}
 use Rattle.aj_examples.specs.Bodies.{one_path}
 use Rattle.aj_upper_examples.specs.Twice.{twice, of_twice, line, inc_atomic, inc_mover, twice_compound}
