@@ -109,7 +109,7 @@ impl<'p, 'a> Family<'p, 'a> {
     }
 
     /// Whether a class itself declares a field of this name.
-    fn declares(&self, number: usize, text: &str) -> bool
+    fn declares_field(&self, number: usize, text: &str) -> bool
         requires { IsFamily self.now }
         ensures { result ≡ has_text (texts_of (field_names (members_at (tree_of self.now) number))) text.now }
     {
@@ -120,12 +120,12 @@ impl<'p, 'a> Family<'p, 'a> {
     }
 
     /// Whether one of these classes declares a field of this name.
-    pub(crate) fn declare(&self, order: &[usize], text: &str) -> bool
+    pub(crate) fn any_declares_field(&self, order: &[usize], text: &str) -> bool
         requires { IsFamily self.now }
         ensures { result ≡ has_text (texts_of (field_names (members_along (tree_of self.now) order.now))) text.now }
     {
         for number in order {
-            if self.declares(*number, text) {
+            if self.declares_field(*number, text) {
                 return true;
             }
         }

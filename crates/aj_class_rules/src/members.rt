@@ -95,7 +95,7 @@ fn repeat_fields(family: &Family, order: &[usize], members: &[Member]) -> bool
 {
     for member in members {
         if let Member::Field { name, .. } = member {
-            if family.declare(order, name.text) {
+            if family.any_declares_field(order, name.text) {
                 return true;
             }
         }

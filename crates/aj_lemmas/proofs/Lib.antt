@@ -3,3 +3,4 @@ pub mod Lists
 pub mod Options
 pub mod Numbers
 pub mod Digits
+pub mod Texts

@@ -2,6 +2,7 @@
 ghost use Rattle.std.specs.Prelude.{◌≡◌, ◌<◌, ◌+◌, ◌-◌, ◌==◌, ◌⊎◌, ◌++◌, ℕ, suc, Bool, true, false, List, [], ◌∷◌, length, take, drop, get_or, Contains, Option, Some, None, option_and_then, slice_get, if◌then◌else◌};
 ghost use Rattle.std.specs.List.{list_all};
 ghost use Rattle.std.specs.Char.{is_ascii_digit, digit_value};
+ghost use Rattle.aj_lemmas.specs.Texts.{KeepsText};
 
 /// A place of two lists, one after the other, is one of the first or one of the second; a list from a place on is the item
 /// there and those after it, and up to behind a place those before it and the item there.
@@ -38,4 +39,10 @@ pub fn number_laws()
 /// A digit is worth how far it stands from `0`.
 pub fn digit_laws()
     ensures worth { (d : ℕ) → is_ascii_digit d ≡ true → digit_value d ≡ d - 48 }
+{}
+
+/// A text is kept where nothing or more bytes stand behind it.
+pub fn text_laws()
+    ensures itself { (old new : List ℕ) → new ≡ old → KeepsText old new }
+    ensures more { (old mid new more : List ℕ) → KeepsText old mid → new ≡ mid ++ more → KeepsText old new }
 {}

@@ -2,6 +2,7 @@
 #![tactic(auto)]
 
 mod calls;
+mod rearranged;
 mod repeats;
 mod run;
 mod run_end;
@@ -9,8 +10,9 @@ mod step;
 mod tables;
 mod units;
 
+pub use rearranged::Rearranged;
 pub use repeats::append;
-pub use run::{make_step, run_noted};
+pub use run::{NotedRun, make_step, run_from_start};
 pub use run_end::RunEnd;
 pub use step::Step;
 pub use tables::{put, value_at};

@@ -1,6 +1,9 @@
 //! Running a schedule, with a note of each step.
-ghost use Rattle.std.specs.Prelude.{◌≡◌, ◌+◌, ◌<◌, ◌≤◌, ℕ, nat_lt, length, slice_get, IfOk, IfErr, OnOk, OnErr};
+ghost use Rattle.std.specs.Prelude.{◌≡◌, ◌+◌, ◌<◌, ◌≤◌, ℕ, Some, nat_lt, length, slice_get, IfOk, IfErr, OnOk};
+ghost use Rattle.aj_core.specs.Views.{program_of};
 ghost use Rattle.aj_state.specs.States.{State, initial};
+ghost use Rattle.aj_compile.specs.IsCode.{IsCodeOf};
+ghost use Rattle.aj_steps.specs.Run.{run};
 ghost use Rattle.aj_steps.specs.Step.{outcome};
 ghost use Rattle.aj_machine.specs.Reasons.{IsReason};
 ghost use Rattle.aj_machine.specs.Standing.{program_run, StandsFor};
@@ -13,10 +16,19 @@ use crate::calls::{Frames, frames_at, note_calls};
 use crate::run_end::{RunEnd, refusal};
 use crate::step::Step;
 use crate::tables::value_at;
+use aj_compile::CodeTable;
+use aj_core::CoreProgram;
 use aj_deeds::StepEnd;
 use aj_machine::Machine;
 use aj_state::StepKind;
 use std::alloc::{AllocError as NoMemory, Global};
+
+/// The run of a schedule: a note of each of its steps, and the machine that made them, at its end.
+#[derive(Drop)]
+pub struct NotedRun<'p> {
+    pub steps: Vec<Step>,
+    pub machine: Machine<'p>,
+}
 
 /// Notes the step of this kind that a thread made, whose frames were seen so before it.
 fn note_step(
@@ -64,7 +76,7 @@ pub fn make_step(
 }
 
 /// Runs a schedule on a machine at its start.
-pub fn run_noted(
+fn run_noted(
     alloc: Global,
     machine: &mut Machine<'_>,
     schedule: &[u32],
@@ -86,4 +98,24 @@ pub fn run_noted(
         }
     }
     Ok(steps)
+}
+
+/// Runs a schedule of a program from its start. The entries of a stop are counted from 1.
+pub fn run_from_start<'p>(
+    alloc: Global,
+    program: &'p CoreProgram,
+    code: &'p CodeTable,
+    schedule: &[u32],
+) -> Result<NotedRun<'p>, RunEnd>
+    requires code { IsCodeOf (program_of program.now) code.now.code.items code.now.entry.items code.now.room.items }
+    requires size { length schedule.now ≤ 200000 }
+    ensures ran { IfOk result (λ noted. (calls : ℕ → ℕ) × HaveRun noted.machine schedule.now noted.steps.items calls) }
+    ensures length { IfOk result (λ noted. length noted.steps.items ≡ length schedule.now) }
+    ensures stands { IfOk result (λ noted. (q : State) → run (program_of program.now) schedule.now ≡ Some q → StandsFor noted.machine q) }
+    ensures program { IfOk result (λ noted. noted.machine.program ≡ program.now) }
+    ensures refused { IfErr result (IsNoRun (program_of program.now) schedule.now) }
+{
+    let mut machine = Machine::start(alloc, program, code)?;
+    let steps = run_noted(alloc, &mut machine, schedule)?;
+    Ok(NotedRun { steps, machine })
 }

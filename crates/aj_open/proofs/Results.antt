@@ -1,5 +1,5 @@
 -- What comes of a schedule is the answer, or memory was wanting.
-use Rattle.std.proofs.Common.{◌≡◌, ◌⊎◌, inl, inr, ℕ, List, Some, None, refl, sym, ap, subst, ◌∙◌}
+use Rattle.std.proofs.Common.{◌≡◌, ◌⊎◌, inl, inr, ℕ, List, Some, refl, sym, ap, subst, ◌∙◌}
 use Rattle.std.specs.Prelude.{Result, Ok, Err, IfOk, IfErr, MatchResult}
 use Rattle.aj_core.specs.Core.{Program}
 use Rattle.aj_core.specs.Typed.{IsTyped}
@@ -15,9 +15,10 @@ use Rattle.aj_noted.specs.declared.step.Step.{Step}
 use Rattle.aj_noted.specs.Entries.{entries_of}
 use Rattle.aj_noted.specs.Made.{HaveRun}
 use Rattle.aj_noted.proofs.Endings.{runs_not_stops, stops_once}
-use Rattle.aj_open.specs.declared.open_end.OpenEnd.{OpenEnd}
-use Rattle.aj_open.specs.declared.open_end.OpenEnd.TheVariants as ends
-use Rattle.aj_open.specs.Opened.{IsOpened, IsOpening, IsRefused}
+use Rattle.aj_noted.specs.declared.run_end.RunEnd.{RunEnd}
+use Rattle.aj_noted.specs.declared.run_end.RunEnd.TheVariants as ends
+use Rattle.aj_noted.specs.NoRun.{IsNoRun}
+use Rattle.aj_open.specs.Opened.{IsOpened, IsOpening}
 use Rattle.aj_open.specs.OpenOrder.{open_units, open_order}
 use Rattle.aj_open.specs.Whole.{IsGathered}
 use Rattle.aj_open.proofs.Gathered.{gathered, closed_order}
@@ -37,17 +38,17 @@ finished P typed accepted s m steps calls is done r ordered =
     }
 
 module _ (P : Program) (s : List ℕ) {T : Type 0} (items : T → List ℕ) where
-  opens : (result : Result T OpenEnd) (q : State) → run P s ≡ Some q → IfOk result (λ r. IsOpened P s (items r)) → IfErr result (IsRefused P s) → MatchResult result (λ r. IsOpened P s (items r)) (λ e. e ≡ ends.NoMemory)
+  opens : (result : Result T RunEnd) (q : State) → run P s ≡ Some q → IfOk result (λ r. IsOpened P s (items r)) → IfErr result (IsNoRun P s) → MatchResult result (λ r. IsOpened P s (items r)) (λ e. e ≡ ends.NoMemory)
   opens (Ok r) q ran good refused = good
   opens (Err (ends.Stopped stopped)) q ran good refused = absurd (runs_not_stops P s q stopped ran refused)
   opens (Err ends.NoMemory) q ran good refused = refl
 
-  stops : (result : Result T OpenEnd) (stopped : Stopped) → IsStopped P (initial P) s stopped → IfOk result (λ r. IsOpened P s (items r)) → IfErr result (IsRefused P s) → MatchResult result (λ _. ⊥) (λ e. (e ≡ ends.Stopped stopped) ⊎ (e ≡ ends.NoMemory))
+  stops : (result : Result T RunEnd) (stopped : Stopped) → IsStopped P (initial P) s stopped → IfOk result (λ r. IsOpened P s (items r)) → IfErr result (IsNoRun P s) → MatchResult result (λ _. ⊥) (λ e. (e ≡ ends.Stopped stopped) ⊎ (e ≡ ends.NoMemory))
   stops (Ok r) stopped is good refused = runs_not_stops P s good.end stopped good.ran is
   stops (Err (ends.Stopped other)) stopped is good refused = inl (ap ends.Stopped (stops_once P s other stopped refused is))
   stops (Err ends.NoMemory) stopped is good refused = inr refl
 
-  pub opening : (result : Result T OpenEnd) → IfOk result (λ r. IsOpened P s (items r)) → IfErr result (IsRefused P s) → IsOpening P s result items
+  pub opening : (result : Result T RunEnd) → IfOk result (λ r. IsOpened P s (items r)) → IfErr result (IsNoRun P s) → IsOpening P s result items
   opening result good refused = record {
     opened = good;
     refused = refused;
@@ -61,5 +62,5 @@ module _ (P : Program) (s : List ℕ) {T : Type 0} (items : T → List ℕ) wher
       let good = subst (IsOpened P s) (sym same) told.opened in
       record { opened = good; refused = told.refused; opens = λ q ran. good; stops = told.stops }
 
-  pub refused_alone : {U : Type 0} (others : U → List ℕ) (e : OpenEnd) → IsOpening P s (Err e) items → IsOpening P s (Err e) others
+  pub refused_alone : {U : Type 0} (others : U → List ℕ) (e : RunEnd) → IsOpening P s (Err e) items → IsOpening P s (Err e) others
   refused_alone others e told = record { opened = told.opened; refused = told.refused; opens = told.opens; stops = told.stops }

@@ -6,8 +6,9 @@ use Rattle.aj_steps.specs.Run.{run, open_thread}
 use Rattle.aj_steps.specs.Units.{written_order}
 use Rattle.aj_machine.specs.declared.machine.Stopped.{Stopped}
 use Rattle.aj_machine.specs.Standing.{IsStopped}
-use Rattle.aj_open.specs.declared.open_end.OpenEnd.{OpenEnd}
-use Rattle.aj_open.specs.declared.open_end.OpenEnd.TheVariants as ends
+use Rattle.aj_noted.specs.declared.run_end.RunEnd.{RunEnd}
+use Rattle.aj_noted.specs.declared.run_end.RunEnd.TheVariants as ends
+use Rattle.aj_noted.specs.NoRun.{IsNoRun}
 use Rattle.aj_open.specs.Whole.{IsGathered}
 use Rattle.aj_open.specs.OpenOrder.{open_order}
 
@@ -20,16 +21,11 @@ pub record IsOpened (P : Program) (s r : List ℕ) : Type 0 where
   pub gathered : IsGathered P s r end
   pub closed : open_thread P end ≡ None → r ≡ written_order P s
 
--- when each refusal comes; of want of memory nothing is said
-abbrev pub IsRefused : Program → List ℕ → OpenEnd → Type 0
-IsRefused P s (ends.Stopped stopped) = IsStopped P (initial P) s stopped
-IsRefused P s ends.NoMemory = Unit {0}
-
 -- What comes of a schedule that is to be put in its open order, where `order` tells the schedule that an answer has: an answer has
 -- the open order, and each refusal its reason. A schedule that runs is put in its open order, and one that stops is refused where
 -- it stops, each time unless memory was wanting.
-pub record IsOpening {T : Type 0} (P : Program) (s : List ℕ) (result : Result T OpenEnd) (order : T → List ℕ) : Type 0 where
+pub record IsOpening {T : Type 0} (P : Program) (s : List ℕ) (result : Result T RunEnd) (order : T → List ℕ) : Type 0 where
   pub opened : IfOk result (λ r. IsOpened P s (order r))
-  pub refused : IfErr result (IsRefused P s)
+  pub refused : IfErr result (IsNoRun P s)
   pub opens : (q : State) → run P s ≡ Some q → MatchResult result (λ r. IsOpened P s (order r)) (λ e. e ≡ ends.NoMemory)
   pub stops : (stopped : Stopped) → IsStopped P (initial P) s stopped → MatchResult result (λ _. ⊥) (λ e. (e ≡ ends.Stopped stopped) ⊎ (e ≡ ends.NoMemory))

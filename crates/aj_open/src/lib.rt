@@ -2,10 +2,8 @@
 #![tactic(auto)]
 
 mod laws;
-mod open_end;
 mod opening;
 mod spreading;
 
 pub use laws::{accepted_programs_gather, open_order_runs};
-pub use open_end::OpenEnd;
-pub use opening::{InOrder, opened, opened_with_machine, serialise_open};
+pub use opening::{opened, opened_with_machine, serialise_open};

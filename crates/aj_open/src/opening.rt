@@ -1,50 +1,21 @@
 //! Putting a schedule in its open order.
-ghost use Rattle.std.specs.Prelude.{◌≡◌, ◌≤◌, ℕ, length, Some, IfOk, IfErr};
+ghost use Rattle.std.specs.Prelude.{◌≡◌, ◌≤◌, length, Some, IfOk, IfErr};
 ghost use Rattle.aj_core.specs.Views.{program_of};
 ghost use Rattle.aj_core.specs.Typed.{IsTyped};
 ghost use Rattle.aj_rules.specs.Rules.{IsAccepted};
-ghost use Rattle.aj_state.specs.States.{State, initial};
+ghost use Rattle.aj_state.specs.States.{State};
 ghost use Rattle.aj_compile.specs.IsCode.{IsCodeOf};
 ghost use Rattle.aj_steps.specs.Run.{run};
-ghost use Rattle.aj_machine.specs.Standing.{program_run, StandsFor};
-ghost use Rattle.aj_noted.specs.Made.{HaveRun};
-ghost use Rattle.aj_open.specs.Opened.{IsOpened, IsOpening, IsRefused};
+ghost use Rattle.aj_machine.specs.Standing.{StandsFor};
+ghost use Rattle.aj_noted.specs.NoRun.{IsNoRun};
+ghost use Rattle.aj_open.specs.Opened.{IsOpened, IsOpening};
 
-use crate::open_end::{OpenEnd, end_of};
 use crate::spreading::in_open_order;
 use aj_book_check::Checked;
 use aj_compile::CodeTable;
 use aj_core::CoreProgram;
-use aj_machine::Machine;
-use aj_noted::{Step, run_noted};
+use aj_noted::{Rearranged, RunEnd, run_from_start};
 use std::alloc::Global;
-
-/// A schedule in its open order, and the machine that ran it, at its end.
-#[derive(Drop)]
-pub struct InOrder<'p> {
-    pub order: Vec<u32>,
-    pub machine: Machine<'p>,
-}
-
-/// Runs a schedule on a machine at its start.
-fn run_steps(
-    alloc: Global,
-    machine: &mut Machine<'_>,
-    schedule: &[u32],
-) -> Result<Vec<Step>, OpenEnd>
-    requires stands { StandsFor machine.old (initial (program_run machine.old)) }
-    requires start { machine.old.made ≡ 0 }
-    requires size { length schedule.now ≤ 200000 }
-    ensures ran { IfOk result (λ steps. (calls : ℕ → ℕ) × HaveRun machine.new schedule.now steps.items calls) }
-    ensures length { IfOk result (λ steps. length steps.items ≡ length schedule.now) }
-    ensures refused { IfErr result (IsRefused (program_run machine.old) schedule.now) }
-    ensures program { machine.new.program ≡ machine.old.program }
-{
-    match run_noted(alloc, machine, schedule) {
-        Ok(steps) => Ok(steps),
-        Err(end) => Err(end_of(end)),
-    }
-}
 
 /// Runs a schedule, and puts it in its open order.
 fn run_in_order<'p>(
@@ -52,7 +23,7 @@ fn run_in_order<'p>(
     program: &'p CoreProgram,
     code: &'p CodeTable,
     schedule: &[u32],
-) -> Result<InOrder<'p>, OpenEnd>
+) -> Result<Rearranged<'p>, RunEnd>
     requires code { IsCodeOf (program_of program.now) code.now.code.items code.now.entry.items code.now.room.items }
     requires typed { IsTyped (program_of program.now) }
     requires accepted { IsAccepted (program_of program.now) }
@@ -60,12 +31,14 @@ fn run_in_order<'p>(
     ensures opened { IfOk result (λ r. IsOpened (program_of program.now) schedule.now r.order.items) }
     ensures stands { IfOk result (λ r. (q : State) → run (program_of program.now) schedule.now ≡ Some q → StandsFor r.machine q) }
     ensures program { IfOk result (λ r. r.machine.program ≡ program.now) }
-    ensures refused { IfErr result (IsRefused (program_of program.now) schedule.now) }
+    ensures refused { IfErr result (IsNoRun (program_of program.now) schedule.now) }
 {
-    let mut machine = Machine::start(alloc, program, code)?;
-    let steps = run_steps(alloc, &mut machine, schedule)?;
-    let order = in_open_order(alloc, &steps)?;
-    Ok(InOrder { order, machine })
+    let noted = run_from_start(alloc, program, code, schedule)?;
+    let order = in_open_order(alloc, &noted.steps)?;
+    Ok(Rearranged {
+        order,
+        machine: noted.machine,
+    })
 }
 
 /// The open order of a schedule of an accepted program, as `opened` gives it, with the machine that ran the schedule.
@@ -74,7 +47,7 @@ pub fn opened_with_machine<'p>(
     program: &'p CoreProgram,
     code: &'p CodeTable,
     schedule: &[u32],
-) -> Result<InOrder<'p>, OpenEnd>
+) -> Result<Rearranged<'p>, RunEnd>
     requires code { IsCodeOf (program_of program.now) code.now.code.items code.now.entry.items code.now.room.items }
     requires typed { IsTyped (program_of program.now) }
     requires accepted { IsAccepted (program_of program.now) }
@@ -93,7 +66,7 @@ pub fn opened(
     program: &CoreProgram,
     code: &CodeTable,
     schedule: &[u32],
-) -> Result<Vec<u32>, OpenEnd>
+) -> Result<Vec<u32>, RunEnd>
     requires code { IsCodeOf (program_of program.now) code.now.code.items code.now.entry.items code.now.room.items }
     requires typed { IsTyped (program_of program.now) }
     requires accepted { IsAccepted (program_of program.now) }
@@ -112,7 +85,7 @@ pub fn serialise_open(
     checked: &Checked,
     code: &CodeTable,
     schedule: &[u32],
-) -> Result<Vec<u32>, OpenEnd>
+) -> Result<Vec<u32>, RunEnd>
     requires code { IsCodeOf (program_of checked.now.0) code.now.code.items code.now.entry.items code.now.room.items }
     requires size { length schedule.now ≤ 200000 }
     ensures { IsOpening (program_of checked.now.0) schedule.now result (λ r. r.items) }

@@ -1,5 +1,6 @@
 -- Canonical text: how tokens are laid out in lines.
 use Rattle.std.specs.Prelude.{◌≡◌, ℕ, zero, suc, ◌+◌, ◌-◌, List, [], ◌∷◌, ◌++◌, codes, decimal}
+use Rattle.aj_lemmas.specs.Texts.{KeepsText}
 use Rattle.aj_lexer.specs.declared.tokens.Token.{Token}
 use Rattle.aj_lexer.specs.declared.tokens.TokenKind.TheVariants as K
 use Rattle.aj_printer.specs.declared.page.Lead.{Lead}
@@ -114,11 +115,6 @@ put page x = record {
 unfoldable pub writes : Page → List PlainToken → Page
 writes page [] = page
 writes page (x ∷ xs) = writes (put page x) xs
-
--- the text that was there, and maybe bytes behind it
-pub record KeepsText (old new : List ℕ) : Type 0 where
-  pub behind : List ℕ
-  pub whole : new ≡ old ++ behind
 
 -- the page with maybe bytes behind its text
 pub record KeepsPage (old new : Page) : Type 0 where

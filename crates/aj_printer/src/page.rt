@@ -1,7 +1,8 @@
 //! Lays out tokens in lines, one after another.
 
 ghost use Rattle.std.specs.Prelude.{◌≡◌, ◌+◌, ◌<◌, ◌^◌, [], ◌++◌, ◌≤◌, OnOk, OnErr, string_bytes, string_len};
-ghost use Rattle.aj_printer.specs.Layout.{Fixed, KeepsPage, KeepsText, Named, Numeral, Page, depth_after, gap, indent, lead_of, line_end, place_after, put};
+ghost use Rattle.aj_lemmas.specs.Texts.{KeepsText};
+ghost use Rattle.aj_printer.specs.Layout.{Fixed, KeepsPage, Named, Numeral, Page, depth_after, gap, indent, lead_of, line_end, place_after, put};
 ghost use Rattle.aj_printer.specs.declared.page.NextPlace.TheVariants as places;
 
 use aj_syntax::Terminal;
@@ -69,7 +70,7 @@ impl Printer {
     }
 
     /// Writes a terminal.
-    #[tactic(auto, unfolding(crate::specs::Layout::put), using(crate::proofs::Kept::kept_page, crate::proofs::Kept::kept_itself, crate::proofs::Kept::kept_more))]
+    #[tactic(auto, unfolding(crate::specs::Layout::put), using(crate::proofs::Kept::kept_page, aj_lemmas::proofs::Texts::kept_itself, aj_lemmas::proofs::Texts::kept_more))]
     pub fn terminal(&mut self, terminal: Terminal) -> Result<(), NoMemory>
         ensures put { OnOk result (self.new ≡ put self.old (Fixed terminal)) }
         ensures kept { OnErr result (KeepsPage self.old self.new) }
@@ -83,7 +84,7 @@ impl Printer {
     }
 
     /// Writes a name.
-    #[tactic(auto, unfolding(crate::specs::Layout::put), using(crate::proofs::Kept::kept_page, crate::proofs::Kept::kept_itself, crate::proofs::Kept::kept_more))]
+    #[tactic(auto, unfolding(crate::specs::Layout::put), using(crate::proofs::Kept::kept_page, aj_lemmas::proofs::Texts::kept_itself, aj_lemmas::proofs::Texts::kept_more))]
     pub fn name(&mut self, name: &str) -> Result<(), NoMemory>
         ensures put { OnOk result (self.new ≡ put self.old (Named name.now)) }
         ensures kept { OnErr result (KeepsPage self.old self.new) }
@@ -95,7 +96,7 @@ impl Printer {
     }
 
     /// Writes a number.
-    #[tactic(auto, unfolding(crate::specs::Layout::put), using(crate::proofs::Kept::kept_page, crate::proofs::Kept::kept_itself, crate::proofs::Kept::kept_more))]
+    #[tactic(auto, unfolding(crate::specs::Layout::put), using(crate::proofs::Kept::kept_page, aj_lemmas::proofs::Texts::kept_itself, aj_lemmas::proofs::Texts::kept_more))]
     pub fn number(&mut self, number: u32) -> Result<(), NoMemory>
         ensures put { OnOk result (self.new ≡ put self.old (Numeral number)) }
         ensures kept { OnErr result (KeepsPage self.old self.new) }
@@ -108,7 +109,7 @@ impl Printer {
     }
 }
 
-#[tactic(auto, using(crate::proofs::Indents::indent_more, crate::proofs::Kept::kept_itself, crate::proofs::Kept::kept_more))]
+#[tactic(auto, using(crate::proofs::Indents::indent_more, aj_lemmas::proofs::Texts::kept_itself, aj_lemmas::proofs::Texts::kept_more))]
 fn write_indent(text: &mut String, depth: usize) -> Result<(), NoMemory>
     ensures text { OnOk result (string_bytes text.new ≡ string_bytes text.old ++ indent depth) }
     ensures kept { OnErr result (KeepsText (string_bytes text.old) (string_bytes text.new)) }
@@ -120,7 +121,7 @@ fn write_indent(text: &mut String, depth: usize) -> Result<(), NoMemory>
     Ok(())
 }
 
-#[tactic(auto, using(crate::proofs::Kept::kept_itself))]
+#[tactic(auto, using(aj_lemmas::proofs::Texts::kept_itself))]
 fn write_gap(text: &mut String, place: NextPlace, depth: usize, lead: Lead) -> Result<(), NoMemory>
     ensures text { OnOk result (string_bytes text.new ≡ string_bytes text.old ++ gap place depth lead) }
     ensures kept { OnErr result (KeepsText (string_bytes text.old) (string_bytes text.new)) }
@@ -134,7 +135,7 @@ fn write_gap(text: &mut String, place: NextPlace, depth: usize, lead: Lead) -> R
     }
 }
 
-#[tactic(auto, using(crate::proofs::Kept::kept_itself))]
+#[tactic(auto, using(aj_lemmas::proofs::Texts::kept_itself))]
 fn write_line_end(text: &mut String, terminal: Terminal) -> Result<(), NoMemory>
     ensures text { OnOk result (string_bytes text.new ≡ string_bytes text.old ++ line_end (Fixed terminal)) }
     ensures kept { OnErr result (KeepsText (string_bytes text.old) (string_bytes text.new)) }

@@ -5,5 +5,4 @@ mod ReadLemmas
 pub mod UniqueLemmas
 mod FormLemmas
 pub mod WrittenLemmas
-mod KeptTexts
 mod CommentLemmas

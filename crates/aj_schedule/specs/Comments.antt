@@ -1,5 +1,5 @@
 -- A text as comments of a schedule.
-use Rattle.std.specs.Prelude.{◌≡◌, ℕ, ◌==◌, Bool, true, List, [], ◌∷◌, ◌++◌, codes, if◌then◌else◌}
+use Rattle.std.specs.Prelude.{ℕ, ◌==◌, Bool, true, List, [], ◌∷◌, ◌++◌, codes, if◌then◌else◌}
 
 -- a text with `# ` before each line, where it does or doesn't begin a line
 abbrev pub commented_from : Bool → List ℕ → List ℕ
@@ -15,8 +15,3 @@ abbrev pub ends_line : List ℕ → Bool
 ends_line [] = true
 ends_line (byte ∷ []) = byte == 10
 ends_line (byte ∷ other ∷ rest) = ends_line (other ∷ rest)
-
--- the text that was there, and maybe bytes behind it
-pub record KeepsText (old new : List ℕ) : Type 0 where
-  pub behind : List ℕ
-  pub whole : new ≡ old ++ behind

@@ -1,11 +1,12 @@
 //! Comments behind a schedule.
 ghost use Rattle.std.specs.Prelude.{◌≡◌, ◌++◌, [], codes, if◌then◌else◌, OnOk, OnErr};
-ghost use Rattle.aj_schedule.specs.Comments.{commented, KeepsText};
+ghost use Rattle.aj_lemmas.specs.Texts.{KeepsText};
+ghost use Rattle.aj_schedule.specs.Comments.{commented};
 
 use std::alloc::AllocError as NoMemory;
 
 /// Adds each line of a comment behind `# ` to a text.
-#[tactic(auto, using(crate::proofs::KeptTexts::kept_itself, crate::proofs::KeptTexts::kept_more))]
+#[tactic(auto, using(aj_lemmas::proofs::Texts::kept_itself, aj_lemmas::proofs::Texts::kept_more))]
 pub fn add_comments(text: &mut Vec<u8>, comment: &[u8]) -> Result<(), NoMemory>
     ensures added { OnOk result (text.new.items ≡ text.old.items ++ commented comment.now) }
     ensures kept { OnErr result (KeepsText text.old.items text.new.items) }

@@ -1,6 +1,6 @@
 //! `generate N`.
 
-ghost use Rattle.std.specs.Prelude.{◌≡◌, ◌<◌, ◌++◌, ℕ, List, string_bytes, MatchResult, IfOk, OnOk};
+ghost use Rattle.std.specs.Prelude.{◌≡◌, ◌<◌, ◌++◌, string_bytes, MatchResult, IfOk, OnOk};
 ghost use Rattle.std.specs.Option.{option_copied};
 ghost use Rattle.aj_generate.specs.Rounds.{IsGenerated};
 ghost use Rattle.aj_generate.specs.Sources.{generated_source};
@@ -13,7 +13,7 @@ ghost use Rattle.aj_schedule_commands.specs.Generate.{GenerateAnswer, group_coun
 use crate::serialising::order_of;
 use aj_compile::compile;
 use aj_generate::generate;
-use aj_serialise::Serialised;
+use aj_noted::Rearranged;
 use aj_sources::{Ending, Refusal, Source, judge, read_source};
 use aj_state::{Address, Heap, Value};
 use aj_state_report::write_number;
@@ -73,7 +73,7 @@ fn write_figure<N: Integer>(text: &mut String, word: &str, number: N) -> Result<
 }
 
 /// The four lines for an order and the machine that ran its schedule.
-fn figures(alloc: Global, n: u32, found: &Serialised) -> Result<String, NoMemory>
+fn figures(alloc: Global, n: u32, found: &Rearranged) -> Result<String, NoMemory>
     ensures { (q : State) → StandsFor found.now.machine q → IfOk result (λ text. string_bytes text ≡ figures n found.now.order.items q.heap) }
 {
     let order = found.order.as_slice();

@@ -1,43 +1,38 @@
 //! `serialise-open FILE SCHEDULE`.
 
-ghost use Rattle.std.specs.Prelude.{◌≡◌, ◌≤◌, ◌++◌, ℕ, List, Some, length, MatchResult, IfOk};
-ghost use Rattle.aj_classes.specs.Views.{table_data};
+ghost use Rattle.std.specs.Prelude.{◌≡◌, ◌≤◌, ℕ, List, Some, length, MatchResult, IfOk};
 ghost use Rattle.aj_compile.specs.IsCode.{IsCodeOf};
 ghost use Rattle.aj_core.specs.Core.{Program};
 ghost use Rattle.aj_core.specs.Typed.{IsTyped};
 ghost use Rattle.aj_core.specs.Views.{program_of};
-ghost use Rattle.aj_machine.specs.Standing.{StandsFor, program_run};
-ghost use Rattle.aj_open.specs.Opened.{IsOpened, IsRefused};
+ghost use Rattle.aj_machine.specs.Standing.{StandsFor};
+ghost use Rattle.aj_noted.specs.NoRun.{IsNoRun};
+ghost use Rattle.aj_open.specs.Opened.{IsOpened};
 ghost use Rattle.aj_rules.specs.Rules.{IsAccepted};
-ghost use Rattle.aj_schedule.specs.Comments.{commented};
-ghost use Rattle.aj_schedule.specs.Text.{IsSchedule};
-ghost use Rattle.aj_schedule.specs.Written.{written};
 ghost use Rattle.aj_sources.specs.Checking.{IsSourceOf};
 ghost use Rattle.aj_sources.specs.Refusals.{IsRight};
 ghost use Rattle.aj_state.specs.States.{State};
-ghost use Rattle.aj_state_report.specs.States.{state_text as state_bytes};
 ghost use Rattle.aj_steps.specs.Run.{run};
 ghost use Rattle.aj_schedule_commands.specs.Schedules.{NoRun};
 ghost use Rattle.aj_schedule_commands.specs.SerialiseOpen.{SerialiseOpenAnswer};
 
 use crate::schedules::{refuse_stop, schedule_of};
-use crate::serialising::with_comments;
-use aj_classes::ClassTable;
+use crate::serialising::order_text;
 use aj_compile::{CodeTable, compile};
 use aj_core::CoreProgram;
-use aj_open::{InOrder, OpenEnd, opened_with_machine};
+use aj_noted::{Rearranged, RunEnd};
+use aj_open::opened_with_machine;
 use aj_sources::{Ending, Refusal, Source, judge, read_source};
-use aj_state_report::state_text;
 use std::alloc::{AllocError as NoMemory, Global};
 use std::mem::forget;
 
 /// The refusal of a schedule that isn't put in its open order, for this reason.
-fn refuse_end(alloc: Global, end: OpenEnd) -> Refusal
-    ensures { (P : Program) (s : List ℕ) → IsRefused P s end → IsRight (NoRun P s) result }
+fn refuse_end(alloc: Global, end: RunEnd) -> Refusal
+    ensures { (P : Program) (s : List ℕ) → IsNoRun P s end → IsRight (NoRun P s) result }
 {
     match end {
-        OpenEnd::Stopped(stopped) => refuse_stop(alloc, &stopped),
-        OpenEnd::NoMemory => Refusal::NoMemory,
+        RunEnd::Stopped(stopped) => refuse_stop(alloc, &stopped),
+        RunEnd::NoMemory => Refusal::NoMemory,
     }
 }
 
@@ -47,7 +42,7 @@ fn order_of<'p>(
     program: &'p CoreProgram,
     code: &'p CodeTable,
     schedule: &[u32],
-) -> Result<InOrder<'p>, Refusal>
+) -> Result<Rearranged<'p>, Refusal>
     requires typed { IsTyped (program_of program.now) }
     requires accepted { IsAccepted (program_of program.now) }
     requires code { IsCodeOf (program_of program.now) code.now.code.items code.now.entry.items code.now.room.items }
@@ -60,16 +55,6 @@ fn order_of<'p>(
         Ok(found) => Ok(found),
         Err(end) => Err(refuse_end(alloc, end)),
     }
-}
-
-/// What is written for an order and the machine that ran its schedule.
-fn order_text(alloc: Global, table: &ClassTable, found: &InOrder) -> Result<Vec<u8>, NoMemory>
-    ensures text { (q : State) → StandsFor found.now.machine q → IfOk result (λ out. out.items ≡
-        written found.now.order.items ++ commented (state_bytes (program_run found.now.machine) (table_data table.now) q)) }
-    ensures spells { IfOk result (λ out. length found.now.order.items ≤ 200000 → IsSchedule out.items found.now.order.items) }
-{
-    let state = state_text(alloc, table, &found.machine)?;
-    with_comments(alloc, found.order.as_slice(), state.as_bytes())
 }
 
 /// Writes a schedule of this source with each atomic call in one piece, also one that is left open, and the text of the state

@@ -25,8 +25,9 @@ use crate::schedules::{refuse_stop, schedule_of};
 use aj_classes::ClassTable;
 use aj_compile::{CodeTable, compile};
 use aj_core::CoreProgram;
+use aj_noted::Rearranged;
 use aj_schedule::{add_comments, comment_laws, write_schedule};
-use aj_serialise::{SerialEnd, Serialised, rewritten_with_machine};
+use aj_serialise::{SerialEnd, rewritten_with_machine};
 use aj_sources::{Ending, Refusal, Source, judge, read_source};
 use aj_state_report::{open_text, state_text};
 use std::alloc::{AllocError as NoMemory, Global};
@@ -59,7 +60,7 @@ pub fn order_of<'p>(
     program: &'p CoreProgram,
     code: &'p CodeTable,
     schedule: &[u32],
-) -> Result<Serialised<'p>, Refusal>
+) -> Result<Rearranged<'p>, Refusal>
     requires typed { IsTyped (program_of program.now) }
     requires accepted { IsAccepted (program_of program.now) }
     requires code { IsCodeOf (program_of program.now) code.now.code.items code.now.entry.items code.now.room.items }
@@ -75,11 +76,7 @@ pub fn order_of<'p>(
 }
 
 /// A schedule in a line, and a text behind it as comments.
-pub(crate) fn with_comments(
-    alloc: Global,
-    schedule: &[u32],
-    comment: &[u8],
-) -> Result<Vec<u8>, NoMemory>
+fn with_comments(alloc: Global, schedule: &[u32], comment: &[u8]) -> Result<Vec<u8>, NoMemory>
     ensures text { IfOk result (λ out. out.items ≡ written schedule.now ++ commented comment.now) }
     ensures spells { IfOk result (λ out. length schedule.now ≤ 200000 → IsSchedule out.items schedule.now) }
 {
@@ -90,7 +87,11 @@ pub(crate) fn with_comments(
 }
 
 /// What is written for an order and the machine that ran its schedule.
-fn order_text(alloc: Global, table: &ClassTable, found: &Serialised) -> Result<Vec<u8>, NoMemory>
+pub(crate) fn order_text(
+    alloc: Global,
+    table: &ClassTable,
+    found: &Rearranged,
+) -> Result<Vec<u8>, NoMemory>
     ensures text { (q : State) → StandsFor found.now.machine q → IfOk result (λ out. out.items ≡
         written found.now.order.items ++ commented (state_bytes (program_run found.now.machine) (table_data table.now) q)) }
     ensures spells { IfOk result (λ out. length found.now.order.items ≤ 200000 → IsSchedule out.items found.now.order.items) }

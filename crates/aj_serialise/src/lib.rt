@@ -7,5 +7,5 @@ mod rewriting;
 mod serial_end;
 
 pub use laws::ending_laws;
-pub use rewriting::{Serialised, rewritten, rewritten_with_machine, serialise};
+pub use rewriting::{rewritten, rewritten_with_machine, serialise};
 pub use serial_end::SerialEnd;

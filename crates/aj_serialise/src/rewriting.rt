@@ -1,50 +1,21 @@
 //! Rewriting a schedule.
-ghost use Rattle.std.specs.Prelude.{◌≡◌, ◌≤◌, ℕ, length, Some, IfOk, IfErr};
+ghost use Rattle.std.specs.Prelude.{◌≡◌, ◌≤◌, length, Some, IfOk, IfErr};
 ghost use Rattle.aj_core.specs.Views.{program_of};
 ghost use Rattle.aj_core.specs.Typed.{IsTyped};
 ghost use Rattle.aj_rules.specs.Rules.{IsAccepted};
-ghost use Rattle.aj_state.specs.States.{State, initial};
+ghost use Rattle.aj_state.specs.States.{State};
 ghost use Rattle.aj_compile.specs.IsCode.{IsCodeOf};
 ghost use Rattle.aj_steps.specs.Run.{run};
-ghost use Rattle.aj_machine.specs.Standing.{program_run, StandsFor};
-ghost use Rattle.aj_noted.specs.Made.{HaveRun};
+ghost use Rattle.aj_machine.specs.Standing.{StandsFor};
 ghost use Rattle.aj_serialise.specs.Rewritten.{IsRewritten, IsRewriting, IsRefused};
 
 use crate::order::in_order;
-use crate::serial_end::{SerialEnd, end_of};
+use crate::serial_end::SerialEnd;
 use aj_book_check::Checked;
 use aj_compile::CodeTable;
 use aj_core::CoreProgram;
-use aj_machine::Machine;
-use aj_noted::{Step, run_noted};
+use aj_noted::{Rearranged, run_from_start};
 use std::alloc::Global;
-
-/// A schedule in its written order, and the machine that ran it, at its end.
-#[derive(Drop)]
-pub struct Serialised<'p> {
-    pub order: Vec<u32>,
-    pub machine: Machine<'p>,
-}
-
-/// Runs a schedule on a machine at its start.
-fn run_steps(
-    alloc: Global,
-    machine: &mut Machine<'_>,
-    schedule: &[u32],
-) -> Result<Vec<Step>, SerialEnd>
-    requires stands { StandsFor machine.old (initial (program_run machine.old)) }
-    requires start { machine.old.made ≡ 0 }
-    requires size { length schedule.now ≤ 200000 }
-    ensures ran { IfOk result (λ steps. (calls : ℕ → ℕ) × HaveRun machine.new schedule.now steps.items calls) }
-    ensures length { IfOk result (λ steps. length steps.items ≡ length schedule.now) }
-    ensures refused { IfErr result (IsRefused (program_run machine.old) schedule.now) }
-    ensures program { machine.new.program ≡ machine.old.program }
-{
-    match run_noted(alloc, machine, schedule) {
-        Ok(steps) => Ok(steps),
-        Err(end) => Err(end_of(end)),
-    }
-}
 
 /// Runs a schedule, and puts it in its written order.
 fn rewrite<'p>(
@@ -52,7 +23,7 @@ fn rewrite<'p>(
     program: &'p CoreProgram,
     code: &'p CodeTable,
     schedule: &[u32],
-) -> Result<Serialised<'p>, SerialEnd>
+) -> Result<Rearranged<'p>, SerialEnd>
     requires code { IsCodeOf (program_of program.now) code.now.code.items code.now.entry.items code.now.room.items }
     requires typed { IsTyped (program_of program.now) }
     requires accepted { IsAccepted (program_of program.now) }
@@ -62,13 +33,15 @@ fn rewrite<'p>(
     ensures program { IfOk result (λ r. r.machine.program ≡ program.now) }
     ensures refused { IfErr result (IsRefused (program_of program.now) schedule.now) }
 {
-    let mut machine = Machine::start(alloc, program, code)?;
-    let steps = run_steps(alloc, &mut machine, schedule)?;
-    match machine.open_thread() {
+    let noted = run_from_start(alloc, program, code, schedule)?;
+    match noted.machine.open_thread() {
         Some(thread) => Err(SerialEnd::Open { thread }),
         None => {
-            let order = in_order(alloc, &steps)?;
-            Ok(Serialised { order, machine })
+            let order = in_order(alloc, &noted.steps)?;
+            Ok(Rearranged {
+                order,
+                machine: noted.machine,
+            })
         }
     }
 }
@@ -79,7 +52,7 @@ pub fn rewritten_with_machine<'p>(
     program: &'p CoreProgram,
     code: &'p CodeTable,
     schedule: &[u32],
-) -> Result<Serialised<'p>, SerialEnd>
+) -> Result<Rearranged<'p>, SerialEnd>
     requires code { IsCodeOf (program_of program.now) code.now.code.items code.now.entry.items code.now.room.items }
     requires typed { IsTyped (program_of program.now) }
     requires accepted { IsAccepted (program_of program.now) }

@@ -1,9 +1,4 @@
 //! Why a schedule isn't rewritten.
-ghost use Rattle.std.specs.Prelude.{ℕ, List};
-ghost use Rattle.aj_core.specs.Core.{Program};
-ghost use Rattle.aj_noted.specs.NoRun.{IsNoRun};
-ghost use Rattle.aj_serialise.specs.Rewritten.{IsRefused};
-
 use aj_machine::Stopped;
 use aj_noted::RunEnd;
 use std::alloc::{AllocError, AllocFailed};
@@ -41,12 +36,19 @@ impl<T: Drop> From<AllocFailed<T>> for SerialEnd {
     }
 }
 
-/// Why a schedule isn't rewritten that doesn't run.
-pub(crate) fn end_of(end: RunEnd) -> SerialEnd
-    ensures { (P : Program) (s : List ℕ) → IsNoRun P s end → IsRefused P s result }
-{
-    match end {
-        RunEnd::Stopped(stopped) => SerialEnd::Stopped(stopped),
-        RunEnd::NoMemory => SerialEnd::NoMemory,
+/// A schedule that doesn't run isn't rewritten for the same reason.
+impl From<RunEnd> for SerialEnd {
+    ghost use Rattle.std.specs.Prelude.{ℕ, List};
+    ghost use Rattle.aj_core.specs.Core.{Program};
+    ghost use Rattle.aj_noted.specs.NoRun.{IsNoRun};
+    ghost use Rattle.aj_serialise.specs.Rewritten.{IsRefused};
+
+    ghost from_gives = { λ end given. (P : Program) (s : List ℕ) → IsNoRun P s end → IsRefused P s given };
+
+    fn from(end: RunEnd) -> SerialEnd {
+        match end {
+            RunEnd::Stopped(stopped) => SerialEnd::Stopped(stopped),
+            RunEnd::NoMemory => SerialEnd::NoMemory,
+        }
     }
 }

@@ -26,7 +26,7 @@ module _ {X : Type 0} where
   abbrev pub without : Address → List (Address × X) → List (Address × X)
   without a = where_key address_cmp (λ x. not (eq_by_cmp address_cmp a x))
 
-  insert-from_sorted : (es : List (Address × X)) (a : Address) (x : X) → T (is_sorted address_cmp es) → M.insert (from_sorted {R = address_cmp} es) a x ≡ from_sorted (put address_cmp a x es)
+  pub insert-from_sorted : (es : List (Address × X)) (a : Address) (x : X) → T (is_sorted address_cmp es) → M.insert (from_sorted {R = address_cmp} es) a x ≡ from_sorted (put address_cmp a x es)
   insert-from_sorted es a x rising = same_entries_map _ _ (entries-insert address_total _ a x ∙ ap (put address_cmp a x) (entries-from_sorted address_cmp es rising) ∙ sym (entries-from_sorted address_cmp _ (is_sorted-put address_cmp address_total a x es rising)))
 
   empty-from_sorted : ◌≡◌ {A = FinMap address_cmp X} M.empty (from_sorted [])
@@ -36,7 +36,7 @@ module _ {X : Type 0} where
   find-without es a q = find-where_key address_cmp _ q (λ x tied. ap (λ y. not (eq_by_cmp address_cmp a y)) (sym (address_exact q x tied))) es
       ∙ turned (eq_by_cmp address_cmp a q) _ _ ∙ ap (λ b. cond b None (find address_cmp q es)) ((eq_by_cmp_equiv address_total).symm a q)
 
-  remove-from_sorted : (es : List (Address × X)) (a : Address) → T (is_sorted address_cmp es) → M.remove (from_sorted {R = address_cmp} es) a ≡ from_sorted (without a es)
+  pub remove-from_sorted : (es : List (Address × X)) (a : Address) → T (is_sorted address_cmp es) → M.remove (from_sorted {R = address_cmp} es) a ≡ from_sorted (without a es)
   remove-from_sorted es a rising = same_map address_total address_exact _ _ (λ q.
       get-remove address_total _ a q ∙ ap (cond (eq_by_cmp address_cmp q a) None) (get-from_sorted address_cmp es q rising)
       ∙ sym (get-from_sorted address_cmp _ q (is_sorted-where_key address_cmp _ es rising) ∙ find-without es a q))

@@ -6,8 +6,8 @@ use aj_book_check::{Checked, Refused, Wrong, accept};
 use aj_books::{BookCursor, BookFault, DerivBook, Word, read_book, read_table, write_book};
 use aj_compile::compile;
 use aj_cond::Tree;
-use aj_machine::Machine;
-use aj_open::{OpenEnd, serialise_open};
+use aj_noted::RunEnd;
+use aj_open::serialise_open;
 use aj_serialise::{SerialEnd, serialise};
 use aj_sources::Source;
 use std::alloc::Global;
@@ -189,7 +189,7 @@ fn a_checked_program_is_serialised(rt: HostRuntime) -> Result<(), Fail> {
 }
 
 /// The open order of a schedule of the counter program.
-fn open_order_of(alloc: Global, schedule: &[u32]) -> Result<Result<Vec<u32>, OpenEnd>, Fail> {
+fn open_order_of(alloc: Global, schedule: &[u32]) -> Result<Result<Vec<u32>, RunEnd>, Fail> {
     if schedule.len() > 200000 {
         return Err(Fail::new("a long schedule"));
     }
@@ -214,7 +214,7 @@ fn a_checked_program_is_put_in_open_order(rt: HostRuntime) -> Result<(), Fail> {
     }
     let stops = schedule_of(rt.alloc(), &[(0, 3), (5, 1)])?;
     match open_order_of(rt.alloc(), stops.as_slice())? {
-        Err(OpenEnd::Stopped(stopped)) => assert_eq!(rt; stopped.entry, 4),
+        Err(RunEnd::Stopped(stopped)) => assert_eq!(rt; stopped.entry, 4),
         _ => assert!(rt; false),
     }
     Ok(())

@@ -1,9 +1,9 @@
 use Rattle.std.proofs.Common.{ap, slice_get}
-use Rattle.aj_state.specs.declared.value.Address.{Address}
 use Rattle.aj_examples.specs.Seen.{four_fields, here, there, seven}
 use Rattle.aj_state.specs.Memory.{field_value}
 use Rattle.aj_examples.specs.Small.{next, three_entries, lock_at}
-use Rattle.aj_examples.proofs.Maps.{get_is, insert_is, remove_is, field_is, made_is}
+use Rattle.aj_examples.proofs.Maps.{get_is, field_is, made_is}
+use Rattle.aj_steps.proofs.PlainRuns.{insert-from_sorted, remove-from_sorted}
 use Rattle.aj_examples.proofs.memory.what_memory_holds.Goals as goal
 
 pub returns-clause-made : goal.returns-clause-made
@@ -25,16 +25,16 @@ pub returns-clause-no_object : goal.returns-clause-no_object
 returns-clause-no_object c = field_is three_entries tt (record { thread = 2; count = 0 }) 1 seven
 
 pub returns-clause-taken : goal.returns-clause-taken
-returns-clause-taken c = insert_is (lock_at there) tt here _
+returns-clause-taken c = insert-from_sorted (lock_at there) here _ tt
 
 pub returns-clause-held_otherwise : goal.returns-clause-held_otherwise
-returns-clause-held_otherwise c = insert_is (lock_at there) tt there _
+returns-clause-held_otherwise c = insert-from_sorted (lock_at there) there _ tt
 
 pub returns-clause-free : goal.returns-clause-free
-returns-clause-free c = remove_is (lock_at there) tt there
+returns-clause-free c = remove-from_sorted (lock_at there) there tt
 
 pub returns-clause-free_already : goal.returns-clause-free_already
-returns-clause-free_already c = remove_is (lock_at there) tt here
+returns-clause-free_already c = remove-from_sorted (lock_at there) here tt
 
 pub returns-clause-in_the_heap : goal.returns-clause-in_the_heap
 returns-clause-in_the_heap c = ap (λ o. field_value four_fields 1 o (slice_get four_fields.fields 1)) (get_is three_entries tt next)

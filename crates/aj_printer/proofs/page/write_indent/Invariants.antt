@@ -1,5 +1,6 @@
 use Rattle.std.proofs.Common.{◌≡◌, ◌-◌, ◌++◌, ◌≤◌, string_bytes, string_len}
-use Rattle.aj_printer.specs.Layout.{indent, KeepsText}
+use Rattle.aj_lemmas.specs.Texts.{KeepsText}
+use Rattle.aj_printer.specs.Layout.{indent}
 use Rattle.aj_printer.proofs.page.write_indent.Given as goal
 
 abbrev pub invariant-loop-level : goal.invariant-loop-level

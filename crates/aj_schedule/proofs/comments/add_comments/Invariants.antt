@@ -1,5 +1,6 @@
 use Rattle.std.proofs.Common.{◌≡◌, ◌++◌, drop}
-use Rattle.aj_schedule.specs.Comments.{commented, commented_from, KeepsText}
+use Rattle.aj_lemmas.specs.Texts.{KeepsText}
+use Rattle.aj_schedule.specs.Comments.{commented, commented_from}
 use Rattle.aj_schedule.proofs.comments.add_comments.Given as goal
 
 -- the text so far, and what the rest adds, are all; and the text that was there is kept

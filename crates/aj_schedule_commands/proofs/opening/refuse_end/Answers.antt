@@ -1,11 +1,11 @@
 -- The refusal of a stop is right.
 use Rattle.std.proofs.Common.{subst}
 use Rattle.aj_machine.specs.Standing.{IsStopped}
-use Rattle.aj_open.specs.Opened.{IsRefused}
+use Rattle.aj_noted.specs.NoRun.{IsNoRun}
 use Rattle.aj_state.specs.States.{initial}
 use Rattle.aj_schedule_commands.proofs.opening.refuse_end.Goals as goal
 
 pub returns-in-Stopped : goal.returns-in-Stopped
 returns-in-Stopped c = λ P s is.
-    let at : IsStopped P (initial P) s c.in-Stopped.stopped = subst (IsRefused P s) c.in-Stopped.is is in
+    let at : IsStopped P (initial P) s c.in-Stopped.stopped = subst (IsNoRun P s) c.in-Stopped.is is in
     c.refuse_stop.ensures P s at.before at.stop

@@ -1,28 +1,24 @@
-use Rattle.std.proofs.Common.{ap, subst, ◌∙◌}
+use Rattle.std.proofs.Common.{ap, ◌∙◌}
 use Rattle.std.proofs.lemmas.Result.{err_from_is_err_and}
 use Rattle.aj_core.specs.Views.{program_of}
 use Rattle.aj_steps.specs.Units.{units, in_order, schedule_of}
 use Rattle.aj_noted.specs.Entries.{entries_of}
-use Rattle.aj_serialise.specs.Rewritten.{IsRefused}
-use Rattle.aj_noted.proofs.Running.{stands_at_end}
 use Rattle.aj_serialise.proofs.Results.{finished, left_open}
 use Rattle.aj_serialise.proofs.rewriting.rewrite.Goals as goal
 
-pub returns-in_err-steps-clause-refused : goal.returns-in_err-steps-clause-refused
-returns-in_err-steps-clause-refused c =
-    let p = err_from_is_err_and c.from_residual-in_err-steps.result c.from_residual-in_err-steps.ensures.1 in
-    rw (p.1, p.2) (subst (λ m. IsRefused (program_of m) c.args.schedule.now c.in_err-steps.field-0.0) c.in_ok-machine.ensures.program c.in_err-steps.ensures.refused)
+pub returns-in_err-noted-clause-refused : goal.returns-in_err-noted-clause-refused
+returns-in_err-noted-clause-refused c =
+    let p = err_from_is_err_and c.from_residual.result c.from_residual.ensures.1 in
+    rw p.1 (p.2 (program_of c.args.program.now) c.args.schedule.now c.in_err-noted.ensures.refused)
 
 pub returns-in-Some-clause-refused : goal.returns-in-Some-clause-refused
 returns-in-Some-clause-refused c =
-    left_open (program_of c.args.program.now) c.args.schedule.now c.run_steps.new.machine c.in_ok-steps.steps.items c.in_ok-steps.ensures.ran.0 (ap program_of (c.in_ok-steps.ensures.program ∙ c.in_ok-machine.ensures.program)) c.in_ok-steps.ensures.ran.1
+    let run = c.in_ok-noted.ensures in
+    left_open (program_of c.args.program.now) c.args.schedule.now c.in_ok-noted.noted.machine c.in_ok-noted.noted.steps.items run.ran.0 (ap program_of run.program) run.ran.1
     c.open_thread.result c.open_thread.ensures c.in-Some.thread c.in-Some.is
 
 pub returns-clause-rewritten : goal.returns-clause-rewritten
 returns-clause-rewritten c =
-    finished (program_of c.args.program.now) c.requires.typed c.requires.accepted c.args.schedule.now c.run_steps.new.machine c.in_ok-steps.steps.items c.in_ok-steps.ensures.ran.0 (ap program_of (c.in_ok-steps.ensures.program ∙ c.in_ok-machine.ensures.program)) c.in_ok-steps.ensures.ran.1
+    let run = c.in_ok-noted.ensures in
+    finished (program_of c.args.program.now) c.requires.typed c.requires.accepted c.args.schedule.now c.in_ok-noted.noted.machine c.in_ok-noted.noted.steps.items run.ran.0 (ap program_of run.program) run.ran.1
     c.open_thread.result c.open_thread.ensures c.in-None.is c.in_ok-order-in-None.order.items (c.in_ok-order-in-None.ensures ∙ ap (λ steps. schedule_of (in_order (units (entries_of 0 steps)))) c.deref.ensures.value)
-
-pub returns-clause-stands : goal.returns-clause-stands
-returns-clause-stands c q ran =
-    stands_at_end (program_of c.args.program.now) c.args.schedule.now c.run_steps.new.machine c.in_ok-steps.steps.items c.in_ok-steps.ensures.ran.0 (ap program_of (c.in_ok-steps.ensures.program ∙ c.in_ok-machine.ensures.program)) c.in_ok-steps.ensures.ran.1 q ran

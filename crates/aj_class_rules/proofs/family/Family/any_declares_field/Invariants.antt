@@ -2,7 +2,7 @@ use Rattle.aj_class_rules.specs.Families.{members_along, tree_of}
 use Rattle.aj_class_rules.specs.Members.{field_names}
 use Rattle.aj_class_rules.specs.Names.{has_text, texts_of}
 use Rattle.std.proofs.Common.{drop, ◌≡◌}
-use Rattle.aj_class_rules.proofs.family.Family.declare.Given as goal
+use Rattle.aj_class_rules.proofs.family.Family.any_declares_field.Given as goal
 
 abbrev pub invariant-loop-number : goal.invariant-loop-number
 invariant-loop-number l =

@@ -1,6 +1,6 @@
 -- Texts that go on behind what was there.
 use Rattle.std.proofs.Common.{◌≡◌, List, ℕ, [], ◌++◌, ap, sym, ◌∙◌, append_assoc, append-nil}
-use Rattle.aj_schedule.specs.Comments.{KeepsText}
+use Rattle.aj_lemmas.specs.Texts.{KeepsText}
 
 pub kept_itself : (old new : List ℕ) → new ≡ old → KeepsText old new
 kept_itself old new e = record { behind = []; whole = e ∙ sym (append-nil old) }

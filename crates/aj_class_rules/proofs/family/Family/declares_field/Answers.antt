@@ -2,7 +2,7 @@ use Rattle.std.proofs.Common.{refl, ◌∙◌}
 use Rattle.std.proofs.lemmas.Option.{slice_get_past, slice_get_read}
 use Rattle.aj_class_rules.specs.Families.{tree_of}
 use Rattle.aj_class_rules.proofs.OwnLemmas.{declared_here, declared_nowhere}
-use Rattle.aj_class_rules.proofs.family.Family.declares.Goals as goal
+use Rattle.aj_class_rules.proofs.family.Family.declares_field.Goals as goal
 
 pub returns-in-Some : goal.returns-in-Some
 returns-in-Some c =

@@ -1,0 +1,2 @@
+-- What is said of texts that grow.
+pub mod Texts
