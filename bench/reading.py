@@ -99,12 +99,17 @@ def entries_of(path: Path, wanted: set[str]) -> Iterator[Entry]:
     """Those of a file's definitions whose names are wanted."""
     lines = path.read_text(encoding="utf-8").split("\n")
     starts = [at for at, line in enumerate(lines) if is_start(line)] + [len(lines)]
-    seen: set[str] = set()
+    found = {at: BEGINS.match(lines[at]) for at in starts[:-1]}
+    names = {at: match.group(1) for at, match in found.items() if match}
     for at, until in zip(starts, starts[1:]):
-        found = BEGINS.match(lines[at])
-        if found and found.group(1) in wanted and found.group(1) not in seen:
-            seen.add(found.group(1))
-            yield Entry(found.group(1), comment_above(lines, at), count_lines(lines[at:until]))
+        name = names.get(at)
+        if name in wanted and at == place_of(name, names, lines):
+            yield Entry(name, comment_above(lines, at), count_lines(lines[at:until]))
+
+
+def place_of(name: str, names: dict[int, str], lines: list[str]) -> int:
+    """The line that begins the definition of a name: the first of those that stand least far to the right, so no record's field."""
+    return min((at for at, other in names.items() if other == name), key=lambda at: (len(lines[at]) - len(lines[at].lstrip()), at))
 
 
 def is_start(line: str) -> bool:
