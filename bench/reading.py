@@ -1,0 +1,319 @@
+#!/usr/bin/env python3
+"""Writes docs/READING.md, the reading list of the theorem, and docs/theorems.md, the index of its laws.
+
+The reading list has every definition that the headline stands on, directly or through others, in an order in which
+each uses only earlier ones, with the sentence that stands above it in its file. Behind that comes what each further
+clause of the two programs adds. Without --write both pages are compared with what stands in docs, and the exit
+status is 1 where one differs.
+"""
+import argparse
+import re
+import sys
+from collections.abc import Iterable, Iterator
+from dataclasses import dataclass, field
+from pathlib import Path
+
+import definitions
+
+TOP = Path(__file__).resolve().parent.parent
+
+# The subjects, in the order in which a person reads them, each with its crates.
+SUBJECTS: list[tuple[str, str, list[str]]] = [
+    ("Rules", "What a program is once its types are known, and what the checker asks of it. This is what a person has to believe, "
+     "together with the machine.", ["aj_ancestors", "aj_paths", "aj_core", "aj_algebra", "aj_rules"]),
+    ("Machine", "What a state is, what one step of one thread does, and what a run of a schedule is.", ["aj_state", "aj_steps"]),
+    ("From bytes to programs", "Tokens, grammar, classes and types: which bytes are a well-formed source, and of which program.",
+     ["aj_lexer", "aj_syntax", "aj_class_rules", "aj_classes", "aj_type_rules", "aj_elaborate", "aj_printer"]),
+    ("Verdicts, books, certificates", "The least assignment and the bound that it breaks; verdicts that others can check.",
+     ["aj_fix", "aj_effects", "aj_callers", "aj_infer", "aj_cond", "aj_books", "aj_book_rules", "aj_book_check", "aj_derive", "aj_blame", "aj_blame_text"]),
+    ("Above the machine", "Orders of open calls, circles of waiting threads, plain evaluation, explanations.",
+     ["aj_open", "aj_levels", "aj_level_text", "aj_replay", "aj_book_rules", "aj_why", "aj_explain", "aj_effect_at", "aj_places"]),
+    ("Texts and calls", "Which bytes are read and written, and what a call of the program is.", []),
+]
+
+# The clauses, in the order of their rows: name of the clause, its file, what it is for.
+CLAUSES: list[tuple[str, str, str]] = [
+    ("open_calls", "aj_commands/OpenCalls", "every schedule that runs has an order that leaves open calls whole"),
+    ("books", "aj_commands/Books", "a book that is verified is of an accepted source"),
+    ("refutations", "aj_commands/Refutations", "a certificate that is verified is of a source without an admissible assignment"),
+    ("no_circles", "aj_commands/NoCircles", "an ordered program reaches no circle of waiting threads"),
+    ("replayed_calls", "aj_commands/ReplayedCalls", "completed atomic calls agree with plain evaluation"),
+    ("sentence", "aj_explain_commands/Sentence", "`atomic_why` tells exactly the methods that break their bound"),
+]
+
+Item = tuple[Path, str]
+
+
+@dataclass
+class Entry:
+    """A definition: its name, the sentence above it, and how many lines it takes."""
+
+    name: str
+    sentence: str
+    lines: int
+
+
+@dataclass
+class Page:
+    """A file of definitions: what its head says, and those of its definitions that are asked for, in their order."""
+
+    path: Path
+    head: str
+    entries: list[Entry] = field(default_factory=list)
+
+    @property
+    def crate(self) -> str:
+        return self.path.parent.parent.name
+
+    @property
+    def lines(self) -> int:
+        return sum(entry.lines for entry in self.entries)
+
+
+def crates() -> list[str]:
+    """All crates, each behind those that it uses."""
+    text = (TOP / "crates.txt").read_text(encoding="utf-8")
+    return [line.split(":")[0].split()[0] for line in text.splitlines() if ":" in line and not line.startswith("#")]
+
+
+BEGINS = re.compile(r"\s*(?:abbrev |unfoldable )?(?:pub )?(?:(?:data|record) )?([^\W\d][\w'\-]*)(?= :| \(| \{|$)")
+
+
+def comment_above(lines: list[str], at: int) -> str:
+    """The comment that stands right above a line, as one text."""
+    first = at
+    while first > 0 and lines[first - 1].lstrip().startswith("--"):
+        first -= 1
+    return " ".join(line.strip().lstrip("-").strip() for line in lines[first:at])
+
+
+def head_of(lines: list[str]) -> str:
+    """The comment with which a file begins."""
+    last = 0
+    while last < len(lines) and lines[last].startswith("--"):
+        last += 1
+    return comment_above(lines, last)
+
+
+def entries_of(path: Path, wanted: set[str]) -> Iterator[Entry]:
+    """Those of a file's definitions whose names are wanted."""
+    lines = path.read_text(encoding="utf-8").split("\n")
+    starts = [at for at, line in enumerate(lines) if is_start(line)] + [len(lines)]
+    found = {at: BEGINS.match(lines[at]) for at in starts[:-1]}
+    names = {at: match.group(1) for at, match in found.items() if match}
+    for at, until in zip(starts, starts[1:]):
+        name = names.get(at)
+        if name in wanted and at == place_of(name, names, lines):
+            yield Entry(name, comment_above(lines, at), count_lines(lines[at:until]))
+
+
+def place_of(name: str, names: dict[int, str], lines: list[str]) -> int:
+    """The line that begins the definition of a name: the first of those that stand least far to the right, so no record's field."""
+    return min((at for at, other in names.items() if other == name), key=lambda at: (len(lines[at]) - len(lines[at].lstrip()), at))
+
+
+def is_start(line: str) -> bool:
+    """Whether a line begins a definition: a signature, a record or a data type."""
+    return bool(re.match(r"\s{0,4}(?:abbrev |unfoldable )?(?:pub )?(?:data |record )?[^\W\d][\w'\-]*(?: \(.*| \{.*)? : ", line)
+                or re.match(r"\s{0,4}(?:pub )?(?:data|record) ", line)) and " = " not in line.split(" : ")[0] and not line.startswith("      ")
+
+
+def count_lines(lines: Iterable[str]) -> int:
+    """Lines that aren't empty and no comment."""
+    return sum(1 for line in lines if line.strip() and not line.lstrip().startswith("--") and not re.match(r"(module|pub mod|use) ", line.strip()))
+
+
+def pages_of(items: Iterable[Item]) -> list[Page]:
+    """The files that the items stand in, each behind those that it uses."""
+    names: dict[Path, set[str]] = {}
+    for path, name in items:
+        names.setdefault(path, set()).add(name)
+    place = {name: at for at, name in enumerate(crates())}
+    found = []
+    for path in sorted(names, key=lambda it: (place[it.parent.parent.name], it)):
+        text = path.read_text(encoding="utf-8").split("\n")
+        found.append(Page(path, head_of(text), list(entries_of(path, names[path]))))
+    return in_order([page for page in found if page.entries])
+
+
+def in_order(pages: list[Page]) -> list[Page]:
+    """The pages of each crate in an order in which each uses only earlier ones."""
+    known = {definitions.module_of(page.path): page for page in pages}
+    done: list[Page] = []
+
+    def visit(page: Page) -> None:
+        if any(other is page for other in done):
+            return
+        for module in used_modules(page.path):
+            other = known.get(module)
+            if other is not None and other is not page:
+                visit(other)
+        done.append(page)
+
+    for page in pages:
+        visit(page)
+    return done
+
+
+def used_modules(path: Path) -> list[str]:
+    """The modules that a file of definitions brings in."""
+    found = re.findall(r"(?m)^(?:pub )?use (Rattle\.[\w.]+?)(?:\.\{|;|$| as )", path.read_text(encoding="utf-8"))
+    return [str(module) for module in found]
+
+
+def std_names(pages: list[Page]) -> list[str]:
+    """The names of std that the files bring in."""
+    found: set[str] = set()
+    for page in pages:
+        for names in re.findall(r"use Rattle\.std\.[\w.]+\.\{([^}]*)\}", page.path.read_text(encoding="utf-8")):
+            found |= {name.strip() for name in names.split(",") if re.match(r"\w", name.strip())}
+    return sorted(found, key=str.lower)
+
+
+def subject_of(crate: str) -> str:
+    for title, _, names in SUBJECTS:
+        if crate in names:
+            return title
+    return SUBJECTS[-1][0]
+
+
+def clean(text: str) -> str:
+    return text.replace("|", "\\|").strip()
+
+
+def page_lines(page: Page) -> Iterator[str]:
+    """A file of the list: its name, what its head says, and a row for each definition."""
+    yield f"### `{page.path.relative_to(TOP / 'crates')}`"
+    yield ""
+    yield f"{clean(page.head)} {len(page.entries)} definitions, {page.lines} lines."
+    yield ""
+    yield "| definition | what it is |"
+    yield "|---|---|"
+    for entry in page.entries:
+        yield f"| `{entry.name}` | {clean(entry.sentence)} |"
+    yield ""
+
+
+def totals(pages: list[Page]) -> str:
+    count = sum(len(page.entries) for page in pages)
+    return f"{count} definitions in {len(pages)} files, {sum(page.lines for page in pages)} lines"
+
+
+def cited(world: definitions.World, name: str) -> set[Item]:
+    """The definitions that a file of clauses cites, directly or through others; a data type stands for its constructors."""
+    found: set[Item] = definitions.cited_from(world, definitions.specs(name))
+    return {(path, item) for path, item in found if item not in world.file(definitions.module_of(path)).constructors}
+
+
+def headline_lines(pages: list[Page]) -> Iterator[str]:
+    """The part of the list on the headline, by subject."""
+    yield "## What the headline stands on"
+    yield ""
+    yield f"{totals(pages)}."
+    yield ""
+    for title, said, _ in SUBJECTS:
+        own = [page for page in pages if subject_of(page.crate) == title]
+        if own:
+            yield from (f"## {title}", "", f"{said} {totals(own)}.", "")
+            for page in own:
+                yield from page_lines(page)
+
+
+def clause_lines(world: definitions.World, seen: set[Item]) -> Iterator[str]:
+    """What each further clause adds to the list."""
+    for clause, name, said in CLAUSES:
+        more = cited(world, name) - seen
+        pages = pages_of(more)
+        yield from (f"## What `{clause}` adds", "", f"{said[0].upper()}{said[1:]} (`{name.replace('/', '/specs/')}.antt`). {totals(pages)}.", "")
+        for page in pages:
+            yield from page_lines(page)
+
+
+INTRODUCTION = """# The reading list of the theorem
+
+A proof shows that the program meets its contracts. It can't show that the contracts say what you want. For that, somebody has to read the definitions that they are written in. This page lists them, so that you know what to read, and when you are done.
+
+Begin with *Rules* and *Machine*: they say what acceptance is and what a run is. If you believe these two, you know what the theorem claims. The other parts tie both to bytes. Each file uses only files that stand before it, and words of the standard library, which are listed at the end.
+
+Types that are written in Rust (enumerations such as the five basic atomicities) aren't listed: they stand in the `src/` folder of the same crate.
+
+`bench/reading.py` writes this page from the sources, and the check of documents compares them.
+"""
+
+
+def reading_list() -> str:
+    """The whole of docs/READING.md."""
+    world = definitions.World()
+    items = cited(world, "aj_commands/Headline")
+    pages = pages_of(items)
+    lines = [INTRODUCTION, *headline_lines(pages), *clause_lines(world, items)]
+    lines += ["## Words of the standard library", "", ", ".join(f"`{name}`" for name in std_names(pages)) + ".", ""]
+    return "\n".join(lines)
+
+
+@dataclass
+class Law:
+    """A public function without a body: its contract is a theorem."""
+
+    name: str
+    file: Path
+    said: str
+    clauses: list[str]
+
+
+LAW = re.compile(r"((?:^///[^\n]*\n)+)(?:^#\[[^\n]*\n)*^pub fn (\w+)(?:<[^>]*>)?\(\)((?:\n {4}[^\n]*)*)\n\{\}", re.M)
+
+
+def laws() -> Iterator[Law]:
+    """All laws, crate by crate; examples aside."""
+    for crate in crates():
+        if crate.endswith("_examples") or crate == "aj_examples":
+            continue
+        for path in sorted((TOP / "crates" / crate / "src").rglob("*.rt")):
+            text = path.read_text(encoding="utf-8")
+            for found in LAW.finditer(text):
+                said = " ".join(line.strip().lstrip("/").strip() for line in found.group(1).splitlines())
+                yield Law(found.group(2), path, said, re.findall(r"(?m)^    ensures (\w+) ", found.group(3)))
+
+
+def uses_of(crate: str) -> list[str]:
+    """The crates whose proofs a crate's proofs cite."""
+    found: set[str] = set()
+    for path in (TOP / "crates" / crate / "proofs").rglob("*.antt"):
+        found |= set(re.findall(r"use Rattle\.(\w+)\.proofs\.", path.read_text(encoding="utf-8")))
+    return [name for name in crates() if name in found and name != crate]
+
+
+def theorem_index() -> str:
+    """The whole of docs/theorems.md."""
+    lines = ["# The laws, one by one", "",
+             "A law is a public function without a body: its contract is the theorem, and the check proves it. This page has a row for each, in the "
+             "order of the crates. `docs/PROVED.md` says what they come to together. `bench/reading.py` writes this page.", ""]
+    by_crate: dict[str, list[Law]] = {}
+    for law in laws():
+        by_crate.setdefault(law.file.parent.parent.name, []).append(law)
+    for crate, own in by_crate.items():
+        uses = ", ".join(f"`{name}`" for name in uses_of(crate)) or "std alone"
+        lines += [f"## `{crate}`", "", f"Its proofs cite: {uses}.", "", "| law | clauses | what it says |", "|---|---|---|"]
+        lines += [f"| `{law.name}` (`src/{law.file.name}`) | {', '.join(f'`{it}`' for it in law.clauses)} | {clean(law.said)} |" for law in own]
+        lines += [""]
+    return "\n".join(lines)
+
+
+def main() -> int:
+    parser = argparse.ArgumentParser(description=__doc__, formatter_class=argparse.RawDescriptionHelpFormatter)
+    parser.add_argument("--write", action="store_true", help="write both pages")
+    arguments = parser.parse_args()
+    wrong = 0
+    for name, text in (("READING.md", reading_list()), ("theorems.md", theorem_index())):
+        path = TOP / "docs" / name
+        if arguments.write:
+            path.write_text(text, encoding="utf-8")
+        elif not path.is_file() or path.read_text(encoding="utf-8") != text:
+            print(f"docs/{name} isn't what the sources say: bench/reading.py --write")
+            wrong = 1
+    return wrong
+
+
+if __name__ == "__main__":
+    sys.exit(main())
