@@ -1,0 +1,20 @@
+//! Laws of logs.
+
+ghost use Rattle.std.specs.Prelude.{◌≡◌, ℕ, List, Some, slice_get};
+ghost use Rattle.aj_movers.specs.Movers.{HasMovers};
+ghost use Rattle.aj_movers.specs.Serial.{NobodyInside, IsSerial};
+ghost use Rattle.aj_movers.specs.Systems.{run_from, entries_from, written_from};
+ghost use Rattle.aj_logs.specs.Logs.{Guard, logs};
+ghost use Rattle.aj_logs.specs.Memory.{Memory};
+ghost use Rattle.aj_steps.specs.Units.{Entry, units, word_of};
+ghost use Rattle.aj_steps.specs.Words.{IsReducible};
+
+/// Whatever is guessed of the guards, the kinds of a log's events mean what they say; so where a log can have happened, ends
+/// with nobody inside a block, and has reducible words, its written order is serial: each thread does what it did, each read
+/// sees the value that it saw, the end is the same, and no block is interrupted.
+pub fn logs_serialise()
+    ensures movers { (guard : ℕ → Guard) → HasMovers (logs guard) (λ q. Unit {0}) }
+    ensures serial { (guard : ℕ → Guard) (start end : Memory) (s : List ℕ) → run_from (logs guard) start s ≡ Some end → NobodyInside (logs guard) end →
+        ((n : ℕ) (u : List Entry) → slice_get (units (entries_from (logs guard) start 0 s)) n ≡ Some u → IsReducible (word_of u)) →
+        IsSerial (logs guard) start s (written_from (logs guard) start s) end }
+{}
