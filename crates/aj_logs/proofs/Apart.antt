@@ -17,13 +17,13 @@ abbrev pub MayPass : StepKind → StepKind → Content → Type 0
 MayPass k l there = ((moves_right k ≡ true) × (l ≢ Bare)) ⊎ ((moves_left l ≡ true) × (k ≢ Bare) × (was_there there ≡ true))
 
 -- a Left step isn't passed by a Right one, and an Other one by no Other
-left_right : {k l : StepKind} {c : Content} → k ≡ Left → l ≡ Right → MayPass k l c → ⊥
-left_right {k} {l} is at (inl p) = let e : false ≡ true = ap moves_right (sym is) ∙ p.0 in absurd cc
-left_right {k} {l} is at (inr p) = let e : false ≡ true = ap moves_left (sym at) ∙ p.0 in absurd cc
+left_right : {k l : StepKind} (c : Content) → k ≡ Left → l ≡ Right → MayPass k l c → ⊥
+left_right {k} {l} c is at (inl p) = let e : false ≡ true = ap moves_right (sym is) ∙ p.0 in absurd cc
+left_right {k} {l} c is at (inr p) = let e : false ≡ true = ap moves_left (sym at) ∙ p.0 in absurd cc
 
-other_other : {k l : StepKind} {c : Content} → k ≡ Other → l ≡ Other → MayPass k l c → ⊥
-other_other {k} {l} is at (inl p) = let e : false ≡ true = ap moves_right (sym is) ∙ p.0 in absurd cc
-other_other {k} {l} is at (inr p) = let e : false ≡ true = ap moves_left (sym at) ∙ p.0 in absurd cc
+other_other : {k l : StepKind} (c : Content) → k ≡ Other → l ≡ Other → MayPass k l c → ⊥
+other_other {k} {l} c is at (inl p) = let e : false ≡ true = ap moves_right (sym is) ∙ p.0 in absurd cc
+other_other {k} {l} c is at (inr p) = let e : false ≡ true = ap moves_left (sym at) ∙ p.0 in absurd cc
 
 -- a lock that a turn of thread u finds or leaves is held by no other
 gripped_not_held : (t u : ℕ) → t ≢ u → (free k : StepKind) (c : Content) → Gripped u free k c → holds t c ≡ false
@@ -95,24 +95,24 @@ module _ (t u : ℕ) (other : t ≢ u) where
   abbrev pub Idle : Content → Content → Content → Type 0
   Idle c x y = (x ≡ c) × (y ≡ c)
 
-  locks_clash : {k l : StepKind} {c x there : Content} → Gripped t Left k x → Gripped u Right l x → MayPass k l there → ⊥
-  locks_clash (inl a) (inl b) p = left_right a.1 b.1 p
-  locks_clash (inl a) (inr b) p = let e : Lock None ≡ Lock (Some b.0) = sym a.0 ∙ b.1 in absurd cc
-  locks_clash (inr a) (inl b) p = let e : Lock (Some a.0) ≡ Lock None = sym a.1 ∙ b.0 in absurd cc
-  locks_clash (inr a) (inr b) p = let e : Lock (Some a.0) ≡ Lock (Some b.0) = sym a.1 ∙ b.1 in let same : a.0 ≡ b.0 = cc in other (sym a.2 ∙ ap (λ (h : Hold). h.by) same ∙ b.2)
+  locks_clash : {k l : StepKind} (x there : Content) → Gripped t Left k x → Gripped u Right l x → MayPass k l there → ⊥
+  locks_clash x there (inl a) (inl b) p = left_right there a.1 b.1 p
+  locks_clash x there (inl a) (inr b) p = let e : Lock None ≡ Lock (Some b.0) = sym a.0 ∙ b.1 in absurd cc
+  locks_clash x there (inr a) (inl b) p = let e : Lock (Some a.0) ≡ Lock None = sym a.1 ∙ b.0 in absurd cc
+  locks_clash x there (inr a) (inr b) p = let e : Lock (Some a.0) ≡ Lock (Some b.0) = sym a.1 ∙ b.1 in let same : a.0 ≡ b.0 = cc in other (sym a.2 ∙ ap (λ (h : Hold). h.by) same ∙ b.2)
 
   -- two accesses of one place
-  guards_clash : (g : Guard) (cells : Cells) {k l : StepKind} {there : Content} → k ≡ access_kind g cells t → l ≡ access_kind g cells u → MayPass k l there → ⊥
-  guards_clash Unguarded cells a b p = other_other a b p
-  guards_clash (ByThread v) cells {k} {l} a b p = by (v == t) refl (v == u) refl p
+  guards_clash : (g : Guard) (cells : Cells) {k l : StepKind} (there : Content) → k ≡ access_kind g cells t → l ≡ access_kind g cells u → MayPass k l there → ⊥
+  guards_clash Unguarded cells there a b p = other_other there a b p
+  guards_clash (ByThread v) cells {k} {l} there a b p = by (v == t) refl (v == u) refl p
     where
-      by : (x : Bool) → (v == t) ≡ x → (y : Bool) → (v == u) ≡ y → MayPass k l _ → ⊥
+      by : (x : Bool) → (v == t) ≡ x → (y : Bool) → (v == u) ≡ y → MayPass k l there → ⊥
       by true ex true ey q = other (sym (eqb-true v t ex) ∙ eqb-true v u ey)
       by true ex false ey (inl q) = q.1 (b ∙ ap (λ (z : Bool). if z then Both else Bare) ey)
       by true ex false ey (inr q) = let e : false ≡ true = ap moves_left (sym (b ∙ ap (λ (z : Bool). if z then Both else Bare) ey)) ∙ q.0 in absurd cc
       by false ex y ey (inl q) = let e : false ≡ true = ap moves_right (sym (a ∙ ap (λ (z : Bool). if z then Both else Bare) ex)) ∙ q.0 in absurd cc
       by false ex y ey (inr q) = q.1 (a ∙ ap (λ (z : Bool). if z then Both else Bare) ex)
-  guards_clash (ByLock m) cells {k} {l} a b p = by (holds t (cells (AtLock m))) refl (holds u (cells (AtLock m))) refl p
+  guards_clash (ByLock m) cells {k} {l} there a b p = by (holds t (cells (AtLock m))) refl (holds u (cells (AtLock m))) refl p
     where
       one : (c : Content) → holds t c ≡ true → holds u c ≡ true → ⊥
       one (Lock None) h i = absurd cc
@@ -120,7 +120,7 @@ module _ (t u : ℕ) (other : t ≢ u) where
       one (Value v) h i = absurd cc
       one (Thread v) h i = absurd cc
 
-      by : (x : Bool) → holds t (cells (AtLock m)) ≡ x → (y : Bool) → holds u (cells (AtLock m)) ≡ y → MayPass k l _ → ⊥
+      by : (x : Bool) → holds t (cells (AtLock m)) ≡ x → (y : Bool) → holds u (cells (AtLock m)) ≡ y → MayPass k l there → ⊥
       by true ex true ey q = one (cells (AtLock m)) ex ey
       by true ex false ey (inl q) = q.1 (b ∙ ap (λ (z : Bool). if z then Both else Bare) ey)
       by true ex false ey (inr q) = let e : false ≡ true = ap moves_left (sym (b ∙ ap (λ (z : Bool). if z then Both else Bare) ey)) ∙ q.0 in absurd cc
@@ -144,13 +144,13 @@ module _ (t u : ℕ) (other : t ≢ u) (guard : ℕ → Guard) (cells : Cells) w
   clash : (k1 k2 k l : StepKind) (c x y there : Content) (a b : Cell) → a ≡ b → MayPass k l there → (a ≡ AtThread u → there ≡ c)
       → ((p : ℕ) → a ≡ AtPlace p → k1 ≡ access_kind (guard p) cells t) → ((p : ℕ) → b ≡ AtPlace p → k2 ≡ access_kind (guard p) cells u)
       → Sort t k1 k c x a → Sort u k2 l x y b → Idle t u other c x y
-  clash k1 k2 k l c x y there (AtLock m) (AtLock n) same p is one two (of_lock a b) (of_lock d e) = absurd (locks_clash t u other b d p)
+  clash k1 k2 k l c x y there (AtLock m) (AtLock n) same p is one two (of_lock a b) (of_lock d e) = absurd (locks_clash t u other x there b d p)
   clash k1 k2 k l c x y there (AtLock m) (AtPlace n) same p is one two (of_lock a b) (of_place d) = absurd cc
   clash k1 k2 k l c x y there (AtLock m) (AtThread n) same p is one two (of_lock a b) (of_start d e f) = absurd cc
   clash k1 k2 k l c x y there (AtLock m) (AtThread n) same p is one two (of_lock a b) (of_join d e f) = absurd cc
   clash k1 k2 k l c x y there (AtLock m) _ same p is one two (of_lock a b) (of_own d e) = absurd cc
   clash k1 k2 k l c x y there (AtPlace m) (AtLock n) same p is one two (of_place a) (of_lock d e) = absurd cc
-  clash k1 k2 k l c x y there (AtPlace m) (AtPlace n) same p is one two (of_place a) (of_place d) = absurd (guards_clash t u other (guard m) cells (a ∙ one m refl) (d ∙ two m (sym same)) p)
+  clash k1 k2 k l c x y there (AtPlace m) (AtPlace n) same p is one two (of_place a) (of_place d) = absurd (guards_clash t u other (guard m) cells there (a ∙ one m refl) (d ∙ two m (sym same)) p)
   clash k1 k2 k l c x y there (AtPlace m) (AtThread n) same p is one two (of_place a) (of_start d e f) = absurd cc
   clash k1 k2 k l c x y there (AtPlace m) (AtThread n) same p is one two (of_place a) (of_join d e f) = absurd cc
   clash k1 k2 k l c x y there (AtPlace m) _ same p is one two (of_place a) (of_own d e) = absurd cc
@@ -170,7 +170,7 @@ module _ (t u : ℕ) (other : t ≢ u) (guard : ℕ → Guard) (cells : Cells) w
   clash k1 k2 k l c x y there _ (AtThread n) same p is one two (of_own a (inl b)) (of_start d e f) = let h : Thread Present ≡ Thread Absent = sym b ∙ d in absurd cc
   clash k1 k2 k l c x y there _ (AtThread n) same p is one two (of_own a (inr b)) (of_start d e f) = let h : Thread Ended ≡ Thread Absent = sym b.0 ∙ d in absurd cc
   clash k1 k2 k l c x y there _ (AtThread n) same p is one two (of_own a (inl b)) (of_join d e f) = let h : Thread Present ≡ Thread Ended = sym b ∙ d in absurd cc
-  clash k1 k2 k l c x y there _ (AtThread n) same p is one two (of_own a (inr b)) (of_join d e f) = absurd (left_right b.1 f p)
+  clash k1 k2 k l c x y there _ (AtThread n) same p is one two (of_own a (inr b)) (of_join d e f) = absurd (left_right there b.1 f p)
   clash k1 k2 k l c x y there _ _ same p is one two (of_own a b) (of_own d e) = absurd (let h : t ≡ u = cc in other h)
 
 -- what two turns find and leave is the same in the other order

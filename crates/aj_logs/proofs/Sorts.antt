@@ -5,7 +5,7 @@ use Rattle.std.proofs.lemmas.Bool.{eqb-true}
 use Rattle.std.proofs.lemmas.Option.{same_Some}
 use Rattle.aj_state.specs.declared.value.StepKind.{StepKind}
 use Rattle.aj_state.specs.declared.value.StepKind.TheVariants.{Both, Right, Left}
-use Rattle.aj_logs.specs.Events.{Event, Take, Give, Access, Start, Join, Stop, Begin, End}
+use Rattle.aj_logs.specs.Events.{Word, Event, Take, Give, Access, Start, Join, Stop, Begin, End}
 use Rattle.aj_logs.specs.Memory.{Hold, Absent, Present, Ended, Cell, AtLock, AtPlace, AtThread, Content, Lock, Value, Thread}
 use Rattle.aj_logs.specs.Turns.{cell_of, Turn, only_if, take_turn, given, give_turn, sees, left_in, access_turn, start_turn, join_turn, own_turn, turn}
 
@@ -49,7 +49,7 @@ module _ (t : ℕ) (kind : StepKind) where
   give_sort l (Value v) y e = absurd cc
   give_sort l (Thread p) y e = absurd cc
 
-  access_sort : (p : ℕ) (seen left : Option ℕ) (c : Content) (y : Turn) → access_turn kind seen left c ≡ Some y → Sort t kind y.kind c y.content (AtPlace p)
+  access_sort : (p : ℕ) (seen left : Option Word) (c : Content) (y : Turn) → access_turn kind seen left c ≡ Some y → Sort t kind y.kind c y.content (AtPlace p)
   access_sort p seen left (Lock o) y e = absurd cc
   access_sort p seen left (Value v) y e = let q = tested (sees seen v) (record { kind = kind; content = Value (left_in left v) }) y e in of_place (ap (λ (x : Turn). x.kind) (sym q.1))
   access_sort p seen left (Thread o) y e = absurd cc

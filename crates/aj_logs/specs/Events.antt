@@ -1,5 +1,9 @@
--- What a log says that the threads of a program did. Locks, places, threads, blocks and values have numbers.
+-- What a log says that the threads of a program did. Locks, places, threads and blocks have numbers; a value is a word of bytes.
 use Rattle.std.specs.Prelude.{ℕ, Option, List, map}
+
+-- a value, as its bytes
+abbrev pub Word : Type 0
+Word = List ℕ
 
 -- one step of a thread
 pub data Event : Type 0 where
@@ -7,7 +11,7 @@ pub data Event : Type 0 where
   Take : ℕ → Event
   Give : ℕ → Event
   -- it saw this value in a place, where it looked, and left that value there, where it wrote
-  Access : ℕ → (seen left : Option ℕ) → Event
+  Access : ℕ → (seen left : Option Word) → Event
   -- it started a thread; it saw that one has ended; it ended itself
   Start : ℕ → Event
   Join : ℕ → Event

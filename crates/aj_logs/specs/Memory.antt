@@ -1,6 +1,6 @@
 -- What the threads of a log share, and what is each one's own.
 use Rattle.std.specs.Prelude.{ℕ, Bool, false, ◌==◌, Option, List, if◌then◌else◌}
-use Rattle.aj_logs.specs.Events.{Event}
+use Rattle.aj_logs.specs.Events.{Word, Event}
 
 -- a lock that is held: by which thread, and how often it was taken once more
 pub record Hold : Type 0 where
@@ -22,7 +22,7 @@ pub data Cell : Type 0 where
 -- what a cell holds
 pub data Content : Type 0 where
   Lock : Option Hold → Content
-  Value : ℕ → Content
+  Value : Word → Content
   Thread : Presence → Content
 
 -- whether two cells are the same

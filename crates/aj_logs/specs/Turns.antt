@@ -1,8 +1,9 @@
 -- What an event asks of its cell, and what it leaves there.
 use Rattle.std.specs.Prelude.{ℕ, zero, suc, Bool, true, ◌==◌, Option, Some, None, if◌then◌else◌}
+use Rattle.std.specs.Str.{bytes_eq}
 use Rattle.aj_state.specs.declared.value.StepKind.{StepKind}
 use Rattle.aj_state.specs.declared.value.StepKind.TheVariants.{Both, Right, Left}
-use Rattle.aj_logs.specs.Events.{Event, Take, Give, Access, Start, Join, Stop, Begin, End}
+use Rattle.aj_logs.specs.Events.{Word, Event, Take, Give, Access, Start, Join, Stop, Begin, End}
 use Rattle.aj_logs.specs.Memory.{Hold, Absent, Present, Ended, Cell, AtLock, AtPlace, AtThread, Content, Lock, Value, Thread}
 
 -- the cell of a thread's event: its own where it only begins or ends something
@@ -46,17 +47,17 @@ give_turn t (Value v) = None
 give_turn t (Thread p) = None
 
 -- whether what was seen is what is there
-abbrev pub sees : Option ℕ → ℕ → Bool
+abbrev pub sees : Option Word → Word → Bool
 sees None v = true
-sees (Some w) v = w == v
+sees (Some w) v = bytes_eq w v
 
 -- what is left in a place
-abbrev pub left_in : Option ℕ → ℕ → ℕ
+abbrev pub left_in : Option Word → Word → Word
 left_in None v = v
 left_in (Some w) v = w
 
 -- an access of this kind sees what is there
-abbrev pub access_turn : StepKind → (seen left : Option ℕ) → Content → Option Turn
+abbrev pub access_turn : StepKind → (seen left : Option Word) → Content → Option Turn
 access_turn kind seen left (Lock o) = None
 access_turn kind seen left (Value v) = only_if (sees seen v) (record { kind = kind; content = Value (left_in left v) })
 access_turn kind seen left (Thread p) = None
