@@ -3,3 +3,4 @@ pub mod Cells
 pub mod Sorts
 pub mod Apart
 pub mod Moves
+pub mod Judged

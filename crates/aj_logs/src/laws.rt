@@ -1,9 +1,11 @@
 //! Laws of logs.
 
-ghost use Rattle.std.specs.Prelude.{◌≡◌, ℕ, List, Some, slice_get};
+ghost use Rattle.std.specs.Prelude.{◌≡◌, ℕ, List, [], Some, slice_get};
 ghost use Rattle.aj_movers.specs.Movers.{HasMovers};
 ghost use Rattle.aj_movers.specs.Serial.{NobodyInside, IsSerial};
 ghost use Rattle.aj_movers.specs.Systems.{run_from, entries_from, written_from};
+ghost use Rattle.aj_logs.specs.Events.{Line, order_of};
+ghost use Rattle.aj_logs.specs.Judging.{Known, Goes, nothing, judged, memory_of};
 ghost use Rattle.aj_logs.specs.Logs.{Guard, logs};
 ghost use Rattle.aj_logs.specs.Memory.{Memory};
 ghost use Rattle.aj_steps.specs.Units.{Entry, units, word_of};
@@ -17,4 +19,11 @@ pub fn logs_serialise()
     ensures serial { (guard : ℕ → Guard) (start end : Memory) (s : List ℕ) → run_from (logs guard) start s ≡ Some end → NobodyInside (logs guard) end →
         ((n : ℕ) (u : List Entry) → slice_get (units (entries_from (logs guard) start 0 s)) n ≡ Some u → IsReducible (word_of u)) →
         IsSerial (logs guard) start s (written_from (logs guard) start s) end }
+{}
+
+/// A log that is judged to its end, with no thread inside a block, has a serial order: whatever is guessed of the guards, there
+/// is a memory from which the log and that order run, each thread doing what it did, to the same end.
+pub fn judged_logs_serialise()
+    ensures { (guard : ℕ → Guard) (lines : List Line) (k : Known) → judged guard nothing lines ≡ Goes k → ((t : ℕ) → k.depth t ≡ 0) →
+        IsSerial (logs guard) (memory_of nothing lines) (order_of lines) (written_from (logs guard) (memory_of nothing lines) (order_of lines)) (memory_of k []) }
 {}

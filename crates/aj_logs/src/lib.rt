@@ -2,5 +2,7 @@
 #![tactic(auto)]
 
 mod laws;
+mod refusal;
 
-pub use laws::logs_serialise;
+pub use laws::{judged_logs_serialise, logs_serialise};
+pub use refusal::Refusal;
