@@ -46,6 +46,9 @@ put_put a b c d cells other cell = by (eq_cell a cell) refl (eq_cell b cell) ref
 
 -- Own.
 
+pub own_here : (t : ℕ) (o : Own) (owns : ℕ → Own) → put_own t o owns t ≡ o
+own_here t o owns = ap (λ (x : Bool). if x then o else owns t) (eq-eqb t t refl)
+
 pub own_other : (t u : ℕ) (o : Own) (owns : ℕ → Own) → t ≢ u → put_own t o owns u ≡ owns u
 own_other t u o owns other = ap (λ (x : Bool). if x then o else owns u) (not_true (t == u) (λ e. absurd (other (eqb-true t u e))))
 

@@ -30,16 +30,16 @@ lock_told t l End at = absurd cc
 
 lock_first : (l : ℕ) (lines : List Line) → first_content (AtLock l) lines ≡ Lock None
 lock_first l [] = refl
-lock_first l (line ∷ lines) = by (eq_cell (cell_of line.thread line.event) (AtLock l)) refl
+lock_first l (line ∷ lines) = by (eq_cell (cell_of line.thread line.event) (AtLock l)) refl (lock_first l lines)
   where
-    by : (b : Bool) → eq_cell (cell_of line.thread line.event) (AtLock l) ≡ b → (if b then assumed line.event else first_content (AtLock l) lines) ≡ Lock None
-    by true e = lock_told line.thread l line.event (same_cell (cell_of line.thread line.event) (AtLock l) e)
-    by false e = lock_first l lines
+    by : (b : Bool) → eq_cell (cell_of line.thread line.event) (AtLock l) ≡ b → first_content (AtLock l) lines ≡ Lock None → (if b then assumed line.event else first_content (AtLock l) lines) ≡ Lock None
+    by true e later = lock_told line.thread l line.event (same_cell (cell_of line.thread line.event) (AtLock l) e)
+    by false e later = later
 
 -- One line.
 
 module _ (guard : ℕ → Guard) where
-  record Stepped (k : Known) (line : Line) (rest : List Line) (next : Known) : Type 0 where
+  pub record Stepped (k : Known) (line : Line) (rest : List Line) (next : Known) : Type 0 where
     pub kind : StepKind
     pub steps : Steps (logs guard) (memory_of k (line ∷ rest)) line.thread kind (memory_of next rest)
     pub fits : fits_phase (k.committed line.thread) kind ≡ true
@@ -100,10 +100,18 @@ module _ (guard : ℕ → Guard) where
       own_same : (u : ℕ) → put_own line.thread (record { depth = d; rest = events_of line.thread rest }) before.own u ≡ (memory_of (after k line d x) rest).own u
       own_same u = by (line.thread == u) refl
         where
-          by : (b : Bool) → (line.thread == u) ≡ b
-              → (if b then record { depth = d; rest = events_of line.thread rest } else record { depth = k.depth u; rest = if b then line.event ∷ events_of u rest else events_of u rest })
-              ≡ record { depth = if b then d else k.depth u; rest = events_of u rest }
-          by true e = ap (λ v. record { depth = d; rest = events_of v rest }) (eqb-true line.thread u e)
+          mine : ℕ → Own
+          mine v = record { depth = d; rest = events_of v rest }
+
+          theirs : Bool → Own
+          theirs b = record { depth = k.depth u; rest = if b then line.event ∷ events_of u rest else events_of u rest }
+
+          after_line : Bool → Own
+          after_line b = record { depth = if b then d else k.depth u; rest = events_of u rest }
+
+          by : (b : Bool) → (line.thread == u) ≡ b → (if b then mine line.thread else theirs b) ≡ after_line b
+          unfolding mine, theirs, after_line
+          by true e = ap mine (eqb-true line.thread u e)
           by false e = refl
 
       stepped_after : depth_after line.event (k.depth line.thread) ≡ Some d → turn_of guard k line ≡ Some x → fits_phase (k.committed line.thread) x.kind ≡ true → Stepped k line rest (after k line d x)
@@ -118,7 +126,7 @@ module _ (guard : ℕ → Guard) where
         phases = λ v. ap (λ (b : Bool). if v == line.thread then not ((if b then d else k.depth line.thread) == 0) && (k.committed line.thread || is_commit x.kind) else k.committed v) (sym (eq-eqb line.thread line.thread refl));
       }
 
-    stepped : (next : Known) → noted guard k line ≡ Goes next → Stepped k line rest next
+    pub stepped : (next : Known) → noted guard k line ≡ Goes next → Stepped k line rest next
     stepped next is = by_there (unwrap_or (k.cells own) (Thread Present)) refl is
       where
         by_kind : (d : ℕ) (x : Turn) → unwrap_or (k.cells own) (Thread Present) ≡ Thread Present → depth_after line.event (k.depth line.thread) ≡ Some d → turn_of guard k line ≡ Some x
@@ -140,26 +148,28 @@ module _ (guard : ℕ → Guard) where
 
   -- All lines.
 
-  judged_run : (lines : List Line) (k end : Known) → judged guard k lines ≡ Goes end → run_from (logs guard) (memory_of k lines) (order_of lines) ≡ Some (memory_of end [])
+  pub judged_run : (lines : List Line) (k end : Known) → judged guard k lines ≡ Goes end → run_from (logs guard) (memory_of k lines) (order_of lines) ≡ Some (memory_of end [])
   judged_run [] k end is = let same : k ≡ end = cc in ap (λ z. Some (memory_of z [])) same
-  judged_run (line ∷ lines) k end is = by (noted guard k line) refl is
+  judged_run (line ∷ lines) k end is = by (noted guard k line) refl is (λ next h. judged_run lines next end h)
     where
-      by : (n : Note) → noted guard k line ≡ n → note_then n (λ next. judged guard next lines) ≡ Goes end → run_from (logs guard) (memory_of k (line ∷ lines)) (order_of (line ∷ lines)) ≡ Some (memory_of end [])
-      by (Goes next) e h = ap (λ o. run_then o (λ q. run_from (logs guard) q (order_of lines))) (stepped k line lines next e).steps ∙ judged_run lines next end h
-      by (Stops why) e h = absurd cc
+      by : (n : Note) → noted guard k line ≡ n → note_then n (λ next. judged guard next lines) ≡ Goes end → ((next : Known) → judged guard next lines ≡ Goes end → run_from (logs guard) (memory_of next lines) (order_of lines) ≡ Some (memory_of end []))
+          → run_from (logs guard) (memory_of k (line ∷ lines)) (order_of (line ∷ lines)) ≡ Some (memory_of end [])
+      by (Goes next) e h later = ap (λ o. run_then o (λ q. run_from (logs guard) q (order_of lines))) (stepped k line lines next e).steps ∙ later next h
+      by (Stops why) e h later = absurd cc
 
   judged_fits : (lines : List Line) (k end : Known) (place : ℕ) → judged guard k lines ≡ Goes end → FitPhases k.committed (entries_from (logs guard) (memory_of k lines) place (order_of lines))
   judged_fits [] k end place is = tt
-  judged_fits (line ∷ lines) k end place is = by (noted guard k line) refl is
+  judged_fits (line ∷ lines) k end place is = by (noted guard k line) refl is (λ next h. judged_fits lines next end (place + 1) h)
     where
-      by : (n : Note) → noted guard k line ≡ n → note_then n (λ next. judged guard next lines) ≡ Goes end → FitPhases k.committed (entries_from (logs guard) (memory_of k (line ∷ lines)) place (order_of (line ∷ lines)))
-      by (Goes next) e h =
+      by : (n : Note) → noted guard k line ≡ n → note_then n (λ next. judged guard next lines) ≡ Goes end
+          → ((next : Known) → judged guard next lines ≡ Goes end → FitPhases next.committed (entries_from (logs guard) (memory_of next lines) (place + 1) (order_of lines))) → FitPhases k.committed (entries_from (logs guard) (memory_of k (line ∷ lines)) place (order_of (line ∷ lines)))
+      by (Goes next) e h later =
           let s = stepped k line lines next e in
           let es = entries_from (logs guard) (memory_of next lines) (place + 1) (order_of lines) in
           let entry : Entry = record { place = place; thread = line.thread; kind = s.kind; inside = is_within ((memory_of next lines).own line.thread) } in
           subst (FitPhases k.committed) (ap (λ o. entry_then (logs guard) place line.thread o (λ q. entries_from (logs guard) q (place + 1) (order_of lines))) (sym s.steps))
-          (s.fits, subst (λ c. FitPhases c es) (λ i v. s.phases v i) (judged_fits lines next end (place + 1) h))
-      by (Stops why) e h = absurd cc
+          (s.fits, subst (λ c. FitPhases c es) (λ i v. s.phases v i) (later next h))
+      by (Stops why) e h later = absurd cc
 
   pub judged_serial : (lines : List Line) (end : Known) → judged guard nothing lines ≡ Goes end → ((t : ℕ) → end.depth t ≡ 0)
       → IsSerial (logs guard) (memory_of nothing lines) (order_of lines) (written_from (logs guard) (memory_of nothing lines) (order_of lines)) (memory_of end [])

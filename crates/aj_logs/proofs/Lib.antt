@@ -4,3 +4,4 @@ pub mod Sorts
 pub mod Apart
 pub mod Moves
 pub mod Judged
+pub mod Lines

@@ -14,7 +14,7 @@ use Rattle.aj_logs.proofs.Sorts.{Sort, of_lock, of_place, of_start, of_join, of_
 use Rattle.aj_logs.proofs.Apart.{MayPass, kind_kept, present_kept, present_before, apart}
 
 -- a step of a thread: its event, and what comes of it
-record Did (guard : ℕ → Guard) (q : Memory) (t : ℕ) (k : StepKind) (r : Memory) : Type 0 where
+pub record Did (guard : ℕ → Guard) (q : Memory) (t : ℕ) (k : StepKind) (r : Memory) : Type 0 where
   pub event : Event
   pub rest : List Event
   pub depth : ℕ
@@ -27,7 +27,7 @@ record Did (guard : ℕ → Guard) (q : Memory) (t : ℕ) (k : StepKind) (r : Me
   pub to : moved_to q t event turn_is.content (record { depth = depth; rest = rest }) ≡ r
 
 module _ (guard : ℕ → Guard) where
-  did : (q : Memory) (t : ℕ) (k : StepKind) (r : Memory) → Steps (logs guard) q t k r → Did guard q t k r
+  pub did : (q : Memory) (t : ℕ) (k : StepKind) (r : Memory) → Steps (logs guard) q t k r → Did guard q t k r
   did q t k r steps = by (q.cells (AtThread t)) refl steps
     where
       one : (e : Event) (es : List Event) → q.cells (AtThread t) ≡ Thread Present → (q.own t).rest ≡ e ∷ es

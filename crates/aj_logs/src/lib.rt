@@ -4,5 +4,5 @@
 mod laws;
 mod refusal;
 
-pub use laws::{judged_logs_serialise, logs_serialise};
+pub use laws::{examples_of_logs, judged_logs_are_serial, logs_serialise};
 pub use refusal::Refusal;
