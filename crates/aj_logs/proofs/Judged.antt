@@ -100,18 +100,10 @@ module _ (guard : ℕ → Guard) where
       own_same : (u : ℕ) → put_own line.thread (record { depth = d; rest = events_of line.thread rest }) before.own u ≡ (memory_of (after k line d x) rest).own u
       own_same u = by (line.thread == u) refl
         where
-          mine : ℕ → Own
-          mine v = record { depth = d; rest = events_of v rest }
-
-          theirs : Bool → Own
-          theirs b = record { depth = k.depth u; rest = if b then line.event ∷ events_of u rest else events_of u rest }
-
-          after_line : Bool → Own
-          after_line b = record { depth = if b then d else k.depth u; rest = events_of u rest }
-
-          by : (b : Bool) → (line.thread == u) ≡ b → (if b then mine line.thread else theirs b) ≡ after_line b
-          unfolding mine, theirs, after_line
-          by true e = ap mine (eqb-true line.thread u e)
+          by : (b : Bool) → (line.thread == u) ≡ b
+              → ◌≡◌ {A = Own} (if b then record { depth = d; rest = events_of line.thread rest } else record { depth = k.depth u; rest = if b then line.event ∷ events_of u rest else events_of u rest })
+              (record { depth = if b then d else k.depth u; rest = events_of u rest })
+          by true e = λ i. record { depth = d; rest = events_of (eqb-true line.thread u e i) rest }
           by false e = refl
 
       stepped_after : depth_after line.event (k.depth line.thread) ≡ Some d → turn_of guard k line ≡ Some x → fits_phase (k.committed line.thread) x.kind ≡ true → Stepped k line rest (after k line d x)

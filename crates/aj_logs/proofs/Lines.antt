@@ -13,7 +13,7 @@ use Rattle.aj_logs.specs.Logs.{Guard, kind_at, moved_to, is_within, logs}
 use Rattle.aj_logs.specs.Memory.{AtThread, Content, Lock, Value, Thread, put, Own, put_own, Memory}
 use Rattle.aj_logs.specs.Serial.{Scene, opening, scene_after, scene_at, scene_then, happen, IsSerialLog}
 use Rattle.aj_logs.specs.Turns.{cell_of, Turn, only_if, sees, left_in, access_turn, turn, depth_after}
-use Rattle.aj_logs.proofs.Cells.{own_here, own_other}
+use Rattle.aj_logs.proofs.Cells.{not_true, own_here, own_other}
 use Rattle.aj_logs.proofs.Judged.{stepped, judged_run, judged_serial}
 use Rattle.aj_logs.proofs.Moves.{Did, did}
 
@@ -79,11 +79,7 @@ module _ (guard : ℕ → Guard) where
       ∙ (λ i. Some (record { cells = put (cell_of t m.event) (any.2 i) q.cells; depth = λ u. depth_same u (t == u) i }))
       ∙ ap (λ z. Some (scene_of z)) m.to
     where
-      mine : Own
-      mine = record { depth = m.depth; rest = m.rest }
-
-      depth_same : (u : ℕ) (b : Bool) → (if b then m.depth else (q.own u).depth) ≡ (if◌then◌else◌ {A = Own} b mine (q.own u)).depth
-      unfolding mine
+      depth_same : (u : ℕ) (b : Bool) → (if b then m.depth else (q.own u).depth) ≡ (if◌then◌else◌ {A = Own} b (record { depth = m.depth; rest = m.rest }) (q.own u)).depth
       depth_same u true = refl
       depth_same u false = refl
 
@@ -151,11 +147,7 @@ thread_at (l ∷ lines) zero a at = ap (λ (z : Line). Some z.thread) (same_Some
 thread_at (l ∷ lines) (suc place) a at = thread_at lines place a at
 
 within : (o : Own) → o.depth ≢ 0 → is_within o ≡ true
-within o open = by o.depth open
-  where
-    by : (d : ℕ) → d ≢ 0 → not (d == 0) ≡ true
-    by zero h = absurd (h refl)
-    by (suc d) h = refl
+within o nonzero = ap not (not_true (o.depth == 0) (λ e. absurd (nonzero (eqb-true o.depth 0 e))))
 
 append_nil : {A : Type 0} (xs : List A) → xs ++ [] ≡ xs
 append_nil [] = refl
@@ -178,10 +170,10 @@ serial_log guard lines k is closed =
       own = λ t. sym (append_nil (events_of t order)) ∙ sym (lines_own guard s start end serial.runs t);
       given = ap (happen (scene_of start)) (sym (lines_given guard lines nothing k is)) ∙ lines_happen guard (order_of lines) start end (judged_run guard lines nothing k is);
       happens = lines_happen guard s start end serial.runs;
-      uninterrupted = λ place a b z here next ran open.
+      uninterrupted = λ place a b z here following ran nonzero.
           let front = front_runs guard (place + 1) s start end serial.runs in
           let there : scene_of front.0 ≡ z = same_Some (scene_of front.0) z (sym (lines_happen guard (take (place + 1) s) start front.0 front.1) ∙ ap (happen (scene_of start)) (sym front.2) ∙ ran) in
           serial.uninterrupted.kept place a.thread b.thread front.0
-              (ap (λ r. slice_get r place) (sym same) ∙ thread_at order place a here) (ap (λ r. slice_get r (place + 1)) (sym same) ∙ thread_at order (place + 1) b next) front.1
-              (within (front.0.own a.thread) (λ e. absurd (open (sym (ap (λ (x : Scene). x.depth a.thread) there) ∙ e))));
+              (ap (λ r. slice_get r place) (sym same) ∙ thread_at order place a here) (ap (λ r. slice_get r (place + 1)) (sym same) ∙ thread_at order (place + 1) b following) front.1
+              (within (front.0.own a.thread) (λ e. absurd (nonzero (sym (ap (λ (x : Scene). x.depth a.thread) there) ∙ e))));
     }

@@ -1,8 +1,7 @@
 -- Examples of logs: two threads count under a lock.
 use Rattle.std.specs.Prelude.{ℕ, zero, suc, List, [], ◌∷◌, ◌++◌, Option, Some, None}
-use Rattle.aj_logs.specs.declared.refusal.Refusal.{Refusal}
 use Rattle.aj_logs.specs.Events.{Word, Event, Take, Give, Access, Begin, End, Line}
-use Rattle.aj_logs.specs.Judging.{Note, Goes, Stops}
+use Rattle.aj_logs.specs.Judging.{Refusal, Note, Goes, Stops}
 use Rattle.aj_logs.specs.Logs.{Guard, ByLock, Unguarded}
 
 -- why a judge stops, where it does

@@ -2,8 +2,6 @@
 use Rattle.std.specs.Prelude.{ℕ, Bool, false, not, ◌==◌, ◌&&◌, ◌||◌, List, [], ◌∷◌, Option, Some, None, unwrap_or, if◌then◌else◌}
 use Rattle.aj_steps.specs.Units.{is_commit}
 use Rattle.aj_steps.specs.Words.{fits_phase}
-use Rattle.aj_logs.specs.declared.refusal.Refusal.{Refusal}
-use Rattle.aj_logs.specs.declared.refusal.Refusal.TheVariants.{HasEnded, NoBlock, Impossible, Cut}
 use Rattle.aj_logs.specs.Events.{Word, Event, Take, Give, Access, Start, Join, Stop, Begin, End, Line}
 use Rattle.aj_logs.specs.Logs.{Guard, kind_at}
 use Rattle.aj_logs.specs.Memory.{Absent, Present, Ended, Cell, AtLock, AtPlace, AtThread, Content, Lock, Value, Thread, eq_cell, Cells, Memory}
@@ -55,6 +53,17 @@ after k line d x = record {
   depth = λ u. if line.thread == u then d else k.depth u;
   committed = λ u. if u == line.thread then not (d == 0) && (k.committed line.thread || is_commit x.kind) else k.committed u;
 }
+
+-- why a line is refused
+pub data Refusal : Type 0 where
+  -- its thread has ended
+  HasEnded : Refusal
+  -- a block ends, and none is open
+  NoBlock : Refusal
+  -- the event can't happen as its lock, its place or its thread is
+  Impossible : Refusal
+  -- with this event its block may be cut; or it is an access without its guard
+  Cut : Refusal
 
 -- a line that can be, or why it is refused
 pub data Note : Type 0 where

@@ -4,10 +4,9 @@ ghost use Rattle.std.specs.Prelude.{◌≡◌, ℕ, List, [], Some, None, slice_
 ghost use Rattle.aj_movers.specs.Movers.{HasMovers};
 ghost use Rattle.aj_movers.specs.Serial.{NobodyInside, IsSerial};
 ghost use Rattle.aj_movers.specs.Systems.{run_from, entries_from, written_from};
-ghost use Rattle.aj_logs.specs.declared.refusal.Refusal.TheVariants.{Impossible, Cut};
 ghost use Rattle.aj_logs.specs.Examples.{stop_of, counter_guard, counter, twice, stale};
 ghost use Rattle.aj_logs.specs.Events.{Line, order_of};
-ghost use Rattle.aj_logs.specs.Judging.{Known, Goes, nothing, judged, memory_of};
+ghost use Rattle.aj_logs.specs.Judging.{Known, Impossible, Cut, Goes, nothing, judged, memory_of};
 ghost use Rattle.aj_logs.specs.Logs.{Guard, logs};
 ghost use Rattle.aj_logs.specs.Memory.{Memory};
 ghost use Rattle.aj_logs.specs.Serial.{IsSerialLog};

@@ -2,7 +2,5 @@
 #![tactic(auto)]
 
 mod laws;
-mod refusal;
 
 pub use laws::{examples_of_logs, judged_logs_are_serial, logs_serialise};
-pub use refusal::Refusal;
