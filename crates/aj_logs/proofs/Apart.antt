@@ -1,14 +1,14 @@
 -- Two neighbouring turns of different threads: what each finds and leaves is the same in the other order.
 use Rattle.std.proofs.Common.{◌≡◌, ◌≢◌, ℕ, ◌==◌, Bool, true, false, ◌⊎◌, inl, inr, refl, sym, ap, subst, ◌∙◌, Some, None}
 use Rattle.std.specs.Prelude.{if◌then◌else◌}
-use Rattle.std.proofs.lemmas.Bool.{eqb-true, eq-eqb}
+use Rattle.std.proofs.lemmas.Bool.{eqb-true}
 use Rattle.aj_state.specs.declared.value.StepKind.{StepKind}
 use Rattle.aj_state.specs.declared.value.StepKind.TheVariants.{Both, Right, Left, Other, Bare}
 use Rattle.aj_steps.specs.Words.{moves_right, moves_left}
 use Rattle.aj_logs.specs.Events.{Event, Take, Give, Access, Start, Join, Stop, Begin, End}
 use Rattle.aj_logs.specs.Logs.{Guard, ByLock, ByThread, Unguarded, holds, access_kind, kind_at, was_there}
 use Rattle.aj_logs.specs.Memory.{Hold, Absent, Present, Ended, Cell, AtLock, AtPlace, AtThread, Content, Lock, Value, Thread, eq_cell, Cells, put}
-use Rattle.aj_logs.specs.Turns.{cell_of, Turn, turn}
+use Rattle.aj_logs.specs.Turns.{cell_of, Turn}
 use Rattle.aj_logs.proofs.Cells.{same_cell, itself, not_true, put_here, put_there, put_put}
 use Rattle.aj_logs.proofs.Sorts.{Gripped, Sort, of_lock, of_place, of_start, of_join, of_own}
 
@@ -205,8 +205,8 @@ apart t u other guard cells e f x y p sort_e sort_f = by (eq_cell (cell_of t e) 
         let same = same_cell (cell_of t e) (cell_of u f) is in
         let found : put (cell_of t e) x.content cells (cell_of u f) ≡ x.content = ap (put (cell_of t e) x.content cells) (sym same) ∙ put_here (cell_of t e) x.content cells in
         let idle = clash t u other guard cells (kind_at guard cells t e) (kind_at guard (put (cell_of t e) x.content cells) u f) x.kind y.kind (cells (cell_of t e)) x.content y.content (cells (AtThread u)) (cell_of t e) (cell_of u f) same p
-            (λ at. ap cells (sym at))
-            (λ n at. kind_place guard cells t e n at)
-            (λ n at. kind_kept u t (λ z. absurd (other (sym z))) guard (kind_at guard cells t e) x.kind x.content (cell_of t e) cells sort_e f ∙ kind_place guard cells u f n at)
-            sort_e (subst (λ z. Sort u (kind_at guard (put (cell_of t e) x.content cells) u f) y.kind z y.content (cell_of u f)) found sort_f) in
+        (λ at. ap cells (sym at))
+        (λ n at. kind_place guard cells t e n at)
+        (λ n at. kind_kept u t (λ z. absurd (other (sym z))) guard (kind_at guard cells t e) x.kind x.content (cell_of t e) cells sort_e f ∙ kind_place guard cells u f n at)
+        sort_e (subst (λ z. Sort u (kind_at guard (put (cell_of t e) x.content cells) u f) y.kind z y.content (cell_of u f)) found sort_f) in
         idle_cell (cell_of t e) (cell_of u f) x.content y.content cells same idle.0 idle.1

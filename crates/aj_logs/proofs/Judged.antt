@@ -4,15 +4,15 @@ use Rattle.std.specs.Prelude.{Option, unwrap_or, if◌then◌else◌}
 use Rattle.std.proofs.lemmas.Bool.{eqb-true, eq-eqb}
 use Rattle.aj_state.specs.declared.value.StepKind.{StepKind}
 use Rattle.aj_steps.specs.Units.{Entry, is_commit}
-use Rattle.aj_steps.specs.Words.{fits_phase, next_phase, FitPhases}
+use Rattle.aj_steps.specs.Words.{fits_phase, FitPhases}
 use Rattle.aj_movers.specs.Serial.{IsSerial}
 use Rattle.aj_movers.specs.Systems.{Steps, run_then, run_from, entry_then, entries_from, written_from}
 use Rattle.aj_movers.proofs.Phases.{phases_words}
 use Rattle.aj_movers.proofs.Whole.{written}
 use Rattle.aj_logs.specs.Events.{Event, Take, Give, Access, Start, Join, Stop, Begin, End, Line, order_of}
-use Rattle.aj_logs.specs.Judging.{Known, nothing, assumed, put_known, with_stepper, found, known_locks, after, Note, Goes, Stops, note_kind, note_turn, turn_of, note_there, noted, note_then, judged, events_of, untold, first_content, memory_of}
-use Rattle.aj_logs.specs.Logs.{Guard, ByLock, ByThread, Unguarded, holds, access_kind, kind_at, moved_to, turned, first_step, step_at, is_within, logs}
-use Rattle.aj_logs.specs.Memory.{Absent, Present, Ended, Cell, AtLock, AtPlace, AtThread, Content, Lock, Value, Thread, eq_cell, Cells, put, Own, put_own, Memory}
+use Rattle.aj_logs.specs.Judging.{Known, nothing, assumed, found, known_locks, after, Note, Goes, Stops, note_kind, note_turn, turn_of, note_there, noted, note_then, judged, events_of, first_content, memory_of}
+use Rattle.aj_logs.specs.Logs.{Guard, ByLock, ByThread, Unguarded, access_kind, kind_at, turned, first_step, step_at, is_within, logs}
+use Rattle.aj_logs.specs.Memory.{Absent, Present, Ended, Cell, AtLock, AtThread, Content, Lock, Value, Thread, eq_cell, put, Own, put_own, Memory}
 use Rattle.aj_logs.specs.Turns.{cell_of, Turn, turn, depth_after}
 use Rattle.aj_logs.proofs.Cells.{same_cell, itself}
 use Rattle.aj_logs.proofs.Moves.{logs_move}

@@ -1,6 +1,6 @@
 -- The lines of a schedule, and what they make of cells and blocks.
-use Rattle.std.proofs.Common.{◌≡◌, ◌≢◌, ℕ, zero, suc, ◌+◌, ◌==◌, Bool, true, false, not, List, [], ◌∷◌, ◌++◌, refl, sym, ap, subst, ◌∙◌, Some, None, arith}
-use Rattle.std.specs.Prelude.{Option, map, take, slice_get, is_some, if◌then◌else◌}
+use Rattle.std.proofs.Common.{◌≡◌, ◌≢◌, ℕ, zero, suc, ◌+◌, ◌==◌, Bool, true, false, not, List, [], ◌∷◌, ◌++◌, refl, sym, ap, ◌∙◌, Some, None}
+use Rattle.std.specs.Prelude.{Option, take, slice_get, if◌then◌else◌}
 use Rattle.std.proofs.lemmas.Bool.{eqb-true, eq-eqb}
 use Rattle.std.proofs.lemmas.Option.{same_Some}
 use Rattle.aj_state.specs.declared.value.StepKind.{StepKind}
@@ -9,10 +9,10 @@ use Rattle.aj_movers.specs.Serial.{IsSerial}
 use Rattle.aj_movers.specs.Systems.{StepTo, run_then, run_from, written_from}
 use Rattle.aj_logs.specs.Events.{Word, Event, Take, Give, Access, Start, Join, Stop, Begin, End, Line, order_of}
 use Rattle.aj_logs.specs.Judging.{Known, nothing, Note, Goes, Stops, noted, note_then, judged, events_of, memory_of}
-use Rattle.aj_logs.specs.Logs.{Guard, kind_at, moved_to, is_within, logs}
+use Rattle.aj_logs.specs.Logs.{Guard, kind_at, is_within, logs}
 use Rattle.aj_logs.specs.Memory.{AtThread, Content, Lock, Value, Thread, put, Own, put_own, Memory}
-use Rattle.aj_logs.specs.Serial.{Scene, opening, scene_after, scene_at, scene_then, happen, IsSerialLog}
-use Rattle.aj_logs.specs.Turns.{cell_of, Turn, only_if, sees, left_in, access_turn, turn, depth_after}
+use Rattle.aj_logs.specs.Serial.{Scene, scene_after, scene_at, scene_then, happen, IsSerialLog}
+use Rattle.aj_logs.specs.Turns.{cell_of, Turn, only_if, sees, left_in, access_turn, turn}
 use Rattle.aj_logs.proofs.Cells.{not_true, own_here, own_other}
 use Rattle.aj_logs.proofs.Judged.{stepped, judged_run, judged_serial}
 use Rattle.aj_logs.proofs.Moves.{Did, did}
@@ -174,6 +174,6 @@ serial_log guard lines k is closed =
           let front = front_runs guard (place + 1) s start end serial.runs in
           let there : scene_of front.0 ≡ z = same_Some (scene_of front.0) z (sym (lines_happen guard (take (place + 1) s) start front.0 front.1) ∙ ap (happen (scene_of start)) (sym front.2) ∙ ran) in
           serial.uninterrupted.kept place a.thread b.thread front.0
-              (ap (λ r. slice_get r place) (sym same) ∙ thread_at order place a here) (ap (λ r. slice_get r (place + 1)) (sym same) ∙ thread_at order (place + 1) b following) front.1
-              (within (front.0.own a.thread) (λ e. absurd (nonzero (sym (ap (λ (x : Scene). x.depth a.thread) there) ∙ e))));
+          (ap (λ r. slice_get r place) (sym same) ∙ thread_at order place a here) (ap (λ r. slice_get r (place + 1)) (sym same) ∙ thread_at order (place + 1) b following) front.1
+          (within (front.0.own a.thread) (λ e. absurd (nonzero (sym (ap (λ (x : Scene). x.depth a.thread) there) ∙ e))));
     }

@@ -1,5 +1,5 @@
 -- The kinds of a log's steps mean what they say, for any guess of the guards.
-use Rattle.std.proofs.Common.{◌≡◌, ◌≢◌, ℕ, Bool, true, false, ◌⊎◌, inl, inr, List, [], ◌∷◌, refl, sym, ap, subst, ◌∙◌, Some, None}
+use Rattle.std.proofs.Common.{◌≡◌, ◌≢◌, ℕ, Bool, true, false, inl, inr, List, [], ◌∷◌, refl, sym, ap, subst, ◌∙◌, Some, None}
 use Rattle.std.specs.Prelude.{Option, if◌then◌else◌}
 use Rattle.std.proofs.lemmas.Option.{same_Some}
 use Rattle.aj_state.specs.declared.value.StepKind.{StepKind}
@@ -7,7 +7,7 @@ use Rattle.aj_movers.specs.Systems.{StepTo, Steps}
 use Rattle.aj_movers.specs.Movers.{Swaps, HasMovers}
 use Rattle.aj_logs.specs.Events.{Event}
 use Rattle.aj_logs.specs.Logs.{Guard, kind_at, moved_to, turned, first_step, step_at, was_there, logs}
-use Rattle.aj_logs.specs.Memory.{Absent, Present, Ended, Cell, AtLock, AtPlace, AtThread, Content, Lock, Value, Thread, eq_cell, Cells, put, Own, put_own, Memory}
+use Rattle.aj_logs.specs.Memory.{Absent, Present, Ended, Cell, AtLock, AtPlace, AtThread, Content, Lock, Value, Thread, eq_cell, Cells, put, Own, Memory}
 use Rattle.aj_logs.specs.Turns.{cell_of, Turn, turn, depth_after}
 use Rattle.aj_logs.proofs.Cells.{same_cell, own_other, own_own}
 use Rattle.aj_logs.proofs.Sorts.{Sort, of_lock, of_place, of_start, of_join, of_own, sorted}

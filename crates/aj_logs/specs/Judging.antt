@@ -2,7 +2,7 @@
 use Rattle.std.specs.Prelude.{ℕ, Bool, false, not, ◌==◌, ◌&&◌, ◌||◌, List, [], ◌∷◌, Option, Some, None, unwrap_or, if◌then◌else◌}
 use Rattle.aj_steps.specs.Units.{is_commit}
 use Rattle.aj_steps.specs.Words.{fits_phase}
-use Rattle.aj_logs.specs.Events.{Word, Event, Take, Give, Access, Start, Join, Stop, Begin, End, Line}
+use Rattle.aj_logs.specs.Events.{Event, Take, Give, Access, Start, Join, Stop, Begin, End, Line}
 use Rattle.aj_logs.specs.Logs.{Guard, kind_at}
 use Rattle.aj_logs.specs.Memory.{Absent, Present, Ended, Cell, AtLock, AtPlace, AtThread, Content, Lock, Value, Thread, eq_cell, Cells, Memory}
 use Rattle.aj_logs.specs.Turns.{cell_of, Turn, turn, depth_after}

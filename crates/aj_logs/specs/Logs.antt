@@ -1,10 +1,10 @@
 -- The system in which each thread does what a log says of it.
-use Rattle.std.specs.Prelude.{ℕ, zero, Bool, true, false, not, ◌==◌, List, [], ◌∷◌, Option, Some, None, if◌then◌else◌}
+use Rattle.std.specs.Prelude.{ℕ, Bool, true, false, not, ◌==◌, List, [], ◌∷◌, Option, Some, None, if◌then◌else◌}
 use Rattle.aj_state.specs.declared.value.StepKind.{StepKind}
 use Rattle.aj_state.specs.declared.value.StepKind.TheVariants.{Both, Other, Bare}
 use Rattle.aj_movers.specs.Systems.{StepTo, System}
 use Rattle.aj_logs.specs.Events.{Event, Take, Give, Access, Start, Join, Stop, Begin, End}
-use Rattle.aj_logs.specs.Memory.{Hold, Absent, Present, Ended, AtLock, AtThread, Content, Lock, Value, Thread, Cells, put, Own, put_own, Memory}
+use Rattle.aj_logs.specs.Memory.{Absent, Present, Ended, AtLock, AtThread, Content, Lock, Value, Thread, Cells, put, Own, put_own, Memory}
 use Rattle.aj_logs.specs.Turns.{cell_of, Turn, turn, depth_after}
 
 -- what is said to guard a place: a lock, the one thread that uses it, or nothing

@@ -1,7 +1,7 @@
 -- What it means that a log is serial, with no word about movers: an order of its lines.
 use Rattle.std.specs.Prelude.{◌≡◌, ◌≢◌, ℕ, ◌+◌, ◌==◌, List, [], ◌∷◌, take, slice_get, Option, Some, None, if◌then◌else◌}
 use Rattle.aj_state.specs.declared.value.StepKind.TheVariants.{Both}
-use Rattle.aj_logs.specs.Events.{Event, Line}
+use Rattle.aj_logs.specs.Events.{Line}
 use Rattle.aj_logs.specs.Judging.{events_of}
 use Rattle.aj_logs.specs.Memory.{Absent, Present, Ended, AtThread, Content, Lock, Value, Thread, Cells, put}
 use Rattle.aj_logs.specs.Turns.{cell_of, Turn, turn, depth_after}

@@ -1,10 +1,10 @@
 -- What an event asks of its cell, and what it leaves there.
-use Rattle.std.specs.Prelude.{ℕ, zero, suc, Bool, true, ◌==◌, Option, Some, None, if◌then◌else◌}
+use Rattle.std.specs.Prelude.{ℕ, zero, suc, Bool, true, ◌==◌, Option, Some, None}
 use Rattle.std.specs.Str.{bytes_eq}
 use Rattle.aj_state.specs.declared.value.StepKind.{StepKind}
 use Rattle.aj_state.specs.declared.value.StepKind.TheVariants.{Both, Right, Left}
 use Rattle.aj_logs.specs.Events.{Word, Event, Take, Give, Access, Start, Join, Stop, Begin, End}
-use Rattle.aj_logs.specs.Memory.{Hold, Absent, Present, Ended, Cell, AtLock, AtPlace, AtThread, Content, Lock, Value, Thread}
+use Rattle.aj_logs.specs.Memory.{Absent, Present, Ended, Cell, AtLock, AtPlace, AtThread, Content, Lock, Value, Thread}
 
 -- the cell of a thread's event: its own where it only begins or ends something
 abbrev pub cell_of : ℕ → Event → Cell
