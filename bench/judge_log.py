@@ -1,5 +1,5 @@
 #!/usr/bin/env python3
-"""judge_log.py LOG [--guards FILE]: judges the log of a run, as docs/traces.md says; a plain program to compare with.
+"""judge_log.py LOG [--guards FILE]: judges the log of a run, as docs/traces.md says. It is a plain program, and not proved.
 
 It answers whether the blocks of a log are serial: whether the same events can stand in an order in which no block is
 interrupted, each thread's events in their own order, each read seeing the value that it saw. The exit status is 0 for
