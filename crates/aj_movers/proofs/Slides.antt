@@ -91,7 +91,7 @@ module _ {S O : Type 0} {M : System S O} {IsSound : S → Type 0} (laws : HasMov
       let other = swap.between in
       let first : M.own r e.thread ≡ M.own mid e.thread = laws.own mid r f.thread e.thread f.kind (λ z. absurd (p.apart (sym z))) ff.steps (fits_grow q mid e fe e.thread (fits_there q mid e fe)) in
       let second : M.own r f.thread ≡ M.own other f.thread =
-          laws.own other r e.thread f.thread e.kind p.apart swap.later (laws.stays q other f.thread f.thread f.kind swap.before (laws.stepper q other f.thread f.kind swap.before)) in
+      laws.own other r e.thread f.thread e.kind p.apart swap.later (laws.stays q other f.thread f.thread f.kind swap.before (laws.stepper q other f.thread f.kind swap.before)) in
       let gf : Fits M q f other = record { steps = swap.before; inside = ap M.inside (sym second) ∙ ff.inside } in
       let ge : Fits M other e r = record { steps = swap.later; inside = ap M.inside first ∙ fe.inside } in (
         other,

@@ -56,7 +56,7 @@ written P typed s q ran closed words =
     let same : of.entries_from M (initial P) 0 s ≡ entries P s = entries_same P s (initial P) 0 in
     let order : of.written_from M (initial P) s ≡ written_order P s = ap (λ es. schedule_of (in_order (units es))) same in
     let serial = any.written (machine_moves P typed) s (initial P) q (sound_initial P) (run_same P s (initial P) ∙ ran) (λ t there. nobody_inside P q closed t)
-        (λ n u at. words n u (ap (λ es. slice_get (units es) n) (sym same) ∙ at)) in
+    (λ n u at. words n u (ap (λ es. slice_get (units es) n) (sym same) ∙ at)) in
     let runs : run P (written_order P s) ≡ Some q = ap (run P) (sym order) ∙ sym (run_same P (of.written_from M (initial P) s) (initial P)) ∙ serial.runs in
     record {
       rearranges = λ t. serial.rearranges t ∙ ap (λ r. count_by (λ u. u == t) r) order;
