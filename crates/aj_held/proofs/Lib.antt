@@ -1,6 +1,5 @@
 -- Lemmas on safe states, runs and words.
 pub mod SafeSteps
-pub mod UnitWords
 pub mod SafeRuns
 pub mod Theorem
 mod WatchedSteps

@@ -11,7 +11,7 @@ use Rattle.aj_state.specs.States.{Thread, State, initial}
 use Rattle.aj_steps.specs.Step.{Change, Move, Outcome, Moves, Absent, IsDone, HadFaulted, Waits, outcome, step, state_after, moved, kind_in, kind_of}
 use Rattle.aj_steps.specs.Run.{run, run_from, inside, is_inside_some}
 use Rattle.aj_steps.specs.Units.{Entry, entry_then, entries_from, entries, units, word_of, is_commit}
-use Rattle.aj_steps.specs.Words.{IsReducible}
+use Rattle.aj_steps.specs.Words.{IsReducible, fits_phase}
 use Rattle.aj_steps.proofs.RunLemmas.{step_numbered, initial_numbered, moves_in}
 use Rattle.aj_safe.specs.Phases.{Phase, phase_of, allowed}
 use Rattle.aj_safe.specs.Safe.{IsFree, IsSafe, flags_after}
@@ -22,7 +22,7 @@ use Rattle.std.proofs.lemmas.Option.{same_Some}
 use Rattle.aj_lemmas.proofs.Lists.{set_other}
 use Rattle.aj_steps.proofs.Changed.{ThreadAfter, kept, begun, thread_after}
 use Rattle.aj_held.proofs.SafeSteps.{step_fine, step_safe, initial_safe}
-use Rattle.aj_held.proofs.UnitWords.{Judged, added_entry, judged_words}
+use Rattle.aj_movers.proofs.Phases.{Judged, added_entry, judged_words}
 
 not_bare : (p : Phase) → allowed p Bare ≡ true → ⊥
 not_bare Rattle.aj_safe.specs.Phases.Free e = absurd (let k : false ≡ true = e in cc)
@@ -83,13 +83,18 @@ module _ (P : Program) (rel : ℕ → List PathData) (A : Assignment) (accepted 
   own_flag q flags t kind = ap (λ b. if b then (inside P q t && flags t) || is_commit kind else flags t) (eq-eqb t t refl)
 
   -- what a phase admits outside, a new call admits
-  inner_allowed : (i c : Bool) (kind : StepKind) → allowed (phase_of i c) kind ≡ true → allowed (phase_of true (i && c)) kind ≡ true
-  inner_allowed true c kind e = e
-  inner_allowed false c Both e = refl
-  inner_allowed false c Right e = refl
-  inner_allowed false c Left e = refl
-  inner_allowed false c Other e = refl
-  inner_allowed false c Bare e = absurd (let k : false ≡ true = e in cc)
+  inner_fits : (i c : Bool) (kind : StepKind) → allowed (phase_of i c) kind ≡ true → fits_phase (i && c) kind ≡ true
+  inner_fits true true kind e = e
+  inner_fits true false Both e = refl
+  inner_fits true false Right e = refl
+  inner_fits true false Left e = refl
+  inner_fits true false Other e = refl
+  inner_fits true false Bare e = absurd (let k : false ≡ true = e in cc)
+  inner_fits false c Both e = refl
+  inner_fits false c Right e = refl
+  inner_fits false c Left e = refl
+  inner_fits false c Other e = refl
+  inner_fits false c Bare e = absurd (let k : false ≡ true = e in cc)
 
   and_left : (a b : Bool) → a ≡ true → (a && b) ≡ b
   and_left true b e = refl
@@ -110,7 +115,7 @@ module _ (P : Program) (rel : ℕ → List PathData) (A : Assignment) (accepted 
           added_entry (record { place = place; thread = t; kind = move.kind; inside = inside P (moved t move q) t }) (units (entries_from P (moved t move q) (place + 1) s))
           (call_flag q flags) (call_flag (moved t move q) (flags_after P q flags t move.kind)) (λ v other. other_flag q flags t v move other) (inside P (moved t move q) t)
           (λ stays. and_left _ _ stays ∙ own_flag q flags t move.kind) (λ leaves. and_false _ _ leaves)
-          (inner_allowed (inside P q t) (flags t) move.kind fine.kind)
+          (inner_fits (inside P q t) (flags t) move.kind fine.kind)
           (rec (moved t move q) (flags_after P q flags t move.kind) (step_numbered P q t (moved t move q) numbered (ap (state_after q t) is)) (step_safe P rel A accepted q flags t move numbered safe is))
       by_outcome Absent is rec = tt
       by_outcome IsDone is rec = tt

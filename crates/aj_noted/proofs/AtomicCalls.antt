@@ -15,7 +15,7 @@ use Rattle.aj_state.specs.Work.{Action, Item, Next}
 use Rattle.aj_state.specs.States.{Frame, Thread, Ready, Running, Done, Faulted, State}
 use Rattle.aj_steps.specs.Run.{is_annotated, is_inside_some, inside}
 use Rattle.aj_steps.specs.Step.{Shared, Change, Nothing, FieldIs, ObjectIs, LockIs, Prints, Starts, Move, Outcome, Moves, Absent, IsDone, HadFaulted, Waits, load, store, binary, and_then, or_else, choose, loop, get, get_value, put, put_value, new, call, call_on, enter, enter_some, dispatch, acquire, take, take_held, release, release_held, return_to, start, start_run, act, act_next, enter_first, turn, seen_by, outcome, moved, changed}
-use Rattle.aj_rewrite.proofs.Slides.{own_after}
+use Rattle.aj_rewrite.proofs.Machine.{own_after}
 use Rattle.aj_noted.specs.Calls.{methods_of, methods_at, with_call, without_call, atomic_calls, calls_of, AreCalls, frames_seen, calls_after}
 use Rattle.aj_noted.specs.Tables.{put_at}
 

@@ -4,8 +4,8 @@ use Rattle.std.specs.Prelude.{Option, drop, if◌then◌else◌}
 use Rattle.std.proofs.lemmas.Bool.{eqb-true, ne_eqb, eq-eqb}
 use Rattle.std.proofs.lemmas.List.{length-drop}
 use Rattle.aj_steps.specs.Units.{Entry, added, is_of_thread, is_commit, units, commit_place}
-use Rattle.aj_rewrite.proofs.Shape.{Each, each_more, IsFine, fine_above, commit_added}
-use Rattle.aj_rewrite.proofs.Sorting.{Rises, fine_units}
+use Rattle.aj_movers.proofs.Shape.{Each, each_more, IsFine, fine_above, commit_added}
+use Rattle.aj_movers.proofs.Sorting.{Rises, fine_units}
 use Rattle.aj_noted.specs.Entries.{entries_of}
 use Rattle.aj_noted.specs.UnitMaps.{UnitMaps, unit_for, commit_with, with_size, with_unit, with_entry, unit_maps}
 use Rattle.aj_noted.specs.declared.step.Step.{Step}

@@ -4,8 +4,8 @@ use Rattle.std.specs.Prelude.{map, nat_le, if◌then◌else◌}
 use Rattle.std.proofs.lemmas.Bool.{eqb-true, eqb-false, ne_eqb, leb-true, leb-false, eq-eqb}
 use Rattle.std.proofs.lemmas.Bool.Decides.{nat_tests}
 use Rattle.aj_steps.specs.Units.{Entry, is_commit, units, commit_place, placed, in_order, schedule_of}
-use Rattle.aj_rewrite.proofs.Shape.{Each, each_more, IsOf, IsFine, fine_above, each_placed, each_in_order}
-use Rattle.aj_rewrite.proofs.Sorting.{Rises, fine_units, each_units}
+use Rattle.aj_movers.proofs.Shape.{Each, each_more, IsOf, IsFine, fine_above, each_placed, each_in_order}
+use Rattle.aj_movers.proofs.Sorting.{Rises, fine_units, each_units}
 use Rattle.aj_noted.specs.Entries.{entries_of}
 use Rattle.aj_noted.specs.UnitMaps.{UnitMaps, unit_maps, spread}
 use Rattle.aj_noted.specs.declared.step.Step.{Step}

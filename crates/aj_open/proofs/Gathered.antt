@@ -3,29 +3,34 @@ use Rattle.std.proofs.Common.{◌≡◌, ℕ, ◌+◌, ◌==◌, Bool, true, fal
 use Rattle.std.specs.Prelude.{Option, map, filter, cond, count_by, slice_get, is_some, option_and_then}
 use Rattle.std.specs.List.{list_any}
 use Rattle.std.proofs.lemmas.List.{append-nil}
-use Rattle.std.proofs.lemmas.List.Sums.{sum_by-cons}
 use Rattle.aj_core.specs.Core.{Program}
 use Rattle.aj_core.specs.Typed.{IsTyped}
-use Rattle.aj_state.specs.States.{Thread, State, initial}
-use Rattle.aj_steps.specs.Run.{run, run_from, open_thread, own_states, owns_then, IsUninterrupted}
-use Rattle.aj_steps.specs.Step.{step}
+use Rattle.aj_state.specs.States.{State, initial}
+use Rattle.aj_steps.specs.Run.{run, open_thread, own_states, IsUninterrupted}
 use Rattle.aj_steps.specs.Units.{Entry, entries, units, is_commit, word_of, in_order, schedule_of, written_order}
 use Rattle.aj_steps.specs.Words.{IsReducible}
 use Rattle.aj_steps.proofs.UnitLemmas.{entries_all}
 use Rattle.aj_steps.proofs.WordLemmas.{is_reducible_of}
 use Rattle.aj_exchange.proofs.SoundRuns.{sound_initial}
-use Rattle.aj_rewrite.specs.Runs.{Run}
-use Rattle.aj_rewrite.proofs.Shape.{Each, each_both, flat, IsFine, each_in_order}
-use Rattle.aj_rewrite.proofs.Slides.{Becomes, becomes_then, behind_all}
-use Rattle.aj_rewrite.proofs.Sorting.{Rises, NotBare, HasWord, fine_units, each_units, sorted}
-use Rattle.aj_rewrite.proofs.Whole.{marks, Whole, entries_run, entries_rise, run_entries, run_marks, schedule_is, whole_units, nobody_inside, each_from, none_bare, written}
+use Rattle.aj_exchange.specs.Sound.{IsSound}
+use Rattle.aj_movers.specs.Systems.{System}
+use Rattle.aj_movers.specs.Systems as of
+use Rattle.aj_movers.specs.Movers.{HasMovers}
+use Rattle.aj_movers.specs.Runs.{Run}
+use Rattle.aj_rewrite.specs.Machine.{machine}
+use Rattle.aj_movers.proofs.Shape.{Each, each_both, flat, IsFine, each_in_order}
+use Rattle.aj_movers.proofs.Slides.{Becomes, becomes_then, behind_all}
+use Rattle.aj_movers.proofs.Sorting.{Rises, NotBare, HasWord, fine_units, each_units, sorted}
+use Rattle.aj_movers.proofs.Whole.{Whole, count_owns, schedule_is, whole_units, each_from, none_bare}
+use Rattle.aj_rewrite.proofs.Machine.{machine_moves, run_same, entries_same, owns_same}
+use Rattle.aj_rewrite.proofs.Whole.{entries_run, entries_rise, run_entries, nobody_inside, written}
 use Rattle.aj_open.specs.Whole.{IsGathered, AreUnitsWhole}
 use Rattle.aj_open.specs.OpenOrder.{commits, is_uncommitted, by_thread, open_units, open_order}
 use Rattle.aj_open.proofs.Parts.{kept_by, each_kept, filter_in_order}
 use Rattle.aj_open.proofs.Turns.{by_thread_in_order}
 use Rattle.aj_open.proofs.Lasts.{alone_left, alone_apart, last_units, last_ordered, last_opened}
 use Rattle.aj_open.proofs.Moves.{flat_both, part, put_all, each_by_thread}
-use Rattle.aj_open.proofs.Together.{AreTogether, flat_together, whole}
+use Rattle.aj_open.proofs.Together.{marks, AreTogether, flat_together, whole}
 use Rattle.aj_open.proofs.Neighbours.{units_whole}
 
 -- the units that don't commit are those
@@ -44,21 +49,16 @@ opened_is es n rises =
     let apart = alone_apart n (filter is_uncommitted us) (each_kept (IsFine n) is_uncommitted us (fine_units es n rises)) (alone_left us (last_units es n rises)) in
     λ i. filter_in_order commits us i ++ (ap by_thread (filter_in_order is_uncommitted us) ∙ by_thread_in_order (filter is_uncommitted us) apart) i
 
--- a thread has as many own states as entries
-count_owns : (P : Program) (t : ℕ) (s : List ℕ) (q r : State) → run_from P q s ≡ Some r → length (own_states P q t s) ≡ count_by (λ u. u == t) s
-count_owns P t [] q r ran = refl
-count_owns P t (u ∷ s) q r ran = by (step P q u) ran (λ next later. count_owns P t s next r later)
-  where
-    longer : (b : Bool) (x : Option Thread) (xs : List (Option Thread)) → length (cond b (x ∷ xs) xs) ≡ cond b 1 0 + length xs
-    longer true x xs = omega arith
-    longer false x xs = omega arith
-
-    by : (o : Option State) → option_and_then (λ next. run_from P next s) o ≡ Some r → ((next : State) → run_from P next s ≡ Some r → length (own_states P next t s) ≡ count_by (λ v. v == t) s)
-        → length (owns_then t u (λ next. own_states P next t s) o) ≡ count_by (λ v. v == t) (u ∷ s)
-    by None ran later = absurd cc
-    by (Some next) ran later = longer (u == t) (slice_get next.threads u) (own_states P next t s) ∙ ap (λ n. cond (u == t) 1 0 + n) (later next ran) ∙ sym (sum_by-cons (λ x. cond (x == t) 1 0) u s)
+run_marks : {S O : Type 0} (M : System S O) (es : List Entry) (q r : S) (place : ℕ) → Run M q es r → marks (of.entries_from M q place (map (λ e. e.thread) es)) ≡ marks es
+run_marks M [] q r place ran = refl
+run_marks M (e ∷ es) q r place ran =
+    ap (λ o. marks (of.entry_then M place e.thread o (λ next. of.entries_from M next (place + 1) (map (λ x. x.thread) es)))) ran.1.steps
+    ∙ (λ i. (e.thread, ran.1.inside i) ∷ run_marks M es ran.0 r (place + 1) ran.2 i)
 
 module _ (P : Program) (typed : IsTyped P) (s : List ℕ) (q : State) (ran : run P s ≡ Some q) where
+  laws : HasMovers (machine P) IsSound
+  laws = machine_moves P typed
+
   rises : Rises 0 (entries P s)
   rises = entries_rise P s (initial P) 0
 
@@ -81,7 +81,7 @@ module _ (P : Program) (typed : IsTyped P) (s : List ℕ) (q : State) (ran : run
     each_word : Each HasWord (units (entries P s))
     each_word = each_from HasWord (units (entries P s)) (λ n u at. is_reducible_of (word_of u) (words n u at))
 
-    becomes : Becomes P typed (initial P) (entries P s) (flat opened) q
+    becomes : Becomes (machine P) (initial P) (entries P s) (flat opened) q
     becomes =
         let us = units (entries P s) in
         let ws = in_order us in
@@ -90,28 +90,31 @@ module _ (P : Program) (typed : IsTyped P) (s : List ℕ) (q : State) (ran : run
         let last = last_ordered (entries P s) 0 rises in
         let left = filter is_uncommitted ws in
         let kept = filter commits ws in
-        becomes_then P typed (initial P) q (entries P s) (flat ws) (flat opened)
-        (sorted P typed (entries P s) 0 rises bare each_word (initial P) q (sound_initial P) (entries_run P s (initial P) q 0 ran))
-        (λ again. becomes_then P typed (initial P) q (flat ws) (flat (kept ++ left)) (flat opened)
-        (part P typed 0 ws fine bares last (initial P) q (sound_initial P) again)
-        (λ more. subst (λ z. Becomes P typed (initial P) z (flat opened) q) (sym (flat_both kept left))
-        (subst (λ z. Becomes P typed (initial P) (flat kept ++ flat left) z q) (sym (flat_both kept (by_thread left)))
-        (behind_all P typed (initial P) q (flat kept) (flat left) (flat (by_thread left)) (sound_initial P) (subst (λ z. Run P (initial P) z q) (flat_both kept left) more)
-        (λ mid sound grown later. put_all P typed 0 left (each_kept (IsFine 0) is_uncommitted ws fine) (each_kept (Each NotBare) is_uncommitted ws bares) (left_ones ws) (alone_left ws last) mid q sound later)))))
+        becomes_then laws (initial P) q (entries P s) (flat ws) (flat opened)
+        (sorted laws (entries P s) 0 rises bare each_word (initial P) q (sound_initial P) (entries_run P s (initial P) q 0 ran))
+        (λ again. becomes_then laws (initial P) q (flat ws) (flat (kept ++ left)) (flat opened)
+        (part laws 0 ws fine bares last (initial P) q (sound_initial P) again)
+        (λ more. subst (λ z. Becomes (machine P) (initial P) z (flat opened) q) (sym (flat_both kept left))
+        (subst (λ z. Becomes (machine P) (initial P) (flat kept ++ flat left) z q) (sym (flat_both kept (by_thread left)))
+        (behind_all laws (initial P) q (flat kept) (flat left) (flat (by_thread left)) (sound_initial P) (subst (λ z. Run (machine P) (initial P) z q) (flat_both kept left) more)
+        (λ mid sound grown later. put_all laws 0 left (each_kept (IsFine 0) is_uncommitted ws fine) (each_kept (Each NotBare) is_uncommitted ws bares) (left_ones ws) (alone_left ws last) mid q sound later)))))
 
     runs : run P (open_order P s) ≡ Some q
     runs = ap (run P) order_is ∙ run_entries P (flat opened) (initial P) q becomes.run
 
     together : AreTogether (marks (entries P (open_order P s)))
-    together = subst AreTogether (sym (ap (λ r. marks (entries P r)) order_is ∙ run_marks P (flat opened) (initial P) q 0 becomes.run))
+    together = subst AreTogether (sym (ap (λ r. marks (entries P r)) order_is ∙ ap marks (sym (entries_same P (map (λ e. e.thread) (flat opened)) (initial P) 0)) ∙ run_marks (machine P) (flat opened) (initial P) q 0 becomes.run))
         (flat_together 0 opened fine_opened (last_opened (in_order (units (entries P s))) (last_ordered (entries P s) 0 rises)))
 
+    owns_any : (t : ℕ) → of.owns_from (machine P) (initial P) t s ≡ of.owns_from (machine P) (initial P) t (open_order P s)
+    owns_any t = ap (of.owns_from (machine P) (initial P) t) (sym (entries_all P (initial P) 0 s (ap is_some ran))) ∙ becomes.owns t ∙ ap (of.owns_from (machine P) (initial P) t) (sym order_is)
+
     owns : (t : ℕ) → own_states P (initial P) t s ≡ own_states P (initial P) t (open_order P s)
-    owns t = ap (own_states P (initial P) t) (sym (entries_all P (initial P) 0 s (ap is_some ran))) ∙ becomes.owns t ∙ ap (own_states P (initial P) t) (sym order_is)
+    owns t = sym (owns_same P t s (initial P)) ∙ owns_any t ∙ owns_same P t (open_order P s) (initial P)
 
     pub gathered : IsGathered P s (open_order P s) q
     gathered = record {
-      rearranges = λ t. sym (count_owns P t s (initial P) q ran) ∙ ap length (owns t) ∙ count_owns P t (open_order P s) (initial P) q runs;
+      rearranges = λ t. sym (count_owns (machine P) t s (initial P) (ap is_some (run_same P s (initial P) ∙ ran))) ∙ ap length (owns_any t) ∙ count_owns (machine P) t (open_order P s) (initial P) (ap is_some (run_same P (open_order P s) (initial P) ∙ runs));
       runs = runs;
       whole = whole P (open_order P s) (ap is_some runs) together;
       owns = owns;
@@ -134,7 +137,7 @@ module _ (P : Program) (typed : IsTyped P) (s : List ℕ) (q : State) (ran : run
       none (u ∷ us) all = kept_by is_uncommitted u us false (ap (λ b. not (b || list_any (λ e. is_commit e.kind) u)) all.0) ∙ none us all.1
 
   pub closed_order : open_thread P q ≡ None → open_order P s ≡ written_order P s
-  closed_order nobody = ap schedule_of (all_commit (units (entries P s)) (whole_units P typed (entries P s) 0 rises (initial P) q (entries_run P s (initial P) q 0 ran) (nobody_inside P q nobody)))
+  closed_order nobody = ap schedule_of (all_commit (units (entries P s)) (whole_units laws (entries P s) 0 rises (initial P) q (entries_run P s (initial P) q 0 ran) (λ t there. nobody_inside P q nobody t)))
 
   pub uninterrupted : ((n : ℕ) (u : List Entry) → slice_get (units (entries P s)) n ≡ Some u → IsReducible (word_of u)) → open_thread P q ≡ None → IsUninterrupted P (open_order P s)
   uninterrupted words nobody = subst (IsUninterrupted P) (sym (closed_order nobody)) (written P typed s q ran nobody words).uninterrupted

@@ -4,9 +4,9 @@ use Rattle.std.specs.Prelude.{nat_le, filter, cond}
 use Rattle.std.specs.List.{list_any}
 use Rattle.std.proofs.lemmas.Bool.{eqb-true, eq-eqb, leb-false, or_parts}
 use Rattle.aj_steps.specs.Units.{Entry, is_of_thread, added, units, is_whole, is_commit, commit_place, placed, in_order}
-use Rattle.aj_rewrite.proofs.Shape.{Each, has, IsFine, IsLater, InTurn, each_in_order}
-use Rattle.aj_rewrite.proofs.Ordering.{has_by}
-use Rattle.aj_rewrite.proofs.Sorting.{Rises, fine_units, turn_units}
+use Rattle.aj_movers.proofs.Shape.{Each, has, IsFine, IsLater, InTurn, each_in_order}
+use Rattle.aj_movers.proofs.Ordering.{has_by}
+use Rattle.aj_movers.proofs.Sorting.{Rises, fine_units, turn_units}
 use Rattle.aj_open.specs.OpenOrder.{commits, is_uncommitted, thread_of, placed_by_thread, by_thread}
 use Rattle.aj_open.proofs.Parts.{kept_by}
 use Rattle.aj_open.proofs.Turns.{AreApart}

@@ -5,16 +5,13 @@ use Rattle.std.specs.Prelude.{nat_le, filter, cond}
 use Rattle.std.specs.List.{list_any}
 use Rattle.std.proofs.lemmas.Bool.{eq-eqb}
 use Rattle.std.proofs.lemmas.List.{append_assoc}
-use Rattle.aj_core.specs.Core.{Program}
-use Rattle.aj_core.specs.Typed.{IsTyped}
-use Rattle.aj_state.specs.States.{State}
 use Rattle.aj_steps.specs.Units.{Entry, is_of_thread, is_commit}
-use Rattle.aj_steps.specs.Words.{moves_left}
-use Rattle.aj_exchange.specs.Sound.{IsSound}
-use Rattle.aj_rewrite.specs.Runs.{Run}
-use Rattle.aj_rewrite.proofs.Shape.{Each, each_both, flat, has, IsOf, IsFine}
-use Rattle.aj_rewrite.proofs.Slides.{Passes, Becomes, behind_all, becomes_itself, becomes_then, slide_all}
-use Rattle.aj_rewrite.proofs.Sorting.{NotBare, quiet_right, right_no_other, others}
+use Rattle.aj_movers.specs.Movers.{HasMovers}
+use Rattle.aj_movers.specs.Runs.{Run}
+use Rattle.aj_movers.specs.Systems.{System}
+use Rattle.aj_movers.proofs.Shape.{Each, each_both, flat, has, IsOf, IsFine}
+use Rattle.aj_movers.proofs.Slides.{Passes, Becomes, behind_all, becomes_itself, becomes_then, slide_all}
+use Rattle.aj_movers.proofs.Sorting.{NotBare, quiet_right, others}
 use Rattle.aj_open.specs.OpenOrder.{commits, is_uncommitted, thread_of, placed_by_thread, by_thread}
 use Rattle.aj_open.proofs.Parts.{each_kept}
 use Rattle.aj_open.proofs.Turns.{put_by}
@@ -34,22 +31,21 @@ others_flat t n [] fine none = tt
 others_flat t n (u ∷ us) fine none = let p = none_first t u us none in each_both (λ x. x.thread ≡ t → ⊥) u (flat us) (others t u n fine.0 p.0) (others_flat t n us fine.1 p.1)
 
 -- entries of a call before its first Left or Other step may pass those of other threads
-quiet_passes : (q : State) (t : ℕ) (u gs : List Entry) → Each (IsOf t) u → Each NotBare u → list_any (λ e. is_commit e.kind) u ≡ false → Each (λ x. x.thread ≡ t → ⊥) gs → Each NotBare gs → Each (λ y. Each (Passes q y) gs) u
-quiet_passes q t [] gs own quiet none apart bares = tt
-quiet_passes q t (y ∷ u) gs own quiet none apart bares = let p = parts (is_commit y.kind) (list_any (λ e. is_commit e.kind) u) none in (each_one p.0 gs apart bares, quiet_passes q t u gs own.1 quiet.1 p.1 apart bares)
+quiet_passes : {S O : Type 0} (M : System S O) (q : S) (t : ℕ) (u gs : List Entry) → Each (IsOf t) u → Each NotBare u → list_any (λ e. is_commit e.kind) u ≡ false → Each (λ x. x.thread ≡ t → ⊥) gs → Each NotBare gs → Each (λ y. Each (Passes M q y) gs) u
+quiet_passes M q t [] gs own quiet none apart bares = tt
+quiet_passes M q t (y ∷ u) gs own quiet none apart bares = let p = parts (is_commit y.kind) (list_any (λ e. is_commit e.kind) u) none in (each_one p.0 gs apart bares, quiet_passes M q t u gs own.1 quiet.1 p.1 apart bares)
   where
     parts : (b c : Bool) → (b || c) ≡ false → (b ≡ false) × (c ≡ false)
     parts true c e = absurd cc
     parts false c e = (refl, e)
 
-    each_one : is_commit y.kind ≡ false → (xs : List Entry) → Each (λ x. x.thread ≡ t → ⊥) xs → Each NotBare xs → Each (Passes q y) xs
+    each_one : is_commit y.kind ≡ false → (xs : List Entry) → Each (λ x. x.thread ≡ t → ⊥) xs → Each NotBare xs → Each (Passes M q y) xs
     each_one calm [] apart bares = tt
     each_one calm (x ∷ xs) apart bares =
         let right = quiet_right y.kind calm quiet.0 in (
           record {
             apart = λ same. absurd (apart.0 (sym same ∙ own.0));
-            kinds = record { not_bare = quiet.0; also_not_bare = bares.0; passes = ap (λ b. b || moves_left x.kind) right };
-            fresh = inl (right_no_other y.kind right);
+            kinds = inl (right, bares.0);
           },
           each_one calm xs apart.1 bares.1,
         )
@@ -67,40 +63,40 @@ pub each_by_thread : (Q : List Entry → Type 0) (us : List (List Entry)) → Ea
 each_by_thread Q [] h = tt
 each_by_thread Q (u ∷ us) h = each_put Q u (by_thread us) h.0 (each_by_thread Q us h.1)
 
-module _ (P : Program) (typed : IsTyped P) where
+module _ {S O : Type 0} {M : System S O} {IsSound : S → Type 0} (laws : HasMovers M IsSound) where
   -- a unit that doesn't commit goes behind units of other threads
-  pass : (n : ℕ) (u : List Entry) (us : List (List Entry)) (more : List Entry) → IsFine n u → Each (IsFine n) us → Each NotBare u → Each (Each NotBare) us → commits u ≡ false → NoneOf u us → (q r : State) → IsSound q → Run P q (u ++ (flat us ++ more)) r
-      → Becomes P typed q (u ++ (flat us ++ more)) (flat us ++ (u ++ more)) r
+  pass : (n : ℕ) (u : List Entry) (us : List (List Entry)) (more : List Entry) → IsFine n u → Each (IsFine n) us → Each NotBare u → Each (Each NotBare) us → commits u ≡ false → NoneOf u us → (q r : S) → IsSound q → Run M q (u ++ (flat us ++ more)) r
+      → Becomes M q (u ++ (flat us ++ more)) (flat us ++ (u ++ more)) r
   pass n u us more fine fines quiet bares left none q r sound run =
-      slide_all P typed q r u (flat us) more sound
-      (quiet_passes q fine.first.thread u (flat us) fine.one quiet (left_open u left).1 (others_flat fine.first.thread n us fines (none fine.first.thread own)) (each_flat NotBare us bares)) run
+      slide_all laws q r u (flat us) more sound
+      (quiet_passes M q fine.first.thread u (flat us) fine.one quiet (left_open u left).1 (others_flat fine.first.thread n us fines (none fine.first.thread own)) (each_flat NotBare us bares)) run
     where
       own : is_of_thread fine.first.thread u ≡ true
       own = ap (is_of_thread fine.first.thread) fine.is ∙ eq-eqb fine.first.thread fine.first.thread refl
 
   -- all units that don't commit go behind those that do
-  pub part : (n : ℕ) (us : List (List Entry)) → Each (IsFine n) us → Each (Each NotBare) us → AreLast us → (q r : State) → IsSound q → Run P q (flat us) r → Becomes P typed q (flat us) (flat (parted us)) r
-  part n [] fine quiet last q r sound run = becomes_itself P typed q r [] run
+  pub part : (n : ℕ) (us : List (List Entry)) → Each (IsFine n) us → Each (Each NotBare) us → AreLast us → (q r : S) → IsSound q → Run M q (flat us) r → Becomes M q (flat us) (flat (parted us)) r
+  part n [] fine quiet last q r sound run = becomes_itself laws q r [] run
   part n (u ∷ us) fine quiet last q r sound run =
-      becomes_then P typed q r (u ++ flat us) (u ++ flat (parted us)) (flat (parted (u ∷ us)))
-      (behind_all P typed q r u (flat us) (flat (parted us)) sound run (λ mid s more later. part n us fine.1 quiet.1 last.1 mid r s later))
+      becomes_then laws q r (u ++ flat us) (u ++ flat (parted us)) (flat (parted (u ∷ us)))
+      (behind_all laws q r u (flat us) (flat (parted us)) sound run (λ mid s more later. part n us fine.1 quiet.1 last.1 mid r s later))
       (by (commits u) refl)
     where
-      by : (b : Bool) → commits u ≡ b → Run P q (u ++ flat (parted us)) r → Becomes P typed q (u ++ flat (parted us)) (flat (parted (u ∷ us))) r
-      by true is again = subst (λ z. Becomes P typed q (u ++ flat (parted us)) (flat z) r) (sym (parted_kept u us is)) (becomes_itself P typed q r (u ++ flat (parted us)) again)
+      by : (b : Bool) → commits u ≡ b → Run M q (u ++ flat (parted us)) r → Becomes M q (u ++ flat (parted us)) (flat (parted (u ∷ us))) r
+      by true is again = subst (λ z. Becomes M q (u ++ flat (parted us)) (flat z) r) (sym (parted_kept u us is)) (becomes_itself laws q r (u ++ flat (parted us)) again)
       by false is again =
           let apart = flat_both (filter commits us) (filter is_uncommitted us) in
           let joined = flat_both (filter commits us) (u ∷ filter is_uncommitted us) in
-          subst (λ z. Becomes P typed q (u ++ flat (parted us)) (flat z) r) (sym (parted_left u us is))
-          (subst (λ z. Becomes P typed q (u ++ flat (parted us)) z r) (sym joined)
-          (subst (λ z. Becomes P typed q (u ++ z) (flat (filter commits us) ++ (u ++ flat (filter is_uncommitted us))) r) (sym apart)
+          subst (λ z. Becomes M q (u ++ flat (parted us)) (flat z) r) (sym (parted_left u us is))
+          (subst (λ z. Becomes M q (u ++ flat (parted us)) z r) (sym joined)
+          (subst (λ z. Becomes M q (u ++ z) (flat (filter commits us) ++ (u ++ flat (filter is_uncommitted us))) r) (sym apart)
           (pass n u (filter commits us) (flat (filter is_uncommitted us)) fine.0 (each_kept (IsFine n) commits us fine.1) quiet.0 (each_kept (Each NotBare) commits us quiet.1) is
-          (λ t at. none_kept t commits us (none_behind u us is last.0 t at)) q r sound (subst (λ z. Run P q (u ++ z) r) apart again))))
+          (λ t at. none_kept t commits us (none_behind u us is last.0 t at)) q r sound (subst (λ z. Run M q (u ++ z) r) apart again))))
 
   -- a unit that doesn't commit goes to its place among others such
-  put_in : (n : ℕ) (u : List Entry) (us : List (List Entry)) → IsFine n u → Each (IsFine n) us → Each NotBare u → Each (Each NotBare) us → commits u ≡ false → NoneOf u us → (q r : State) → IsSound q → Run P q (u ++ flat us) r
-      → Becomes P typed q (u ++ flat us) (flat (placed_by_thread u us)) r
-  put_in n u [] fine fines quiet bares left none q r sound run = becomes_itself P typed q r (u ++ []) run
+  put_in : (n : ℕ) (u : List Entry) (us : List (List Entry)) → IsFine n u → Each (IsFine n) us → Each NotBare u → Each (Each NotBare) us → commits u ≡ false → NoneOf u us → (q r : S) → IsSound q → Run M q (u ++ flat us) r
+      → Becomes M q (u ++ flat us) (flat (placed_by_thread u us)) r
+  put_in n u [] fine fines quiet bares left none q r sound run = becomes_itself laws q r (u ++ []) run
   put_in n u (v ∷ us) fine fines quiet bares left none q r sound run = by (nat_le (thread_of u) (thread_of v)) refl (λ mid s later. put_in n u us fine fines.1 quiet bares.1 left (λ t at. (none_first t v us (none t at)).1) mid r s later)
     where
       single : flat (v ∷ []) ++ flat us ≡ v ++ flat us
@@ -109,23 +105,23 @@ module _ (P : Program) (typed : IsTyped P) where
       one : NoneOf u (v ∷ [])
       one t at = let p = none_first t v us (none t at) in ap (λ b. cond b true false) p.0
 
-      by : (b : Bool) → nat_le (thread_of u) (thread_of v) ≡ b → ((mid : State) → IsSound mid → Run P mid (u ++ flat us) r → Becomes P typed mid (u ++ flat us) (flat (placed_by_thread u us)) r)
-          → Becomes P typed q (u ++ (v ++ flat us)) (flat (placed_by_thread u (v ∷ us))) r
-      by true low rest = subst (λ z. Becomes P typed q (u ++ (v ++ flat us)) (flat z) r) (sym (put_by u v us true low)) (becomes_itself P typed q r (u ++ (v ++ flat us)) run)
+      by : (b : Bool) → nat_le (thread_of u) (thread_of v) ≡ b → ((mid : S) → IsSound mid → Run M mid (u ++ flat us) r → Becomes M mid (u ++ flat us) (flat (placed_by_thread u us)) r)
+          → Becomes M q (u ++ (v ++ flat us)) (flat (placed_by_thread u (v ∷ us))) r
+      by true low rest = subst (λ z. Becomes M q (u ++ (v ++ flat us)) (flat z) r) (sym (put_by u v us true low)) (becomes_itself laws q r (u ++ (v ++ flat us)) run)
       by false high rest =
-          subst (λ z. Becomes P typed q (u ++ (v ++ flat us)) (flat z) r) (sym (put_by u v us false high))
-          (becomes_then P typed q r (u ++ (v ++ flat us)) (v ++ (u ++ flat us)) (v ++ flat (placed_by_thread u us))
-          (slide_all P typed q r u v (flat us) sound
-          (quiet_passes q fine.first.thread u v fine.one quiet (left_open u left).1
+          subst (λ z. Becomes M q (u ++ (v ++ flat us)) (flat z) r) (sym (put_by u v us false high))
+          (becomes_then laws q r (u ++ (v ++ flat us)) (v ++ (u ++ flat us)) (v ++ flat (placed_by_thread u us))
+          (slide_all laws q r u v (flat us) sound
+          (quiet_passes M q fine.first.thread u v fine.one quiet (left_open u left).1
           (others fine.first.thread v n fines.0 (none_first fine.first.thread v us (none fine.first.thread own)).0) bares.0) run)
-          (λ again. behind_all P typed q r v (u ++ flat us) (flat (placed_by_thread u us)) sound again (λ mid s more later. rest mid s later)))
+          (λ again. behind_all laws q r v (u ++ flat us) (flat (placed_by_thread u us)) sound again (λ mid s more later. rest mid s later)))
         where
           own : is_of_thread fine.first.thread u ≡ true
           own = ap (is_of_thread fine.first.thread) fine.is ∙ eq-eqb fine.first.thread fine.first.thread refl
 
-  pub put_all : (n : ℕ) (us : List (List Entry)) → Each (IsFine n) us → Each (Each NotBare) us → Each (λ u. commits u ≡ false) us → AreAlone us → (q r : State) → IsSound q → Run P q (flat us) r → Becomes P typed q (flat us) (flat (by_thread us)) r
-  put_all n [] fine quiet left alone q r sound run = becomes_itself P typed q r [] run
+  pub put_all : (n : ℕ) (us : List (List Entry)) → Each (IsFine n) us → Each (Each NotBare) us → Each (λ u. commits u ≡ false) us → AreAlone us → (q r : S) → IsSound q → Run M q (flat us) r → Becomes M q (flat us) (flat (by_thread us)) r
+  put_all n [] fine quiet left alone q r sound run = becomes_itself laws q r [] run
   put_all n (u ∷ us) fine quiet left alone q r sound run =
-      becomes_then P typed q r (u ++ flat us) (u ++ flat (by_thread us)) (flat (placed_by_thread u (by_thread us)))
-      (behind_all P typed q r u (flat us) (flat (by_thread us)) sound run (λ mid s more later. put_all n us fine.1 quiet.1 left.1 alone.1 mid r s later))
+      becomes_then laws q r (u ++ flat us) (u ++ flat (by_thread us)) (flat (placed_by_thread u (by_thread us)))
+      (behind_all laws q r u (flat us) (flat (by_thread us)) sound run (λ mid s more later. put_all n us fine.1 quiet.1 left.1 alone.1 mid r s later))
       (λ again. put_in n u (by_thread us) fine.0 (each_by_thread (IsFine n) us fine.1) quiet.0 (each_by_thread (Each NotBare) us quiet.1) left.0 (λ t at. none_by_thread t us (alone.0 t at)) q r sound again)

@@ -6,13 +6,13 @@ use Rattle.aj_core.specs.Core.{Program}
 use Rattle.aj_state.specs.States.{State, initial}
 use Rattle.aj_steps.specs.Step.{Outcome, Moves, Absent, IsDone, HadFaulted, Waits, outcome, moved}
 use Rattle.aj_steps.specs.Units.{Entry, entry_then, entries_from, entries, is_of_thread, added, units}
-use Rattle.aj_rewrite.proofs.Shape.{Each, each_more, has, IsOf, IsFine}
-use Rattle.aj_rewrite.proofs.Ordering.{has_by}
-use Rattle.aj_rewrite.proofs.Sorting.{fine_units, each_units}
-use Rattle.aj_rewrite.proofs.Whole.{marks, entries_rise}
+use Rattle.aj_movers.proofs.Shape.{Each, each_more, has, IsOf, IsFine}
+use Rattle.aj_movers.proofs.Ordering.{has_by}
+use Rattle.aj_movers.proofs.Sorting.{fine_units, each_units}
+use Rattle.aj_rewrite.proofs.Whole.{entries_rise}
 use Rattle.aj_open.specs.Whole.{AreUnitsWhole}
 use Rattle.aj_open.proofs.Lasts.{none_first, none_added}
-use Rattle.aj_open.proofs.Together.{some_of, first_of, AreTogether}
+use Rattle.aj_open.proofs.Together.{marks, some_of, first_of, AreTogether}
 
 -- each entry has the place behind the one before it; the first has this place
 abbrev pub Counts : ℕ → List Entry → Type 0

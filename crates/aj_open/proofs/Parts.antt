@@ -3,8 +3,8 @@ use Rattle.std.proofs.Common.{◌≡◌, ◌≤◌, Bool, true, false, List, [],
 use Rattle.std.specs.Prelude.{nat_le, filter, cond}
 use Rattle.std.proofs.lemmas.Bool.{leb-true}
 use Rattle.aj_steps.specs.Units.{Entry, commit_place, placed, in_order}
-use Rattle.aj_rewrite.proofs.Shape.{Each, each_more, Sorted, sorted_in_order}
-use Rattle.aj_rewrite.proofs.Ordering.{least_first}
+use Rattle.aj_movers.proofs.Shape.{Each, each_more, Sorted, sorted_in_order}
+use Rattle.aj_movers.proofs.Ordering.{least_first}
 
 -- a filter, by its test of the first
 pub kept_by : {A : Type 0} (p : A → Bool) (u : A) (us : List A) (b : Bool) → p u ≡ b → filter p (u ∷ us) ≡ cond b (u ∷ filter p us) (filter p us)

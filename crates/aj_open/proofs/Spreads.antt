@@ -5,8 +5,8 @@ use Rattle.std.specs.List.{list_any}
 use Rattle.std.proofs.lemmas.Bool.{eqb-true, eqb-false, ne_eqb, eq-eqb, leb-true, leb-false, or_right}
 use Rattle.std.proofs.lemmas.List.{append_assoc}
 use Rattle.aj_steps.specs.Units.{Entry, is_whole, is_commit, units, commit_place, placed, in_order, schedule_of}
-use Rattle.aj_rewrite.proofs.Shape.{Each, each_more, IsOf, IsFine, each_in_order}
-use Rattle.aj_rewrite.proofs.Sorting.{fine_units, each_units}
+use Rattle.aj_movers.proofs.Shape.{Each, each_more, IsOf, IsFine, each_in_order}
+use Rattle.aj_movers.proofs.Sorting.{fine_units, each_units}
 use Rattle.aj_noted.specs.Entries.{entries_of}
 use Rattle.aj_noted.specs.Tables.{value_at, put_at}
 use Rattle.aj_noted.specs.UnitMaps.{UnitMaps, unit_maps, spread}

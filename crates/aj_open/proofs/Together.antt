@@ -1,16 +1,19 @@
 -- Where units that are left open are last, calls stand together.
 use Rattle.std.proofs.Common.{◌≡◌, ℕ, zero, suc, ◌+◌, ◌<◌, ◌≤◌, ◌==◌, Bool, true, false, not, ◌||◌, List, [], ◌∷◌, ◌++◌, refl, sym, ap, subst, ◌∙◌, Some, arith}
-use Rattle.std.specs.Prelude.{take, slice_get, option_and_then, IsSome}
+use Rattle.std.specs.Prelude.{map, take, slice_get, option_and_then, IsSome}
 use Rattle.std.proofs.lemmas.Bool.{eqb-true, eq-eqb, or_right, or_left}
 use Rattle.aj_core.specs.Core.{Program}
 use Rattle.aj_state.specs.States.{State, initial}
 use Rattle.aj_steps.specs.Run.{run, run_from, inside, Runs}
 use Rattle.aj_steps.specs.Step.{Moves, Absent, IsDone, HadFaulted, Waits, outcome, moved, state_after}
 use Rattle.aj_steps.specs.Units.{Entry, entry_then, entries_from, entries, is_of_thread, is_whole}
-use Rattle.aj_rewrite.proofs.Shape.{Each, flat, has, IsOf, IsFine}
-use Rattle.aj_rewrite.proofs.Whole.{marks}
+use Rattle.aj_movers.proofs.Shape.{Each, flat, has, IsOf, IsFine}
 use Rattle.aj_open.specs.Whole.{IsWhole}
 use Rattle.aj_open.proofs.Lasts.{AreLast, none_first}
+
+-- the threads of entries, with whether they stand inside after them
+abbrev pub marks : List Entry → List (ℕ × Bool)
+marks es = map (λ e. (e.thread, e.inside)) es
 
 -- whether some mark is of this thread, and whether the first one is
 abbrev pub some_of : ℕ → List (ℕ × Bool) → Bool

@@ -3,7 +3,7 @@ use Rattle.std.proofs.Common.{◌≡◌, ◌≢◌, Bool, true, false, List, [],
 use Rattle.std.specs.Prelude.{nat_le, cond}
 use Rattle.std.proofs.lemmas.Bool.{leb-true, leb-false, lt-leb}
 use Rattle.aj_steps.specs.Units.{Entry, commit_place, placed, in_order}
-use Rattle.aj_rewrite.proofs.Shape.{Each, each_in_order}
+use Rattle.aj_movers.proofs.Shape.{Each, each_in_order}
 use Rattle.aj_open.specs.OpenOrder.{thread_of, placed_by_thread, by_thread}
 
 -- an insertion, by its test

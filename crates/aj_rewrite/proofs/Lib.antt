@@ -1,6 +1,3 @@
--- Public lemma, for the crates above: the written order of a schedule (Whole).
-pub mod Shape
-pub mod Ordering
-pub mod Slides
-pub mod Sorting
+-- Public lemmas, for the crates above: the machine as a system with movers (Machine), the written order of a schedule (Whole).
+pub mod Machine
 pub mod Whole

@@ -1,3 +1,3 @@
--- Serial is for a reader of the laws; Runs serves the proofs.
+-- Serial is for a reader of the laws; Machine serves the proofs.
 pub mod Serial
-pub mod Runs
+pub mod Machine

@@ -1,5 +1,5 @@
 use Rattle.std.proofs.Common.{false}
-use Rattle.aj_held.proofs.UnitWords.{phases_words}
+use Rattle.aj_movers.proofs.Phases.{phases_words}
 use Rattle.aj_held.proofs.laws.phases_give_words.Goals as goal
 
 pub returns : goal.returns

@@ -3,7 +3,7 @@ use Rattle.std.proofs.Common.{◌≡◌, ℕ, ◌<◌, ◌≤◌, Bool, true, fa
 use Rattle.std.specs.Prelude.{nat_le, if◌then◌else◌}
 use Rattle.std.proofs.lemmas.Bool.{leb-false, le-leb, lt-leb}
 use Rattle.aj_steps.specs.Units.{Entry, is_of_thread, added, is_commit, commit_place, placed, in_order}
-use Rattle.aj_rewrite.proofs.Shape.{Each, has, got, without, IsFine, IsLater, InTurn, Sorted, commit_added, fine_above, each_in_order, each_more, sorted_in_order}
+use Rattle.aj_movers.proofs.Shape.{Each, has, got, without, IsFine, IsLater, InTurn, Sorted, commit_added, fine_above, each_in_order, each_more, sorted_in_order}
 
 -- an insertion, by its test
 placed_by : (u v : List Entry) (us : List (List Entry)) (b : Bool) → nat_le (commit_place u) (commit_place v) ≡ b → placed u (v ∷ us) ≡ (if b then u ∷ v ∷ us else v ∷ placed u us)

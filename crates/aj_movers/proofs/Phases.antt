@@ -1,4 +1,4 @@
--- The words of units.
+-- The words of units, from the phases of their entries.
 use Rattle.std.proofs.Common.{◌≡◌, ℕ, zero, suc, Bool, true, false, ◌&&◌, ◌||◌, ◌==◌, List, [], ◌∷◌, Some, None, refl, sym, ap, subst, ◌∙◌, arith}
 use Rattle.std.specs.Prelude.{slice_get, if◌then◌else◌}
 use Rattle.std.specs.List.{list_all}
@@ -11,12 +11,11 @@ use Rattle.aj_state.specs.declared.value.StepKind.TheVariants.{Both, Right, Left
 use Rattle.aj_steps.specs.Units.{Entry, added, is_of_thread, is_commit, word_of, units}
 use Rattle.aj_steps.specs.Words.{IsReducible, is_reducible, moves_left, fits_phase, next_phase, FitPhases}
 use Rattle.aj_steps.proofs.WordLemmas.{reducible_is, left_reducible}
-use Rattle.aj_safe.specs.Phases.{phase_of, allowed}
 
--- a phase inside an atomic call admits a word, one step after the other; the flag tells whether the call made a Left or Other step
+-- a block admits a word, one step after the other; the flag tells whether it made a Left or Other step before
 abbrev pub accepts : (committed : Bool) → List StepKind → Bool
 accepts c [] = true
-accepts c (k ∷ ks) = allowed (phase_of true c) k && accepts (c || is_commit k) ks
+accepts c (k ∷ ks) = fits_phase c k && accepts (c || is_commit k) ks
 
 lefts : (word : List StepKind) → accepts true word ≡ true → list_all moves_left word ≡ true
 lefts [] e = refl
@@ -61,16 +60,16 @@ same_thread t v e = grind (arith, nat_tests)
 module _ (e : Entry) where
   -- S before the entry, T after it
   pub judged_added : (us : List (List Entry)) (S T : ℕ → Bool) → ((v : ℕ) → (v == e.thread) ≡ false → S v ≡ T v) → T e.thread ≡ (S e.thread || is_commit e.kind)
-      → allowed (phase_of true (S e.thread)) e.kind ≡ true → Judged T us → Judged S (added e us)
+      → fits_phase (S e.thread) e.kind ≡ true → Judged T us → Judged S (added e us)
   judged_added [] S T others own allow j = ((λ v is. first_word v (same_thread e.thread v (eqb_turned v e.thread ∙ is))), tt)
     where
-      first_word : (v : ℕ) → v ≡ e.thread → (allowed (phase_of true (S v)) e.kind && true) ≡ true
-      first_word v same = and_from _ true (ap (λ w. allowed (phase_of true (S w)) e.kind) same ∙ allow) refl
+      first_word : (v : ℕ) → v ≡ e.thread → (fits_phase (S v) e.kind && true) ≡ true
+      first_word v same = and_from _ true (ap (λ w. fits_phase (S w) e.kind) same ∙ allow) refl
   judged_added (u ∷ us) S T others own allow j = by_thread (is_of_thread e.thread u) refl (λ S2 T2 o w. judged_added us S2 T2 o w)
     where
       -- the first unit is of the entry's thread
-      whole_word : is_of_thread e.thread u ≡ true → (v : ℕ) → v ≡ e.thread → (allowed (phase_of true (S v)) e.kind && accepts (S v || is_commit e.kind) (word_of u)) ≡ true
-      whole_word mine v same = and_from _ _ (ap (λ w. allowed (phase_of true (S w)) e.kind) same ∙ allow)
+      whole_word : is_of_thread e.thread u ≡ true → (v : ℕ) → v ≡ e.thread → (fits_phase (S v) e.kind && accepts (S v || is_commit e.kind) (word_of u)) ≡ true
+      whole_word mine v same = and_from _ _ (ap (λ w. fits_phase (S w) e.kind) same ∙ allow)
           (ap (λ w. accepts (S w || is_commit e.kind) (word_of u)) same ∙ ap (λ b. accepts b (word_of u)) (sym own) ∙ j.0 e.thread mine)
 
       rest_same : is_of_thread e.thread u ≡ true → (v : ℕ) (b : Bool) → (v == e.thread) ≡ b → (if is_of_thread v u then false else T v) ≡ (if e.thread == v then false else S v)
@@ -87,22 +86,22 @@ module _ (e : Entry) where
       later S v = if is_of_thread v u then false else S v
 
       by_thread : (b : Bool) → is_of_thread e.thread u ≡ b
-          → ((S2 T2 : ℕ → Bool) → ((v : ℕ) → (v == e.thread) ≡ false → S2 v ≡ T2 v) → T2 e.thread ≡ (S2 e.thread || is_commit e.kind) → allowed (phase_of true (S2 e.thread)) e.kind ≡ true → Judged T2 us → Judged S2 (added e us))
+          → ((S2 T2 : ℕ → Bool) → ((v : ℕ) → (v == e.thread) ≡ false → S2 v ≡ T2 v) → T2 e.thread ≡ (S2 e.thread || is_commit e.kind) → fits_phase (S2 e.thread) e.kind ≡ true → Judged T2 us → Judged S2 (added e us))
           → Judged S (if b then (e ∷ u) ∷ us else u ∷ added e us)
       by_thread true mine rec = ((λ v is. whole_word mine v (same_thread e.thread v (eqb_turned v e.thread ∙ is))), judged_same _ _ (λ v. rest_same mine v (v == e.thread) refl) us j.1)
       by_thread false other rec = (
         (λ v is. ap (λ b. accepts b (word_of u)) (others v (apart_thread other v is (v == e.thread) refl)) ∙ j.0 v is),
         rec (λ v. if is_of_thread v u then false else S v) (λ v. if is_of_thread v u then false else T v) (λ v is. ap (λ x. if is_of_thread v u then false else x) (others v is))
             (ap (λ x. if x then false else T e.thread) other ∙ own ∙ sym (ap (λ x. (if x then false else S e.thread) || is_commit e.kind) other))
-            (ap (λ x. allowed (phase_of true (if x then false else S e.thread)) e.kind) other ∙ allow) j.1,
+            (ap (λ x. fits_phase (if x then false else S e.thread) e.kind) other ∙ allow) j.1,
       )
 
 -- an entry before units that are judged
 pub added_entry : (e : Entry) (us : List (List Entry)) (S T : ℕ → Bool) → ((v : ℕ) → (v == e.thread) ≡ false → S v ≡ T v) → (after : Bool) → (after ≡ true → T e.thread ≡ (S e.thread || is_commit e.kind)) → (after ≡ false → T e.thread ≡ false)
-    → allowed (phase_of true (S e.thread)) e.kind ≡ true → Judged T us → Judged S (if after then added e us else (e ∷ []) ∷ us)
+    → fits_phase (S e.thread) e.kind ≡ true → Judged T us → Judged S (if after then added e us else (e ∷ []) ∷ us)
 added_entry e us S T others true stays leaves allow j = judged_added e us S T others (stays refl) allow j
 added_entry e us S T others false stays leaves allow j = (
-  (λ v is. and_from _ true (ap (λ w. allowed (phase_of true (S w)) e.kind) (same_thread e.thread v (eqb_turned v e.thread ∙ is)) ∙ allow) refl),
+  (λ v is. and_from _ true (ap (λ w. fits_phase (S w) e.kind) (same_thread e.thread v (eqb_turned v e.thread ∙ is)) ∙ allow) refl),
   judged_same T (λ v. if e.thread == v then false else S v) (λ v. rest v (v == e.thread) refl) us j,
 )
   where
@@ -118,14 +117,6 @@ judged_words ((e ∷ u) ∷ us) S j zero w is = subst (λ x. IsReducible (word_o
 judged_words (u ∷ us) S j (suc n) w is = judged_words us (λ v. if is_of_thread v u then false else S v) j.1 n w is
 
 -- Phases.
-
-phase_allows : (c : Bool) (kind : StepKind) → fits_phase c kind ≡ true → allowed (phase_of true c) kind ≡ true
-phase_allows true kind e = e
-phase_allows false Both e = refl
-phase_allows false Right e = refl
-phase_allows false Left e = refl
-phase_allows false Other e = refl
-phase_allows false Bare e = absurd (let k : false ≡ true = e in cc)
 
 and_true : (a b : Bool) → a ≡ true → (a && b) ≡ b
 and_true true b e = refl
@@ -145,7 +136,7 @@ phases_judged : (es : List Entry) (committed : ℕ → Bool) → FitPhases commi
 phases_judged [] committed f = tt
 phases_judged (e ∷ es) committed f = added_entry e (units es) committed (next_phase committed e) (λ v other. other_phase committed e v other) e.inside
     (λ stays. own_phase committed e ∙ and_true e.inside (committed e.thread || is_commit e.kind) stays) (λ leaves. own_phase committed e ∙ and_false e.inside (committed e.thread || is_commit e.kind) leaves)
-    (phase_allows (committed e.thread) e.kind f.0) (phases_judged es (next_phase committed e) f.1)
+    f.0 (phases_judged es (next_phase committed e) f.1)
 
 -- entries that fit their phases have reducible words
 pub phases_words : (es : List Entry) (committed : ℕ → Bool) → FitPhases committed es → (n : ℕ) (u : List Entry) → slice_get (units es) n ≡ Some u → IsReducible (word_of u)

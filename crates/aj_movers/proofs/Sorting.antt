@@ -3,20 +3,17 @@ use Rattle.std.proofs.Common.{◌≡◌, ◌≢◌, ℕ, suc, ◌<◌, ◌≤◌
 use Rattle.std.specs.Prelude.{if◌then◌else◌}
 use Rattle.std.specs.List.{list_all}
 use Rattle.std.proofs.lemmas.Bool.{eqb-true, and_parts, or_right, eq-eqb}
-use Rattle.aj_core.specs.Core.{Program}
-use Rattle.aj_core.specs.Typed.{IsTyped}
 use Rattle.aj_state.specs.declared.value.StepKind.{StepKind}
 use Rattle.aj_state.specs.declared.value.StepKind.TheVariants.{Both, Right, Left, Other, Bare}
-use Rattle.aj_state.specs.States.{State}
 use Rattle.aj_steps.specs.Units.{Entry, is_of_thread, added, units, is_commit, commit_place, in_order, word_of}
 use Rattle.aj_steps.specs.Words.{moves_right, moves_left, is_reducible}
 use Rattle.aj_steps.proofs.WordLemmas.{left_reducible}
-use Rattle.aj_exchange.specs.Sound.{IsSound}
-use Rattle.aj_exchange.proofs.Swap.{stepper}
-use Rattle.aj_rewrite.specs.Runs.{Run}
-use Rattle.aj_rewrite.proofs.Shape.{Each, each_more, flat, has, got, without, IsOf, IsFine, IsLater, InTurn, fine_above, commit_added, each_in_order}
-use Rattle.aj_rewrite.proofs.Ordering.{added_by, has_by, got_by, without_by, least_first, added_in_order, commit_in_order, alone_in_order, got_each, has_in_order}
-use Rattle.aj_rewrite.proofs.Slides.{Passes, Becomes, behind, behind_all, becomes_itself, becomes_then, slide, slide_all, sound_fits, fits_grow}
+use Rattle.aj_movers.proofs.Shape.{Each, each_more, flat, has, got, without, IsOf, IsFine, IsLater, InTurn, fine_above, commit_added, each_in_order}
+use Rattle.aj_movers.proofs.Ordering.{added_by, has_by, got_by, without_by, least_first, added_in_order, commit_in_order, alone_in_order, got_each, has_in_order}
+use Rattle.aj_movers.specs.Systems.{System, IsThere}
+use Rattle.aj_movers.specs.Movers.{HasMovers}
+use Rattle.aj_movers.specs.Runs.{Run}
+use Rattle.aj_movers.proofs.Slides.{Passes, Becomes, behind, behind_all, becomes_itself, becomes_then, slide, slide_all, sound_fits, fits_there, fits_grow}
 
 -- places rise from n on
 abbrev pub Rises : ℕ → List Entry → Type 0
@@ -166,13 +163,6 @@ quiet_right Left c b = absurd cc
 quiet_right Other c b = absurd cc
 quiet_right Bare c b = absurd (b refl)
 
-pub right_no_other : (k : StepKind) → moves_right k ≡ true → k ≡ Other → ⊥
-right_no_other Both r e = cc
-right_no_other Right r e = cc
-right_no_other Left r e = cc
-right_no_other Other r e = cc
-right_no_other Bare r e = cc
-
 -- entries of a unit of another thread
 pub others : (t : ℕ) (u : List Entry) (n : ℕ) → IsFine n u → is_of_thread t u ≡ false → Each (λ x. x.thread ≡ t → ⊥) u
 others t u n f not = each_more (IsOf f.first.thread) (λ x. x.thread ≡ t → ⊥) (λ x h e. absurd (let c : true ≡ false = sym (eq-eqb t t refl) ∙ ap (λ k. k == t) (sym e ∙ h) ∙ sym (ap (is_of_thread t) f.is) ∙ not in cc)) u f.one
@@ -192,71 +182,69 @@ got_is t (u ∷ us) h = by (is_of_thread t u) refl (got_is t us)
     by true e later = e
     by false e later = later (sym (has_by t u us false e) ∙ h)
 
-module _ (P : Program) (typed : IsTyped P) where
+module _ {S O : Type 0} {M : System S O} {IsSound : S → Type 0} (laws : HasMovers M IsSound) where
   -- an entry that moves right goes to the first unit of its thread
-  move_in : (n : ℕ) (e : Entry) → moves_right e.kind ≡ true → e.kind ≢ Bare → (us : List (List Entry)) → Each (IsFine n) us → Each (Each NotBare) us → has e.thread us ≡ true → (q r : State) → IsSound q → Run P q (e ∷ flat us) r
-      → Becomes P typed q (e ∷ flat us) (flat (added e us)) r
+  move_in : (n : ℕ) (e : Entry) → moves_right e.kind ≡ true → e.kind ≢ Bare → (us : List (List Entry)) → Each (IsFine n) us → Each (Each NotBare) us → has e.thread us ≡ true → (q r : S) → IsSound q → Run M q (e ∷ flat us) r
+      → Becomes M q (e ∷ flat us) (flat (added e us)) r
   move_in n e right bare [] fine quiet h q r s run = absurd cc
   move_in n e right bare (y ∷ us) fine quiet h q r s run = by (is_of_thread e.thread y) refl (λ there mid k later. move_in n e right bare us fine.1 quiet.1 there mid r k later)
     where
-      by : (b : Bool) → is_of_thread e.thread y ≡ b → (has e.thread us ≡ true → (mid : State) → IsSound mid → Run P mid (e ∷ flat us) r → Becomes P typed mid (e ∷ flat us) (flat (added e us)) r)
-          → Becomes P typed q (e ∷ flat (y ∷ us)) (flat (added e (y ∷ us))) r
-      by true is rest = subst (λ z. Becomes P typed q (e ∷ flat (y ∷ us)) (flat z) r) (sym (added_by e y us true is)) (becomes_itself P typed q r (e ∷ flat (y ∷ us)) run)
-      by false is rest = subst (λ z. Becomes P typed q (e ∷ flat (y ∷ us)) (flat z) r) (sym (added_by e y us false is))
-          (becomes_then P typed q r (e ∷ (y ++ flat us)) (y ++ e ∷ flat us) (y ++ flat (added e us))
-          (slide P typed q r e y (flat us) s (each_more (λ x. (x.thread ≡ e.thread → ⊥) × NotBare x) (Passes q e)
-          (λ x h. record { apart = λ z. absurd (h.0 (sym z)); kinds = record { not_bare = bare; also_not_bare = h.1; passes = ap (λ b. b || moves_left x.kind) right }; fresh = inl (right_no_other e.kind right) }) y
+      by : (b : Bool) → is_of_thread e.thread y ≡ b → (has e.thread us ≡ true → (mid : S) → IsSound mid → Run M mid (e ∷ flat us) r → Becomes M mid (e ∷ flat us) (flat (added e us)) r)
+          → Becomes M q (e ∷ flat (y ∷ us)) (flat (added e (y ∷ us))) r
+      by true is rest = subst (λ z. Becomes M q (e ∷ flat (y ∷ us)) (flat z) r) (sym (added_by e y us true is)) (becomes_itself laws q r (e ∷ flat (y ∷ us)) run)
+      by false is rest = subst (λ z. Becomes M q (e ∷ flat (y ∷ us)) (flat z) r) (sym (added_by e y us false is))
+          (becomes_then laws q r (e ∷ (y ++ flat us)) (y ++ e ∷ flat us) (y ++ flat (added e us))
+          (slide laws q r e y (flat us) s (each_more (λ x. (x.thread ≡ e.thread → ⊥) × NotBare x) (Passes M q e)
+          (λ x h. record { apart = λ z. absurd (h.0 (sym z)); kinds = inl (right, h.1) }) y
           (pair (λ x. x.thread ≡ e.thread → ⊥) NotBare y (others e.thread y n fine.0 is) quiet.0)) run)
-          (λ again. behind_all P typed q r y (e ∷ flat us) (flat (added e us)) s again (λ mid k more later. rest (sym (has_by e.thread y us false is) ∙ h) mid k later)))
+          (λ again. behind_all laws q r y (e ∷ flat us) (flat (added e us)) s again (λ mid k more later. rest (sym (has_by e.thread y us false is) ∙ h) mid k later)))
 
   -- entries of other threads pass those of a thread that is there, where these move left
-  passing : (q : State) (ys gs : List Entry) {t : ℕ} → t < length q.threads → Each (λ x. x.thread ≡ t → ⊥) ys → Each NotBare ys → Each (IsOf t) gs → Each NotBare gs → Each (λ e. moves_left e.kind ≡ true) gs → Each (λ y. Each (Passes q y) gs) ys
-  passing q [] gs there other quiet ones bares lefts = tt
-  passing q (y ∷ ys) gs {t} there other quiet ones bares lefts = (each_one gs ones bares lefts, passing q ys gs there other.1 quiet.1 ones bares lefts)
+  passing : (q : S) (ys gs : List Entry) {t : ℕ} → IsThere M q t → Each (λ x. x.thread ≡ t → ⊥) ys → Each NotBare ys → Each (IsOf t) gs → Each (λ e. moves_left e.kind ≡ true) gs → Each (λ y. Each (Passes M q y) gs) ys
+  passing q [] gs there other quiet ones lefts = tt
+  passing q (y ∷ ys) gs {t} there other quiet ones lefts = (each_one gs ones lefts, passing q ys gs there other.1 quiet.1 ones lefts)
     where
-      each_one : (xs : List Entry) → Each (IsOf t) xs → Each NotBare xs → Each (λ e. moves_left e.kind ≡ true) xs → Each (Passes q y) xs
-      each_one [] o b l = tt
-      each_one (x ∷ xs) o b l = (
+      each_one : (xs : List Entry) → Each (IsOf t) xs → Each (λ e. moves_left e.kind ≡ true) xs → Each (Passes M q y) xs
+      each_one [] o l = tt
+      each_one (x ∷ xs) o l = (
         record {
           apart = λ z. absurd (other.0 (z ∙ o.0));
-          kinds = record { not_bare = quiet.0; also_not_bare = b.0; passes = or_right (moves_right y.kind) (moves_left x.kind) l.0 };
-          fresh = inr (subst (λ k. k < length q.threads) (sym o.0) there);
+          kinds = inr (l.0, quiet.0, subst (IsThere M q) (sym o.0) there);
         },
-        each_one xs o.1 b.1 l.1,
+        each_one xs o.1 l.1,
       )
 
   -- a unit all of whose entries move left goes to the front
-  pull : (n t : ℕ) (us : List (List Entry)) → Each (IsFine n) us → Each (Each NotBare) us → has t us ≡ true → Each (λ e. moves_left e.kind ≡ true) (got t us) → (q r : State) → IsSound q → t < length q.threads → Run P q (flat us) r
-      → Becomes P typed q (flat us) (got t us ++ flat (without t us)) r
+  pull : (n t : ℕ) (us : List (List Entry)) → Each (IsFine n) us → Each (Each NotBare) us → has t us ≡ true → Each (λ e. moves_left e.kind ≡ true) (got t us) → (q r : S) → IsSound q → IsThere M q t → Run M q (flat us) r
+      → Becomes M q (flat us) (got t us ++ flat (without t us)) r
   pull n t [] fine quiet h left q r s there run = absurd cc
   pull n t (y ∷ us) fine quiet h left q r s there run = by (is_of_thread t y) refl (λ has left mid k lt later. pull n t us fine.1 quiet.1 has left mid r k lt later)
     where
       by : (b : Bool) → is_of_thread t y ≡ b
-          → (has t us ≡ true → Each (λ e. moves_left e.kind ≡ true) (got t us) → (mid : State) → IsSound mid → t < length mid.threads → Run P mid (flat us) r → Becomes P typed mid (flat us) (got t us ++ flat (without t us)) r)
-          → Becomes P typed q (flat (y ∷ us)) (got t (y ∷ us) ++ flat (without t (y ∷ us))) r
-      by true is rest = subst (λ z. Becomes P typed q (flat (y ∷ us)) (z ++ flat (without t (y ∷ us))) r) (sym (got_by t y us true is))
-          (subst (λ z. Becomes P typed q (flat (y ∷ us)) (y ++ flat z) r) (sym (without_by t y us true is)) (becomes_itself P typed q r (flat (y ∷ us)) run))
+          → (has t us ≡ true → Each (λ e. moves_left e.kind ≡ true) (got t us) → (mid : S) → IsSound mid → IsThere M mid t → Run M mid (flat us) r → Becomes M mid (flat us) (got t us ++ flat (without t us)) r)
+          → Becomes M q (flat (y ∷ us)) (got t (y ∷ us) ++ flat (without t (y ∷ us))) r
+      by true is rest = subst (λ z. Becomes M q (flat (y ∷ us)) (z ++ flat (without t (y ∷ us))) r) (sym (got_by t y us true is))
+          (subst (λ z. Becomes M q (flat (y ∷ us)) (y ++ flat z) r) (sym (without_by t y us true is)) (becomes_itself laws q r (flat (y ∷ us)) run))
       by false is rest =
           let in_us = sym (has_by t y us false is) ∙ h in
           let lefts = subst (Each (λ (e : Entry). moves_left e.kind ≡ true)) (got_by t y us false is) left in
           let ones = got_each (λ u. is_of_thread t u ≡ true → Each (IsOf t) u) t us (each_own us fine.1) in_us (got_is t us in_us) in
-          let bares = got_each (Each NotBare) t us quiet.1 in_us in
-          subst (λ z. Becomes P typed q (flat (y ∷ us)) (z ++ flat (without t (y ∷ us))) r) (sym (got_by t y us false is))
-          (subst (λ z. Becomes P typed q (flat (y ∷ us)) (got t us ++ flat z) r) (sym (without_by t y us false is))
-          (becomes_then P typed q r (y ++ flat us) (y ++ (got t us ++ flat (without t us))) (got t us ++ (y ++ flat (without t us)))
-          (behind_all P typed q r y (flat us) (got t us ++ flat (without t us)) s run (λ mid k more later. rest in_us lefts mid k (omega (arith, there, more)) later))
-          (λ again. slide_all P typed q r y (got t us) (flat (without t us)) s (passing q y (got t us) there (others t y n fine.0 is) quiet.0 ones bares lefts) again)))
+          subst (λ z. Becomes M q (flat (y ∷ us)) (z ++ flat (without t (y ∷ us))) r) (sym (got_by t y us false is))
+          (subst (λ z. Becomes M q (flat (y ∷ us)) (got t us ++ flat z) r) (sym (without_by t y us false is))
+          (becomes_then laws q r (y ++ flat us) (y ++ (got t us ++ flat (without t us))) (got t us ++ (y ++ flat (without t us)))
+          (behind_all laws q r y (flat us) (got t us ++ flat (without t us)) s run (λ mid k more later. rest in_us lefts mid k (more t there) later))
+          (λ again. slide_all laws q r y (got t us) (flat (without t us)) s (passing q y (got t us) there (others t y n fine.0 is) quiet.0 ones lefts) again)))
         where
           each_own : (xs : List (List Entry)) → Each (IsFine n) xs → Each (λ u. is_of_thread t u ≡ true → Each (IsOf t) u) xs
           each_own [] f = tt
           each_own (x ∷ xs) f = ((λ is. owns t x n f.0 is), each_own xs f.1)
 
   -- the run becomes that of its units in order
-  pub sorted : (es : List Entry) (n : ℕ) → Rises n es → Each NotBare es → Each HasWord (units es) → (q r : State) → IsSound q → Run P q es r → Becomes P typed q es (flat (in_order (units es))) r
-  sorted [] n rises quiet words q r s run = becomes_itself P typed q r [] run
+  pub sorted : (es : List Entry) (n : ℕ) → Rises n es → Each NotBare es → Each HasWord (units es) → (q r : S) → IsSound q → Run M q es r → Becomes M q es (flat (in_order (units es))) r
+  sorted [] n rises quiet words q r s run = becomes_itself laws q r [] run
   sorted (e ∷ es) n rises quiet words q r s run =
-      becomes_then P typed q r (e ∷ es) (e ∷ flat (in_order (units es))) (flat (in_order (units (e ∷ es))))
-      (behind P typed q run.0 r e es (flat (in_order (units es))) run.1 (sorted es (suc e.place) rises.1 quiet.1 (words_later e es words) run.0 r (sound_fits P typed q run.0 e s run.1) run.2))
+      becomes_then laws q r (e ∷ es) (e ∷ flat (in_order (units es))) (flat (in_order (units (e ∷ es))))
+      (behind laws q run.0 r e es (flat (in_order (units es))) run.1 (sorted es (suc e.place) rises.1 quiet.1 (words_later e es words) run.0 r (sound_fits laws q run.0 e s run.1) run.2))
       (λ again. by_inside e.inside refl again)
     where
       us : List (List Entry)
@@ -271,27 +259,27 @@ module _ (P : Program) (typed : IsTyped P) where
       quiet_units : Each (Each NotBare) (in_order (units es))
       quiet_units = each_in_order (Each NotBare) (units es) (each_units NotBare es quiet.1)
 
-      by_commit : (c : Bool) → is_commit e.kind ≡ c → Each HasWord (added e (units es)) → has e.thread (units es) ≡ true → Run P q (e ∷ flat (in_order (units es))) r → Becomes P typed q (e ∷ flat (in_order (units es))) (flat (in_order (added e (units es)))) r
-      by_commit false is word there again = subst (λ z. Becomes P typed q (e ∷ flat (in_order (units es))) (flat z) r) (sym (added_in_order e (suc e.place) is (units es) fine turn there))
+      by_commit : (c : Bool) → is_commit e.kind ≡ c → Each HasWord (added e (units es)) → has e.thread (units es) ≡ true → Run M q (e ∷ flat (in_order (units es))) r → Becomes M q (e ∷ flat (in_order (units es))) (flat (in_order (added e (units es)))) r
+      by_commit false is word there again = subst (λ z. Becomes M q (e ∷ flat (in_order (units es))) (flat z) r) (sym (added_in_order e (suc e.place) is (units es) fine turn there))
           (move_in (suc e.place) e (quiet_right e.kind is quiet.0) quiet.0 (in_order (units es)) (each_in_order (IsFine (suc e.place)) (units es) fine) quiet_units (has_in_order e.thread (units es) there) q r s again)
       by_commit true is word there again =
           let order = commit_in_order e (suc e.place) (omega arith) is (units es) fine turn there in
           let mine : is_reducible (e.kind ∷ word_of (got e.thread (in_order (units es)))) ≡ true = (subst (Each HasWord) order (each_in_order HasWord (added e (units es)) word)).0 in
-          subst (λ z. Becomes P typed q (e ∷ flat (in_order (units es))) (flat z) r) (sym order)
-          (behind P typed q again.0 r e (flat (in_order (units es))) (got e.thread (in_order (units es)) ++ flat (without e.thread (in_order (units es)))) again.1
+          subst (λ z. Becomes M q (e ∷ flat (in_order (units es))) (flat z) r) (sym order)
+          (behind laws q again.0 r e (flat (in_order (units es))) (got e.thread (in_order (units es)) ++ flat (without e.thread (in_order (units es)))) again.1
           (pull (suc e.place) e.thread (in_order (units es)) (each_in_order (IsFine (suc e.place)) (units es) fine) quiet_units (has_in_order e.thread (units es) there)
-          (each_left_mover (got e.thread (in_order (units es))) (left_after e.kind _ is mine)) again.0 r (sound_fits P typed q again.0 e s again.1)
-          (let here = stepper P q e.thread again.1.move again.1.steps in let more = fits_grow P typed q again.0 e again.1 in omega (arith, here, more)) again.2))
+          (each_left_mover (got e.thread (in_order (units es))) (left_after e.kind _ is mine)) again.0 r (sound_fits laws q again.0 e s again.1)
+          (fits_grow laws q again.0 e again.1 e.thread (fits_there laws q again.0 e again.1)) again.2))
 
-      by_has : (h : Bool) → has e.thread (units es) ≡ h → Each HasWord (added e (units es)) → Run P q (e ∷ flat (in_order (units es))) r → Becomes P typed q (e ∷ flat (in_order (units es))) (flat (in_order (added e (units es)))) r
+      by_has : (h : Bool) → has e.thread (units es) ≡ h → Each HasWord (added e (units es)) → Run M q (e ∷ flat (in_order (units es))) r → Becomes M q (e ∷ flat (in_order (units es))) (flat (in_order (added e (units es)))) r
       by_has true is word again = by_commit (is_commit e.kind) refl word is again
-      by_has false is word again = subst (λ z. Becomes P typed q (e ∷ flat (in_order (units es))) (flat z) r) (sym (alone_in_order e (suc e.place) (omega arith) (units es) fine is)) (becomes_itself P typed q r (e ∷ flat (in_order (units es))) again)
+      by_has false is word again = subst (λ z. Becomes M q (e ∷ flat (in_order (units es))) (flat z) r) (sym (alone_in_order e (suc e.place) (omega arith) (units es) fine is)) (becomes_itself laws q r (e ∷ flat (in_order (units es))) again)
 
       single : in_order ((e ∷ []) ∷ units es) ≡ (e ∷ []) ∷ in_order (units es)
       single = least_first (e ∷ []) (in_order (units es)) (each_more (IsFine (suc e.place)) (λ v. e.place ≤ commit_place v) (λ v f. let above = fine_above (suc e.place) v f in omega (arith, above)) (in_order (units es)) (each_in_order (IsFine (suc e.place)) (units es) fine))
 
-      by_inside : (b : Bool) → e.inside ≡ b → Run P q (e ∷ flat (in_order (units es))) r → Becomes P typed q (e ∷ flat (in_order (units es))) (flat (in_order (units (e ∷ es)))) r
-      by_inside true is again = subst (λ z. Becomes P typed q (e ∷ flat (in_order (units es))) (flat (in_order z)) r) (sym (ap (λ (x : Bool). if x then added e (units es) else (e ∷ []) ∷ units es) is))
+      by_inside : (b : Bool) → e.inside ≡ b → Run M q (e ∷ flat (in_order (units es))) r → Becomes M q (e ∷ flat (in_order (units es))) (flat (in_order (units (e ∷ es)))) r
+      by_inside true is again = subst (λ z. Becomes M q (e ∷ flat (in_order (units es))) (flat (in_order z)) r) (sym (ap (λ (x : Bool). if x then added e (units es) else (e ∷ []) ∷ units es) is))
           (by_has (has e.thread (units es)) refl (subst (Each HasWord) (ap (λ (x : Bool). if x then added e (units es) else (e ∷ []) ∷ units es) is) words) again)
-      by_inside false is again = subst (λ z. Becomes P typed q (e ∷ flat (in_order (units es))) (flat (in_order z)) r) (sym (ap (λ (x : Bool). if x then added e (units es) else (e ∷ []) ∷ units es) is))
-          (subst (λ z. Becomes P typed q (e ∷ flat (in_order (units es))) (flat z) r) (sym single) (becomes_itself P typed q r (e ∷ flat (in_order (units es))) again))
+      by_inside false is again = subst (λ z. Becomes M q (e ∷ flat (in_order (units es))) (flat (in_order z)) r) (sym (ap (λ (x : Bool). if x then added e (units es) else (e ∷ []) ∷ units es) is))
+          (subst (λ z. Becomes M q (e ∷ flat (in_order (units es))) (flat z) r) (sym single) (becomes_itself laws q r (e ∷ flat (in_order (units es))) again))
