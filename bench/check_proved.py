@@ -23,7 +23,8 @@ WORD = re.compile(r"`([^`]+)`")
 # The parts of the documents that speak of one crate's call as a whole.
 TOP_CALLS = {"The call that `main` makes": "aj_commands", "The call that `atomic_why` makes": "aj_explain_commands"}
 # Words of the language, and of command lines.
-KEYWORDS = set("extends main this synchronized atomic check print run serialise serialise-open replay derive verify blame verify-blame levels generate".split())
+COMMANDS = "check print run serialise serialise-open replay derive verify blame verify-blame levels generate"
+KEYWORDS = {"extends", "main", "this", "synchronized", "atomic", *COMMANDS.split()}
 
 
 def crate_uses():

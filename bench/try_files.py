@@ -137,7 +137,8 @@ def highest(tries, shape):
     source = None
     for times in range(1, HEIGHT):
         body = before + first * times + middle + last * times + behind
-        text = f"class Main {{ int low guarded_by this; int same(final int n) {{ return n; }} void main() {{ synchronized (this) {{ {body} }} }} }}\n"
+        members = f"int low guarded_by this; int same(final int n) {{ return n; }} void main() {{ synchronized (this) {{ {body} }} }}"
+        text = f"class Main {{ {members} }}\n"
         if tries.run(["print", tries.put("high", text.encode())])[0] == 1:
             break
         source = text.encode()
