@@ -2,6 +2,7 @@
 pub mod Measures
 mod Blocks
 mod Emitting
+mod Fronts
 pub mod Depth
 mod Lengths
 mod Standings

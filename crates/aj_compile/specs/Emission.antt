@@ -1,6 +1,6 @@
 -- The lines that the compiler puts down for each part, from its last action to its first. Every part is put down from
 -- the place `at`, and goes on at the place `next`; in a statement, a return inside it goes on at the place `ret`.
-use Rattle.std.specs.Prelude.{ℕ, ◌+◌, true, false, List, [], ◌∷◌, ◌++◌, length, Some, None, is_some}
+use Rattle.std.specs.Prelude.{◌≡◌, ℕ, ◌+◌, true, false, List, [], ◌∷◌, ◌++◌, length, Some, None, is_some}
 use Rattle.aj_core.specs.declared.types.UnaryOp.TheVariants as unary
 use Rattle.aj_core.specs.Core.{Method, Expr, Exprs, IntE, TruthE, NullE, ThisE, VarE, NotE, NegE, BinaryE, AndE, OrE, GetE, CallE, NewE, no_exprs, and_expr}
 use Rattle.aj_core.specs.Core.{Stmt, Stmts, EmptyS, BlockS, LocalS, SetVarS, SetFieldS, DoS, IfS, WhileS, SyncS, ReturnS, PrintS, StartS, no_stmts, and_stmt}
@@ -8,6 +8,11 @@ use Rattle.aj_state.specs.declared.value.Value.TheVariants as value
 use Rattle.aj_compile.specs.declared.stack.Instr.{Instr}
 use Rattle.aj_compile.specs.declared.stack.Instr.TheVariants as i
 use Rattle.aj_compile.specs.declared.stack.Code.{Code}
+
+-- these lines stand at the front, and maybe some behind them
+pub record KeepsCode (front lines : List Code) : Type 0 where
+  pub behind : List Code
+  pub whole : lines ≡ front ++ behind
 
 -- a line of code
 abbrev pub line : Instr → ℕ → Code

@@ -1,10 +1,10 @@
 //! The lines of expressions and statements, put down from the last action to the first.
-ghost use Rattle.std.specs.Prelude.{◌≡◌, ◌+◌, ◌<◌, ℕ, List, [], ◌∷◌, ◌++◌, IfOk, vec_len, length};
+ghost use Rattle.std.specs.Prelude.{◌≡◌, ◌+◌, ◌<◌, ◌≤◌, ℕ, List, [], ◌∷◌, ◌++◌, IfOk, vec_len, length};
 ghost use Rattle.aj_core.specs.Core.{WhileS, SyncS};
 ghost use Rattle.aj_core.specs.Views.{expr_of, exprs_from, stmt_of, stmts_from};
 ghost use Rattle.aj_compile.specs.declared.stack.Instr.{Instr};
 ghost use Rattle.aj_compile.specs.declared.stack.Code.{Code};
-ghost use Rattle.aj_compile.specs.Emission.{line, weight, weights, stmt_weight, stmts_weight, expr_entry, exprs_entry, gets_entry, stmt_entry, stmts_entry, emitted, emitted_args, emitted_gets, emitted_stmt, emitted_stmts};
+ghost use Rattle.aj_compile.specs.Emission.{KeepsCode, line, weight, weights, stmt_weight, stmts_weight, expr_entry, exprs_entry, gets_entry, stmt_entry, stmts_entry, emitted, emitted_args, emitted_gets, emitted_stmt, emitted_stmts};
 
 use crate::stack::{Code, Instr};
 use aj_core::{CoreExpr, CoreStmt, UnaryOp};
@@ -12,11 +12,12 @@ use aj_paths::{FieldId, Path};
 use aj_state::Value;
 use std::alloc::AllocError as NoMemory;
 
-/// Puts down one line; answers its place. Want of memory also where the place is past 32 bits.
+/// Puts down one line; answers its place. Want of memory also where the place is past 32 bits, and then the lines are as before.
 pub fn put(code: &mut Vec<Code>, instr: Instr, next: u32) -> Result<u32, NoMemory>
     ensures code { IfOk result (λ at. code.new.items ≡ code.old.items ++ (line instr next ∷ [])) }
     ensures len { IfOk result (λ at. vec_len code.new ≡ vec_len code.old + 1) }
     ensures place { IfOk result (λ at. at ≡ vec_len code.old) }
+    ensures kept { (front : List Code) → KeepsCode front code.old.items → KeepsCode front code.new.items }
 {
     let at = u32::try_from(code.len()).map_err(|_| NoMemory)?;
     code.push(Code { instr, next })?;
@@ -29,6 +30,7 @@ pub(crate) fn emit_expr(code: &mut Vec<Code>, e: &CoreExpr, next: u32) -> Result
     ensures code { IfOk result (λ at. code.new.items ≡ code.old.items ++ emitted (expr_of e.now) (vec_len code.old) next) }
     ensures len { IfOk result (λ at. vec_len code.new ≡ vec_len code.old + weight (expr_of e.now)) }
     ensures place { IfOk result (λ at. at ≡ expr_entry (expr_of e.now) (vec_len code.old) next) }
+    ensures kept { (front : List Code) → KeepsCode front code.old.items → KeepsCode front code.new.items }
 {
     match e {
         CoreExpr::Int(n) => put(code, Instr::Push(Value::Int(*n)), next),
@@ -81,6 +83,7 @@ fn emit_args(code: &mut Vec<Code>, args: &[CoreExpr], next: u32) -> Result<u32, 
     ensures code { IfOk result (λ at. code.new.items ≡ code.old.items ++ emitted_args (exprs_from args.now) (vec_len code.old) next) }
     ensures len { IfOk result (λ at. vec_len code.new ≡ vec_len code.old + weights (exprs_from args.now)) }
     ensures place { IfOk result (λ at. at ≡ exprs_entry (exprs_from args.now) (vec_len code.old) next) }
+    ensures kept { (front : List Code) → KeepsCode front code.old.items → KeepsCode front code.new.items }
 {
     match args.split_first() {
         None => Ok(next),
@@ -96,6 +99,7 @@ fn emit_gets(code: &mut Vec<Code>, fields: &[FieldId], next: u32) -> Result<u32,
     ensures code { IfOk result (λ at. code.new.items ≡ code.old.items ++ emitted_gets fields.now (vec_len code.old) next) }
     ensures len { IfOk result (λ at. vec_len code.new ≡ vec_len code.old + length fields.now) }
     ensures place { IfOk result (λ at. at ≡ gets_entry fields.now (vec_len code.old) next) }
+    ensures kept { (front : List Code) → KeepsCode front code.old.items → KeepsCode front code.new.items }
 {
     match fields.split_first() {
         None => Ok(next),
@@ -107,12 +111,13 @@ fn emit_gets(code: &mut Vec<Code>, fields: &[FieldId], next: u32) -> Result<u32,
 }
 
 /// Puts down a statement that goes on at `next`, and where a `return` inside it goes on at `ret`; answers where it
-/// begins.
+/// begins. After want of memory the lines are what they were, and maybe some behind them.
 #[cycle(stmts)]
 pub fn emit_stmt(code: &mut Vec<Code>, s: &CoreStmt, next: u32, ret: u32) -> Result<u32, NoMemory>
     ensures code { IfOk result (λ at. code.new.items ≡ code.old.items ++ emitted_stmt (stmt_of s.now) (vec_len code.old) next ret) }
     ensures len { IfOk result (λ at. vec_len code.new ≡ vec_len code.old + stmt_weight (stmt_of s.now)) }
     ensures place { IfOk result (λ at. at ≡ stmt_entry (stmt_of s.now) (vec_len code.old) next ret) }
+    ensures kept { (front : List Code) → KeepsCode front code.old.items → KeepsCode front code.new.items }
 {
     match s {
         CoreStmt::Empty => Ok(next),
@@ -169,6 +174,7 @@ fn emit_loop(
     ensures code { IfOk result (λ at. code.new.items ≡ code.old.items ++ emitted_stmt (WhileS (expr_of c.now) (stmt_of body.now)) (vec_len code.old) next ret) }
     ensures len { IfOk result (λ at. vec_len code.new ≡ vec_len code.old + (1 + weight (expr_of c.now) + stmt_weight (stmt_of body.now))) }
     ensures place { IfOk result (λ at. at ≡ expr_entry (expr_of c.now) (vec_len code.old + 1) (vec_len code.old)) }
+    ensures kept { (front : List Code) → KeepsCode front code.old.items → KeepsCode front code.new.items }
 {
     let turn = put(code, Instr::Branch(next), 0)?;
     let condition = emit_expr(code, c, turn)?;
@@ -190,6 +196,7 @@ fn emit_sync(
     ensures code { IfOk result (λ at. code.new.items ≡ code.old.items ++ emitted_stmt (SyncS path.now (stmt_of body.now)) (vec_len code.old) next ret) }
     ensures len { IfOk result (λ at. vec_len code.new ≡ vec_len code.old + stmt_weight (SyncS path.now (stmt_of body.now))) }
     ensures place { IfOk result (λ at. at ≡ stmt_entry (SyncS path.now (stmt_of body.now)) (vec_len code.old) next ret) }
+    ensures kept { (front : List Code) → KeepsCode front code.old.items → KeepsCode front code.new.items }
 {
     let ends = put(code, Instr::Release, next)?;
     let returns = put(code, Instr::Release, ret)?;
@@ -205,6 +212,7 @@ fn emit_stmts(code: &mut Vec<Code>, body: &[CoreStmt], next: u32, ret: u32) -> R
     ensures code { IfOk result (λ at. code.new.items ≡ code.old.items ++ emitted_stmts (stmts_from body.now) (vec_len code.old) next ret) }
     ensures len { IfOk result (λ at. vec_len code.new ≡ vec_len code.old + stmts_weight (stmts_from body.now)) }
     ensures place { IfOk result (λ at. at ≡ stmts_entry (stmts_from body.now) (vec_len code.old) next ret) }
+    ensures kept { (front : List Code) → KeepsCode front code.old.items → KeepsCode front code.new.items }
 {
     let mut later = next;
     let mut place = body.len();
@@ -220,6 +228,7 @@ fn lead_on(code: &mut Vec<Code>, at: u32, next: u32)
     ensures line { (before after : List Code) (instr : Instr) (old : ℕ) → code.old.items ≡ before ++ (line instr old ∷ after) →
         at ≡ length before → code.new.items ≡ before ++ (line instr next ∷ after) }
     ensures len { vec_len code.new ≡ vec_len code.old }
+    ensures kept { (front : List Code) → length front ≤ at → KeepsCode front code.old.items → KeepsCode front code.new.items }
 {
     if let Some(line) = code.get_mut(at as usize) {
         line.next = next;

@@ -1,5 +1,5 @@
 -- Pieces put one after another: what was written so far grows, and what was read so far is a front of the file.
-use Rattle.std.proofs.Common.{◌≡◌, ℕ, ◌+◌, ◌-◌, ◌≤◌, List, ◌++◌, length, take, drop, Option, Some, None, IfSome, arith, subst, ◌∙◌, ap, append_assoc}
+use Rattle.std.proofs.Common.{◌≡◌, ℕ, zero, suc, ◌+◌, ◌-◌, ◌<◌, ◌≤◌, Bool, true, false, if◌then◌else◌, refl, List, ◌++◌, length, take, drop, Option, Some, None, IfSome, arith, subst, ◌∙◌, ap, append_assoc}
 use Rattle.std.proofs.Math.Seq.{take-add}
 use Rattle.std.proofs.lemmas.Grind.{common_steps}
 use Rattle.std.specs.Io.KnownBytes.{Appends}
@@ -35,3 +35,16 @@ pub front_more : (old now : Option (List ℕ)) (bytes more chunk : List ℕ) (pl
 front_more None now bytes more chunk place n same at is front given within = tt
 front_more (Some file) now bytes more chunk place n same at is front given within =
     front_more_of file bytes more chunk place n at is front (subst (λ o. IfSome o (GivesFrom place n chunk)) same given) within
+
+-- a file is opened for the first piece alone
+pub opened_once : (start mid new count at : ℕ) (is_open : ℕ → Bool) → at ≡ count → (count ≡ 0 → mid ≤ start) → mid ≤ start + 1 → (0 < count → is_open count ≡ true)
+    → new ≤ mid + (if is_open at then 0 else 1) → new ≤ start + 1
+opened_once start mid new zero at is_open here first most going opens = by (is_open at) opens
+  where
+    by : (b : Bool) → new ≤ mid + (if b then 0 else 1) → new ≤ start + 1
+    by true few = omega (arith, first refl)
+    by false few = omega (arith, first refl)
+opened_once start mid new (suc n) at is_open here first most going opens =
+    let still : is_open at ≡ true = ap is_open here ∙ going (omega arith) in
+    let few : new ≤ mid + (if true then 0 else 1) = subst (λ b. new ≤ mid + (if b then 0 else 1)) still opens in
+    omega (arith, few, most)

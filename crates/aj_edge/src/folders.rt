@@ -1,5 +1,5 @@
 //! What can be read: files by name.
-ghost use Rattle.std.specs.Prelude.{◌≡◌, ◌≢◌, ℕ, ◌+◌, ◌≤◌, List, Option, length, IsSome, IfSome, IfOk, OnOk};
+ghost use Rattle.std.specs.Prelude.{◌≡◌, ◌≢◌, ℕ, ◌+◌, ◌^◌, ◌<◌, ◌≤◌, Bool, true, List, Option, length, if◌then◌else◌, IsSome, IfSome, IfOk, OnOk};
 ghost use Rattle.aj_edge.specs.Faults.{HasCause};
 ghost use Rattle.aj_edge.specs.Pieces.{GivesFrom};
 
@@ -18,6 +18,12 @@ pub trait Folder {
     // How many reads were made, where the folder counts them.
     ghost calls: { Self → ℕ } = { λ _. 0 };
 
+    // How many files were opened, where the folder counts them.
+    ghost opened: { Self → ℕ } = { λ _. 0 };
+
+    // Whether a read of a name from a byte on goes on in a file that is open.
+    ghost is_open: { Self → List ℕ → ℕ → Bool } = { λ _ _ _. true };
+
     /// Reads bytes of the file `name` into the front of `into`, from byte `at` of the file on, and returns how many.
     /// What stands behind them in `into`, and in the whole of it after a failure, is not said.
     fn read_at(&mut self, name: &str, at: u64, into: &mut [u8]) -> Result<usize, Failed>
@@ -31,5 +37,9 @@ pub trait Folder {
         ensures calm { OnOk result ((other : List ℕ) → faults self.new other ≡ faults self.old other) }
         ensures others { (other : List ℕ) → other ≢ name.now → IsSome (told self.old other) →
             faults self.new other ≡ faults self.old other }
-        ensures counted { calls self.new ≤ calls self.old + 1 };
+        ensures counted { calls self.new ≤ calls self.old + 1 }
+
+        // A file is opened once for all reads that begin where the one before ended.
+        ensures opens { opened self.new ≤ opened self.old + (if is_open self.old name.now at then 0 else 1) }
+        ensures still_open { IfOk result (λ n. 0 < n → at + n < 2 ^ 64 → is_open self.new name.now (at + n) ≡ true) };
 }

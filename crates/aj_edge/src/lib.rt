@@ -1,23 +1,25 @@
 //! Reading files whole and writing bytes out, over folders and sinks that may fail, and give or take few bytes a call.
 //!
 //! A folder may tell the bytes of its files and a sink the bytes that it holds: contracts speak of those. `MemFolder` and
-//! `MemSink` tell them; `FileFolder` and `OutSink`, over real files and standard output, tell none. `NeverFailsFolder` tells them and
+//! `MemSink` tell them; `FileFolder` and `OutSink`, over real files and standard output, tell none. Each file is opened once. `NeverFailsFolder` tells them and
 //! `NeverFailsSink` drops them; neither ever fails.
 #![tactic(auto)]
 
-mod adapters;
+mod file_folder;
 mod folders;
 mod memory_folder;
 mod memory_sink;
 mod never_fails;
+mod out_sink;
 mod sinks;
 mod transfer;
 
-pub use adapters::{FileFolder, OutSink};
+pub use file_folder::FileFolder;
 pub use folders::{Failed, Folder};
 pub use memory_folder::MemFolder;
 pub use memory_sink::MemSink;
 pub use never_fails::{NeverFailsFolder, NeverFailsSink};
+pub use out_sink::OutSink;
 pub use sinks::Sink;
 pub use transfer::{Fault, ReadEnd, read_file, write_all};
 

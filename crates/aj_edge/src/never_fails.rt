@@ -1,5 +1,5 @@
 //! A folder and a sink that never fail.
-ghost use Rattle.std.specs.Prelude.{◌≡◌, ◌≤◌, ℕ, List, Some, None, false, length, drop, is_err, IfOk};
+ghost use Rattle.std.specs.Prelude.{◌≡◌, ◌≤◌, ◌+◌, ◌-◌, ◌^◌, min, ℕ, List, Some, None, false, length, drop, is_err, IfOk};
 ghost use Rattle.aj_edge.specs.Faults.{HasCause};
 ghost use Rattle.aj_edge.specs.Pieces.{GivesFrom};
 ghost use Rattle.aj_edge.specs.InMemory.{stored_files, bytes_or_none, given_count};
@@ -65,16 +65,26 @@ impl Folder for NeverFailsFolder {
     }
 }
 
-/// A sink that takes all bytes and drops them. It tells none.
+/// A sink that takes all bytes, counts them and drops them. It tells none.
 #[derive(Drop)]
 pub struct NeverFailsSink {
-    taken: (),
+    taken: u64,
+}
+
+impl Model for NeverFailsSink {
+    ghost use Rattle.std.specs.Prelude.{ℕ};
+
+    ghost Value = { ℕ };
+
+    ghost view = { λ s. s.taken };
 }
 
 impl NeverFailsSink {
     /// A sink that has taken nothing.
-    pub fn new() -> NeverFailsSink {
-        NeverFailsSink { taken: () }
+    pub fn new() -> NeverFailsSink
+        ensures { result ≡ 0 }
+    {
+        NeverFailsSink { taken: 0 }
     }
 }
 
@@ -86,9 +96,9 @@ impl Sink for NeverFailsSink {
     fn write(&mut self, piece: &[u8]) -> Result<usize, Failed>
         ensures never_fails { is_err result ≡ false }
         ensures all { IfOk result (λ n. n ≡ length piece.now) }
+        ensures taken { self.new ≡ min (self.old + length piece.now) (2 ^ 64 - 1) }
     {
-        // Nothing is kept: the field, which holds nothing, is only named.
-        let _ = &self.taken;
+        self.taken = self.taken.saturating_add(piece.len() as u64);
         Ok(piece.len())
     }
 }

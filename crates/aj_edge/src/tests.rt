@@ -98,6 +98,57 @@ fn a_real_file_of_10_000_bytes_is_read_whole(rt: HostRuntime) -> Result<(), Fail
     Ok(())
 }
 
+/// What one read of a real file gives, from a byte on.
+fn piece(
+    rt: &HostRuntime,
+    folder: &mut FileFolder<'_, HostRuntime>,
+    name: &str,
+    at: u64,
+) -> Result<Vec<u8>, Fail> {
+    let mut into = [0; 4];
+    let Ok(n) = folder.read_at(name, at, &mut into) else {
+        return Err(Fail::new("the file is not read"));
+    };
+    Ok(into[..n].to_vec(rt.alloc())?)
+}
+
+#[test]
+fn a_file_is_read_to_its_end_though_another_takes_its_name(rt: HostRuntime) -> Result<(), Fail> {
+    let name = "a_file_whose_name_is_taken";
+    let other = "the_file_that_takes_it";
+    fs::write(&rt, name, b"first file")?;
+    let mut folder = FileFolder::new(&rt);
+    assert_eq!(rt;
+        piece(&rt, &mut folder, name, 0)?.as_slice(),
+        b"firs".as_slice()
+    );
+    fs::write(&rt, other, b"SECOND FILE")?;
+    fs::rename(&rt, other, name)?;
+    assert_eq!(rt;
+        piece(&rt, &mut folder, name, 4)?.as_slice(),
+        b"t fi".as_slice()
+    );
+    assert_eq!(rt;
+        piece(&rt, &mut folder, name, 8)?.as_slice(),
+        b"le".as_slice()
+    );
+    assert_eq!(rt;
+        piece(&rt, &mut folder, name, 10)?.as_slice(),
+        b"".as_slice()
+    );
+    // A read from another byte, or of another name, opens the file that has the name now.
+    assert_eq!(rt;
+        piece(&rt, &mut folder, name, 7)?.as_slice(),
+        b"FILE".as_slice()
+    );
+    assert_eq!(rt;
+        piece(&rt, &mut folder, name, 0)?.as_slice(),
+        b"SECO".as_slice()
+    );
+    fs::remove_file(&rt, name)?;
+    Ok(())
+}
+
 /// A runtime that prints into a file, raw bytes alone.
 #[derive(Drop)]
 struct FilePrint(File);

@@ -60,6 +60,9 @@ pub fn read_file<F: Folder>(
 
     ensures told { (other : List ℕ) → F.told folder.new other ≡ F.told folder.old other }
     ensures counted { F.calls folder.new ≤ F.calls folder.old + (limit + 1) }
+
+    // At most one file is opened, so all bytes are of one file.
+    ensures opened { F.opened folder.new ≤ F.opened folder.old + 1 }
 {
     let limit = limit as usize;
     let mut bytes = Vec::new(alloc);

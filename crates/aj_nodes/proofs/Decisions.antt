@@ -1,5 +1,5 @@
 -- A decision in the list: it is found, or added at the end.
-use Rattle.std.proofs.Common.{◌≡◌, ◌==◌, ◌+◌, ◌&&◌, ℕ, zero, suc, ◌<◌, ◌≤◌, Bool, true, false, List, [], ◌∷◌, ◌++◌, length, map, Some, None, slice_get, option_map, refl, sym, ◌∙◌, ap, subst, arith, eqb-true, eq-eqb, if◌then◌else◌}
+use Rattle.std.proofs.Common.{◌≡◌, ◌==◌, ◌+◌, ◌-◌, ◌&&◌, ℕ, zero, suc, ◌<◌, ◌≤◌, Bool, true, false, List, [], ◌∷◌, ◌++◌, length, map, Option, Some, None, slice_get, option_map, refl, sym, ◌∙◌, ap, subst, arith, eqb-true, eq-eqb, if◌then◌else◌}
 use Rattle.std.specs.Cmp.{first_so, second_so}
 use Rattle.std.specs.List.{list_any}
 use Rattle.std.proofs.lemmas.List.{map-append}
@@ -14,7 +14,7 @@ use Rattle.aj_nodes.specs.declared.rows.Item.{Item}
 use Rattle.aj_nodes.specs.declared.rows.Item.TheVariants.{Leaf}
 use Rattle.aj_nodes.specs.declared.rows.Decision.{Decision}
 use Rattle.aj_nodes.specs.contracts.rows.DecisionPartialEq.TheImpl as decisions
-use Rattle.aj_nodes.specs.Nodes.{test_of, items_of, tree_at, item_tree, AreBefore, IsTable, Grows, Stands}
+use Rattle.aj_nodes.specs.Nodes.{test_of, items_of, basic_in, tree_at, item_tree, AreBefore, IsTable, Grows, Stands}
 use Rattle.aj_nodes.proofs.Tables.{got, grows_itself, grown}
 
 abbrev pub same : Decision → Decision → Bool
@@ -108,6 +108,17 @@ item_at ds old d n k view table e at =
     ap (slice_get old) (e ∙ sym (five_more k)) ∙ ap (λ is. slice_get is (suc (suc (suc (suc (suc k)))))) (sym view) ∙ slice_get-map test_of ds k ∙ ap (option_map test_of) at in
     let old_table = subst IsTable view table in
     (got old n (test_of d) old_table there, old_table.before n (test_of d) there)
+
+by_decision : (d : Option Decision) → basic_in (option_map test_of d) ≡ None
+by_decision None = refl
+by_decision (Some d) = refl
+
+-- no number behind the basics stands for one
+pub no_basic : (ds : List Decision) (now : List Item) (n : ℕ) → items_of ds ≡ now → 5 ≤ n → None ≡ basic_in (slice_get now n)
+no_basic ds now n view far =
+    let k = n - 5 in
+    let at : suc (suc (suc (suc (suc k)))) ≡ n = omega arith in
+    sym (ap basic_in (ap (slice_get now) (sym at) ∙ ap (λ is. slice_get is (suc (suc (suc (suc (suc k)))))) (sym view) ∙ slice_get-map test_of ds k) ∙ by_decision (slice_get ds k))
 
 -- the number of a decision that a hint tells
 pub hinted : (ds : List Decision) (now : List Item) (d : Decision) (p : PathData) (held free at : ℕ) → items_of ds ≡ now → IsTable (items_of ds) → slice_get ds at ≡ Some d

@@ -1,5 +1,6 @@
 -- Numbered nodes: the tree that each number stands for, and what holds of a list of them.
 use Rattle.std.specs.Prelude.{◌≡◌, ◌<◌, ◌≤◌, ℕ, zero, suc, List, ◌∷◌, length, map, slice_get, Option, Some, None}
+use Rattle.aj_algebra.specs.declared.basic.Basic.{Basic}
 use Rattle.aj_algebra.specs.declared.basic.Basic.TheVariants.{Const, Mover, Atomic, Cmpd, Error}
 use Rattle.aj_cond.specs.Conditions.{Cond, LeafC, TestC, IsCanonical}
 use Rattle.aj_nodes.specs.declared.rows.Item.{Item}
@@ -17,6 +18,12 @@ Items = List Item
 -- the items in order of their numbers: the five basics first, then the decisions
 abbrev pub items_of : List Decision → List Item
 items_of ds = Leaf Const ∷ Leaf Mover ∷ Leaf Atomic ∷ Leaf Cmpd ∷ Leaf Error ∷ map test_of ds
+
+-- the basic of an item that is one
+abbrev pub basic_in : Option Item → Option Basic
+basic_in None = None
+basic_in (Some (Leaf b)) = Some b
+basic_in (Some (Test p a b)) = None
 
 -- the tree of an item, given the trees of numbers
 abbrev pub by_parts : (ℕ → Cond) → Option Item → Cond

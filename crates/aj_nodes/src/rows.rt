@@ -1,8 +1,8 @@
 //! Nodes in one list. Equal trees have one number.
-ghost use Rattle.std.specs.Prelude.{◌≡◌, ◌<◌, [], length, IfOk, IfSome};
+ghost use Rattle.std.specs.Prelude.{◌≡◌, ◌<◌, [], length, slice_get, IfOk, IfSome};
 ghost use Rattle.aj_cond.specs.Conditions.{LeafC, TestC, IsCanonical};
 ghost use Rattle.aj_cond.specs.Operations.{node};
-ghost use Rattle.aj_nodes.specs.Nodes.{items_of, test_of, tree_at, item_tree, AreBefore, IsTable, Grows, Stands};
+ghost use Rattle.aj_nodes.specs.Nodes.{items_of, basic_in, test_of, tree_at, item_tree, AreBefore, IsTable, Grows, Stands};
 
 use aj_algebra::Basic;
 use aj_paths::Path;
@@ -89,6 +89,7 @@ impl Rows {
     /// The basic that a number stands for, where it is one.
     pub fn basic_of(&self, n: usize) -> Option<Basic>
         ensures basic { IfSome result (λ b. tree_at self.now n ≡ LeafC b) }
+        ensures exact { result ≡ basic_in (slice_get self.now n) }
         ensures table { IsTable self.now }
     {
         // Only the proof needs this: the invariant of a struct is known where one of its fields is used.

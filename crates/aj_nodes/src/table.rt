@@ -1,9 +1,9 @@
 //! A table of shared nodes, and the results of calls on them.
-ghost use Rattle.std.specs.Prelude.{◌≡◌, ◌<◌, ◌↔◌, [], true, length, map, IfOk, OnOk, IfSome};
+ghost use Rattle.std.specs.Prelude.{◌≡◌, ◌<◌, ◌↔◌, [], true, length, slice_get, map, IfOk, OnOk, IfSome};
 ghost use Rattle.aj_algebra.specs.HeldPaths.{Held, has_path};
 ghost use Rattle.aj_cond.specs.Conditions.{LeafC, cond_of, value_of, IsCanonical};
 ghost use Rattle.aj_cond.specs.Operations.{node, below_tree, rename_tree};
-ghost use Rattle.aj_nodes.specs.Nodes.{items_of, tree_at, item_tree, AreBefore, IsTable, Grows, Stands};
+ghost use Rattle.aj_nodes.specs.Nodes.{items_of, basic_in, tree_at, item_tree, AreBefore, IsTable, Grows, Stands};
 ghost use Rattle.aj_nodes.specs.Halving.{IsSplit};
 ghost use Rattle.aj_nodes.specs.Shown.{IsThere, AreThere, node_value, trees_at};
 ghost use Rattle.aj_nodes.specs.declared.calls.Call.TheVariants.{Both};
@@ -126,6 +126,7 @@ impl NodeTable {
     /// The basic that a number stands for, where it is one.
     pub(crate) fn basic_of(&self, n: usize) -> Option<Basic>
         ensures basic { IfSome result (λ b. tree_at self.now n ≡ LeafC b) }
+        ensures exact { result ≡ basic_in (slice_get self.now n) }
         ensures table { IsTable self.now }
     {
         self.rows.basic_of(n)

@@ -1,8 +1,9 @@
 //! The lines of verdicts: a method's atomicity, and a bound that is broken.
 
-ghost use Rattle.std.specs.Prelude.{◌≡◌, ◌++◌, ℕ, List, [], codes, option_map, string_bytes, unwrap_or, IfOk, OnOk, OnErr};
+ghost use Rattle.std.specs.Prelude.{◌≡◌, ◌++◌, [], codes, option_map, string_bytes, unwrap_or, IfOk, OnOk, OnErr};
 ghost use Rattle.aj_classes.specs.Views.{table_data};
 ghost use Rattle.aj_cond.specs.Conditions.{cond_of};
+ghost use Rattle.aj_lemmas.specs.Texts.{KeepsText};
 ghost use Rattle.aj_report.specs.Verdicts.{title_text, field_text, fields_text, path_text, branch_text, condition_text, atomicity_line, broken_line};
 
 use aj_classes::ClassTable;
@@ -44,9 +45,10 @@ pub fn broken_text(alloc: Global, table: &ClassTable, broken: &Broken) -> Result
 
 /// Writes a method's class and name with a point between, or nothing for a method that the table hasn't. After want of memory the
 /// line is what it was, and maybe bytes behind it.
+#[tactic(auto, using(aj_lemmas::proofs::Texts::kept_itself, aj_lemmas::proofs::Texts::kept_more))]
 pub fn write_title(line: &mut String, table: &ClassTable, method: MethodId) -> Result<(), NoMemory>
     ensures title { OnOk result (string_bytes line.new ≡ string_bytes line.old ++ title_text (table_data table.now) method) }
-    ensures kept { OnErr result ((behind : List ℕ) × (string_bytes line.new ≡ string_bytes line.old ++ behind)) }
+    ensures kept { OnErr result (KeepsText (string_bytes line.old) (string_bytes line.new)) }
 {
     let Some((class, name)) = table.method_name(method) else {
         return Ok(());
@@ -99,26 +101,30 @@ fn write_branch(
     }
 }
 
-/// Writes a path in a method: its slot, then its fields.
+/// Writes a path in a method: its slot, then its fields. After want of memory the line is what it was, and maybe bytes behind it.
+#[tactic(auto, using(aj_lemmas::proofs::Texts::kept_itself, aj_lemmas::proofs::Texts::kept_more))]
 pub fn write_path(
     line: &mut String,
     table: &ClassTable,
     method: MethodId,
     path: &Path,
 ) -> Result<(), NoMemory>
-    ensures { OnOk result (string_bytes line.new ≡ string_bytes line.old ++ path_text (table_data table.now) method path.now) }
+    ensures path { OnOk result (string_bytes line.new ≡ string_bytes line.old ++ path_text (table_data table.now) method path.now) }
+    ensures kept { OnErr result (KeepsText (string_bytes line.old) (string_bytes line.new)) }
 {
     line.push_str(name_or_nothing(table.slot_name(method, path.root)))?;
     write_fields(line, table, path.fields.as_slice())
 }
 
-/// Writes the fields of a path, each behind a point.
+/// Writes the fields of a path, each behind a point. After want of memory the line is what it was, and maybe bytes behind it.
+#[tactic(auto, using(aj_lemmas::proofs::Texts::kept_itself, aj_lemmas::proofs::Texts::kept_more))]
 pub fn write_fields(
     line: &mut String,
     table: &ClassTable,
     fields: &[FieldId],
 ) -> Result<(), NoMemory>
-    ensures { OnOk result (string_bytes line.new ≡ string_bytes line.old ++ fields_text (table_data table.now) fields.now) }
+    ensures fields { OnOk result (string_bytes line.new ≡ string_bytes line.old ++ fields_text (table_data table.now) fields.now) }
+    ensures kept { OnErr result (KeepsText (string_bytes line.old) (string_bytes line.new)) }
 {
     for field in fields {
         write_field(line, table, *field)?;
@@ -126,8 +132,10 @@ pub fn write_fields(
     Ok(())
 }
 
+#[tactic(auto, using(aj_lemmas::proofs::Texts::kept_itself, aj_lemmas::proofs::Texts::kept_more))]
 fn write_field(line: &mut String, table: &ClassTable, field: FieldId) -> Result<(), NoMemory>
-    ensures { OnOk result (string_bytes line.new ≡ string_bytes line.old ++ (codes "." ++ field_text (table_data table.now) field)) }
+    ensures field { OnOk result (string_bytes line.new ≡ string_bytes line.old ++ (codes "." ++ field_text (table_data table.now) field)) }
+    ensures kept { OnErr result (KeepsText (string_bytes line.old) (string_bytes line.new)) }
 {
     line.push_str(".")?;
     line.push_str(name_or_nothing(table.field_name(field)))

@@ -1,24 +1,29 @@
 //! Addresses, values and faults in a text.
 
-ghost use Rattle.std.specs.Prelude.{◌≡◌, ◌++◌, string_bytes, OnOk};
+ghost use Rattle.std.specs.Prelude.{◌≡◌, ◌++◌, string_bytes, OnOk, OnErr};
+ghost use Rattle.aj_lemmas.specs.Texts.{KeepsText};
 ghost use Rattle.aj_state_report.specs.States.{address_text, value_text, fault_text};
 
 use crate::numbers::write_number;
 use aj_state::{Address, Fault, Value};
 use std::alloc::AllocError as NoMemory;
 
-/// Writes an address.
+/// Writes an address. After want of memory the text is what it was, and maybe bytes behind it.
+#[tactic(auto, using(aj_lemmas::proofs::Texts::kept_itself, aj_lemmas::proofs::Texts::kept_more))]
 pub fn write_address(text: &mut String, address: Address) -> Result<(), NoMemory>
-    ensures { OnOk result (string_bytes text.new ≡ string_bytes text.old ++ address_text address) }
+    ensures written { OnOk result (string_bytes text.new ≡ string_bytes text.old ++ address_text address) }
+    ensures kept { OnErr result (KeepsText (string_bytes text.old) (string_bytes text.new)) }
 {
     write_number(text, address.thread)?;
     text.push_str(":")?;
     write_number(text, address.count)
 }
 
-/// Writes a value.
+/// Writes a value. After want of memory the text is what it was, and maybe bytes behind it.
+#[tactic(auto, using(aj_lemmas::proofs::Texts::kept_itself, aj_lemmas::proofs::Texts::kept_more))]
 pub fn write_value(text: &mut String, value: Value) -> Result<(), NoMemory>
-    ensures { OnOk result (string_bytes text.new ≡ string_bytes text.old ++ value_text value) }
+    ensures written { OnOk result (string_bytes text.new ≡ string_bytes text.old ++ value_text value) }
+    ensures kept { OnErr result (KeepsText (string_bytes text.old) (string_bytes text.new)) }
 {
     match value {
         Value::Int(number) => write_number(text, number),

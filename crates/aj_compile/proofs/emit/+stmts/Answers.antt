@@ -5,6 +5,7 @@ use Rattle.aj_core.proofs.ViewLemmas.{stmt_of-Block}
 use Rattle.aj_compile.specs.Emission.{stmt_weight, stmt_entry, emitted_stmt}
 use Rattle.aj_compile.proofs.Measures.{stmt_measure, stmts_measure}
 use Rattle.aj_compile.proofs.Blocks.{stmt_lighter}
+use Rattle.aj_compile.proofs.Fronts.{front_within}
 use Rattle.aj_compile.proofs.emit.+stmts.Goals as goal
 
 pub emit_stmt-emit_stmts-requires : goal.emit_stmt-emit_stmts-requires
@@ -33,3 +34,9 @@ emit_stmts-emit_stmt-requires t c =
     let below : c.loop-place.place - 1 < length c.args.body.now = omega arith in
     let lighter = stmt_lighter c.args.body.now (c.loop-place.place - 1) c.index-body-place.result below c.index-body-place.is in
     (omega arith, tt)
+
+pub emit_loop-returns-clause-kept : goal.emit_loop-returns-clause-kept
+emit_loop-returns-clause-kept t c front kept =
+    let within = front_within front c.args.code.now.items kept in
+    c.lead_on.ensures.kept front (omega (arith, within, c.in_ok-turn.ensures.place, c.args.code.now.ok))
+    (c.in_ok-first.ensures.kept front (c.in_ok-condition.ensures.kept front (c.in_ok-turn.ensures.kept front kept)))

@@ -2,7 +2,7 @@ use Rattle.std.proofs.Common.{◌≡◌, ℕ, ◌+◌, ◌≤◌, List, ◌++◌
 use Rattle.aj_core.specs.declared.tree.CoreStmt.{CoreStmt}
 use Rattle.aj_core.specs.Views.{stmt_of, stmts_from}
 use Rattle.aj_compile.specs.declared.stack.Code.{Code}
-use Rattle.aj_compile.specs.Emission.{stmts_weight, stmts_entry, emitted_stmts}
+use Rattle.aj_compile.specs.Emission.{KeepsCode, stmts_weight, stmts_entry, emitted_stmts}
 use Rattle.aj_compile.proofs.Measures.{stmt_measure, stmts_measure}
 use Rattle.aj_compile.proofs.emit.+stmts.Given as goal
 
@@ -24,6 +24,7 @@ pub record IsDown (old new : List Code) (later : ℕ) (ss : List CoreStmt) (plac
   pub code : new ≡ old ++ emitted_stmts (stmts_from (drop place ss)) (length old) next ret
   pub len : length new ≡ length old + stmts_weight (stmts_from (drop place ss))
   pub entry : later ≡ stmts_entry (stmts_from (drop place ss)) (length old) next ret
+  pub kept : (front : List Code) → KeepsCode front old → KeepsCode front new
 
 abbrev pub invariant-emit_stmts-loop-place : goal.invariant-emit_stmts-loop-place
 invariant-emit_stmts-loop-place l = IsDown l.initial.code.items l.code.items l.later l.body l.place (length l.body) l.next l.ret

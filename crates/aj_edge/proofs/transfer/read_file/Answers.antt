@@ -1,7 +1,7 @@
 -- One chunk more was read.
-use Rattle.std.proofs.Common.{◌≡◌, ◌++◌, ◌∙◌, length, take, arith}
+use Rattle.std.proofs.Common.{◌≡◌, ◌+◌, ◌++◌, ◌∙◌, length, take, true, arith, subst}
 use Rattle.std.proofs.lemmas.Grind.{common_steps}
-use Rattle.aj_edge.proofs.PieceLemmas.{front_more, length_more}
+use Rattle.aj_edge.proofs.PieceLemmas.{front_more, length_more, opened_once}
 use Rattle.aj_edge.proofs.transfer.read_file.Goals as goal
 
 pub chunks-preserved : goal.chunks-preserved
@@ -14,5 +14,12 @@ chunks-preserved g c =
       told = λ other. c.in-Ok.ensures.told other ∙ c.chunks.invariant.told other;
       calm = λ other. c.in-Ok.ensures.calm other ∙ c.chunks.invariant.calm other;
       counted = omega (arith, count, c.in-Ok.ensures.counted, c.chunks.invariant.counted, c.if-n-eq0.false);
+      none_opened = λ none. absurd (omega (arith, count, c.if-n-eq0.false, none));
+      one_opened = opened_once (g.F.Folder.opened c.args.folder.now) (g.F.Folder.opened c.chunks.folder) (g.F.Folder.opened c.read_at.new.self) (length c.chunks.bytes.items) c.len-in-chunks.result
+          (g.F.Folder.is_open c.chunks.folder c.args.name.now) at c.chunks.invariant.none_opened c.chunks.invariant.one_opened c.chunks.invariant.still_open c.in-Ok.ensures.opens;
+      still_open = λ some.
+          let end : c.len-in-chunks.result + c.in-Ok.n ≡ length c.extend_from_slice.new.self.items = omega (arith, at, count) in
+          subst (λ k. g.F.Folder.is_open c.read_at.new.self c.args.name.now k ≡ true) end
+          (c.in-Ok.ensures.still_open (omega (arith, c.if-n-eq0.false)) (omega (arith, end, c.extend_from_slice.new.self.ok)));
       bounded = omega (arith, at, c.len.ensures, c.chunks.bytes.ok, c.in-Ok.ensures.counted, c.chunks.invariant.counted, c.chunks-test.true);
     }
