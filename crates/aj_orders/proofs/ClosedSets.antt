@@ -1,12 +1,11 @@
 -- Walks stay in a set that no step that interrupts nobody leaves.
-use Rattle.std.proofs.Common.{◌≡◌, ℕ, zero, suc, ◌+◌, ◌-◌, ◌<◌, Bool, true, false, List, [], ◌∷◌, refl, sym, ap, subst, ◌∙◌, arith, ◌==◌}
+use Rattle.std.proofs.Common.{◌≡◌, ℕ, zero, ◌-◌, Bool, true, false, List, [], ◌∷◌, refl, sym, subst, arith, ◌==◌}
 use Rattle.std.proofs.lemmas.Grind.{common_steps}
 use Rattle.std.specs.Prelude.{Option, Some, None, nat_lt, count_by, if◌then◌else◌}
 use Rattle.std.proofs.lemmas.Bool.Decides.{nat_tests}
 use Rattle.aj_core.specs.Core.{Program}
 use Rattle.aj_state.specs.States.{State, initial}
-use Rattle.aj_steps.specs.Run.{run}
-use Rattle.aj_orders.specs.Walks.{goes_on, walk, counts, less, allows, none_left, IsClosedSet}
+use Rattle.aj_orders.specs.Walks.{goes_on, walk, counts, less, none_left, IsClosedSet}
 use Rattle.aj_orders.specs.Witness.{IsKeptAs, IsReachedAs}
 use Rattle.aj_orders.proofs.WalkLemmas.{begins, uninterrupted_walks}
 

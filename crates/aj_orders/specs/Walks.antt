@@ -1,7 +1,7 @@
 -- Runs that interrupt nobody, step by step: beside the state goes the thread that has to go on, where there is one.
-use Rattle.std.specs.Prelude.{◌≡◌, ℕ, ◌-◌, ◌<◌, nat_lt, Bool, true, false, not, ◌||◌, ◌==◌, List, [], ◌∷◌, Option, Some, None, option_and_then, count_by, if◌then◌else◌}
+use Rattle.std.specs.Prelude.{◌≡◌, ℕ, ◌-◌, nat_lt, Bool, true, not, ◌||◌, ◌==◌, List, [], ◌∷◌, Option, Some, None, option_and_then, count_by, if◌then◌else◌}
 use Rattle.aj_core.specs.Core.{Program}
-use Rattle.aj_state.specs.States.{State, initial}
+use Rattle.aj_state.specs.States.{State}
 use Rattle.aj_steps.specs.Run.{inside}
 use Rattle.aj_steps.specs.Step.{step}
 

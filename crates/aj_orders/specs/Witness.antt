@@ -1,5 +1,5 @@
 -- Schedules that show that a promise of an atomic call is broken.
-use Rattle.std.specs.Prelude.{◌≡◌, ℕ, List, Option, Some, None}
+use Rattle.std.specs.Prelude.{◌≡◌, ℕ, List, Some, None}
 use Rattle.aj_core.specs.Core.{Program}
 use Rattle.aj_state.specs.States.{State}
 use Rattle.aj_steps.specs.Run.{run, open_thread, IsUninterrupted, IsRearrangement}
