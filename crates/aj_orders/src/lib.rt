@@ -2,6 +2,7 @@
 //! promise is broken, and how a search shows that there is none.
 #![tactic(auto)]
 
+pub mod examples;
 mod laws;
 
 pub use laws::{closed_laws, comparison_laws, walk_laws};
