@@ -1,0 +1,3 @@
+-- Lemmas on runs that interrupt nobody, and on sets that these don't leave.
+pub mod WalkLemmas
+pub mod ClosedSets

@@ -1,0 +1,2 @@
+-- An accepted program has no witness.
+pub mod Theorem
