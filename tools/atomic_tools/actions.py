@@ -1,4 +1,5 @@
-"""What each instruction does to a state. An action hands back the place of the next instruction where it isn't the one behind it."""
+"""What each instruction does to a state. An action hands back the place of the next instruction where it isn't the
+one behind it."""
 from __future__ import annotations
 
 from collections.abc import Callable
@@ -170,10 +171,25 @@ def start_thread(machine: Machine, step: Step, thread: Thread, _: None) -> None:
 Action = Callable[["Machine", Step, Thread, Any], Optional[int]]
 
 ACTIONS: dict[str, Action] = {
-    "push": push, "load": load, "store": store, "drop": drop, "un": unary, "bin": binary, "and": decide_and, "or": decide_or,
-    "branch": branch, "get": get, "put": put, "new": new, "call": call, "ret": ret, "acquire": acquire, "release": release,
-    "print": print_number, "start": start_thread,
-}  # fmt: skip
+    "push": push,
+    "load": load,
+    "store": store,
+    "drop": drop,
+    "un": unary,
+    "bin": binary,
+    "and": decide_and,
+    "or": decide_or,
+    "branch": branch,
+    "get": get,
+    "put": put,
+    "new": new,
+    "call": call,
+    "ret": ret,
+    "acquire": acquire,
+    "release": release,
+    "print": print_number,
+    "start": start_thread,
+}
 
 
 def divided(left: int, right: int) -> int:

@@ -1,4 +1,5 @@
-"""An order of a schedule's entries as lanes: a row for each thread, and a cell for each step or for a group of neighbours."""
+"""An order of a schedule's entries as lanes: a row for each thread, and a cell for each step or for a group of
+neighbours."""
 from __future__ import annotations
 
 from collections.abc import Callable, Iterable
@@ -25,11 +26,26 @@ CHANGES: dict[str, Callable[..., str]] = {
     "start": lambda thread: f"start {thread}",
 }
 DEEDS = {
-    "push": "a literal", "load": "reads a variable", "store": "assigns a variable", "drop": "drops a result", "un": "computes",
-    "bin": "computes", "and": "decides", "or": "decides", "branch": "decides", "get": "reads a field", "put": "writes a field",
-    "new": "makes an object", "call": "calls", "ret": "returns", "acquire": "takes a lock", "release": "gives a lock back",
-    "print": "prints", "start": "starts a thread", "enter": "begins",
-}  # fmt: skip
+    "push": "a literal",
+    "load": "reads a variable",
+    "store": "assigns a variable",
+    "drop": "drops a result",
+    "un": "computes",
+    "bin": "computes",
+    "and": "decides",
+    "or": "decides",
+    "branch": "decides",
+    "get": "reads a field",
+    "put": "writes a field",
+    "new": "makes an object",
+    "call": "calls",
+    "ret": "returns",
+    "acquire": "takes a lock",
+    "release": "gives a lock back",
+    "print": "prints",
+    "start": "starts a thread",
+    "enter": "begins",
+}
 
 
 # What is told of steps.
@@ -94,7 +110,8 @@ class Cells:
 
 
 def grouped(run: Run, count: int) -> list[int]:
-    """Where the thread changes, and as long as there is room where atomic calls begin and end, and where a step isn't both."""
+    """Where the thread changes, and as long as there is room where atomic calls begin and end, and where a step isn't
+    both."""
     steps, bounds = run.steps, {0, count}
     bounds |= {place for place in range(1, count) if steps[place - 1].thread != steps[place].thread}
     calls = {place for call in run.calls for place in (call.first, call.last + 1)}
@@ -112,7 +129,8 @@ def thinned(bounds: list[int]) -> list[int]:
 
 @dataclass(frozen=True)
 class Asked:
-    """What is to be shown as an order: its name, its entries, and whether its source is accepted, so that calls commit."""
+    """What is to be shown as an order: its name, its entries, and whether its source is accepted, so that calls
+    commit."""
 
     name: str
     schedule: list[int]
@@ -169,14 +187,23 @@ class Order:
         ]
         marks = (" quiet" if all(is_quiet(step) for step in steps) else "") + (" commit" if commits else "")
         classes = f"cell {kind}{marks} t{steps[0].thread % COLOURS}"
-        return tag("span", *inside, class_=classes, style=f"grid-area:{row}/{column + 2}", title=self.title(steps), data_k=column)
+        return tag(
+            "span",
+            *inside,
+            class_=classes,
+            style=f"grid-area:{row}/{column + 2}",
+            title=self.title(steps),
+            data_k=column,
+        )
 
     def title(self, steps: list[Step]) -> str:
         """What is told of a cell: its step, or what its steps changed for others."""
         if len(steps) == 1:
             return f"{long_text(steps[0], self.source)} ({steps[0].kind})"
         told = [long_text(step, self.source) for step in steps if not is_quiet(step)]
-        return "\n".join([f"thread {steps[0].thread}: {len(steps)} steps"] + told[:12] + (["and more"] if len(told) > 12 else []))
+        return "\n".join(
+            [f"thread {steps[0].thread}: {len(steps)} steps"] + told[:12] + (["and more"] if len(told) > 12 else [])
+        )
 
     def interruption(self) -> int:
         """The column behind which another thread first steps inside of an atomic call; the last one where none does."""
@@ -197,7 +224,9 @@ class Order:
     def row(self, entry: int, step: Step) -> str:
         line = self.source.place(step.at)[0]
         kind = step.kind + (", commits" if entry - 1 in self.commits else "")
-        return tag("tr", *(tag("td", text(str(words))) for words in (entry, step.thread, line, kind, change_text(step))))
+        return tag(
+            "tr", *(tag("td", text(str(words))) for words in (entry, step.thread, line, kind, change_text(step)))
+        )
 
     def data(self, lines: dict[str, int]) -> dict[str, Any]:
         """For the slider: the states by the numbers of their lines, and what the columns do."""

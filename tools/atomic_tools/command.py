@@ -1,7 +1,7 @@
 """What the commands have in common: their words, how they write, and how they end.
 
-A command is a function that reads its words and answers with a text and a status. `run` calls it, writes the text, and ends. Whatever
-goes wrong ends in one line on standard error: no traceback, and no file that is cut off.
+A command is a function that reads its words and answers with a text and a status. `run` calls it, writes the text,
+and ends. Whatever goes wrong ends in one line on standard error: no traceback, and no file that is cut off.
 
     0, 1, 2     what the command says itself; 2 also for wrong words
     3           a program isn't there or failed, a file can't be read, or the answer can't be written
@@ -55,7 +55,13 @@ class Words(argparse.ArgumentParser):
 
 def words_of(name: str, about: str, behind: str) -> Words:
     """The words that every command takes."""
-    parser = Words(prog=name, description=about, epilog=behind, allow_abbrev=False, formatter_class=argparse.RawDescriptionHelpFormatter)
+    parser = Words(
+        prog=name,
+        description=about,
+        epilog=behind,
+        allow_abbrev=False,
+        formatter_class=argparse.RawDescriptionHelpFormatter,
+    )
     parser.add_argument("--version", action="store_true", help="say which version this is, and end")
     return parser
 
@@ -145,7 +151,11 @@ def listen() -> None:
 def reason_of(error: Exception) -> str:
     """One line for what went wrong."""
     if isinstance(error, OSError):
-        return f"{escaped(os.fsdecode(error.filename))}: {error.strerror}" if error.filename else str(error.strerror or error)
+        return (
+            f"{escaped(os.fsdecode(error.filename))}: {error.strerror}"
+            if error.filename
+            else str(error.strerror or error)
+        )
     if isinstance(error, MemoryError):
         return "there isn't enough memory"
     if isinstance(error, Failed):

@@ -3,8 +3,8 @@
     found = endings(source, 20000)      these ends, and how many states were looked at
     end_of(machine)                     a state, but for what nobody can reach
 
-It goes over all schedules at once: a thread goes on up to its next choice that others can see, an atomic call in one piece. States that
-two schedules share are looked at once. None is found where more states are met than may be.
+It goes over all schedules at once: a thread goes on up to its next choice that others can see, an atomic call in one
+piece. States that two schedules share are looked at once. None is found where more states are met than may be.
 """
 from __future__ import annotations
 
@@ -35,8 +35,8 @@ class TooMany(Exception):
 def roots(machine: Machine) -> Iterable[Value]:
     """What is there without any object: the one that each thread runs on, and the variables of what still runs.
 
-    `main` runs on the object of `Main`. A thread that is done keeps its own object here, though it can't use it any more: what the
-    threads worked on shows there."""
+    `main` runs on the object of `Main`. A thread that is done keeps its own object here, though it can't use it any
+    more: what the threads worked on shows there."""
     for thread in machine.threads:
         yield thread.on
         for frame in thread.frames:
@@ -56,8 +56,8 @@ def reached(machine: Machine) -> dict[Address, int]:
 
 
 def end_of(machine: Machine) -> str:
-    """A state as a text that two states share where nobody can tell them apart by what was printed, by the threads, and by the
-    objects that can be reached. Objects that can't are left out, and the others are numbered anew."""
+    """A state as a text that two states share where nobody can tell them apart by what was printed, by the threads,
+    and by the objects that can be reached. Objects that can't are left out, and the others are numbered anew."""
     numbers = reached(machine)
 
     def named(value: Value) -> str:
@@ -75,8 +75,13 @@ def end_of(machine: Machine) -> str:
 
 
 def saved(machine: Machine) -> Saved:
-    heap = tuple((at, found.type, tuple(found.values.values()), found.holder, found.count) for at, found in sorted(machine.heap.items()))
-    threads = tuple((own.status, own.on, own.method, tuple(kept(frame) for frame in own.frames)) for own in machine.threads)
+    heap = tuple(
+        (at, found.type, tuple(found.values.values()), found.holder, found.count)
+        for at, found in sorted(machine.heap.items())
+    )
+    threads = tuple(
+        (own.status, own.on, own.method, tuple(kept(frame) for frame in own.frames)) for own in machine.threads
+    )
     return heap, threads, tuple(machine.output), tuple(machine.made)
 
 
@@ -161,7 +166,9 @@ class Search:
         """The thread goes on up to its next choice; False where it can't, or would stop inside an atomic call."""
         try:
             self.step(machine, number)
-            while machine.threads[number].status == "running" and (machine.inside(number) or next_is_unseen(machine, number)):
+            while machine.threads[number].status == "running" and (
+                machine.inside(number) or next_is_unseen(machine, number)
+            ):
                 self.step(machine, number)
         except Stuck:
             return False

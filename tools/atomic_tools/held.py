@@ -1,12 +1,14 @@
-"""Which locks are held where in a method, by reading its text: the page's own reading, held against what the program says.
+"""Which locks are held where in a method, by reading its text: the page's own reading, held against what the program
+says.
 
     reading = Reading(source, method)
     reading.held[K]          what is held at the part K
     reading.guard(part)      the guard of an access, and its path here
     reading.told(tree, K)    a tree of the book at the part K, as a tree over what the caller holds
 
-A path is a slot and fields, as in books: (0, 3) is the field 3 of `this`. What a caller holds stands for itself; a `synchronized`
-adds its path; a final local is a second name of the path that it is declared with (docs/rules.md, "The effect of a piece of code").
+A path is a slot and fields, as in books: (0, 3) is the field 3 of `this`. What a caller holds stands for itself; a
+`synchronized` adds its path; a final local is a second name of the path that it is declared with (docs/rules.md, "The
+effect of a piece of code").
 """
 from __future__ import annotations
 

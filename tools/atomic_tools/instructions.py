@@ -109,7 +109,9 @@ class Code:
     def expression(self, part: Part, following: int) -> int:
         word = part.word
         if word == "lit":
-            return self.of_part("push", LITERALS[part.name] if part.name in LITERALS else int(part.name), part, following)
+            return self.of_part(
+                "push", LITERALS[part.name] if part.name in LITERALS else int(part.name), part, following
+            )
         if word in ("this", "var"):
             return self.of_part("load", part.slot, part, following)
         if word in ("and", "or"):

@@ -1,7 +1,7 @@
 """The part of a page on a schedule: its steps in lanes, the written order below, and the state at each front.
 
-The order in which an accepted source's schedule may be written, and the state of each front, are the program's. A cell's line, kind and
-change are read by `machine`, and every front's state was held against the program's (`runs`).
+The order in which an accepted source's schedule may be written, and the state of each front, are the program's. A
+cell's line, kind and change are read by `machine`, and every front's state was held against the program's (`runs`).
 """
 from __future__ import annotations
 
@@ -84,7 +84,17 @@ class Schedule:
         lanes = "".join(self.lanes(number, order) for number, order in enumerate(self.orders))
         last = tag("div", state_lists(self.orders[0].states[-1]), class_="state", id="state", aria_live="polite")
         both = tag("div", tag("div", lanes), last, class_="run")
-        parts = [head, stopped, self.about(), kinds(self.accepted), self.slider(), both, self.ends(), self.tables(), self.data()]
+        parts = [
+            head,
+            stopped,
+            self.about(),
+            kinds(self.accepted),
+            self.slider(),
+            both,
+            self.ends(),
+            self.tables(),
+            self.data(),
+        ]
         return tag("section", *parts, id="schedule")
 
     def about(self) -> str:
@@ -116,7 +126,9 @@ class Schedule:
 
     def tables(self) -> str:
         short = [order for order in self.orders if len(order.steps) <= MOST_ROWS]
-        return "".join(tag("details", tag("summary", f"The steps in words: {order.name}"), order.table()) for order in short)
+        return "".join(
+            tag("details", tag("summary", f"The steps in words: {order.name}"), order.table()) for order in short
+        )
 
     def data(self) -> str:
         lines: dict[str, int] = {}

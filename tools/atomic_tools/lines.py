@@ -26,6 +26,10 @@ class Fact:
     word: str
     text: str
 
+    def shown(self) -> str:
+        """The line without the file's name."""
+        return f"{self.line}:{self.column}: {self.word}: {self.text}"
+
 
 def fact_of(line: str, name: Optional[str]) -> Optional[Fact]:
     found = LINE.fullmatch(line)
@@ -36,9 +40,12 @@ def fact_of(line: str, name: Optional[str]) -> Optional[Fact]:
 
 
 def facts(text: str, name: Optional[str] = None) -> list[Fact]:
-    """The lines that have the form. A line ends with LF and with nothing else, since names may hold other ends of lines.
+    """The lines that have the form. A line ends with LF and with nothing else, since names may hold other ends of
+    lines.
 
-    Where the name of the file is known, it stands in the facts; a name that has an LF itself is taken from the lines first."""
+    Where the name of the file is known, it stands in the facts; a name that has an LF itself is taken from the lines
+    first.
+    """
     if name is not None and "\n" in name:
         text = text.replace(name + ":", "-:")
     found = (fact_of(line, name) for line in text.split("\n"))

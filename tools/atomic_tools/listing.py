@@ -14,7 +14,8 @@ from .source import Source
 from .trees import BASICS, Path, Tree
 from .views import Access, Piece, View, accesses_in, cut_off, pieces_of
 
-# a longer source is laid out as it comes into sight, so many lines at once, and what is said of its parts stands in one table
+# a longer source is laid out as it comes into sight, so many lines at once, and what is said of its parts stands in
+# one table
 LARGE, BLOCK = 20_000, 50
 
 # a tree that recolours: the number of a basic, or a box with the tree where it is ticked and the tree where it isn't
@@ -148,13 +149,16 @@ class Listing:
         is_whole = line.begin == self.source.starts[number - 1]
         classes = "l" + (" between" if number in self.marks.between else "")
         inside = tag("i", class_=f"g {sign}".strip(), data_t=tree) + tag("code", code)
-        row = tag("div", inside, class_=classes, id=f"L{number}" if is_whole else None, data_n=number if is_whole else None)
+        row = tag(
+            "div", inside, class_=classes, id=f"L{number}" if is_whole else None, data_n=number if is_whole else None
+        )
         before = self.notes(self.marks.before, number) if is_whole else ""
         behind = self.notes(self.marks.behind, number) if line.end == self.ends[number - 1] else ""
         return before + row + (self.boxes(head) if head else "") + behind
 
     def sign_of(self, view: Optional[View], head: Optional[View], begun: Optional[Part]) -> tuple[str, Optional[int]]:
-        """The sign before a line, and the tree that recolours it: those of the method at its head, else of the statement that begins."""
+        """The sign before a line, and the tree that recolours it: those of the method at its head, else of the
+        statement that begins."""
         if head is not None:
             own = head.own_basic()
             return (f"{own} whole", self.tree_number(head.tree, head)) if own else ("", None)
@@ -216,11 +220,14 @@ class Listing:
     # What stands between lines.
 
     def boxes(self, view: View) -> str:
-        """The locks that matter to the method, those that it requires with a `*`: the script of the page makes boxes of them."""
+        """The locks that matter to the method, those that it requires with a `*`: the script of the page makes boxes
+        of them."""
         if not view.boxes or view.tree is None:
             return ""
         names = " ".join(view.reading.name(path) + "*" * (path in view.reading.required) for path in view.boxes)
-        return tag("div", class_="boxes", data_boxes=names, data_t=self.tree_number(view.tree, view), data_b=view.own_basic())
+        return tag(
+            "div", class_="boxes", data_boxes=names, data_t=self.tree_number(view.tree, view), data_b=view.own_basic()
+        )
 
     def notes(self, told: dict[int, list[Note]], line: int) -> str:
         """What the program says of a line."""
@@ -230,4 +237,6 @@ class Listing:
 def note_of(note: Note) -> str:
     fact = note.fact
     classes = f"why {fact.word}" + (" gap" if GAP.match(fact.text) else "") + (" between" if note.joined else "")
-    return tag("p", tag("span", badge(note.number) + samp(fact.text)), class_=classes)
+    # a warning is the script's
+    words = text(fact.text) if fact.word == "warning" else samp(fact.text)
+    return tag("p", tag("span", badge(note.number) + words), class_=classes)

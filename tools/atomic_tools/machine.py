@@ -1,11 +1,12 @@
-"""The machine of docs/machine.md, step by step, to tell of each step where it stands in the text, its kind, and what it changes.
+"""The machine of docs/machine.md, step by step, to tell of each step where it stands in the text, its kind, and what
+it changes.
 
     machine = Machine(source)
     step = machine.step(1)         one step of thread 1: a Step; Stuck where it has none
     machine.text()                 the state, as `atomic run` writes it
 
-It is the scripts' own reading of the machine. Whoever shows steps holds the state of each front against what `atomic run` writes of
-it, so a step that is shown is one that the program takes.
+It is the scripts' own reading of the machine. Whoever shows steps holds the state of each front against what `atomic
+run` writes of it, so a step that is shown is one that the program takes.
 """
 from __future__ import annotations
 

@@ -1,5 +1,5 @@
-"""What stands at places of the listing: the steps of explanations with their numbers, notes before and behind lines, and the lines from
-one step to the other."""
+"""What stands at places of the listing: the steps of explanations with their numbers, notes before and behind lines,
+and the lines from one step to the other."""
 from __future__ import annotations
 
 import re
@@ -51,7 +51,8 @@ class Marks:
             self.between |= set(range(lines[0], lines[-1] + 1))
 
     def number(self, fact: Fact, steps: list[Fact]) -> Number:
-        """The number of the step that a note is about, counted from 1, or a `!` where it names an error; the text gets it, too."""
+        """The number of the step that a note is about, counted from 1, or a `!` where it names an error; the text
+        gets it, too."""
         is_wrong = fact.word == "note" and not steps and not OVERRIDES.match(fact.text)
         if fact in steps or is_wrong:
             number: Number = "!" if is_wrong else 1 + steps.index(fact)

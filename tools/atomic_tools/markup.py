@@ -9,11 +9,14 @@ EMPTY = frozenset("meta input br link".split())
 # what no page may hold
 UNSEEN = re.compile("[^\t\n\r\u0020-\ud7ff\ue000-\ufffd\U00010000-\U0010ffff]")
 # what a page may hold, but nobody sees: it turns the text that stands around it, joins signs, or controls a terminal
-TURNING = re.compile("[\u007f-\u009f\u00ad\u061c\u180e\u200b-\u200f\u2028-\u202e\u2060-\u206f\ufeff\U000e0000-\U000e007f]")
+TURNING = re.compile(
+    "[\u007f-\u009f\u00ad\u061c\u180e\u200b-\u200f\u2028-\u202e\u2060-\u206f\ufeff\U000e0000-\U000e007f]"
+)
 
 
 def seen(words: str) -> str:
-    """Words in which each sign can be seen: a box for what no page may hold, and the number of what would be invisible."""
+    """Words in which each sign can be seen: a box for what no page may hold, and the number of what would be
+    invisible."""
     return TURNING.sub(lambda found: f"\u27e8U+{ord(found[0]):04X}\u27e9", UNSEEN.sub("\ufffd", words))
 
 

@@ -1,7 +1,7 @@
 """The command `atomic-page`: one page of a source, which needs no network and reads without scripts.
 
-What the programs wrote stands in <samp>, word for word; the page says which of its other parts are read from the text by these scripts,
-and what that reading was held against.
+What the programs wrote stands in <samp>, word for word; the page says which of its other parts are read from the text
+by these scripts, and what that reading was held against.
 """
 from __future__ import annotations
 
@@ -12,6 +12,7 @@ import urllib.parse
 from typing import NoReturn, Optional
 
 from .command import Answer, Failed, run, with_output, words_of
+from .escapes import warnings_of
 from .lanes import Schedule
 from .listing import Listing
 from .markup import json_inside, samp, script, style, tag, text
@@ -21,10 +22,12 @@ from .source import Source
 from .trees import BASICS
 from .views import View
 
-ABOUT = """Makes one page of a source, which needs no network and reads without scripts: each statement in the colour of its atomicity,
-boxes for the locks that matter to a method, and of a refused method its steps, with the text of `atomic_why`. With a SCHEDULE: the
-steps of its threads in lanes, below them the written order where the source is accepted, and the objects and locks at each front."""
-BEHIND = """The status is 0 where the page is written, 2 where the words are wrong, and 3 where no page can be made: a line says why."""
+ABOUT = """Makes one page of a source, which needs no network and reads without scripts: each statement in the colour
+        of its atomicity, boxes for the locks that matter to a method, and of a refused method its steps, with the
+        text of `atomic_why`. With a SCHEDULE: the steps of its threads in lanes, below them the written order where
+        the source is accepted, and the objects and locks at each front."""
+BEHIND = """The status is 0 where the page is written, 2 where the words are wrong, and 3 where no page can be made: a
+         line says why."""
 
 HERE = os.path.dirname(os.path.realpath(__file__))
 # more methods aren't shown at once, or are lines without links
@@ -37,18 +40,21 @@ MEANINGS = {
     "error": "touches a guarded field without its guard",
 }
 WHOSE = [
-    "Whose words these are. " + samp("Text on such a ground") + " is word for word what <code>atomic</code> or <code>atomic_why</code> "
-    "wrote: verdicts, atomicities, explanations, orders and states. Colours and signs are theirs too: of an accepted source they come from "
-    "the book that <code>atomic derive</code> writes, of a refused one from the book of the same source without its promises, and where a "
-    "method is an error from <code>atomic_why --all</code>.",
-    "All else is a script's: which text belongs to which part, what a rule is called, which locks are held, which line a step stands at, "
-    "its kind and what it changes. The script compares its parts with those of the book and the listing, and the state at each front that "
-    "the slider shows with the one that <code>atomic run</code> writes; where one differs it makes no page.",
+    "Whose words these are. "
+    + samp("Text on such a ground")
+    + " is word for word what <code>atomic</code> or <code>atomic_why</code> "
+    "wrote: verdicts, atomicities, explanations, orders and states. Colours and signs are theirs too: of an accepted "
+    "source they come from the book that <code>atomic derive</code> writes, of a refused one from the book of the same "
+    "source without its promises, and where a method is an error from <code>atomic_why --all</code>.",
+    "All else is a script's: which text belongs to which part, what a rule is called, which locks are held, which line "
+    "a step stands at, its kind and what it changes. The script compares its parts with those of the book and the "
+    "listing, and the state at each front that the slider shows with the one that <code>atomic run</code> writes; where one differs it makes no page.",
 ]
 HINTS = [
-    "Point at a statement, an access or a call: its rule, its guard and the locks that are held there. In the listing the keys \u2190 and "
-    "\u2192 go from one to the next.",
-    "Accesses and calls are underlined: a mover with one line, atomic with two, cmpd with a wave, an error with dashes.",
+    "Point at a statement, an access or a call: its rule, its guard and the locks that are held there. In the listing "
+    "the keys \u2190 and \u2192 go from one to the next.",
+    "Accesses and calls are underlined: a mover with one line, atomic with two, cmpd with a wave, an error with "
+    "dashes.",
 ]
 BOXES_HINT = "Tick a lock below a method's head: the method as a caller sees it who holds that lock."
 POLICY = "default-src 'none'; style-src 'unsafe-inline'; script-src 'unsafe-inline'; img-src data:"
@@ -67,7 +73,8 @@ def beside(name: str) -> str:
 
 
 def without_promises(source: Source) -> bytes:
-    """The same bytes with blanks in place of the word `atomic` before methods: they promise nothing, and are judged as before."""
+    """The same bytes with blanks in place of the word `atomic` before methods: they promise nothing, and are judged
+    as before."""
     data = bytearray(source.data)
     for method in source.methods:
         if method.atomic_at is not None:
@@ -81,6 +88,7 @@ class Page:
         self.answers, self.name = Answers(path), os.path.basename(path)
         with open(path, "rb") as file:
             self.data = file.read()
+        self.warnings = warnings_of(self.name, self.data)
         self.source: Optional[Source] = None
         self.views: list[View] = []
         self.listing: Optional[Listing] = None
@@ -88,7 +96,8 @@ class Page:
             self.source = Source(self.data)
             self.answers.judge(path, without_promises(self.source))
             self.views = [View(self.source, method, self.answers) for method in self.source.methods]
-            self.listing = Listing(self.source, self.views, Marks(self.source, self.answers.explanations))
+            groups = self.answers.explanations + [[fact] for fact in self.warnings]
+            self.listing = Listing(self.source, self.views, Marks(self.source, groups))
 
     def html(self) -> str:
         footer = tag("footer", *(tag("p", words) for words in WHOSE))
@@ -113,6 +122,7 @@ class Page:
         word = "accepted" if accepted else "refused"
         lines = [] if accepted else self.answers.lines
         told = "".join(tag("p", samp(line), class_="line") for line in lines)
+        told += "".join(tag("p", text(fact.shown()), class_="line") for fact in self.warnings)
         return tag("header", tag("h1", text(self.name)), tag("p", word, class_=f"verdict {word}"), told, legend())
 
     def methods(self) -> str:
@@ -122,7 +132,9 @@ class Page:
         if len(self.views) > MOST_LINKS and self.answers.shown:
             return tag("details", count, tag("pre", samp("\n".join(self.answers.shown))), class_="methods")
         rows = "".join(self.method_row(view) for view in self.views)
-        return tag("details", count, tag("ul", rows), class_="methods", open="open" if len(self.views) <= MOST_OPEN else None)
+        return tag(
+            "details", count, tag("ul", rows), class_="methods", open="open" if len(self.views) <= MOST_OPEN else None
+        )
 
     def method_row(self, view: View) -> str:
         number = view.method.number

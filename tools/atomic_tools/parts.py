@@ -1,7 +1,7 @@
 """What the text of a source is made of: classes, fields, methods, and the numbered parts of bodies.
 
-Parts have the words and the numbers that books have (docs/formats.md, "Books of derivations"), so what the program says of the
-node K of a method is said of the part K here. Offsets count bytes.
+Parts have the words and the numbers that books have (docs/formats.md, "Books of derivations"), so what the program
+says of the node K of a method is said of the part K here. Offsets count bytes.
 """
 from __future__ import annotations
 
@@ -15,9 +15,25 @@ STATEMENTS = frozenset("local set put block if while sync return print start do 
 class Part:
     """An expression or a statement: its word in books, where it stands, and what it is made of."""
 
-    __slots__ = ("word", "begin", "end", "at", "parts", "name", "type", "final", "slot", "lock", "number", "above", "has_else")
+    __slots__ = (
+        "word",
+        "begin",
+        "end",
+        "at",
+        "parts",
+        "name",
+        "type",
+        "final",
+        "slot",
+        "lock",
+        "number",
+        "above",
+        "has_else",
+    )
 
-    def __init__(self, word: str, begin: int, parts: Iterable[Part] = (), at: Optional[int] = None, name: str = "") -> None:
+    def __init__(
+        self, word: str, begin: int, parts: Iterable[Part] = (), at: Optional[int] = None, name: str = ""
+    ) -> None:
         self.word, self.begin, self.end, self.name = word, begin, begin, name
         self.at = begin if at is None else at
         self.parts = list(parts)

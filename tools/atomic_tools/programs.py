@@ -1,7 +1,8 @@
 """Runs `atomic` and `atomic_why`, and hands on what they write.
 
-The programs are those that the environment names (ATOMIC, ATOMIC_WHY); else those that stand in crates/ of the checkout that this
-package stands in, proved or not; else those in the path. What is read is told as it was written: nothing here judges.
+The programs are those that the environment names (ATOMIC, ATOMIC_WHY); else those that stand in crates/ of the
+checkout that this package stands in, proved or not; else those in the path. What is read is told as it was written:
+nothing here judges.
 """
 from __future__ import annotations
 
@@ -74,7 +75,9 @@ class Written:
             raise
         return path
 
-    def __exit__(self, _: Optional[Type[BaseException]], __: Optional[BaseException], ___: Optional[TracebackType]) -> None:
+    def __exit__(
+        self, _: Optional[Type[BaseException]], __: Optional[BaseException], ___: Optional[TracebackType]
+    ) -> None:
         shutil.rmtree(self.folder)
 
 
@@ -112,11 +115,10 @@ def book_of(path: str) -> Book:
 class Answers:
     """What the programs say of a source.
 
-    status, lines   those of `check`
-    shown           the printed line of each method; of a refused source those without the promises, where no method is an error
-    book            the book behind these, or None
-    explanations    the lines of `atomic_why`, by groups
-    at_requires     of `atomic_why --all`: the facts of each method's parts, by their numbers; of a part that isn't there it says const
+    status, lines   those of `check` shown           the printed line of each method; of a refused source those
+    without the promises, where no method is an error book            the book behind these, or None explanations
+    the lines of `atomic_why`, by groups at_requires     of `atomic_why --all`: the facts of each method's parts, by
+    their numbers; of a part that isn't there it says const
     """
 
     def __init__(self, path: str) -> None:

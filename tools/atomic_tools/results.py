@@ -1,4 +1,5 @@
-"""The refused methods of sources as results for builds: each with its rule, its message, its place and the related ones."""
+"""The refused methods of sources as results for builds: each with its rule, its message, its place and the related
+ones."""
 from __future__ import annotations
 
 import os
@@ -9,6 +10,7 @@ from dataclasses import dataclass, field
 from typing import NamedTuple, Optional
 
 from .command import Failed
+from .escapes import warnings_of
 from .lines import Fact, explained, facts
 from .programs import explanations
 
@@ -20,6 +22,7 @@ class Rule(NamedTuple):
     pattern: Optional[str]
     says: str
     help: str
+    level: str = "error"
 
 
 RULES = [
@@ -27,8 +30,8 @@ RULES = [
         "guard-not-held",
         r".* is guarded (for writing )?by |calls \S+, which requires ",
         "an access or a call without a lock that it needs",
-        "Take the lock around the access with `synchronized`, or say `requires` behind the method's parameters, so that each caller takes "
-        "it. A lock counts under the name that the guard has: a second name of the same object is a second lock here.",
+        "Take the lock around the access with `synchronized`, or say `requires` behind the method's parameters, so "
+        "that each caller takes it. A lock counts under the name that the guard has: a second name of the same object is a second lock here.",
     ),
     Rule(
         "calls-an-error",
@@ -40,7 +43,8 @@ RULES = [
         "two-steps",
         r"atomic step: .*",
         "two steps that can't be moved, between which another thread may come in",
-        "Hold the lock that the notes name around both steps. Where no lock helps, give the field a guard, or take `atomic` away.",
+        "Hold the lock that the notes name around both steps. Where no lock helps, give the field a guard, or take "
+        "`atomic` away.",
     ),
     Rule(
         "step-in-a-loop",
@@ -52,7 +56,8 @@ RULES = [
         "compound-call",
         r"compound step: ",
         "a call of a method that is compound itself",
-        "The called method promises nothing: others may come in while it runs. Hold its locks around the call, or make it atomic.",
+        "The called method promises nothing: others may come in while it runs. Hold its locks around the call, or make "
+        "it atomic.",
     ),
     Rule(
         "overriding-method",
@@ -66,6 +71,14 @@ RULES = [
         "the source is no well-formed program",
         "Only the first fault of a source is told. Mend it, and check again: docs/repairs.md has a row for each.",
     ),
+    Rule(
+        "unicode-escape",
+        None,
+        "a unicode escape, which Java reads within comments, too",
+        "Write the character itself, or put a second backslash before the first. In a comment, `\\u002a/` ends the "
+        "comment in Java.",
+        "warning",
+    ),
 ]
 IDS = [rule.name for rule in RULES]
 # readers hold a line's number in 32 bits
@@ -73,33 +86,39 @@ MOST_LINES = 2**31 - 1
 
 
 class Texts:
-    """The lines of files, each file read once."""
+    """The texts of files, each file read once."""
 
     def __init__(self) -> None:
-        self.known: dict[str, list[bytes]] = {}
+        self.known: dict[str, bytes] = {}
+        self.lines: dict[str, list[bytes]] = {}
+
+    def data(self, name: str) -> bytes:
+        if name not in self.known:
+            self.known[name] = data_of(name)
+        return self.known[name]
 
     def line(self, name: str, number: int) -> Optional[bytes]:
         """A line of a file, counted from 1; None where there is none."""
-        if name not in self.known:
-            self.known[name] = lines_of(name)
-        lines = self.known[name]
+        if name not in self.lines:
+            self.lines[name] = self.data(name).split(b"\n")
+        lines = self.lines[name]
         return lines[number - 1] if 0 < number <= len(lines) else None
 
 
-def lines_of(name: str) -> list[bytes]:
+def data_of(name: str) -> bytes:
     # a name from standard input may be one of a pipe, which would never end
     if not os.path.isfile(name):
-        return []
+        return b""
     try:
         with open(name, "rb") as file:
-            return file.read().split(b"\n")
+            return file.read()
     except OSError:
-        return []
+        return b""
 
 
 class Place(NamedTuple):
-    """A place in a file: lines from 1, columns in characters from 1, and where the word that begins there ends; None where it isn't
-    known."""
+    """A place in a file: lines from 1, columns in characters from 1, and where the word that begins there ends; None
+    where it isn't known."""
 
     file: str
     line: Optional[int]
@@ -127,6 +146,10 @@ class Result:
     place: Place
     # the method's name, and the other notes, each with its text
     related: list[tuple[Place, str]] = field(default_factory=list)
+
+    @property
+    def level(self) -> str:
+        return RULES[IDS.index(self.rule)].level
 
     def helps(self) -> list[str]:
         """What is said of the result's own place besides its message."""
@@ -179,8 +202,11 @@ def names_from_input() -> list[str]:
 
 def results_of_files(names: Iterable[str]) -> list[Result]:
     texts = Texts()
-    groups = [group for name in names for group in explanations(name, 0, 1, 2)]
-    return results_of(groups, texts)
+    found = []
+    for name in names:
+        found += results_of(explanations(name, 0, 1, 2), texts)
+        found += [warning_of(fact, texts) for fact in warnings_of(name, texts.data(name))]
+    return found
 
 
 def results_of_input() -> list[Result]:
@@ -191,3 +217,7 @@ def results_of_input() -> list[Result]:
 
 def results_of(groups: Iterable[list[Fact]], texts: Texts) -> list[Result]:
     return [result_of(group, texts) for group in groups if group[0].word == "error"]
+
+
+def warning_of(fact: Fact, texts: Texts) -> Result:
+    return Result("unicode-escape", fact.text, place_of(fact, texts))

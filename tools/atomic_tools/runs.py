@@ -6,7 +6,8 @@
     run.look(fronts)
     run.states[N]       the lines that `atomic run` writes of the first N entries, for each N of the fronts
 
-`look` compares the state of each front as this machine has it with the program's, and ends in `Failed` where they differ.
+`look` compares the state of each front as this machine has it with the program's, and ends in `Failed` where they
+differ.
 """
 from __future__ import annotations
 

@@ -1,8 +1,8 @@
 """The command `atomic-sarif`: what `atomic_why` says of sources, where builds read it.
 
-It writes SARIF 2.1.0, or the lines that a GitHub build shows beside the code. Each refused method is one result. It stands at the first
-step or access that `atomic_why` names, with the rule's id; the method's name and the other places are related ones. The messages are the
-texts of `atomic_why`. Columns are counted in characters, as both readers do.
+It writes SARIF 2.1.0, or the lines that a GitHub build shows beside the code. Each refused method is one result. It
+stands at the first step or access that `atomic_why` names, with the rule's id; the method's name and the other places
+are related ones. The messages are the texts of `atomic_why`. Columns are counted in characters, as both readers do.
 """
 from __future__ import annotations
 
@@ -17,12 +17,14 @@ from .command import Answer, Words, run, with_output, words_of
 from .results import IDS, RULES, Place, Result, Rule, names_from_input, results_of_files, results_of_input
 from .version import version
 
-ABOUT = """Writes what `atomic_why` says of sources where builds read it: as SARIF 2.1.0, or with --github as the lines that a GitHub
-build shows beside the code. Each refused method is one result, at the first step or access that `atomic_why` names."""
-BEHIND = """`git ls-files -z '*.java' | atomic-sarif -z` takes any names, also those with blanks and ends of lines in them.
+ABOUT = """Writes what `atomic_why` says of sources where builds read it: as SARIF 2.1.0, or with --github as the
+        lines that a GitHub build shows beside the code. Each refused method is one result, at the first step or
+        access that `atomic_why` names."""
+BEHIND = """`git ls-files -z '*.java' | atomic-sarif -z` takes any names, also those with blanks and ends of lines in
+         them.
 
-The status is 0 where nothing is refused, 1 where something is, 2 where the words are wrong, and 3 where something failed. Then nothing
-is written."""
+         The status is 0 where nothing is refused, 1 where something is, 2 where the words are wrong, and 3 where
+         something failed. Then nothing is written."""
 SCHEMA = "https://json.schemastore.org/sarif-2.1.0.json"
 # what the lines of GitHub mean by themselves
 GITHUB_SIGNS = "%:,"
@@ -52,20 +54,22 @@ def sarif_result(result: Result, mark: str) -> dict[str, Any]:
     told: dict[str, Any] = {
         "ruleId": result.rule,
         "ruleIndex": IDS.index(result.rule),
-        "level": "error",
+        "level": result.level,
         "message": {"text": result.message},
         "locations": [location(result.place)],
         "partialFingerprints": {"atomicMethod/v1": mark},
     }
     if result.related:
         told["relatedLocations"] = [
-            {"id": number, **location(place), "message": {"text": text}} for number, (place, text) in enumerate(result.related, 1)
+            {"id": number, **location(place), "message": {"text": text}}
+            for number, (place, text) in enumerate(result.related, 1)
         ]
     return told
 
 
 def marks_of(results: list[Result]) -> list[str]:
-    """A mark of each result that stays the same while lines move: of its file, its rule, its message, and how often these stood before."""
+    """A mark of each result that stays the same while lines move: of its file, its rule, its message, and how often
+    these stood before."""
     seen: dict[str, int] = {}
     marks = []
     for result in results:
@@ -81,7 +85,7 @@ def sarif_rule(rule: Rule) -> dict[str, Any]:
         "id": rule.name,
         "shortDescription": {"text": rule.says},
         "help": {"text": rule.help},
-        "defaultConfiguration": {"level": "error"},
+        "defaultConfiguration": {"level": rule.level},
     }
 
 
@@ -114,7 +118,7 @@ def annotation(word: str, place: Place, title: str, text: str) -> str:
 def github(results: list[Result]) -> str:
     out = []
     for result in results:
-        out.append(annotation("error", result.place, result.rule, "; ".join([result.message, *result.helps()])))
+        out.append(annotation(result.level, result.place, result.rule, "; ".join([result.message, *result.helps()])))
         out += [annotation("notice", place, result.rule, "; ".join(texts)) for place, texts in result.others()]
     return "".join(out)
 
@@ -138,13 +142,18 @@ def results_asked(parser: Words, words: argparse.Namespace) -> list[Result]:
 
 def main(given: Optional[list[str]] = None) -> NoReturn:
     parser = words_of("atomic-sarif", ABOUT, BEHIND)
-    parser.add_argument("files", metavar="FILE", nargs="*", help="a source; `-` stands for lines of `atomic_why` on standard input")
+    parser.add_argument(
+        "files", metavar="FILE", nargs="*", help="a source; `-` stands for lines of `atomic_why` on standard input"
+    )
     parser.add_argument("--github", action="store_true", help="write lines for a GitHub build in place of SARIF")
-    parser.add_argument("-z", "--null", action="store_true", help="read the names from standard input, each with a zero byte behind it")
+    parser.add_argument(
+        "-z", "--null", action="store_true", help="read the names from standard input, each with a zero byte behind it"
+    )
     with_output(parser)
 
     def command(words: argparse.Namespace) -> Answer:
         results = results_asked(parser, words)
-        return Answer(github(results) if words.github else sarif(results), 1 if results else 0, words.output)
+        refused = any(result.level == "error" for result in results)
+        return Answer(github(results) if words.github else sarif(results), 1 if refused else 0, words.output)
 
     run(parser, given, command)

@@ -1,9 +1,10 @@
 """Schedules with one switch that show what a refused method does wrong.
 
-`atomic_why` names the first step of the method that can't be moved. One thread goes up to behind that step, another one runs from its
-begin to its end, and the first goes on. That schedule is run, and so is each order of the threads one after the other; the threads are
-those that `main` starts. Where no such order ends in the same way, and no other schedule without an interrupted atomic call does, the
-schedule is a witness. Which ends are the same is said in `endings`.
+`atomic_why` names the first step of the method that can't be moved. One thread goes up to behind that step, another
+one runs from its begin to its end, and the first goes on. That schedule is run, and so is each order of the threads
+one after the other; the threads are those that `main` starts. Where no such order ends in the same way, and no other
+schedule without an interrupted atomic call does, the schedule is a witness. Which ends are the same is said in
+`endings`.
 """
 from __future__ import annotations
 
@@ -49,7 +50,8 @@ class InOrder(NamedTuple):
 
 
 class Switch(NamedTuple):
-    """Where a schedule goes from one thread to another: behind so many steps of the first, where it did the step for the time-th time."""
+    """Where a schedule goes from one thread to another: behind so many steps of the first, where it did the step for
+    the time-th time."""
 
     first: int
     second: int
@@ -116,7 +118,7 @@ def times_of(source: Source, thread: int, part: Part) -> list[int]:
 
 
 def switched(source: Source, switch: Switch) -> tuple[list[int], Machine]:
-    """The first thread takes so many steps, the second all of its own, then the first goes on, and the others follow."""
+    """The first thread takes so many steps, the second all of its own, the first goes on, and the others follow."""
     machine, schedule, threads = begun(source)
     for _ in range(switch.steps):
         machine.step(switch.first)
@@ -160,8 +162,8 @@ def candidates(source: Source, part: Part) -> Iterator[Switch]:
 
 
 class Ends:
-    """How the threads end one after the other; and, as soon as an end isn't among these, how all schedules end that interrupt no atomic
-    call."""
+    """How the threads end one after the other; and, as soon as an end isn't among these, how all schedules end that
+    interrupt no atomic call."""
 
     def __init__(self, source: Source, orders: Iterable[InOrder]) -> None:
         self.source, self.known, self.is_whole = source, {found.ran.end for found in orders}, False
@@ -212,7 +214,9 @@ def witness(source: Source, path: str, why: list[Fact], groups: list[list[Fact]]
         tried += 1
         if not ends.has(machine):
             return Witness(why[0], step, switch, agreed(path, schedule, machine), orders, ends.looked)
-    raise NoWitness(f"{tried} schedules with one switch were run, and each ends as one does that interrupts no atomic call{waits}")
+    raise NoWitness(
+        f"{tried} schedules with one switch were run, and each ends as one does that interrupts no atomic call{waits}"
+    )
 
 
 def first_witness(source: Source, path: str, groups: list[list[Fact]]) -> tuple[Optional[Witness], list[str]]:

@@ -52,7 +52,8 @@ class Thread:
 
 @dataclass(eq=False)
 class Step:
-    """What a step was: its thread, the method and the part that it belongs to, its offset, its kind, and what it changed."""
+    """What a step was: its thread, the method and the part that it belongs to, its offset, its kind, and what it
+    changed."""
 
     thread: int
     method: Method

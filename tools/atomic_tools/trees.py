@@ -1,6 +1,7 @@
 """Trees of atomicities, and the books that `atomic derive` writes of them.
 
-A tree is a basic, or a path with the tree where it is held and the tree where it isn't. A path is a slot and fields, in numbers.
+A tree is a basic, or a path with the tree where it is held and the tree where it isn't. A path is a slot and fields,
+in numbers.
 """
 from __future__ import annotations
 

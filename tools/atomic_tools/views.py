@@ -1,7 +1,9 @@
-"""A method as the page shows it: the tree of each part over what the caller holds, and which statement each piece of text belongs to.
+"""A method as the page shows it: the tree of each part over what the caller holds, and which statement each piece of
+text belongs to.
 
-Basics, trees, lines and explanations are the program's. Which text belongs to which part, what an access is guarded by and which locks
-are held are read from the text by `source` and `held`; where that reading and the program's differ, there is no page.
+Basics, trees, lines and explanations are the program's. Which text belongs to which part, what an access is guarded
+by and which locks are held are read from the text by `source` and `held`; where that reading and the program's
+differ, there is no page.
 """
 from __future__ import annotations
 
@@ -59,7 +61,8 @@ class View:
             raise Failed(f"part {part.number} of {name} is {fact.word}, and not as it is read here")
 
     def places_of(self, part: Part) -> tuple[int, int, int]:
-        """Where the program may place a part: the block of a method at its name, that of a `synchronized` at the word."""
+        """Where the program may place a part: the block of a method at its name, that of a `synchronized` at the
+        word."""
         return part.at, part.begin, part.above.begin if part.above else self.method.at
 
     def from_book(self, book: Book, parts: list[Part]) -> dict[int, Tree]:
@@ -97,7 +100,8 @@ def pieces_of(body: Part) -> list[Piece]:
 
 
 def cut(part: Part, owner: Optional[Part], place: int, pieces: list[Piece]) -> int:
-    """Goes over the statements in a part, whose own text belongs to the owner; the place up to which text is given away."""
+    """Goes over the statements in a part, whose own text belongs to the owner; the place up to which text is given
+    away."""
     for own in part.parts:
         if not own.is_statement() or own.end <= own.begin or is_missing_else(own, part):
             continue

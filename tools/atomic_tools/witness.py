@@ -1,7 +1,7 @@
 """The command `atomic-witness`: a schedule that shows what a refused method does wrong, where one switch shows it.
 
-The states of the schedule and of the orders are those that `atomic run` writes. Which steps a thread takes for a statement, and how
-all other schedules end, are these scripts' own reading of the machine (docs/machine.md).
+The states of the schedule and of the orders are those that `atomic run` writes. Which steps a thread takes for a
+statement, and how all other schedules end, are these scripts' own reading of the machine (docs/machine.md).
 """
 from __future__ import annotations
 
@@ -10,21 +10,25 @@ import itertools
 from typing import NoReturn, Optional
 
 from .command import Answer, escaped, run, with_output, words_of
+from .escapes import warnings_of
 from .programs import explanations, judged
 from .schedules import written
 from .search import Witness, first_witness
 from .source import Source
 
-ABOUT = """Writes a schedule that shows what a refused method does wrong, where one switch between two threads shows it.
+ABOUT = """Writes a schedule that shows what a refused method does wrong, where one switch between two threads shows
+        it.
 
-`atomic_why` names the first step of the method that can't be moved. One thread goes up to behind that step, another one runs
-from its begin to its end, and the first goes on. It is a witness where neither the threads one after the other, in any order, nor
-any other schedule that interrupts no atomic call prints the same, ends its threads in the same way, and leaves the same objects
-to whoever can reach them. Then the promise is broken, and not only unproved.
+        `atomic_why` names the first step of the method that can't be moved. One thread goes up to behind that step,
+        another one runs from its begin to its end, and the first goes on. It is a witness where neither the threads
+        one after the other, in any order, nor any other schedule that interrupts no atomic call prints the same, ends
+        its threads in the same way, and leaves the same objects to whoever can reach them. Then the promise is
+        broken, and not only unproved.
 
 What it shows stands in comments, so `atomic run FILE` takes the text as a schedule."""
-BEHIND = """The status is 0 where the promise is broken, 1 where no such schedule shows it, 2 where no method is refused or the words
-are wrong, and 3 where something failed. That there is no such schedule doesn't mean that the method keeps its promise."""
+BEHIND = """The status is 0 where the promise is broken, 1 where no such schedule shows it, 2 where no method is
+         refused or the words are wrong, and 3 where something failed. That there is no such schedule doesn't mean
+         that the method keeps its promise."""
 # so many orders of the threads are shown beside the schedule
 MOST_SHOWN = 3
 
@@ -56,7 +60,8 @@ def told(found: Witness) -> list[str]:
         found.method.text,
         f"{escaped(step.file)}:{step.line}:{step.column}: {step.text}",
         "",
-        f"main runs; thread {first} goes up to behind that step{again}; thread {second} runs to its end; thread {first} goes on",
+        f"main runs; thread {first} goes up to behind that step{again}; thread {second} runs to its end; "
+        f"thread {first} goes on",
         "",
         *beside(columns),
         "",
@@ -94,9 +99,10 @@ def command(words: argparse.Namespace) -> Answer:
         return Answer((text.split("\n")[0] if status else "no method is refused") + "\n", 2, words.output)
     groups = explanations(words.file, 2)
     with open(words.file, "rb") as file:
-        source = Source(file.read())
-    found, reasons = first_witness(source, words.file, groups)
-    return Answer(report(found, reasons), 0 if found else 1, words.output)
+        data = file.read()
+    found, reasons = first_witness(Source(data), words.file, groups)
+    warnings = [f"{escaped(fact.file)}:{fact.shown()}" for fact in warnings_of(words.file, data)]
+    return Answer(report(found, warnings + reasons), 0 if found else 1, words.output)
 
 
 def main(given: Optional[list[str]] = None) -> NoReturn:

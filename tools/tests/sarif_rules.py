@@ -1,9 +1,10 @@
-"""What the schema of SARIF 2.1.0 asks for, of the properties that `atomic-sarif` writes: OASIS's document, sections 3.13 to 3.52.
+"""What the schema of SARIF 2.1.0 asks for, of the properties that `atomic-sarif` writes: OASIS's document, sections
+3.13 to 3.52.
 
     faults(told)      what a report breaks, each with its place; none of a good one
 
-A rule is a kind of value. An object has no properties but those that are named here, since a property that the schema knows under
-another form would else pass; those that end in `!` have to be there.
+A rule is a kind of value. An object has no properties but those that are named here, since a property that the schema
+knows under another form would else pass; those that end in `!` have to be there.
 """
 from __future__ import annotations
 
@@ -39,7 +40,9 @@ def is_address(value: Any) -> bool:
 
 
 def is_map_of_text(value: Any) -> bool:
-    return isinstance(value, dict) and all(isinstance(key, str) and isinstance(known, str) for key, known in value.items())
+    return isinstance(value, dict) and all(
+        isinstance(key, str) and isinstance(known, str) for key, known in value.items()
+    )
 
 
 MESSAGE: Rule = {"text!": is_text}
@@ -94,11 +97,14 @@ def broken_object(value: Any, rule: dict[str, Any], place: str) -> list[str]:
 
 def faults(told: Any) -> list[str]:
     found = broken(told, REPORT, "report")
-    return found or [fault for number, run in enumerate(told["runs"]) for fault in broken_links(run, f"report.runs[{number}]")]
+    return found or [
+        fault for number, run in enumerate(told["runs"]) for fault in broken_links(run, f"report.runs[{number}]")
+    ]
 
 
 def broken_links(run: Any, place: str) -> list[str]:
-    """What isn't said by the form of one property: indices, ids that are told apart, and regions that don't end before they begin."""
+    """What isn't said by the form of one property: indices, ids that are told apart, and regions that don't end
+    before they begin."""
     found = []
     rules = [rule["id"] for rule in run["tool"]["driver"]["rules"]]
     if len(set(rules)) < len(rules):
@@ -110,7 +116,9 @@ def broken_links(run: Any, place: str) -> list[str]:
         related = result.get("relatedLocations", [])
         if len({location["id"] for location in related}) < len(related):
             found.append(f"{where} has an id twice")
-        found += [f"{where} ends before it begins" for location in result["locations"] + related if is_backwards(location)]
+        found += [
+            f"{where} ends before it begins" for location in result["locations"] + related if is_backwards(location)
+        ]
     return found
 
 

@@ -50,7 +50,9 @@ def run(words: list[str], folder: str, given: Optional[bytes] = None, more: Opti
     known = {name.upper(): found for name in ("atomic", "atomic_why") for found in [program(name)] if found}
     environment = {**os.environ, **known, **(more or {})}
     done = subprocess.run(words, cwd=folder, env=environment, input=given or b"", capture_output=True, check=False)
-    return Ended(done.returncode, done.stdout.decode("utf-8", "surrogateescape"), done.stderr.decode("utf-8", "surrogateescape"))
+    return Ended(
+        done.returncode, done.stdout.decode("utf-8", "surrogateescape"), done.stderr.decode("utf-8", "surrogateescape")
+    )
 
 
 def command(name: str) -> list[str]:
@@ -85,5 +87,7 @@ class InFolder(unittest.TestCase):
         os.chmod(path, 0o755)
         return path
 
-    def run_tool(self, name: str, *words: str, given: Optional[bytes] = None, more: Optional[dict[str, str]] = None) -> Ended:
+    def run_tool(
+        self, name: str, *words: str, given: Optional[bytes] = None, more: Optional[dict[str, str]] = None
+    ) -> Ended:
         return run([*command(name), *words], self.folder, given, more)

@@ -11,7 +11,8 @@ import xml.etree.ElementTree
 from .support import ACCEPTED, EVIL, EXAMPLES, REFUSED, InFolder, command, run
 
 COMMANDS = ("atomic-page", "atomic-witness", "atomic-sarif")
-# a promise that is broken where a thread comes in between two reads; the values are kept in an object that nobody can reach, or printed
+# a promise that is broken where a thread comes in between two reads; the values are kept in an object that nobody can
+# reach, or printed
 READS = b"""class Shared { int v; }
 class Box { int first; int second; }
 class Reader implements Runnable { final Shared s; Reader(Shared s) { this.s = s; }
@@ -36,8 +37,8 @@ class Words(InFolder):
 
     def test_wrong_words(self) -> None:
         for name in COMMANDS:
-            third = ["-z", "a"] if name == "atomic-sarif" else ["a", "b", "c"]
-            for words in [[], ["--what"], third]:
+            for text in ("", "--what", "-z a" if name == "atomic-sarif" else "a b c"):
+                words = text.split()
                 with self.subTest(name=name, words=words):
                     status, text, errors = self.run_tool(name, *words)
                     self.assertEqual((2, "", True), (status, text, errors.startswith(f"usage: {name}")))
@@ -63,12 +64,16 @@ class Failures(InFolder):
             for words in ("f.java", "--help", "--version"):
                 with self.subTest(name=name, words=words):
                     run_it = " ".join([*command(name), words])
-                    self.expect_line(self.shell(f"{run_it} > /dev/full"), f"{name}: cannot write standard output: No space left")
+                    self.expect_line(
+                        self.shell(f"{run_it} > /dev/full"), f"{name}: cannot write standard output: No space left"
+                    )
 
     def test_standard_output_is_closed(self) -> None:
         for name in COMMANDS:
             with self.subTest(name=name):
-                self.expect_line(self.shell(" ".join(command(name)) + " f.java >&-"), f"{name}: standard output is closed")
+                self.expect_line(
+                    self.shell(" ".join(command(name)) + " f.java >&-"), f"{name}: standard output is closed"
+                )
 
     def test_nobody_reads(self) -> None:
         for name in COMMANDS:
@@ -81,7 +86,10 @@ class Failures(InFolder):
 
     def test_programs_are_missing_or_others(self) -> None:
         for name in COMMANDS:
-            for program, line in (("/nowhere/atomic", "cannot run /nowhere/atomic"), (self.script("nine", "exit 9"), "ended with 9")):
+            for program, line in (
+                ("/nowhere/atomic", "cannot run /nowhere/atomic"),
+                (self.script("nine", "exit 9"), "ended with 9"),
+            ):
                 with self.subTest(name=name, program=program):
                     ended = self.run_tool(name, "f.java", more={"ATOMIC": program, "ATOMIC_WHY": program})
                     self.assertEqual((3, "", 1), (ended.status, ended.text, ended.errors.count("\n")))
@@ -125,7 +133,9 @@ class Output(InFolder):
         self.write("out", b"before")
         for name in COMMANDS:
             with self.subTest(name=name):
-                ended = run(["sh", "-c", "ulimit -f 0; exec \"$@\"", "-", *command(name), "f.java", "-o", "out"], self.folder)
+                ended = run(
+                    ["sh", "-c", 'ulimit -f 0; exec "$@"', "-", *command(name), "f.java", "-o", "out"], self.folder
+                )
                 self.assertEqual((3, 1), (ended.status, ended.errors.count("\n")), ended.errors)
                 self.assertEqual(b"before", self.read("out"))
                 self.assertEqual(["f.java", "out"], sorted(os.listdir(self.folder)))
@@ -137,7 +147,9 @@ class Output(InFolder):
 
     def test_a_device_is_written_as_it_is(self) -> None:
         ended = self.run_tool("atomic-sarif", "f.java", "-o", "/dev/full")
-        self.assertEqual((3, "atomic-sarif: cannot write /dev/full: No space left on device\n"), (ended.status, ended.errors))
+        self.assertEqual(
+            (3, "atomic-sarif: cannot write /dev/full: No space left on device\n"), (ended.status, ended.errors)
+        )
 
 
 class Signals(InFolder):
@@ -147,7 +159,9 @@ class Signals(InFolder):
         os.mkdir(self.path("temporary"))
         waits = self.script("waits", 'case "$2" in f.java) echo; exit 2 ;; esac; touch started; exec sleep 60')
         environment = {**os.environ, "ATOMIC": waits, "ATOMIC_WHY": waits, "TMPDIR": self.path("temporary")}
-        process = subprocess.Popen([*command("atomic-page"), "f.java"], cwd=self.folder, env=environment, stderr=subprocess.PIPE)
+        process = subprocess.Popen(
+            [*command("atomic-page"), "f.java"], cwd=self.folder, env=environment, stderr=subprocess.PIPE
+        )
         with process:
             while not os.path.exists(self.path("started")) and process.poll() is None:
                 time.sleep(0.02)
@@ -182,7 +196,9 @@ class Pages(InFolder):
     def test_a_link_is_one_to_a_file(self) -> None:
         self.write("javascript:alert(1).java", REFUSED)
         self.write("javascript:alert(1).witness", b"")
-        self.assertIn('href="javascript%3Aalert%281%29.witness"', self.run_tool("atomic-page", "javascript:alert(1).java").text)
+        self.assertIn(
+            'href="javascript%3Aalert%281%29.witness"', self.run_tool("atomic-page", "javascript:alert(1).java").text
+        )
 
 
 class Witnesses(InFolder):
@@ -192,7 +208,7 @@ class Witnesses(InFolder):
         self.assertEqual(0, status)
         self.assertIn("# So the promise is broken, and not only unproved.\n", text)
         self.write("schedule", text.encode())
-        self.assertIn("class=\"lanes\"", self.run_tool("atomic-page", "f.java", "schedule").text)
+        self.assertIn('class="lanes"', self.run_tool("atomic-page", "f.java", "schedule").text)
 
     def test_an_object_that_nobody_reaches_shows_nothing(self) -> None:
         self.write("f.java", READS % b"")

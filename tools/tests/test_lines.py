@@ -39,7 +39,10 @@ class Lines(unittest.TestCase):
 
     def test_parts_have_their_numbers(self) -> None:
         parts = by_parts(facts("f.java:1:2: mover: A.b 0\nf.java:1:9: atomic: A.b 7\n"))
-        self.assertEqual({"A.b": {0: "mover", 7: "atomic"}}, {name: {n: f.word for n, f in own.items()} for name, own in parts.items()})
+        self.assertEqual(
+            {"A.b": {0: "mover", 7: "atomic"}},
+            {name: {n: f.word for n, f in own.items()} for name, own in parts.items()},
+        )
 
 
 if __name__ == "__main__":

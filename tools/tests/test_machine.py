@@ -11,7 +11,8 @@ from atomic_tools.states import Stuck
 
 COUNTER = b"""class Counter { int n guarded_by this;
     atomic void inc() { synchronized (this) { this.n = this.n + 1; } } }
-class Worker implements Runnable { final Counter c; Worker(Counter c) { this.c = c; } public void run() { this.c.inc(); } }
+class Worker implements Runnable { final Counter c; Worker(Counter c) { this.c = c; }
+    public void run() { this.c.inc(); } }
 class Main { void main() {
     final Counter c = new Counter();
     new Thread(new Worker(c)).start();
@@ -27,7 +28,9 @@ class Main { void main() {
     new Thread(worker).start();
     new Thread(worker).start(); } }
 """
-DIVIDED = b"class Main { void main() { System.out.println(-7 / 2); System.out.println(-7 % 2); System.out.println(1 / 0); } }"
+DIVIDED = (
+    b"class Main { void main() { System.out.println(-7 / 2); System.out.println(-7 % 2); System.out.println(1 / 0); } }"
+)
 
 
 def ended(data: bytes) -> Machine:
@@ -88,7 +91,9 @@ class SameEnds(unittest.TestCase):
         self.assertEqual(end_of(ended(COUNTER)), end_of(ended(later)))
 
     def test_what_is_printed_counts(self) -> None:
-        self.assertNotEqual(end_of(ended(LOST % b"System.out.println(1);")), end_of(ended(LOST % b"System.out.println(2);")))
+        self.assertNotEqual(
+            end_of(ended(LOST % b"System.out.println(1);")), end_of(ended(LOST % b"System.out.println(2);"))
+        )
 
     def test_all_ends_are_met(self) -> None:
         found = endings(Source(COUNTER), 1000)

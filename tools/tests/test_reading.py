@@ -46,7 +46,9 @@ class Sources(unittest.TestCase):
 
     def test_parts_have_words_in_the_order_of_their_numbers(self) -> None:
         words = [part.word for part in self.method.body.all()]
-        self.assertEqual("block local this while and bin get var lit un bin var lit block if bin get var lit".split(), words[:19])
+        self.assertEqual(
+            "block local this while and bin get var lit un bin var lit block if bin get var lit".split(), words[:19]
+        )
         self.assertEqual(list(range(len(words))), [part.number for part in self.method.body.all()])
 
     def test_a_place_names_a_part(self) -> None:

@@ -27,7 +27,9 @@ class Reports(InFolder):
         self.assertEqual((1, "", []), (status, errors, faults(json.loads(text))))
         result = results(text)[0]
         self.assertEqual("two-steps", result["ruleId"])
-        self.assertEqual({"startLine": 1, "startColumn": 42, "endColumn": 46}, result["locations"][0]["physicalLocation"]["region"])
+        self.assertEqual(
+            {"startLine": 1, "startColumn": 42, "endColumn": 46}, result["locations"][0]["physicalLocation"]["region"]
+        )
 
     def test_every_example_meets_the_schema(self) -> None:
         names = sorted(name for name in os.listdir(EXAMPLES) if name.endswith(".java"))
@@ -43,7 +45,9 @@ class Reports(InFolder):
 
     def test_a_source_that_is_no_program_is_a_result(self) -> None:
         self.write("f.java", b"class")
-        self.assertEqual(["not-well-formed"], [result["ruleId"] for result in results(self.run_tool("atomic-sarif", "f.java").text)])
+        self.assertEqual(
+            ["not-well-formed"], [result["ruleId"] for result in results(self.run_tool("atomic-sarif", "f.java").text)]
+        )
 
     def test_a_fingerprint_stays_while_lines_move(self) -> None:
         marks = []
@@ -80,9 +84,14 @@ class Names(InFolder):
         given = b"".join(os.fsencode(name) + b"\0" for name in EVIL)
         status, text, errors = self.run_tool("atomic-sarif", "-z", given=given)
         self.assertEqual((1, "", []), (status, errors, faults(json.loads(text))))
-        named = [unquote(result["locations"][0]["physicalLocation"]["artifactLocation"]["uri"]) for result in results(text)]
+        named = [
+            unquote(result["locations"][0]["physicalLocation"]["artifactLocation"]["uri"]) for result in results(text)
+        ]
         self.assertEqual(EVIL, named)
-        self.assertEqual([46] * len(EVIL), [result["locations"][0]["physicalLocation"]["region"]["endColumn"] for result in results(text)])
+        self.assertEqual(
+            [46] * len(EVIL),
+            [result["locations"][0]["physicalLocation"]["region"]["endColumn"] for result in results(text)],
+        )
 
     def test_names_from_git(self) -> None:
         for name in EVIL:
@@ -99,9 +108,9 @@ class Names(InFolder):
         self.assertEqual((0, ""), self.run_tool("atomic-sarif", "--github", "-z")[:2])
 
     def test_words_that_do_not_fit_together(self) -> None:
-        for words in [[], ["-z", "f.java"], ["-", "f.java"], ["--what"]]:
+        for words in ("", "-z f.java", "- f.java", "--what"):
             with self.subTest(words=words):
-                status, text, errors = self.run_tool("atomic-sarif", *words)
+                status, text, errors = self.run_tool("atomic-sarif", *words.split())
                 self.assertEqual((2, "", True), (status, text, errors.startswith("usage: atomic-sarif")))
 
 
@@ -110,7 +119,10 @@ class ForGitHub(InFolder):
         self.write("f.java", REFUSED)
         first, second = self.run_tool("atomic-sarif", "--github", "f.java").text.splitlines()
         self.assertIn("atomic step: writes this.v, which nothing guards; no lock helps this step", first)
-        self.assertIn("a second one: writes this.v, which nothing guards; between the two another thread may come in; no lock", second)
+        self.assertIn(
+            "a second one: writes this.v, which nothing guards; between the two another thread may come in; no lock",
+            second,
+        )
         self.assertTrue(first.startswith("::error file=f.java,line=1,col=42,endColumn=46,title=two-steps::"))
 
     def test_columns_count_characters(self) -> None:
