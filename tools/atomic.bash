@@ -20,7 +20,9 @@ _atomic() {
     # a word that was typed in quotes is the same word
     local word=${COMP_WORDS[COMP_CWORD]} command=${COMP_WORDS[1]//[\"\'\\]/}
     case $COMP_CWORD in
-    1) _atomic_words "check run serialise derive verify print generate serialise-open blame verify-blame levels replay" ;;
+    1)
+        _atomic_words "check run serialise serialise-open replay derive verify blame verify-blame levels print generate"
+        ;;
     2) [ "$command" = generate ] || _atomic_files java ;;
     3)
         case $command in

@@ -48,7 +48,8 @@ WHOSE = [
     "source without its promises, and where a method is an error from <code>atomic_why --all</code>.",
     "All else is a script's: which text belongs to which part, what a rule is called, which locks are held, which line "
     "a step stands at, its kind and what it changes. The script compares its parts with those of the book and the "
-    "listing, and the state at each front that the slider shows with the one that <code>atomic run</code> writes; where one differs it makes no page.",
+    "listing, and the state at each front that the slider shows with the one that <code>atomic run</code> "
+    "writes; where one differs it makes no page.",
 ]
 HINTS = [
     "Point at a statement, an access or a call: its rule, its guard and the locks that are held there. In the listing "

@@ -31,7 +31,8 @@ RULES = [
         r".* is guarded (for writing )?by |calls \S+, which requires ",
         "an access or a call without a lock that it needs",
         "Take the lock around the access with `synchronized`, or say `requires` behind the method's parameters, so "
-        "that each caller takes it. A lock counts under the name that the guard has: a second name of the same object is a second lock here.",
+        "that each caller takes it. A lock counts under the name that the guard has: a second name of "
+        "the same object is a second lock here.",
     ),
     Rule(
         "calls-an-error",
