@@ -14,7 +14,7 @@ import subprocess
 import sys
 import tempfile
 
-from random_source import workers
+from random_shapes import workers
 from schedules import drawn, read, runnable, written
 
 

@@ -16,7 +16,8 @@ import sys
 import tempfile
 
 from command_line import PROGRAM, WHY, count_of, program_of, set_programs, words_of
-from random_source import Generator, workers
+from random_shapes import workers
+from random_source import Generator
 from schedules import drawn
 
 from atomic_tools.command import Failed

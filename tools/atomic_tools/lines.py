@@ -1,4 +1,4 @@
-"""The lines of `atomic_why`: `FILE:LINE:COLUMN: WORD: TEXT`, as compilers write them.
+"""The lines of `atomic_why`: `FILE:LINE:COLUMN: WORD: TEXT`, as compilers write them; ` [CODE]` may stand at the end.
 
     facts(text)            each such line as a Fact
     explained(facts)       the facts by methods: the line that names a method, and the notes on it
@@ -12,19 +12,20 @@ from dataclasses import dataclass
 from typing import Optional
 
 # a place has at most nine digits: a source has at most 262,144 bytes
-LINE = re.compile(r"(.*):([0-9]{1,9}):([0-9]{1,9}): (\w+): (.*)", re.ASCII | re.DOTALL)
+LINE = re.compile(r"(.*):([0-9]{1,9}):([0-9]{1,9}): (\w+): (.*?)(?: \[([a-z-]+)\])?", re.ASCII | re.DOTALL)
 COMPOUND = re.compile(r"\w+\.\w+ is (const|mover|atomic|cmpd|error)")
 
 
 @dataclass(frozen=True, eq=False)
 class Fact:
-    """One line: a place, a word and a text."""
+    """One line: a place, a word and a text; and the code of what it says, nothing where it has none."""
 
     file: str
     line: int
     column: int
     word: str
     text: str
+    code: str = ""
 
     def shown(self) -> str:
         """The line without the file's name."""
@@ -35,8 +36,8 @@ def fact_of(line: str, name: Optional[str]) -> Optional[Fact]:
     found = LINE.fullmatch(line)
     if found is None:
         return None
-    file, at, column, word, text = found.groups()
-    return Fact(file if name is None else name, int(at), int(column), word, text)
+    file, at, column, word, text, code = found.groups()
+    return Fact(file if name is None else name, int(at), int(column), word, text, code or "")
 
 
 def facts(text: str, name: Optional[str] = None) -> list[Fact]:

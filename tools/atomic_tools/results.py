@@ -82,6 +82,8 @@ RULES = [
     ),
 ]
 IDS = [rule.name for rule in RULES]
+# codes of lines that belong to a rule of another name
+CODES = {"guard-unnamed": "guard-not-held", "required-not-held": "guard-not-held", "required-unnamed": "guard-not-held"}
 # readers hold a line's number in 32 bits
 MOST_LINES = 2**31 - 1
 
@@ -175,10 +177,14 @@ def result_of(group: list[Fact], texts: Texts) -> Result:
     message = ": ".join(dict.fromkeys([head.text, main.text]))
     related = [head, *notes[1:]] if notes else []
     told = [(place_of(fact, texts), fact.text) for fact in related]
-    return Result(rule_of(notes), message, place_of(main, texts), told)
+    return Result(rule_of(head, notes), message, place_of(main, texts), told)
 
 
-def rule_of(notes: list[Fact]) -> str:
+def rule_of(head: Fact, notes: list[Fact]) -> str:
+    """The rule of an explanation: by its codes where the lines have some, else by how they begin."""
+    code = notes[0].code if head.code == "lock-error" and notes else head.code
+    if code:
+        return CODES.get(code, code) if CODES.get(code, code) in IDS else "not-well-formed"
     if not notes:
         return "not-well-formed"
     if any(note.text.startswith("this loop makes it") for note in notes):

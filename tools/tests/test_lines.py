@@ -34,6 +34,10 @@ class Lines(unittest.TestCase):
         self.assertEqual([], facts(f"f.java:{'9' * 5000}:1: error: x\n"))
         self.assertEqual([], facts("f.java:\u0661:1: error: x\n"))
 
+    def test_a_code_may_stand_at_the_end(self) -> None:
+        first, second = facts("f.java:1:2: error: x [y] [two-steps]\nf.java:1:2: error: x [Y]\n")
+        self.assertEqual([("x [y]", "two-steps"), ("x [Y]", "")], [(fact.text, fact.code) for fact in (first, second)])
+
     def test_notes_stand_with_their_method(self) -> None:
         self.assertEqual([2, 1], [len(group) for group in explained(facts(TEXT))])
 

@@ -49,6 +49,13 @@ class Reports(InFolder):
             ["not-well-formed"], [result["ruleId"] for result in results(self.run_tool("atomic-sarif", "f.java").text)]
         )
 
+    def test_a_code_names_the_rule(self) -> None:
+        rows = {"two-steps": "two-steps", "lock-error": "guard-not-held", "overriding-method": "overriding-method"}
+        for code, rule in rows.items():
+            given = f"f.java:1:2: error: x [{code}]\nf.java:1:2: note: y [required-unnamed]\n".encode()
+            result = results(self.run_tool("atomic-sarif", "-", given=given).text)[0]
+            self.assertEqual((rule, "x: y"), (result["ruleId"], result["message"]["text"]))
+
     def test_a_fingerprint_stays_while_lines_move(self) -> None:
         marks = []
         for before in (b"", b"\n\n// moved\n"):
