@@ -83,24 +83,24 @@ run_types() {
 
 run_house() {
     needs python3 python3 || return 1
-    bench/check_house.py
+    python3 bench/check_house.py
 }
 
 run_documents() {
     needs python3 python3 git git make make bash bash parallel parallel vim vim || return 1
-    bench/check_docs.py "$ATOMIC"
+    python3 bench/check_docs.py "$ATOMIC"
 }
 
 run_jvm() {
     [ -e bench/jvm.py ] || return 0
     needs python3 python3 javac openjdk-17-jdk-headless || return 1
-    bench/jvm.py sample "$ATOMIC"
+    python3 bench/jvm.py sample "$ATOMIC"
 }
 
 run_java() {
     [ -e bench/test_java.py ] || return 0
     needs python3 python3 javac openjdk-17-jdk-headless || return 1
-    bench/java.sh && bench/test_java.py
+    bench/java.sh && python3 bench/test_java.py
 }
 
 for name do
