@@ -10,7 +10,8 @@ from __future__ import annotations
 import argparse
 import os
 import sys
-from typing import Optional
+from collections.abc import Sequence
+from typing import Any, Optional
 
 HERE = os.path.dirname(os.path.abspath(__file__))
 TOP = os.path.dirname(HERE)
@@ -22,10 +23,17 @@ PROGRAM = "the built `atomic`, proved or not"
 WHY = "the built `atomic_why`, proved or not"
 
 
-def words_of(text: Optional[str]) -> argparse.ArgumentParser:
+class Words(argparse.ArgumentParser):
+    """A parser that takes options between other words, too."""
+
+    def parse_args(self, args: Optional[Sequence[str]] = None, namespace: Any = None) -> Any:  # type: ignore[override]
+        return self.parse_intermixed_args(args, namespace)
+
+
+def words_of(text: Optional[str]) -> Words:
     """A parser for a script whose first lines say what it does."""
     form = argparse.RawDescriptionHelpFormatter
-    return argparse.ArgumentParser(description=(text or "").strip(), formatter_class=form, allow_abbrev=False)
+    return Words(description=(text or "").strip(), formatter_class=form, allow_abbrev=False)
 
 
 def program_of(path: str) -> str:

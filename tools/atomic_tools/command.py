@@ -186,7 +186,7 @@ def run(parser: Words, words: Optional[list[str]], command: Callable[[argparse.N
         if "--version" in given[: given.index("--") if "--" in given else None]:
             answer = Answer(f"{parser.prog} {version()}\n")
         else:
-            answer = command(parser.parse_args(given))
+            answer = command(parser.parse_intermixed_args(given))
         write_answer(answer)
     except KeyboardInterrupt:
         end(128 + signal.SIGINT)

@@ -114,6 +114,12 @@ class Names(InFolder):
     def test_no_names_are_no_results(self) -> None:
         self.assertEqual((0, ""), self.run_tool("atomic-sarif", "--github", "-z")[:2])
 
+    def test_options_may_stand_between_names(self) -> None:
+        for name in ("a.java", "b.java", "-c.java"):
+            self.write(name, REFUSED)
+        text = self.run_tool("atomic-sarif", "a.java", "--github", "b.java", "--", "-c.java").text
+        self.assertEqual(3, text.count("::error file="))
+
     def test_words_that_do_not_fit_together(self) -> None:
         for words in ("", "-z f.java", "- f.java", "--what"):
             with self.subTest(words=words):
