@@ -26,7 +26,7 @@ WHY = "the built `atomic_why`, proved or not"
 class Words(argparse.ArgumentParser):
     """A parser that takes options between other words, too."""
 
-    def parse_args(self, args: Optional[Sequence[str]] = None, namespace: Any = None) -> Any:  # type: ignore[override]
+    def parse_args(self, args: Optional[Sequence[str]] = None, namespace: Any = None) -> Any:
         return self.parse_intermixed_args(args, namespace)
 
 
