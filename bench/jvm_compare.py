@@ -1,7 +1,7 @@
 """Holds what `atomic run` says of sources and schedules against what a JVM does with the same.
 
-    comparison = Comparison(program, server)
-    comparison.batch(sources, chooser, schedules)     a line for each difference
+    comparison = Comparison(program, server, schedules=3)
+    comparison.batch(cases)                           a text for each difference
 
 Of each source the plain run is compared (`jvm_java`), and some random schedules are run step by step by real threads (`jvm_steps`).
 """
@@ -11,6 +11,7 @@ import random
 import subprocess
 import tempfile
 from dataclasses import dataclass
+from typing import Iterator
 
 import schedules as schedule_texts
 from jvm_java import java_of
@@ -22,17 +23,22 @@ from jvm_steps import stepping_of
 
 @dataclass
 class Case:
-    """A source with its number in the batch."""
+    """A source with a number of its own, and who draws its schedules."""
 
     number: int
     data: bytes
     source: Source
+    chooser: random.Random
 
     def plain_package(self) -> str:
         return f"p{self.number}"
 
     def steps_package(self) -> str:
         return f"s{self.number}"
+
+    @staticmethod
+    def of(number: int, data: bytes, seed: str) -> "Case":
+        return Case(number, data, Source(data), random.Random(f"{seed} schedules"))
 
     def files(self) -> dict[str, str]:
         """The two texts of its program, by the names of their files."""
@@ -73,18 +79,18 @@ def first_difference(ours: str, theirs: str) -> str:
 class Comparison:
     """Counts what was compared. With a machine of altered rules the built program isn't asked."""
 
-    def __init__(self, program: "Program | None", server: Server, machine: type[Machine] = Machine) -> None:
-        self.program, self.server, self.machine = program, server, machine
+    def __init__(self, program: "Program | None", server: Server, machine: type[Machine] = Machine, schedules: int = 3) -> None:
+        self.program, self.server, self.machine, self.schedules = program, server, machine, schedules
         self.counts: collections.Counter[str] = collections.Counter()
 
-    def batch(self, sources: list[bytes], chooser: random.Random, schedules: int) -> list[str]:
-        cases = [Case(number, data, Source(data)) for number, data in enumerate(sources)]
-        wrong = self.compiled(cases)
+    def batch(self, cases: list[Case]) -> list[str]:
+        refused = self.compiled(cases)
+        found = []
         for case in cases:
-            if not wrong.get(case.number):
-                wrong[case.number] = list(self.differences(case, chooser, schedules))
+            wrong = refused.get(case.number) or list(self.differences(case))
+            found += [f"{text}\n{case.data.decode()}" for text in wrong]
         self.counts["programs"] += len(cases)
-        return [f"{text}\n{cases[number].data.decode()}" for number, texts in wrong.items() for text in texts]
+        return found
 
     def compiled(self, cases: list[Case]) -> dict[int, list[str]]:
         """What javac says of the cases that it refuses."""
@@ -95,10 +101,10 @@ class Comparison:
             self.server.compile({name: text for name, text in files.items() if int(name.split("/")[0][1:]) not in wrong})
         return wrong
 
-    def differences(self, case: Case, chooser: random.Random, schedules: int):  # type: ignore[no-untyped-def]
+    def differences(self, case: Case) -> Iterator[str]:
         yield from self.plain(case)
-        for _ in range(schedules):
-            yield from self.steps(case, chooser)
+        for _ in range(self.schedules):
+            yield from self.steps(case)
 
     def answer(self, case: Case, run: Run) -> tuple[str, list[str]]:
         """The text of the state, and what is wrong with the program's own answer."""
@@ -112,7 +118,7 @@ class Comparison:
                 wrong.append(f"status {status}, {line!r} where thread {run.waiting} waits")
         return text, wrong
 
-    def plain(self, case: Case):  # type: ignore[no-untyped-def]
+    def plain(self, case: Case) -> Iterator[str]:
         machine = self.machine(case.source)
         try:
             run = plain_run(machine)
@@ -135,10 +141,10 @@ class Comparison:
         if given != without_locks(text):
             yield f"plain: {first_difference(without_locks(text), given)}"
 
-    def steps(self, case: Case, chooser: random.Random):  # type: ignore[no-untyped-def]
+    def steps(self, case: Case) -> Iterator[str]:
         machine = self.machine(case.source)
         try:
-            run = drawn_run(machine, chooser)
+            run = drawn_run(machine, case.chooser)
         except Endless:
             self.counts["endless"] += 1
             return

@@ -14,7 +14,7 @@ import tempfile
 from types import TracebackType
 
 CLASSES = os.path.join(os.path.dirname(os.path.abspath(__file__)), "jvm")
-OPTIONS = ["-XX:+UseSerialGC", "-Xshare:auto", "-Xss2m", "-Xmx1g", "-Duser.language=en", "-XX:MaxJavaStackTraceDepth=64"]
+OPTIONS = ["-XX:+UseSerialGC", "-Xshare:auto", "-Xss2m", "-Xmx1g", "-Duser.language=en", "-XX:TieredStopAtLevel=1"]
 
 
 class NoJava(Exception):

@@ -15,13 +15,13 @@ from dataclasses import dataclass, field
 NUMBERS = ["0", "0", "1", "1", "2", "3", "7", "10", "46341", "65536", "2147483647", "-2147483648", "1000000007"]
 DEPTHS = [2, 2, 3, 3, 5, 8, 8, 20, 20, 60, 300, 990, 995, 996, 997, 998, 999, 1000, 1500, 2147483647]
 FILLERS = ["\t", "\n", "  ", "\r\n", "\f", " /**/ ", " /* { */ ", " // }\n", " /*/ ** / */ ", "\r", " // \\\r", " /* \\\\u002a/ */ "]
-SAY = (
-    "class Say { int p(int x) { System.out.println(x); return x; } "
-    "boolean q(int x, boolean b) { System.out.println(x); return b; } "
-    "A r(int x, A a) { System.out.println(x); return a; } "
-    "int d(int n) { if (n <= 0) { return 0; } return this.d(n - 1) + 1; } "
-    "int e(int n) { int x = 0; if (n > 0) { synchronized (this) { x = this.e(n - 1); } } return x + n; } }"
-)
+SAY = {
+    ".p(": "int p(int x) { System.out.println(x); return x; }",
+    ".q(": "boolean q(int x, boolean b) { System.out.println(x); return b; }",
+    ".r(": "A r(int x, A a) { System.out.println(x); return a; }",
+    ".d(": "int d(int n) { if (n <= 0) { return 0; } return this.d(n - 1) + 1; }",
+    ".e(": "int e(int n) { int x = 0; if (n > 0) { synchronized (this) { x = this.e(n - 1); } } return x + n; }",
+}
 
 
 @dataclass
@@ -94,15 +94,16 @@ class Program:
     def text(self) -> str:
         base = Class("A", None)
         self.classes = [base]
-        for name in ["B", "C", "D"][: self.random.randint(1, 3)]:
+        for name in ["B", "C", "D"][: self.random.choice([0, 1, 1, 1, 2, 2, 3])]:
             self.classes.append(Class(name, self.random.choice(self.classes) if self.some(0.7) else None))
         for cls in self.classes:
             self.declare_fields(cls)
         self.declare_methods()
         workers = self.workers()
         main = Class("Main", None)
-        texts = [SAY] + [self.class_text(cls) for cls in self.classes + workers]
-        texts.append(self.main_text(main, workers))
+        texts = [self.class_text(cls) for cls in self.classes + workers] + [self.main_text(main, workers)]
+        said = [method for call, method in SAY.items() if any(call in text for text in texts)]
+        texts.append(f"class Say {{ {' '.join(said)} }}")
         self.random.shuffle(texts)
         return " ".join(texts)
 
@@ -126,7 +127,7 @@ class Program:
 
     def declare_methods(self) -> None:
         kinds = []
-        for rank in range(self.random.randint(2, 4)):
+        for rank in range(self.random.choice([1, 1, 2, 2, 3])):
             params = [Variable("xyz"[k], self.type(), self.some(0.4)) for k in range(self.random.randint(0, 3))]
             behind = " requires this" if self.some(0.1) else ""
             kinds.append(Method(f"m{rank}", rank + 1, self.pick(["void", self.type()]), params, "atomic " if self.some(0.15) else "", behind))
@@ -135,7 +136,7 @@ class Program:
 
     def workers(self) -> list[Class]:
         found = []
-        for name in ["V", "W"][: self.random.randint(0, 2)]:
+        for name in ["V", "W"][: self.random.choice([0, 1, 1, 1, 2])]:
             cls = Class(name, self.random.choice(found) if found and self.some(0.6) else None, is_runnable=True)
             letter = name.lower()
             for k in range(self.random.randint(0 if cls.above else 1, 2)):
@@ -172,7 +173,7 @@ class Program:
         own = [Variable(letters["xyz".index(p.name)], p.ty, p.final) for p in method.params]
         self.scope = list(own)
         params = ", ".join(f"{'final ' * p.final}{p.ty} {p.name}" for p in own)
-        body = self.statements(2)
+        body = self.statements(self.random.choice([0, 1, 1, 2]), 2)
         if method.result != "void":
             body.append(f"return {self.expression(method.result, 2)};")
         public = "public " if self.some(0.2) else ""
@@ -183,7 +184,7 @@ class Program:
 
     def run_text(self) -> str:
         self.begin(9, "void")
-        return f"{self.pick(['public ', ''])}void run() {{ {' '.join(self.statements(3, 4))} }}"
+        return f"{self.pick(['public ', ''])}void run() {{ {' '.join(self.statements(2, 3))} }}"
 
     def main_text(self, main: Class, workers: list[Class]) -> str:
         self.cls = main
@@ -194,7 +195,7 @@ class Program:
             worker = self.random.choice(workers)
             body.append(f"new Thread({self.made(worker, 2)}).start();")
             body += self.statements(1, 1)
-        body += self.statements(3, 4)
+        body += self.statements(2, 3)
         return f"class Main extends Say {{ void main() {{ {' '.join(body)} }} }}"
 
     def filled(self) -> list[str]:

@@ -1,0 +1,85 @@
+#!/usr/bin/env python3
+"""Holds the machine of `atomic run` against a real JVM.
+
+Random sources of the language are printed as Java, compiled by javac, and run in one JVM: plainly, main to its end and then each
+thread in the order of its start; and step by step, by real threads with real monitors that take turns as a random schedule says.
+Printed lines, the ends of threads, objects with their fields, locks, and each step's receiver, field and value have to be those of
+`atomic run`. What is known to differ stands in docs/java-differences.md. PROGRAM is the built `atomic`, proved or not.
+"""
+import argparse
+import datetime
+import os
+import random
+import sys
+
+import jvm_source
+from jvm_compare import Case, Comparison, Program
+from jvm_server import NoJava, Server, version
+from random_source import workers
+
+BATCH = 100
+
+
+def drawn(seed: str) -> bytes:
+    """A random source; one of eight is a program of `bench/random_source.py` whose threads meet at shared cells."""
+    chooser = random.Random(seed)
+    if chooser.random() < 0.12:
+        return workers(chooser, ["guarded_by", "write_guarded_by"], chooser.random() < 0.5).encode()
+    return jvm_source.source(chooser)
+
+
+def cases(words: argparse.Namespace, first: int, count: int) -> list[Case]:
+    seeds = [(number, f"{words.seed} {number}") for number in range(first, first + count)]
+    return [Case.of(number, drawn(seed), seed) for number, seed in seeds]
+
+
+def compare(words: argparse.Namespace, server: Server) -> int:
+    """How many differences there are."""
+    comparison = Comparison(Program(words.program), server, schedules=words.schedules)
+    wrong = 0
+    for first in range(words.first, words.first + words.programs, BATCH):
+        found = comparison.batch(cases(words, first, min(BATCH, words.first + words.programs - first)))
+        wrong += len(found)
+        for text in found:
+            print(text, end="\n\n", flush=True)
+        if words.progress:
+            print(f"{now()} up to {first + BATCH}: {told(comparison)}, {wrong} wrong", flush=True)
+    print(f"{told(comparison)}, {wrong} wrong; {version()}")
+    return wrong
+
+
+def now() -> str:
+    return datetime.datetime.now().strftime("%H:%M")
+
+
+def told(comparison: Comparison) -> str:
+    return ", ".join(f"{count} {what}" for what, count in comparison.counts.items())
+
+
+def parsed() -> argparse.Namespace:
+    parser = argparse.ArgumentParser(description=__doc__, formatter_class=argparse.RawDescriptionHelpFormatter)
+    words = parser.add_subparsers(dest="word", required=True)
+    one = words.add_parser("compare", help="random programs, each plainly and by random schedules")
+    one.add_argument("program", metavar="PROGRAM")
+    one.add_argument("--programs", type=int, default=1000, help="how many (1000)")
+    one.add_argument("--schedules", type=int, default=3, help="random schedules for each (3)")
+    one.add_argument("--seed", default="jvm", help="a word that the sources depend on (jvm)")
+    one.add_argument("--first", type=int, default=0, help="the number of the first source (0); a source depends on the seed and its number")
+    one.add_argument("--progress", action="store_true", help="a line for each hundred programs")
+    return parser.parse_args()
+
+
+def main() -> int:
+    words = parsed()
+    if not os.access(words.program, os.X_OK):
+        print(f"jvm.py: there is no program {words.program}", file=sys.stderr)
+        return 2
+    try:
+        with Server() as server:
+            return 1 if compare(words, server) else 0
+    except NoJava as reason:
+        print(f"jvm.py: {reason}", file=sys.stderr)
+        return 3
+
+
+sys.exit(main())
