@@ -14,6 +14,7 @@ import sys
 
 import jvm_source
 from jvm_compare import Case, Comparison, Program
+from jvm_controls import CONTROLS, DEEPEST, name_of
 from jvm_server import NoJava, Server, version
 from random_source import workers
 
@@ -48,6 +49,20 @@ def compare(words: argparse.Namespace, server: Server) -> int:
     return wrong
 
 
+def controls(words: argparse.Namespace, server: Server) -> int:
+    """How many altered rules aren't noticed."""
+    at_hand = cases(words, 0, words.programs)
+    at_hand += [Case.of(words.programs + k, DEEPEST.encode(), f"deepest {k}") for k in range(3)]
+    Comparison(None, server).compiled(at_hand)
+    missed = 0
+    for machine in CONTROLS:
+        comparison = Comparison(None, server, machine)
+        number = next((case.number for case in at_hand if any(comparison.differences(case))), None)
+        missed += number is None
+        print(f"{'NOT NOTICED' if number is None else f'noticed in source {number}'}: {name_of(machine)}", flush=True)
+    return missed
+
+
 def now() -> str:
     return datetime.datetime.now().strftime("%H:%M")
 
@@ -66,6 +81,10 @@ def parsed() -> argparse.Namespace:
     one.add_argument("--seed", default="jvm", help="a word that the sources depend on (jvm)")
     one.add_argument("--first", type=int, default=0, help="the number of the first source (0); a source depends on the seed and its number")
     one.add_argument("--progress", action="store_true", help="a line for each hundred programs")
+    two = words.add_parser("controls", help="altered rules of evaluation, each of which has to be noticed")
+    two.add_argument("program", metavar="PROGRAM")
+    two.add_argument("--programs", type=int, default=150, help="how many (150)")
+    two.add_argument("--seed", default="controls", help="a word that the sources depend on (controls)")
     return parser.parse_args()
 
 
@@ -76,7 +95,7 @@ def main() -> int:
         return 2
     try:
         with Server() as server:
-            return 1 if compare(words, server) else 0
+            return 1 if {"compare": compare, "controls": controls}[words.word](words, server) else 0
     except NoJava as reason:
         print(f"jvm.py: {reason}", file=sys.stderr)
         return 3

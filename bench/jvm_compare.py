@@ -21,6 +21,9 @@ from jvm_server import Server
 from jvm_steps import stepping_of
 
 
+MEMORY = "/dev/shm"
+
+
 @dataclass
 class Case:
     """A source with a number of its own, and who draws its schedules."""
@@ -54,7 +57,7 @@ class Program:
 
     def __init__(self, path: str) -> None:
         self.path = path
-        self.folder = tempfile.TemporaryDirectory(prefix="atomic-run-")
+        self.folder = tempfile.TemporaryDirectory(prefix="atomic-run-", dir=MEMORY if os.path.isdir(MEMORY) else None)
         self.file, self.schedule = (os.path.join(self.folder.name, name) for name in ("source", "schedule"))
 
     def run(self, data: bytes, schedule: list[int]) -> tuple[int, str]:

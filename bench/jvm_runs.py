@@ -11,8 +11,7 @@ from dataclasses import dataclass, field
 
 from jvm_reading import Machine, Stuck, shown
 
-MOST_PLAIN = 6000
-MOST_DRAWN = 4000
+MOST_STEPS = 16000
 
 
 class Endless(Exception):
@@ -93,7 +92,7 @@ class Course:
 
 def plain_run(machine: Machine) -> Run:
     """Main to its end, then each thread to its own, up to the first that waits for a lock."""
-    course = Course(machine, MOST_PLAIN)
+    course = Course(machine, MOST_STEPS)
     number = 0
     while number < len(machine.threads):
         mark = len(course.run.schedule), len(course.run.steps)
@@ -111,10 +110,10 @@ def is_too_deep(machine: Machine) -> bool:
 
 def drawn_run(machine: Machine, chooser: random.Random) -> Run:
     """A random schedule: to the end of all threads, or cut off before it."""
-    most = chooser.choice([30, 100, 300, 1000, MOST_DRAWN // 2, MOST_DRAWN // 2])
+    most = chooser.choice([30, 100, 300, 1000, 3000, MOST_STEPS - 1000])
     lengths = chooser.choice([[1], [1, 2, 3], [1, 2, 5, 20], [5, 40, 200]])
     first = chooser.choice([0, 0, 20, 100])
-    course = Course(machine, MOST_DRAWN)
+    course = Course(machine, MOST_STEPS)
     number = 0
     while len(course.run.schedule) < most:
         able = [k for k in range(len(machine.threads)) if machine.can_step(k)]

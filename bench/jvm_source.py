@@ -136,8 +136,8 @@ class Program:
 
     def workers(self) -> list[Class]:
         found = []
-        for name in ["V", "W"][: self.random.choice([0, 1, 1, 1, 2])]:
-            cls = Class(name, self.random.choice(found) if found and self.some(0.6) else None, is_runnable=True)
+        for name in ["V", "W"][: self.random.choice([0, 1, 1, 2, 2])]:
+            cls = Class(name, self.random.choice(found) if found and self.some(0.7) else None, is_runnable=True)
             letter = name.lower()
             for k in range(self.random.randint(0 if cls.above else 1, 2)):
                 cls.fields.append(Variable(f"{letter}{k}", self.class_type(), True))
@@ -155,7 +155,7 @@ class Program:
             sets = " ".join(f"this.{f.name} = {f.name};" for f in finals)
             members.insert(self.random.randint(0, len(members)), f"{cls.name}({params}) {{ {sets} }}")
         members += [self.method_text(m) for m in cls.methods]
-        if cls.is_runnable and (not cls.above or self.some(0.5)):
+        if cls.is_runnable and (not cls.above or self.some(0.6)):
             members.append(self.run_text())
         above = cls.above.name if cls.above else "Say"
         runnable = " implements Runnable" if cls.is_runnable and (not cls.above or self.some(0.3)) else ""
@@ -342,6 +342,9 @@ class Program:
             return self.value("int", depth)
         if self.some(0.1):
             return f"- {self.operand(depth)}"
+        if self.some(0.06):
+            least = self.pick(["-2147483648", "(2147483647 + 1)", "(this.p(-2147483648))"])
+            return f"{least} {self.pick(['/', '/', '%', '*', '-'])} {self.pick(['-1', '(this.p(-1))'])}"
         sign = self.pick(["+", "-", "*", "+", "-", "*", "/", "%"])
         left, right = self.operand(depth), self.operand(depth)
         if sign in "/%" and not self.some(self.risk * 5):

@@ -9,6 +9,7 @@ import java.util.List;
 /** Runs a program by real threads, of which each waits before each visible step for its turn. */
 final class Turns {
     private static final long MOST_MILLISECONDS = 20_000;
+    private static final long LOOK_MILLISECONDS = 200;
 
     final Course course;
     private final int[] schedule;
@@ -80,10 +81,36 @@ final class Turns {
 
     private synchronized boolean awaitEnd() throws InterruptedException {
         long end = System.currentTimeMillis() + MOST_MILLISECONDS;
+        String before = null;
         while (!isOver && System.currentTimeMillis() < end) {
-            wait(MOST_MILLISECONDS);
+            wait(LOOK_MILLISECONDS);
+            String now = isOver ? null : anyWait();
+            if (now != null && now.equals(before)) {
+                wrong = now;
+                isOver = true;
+            }
+            before = now;
         }
         return isOver;
+    }
+
+    /** How some thread waits for a lock, though it was its turn; null where none does. */
+    private String anyWait() {
+        return runners.stream().map(this::waits).filter(line -> line != null).findFirst().orElse(null);
+    }
+
+    /** How the JVM says that the thread waits for the lock of an object that another thread holds; null where it doesn't. */
+    private String waits(Runner runner) {
+        ThreadInfo told = ManagementFactory.getThreadMXBean().getThreadInfo(runner.getId());
+        if (told == null || told.getThreadState() != Thread.State.BLOCKED) {
+            return null;
+        }
+        for (Runner other : runners) {
+            if (other.getId() == told.getLockOwnerId()) {
+                return "thread " + runner.number() + " waits for " + Recorded.address(runner.wanted) + " held by " + other.number();
+            }
+        }
+        return null;
     }
 
     synchronized boolean isAborted() {
@@ -107,16 +134,12 @@ final class Turns {
             give(runner);
         }
         long end = System.currentTimeMillis() + MOST_MILLISECONDS;
-        while (runner.getState() != Thread.State.BLOCKED && System.currentTimeMillis() < end) {
+        String line = waits(runner);
+        while (line == null && System.currentTimeMillis() < end) {
             Thread.sleep(0, 100_000);
+            line = waits(runner);
         }
-        ThreadInfo told = ManagementFactory.getThreadMXBean().getThreadInfo(runner.getId());
-        for (Runner other : runners) {
-            if (told != null && other.getId() == told.getLockOwnerId()) {
-                return "thread " + number + " waits for " + Recorded.address(runner.wanted) + " held by " + other.number();
-            }
-        }
-        return "thread " + number + " doesn't wait";
+        return line == null ? "thread " + number + " doesn't wait" : line;
     }
 
     /** Ends all threads. */
