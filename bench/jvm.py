@@ -12,10 +12,12 @@ import os
 import random
 import sys
 
+import jvm_page
 import jvm_source
 from jvm_compare import Case, Comparison, Program
 from jvm_controls import CONTROLS, DEEPEST, name_of
 from jvm_server import NoJava, Server, version
+from jvm_types import compare_types
 from random_source import workers
 
 BATCH = 100
@@ -51,8 +53,8 @@ def compare(words: argparse.Namespace, server: Server) -> int:
 
 def controls(words: argparse.Namespace, server: Server) -> int:
     """How many altered rules aren't noticed."""
-    at_hand = cases(words, 0, words.programs)
-    at_hand += [Case.of(words.programs + k, DEEPEST.encode(), f"deepest {k}") for k in range(3)]
+    at_hand = cases(words, words.first, words.programs)
+    at_hand += [Case.of(words.first + words.programs + k, DEEPEST.encode(), f"deepest {k}") for k in range(3)]
     Comparison(None, server).compiled(at_hand)
     missed = 0
     for machine in CONTROLS:
@@ -63,6 +65,25 @@ def controls(words: argparse.Namespace, server: Server) -> int:
     return missed
 
 
+def types(words: argparse.Namespace, server: Server) -> int:
+    """How many sources one of both takes and the other refuses, but for what is known."""
+    seeds = [f"{words.seed} {number}" for number in range(words.first, words.first + words.programs)]
+    counts, wrong = compare_types(Program(words.program), server, seeds)
+    for text in wrong:
+        print(text, end="\n\n")
+    print(", ".join(f"{count} {said}" for said, count in sorted(counts.items())))
+    return len(wrong)
+
+
+def page(words: argparse.Namespace, server: Server) -> int:
+    """How many rows of the page don't hold."""
+    count, wrong = jvm_page.tried(Program(words.program), server)
+    for text in wrong:
+        print(text, end="\n\n")
+    print(f"{count} rows, {len(wrong)} wrong")
+    return len(wrong)
+
+
 def now() -> str:
     return datetime.datetime.now().strftime("%H:%M")
 
@@ -71,20 +92,42 @@ def told(comparison: Comparison) -> str:
     return ", ".join(f"{count} {what}" for what, count in comparison.counts.items())
 
 
+def sample(words: argparse.Namespace, server: Server) -> int:
+    """A little of everything."""
+    print(version())
+    wrong = page(words, server)
+    for what, programs in ((compare, 40), (types, 60), (controls, 60)):
+        words.programs, words.schedules, words.first, words.progress = programs, 3, 0, False
+        words.seed = SEEDS[what.__name__]
+        wrong += what(words, server)
+    return wrong
+
+
+WORDS = {"compare": compare, "controls": controls, "types": types, "page": page, "sample": sample}
+HELP = {
+    "compare": "random programs, each plainly and by random schedules",
+    "controls": "altered rules of evaluation, each of which has to be noticed",
+    "types": "what check and javac say of random sources near the border of types",
+    "page": "the rows of docs/java-differences.md",
+    "sample": "a little of everything, for the tests of each change",
+}
+PROGRAMS = {"compare": 1000, "controls": 150, "types": 1000}
+SEEDS = {"compare": "jvm", "controls": "controls", "types": "types"}
+
+
 def parsed() -> argparse.Namespace:
     parser = argparse.ArgumentParser(description=__doc__, formatter_class=argparse.RawDescriptionHelpFormatter)
     words = parser.add_subparsers(dest="word", required=True)
-    one = words.add_parser("compare", help="random programs, each plainly and by random schedules")
-    one.add_argument("program", metavar="PROGRAM")
-    one.add_argument("--programs", type=int, default=1000, help="how many (1000)")
-    one.add_argument("--schedules", type=int, default=3, help="random schedules for each (3)")
-    one.add_argument("--seed", default="jvm", help="a word that the sources depend on (jvm)")
-    one.add_argument("--first", type=int, default=0, help="the number of the first source (0); a source depends on the seed and its number")
-    one.add_argument("--progress", action="store_true", help="a line for each hundred programs")
-    two = words.add_parser("controls", help="altered rules of evaluation, each of which has to be noticed")
-    two.add_argument("program", metavar="PROGRAM")
-    two.add_argument("--programs", type=int, default=150, help="how many (150)")
-    two.add_argument("--seed", default="controls", help="a word that the sources depend on (controls)")
+    for word, text in HELP.items():
+        one = words.add_parser(word, help=text, description=text)
+        one.add_argument("program", metavar="PROGRAM", help="the built `atomic`, proved or not")
+        if word in PROGRAMS:
+            one.add_argument("--programs", type=int, default=PROGRAMS[word], help=f"how many sources ({PROGRAMS[word]})")
+            one.add_argument("--seed", default=SEEDS[word], help=f"a word that the sources depend on ({SEEDS[word]})")
+            one.add_argument("--first", type=int, default=0, help="the number of the first source (0)")
+        if word == "compare":
+            one.add_argument("--schedules", type=int, default=3, help="random schedules of each (3)")
+            one.add_argument("--progress", action="store_true", help="a line for each hundred sources")
     return parser.parse_args()
 
 
@@ -95,10 +138,11 @@ def main() -> int:
         return 2
     try:
         with Server() as server:
-            return 1 if {"compare": compare, "controls": controls}[words.word](words, server) else 0
+            return 1 if WORDS[words.word](words, server) else 0
     except NoJava as reason:
         print(f"jvm.py: {reason}", file=sys.stderr)
         return 3
 
 
-sys.exit(main())
+if __name__ == "__main__":
+    sys.exit(main())

@@ -9,6 +9,7 @@ import java.util.HashMap;
 import java.util.List;
 import java.util.Locale;
 import java.util.Map;
+import java.util.regex.Pattern;
 import javax.tools.Diagnostic;
 import javax.tools.DiagnosticListener;
 import javax.tools.FileObject;
@@ -57,16 +58,23 @@ final class Compiler {
         return found;
     }
 
-    /** The first error of each file. */
+    /** The first error of each file, but one of unreachable statements only where there is no other. */
     private static final class Errors implements DiagnosticListener<JavaFileObject> {
+        private static final Pattern IS_REASON = Pattern.compile("cannot (override|implement) ");
         final Map<String, String> first = new HashMap<>();
+
+        private static String first(String one, String other) {
+            return one.endsWith("unreachable statement") ? other : one;
+        }
 
         @Override
         public void report(Diagnostic<? extends JavaFileObject> told) {
             if (told.getKind() == Diagnostic.Kind.ERROR) {
                 String name = told.getSource() == null ? "" : told.getSource().getName();
                 String place = told.getLineNumber() + ":" + told.getColumnNumber();
-                first.putIfAbsent(name, place + ": " + told.getMessage(Locale.ENGLISH).lines().findFirst().orElse(""));
+                String[] lines = told.getMessage(Locale.ENGLISH).strip().split("\\s*\n\\s*");
+                // the first line says what is wrong, the last one of some why
+                first.merge(name, place + ": " + (IS_REASON.matcher(lines[0]).find() ? lines[lines.length - 1] : lines[0]), Errors::first);
             }
         }
     }

@@ -39,6 +39,10 @@ final class Course {
         return ordered;
     }
 
+    String printed() {
+        return printed.toString(StandardCharsets.UTF_8);
+    }
+
     Object newMain() throws ReflectiveOperationException {
         var constructor = loader.loadClass(packageName + ".Main").getDeclaredConstructor();
         constructor.setAccessible(true);
@@ -79,7 +83,7 @@ final class Course {
     /** The text of the state, as docs/formats.md has it; the lines of locks and threads are given. */
     String state(List<String> locks, List<String> threads) throws ReflectiveOperationException {
         StringBuilder text = new StringBuilder();
-        printed.toString(StandardCharsets.UTF_8).lines().forEach(line -> text.append("print ").append(line).append('\n'));
+        printed().lines().forEach(line -> text.append("print ").append(line).append('\n'));
         for (Recorded object : ordered()) {
             text.append("object ").append(Recorded.address(object)).append(' ').append(object.getClass().getSimpleName());
             fields(object, object.getClass(), text);

@@ -21,6 +21,7 @@ import java.util.List;
  * {@code yes} the classes can be run from then on, and those of earlier requests no more.
  * <li>{@code plain PACKAGE COUNT}: runs {@code main} and then the first COUNT - 1 started threads, each to its end, all by one thread of
  * the JVM; the text of the state.
+ * <li>{@code real PACKAGE}: runs the program as Java does; what it prints.
  * <li>{@code steps PACKAGE THREADS WAITING}: runs the program by real threads, which make their visible steps in the order that THREADS
  * tells; the text of the state, a line for each step, and how the thread WAITING, if one is named, waits for a lock then.
  * </ul>
@@ -47,6 +48,8 @@ public final class Server {
                 return compiler.compile(request.get(1).equals("yes"), request.subList(2, request.size()));
             case "plain":
                 return Plain.run(compiler.loader(), request.get(1), Integer.parseInt(request.get(2)));
+            case "real":
+                return Real.run(compiler.loader(), request.get(1));
             default:
                 return Turns.run(compiler.loader(), request.get(1), request.get(2), request.get(3));
         }
