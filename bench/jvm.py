@@ -18,7 +18,7 @@ from jvm_compare import Case, Comparison, Program
 from jvm_controls import CONTROLS, DEEPEST, name_of
 from jvm_server import NoJava, Server, version
 from jvm_types import compare_types
-from random_source import workers
+from random_shapes import workers
 
 BATCH = 100
 

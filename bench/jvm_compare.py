@@ -172,6 +172,7 @@ class Comparison:
         """The steps with the one that waits, and the line that says so."""
         self.counts["waits"] += 1
         number = run.waiting
+        assert number is not None
         address = machine.threads[number].frames[-1].operands[-1]
         try:
             machine.step(number)

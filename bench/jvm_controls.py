@@ -2,12 +2,15 @@
 
 A rule is altered where languages differ, or where an interpreter is easily wrong.
 """
-from typing import Any
+from __future__ import annotations
 
-from jvm_reading import Class, Code, Fault, Machine, Method, Part, Step, shown, wrapped
+from collections.abc import Iterable
+from typing import Any, Optional
+
+from jvm_reading import ACTIONS, Class, Code, Fault, Instruction, Machine, Method, Part, Step, Thread, shown, wrapped
 
 LEAST, GREATEST = -(2**31), 2**31 - 1
-CONTROLS: list[type["Altered"]] = []
+CONTROLS: list[type[Altered]] = []
 
 # A source whose deepest call has as many frames as the machine lets a thread have.
 DEEPEST = "class Main { int d(int n) { if (n <= 0) { return 0; } return this.d(n - 1) + 1; } void main() { System.out.println(this.d(998)); } }"
@@ -15,6 +18,10 @@ DEEPEST = "class Main { int d(int n) { if (n <= 0) { return 0; } return this.d(n
 
 class AlteredCode(Code):
     """Code that is made otherwise."""
+
+    def add(self, what: str, operand: Any, part: Part, following: int) -> int:
+        """An instruction at the part's own place."""
+        return self.put(Instruction(what, operand, part, part.at, following))
 
 
 class Altered(Machine):
@@ -28,7 +35,15 @@ class Altered(Machine):
     def code(self, method: Method) -> Code:
         if method not in self.codes:
             self.codes[method] = self.made_code(self.source, method)
-        return self.codes[method]  # type: ignore[no-any-return]
+        return self.codes[method]
+
+    def act(self, step: Step, thread: Thread, item: Instruction) -> Optional[int]:
+        """What this machine does itself; else what the machine does."""
+        own = getattr(self, f"do_{item.what}", None)
+        if own is None:
+            return super().act(step, thread, item)
+        own(step, thread, thread.frames[-1], item.operand)
+        return None
 
     def do_check(self, step: Step, thread: Any, frame: Any, _: None) -> None:
         self.object_at(frame.operands[-1])
@@ -41,37 +56,37 @@ class Altered(Machine):
 class WriteLooksFirst(Altered):
     """the receiver of a write is looked at before the value is evaluated"""
 
-    class made_code(AlteredCode):  # type: ignore[no-redef]
+    class made_code(AlteredCode):
         def simple(self, part: Part, following: int) -> int:
             if part.word != "put":
-                return super().simple(part, following)  # type: ignore[no-any-return]
-            place = self.put("put", part.name, part, part.at, following)
-            place = self.put("check", None, part, part.at, self.expression(part.parts[1], place))
-            return self.expression(part.parts[0], place)  # type: ignore[no-any-return]
+                return super().simple(part, following)
+            place = self.add("put", part.name, part, following)
+            place = self.add("check", None, part, self.expression(part.parts[1], place))
+            return self.expression(part.parts[0], place)
 
 
 class CallLooksFirst(Altered):
     """the receiver of a call is looked at before the arguments are evaluated"""
 
-    class made_code(AlteredCode):  # type: ignore[no-redef]
+    class made_code(AlteredCode):
         def expression(self, part: Part, following: int) -> int:
             if part.word != "call":
-                return super().expression(part, following)  # type: ignore[no-any-return]
-            place = self.expressions(part.parts[1:], self.put("call", part, part, part.at, following))
-            return self.expression(part.parts[0], self.put("check", None, part, part.at, place))
+                return super().expression(part, following)
+            place = self.expressions(part.parts[1:], self.add("call", part, part, following))
+            return self.expression(part.parts[0], self.add("check", None, part, place))
 
 
 class ValueBeforeReceiver(Altered):
     """the value of a write is evaluated before the receiver"""
 
-    class made_code(AlteredCode):  # type: ignore[no-redef]
+    class made_code(AlteredCode):
         def simple(self, part: Part, following: int) -> int:
             if part.word != "put":
-                return super().simple(part, following)  # type: ignore[no-any-return]
-            place = self.put("put", part.name, part, part.at, self.put("swap", None, part, part.at, following))
+                return super().simple(part, following)
+            place = self.add("put", part.name, part, self.add("swap", None, part, following))
             self.items[place], self.items[place - 1] = self.items[place - 1], self.items[place]
-            self.items[place][4], self.items[place - 1][4] = place - 1, following
-            return self.expressions(list(reversed(part.parts)), place)  # type: ignore[no-any-return]
+            self.items[place].following, self.items[place - 1].following = place - 1, following
+            return self.expressions(list(reversed(part.parts)), place)
 
     def do_swap(self, step: Step, thread: Any, frame: Any, _: None) -> None:
         frame.operands[-2:] = reversed(frame.operands[-2:])
@@ -80,32 +95,32 @@ class ValueBeforeReceiver(Altered):
 class RightOperandFirst(Altered):
     """the right operand is evaluated before the left one"""
 
-    class made_code(AlteredCode):  # type: ignore[no-redef]
+    class made_code(AlteredCode):
         def expression(self, part: Part, following: int) -> int:
             if part.word != "bin":
-                return super().expression(part, following)  # type: ignore[no-any-return]
-            place = self.put("bin", part.name, part, part.at, following)
-            return self.expressions(list(reversed(part.parts)), place)  # type: ignore[no-any-return]
+                return super().expression(part, following)
+            place = self.add("bin", part.name, part, following)
+            return self.expressions(list(reversed(part.parts)), place)
 
     def do_bin(self, step: Step, thread: Any, frame: Any, sign: str) -> None:
         frame.operands[-2:] = reversed(frame.operands[-2:])
-        super().do_bin(step, thread, frame, sign)
+        ACTIONS["bin"](self, step, thread, sign)
 
 
 class LastArgumentFirst(Altered):
     """arguments are evaluated from right to left"""
 
-    class made_code(AlteredCode):  # type: ignore[no-redef]
+    class made_code(AlteredCode):
         def expression(self, part: Part, following: int) -> int:
             if part.word != "call":
-                return super().expression(part, following)  # type: ignore[no-any-return]
-            place = self.put("call", part, part, part.at, following)
-            return self.expressions([part.parts[0], *reversed(part.parts[1:])], place)  # type: ignore[no-any-return]
+                return super().expression(part, following)
+            place = self.add("call", part, part, following)
+            return self.expressions([part.parts[0], *reversed(part.parts[1:])], place)
 
     def do_call(self, step: Step, thread: Any, frame: Any, part: Part) -> None:
         first = len(frame.operands) - len(part.parts) + 1
         frame.operands[first:] = reversed(frame.operands[first:])
-        super().do_call(step, thread, frame, part)
+        ACTIONS["call"](self, step, thread, part)
 
 
 class AndEvaluatesBoth(Altered):
@@ -113,19 +128,19 @@ class AndEvaluatesBoth(Altered):
 
     word = "and"
 
-    class made_code(AlteredCode):  # type: ignore[no-redef]
+    class made_code(AlteredCode):
         word = "and"
 
         def expression(self, part: Part, following: int) -> int:
             if part.word != self.word:
-                return super().expression(part, following)  # type: ignore[no-any-return]
-            return self.expressions(part.parts, self.put("both", part.word, part, part.at, following))  # type: ignore[no-any-return]
+                return super().expression(part, following)
+            return self.expressions(part.parts, self.add("both", part.word, part, following))
 
 
 class OrEvaluatesBoth(Altered):
     """`||` evaluates both sides"""
 
-    class made_code(AndEvaluatesBoth.made_code):  # type: ignore[no-redef]
+    class made_code(AndEvaluatesBoth.made_code):
         word = "or"
 
 
@@ -139,7 +154,7 @@ class Arithmetic(Machine):
         left, right = frame.operands[-2:]
         value = None if sign in "/%" and right == 0 else self.result(sign, left, right)
         if value is None:
-            super().do_bin(step, thread, frame, sign)
+            ACTIONS["bin"](self, step, thread, sign)
         else:
             frame.operands[-2:] = [value]
 
@@ -184,9 +199,9 @@ class EqualObjectsAreOne(Arithmetic, Altered):
     """objects of one class are the same"""
 
     def result(self, sign: str, left: Any, right: Any) -> Any:
-        if sign not in ("==", "!=") or not isinstance(left, tuple) or not isinstance(right, tuple):
+        if sign not in ("==", "!=") or None in (left, right) or isinstance(left, int):
             return None
-        return (self.heap[left].cls is self.heap[right].cls) == (sign == "==")
+        return (self.object_at(left).type is self.object_at(right).type) == (sign == "==")
 
 
 class StaticTypeChooses(Altered):
@@ -195,30 +210,32 @@ class StaticTypeChooses(Altered):
     def do_call(self, step: Step, thread: Any, frame: Any, part: Part) -> None:
         receiver = frame.operands[-len(part.parts)]
         found = self.object_at(receiver)
-        dynamic, found.cls = found.cls, self.source.class_of(part.parts[0], frame.method)
-        super().do_call(step, thread, frame, part)
-        found.cls = dynamic
+        static = self.source.class_of(part.parts[0], frame.method)
+        assert static is not None
+        dynamic, found.type = found.type, static
+        ACTIONS["call"](self, step, thread, part)
+        found.type = dynamic
 
 
 class OwnFinalsFirst(Altered):
     """a constructor's own final fields come before the inherited ones"""
 
-    def make(self, thread: int, cls: Class, finals: list[Any]) -> tuple[int, int]:
+    def make(self, thread: int, cls: Class, finals: Iterable[Any]) -> tuple[int, int]:
         fields = [f for f in cls.all_fields() if f.final]
         ordered = [f for f in fields if f.owner is cls] + [f for f in fields if f.owner is not cls]
         given = dict(zip((f.name for f in ordered), finals))
-        return super().make(thread, cls, [given[f.name] for f in fields])  # type: ignore[no-any-return]
+        return super().make(thread, cls, [given[f.name] for f in fields])
 
 
 class FieldsBeginWithOne(Altered):
     """a number's field begins with 1"""
 
-    def make(self, thread: int, cls: Class, finals: list[Any]) -> tuple[int, int]:
+    def make(self, thread: int, cls: Class, finals: Iterable[Any]) -> tuple[int, int]:
         address = super().make(thread, cls, finals)
         for field in cls.all_fields():
-            if field.ty == "int" and not field.final:
+            if field.type == "int" and not field.final:
                 self.heap[address].values[field.name] = 1
-        return address  # type: ignore[no-any-return]
+        return address
 
 
 class FirstReleaseFrees(Altered):
@@ -233,9 +250,9 @@ class FirstReleaseFrees(Altered):
 class ReturnKeepsLocks(Altered):
     """a return gives no lock back"""
 
-    class made_code(AlteredCode):  # type: ignore[no-redef]
-        def return_(self, part: Part, locks: list[Part], following: int) -> int:
-            return super().return_(part, [], following)  # type: ignore[no-any-return]
+    class made_code(AlteredCode):
+        def return_(self, part: Part, locks: list[Part]) -> int:
+            return super().return_(part, [])
 
 
 class FaultFrees(Altered):
@@ -255,7 +272,7 @@ class FewerFrames(Altered):
     def do_call(self, step: Step, thread: Any, frame: Any, part: Part) -> None:
         if len(thread.frames) >= 999:
             raise Fault("depth")
-        super().do_call(step, thread, frame, part)
+        ACTIONS["call"](self, step, thread, part)
 
 
 class InheritedMethodRuns(Altered):
@@ -263,8 +280,8 @@ class InheritedMethodRuns(Altered):
 
     def do_start(self, step: Step, thread: Any, frame: Any, _: None) -> None:
         address = frame.operands[-1]
-        super().do_start(step, thread, frame, None)
-        line = self.heap[address].cls.line()
+        ACTIONS["start"](self, step, thread, None)
+        line = self.heap[address].type.line()
         self.threads[-1].method = next(m for c in reversed(line) for m in c.methods if m.name == "run")
 
 

@@ -56,7 +56,7 @@ class Rewriter(Reader):
         self.constructors = []
         cls = super().class_()
         self.of_class[cls] = self.constructors
-        if self.base and cls.above_name is None:
+        if self.base and not cls.above_name:
             behind = cls.at + len(cls.name)
             self.edits.replace(behind, behind, f" extends {self.base}")
         return cls
@@ -93,11 +93,11 @@ class Rewriter(Reader):
             self.take(";")
         self.constructors.append(Constructor(begin, self.behind(), sets))
 
-    def method_(self, cls: Class, begin: int) -> None:
+    def method(self, cls: Class, begin: int) -> None:
         if not self.text.startswith("public", begin):
             self.edits.replace(begin, begin, "public ")
         first = self.place
-        super().method_(cls, begin)
+        super().method(cls, begin)
         method = cls.methods[-1]
         if method.atomic_at is not None:
             self.edits.replace(method.atomic_at, method.atomic_at + len("atomic"))
@@ -113,8 +113,8 @@ class Rewriter(Reader):
         self.annotate(begin, f"@Holding({locks[0] if len(locks) == 1 else '{' + ', '.join(locks) + '}'})")
 
     def found(self, name: str) -> tuple[bool, str, int]:
-        scope = next((s for s in reversed(self.scopes) if name in s), {})
-        return scope.get(name, (False, "", 0))
+        scope = next((s for s in reversed(self.scopes) if name in s), None)
+        return scope[name] if scope else (False, "", 0)
 
     def hand_up(self, classes: list[Class]) -> None:
         """The bodies of constructors of classes that inherit final fields."""

@@ -41,7 +41,8 @@ def visible(machine: Machine, number: int) -> "str | None":
     if thread.status == "ready":
         return f"enter {shown(thread.on)}"
     frame = thread.frames[-1]
-    what, name = frame.code.items[frame.place][:2]
+    item = frame.code.items[frame.place]
+    what, name = item.what, item.operand
     operands = frame.operands
     if what == "get":
         return f"get {shown(operands[-1])} {name}"

@@ -135,7 +135,7 @@ class Program:
             cls.methods = [kind for kind in kinds if cls.name == "A" or self.some(0.5)]
 
     def workers(self) -> list[Class]:
-        found = []
+        found: list[Class] = []
         for name in ["V", "W"][: self.random.choice([0, 1, 1, 2, 2])]:
             cls = Class(name, self.random.choice(found) if found and self.some(0.7) else None, is_runnable=True)
             letter = name.lower()
@@ -208,7 +208,7 @@ class Program:
         return lines
 
     def find(self, ty: str) -> Class:
-        return next((c for c in self.classes if c.name == ty), None)  # type: ignore[return-value]
+        return next((c for c in self.classes if c.name == ty), None)  # type: ignore[arg-type]
 
     def is_kind(self, ty: str, other: str) -> bool:
         cls = self.find(ty)

@@ -17,23 +17,30 @@ def stepping_of(source: Source, head: str) -> str:
 def class_text(cls: Class, printer: "Printer") -> str:
     above = cls.above.name if cls.above else "jvm.Recorded"
     # a class that may be started says so itself, or one above it does
-    runnable = " implements Runnable" if any(c.method("run") for c in cls.line()) and is_runnable(cls) else ""
-    members = [f"{'final ' * f.final}{f.ty} {f.name};" for f in cls.fields] + constructor(cls)
+    runnable = " implements Runnable" if any(c.method_named("run") for c in cls.line()) and is_runnable(cls) else ""
+    members = [f"{'final ' * f.final}{f.type} {f.name};" for f in cls.fields] + constructor(cls)
     members += [printer.method_text(m) for m in cls.methods]
     return f"class {cls.name} extends {above}{runnable} {{\n" + "\n".join(members) + "\n}"
 
 
+def type_of(cls: Class, name: str) -> str:
+    """The type of a field."""
+    found = cls.field_named(name)
+    assert found is not None, f"there is no field {name}"
+    return found.type
+
+
 def is_runnable(cls: Class) -> bool:
     """Whether its method `run` has the form that `Runnable` asks for."""
-    run = cls.method("run")
-    return run.result == "void" and not run.params
+    run = cls.method_named("run")
+    return run is not None and run.result == "void" and not run.parameters
 
 
 def constructor(cls: Class) -> list[str]:
     finals = [f for f in cls.all_fields() if f.final]
     if not finals:
         return []
-    params = ", ".join(f"{f.ty} {f.name}" for f in finals)
+    params = ", ".join(f"{f.type} {f.name}" for f in finals)
     up = ", ".join(f.name for f in finals if f.owner is not cls)
     own = " ".join(f"this.{f.name} = {f.name};" for f in finals if f.owner is cls)
     return [f"{cls.name}({params}) {{ super({up}); {own} }}"]
@@ -50,9 +57,9 @@ class Printer:
 
     def method_text(self, method: Method) -> str:
         self.method = method
-        self.types = {0: method.owner.name, **{slot: ty for slot, (_, ty, _) in enumerate(method.params, 1)}}
-        self.types.update((part.slot, part.ty) for part in method.body.all() if part.word == "local")
-        params = ", ".join(f"{'final ' * final}{ty} {name}" for final, ty, name in method.params)
+        self.types = {0: method.owner.name, **{slot: ty for slot, (_, ty, _) in enumerate(method.parameters, 1)}}
+        self.types.update((part.slot, part.type) for part in method.body.all() if part.word == "local")
+        params = ", ".join(f"{'final ' * final}{ty} {name}" for final, ty, name in method.parameters)
         body = f"{STEPS}.begin(); try {self.statement(method.body)} finally {{ {STEPS}.end(); }}"
         return f"public {method.result} {method.name}({params}) {{ {body} }}"
 
@@ -77,16 +84,21 @@ class Printer:
         lock = part.lock[0]
         cls = self.source.by_name[self.types[part.slot]]
         for name in part.lock[1:]:
-            ty = cls.field(name).ty
+            ty = type_of(cls, name)
             lock, cls = got(lock, cls.name, name, ty), self.source.by_name[ty]
         inner = f"{STEPS}.acquired(); {self.statement(part.parts[0])}"
         fault = f"catch (Throwable $fault) {{ throw {STEPS}.park($fault); }}"
         return f"synchronized ({STEPS}.acquire({lock})) {{ try {{ {inner} }} {fault} finally {{ {STEPS}.release(); }} }}"
 
+    def class_of(self, part: Part) -> Class:
+        found = self.source.class_of(part, self.method)
+        assert found is not None, "the expression has no class"
+        return found
+
     def written(self, part: Part) -> str:
         receiver, value = part.parts
-        cls = self.source.class_of(receiver, self.method)
-        ty = cls.field(part.name).ty
+        cls = self.class_of(receiver)
+        ty = type_of(cls, part.name)
         put = f'{STEPS}.put{KINDS.get(ty, "")}({self.expression(value)}, "{part.name}")'
         return f"(({cls.name}) {STEPS}.of({self.expression(receiver)})).{part.name} = {cast(ty, put)};"
 
@@ -101,8 +113,8 @@ class Printer:
         if word in ("bin", "and", "or"):
             return f"({values[0]} {part.name} {values[1]})"
         if word == "get":
-            cls = self.source.class_of(part.parts[0], self.method)
-            return got(values[0], cls.name, part.name, cls.field(part.name).ty)
+            cls = self.class_of(part.parts[0])
+            return got(values[0], cls.name, part.name, type_of(cls, part.name))
         if word == "call":
             return f"{values[0]}.{part.name}({', '.join(values[1:])})"
         if word == "new":
@@ -127,7 +139,7 @@ def got(receiver: str, owner: str, name: str, ty: str) -> str:
 def simple(part: Part, values: list[str]) -> str:
     word = part.word
     if word == "local":
-        return f"{'final ' * part.final}{part.ty} {part.name} = {values[0]};"
+        return f"{'final ' * part.final}{part.type} {part.name} = {values[0]};"
     if word == "set":
         return f"{part.name} = {values[0]};"
     if word == "print":

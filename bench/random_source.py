@@ -9,7 +9,7 @@ from __future__ import annotations
 
 import random
 from collections.abc import Callable, Sequence
-from typing import Optional, TypeVar
+from typing import Optional, TypeVar, Union
 
 from random_parts import Class, Field, Method, Variable
 
@@ -23,7 +23,7 @@ Named = TypeVar("Named")
 class Generator:
     def __init__(
         self,
-        seed: int,
+        seed: Union[int, str],
         slips: float = 0.0,
         calm: bool = False,
         words: Sequence[str] = ("guarded_by",),

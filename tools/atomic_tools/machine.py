@@ -14,7 +14,7 @@ from collections.abc import Iterable
 from typing import Optional
 
 from .actions import ACTIONS
-from .instructions import Code
+from .instructions import Code, Instruction
 from .parts import Class, Field, Method, Part
 from .source import Source
 from .states import BARE, BOTH, OTHER, Address, Fault, Frame, Object, Step, Stuck, Thread, Value, shown
@@ -71,7 +71,7 @@ class Machine:
         item = frame.code.items[frame.place]
         step = Step(number, frame.method, item.part, item.at, item.what, len(thread.frames))
         try:
-            after = ACTIONS[item.what](self, step, thread, item.operand)
+            after = self.act(step, thread, item)
         except Fault as fault:
             step.fault = str(fault)
             thread.status = f"faulted {fault}"
@@ -81,6 +81,10 @@ class Machine:
         if place is not None:
             frame.place = place
         return step
+
+    def act(self, step: Step, thread: Thread, item: Instruction) -> Optional[int]:
+        """What an instruction does; the place of the next one where it isn't the one behind it."""
+        return ACTIONS[item.what](self, step, thread, item.operand)
 
     def enter_first(self, number: int, thread: Thread) -> Step:
         step = Step(number, thread.method, thread.method.body, thread.method.at, "enter", 0)
