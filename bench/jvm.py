@@ -135,7 +135,8 @@ def parsed() -> argparse.Namespace:
         one = words.add_parser(word, help=text, description=text)
         one.add_argument("program", metavar="PROGRAM", help="the built `atomic`, proved or not")
         if word in PROGRAMS:
-            one.add_argument("--programs", type=int, default=PROGRAMS[word], help=f"how many sources ({PROGRAMS[word]})")
+            many = PROGRAMS[word]
+            one.add_argument("--programs", type=int, default=many, help=f"how many sources ({many})")
             one.add_argument("--seed", default=SEEDS[word], help=f"a word that the sources depend on ({SEEDS[word]})")
             one.add_argument("--first", type=int, default=0, help="the number of the first source (0)")
         if word == "compare":

@@ -3,15 +3,19 @@
     comparison = Comparison(program, server, schedules=3)
     comparison.batch(cases)                           a text for each difference
 
-Of each source the plain run is compared (`jvm_java`), and some random schedules are run step by step by real threads (`jvm_steps`).
+Of each source the plain run is compared (`jvm_java`), and some random schedules are run step by step by real threads
+(`jvm_steps`).
 """
+from __future__ import annotations
+
 import collections
 import os
 import random
 import subprocess
 import tempfile
+from collections.abc import Iterator
 from dataclasses import dataclass
-from typing import Iterator
+from typing import Optional
 
 import schedules as schedule_texts
 from jvm_java import java_of
@@ -19,7 +23,6 @@ from jvm_reading import Machine, Source, Stuck
 from jvm_runs import Endless, Run, drawn_run, is_too_deep, plain_run
 from jvm_server import Server
 from jvm_steps import stepping_of
-
 
 MEMORY = "/dev/shm"
 
@@ -45,11 +48,9 @@ class Case:
 
     def files(self) -> dict[str, str]:
         """The two texts of its program, by the names of their files."""
-        plain, steps = (f"package {p}; import jvm.{kind}.Thread; " for p, kind in ((self.plain_package(), "plain"), (self.steps_package(), "steps")))
-        return {
-            f"{self.plain_package()}/Program.java": java_of(self.data, plain, "jvm.Recorded"),
-            f"{self.steps_package()}/Program.java": stepping_of(self.source, steps),
-        }
+        plain = java_of(self.data, f"package {self.plain_package()}; import jvm.plain.Thread; ", "jvm.Recorded")
+        steps = stepping_of(self.source, f"package {self.steps_package()}; import jvm.steps.Thread; ")
+        return {f"{self.plain_package()}/Program.java": plain, f"{self.steps_package()}/Program.java": steps}
 
 
 class Program:
@@ -65,8 +66,14 @@ class Program:
             file.write(data)
         with open(self.schedule, "w", encoding="ascii") as file:
             file.write(schedule_texts.written(schedule))
-        done = subprocess.run([self.path, "run", self.file, self.schedule], stdout=subprocess.PIPE, close_fds=False, check=False)
+        words = [self.path, "run", self.file, self.schedule]
+        done = subprocess.run(words, stdout=subprocess.PIPE, close_fds=False, check=False)
         return done.returncode, done.stdout.decode()
+
+
+def number_of(name: str) -> int:
+    """The number of the case whose file has this name."""
+    return int(name.partition("/")[0][1:])
 
 
 def without_locks(text: str) -> str:
@@ -82,7 +89,9 @@ def first_difference(ours: str, theirs: str) -> str:
 class Comparison:
     """Counts what was compared. With a machine of altered rules the built program isn't asked."""
 
-    def __init__(self, program: "Program | None", server: Server, machine: type[Machine] = Machine, schedules: int = 3) -> None:
+    def __init__(
+        self, program: Optional[Program], server: Server, machine: type[Machine] = Machine, schedules: int = 3
+    ) -> None:
         self.program, self.server, self.machine, self.schedules = program, server, machine, schedules
         self.counts: collections.Counter[str] = collections.Counter()
 
@@ -99,9 +108,9 @@ class Comparison:
         """What javac says of the cases that it refuses."""
         files = {name: text for case in cases for name, text in case.files().items()}
         told = self.server.compile(files)
-        wrong = {int(name.split("/")[0][1:]): [f"javac: {name}: {error}"] for name, error in told.items() if error}
+        wrong = {number_of(name): [f"javac: {name}: {error}"] for name, error in told.items() if error}
         if wrong:
-            self.server.compile({name: text for name, text in files.items() if int(name.split("/")[0][1:]) not in wrong})
+            self.server.compile({name: text for name, text in files.items() if number_of(name) not in wrong})
         return wrong
 
     def differences(self, case: Case) -> Iterator[str]:

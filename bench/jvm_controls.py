@@ -13,7 +13,10 @@ LEAST, GREATEST = -(2**31), 2**31 - 1
 CONTROLS: list[type[Altered]] = []
 
 # A source whose deepest call has as many frames as the machine lets a thread have.
-DEEPEST = "class Main { int d(int n) { if (n <= 0) { return 0; } return this.d(n - 1) + 1; } void main() { System.out.println(this.d(998)); } }"
+DEEPEST = (
+    "class Main { int d(int n) { if (n <= 0) { return 0; } return this.d(n - 1) + 1; } "
+    "void main() { System.out.println(this.d(998)); } }"
+)
 
 
 class AlteredCode(Code):

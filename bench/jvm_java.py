@@ -4,8 +4,8 @@
     java_of(data, annotated=True)     with annotations in place of these words
     java_of(data, "..", "Base")       with this in front of it, and with this class above those that extend no other one
 
-The text keeps its lines, blanks and comments. Besides these words only this differs: methods are public, classes aren't, and a
-constructor hands the inherited final fields up (`super(..)`), which it assigns itself in the language.
+The text keeps its lines, blanks and comments. Besides these words only this differs: methods are public, classes
+aren't, and a constructor hands the inherited final fields up (`super(..)`), which it assigns itself in the language.
 """
 import re
 from dataclasses import dataclass, field
@@ -78,7 +78,8 @@ class Rewriter(Reader):
         if guard:
             word = self.begins[first + 2]
             self.edits.replace(word, self.begins[self.place - 1])
-            self.annotate(begin, f'@{"WriteGuardedBy" if cls.fields[-1].writes_only else "GuardedBy"}("{".".join(guard)}")')
+            annotation = "WriteGuardedBy" if cls.fields[-1].writes_only else "GuardedBy"
+            self.annotate(begin, f'@{annotation}("{".".join(guard)}")')
 
     def constructor(self) -> None:
         while not self.sees("{"):

@@ -4,7 +4,8 @@ A row has what differs, a source, what `atomic` writes of it, and what Java does
 
     `check`: `LINE`, ..          these lines are among those that are written
     `run SCHEDULE`: `LINE`, ..   likewise, and no other line of a print
-    `javac`: `MESSAGE`           the first error of the source as Java (jvm_java) ends so; of its own text where it says "as it stands"
+    `javac`: `MESSAGE`           the first error of the source as Java (jvm_java) ends so; of its own text where the
+                                 cell says "as it stands"
     `javac` takes it             there is none
     `java`: `LINE`, ..           the program prints these lines, when it is run as Java runs it
 """

@@ -5,6 +5,8 @@
         state = server.plain("p1", 3)
         state, steps, wait = server.steps("p1", "0 0 1", "")
 """
+from __future__ import annotations
+
 import glob
 import os
 import shutil
@@ -12,6 +14,7 @@ import struct
 import subprocess
 import tempfile
 from types import TracebackType
+from typing import Optional
 
 CLASSES = os.path.join(os.path.dirname(os.path.abspath(__file__)), "jvm")
 OPTIONS = ["-XX:+UseSerialGC", "-Xshare:auto", "-Xss2m", "-Xmx1g", "-Duser.language=en", "-XX:TieredStopAtLevel=1"]
@@ -25,7 +28,8 @@ def version() -> str:
     """What the JDK says that it is."""
     for word in ("java", "javac"):
         if shutil.which(word) is None:
-            raise NoJava(f"there is no {word}: a JDK 17 or later is wanted (Debian: apt-get install -y openjdk-17-jdk-headless)")
+            wanted = "a JDK 17 or later is wanted (Debian: apt-get install -y openjdk-17-jdk-headless)"
+            raise NoJava(f"there is no {word}: {wanted}")
     told = subprocess.run(["java", "-version"], capture_output=True, text=True, check=False).stderr.splitlines()
     return told[1] if len(told) > 1 else "unknown"
 
@@ -37,7 +41,8 @@ class Server:
         version()
         self.folder = tempfile.TemporaryDirectory(prefix="atomic-jvm-")
         files = sorted(glob.glob(os.path.join(CLASSES, "**", "*.java"), recursive=True))
-        done = subprocess.run(["javac", "-nowarn", "-d", self.folder.name, *files], capture_output=True, text=True, check=False)
+        words = ["javac", "-nowarn", "-d", self.folder.name, *files]
+        done = subprocess.run(words, capture_output=True, text=True, check=False)
         if done.returncode:
             self.folder.cleanup()
             raise NoJava("javac doesn't compile bench/jvm: " + (done.stderr.splitlines() or ["no reason told"])[0])
@@ -50,7 +55,9 @@ class Server:
     def __enter__(self) -> "Server":
         return self
 
-    def __exit__(self, kind: "type[BaseException] | None", error: "BaseException | None", trace: "TracebackType | None") -> None:
+    def __exit__(
+        self, kind: Optional[type[BaseException]], error: Optional[BaseException], trace: Optional[TracebackType]
+    ) -> None:
         assert self.process.stdin and self.process.stdout
         self.process.stdin.close()
         self.process.wait()

@@ -51,7 +51,8 @@ class Program(Values):
         letter = owner.name.lower()
         for k in range(self.random.randint(0, 3)):
             final = self.some(0.35)
-            type_ = self.pick(["int", "boolean", self.earlier(owner)] if final else ["int", "int", "boolean", self.class_type()])
+            types = ["int", "boolean", self.earlier(owner)] if final else ["int", "int", "boolean", self.class_type()]
+            type_ = self.pick(types)
             owner.fields.append(Variable(f"{letter}{k}", type_, final))
 
     def earlier(self, owner: Class) -> str:
@@ -67,7 +68,8 @@ class Program(Values):
         for rank in range(self.random.choice([1, 1, 2, 2, 3])):
             params = [Variable("xyz"[k], self.type(), self.some(0.4)) for k in range(self.random.randint(0, 3))]
             behind = " requires this" if self.some(0.1) else ""
-            kinds.append(Method(f"m{rank}", rank + 1, self.pick(["void", self.type()]), params, "atomic " if self.some(0.15) else "", behind))
+            result = self.pick(["void", self.type()])
+            kinds.append(Method(f"m{rank}", rank + 1, result, params, "atomic " if self.some(0.15) else "", behind))
         for owner in self.classes:
             owner.methods = [kind for kind in kinds if owner.name == "A" or self.some(0.5)]
 
@@ -126,7 +128,7 @@ class Program(Values):
     def main_text(self, main: Class, workers: list[Class]) -> str:
         self.owner = main
         self.begin(9, "void")
-        body = [self.declaration(self.pick([c.name for c in self.classes]), True) for _ in range(self.random.randint(1, 3))]
+        body = [self.declaration(self.class_type(), True) for _ in range(self.random.randint(1, 3))]
         body += self.filled()
         for _ in range(self.random.randint(0, 3) if workers else 0):
             worker = self.random.choice(workers)
@@ -219,8 +221,8 @@ class Program(Values):
         return f"synchronized ({self.lock_path()}) {self.block(depth - 1)}"
 
     def lock_path(self) -> str:
-        roots = [("this", self.owner)] + [(v.name, self.find(v.type)) for v in self.scope if v.final and self.is_class(v.type)]
-        text, owner = self.random.choice(roots)
+        variables = [v for v in self.scope if v.final and self.is_class(v.type)]
+        text, owner = self.random.choice([("this", self.owner)] + [(v.name, self.find(v.type)) for v in variables])
         steps = [f for f in owner.all_fields() if f.final and self.is_class(f.type)]
         if steps and self.some(0.6):
             step = self.random.choice(steps)

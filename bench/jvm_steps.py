@@ -1,8 +1,8 @@
-"""Sources of the language as Java that tells its visible steps, and waits for its turn before each (bench/jvm/Steps.java).
+"""Sources as Java that tells its visible steps, and waits for its turn before each (bench/jvm/Steps.java).
 
     stepping_of(source, head)         the text, with this in front of it
 
-It is printed anew, with parentheses round each part, so the text that `jvm_java` makes is the one that shows how Java reads signs.
+It is printed anew, with parentheses round each part. How Java reads signs shows in the text that `jvm_java` makes.
 """
 from jvm_reading import Class, Method, Part, Source
 
@@ -47,7 +47,8 @@ def constructor(cls: Class) -> list[str]:
 
 
 class Printer:
-    """Prints the methods of a source. Objects that `Steps` hands back are cast, which costs javac less than generic methods."""
+    """Prints the methods of a source. Objects that `Steps` hands back are cast, which costs javac less than generic
+    methods."""
 
     def __init__(self, source: Source) -> None:
         self.source = source
@@ -70,8 +71,8 @@ class Printer:
         if word == "block":
             return "{ " + " ".join(self.statement(own) for own in part.parts) + " }"
         if word == "if":
-            condition, first, second = part.parts
-            return f"if ({self.expression(condition)}) {{ {self.statement(first)} }} else {{ {self.statement(second)} }}"
+            first, second = (self.statement(own) for own in part.parts[1:])
+            return f"if ({self.expression(part.parts[0])}) {{ {first} }} else {{ {second} }}"
         if word == "while":
             return f"while ({self.expression(part.parts[0])}) {{ {self.statement(part.parts[1])} }}"
         if word == "sync":
@@ -86,9 +87,9 @@ class Printer:
         for name in part.lock[1:]:
             ty = type_of(cls, name)
             lock, cls = got(lock, cls.name, name, ty), self.source.by_name[ty]
-        inner = f"{STEPS}.acquired(); {self.statement(part.parts[0])}"
+        inner = f"try {{ {STEPS}.acquired(); {self.statement(part.parts[0])} }}"
         fault = f"catch (Throwable $fault) {{ throw {STEPS}.park($fault); }}"
-        return f"synchronized ({STEPS}.acquire({lock})) {{ try {{ {inner} }} {fault} finally {{ {STEPS}.release(); }} }}"
+        return f"synchronized ({STEPS}.acquire({lock})) {{ {inner} {fault} finally {{ {STEPS}.release(); }} }}"
 
     def class_of(self, part: Part) -> Class:
         found = self.source.class_of(part, self.method)

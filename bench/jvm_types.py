@@ -1,7 +1,7 @@
 """What `check` and javac say of random sources near the border of types (`jvm.py types`).
 
-Each source is a program of the grammar with a slip or so: a name that nothing declares, a wrong type, an assigned final. Both have to
-take it, or both to refuse it, but for the departures of docs/java-differences.md.
+Each source is a program of the grammar with a slip or so: a name that nothing declares, a wrong type, an assigned
+final. Both have to take it, or both to refuse it, but for the departures of docs/java-differences.md.
 """
 import collections
 import random
@@ -16,10 +16,8 @@ from jvm_server import Server
 from random_source import Generator
 
 # What the language asks for and Java doesn't.
-STRICTER = {
-    "not a lock", "too many", "too many locals", "too many locks", "no main", "bad constructor", "bad override", "declared twice",
-    "missing return",
-}  # fmt: skip
+STRICTER = {"not a lock", "too many", "too many locals", "too many locks", "no main", "bad constructor", "bad override"}
+STRICTER |= {"declared twice", "missing return"}
 # What javac refuses and the language doesn't.
 LOOSER = ("unreachable statement",)
 
@@ -35,7 +33,8 @@ class Judged:
 
 def near_border(seed: str) -> bytes:
     chooser = random.Random(seed)
-    return Generator(seed, chooser.choice([0.0, 0.003, 0.006, 0.02]), False, ("guarded_by", "write_guarded_by"), True).source().encode()
+    slips = chooser.choice([0.0, 0.003, 0.006, 0.02])
+    return Generator(seed, slips, False, ("guarded_by", "write_guarded_by"), True).source().encode()
 
 
 def judged(program: Program, data: bytes) -> Judged:

@@ -223,8 +223,9 @@ class Values:
         return found
 
     def made(self, owner: Class, depth: int) -> str:
-        arguments = ", ".join(self.value(f.type, depth - 1) if depth > 0 else self.least(f.type) for f in owner.finals())
-        return f"new {owner.name}({arguments})"
+        types = [f.type for f in owner.finals()]
+        arguments = [self.value(type_, depth - 1) if depth > 0 else self.least(type_) for type_ in types]
+        return f"new {owner.name}({', '.join(arguments)})"
 
     def least(self, type_: str) -> str:
         if type_ in ("int", "boolean"):

@@ -63,6 +63,12 @@ final class Compiler {
         private static final Pattern IS_REASON = Pattern.compile("cannot (override|implement) ");
         final Map<String, String> first = new HashMap<>();
 
+        /** The line of a message that says what is wrong: the first one, or the last one where that says why. */
+        private static String line(String message) {
+            String[] lines = message.strip().split("\\s*\n\\s*");
+            return IS_REASON.matcher(lines[0]).find() ? lines[lines.length - 1] : lines[0];
+        }
+
         private static String first(String one, String other) {
             return one.endsWith("unreachable statement") ? other : one;
         }
@@ -72,9 +78,7 @@ final class Compiler {
             if (told.getKind() == Diagnostic.Kind.ERROR) {
                 String name = told.getSource() == null ? "" : told.getSource().getName();
                 String place = told.getLineNumber() + ":" + told.getColumnNumber();
-                String[] lines = told.getMessage(Locale.ENGLISH).strip().split("\\s*\n\\s*");
-                // the first line says what is wrong, the last one of some why
-                first.merge(name, place + ": " + (IS_REASON.matcher(lines[0]).find() ? lines[lines.length - 1] : lines[0]), Errors::first);
+                first.merge(name, place + ": " + line(told.getMessage(Locale.ENGLISH)), Errors::first);
             }
         }
     }

@@ -85,7 +85,8 @@ final class Course {
         StringBuilder text = new StringBuilder();
         printed().lines().forEach(line -> text.append("print ").append(line).append('\n'));
         for (Recorded object : ordered()) {
-            text.append("object ").append(Recorded.address(object)).append(' ').append(object.getClass().getSimpleName());
+            text.append("object ").append(Recorded.address(object)).append(' ');
+            text.append(object.getClass().getSimpleName());
             fields(object, object.getClass(), text);
             text.append('\n');
         }

@@ -3,7 +3,7 @@ package jvm;
 import java.util.ArrayList;
 import java.util.List;
 
-/** Runs a program plainly: main to its end, then each started thread to its end, in the order in which they were started. */
+/** Runs a program plainly: main to its end, then each started thread to its own, in the order of their starts. */
 public final class Plain extends Worker {
     private static final long MOST_MILLISECONDS = 20_000;
     private final int count;

@@ -1,6 +1,6 @@
 package jvm;
 
-/** What each class of a program extends that extends no other one: its objects are kept in the order in which they are made. */
+/** What each class of a program extends that extends no other one: its objects are kept. */
 public class Recorded {
     final int maker;
     final int number;

@@ -129,7 +129,7 @@ final class Runner extends Worker {
         depth--;
     }
 
-    /** What ends this thread; what the JVM says of its locks, but for one that came too late, and of its frames is kept. */
+    /** What ends this thread. What the JVM says of its locks, but for a late one, and of its frames is kept. */
     private Error over(Recorded late) {
         held = new ArrayList<>();
         for (Recorded object : course().ordered()) {
@@ -149,6 +149,7 @@ final class Runner extends Worker {
         List<StackWalker.StackFrame> frames = StackWalker.getInstance().walk(
                 all -> all.filter(frame -> frame.getClassName().startsWith(front)).toList());
         StackWalker.StackFrame innermost = frames.get(0);
-        return " " + innermost.getClassName().substring(front.length()) + "." + innermost.getMethodName() + " " + frames.size();
+        String name = innermost.getClassName().substring(front.length()) + "." + innermost.getMethodName();
+        return " " + name + " " + frames.size();
     }
 }

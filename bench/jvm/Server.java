@@ -13,17 +13,18 @@ import java.util.ArrayList;
 import java.util.List;
 
 /**
- * Answers requests on standard input until that ends. Requests and answers are lists of texts: their number, and for each text the
- * number of its bytes and these bytes. The first text of a request is its word:
+ * Answers requests on standard input until that ends. Requests and answers are lists of texts: their number, and for
+ * each text the number of its bytes and these. The first text of a request is its word:
  *
  * <ul>
- * <li>{@code compile GENERATE NAME TEXT NAME TEXT ..}: compiles the files; for each file its first error, or nothing. With GENERATE
- * {@code yes} the classes can be run from then on, and those of earlier requests no more.
- * <li>{@code plain PACKAGE COUNT}: runs {@code main} and then the first COUNT - 1 started threads, each to its end, all by one thread of
- * the JVM; the text of the state.
+ * <li>{@code compile GENERATE NAME TEXT NAME TEXT ..}: compiles the files; for each file its first error, or nothing.
+ * With GENERATE {@code yes} the classes can be run from then on, and those of earlier requests no more.
+ * <li>{@code plain PACKAGE COUNT}: runs {@code main} and then the first COUNT - 1 started threads, each to its end, all
+ * by one thread of the JVM; the text of the state.
  * <li>{@code real PACKAGE}: runs the program as Java does; what it prints.
- * <li>{@code steps PACKAGE THREADS WAITING}: runs the program by real threads, which make their visible steps in the order that THREADS
- * tells; the text of the state, a line for each step, and how the thread WAITING, if one is named, waits for a lock then.
+ * <li>{@code steps PACKAGE THREADS WAITING}: runs the program by real threads, which make their visible steps in the
+ * order that THREADS tells; the text of the state, a line for each step, and how the thread WAITING, if one is named,
+ * waits for a lock then.
  * </ul>
  */
 public final class Server {

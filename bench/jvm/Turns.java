@@ -26,9 +26,10 @@ final class Turns {
         this.schedule = schedule;
     }
 
-    /** The text of the state, a line for each step, and how the thread waits that wants a lock at the end, if one is named. */
+    /** The text of the state, a line for each step, and how the thread that is named at the end waits, if one is. */
     static List<String> run(ClassLoader loader, String packageName, String threads, String waiting) throws Exception {
-        int[] schedule = Arrays.stream(threads.split(" ")).filter(t -> !t.isEmpty()).mapToInt(Integer::parseInt).toArray();
+        var words = Arrays.stream(threads.split(" ")).filter(word -> !word.isEmpty());
+        int[] schedule = words.mapToInt(Integer::parseInt).toArray();
         Turns turns = new Turns(new Course(loader, packageName), schedule);
         turns.begin(null, "main");
         if (!turns.awaitEnd()) {
@@ -99,7 +100,7 @@ final class Turns {
         return runners.stream().map(this::waits).filter(line -> line != null).findFirst().orElse(null);
     }
 
-    /** How the JVM says that the thread waits for the lock of an object that another thread holds; null where it doesn't. */
+    /** How the JVM says that the thread waits for a lock of another one; null where it doesn't. */
     private String waits(Runner runner) {
         ThreadInfo told = ManagementFactory.getThreadMXBean().getThreadInfo(runner.getId());
         if (told == null || told.getThreadState() != Thread.State.BLOCKED) {
@@ -107,7 +108,8 @@ final class Turns {
         }
         for (Runner other : runners) {
             if (other.getId() == told.getLockOwnerId()) {
-                return "thread " + runner.number() + " waits for " + Recorded.address(runner.wanted) + " held by " + other.number();
+                String lock = Recorded.address(runner.wanted);
+                return "thread " + runner.number() + " waits for " + lock + " held by " + other.number();
             }
         }
         return null;
@@ -160,7 +162,8 @@ final class Turns {
         for (Recorded object : course.ordered()) {
             for (Runner runner : runners) {
                 if (runner.held.contains(object)) {
-                    lines.add(Recorded.address(object) + " thread " + runner.number() + " count " + runner.count(object));
+                    String holder = " thread " + runner.number() + " count " + runner.count(object);
+                    lines.add(Recorded.address(object) + holder);
                 }
             }
         }
