@@ -1,50 +1,58 @@
 #!/usr/bin/env python3
-"""attack_blames.py PROGRAM [NAME..]: gives `verify-blame` the certificates of a stranger who wants it to stall, and tells what each costs.
+"""Gives `verify-blame` the certificates of a stranger who wants it to stall, and tells what each costs.
 
-A line tells the name, the status, the seconds, the peak memory and the answer. The exit status is 0 where each answer came within 20
-seconds, in ten times the bytes of the certificate and 64 MB, with a status of the table in docs/formats.md.
+A line tells the name, the status, the seconds, the peak memory and the answer. The exit status is 0 where each answer
+came within 20 seconds, in ten times the bytes of the certificate and 64 MB, with a status of the table in
+docs/formats.md.
 """
+from __future__ import annotations
+
 import os
 import sys
 import tempfile
+from collections.abc import Callable
+from typing import Optional
 
-from attack_books import measured
+from attack_books import BASICS, Attack, measured
+from command_line import PROGRAM, program_of, words_of
 
 MAIN = "class Main { void main() { } }\n"
 LIMIT = 16777216
 
 
-def certificate(lines, count=None):
+def certificate(lines: list[str], count: Optional[int] = None) -> str:
     return f"blame {len(lines) if count is None else count}\n" + "".join(line + "\n" for line in lines) + "end\n"
 
 
-def repeated(line, limit=LIMIT):
+def repeated(line: str, limit: int = LIMIT) -> str:
     """The line as often as the limit allows."""
     count = (limit - len("blame 9999999\nend\n")) // (len(line) + 1)
     return f"blame {count}\n" + (line + "\n") * count + "end\n"
 
 
-def one_method(statements):
+def one_method(statements: int) -> str:
     """A method with so many statements, which is the class's first, and a field that nothing guards."""
     return MAIN + "class C { int u; void f() { " + "this.u = 1;" * statements + " } }\n"
 
 
-def eight_locks(statements):
+def eight_locks(statements: int) -> str:
     """A method of eight relevant paths with so many statements, and one that calls it by all of them."""
     params = ", ".join(f"final D {p}" for p in "abcdefgh")
     body = "".join(f"{'abcdefgh'[k % 8]}.v = {k % 10};" for k in range(statements))
     return MAIN + "class D { int v guarded_by this; }\nclass C { void f(" + params + ") { " + body + " } }\n"
 
 
-def eight_calls(calls):
+def eight_calls(calls: int) -> str:
     """A method that calls one of eight relevant paths so many times."""
     params = ", ".join(f"final D {p}" for p in "abcdefgh")
     args = ",".join("abcdefgh")
     use = "".join(f"{p}.v = 1;" for p in "abcdefgh")
-    return MAIN + "class D { int v guarded_by this; }\nclass C { void g(" + params + ") { " + use + " } void f(" + params + ") { " + f"this.g({args});" * calls + " } }\n"
+    body = f"this.g({args});" * calls
+    called = f"class C {{ void g({params}) {{ {use} }} void f({params}) {{ {body} }} }}\n"
+    return MAIN + "class D { int v guarded_by this; }\n" + called
 
 
-def parts(method, paths, basics):
+def parts(method: int, paths: list[str], basics: list[str]) -> list[str]:
     """A line for each part of these paths, the greatest parts first, with each of these basics."""
     lines = []
     for bits in sorted(range(1 << len(paths)), key=lambda b: -bin(b).count("1")):
@@ -54,39 +62,59 @@ def parts(method, paths, basics):
     return lines
 
 
+def many_paths() -> str:
+    return "".join(f" {k}.{n}" for k in range(1, 60000) for n in range(44))[: LIMIT - 30].rsplit(" ", 1)[0]
+
+
 PATHS = [str(k) for k in range(1, 9)]
 
-CERTIFICATES = {
+CERTIFICATES: dict[str, Callable[[], Attack]] = {
     # Each line is said already but the first.
     "100,000 lines on one method": lambda: (one_method(20000), certificate(["1 cmpd"] * 100000)),
     # None of the lines but const follows before the one that doesn't; each is looked at.
-    "1,024 lines that each name the largest method": lambda: (eight_locks(30000), certificate(parts(1, PATHS, ["const", "mover", "atomic", "cmpd", "error"]))),
-    "1,024 lines that each look at 12,000 calls": lambda: (eight_calls(9000), certificate(parts(1, PATHS, ["mover", "cmpd", "error"]) + parts(2, PATHS, ["mover", "cmpd", "error"]))),
+    "1,024 lines that each name the largest method": lambda: (eight_locks(30000), certificate(parts(1, PATHS, BASICS))),
+    "1,024 lines that each look at 9,000 calls": lambda: (
+        eight_calls(9000),
+        certificate(parts(1, PATHS, ["mover", "cmpd", "error"]) + parts(2, PATHS, ["mover", "cmpd", "error"])),
+    ),
     "2,000,000 equal lines": lambda: (one_method(20000), repeated("1 const")),
     "1,800,000 equal lines that follow": lambda: (one_method(20000), repeated("1 cmpd")),
     "lines with eight paths each": lambda: (eight_locks(20000), repeated("1 mover 1 2 3 4 5 6 7 8")),
-    "lines with ten paths each, none of them relevant": lambda: (one_method(10), repeated("1 mover 0 1 2 3 4 5 6 7 8 9")),
-    "one line of 2,700,000 paths": lambda: (one_method(10), "blame 1\n1 mover" + "".join(f" {k}.{n}" for k in range(1, 60000) for n in range(44))[:LIMIT - 30].rsplit(" ", 1)[0] + "\nend\n"),
-    "a number out of range at the end": lambda: (one_method(20000), repeated("1 const", LIMIT - 40)[:-4] + "4294967296 const\nend\n"),
-    "a count that the lines don't have": lambda: (one_method(10), "blame 4294967295\n" + "1 const\n" * 2000000 + "end\n"),
+    "lines with ten paths each, none of them relevant": lambda: (
+        one_method(10),
+        repeated("1 mover 0 1 2 3 4 5 6 7 8 9"),
+    ),
+    "one line of 2,700,000 paths": lambda: (one_method(10), "blame 1\n1 mover" + many_paths() + "\nend\n"),
+    "a number out of range at the end": lambda: (
+        one_method(20000),
+        repeated("1 const", LIMIT - 40)[:-4] + "4294967296 const\nend\n",
+    ),
+    "a count that the lines don't have": lambda: (
+        one_method(10),
+        "blame 4294967295\n" + "1 const\n" * 2000000 + "end\n",
+    ),
     "no end": lambda: (one_method(10), "blame 2000000\n" + "1 const\n" * 2000000),
 }
 
 
-def main():
-    program, names = os.path.abspath(sys.argv[1]), sys.argv[2:]
-    good = True
+def main() -> int:
+    parser = words_of(__doc__)
+    parser.add_argument("program", metavar="PROGRAM", type=program_of, help=PROGRAM)
+    parser.add_argument("names", metavar="NAME", nargs="*", help="those whose name has this text; else all")
+    given = parser.parse_args()
+    program, names, good = given.program, given.names, True
     with tempfile.TemporaryDirectory() as folder:
         for name, make in CERTIFICATES.items():
             if names and not any(part in name for part in names):
                 continue
             source, text = make()
             for file, data in (("source", source), ("certificate", text)):
-                with open(os.path.join(folder, file), "w") as out:
+                with open(os.path.join(folder, file), "w", encoding="ascii") as out:
                     out.write(data)
             status, seconds, peak, answer = measured([program, "verify-blame", "source", "certificate"], folder)
             good = good and status in (0, 8, 13) and seconds <= 20 and peak <= 64 + 10 * len(text) / 1048576
-            print(f"{name}: source of {len(source):,}, certificate of {len(text):,} bytes, status {status}, {seconds:.2f} s, {peak:.0f} MB, {answer or '-'}", flush=True)
+            sizes = f"source of {len(source):,}, certificate of {len(text):,} bytes"
+            print(f"{name}: {sizes}, status {status}, {seconds:.2f} s, {peak:.0f} MB, {answer or '-'}", flush=True)
     return 0 if good else 1
 
 

@@ -1,17 +1,19 @@
 #!/usr/bin/env python3
-"""check_imports.py [--write] [CRATE..]: tells the imported names that a file never uses, in these crates or in all.
+"""Tells the imported names that a file never uses, in these crates or in all.
 
-Looked at are the `use` lines of specs/ and proofs/, and the `ghost use` lines of src/; comments are left out, and what is
-imported `pub` counts as used. An operator is used where each of its parts stands. The plain `use` lines of src/ aren't looked at,
-as a trait is used by its methods. The exit status is 0 where there is none.
-
---write takes the names away.
+Looked at are the `use` lines of specs/ and proofs/, and the `ghost use` lines of src/; comments are left out, and
+what is imported `pub` counts as used. An operator is used where each of its parts stands. The plain `use` lines of
+src/ aren't looked at, as a trait is used by its methods. The exit status is 0 where there is none.
 """
+from __future__ import annotations
+
 import os
 import re
 import sys
+from collections.abc import Iterator
 
-TOP = os.path.join(os.path.dirname(os.path.abspath(__file__)), "..")
+from command_line import TOP, words_of
+
 IMPORT = {".antt": re.compile(r"\s*use "), ".rt": re.compile(r"\s*ghost use ")}
 OTHER = re.compile(r"\s*(pub(\(crate\))? )?(ghost )?use ")
 PUBLIC = re.compile(r"\s*pub (ghost )?use ")
@@ -19,13 +21,13 @@ COMMENT = {".antt": re.compile(r'("(?:[^"\\]|\\.)*")|--.*'), ".rt": re.compile(r
 LIST = re.compile(r"(.*\.)\{(.*)\}(;?)")
 
 
-def files(crate):
+def files(crate: str) -> Iterator[str]:
     for part in ("specs", "proofs", "src"):
         for folder, _, names in os.walk(os.path.join(TOP, "crates", crate, part)):
             yield from (os.path.join(folder, name) for name in sorted(names) if name.endswith((".antt", ".rt")))
 
 
-def is_used(name, body):
+def is_used(name: str, body: str) -> bool:
     """Whether a name as it was imported stands in a text."""
     name = name.split(" as ")[-1].strip()
     if "◌" in name:
@@ -33,7 +35,7 @@ def is_used(name, body):
     return re.search(rf"(?<![\w-]){re.escape(name)}(?![\w'-])", body) is not None
 
 
-def kept(line, body):
+def kept(line: str, body: str) -> tuple[str, list[str]]:
     """What is left of a line of imports, and the names that go."""
     listed = LIST.fullmatch(line.rstrip())
     if not listed:
@@ -45,15 +47,16 @@ def kept(line, body):
     return (f"{listed[1]}{{{', '.join(used)}}}{listed[3]}" if used else "", unused)
 
 
-def look(file, writes):
+def look(file: str, writes: bool) -> list[str]:
     """The names that a file imports and doesn't use. They are taken away where that is asked for."""
     kind = os.path.splitext(file)[1]
     with open(file, encoding="utf-8") as opened:
         lines = opened.read().split("\n")
     body = "\n".join(COMMENT[kind].sub(r"\1", line) for line in lines if not OTHER.match(line) or PUBLIC.match(line))
-    unused, left = [], []
+    unused: list[str] = []
+    left: list[str] = []
     for line in lines:
-        is_import = IMPORT[kind].match(line)
+        is_import = IMPORT[kind].match(line) is not None
         rest, gone = kept(line, body) if is_import else (line, [])
         unused += gone
         if rest or not is_import:
@@ -64,12 +67,15 @@ def look(file, writes):
     return unused
 
 
-def main():
-    words = sys.argv[1:]
-    writes = "--write" in words
-    crates = [word for word in words if word != "--write"] or sorted(os.listdir(os.path.join(TOP, "crates")))
-    if any(crate.startswith("-") or not os.path.isdir(os.path.join(TOP, "crates", crate)) for crate in crates):
-        sys.exit(__doc__.strip())
+def main() -> None:
+    parser = words_of(__doc__)
+    parser.add_argument("--write", action="store_true", help="take the names away")
+    parser.add_argument("crates", metavar="CRATE", nargs="*")
+    given = parser.parse_args()
+    writes, crates = given.write, given.crates or sorted(os.listdir(os.path.join(TOP, "crates")))
+    for crate in crates:
+        if not os.path.isdir(os.path.join(TOP, "crates", crate)):
+            parser.error(f"there is no crate {crate}")
     count = 0
     for crate in crates:
         for file in files(crate):
@@ -81,4 +87,5 @@ def main():
     sys.exit(1 if count and not writes else 0)
 
 
-main()
+if __name__ == "__main__":
+    main()

@@ -17,7 +17,8 @@ import sys
 import tempfile
 
 import rows
-from random_source import Crowd, Generator, damaged, deep, workers
+from random_shapes import Crowd, damaged, deep, workers
+from random_source import Generator
 from schedules import drawn, runnable, written
 
 HERE = os.path.dirname(os.path.abspath(__file__))

@@ -1,41 +1,66 @@
 #!/usr/bin/env python3
-"""compare_books.py PROGRAM PLAIN [COUNT]: damages the derived books of the accepted examples, and holds what `verify` says of
+"""Damages the derived books of the accepted examples, and holds what `verify` says of
 each text as a text against the plain program's reader (`read-book`). The exit status is 0 where they agree on all.
 """
+from __future__ import annotations
+
 import os
 import random
 import subprocess
 import sys
 import tempfile
 
-TOP = os.path.join(os.path.dirname(os.path.abspath(__file__)), "..", "examples")
-PIECES = ["(", ")", " ", "\n", "0", "9", "64", "mover", "const", "(0 mover atomic)", "(1.2 ", "end", "method ", "skip 0", "65536 ", "4294967296"]
+from command_line import PROGRAM, TOP, count_of, program_of, words_of
+
+EXAMPLES = os.path.join(TOP, "examples")
+PIECES = [
+    "(",
+    ")",
+    " ",
+    "\n",
+    "0",
+    "9",
+    "64",
+    "mover",
+    "const",
+    "(0 mover atomic)",
+    "(1.2 ",
+    "end",
+    "method ",
+    "skip 0",
+]
+PIECES += ["65536 ", "4294967296"]
 
 
-def damaged(book, random):
-    at = random.randrange(len(book))
-    choice = random.randrange(4)
+def damaged(book: str, chooser: random.Random) -> str:
+    at = chooser.randrange(len(book))
+    choice = chooser.randrange(4)
     if choice == 0:
-        return book[:at] + book[at + 1:]
+        return book[:at] + book[at + 1 :]
     if choice == 1:
-        return book[:at] + random.choice(PIECES) + book[at:]
+        return book[:at] + chooser.choice(PIECES) + book[at:]
     if choice == 2:
-        return book[:at] + random.choice(PIECES) + book[at + 1:]
-    other = random.randrange(len(book))
-    return book[:at] + book[other:other + random.randrange(20)] + book[at:]
+        return book[:at] + chooser.choice(PIECES) + book[at + 1 :]
+    other = chooser.randrange(len(book))
+    return book[:at] + book[other : other + chooser.randrange(20)] + book[at:]
 
 
-def said(*words):
-    return subprocess.run(words, capture_output=True).stdout.decode()
+def said(*words: str) -> str:
+    return subprocess.run(words, capture_output=True, check=False).stdout.decode()
 
 
-def main():
-    program, plain, count = sys.argv[1], sys.argv[2], int((sys.argv + ["200"])[3])
+def main() -> None:
+    parser = words_of(__doc__)
+    parser.add_argument("program", metavar="PROGRAM", type=program_of, help=PROGRAM)
+    parser.add_argument("plain", metavar="PLAIN", type=program_of, help="the plain program of this folder")
+    parser.add_argument("count", metavar="COUNT", type=count_of, nargs="?", default=200, help="so many of each (200)")
+    given = parser.parse_args()
+    program, plain, count = given.program, given.plain, given.count
     wrong = tried = 0
     with tempfile.TemporaryDirectory() as folder:
         path = os.path.join(folder, "book")
-        for name in sorted(os.listdir(TOP)):
-            source = os.path.join(TOP, name)
+        for name in sorted(os.listdir(EXAMPLES)):
+            source = os.path.join(EXAMPLES, name)
             book = said(program, "derive", source) if name.endswith(".java") else ""
             if not book.startswith("book "):
                 continue
@@ -52,4 +77,5 @@ def main():
     sys.exit(1 if wrong else 0)
 
 
-main()
+if __name__ == "__main__":
+    main()

@@ -1,3 +1,4 @@
+#!/usr/bin/env python3
 """make_checked.py KIND [refused]: writes a well-formed source of at most 262,144 bytes for `check`, as large as that allows; with
 `refused` one that the rules refuse, for `blame`: the last method breaks its bound, in `chain` and `cycle` the first one, which is
 found last.

@@ -1,12 +1,17 @@
 #!/usr/bin/env python3
-"""make_levels.py SOURCE: writes a level for each class of a source, rising from 1 in source order; a class has that of the class that
+"""Writes a level for each class of a source, rising from 1 in source order; a class has that of the class that
 it extends. A text for `levels` to be timed with: nothing says that it orders the program."""
+from __future__ import annotations
+
 import re
-import sys
+
+from command_line import words_of
 
 
-def main():
-    with open(sys.argv[1]) as source:
+def main() -> None:
+    parser = words_of(__doc__)
+    parser.add_argument("source", metavar="SOURCE")
+    with open(parser.parse_args().source, encoding="utf-8") as source:
         above = dict(re.findall(r"\bclass\s+(\w+)(?:\s+extends\s+(\w+))?", source.read()))
     level = {name: place for place, name in enumerate(above, 1)}
     for name in above:
@@ -16,4 +21,5 @@ def main():
         print(name, level[top])
 
 
-main()
+if __name__ == "__main__":
+    main()

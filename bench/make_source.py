@@ -1,6 +1,10 @@
 #!/usr/bin/env python3
 """Writes a source of at most so many bytes: classes that use every production of the grammar."""
+from __future__ import annotations
+
 import sys
+
+from command_line import count_of, words_of
 
 CLASS = """public class A%d implements Runnable {
     final int n;
@@ -21,8 +25,11 @@ CLASS = """public class A%d implements Runnable {
 }
 """
 
-def main():
-    size = int(sys.argv[1])
+
+def main() -> None:
+    parser = words_of(__doc__)
+    parser.add_argument("size", metavar="SIZE", type=count_of, help="so many bytes")
+    size = parser.parse_args().size
     out, k = "class Main { void main() { } }\n", 0
     while True:
         text = CLASS % ((k,) * CLASS.count("%d"))
@@ -31,4 +38,6 @@ def main():
         out, k = out + text, k + 1
     sys.stdout.write(out + " " * (size - len(out)))
 
-main()
+
+if __name__ == "__main__":
+    main()

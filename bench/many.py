@@ -1,19 +1,22 @@
 #!/usr/bin/env python3
-"""many.py make FOLDER [COUNT]       writes COUNT random sources (10,000 unless said), in folders of 1,000
-many.py measure FOLDER [ROUNDS]   times the ways of docs/many.md on them, on one, two and four processes
+"""Writes many random sources, in folders of 1,000 (make), and times the ways of docs/many.md on them, on one, two and
+four processes (measure).
 
-`measure` wants `atomic` and `atomic_why` in the path, and writes a row of a table for each way: seconds from begin to end, the least of so
-many rounds (1 unless said), and the least processor seconds of all processes together. Load beside it makes the first greater, and hardly
-the second.
+`measure` wants `atomic` and `atomic_why` in the path, and writes a row of a table for each way: seconds from begin to
+end, the least of so many rounds (1 unless said), and the least processor seconds of all processes together. Load
+beside it makes the first greater, and hardly the second.
 """
+from __future__ import annotations
+
 import os
 import random
 import resource
 import subprocess
-import sys
 import time
 
-from random_source import Generator, workers
+from command_line import count_of, words_of
+from random_shapes import workers
+from random_source import Generator
 
 WORDS = ("guarded_by", "write_guarded_by")
 WAYS = [
@@ -21,18 +24,21 @@ WAYS = [
     ("explain, by `xargs`", "find . -name '*.java' -print0 | xargs -0 -n 1 -P {} atomic_why > refused.txt"),
     ("explain, by `parallel`", "find . -name '*.java' | parallel -j {} atomic_why > refused.txt"),
     ("write books", "find . -name '*.java' -print0 | xargs -0 -n 1 -P {} sh -c 'atomic derive \"$0\" > \"$0.book\"'"),
-    ("verify books", "find . -name '*.java' -print0 | xargs -0 -n 1 -P {} sh -c 'atomic verify \"$0\" \"$0.book\"' > verdicts.txt"),
+    (
+        "verify books",
+        "find . -name '*.java' -print0 | xargs -0 -n 1 -P {} sh -c 'atomic verify \"$0\" \"$0.book\"' > verdicts.txt",
+    ),
 ]
 
 
-def source(number):
+def source(number: int) -> str:
     chooser = random.Random(number)
     if number % 2:
         return workers(chooser, WORDS, chooser.random() < 0.5)
     return Generator(number, calm=True, words=WORDS, extends=chooser.random() < 0.5).source()
 
 
-def make(folder, count):
+def make(folder: str, count: int) -> None:
     for number in range(count):
         inside = os.path.join(folder, f"{number // 1000:02}")
         os.makedirs(inside, exist_ok=True)
@@ -40,35 +46,41 @@ def make(folder, count):
             file.write(source(number))
 
 
-def spent():
+def spent() -> float:
     used = resource.getrusage(resource.RUSAGE_CHILDREN)
     return used.ru_utime + used.ru_stime
 
 
-def timed(command, folder):
+def timed(command: str, folder: str) -> tuple[float, float]:
     """Seconds from begin to end, and processor seconds."""
     begun, before = time.perf_counter(), spent()
-    subprocess.run(command, shell=True, cwd=folder, stderr=subprocess.DEVNULL)
+    subprocess.run(command, shell=True, cwd=folder, stderr=subprocess.DEVNULL, check=False)
     return time.perf_counter() - begun, spent() - before
 
 
-def measure(folder, rounds):
+def measure(folder: str, rounds: int) -> None:
     print("| way | one process | two | four | processor seconds |\n|---|---|---|---|---|")
     for name, command in WAYS:
-        runs = {processes: [timed(command.format(processes), folder) for _ in range(rounds)] for processes in (1, 2, 4)}
+        runs = {}
+        for processes in (1, 2, 4):
+            runs[processes] = [timed(command.format(processes), folder) for _ in range(rounds)]
         times = " | ".join(f"{min(seconds for seconds, _ in runs[processes]):.0f}" for processes in runs)
         used = min(used for tries in runs.values() for _, used in tries)
         print(f"| {name} | {times} | {used:.0f} |", flush=True)
 
 
-def main():
-    words = sys.argv[1:]
-    if len(words) in (2, 3) and words[0] == "measure":
-        measure(words[1], int((words + ["1"])[2]))
-    elif len(words) in (2, 3) and words[0] == "make":
-        make(words[1], int((words + ["10000"])[2]))
+def main() -> None:
+    parser = words_of(__doc__)
+    parser.add_argument("what", choices=["make", "measure"])
+    parser.add_argument("folder", metavar="FOLDER")
+    text = "so many sources (10,000), or so many rounds (1)"
+    parser.add_argument("count", metavar="COUNT", type=count_of, nargs="?", help=text)
+    given = parser.parse_args()
+    if given.what == "make":
+        make(given.folder, 10_000 if given.count is None else given.count)
     else:
-        sys.exit(__doc__.strip())
+        measure(given.folder, 1 if given.count is None else given.count)
 
 
-main()
+if __name__ == "__main__":
+    main()

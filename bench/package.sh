@@ -1,21 +1,25 @@
 #!/bin/sh
 # usage: package.sh [--unproved] FOLDER
-# Makes FOLDER/atomic_VERSION_amd64.deb of the proved programs crates/atomic_cli/out/atomic_cli and crates/atomic_why/out/atomic_why:
-# the programs, the scripts of tools/, manual pages, completion for bash, examples and documents. It then installs the package into
-# an empty root and runs it there. docs/formats.md says how the version is made.
+# Makes FOLDER/atomic_VERSION_amd64.deb of the proved programs crates/atomic_cli/out/atomic_cli and
+# crates/atomic_why/out/atomic_why: the programs, the commands of tools/, manual pages, completion for bash, examples and
+# documents. It then installs the package into an empty root and runs it there. docs/formats.md says how the version is
+# made.
 #
 # With --unproved it takes what quick.sh builds, or what ATOMIC and ATOMIC_WHY name; the version says so. A proved
-# program that is older than a file of the crates is refused.
+# program that is older than a file of the crates is refused. The package gets its name when it is whole and was tried.
 set -eu
 top=$(cd "$(dirname "$0")/.." && pwd)
 here=$(cd "$(dirname "$0")" && pwd)
 proved=yes
+usage() { sed -n '2,/^set /{/^# /s/^# //p; /^#$/s/^#//p}' "$0"; exit "$1"; }
+case ${1-} in --help | -h) usage 0 ;; esac
 if [ "${1-}" = --unproved ]; then proved=no; shift; fi
-case ${1--} in -*) sed -n '2,8s/^# \{0,1\}//p' "$0"; exit 2 ;; esac
+case ${1--} in -*) usage 2 >&2 ;; esac
 mkdir -p "$1"
 to=$(cd "$1" && pwd)
 work=$(mktemp -d)
 trap 'rm -rf "$work"' EXIT
+trap 'exit 130' HUP INT TERM
 umask 022
 
 # The programs.
@@ -42,13 +46,18 @@ export SOURCE_DATE_EPOCH
 # The files.
 root=$work/package
 share=$root/usr/share
-mkdir -p "$root/DEBIAN" "$root/usr/bin" "$share/atomic/tools" "$share/man/man1" "$share/bash-completion/completions" "$share/doc/atomic/docs" "$share/doc/atomic/examples"
+mkdir -p "$root/DEBIAN" "$root/usr/bin" "$share/atomic" "$share/man/man1" "$share/bash-completion/completions" \
+    "$share/doc/atomic/docs" "$share/doc/atomic/examples"
 install -m 755 -s "$atomic" "$root/usr/bin/atomic"
 install -m 755 -s "$why" "$root/usr/bin/atomic_why"
-for tool in page witness sarif; do ln -s "../share/atomic/tools/$tool.py" "$root/usr/bin/atomic-$tool"; done
-git -C "$top" ls-files tools | while read -r file; do install -m 644 "$top/$file" "$share/atomic/$file"; done
-chmod 755 "$share/atomic/tools/page.py" "$share/atomic/tools/witness.py" "$share/atomic/tools/sarif.py"
-mv "$share/atomic/tools/atomic.bash" "$share/bash-completion/completions/atomic"
+git -C "$top" ls-files tools/atomic_tools | while read -r file; do install -D -m 644 "$top/$file" "$share/atomic/$file"; done
+echo "$version" > "$share/atomic/tools/atomic_tools/VERSION"
+install -m 644 "$top/tools/pre-commit" "$share/atomic/tools"
+for tool in atomic-page atomic-witness atomic-sarif; do
+    install -m 755 "$top/tools/$tool" "$share/atomic/tools"
+    ln -s "../share/atomic/tools/$tool" "$root/usr/bin/$tool"
+done
+install -m 644 "$top/tools/atomic.bash" "$share/bash-completion/completions/atomic"
 for name in atomic_why atomic-page atomic-witness atomic-sarif; do ln -s atomic "$share/bash-completion/completions/$name"; done
 for name in witness sarif; do ln -s atomic-page.1.gz "$share/man/man1/atomic-$name.1.gz"; done
 for page in "$top"/docs/*.1; do gzip -9n < "$page" > "$share/man/man1/$(basename "$page").gz"; done
@@ -74,9 +83,22 @@ Description: static checker for atomicity in a small Java-like language
  atomic_why which statements are why not. atomic-page, atomic-witness and
  atomic-sarif show it.
 END
-(cd "$root" && find usr -type f | sort | xargs md5sum > DEBIAN/md5sums)
+# What Python keeps of the modules beside them goes with the package.
+cat > "$root/DEBIAN/prerm" <<'END'
+#!/bin/sh
+set -e
+[ ! -d /usr/share/atomic ] || find /usr/share/atomic -name __pycache__ -prune -exec rm -rf {} +
+END
+chmod 755 "$root/DEBIAN/prerm"
+(cd "$root" && find usr -type f -print0 | sort -z | xargs -0 md5sum > DEBIAN/md5sums)
 find "$root" -exec touch -h -d "@$SOURCE_DATE_EPOCH" {} +
-deb=$to/atomic_${version}_amd64.deb
-dpkg-deb --root-owner-group --build "$root" "$deb" > /dev/null
-"$here/try_package.sh" "$deb"
-echo "$deb"
+name=atomic_${version}_amd64.deb
+dpkg-deb --root-owner-group --build "$root" "$work/$name" > /dev/null
+"$here/try_package.sh" "$work/$name"
+# Beside its place first: a full disk leaves nothing under the name that is cut off.
+beside=$(mktemp "$to/.atomic-XXXXXX")
+trap 'rm -rf "$work" "$beside"' EXIT
+cp "$work/$name" "$beside"
+chmod 644 "$beside"
+mv "$beside" "$to/$name"
+echo "$to/$name"

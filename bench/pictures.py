@@ -1,9 +1,11 @@
 #!/usr/bin/env python3
-"""pictures.py PROGRAM WHY: takes the pictures of docs/ anew, in Debian's chromium.
+"""Takes the pictures of docs/ anew, in Debian's chromium.
 
-Each picture is one of a page that `tools/page.py` makes of an example. The digest of that page is kept in the picture's own text, so
-check_tools.py tells where a picture isn't one of today's page, without a browser.
+Each picture is one of a page that `atomic-page` makes of an example. The digest of that page is kept in the picture's
+own text, so check_tools.py tells where a picture isn't one of today's page, without a browser.
 """
+from __future__ import annotations
+
 import hashlib
 import os
 import struct
@@ -11,10 +13,14 @@ import subprocess
 import sys
 import tempfile
 import zlib
+from collections.abc import Iterator
+from typing import Optional
 
-HERE = os.path.dirname(os.path.abspath(__file__))
-TOP = os.path.join(HERE, "..")
-# the picture, and the words of page.py in examples/
+from browser import Browser, Page
+from command_line import PROGRAM, TOOLS, TOP, WHY, program_of, words_of
+
+Clip = tuple[float, float, float, float]
+# the picture, and the words of atomic-page in examples/
 PICTURES = {"page.png": "account.java", "witness.png": "tickets_race.java tickets_race.witness"}
 POINT = "document.querySelector('#L17 u').dispatchEvent(new MouseEvent('mouseover', { bubbles: true })); scrollTo(0, 0)"
 FOLD = "document.querySelector('[data-fold]').click(); document.querySelector('.lanes').scrollLeft = 0"
@@ -22,11 +28,11 @@ AREA = "(a => [a.x + scrollX, a.y + scrollY, a.width, a.height])(document.queryS
 KEY = b"page-sha256"
 
 
-def digest_of_page(page):
+def digest_of_page(page: str) -> str:
     return hashlib.sha256(page.encode()).hexdigest()
 
 
-def chunks(data):
+def chunks(data: bytes) -> Iterator[tuple[bytes, bytes]]:
     """The chunks of a PNG file: kinds and contents."""
     place = 8
     while place < len(data):
@@ -35,11 +41,11 @@ def chunks(data):
         place += 12 + size
 
 
-def chunk(kind, content):
+def chunk(kind: bytes, content: bytes) -> bytes:
     return struct.pack(">I", len(content)) + kind + content + struct.pack(">I", zlib.crc32(kind + content))
 
 
-def digest_in(path):
+def digest_in(path: str) -> Optional[str]:
     """The digest that a picture holds, None where it has none."""
     if not os.path.exists(path):
         return None
@@ -48,7 +54,7 @@ def digest_in(path):
     return next((value.decode() for key, _, value in texts if key == KEY), None)
 
 
-def keep_digest(path, digest):
+def keep_digest(path: str, digest: str) -> None:
     """Puts the digest into the picture, and its pixels together in one piece."""
     with open(path, "rb") as file:
         found = list(chunks(file.read()))
@@ -59,7 +65,7 @@ def keep_digest(path, digest):
         file.write(b"\x89PNG\r\n\x1a\n" + b"".join(chunk(*part) for part in parts))
 
 
-def clip_of(name, page):
+def clip_of(name: str, page: Page) -> Clip:
     """The area of the picture: of the listing its head and the refused method with its neighbours; else the schedule."""
     if name == "witness.png":
         page.run(FOLD)
@@ -71,8 +77,9 @@ def clip_of(name, page):
     return left, top, width, end - top
 
 
-def take(name, words, folder, browser, environment):
-    page = subprocess.run([sys.executable, "../tools/page.py", *words.split()], cwd=os.path.join(TOP, "examples"), env=environment, capture_output=True, check=True)
+def take(name: str, words: str, folder: str, browser: Browser, environment: dict[str, str]) -> None:
+    made = [sys.executable, os.path.join(TOOLS, "atomic-page"), *words.split()]
+    page = subprocess.run(made, cwd=os.path.join(TOP, "examples"), env=environment, capture_output=True, check=True)
     path, target = os.path.join(folder, name + ".html"), os.path.join(TOP, "docs", name)
     with open(path, "wb") as file:
         file.write(page.stdout)
@@ -82,12 +89,12 @@ def take(name, words, folder, browser, environment):
     print(f"docs/{name}: {os.path.getsize(target)} bytes")
 
 
-def main():
-    if len(sys.argv) != 3 or sys.argv[1].startswith("-"):
-        sys.exit(__doc__.strip())
-    from browser import Browser
-
-    environment = {**os.environ, "ATOMIC": os.path.abspath(sys.argv[1]), "ATOMIC_WHY": os.path.abspath(sys.argv[2])}
+def main() -> None:
+    parser = words_of(__doc__)
+    parser.add_argument("program", metavar="PROGRAM", type=program_of, help=PROGRAM)
+    parser.add_argument("why", metavar="WHY", type=program_of, help=WHY)
+    given = parser.parse_args()
+    environment = {**os.environ, "ATOMIC": given.program, "ATOMIC_WHY": given.why}
     with tempfile.TemporaryDirectory() as folder, Browser() as browser:
         for name, words in PICTURES.items():
             take(name, words, folder, browser, environment)

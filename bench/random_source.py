@@ -1,70 +1,55 @@
-"""Random sources: programs of the grammar that mostly have types, and damaged texts.
+"""Random sources: programs of the grammar whose names and types mostly fit.
 
-A Generator draws a program whose names and types fit, but for a slip now and then where `slips` says so: a name that
-nothing declares, a wrong type, an assigned final, a lock that is none. A calm one mostly takes a guard before it touches
-a guarded field, so that many of its programs are accepted. With `extends` classes extend each other. A Crowd draws methods with many locks. `workers` draws a
-program whose threads meet at shared cells, `deep` a body whose height is near the limit. `damaged` cuts, repeats, swaps
-or changes tokens or bytes of a source.
+A Generator draws a program, but for a slip now and then where `slips` says so: a name that nothing declares, a wrong
+type, an assigned final, a lock that is none. A calm one mostly takes a guard before it touches a guarded field, so
+that many of its programs are accepted. With `extends` classes extend each other. `random_shapes` has programs of
+other shapes.
 """
+from __future__ import annotations
+
 import random
-import re
+from collections.abc import Callable, Sequence
+from typing import Optional, TypeVar, Union
 
-TOKEN = re.compile(r"[A-Za-z_0-9]+|==|!=|<=|>=|&&|\|\||--|\S|\s+")
-SPARE = "class A B this f g ( ) { } ; , . = == < + - ! && 0 7 2147483648 if else while return synchronized new final int boolean void atomic requires guarded_by null true @ /* // public implements Runnable extends Thread System x y".split()
+from random_parts import Class, Field, Method, Variable
 
-
-class Field:
-    def __init__(self, name, ty, final, guard=None, word=None):
-        self.name, self.ty, self.final, self.guard, self.word = name, ty, final, guard, word
+__all__ = ["Class", "Generator", "renamed"]
 
 
-class Method:
-    def __init__(self, name, params, result, atomic=False, over=None):
-        self.name, self.params, self.result, self.atomic, self.over, self.requires = name, params, result, atomic, over, []
-
-
-class Class:
-    def __init__(self, name):
-        self.name, self.fields, self.methods, self.runnable, self.above = name, [], [], False, None
-
-    def line(self):
-        """The class and those above it, the nearest first."""
-        return [self] + (self.above.line() if self.above else [])
-
-    def all_fields(self):
-        """Its fields, those of the classes above first."""
-        return [f for c in reversed(self.line()) for f in c.fields]
-
-    def all_methods(self):
-        """Its methods, own ones in place of those that they override."""
-        named = {m.name: m for c in reversed(self.line()) for m in c.methods}
-        return list(named.values())
-
-    def finals(self):
-        return [f for f in self.all_fields() if f.final]
-
-    def counts(self):
-        return any(c.runnable for c in self.line())
+# a text and what it stands for
+Named = TypeVar("Named")
 
 
 class Generator:
-    def __init__(self, seed, slips=0.0, calm=False, words=("guarded_by",), extends=False):
+    def __init__(
+        self,
+        seed: Union[int, str],
+        slips: float = 0.0,
+        calm: bool = False,
+        words: Sequence[str] = ("guarded_by",),
+        extends: bool = False,
+    ) -> None:
         self.random = random.Random(seed)
         self.slips, self.calm, self.words, self.extends = slips, calm, words, extends
-        self.classes, self.held = [], []
+        self.classes: list[Class] = []
+        self.held: list[str] = []
+        # of the method that is drawn: its class, what can be seen, and how many locals it has
+        self.cls = Class("")
+        self.scope: list[Variable] = []
+        self.fresh = 0
 
-    def slip(self):
+    def slip(self) -> bool:
         return self.slips > 0 and self.random.random() < self.slips
 
-    def some(self, chance):
+    def some(self, chance: float) -> bool:
         return self.random.random() < chance
 
-    def pick(self, items):
+    def pick(self, items: Sequence[Named]) -> Named:
         return self.random.choice(items)
 
     # Declarations.
 
-    def source(self):
+    def source(self) -> str:
         names = ["A", "B", "C", "D"][: self.random.randint(0, 4)] + ["Main"]
         self.random.shuffle(names)
         self.classes = [Class(name) for name in names]
@@ -76,7 +61,7 @@ class Generator:
         text = " ".join(self.class_text(cls) for cls in self.classes)
         return text.replace("; ", ";\n").replace("} ", "}\n") if self.some(0.5) else text
 
-    def families(self):
+    def families(self) -> list[Class]:
         """The classes, each behind the one that it extends."""
         order = list(self.classes)
         if self.extends:
@@ -85,20 +70,20 @@ class Generator:
                 cls.above = self.pick(order[:k]) if k and self.some(0.7) else None
         return order
 
-    def is_kind(self, ty, other):
+    def is_kind(self, ty: Optional[str], other: str) -> bool:
         """Whether the type is this one or a class below it."""
         cls = self.find(ty)
         return ty == other or cls is not None and any(c.name == other for c in cls.line())
 
-    def type(self):
+    def type(self) -> str:
         if self.slip():
             return "Zz"
         return self.pick(["int", "boolean"] + [c.name for c in self.classes] * 2)
 
-    def class_type(self):
+    def class_type(self) -> str:
         return self.pick([c.name for c in self.classes])
 
-    def declare(self, cls):
+    def declare(self, cls: Class) -> None:
         is_main = any(c.name == "Main" for c in self.classes if cls in c.line())
         known = [] if self.slip() else [f.name for f in cls.all_fields()]
         names = [name for name in ["f", "g", "h", "v", "w", "r", "s"] if name not in known]
@@ -107,7 +92,9 @@ class Generator:
             cls.fields.append(Field(name, self.class_type() if final and self.some(0.8) else self.type(), final))
         inherited = {m.name: m for m in cls.all_methods()}
         for name in ["m", "n", "p", "q"][: self.random.randint(0, 4)]:
-            cls.methods.append(self.overriding(inherited[name]) if name in inherited and not self.slip() else self.new_method(name))
+            cls.methods.append(
+                self.overriding(inherited[name]) if name in inherited and not self.slip() else self.new_method(name)
+            )
         cls.runnable = self.some(0.3)
         if cls.counts() and not self.slip() and ("run" not in inherited or self.some(0.4)):
             atomic = inherited["run"].atomic if "run" in inherited else self.is_atomic()
@@ -119,24 +106,26 @@ class Generator:
         if self.slip() and cls.methods:
             cls.methods.append(self.pick(cls.methods))
 
-    def is_atomic(self):
+    def is_atomic(self) -> bool:
         return self.some(0.15 if self.calm else 0.4)
 
-    def new_method(self, name):
+    def new_method(self, name: str) -> Method:
         params = [(self.some(0.7), self.type(), "abc"[k]) for k in range(self.random.choice([0, 0, 1, 1, 2, 3]))]
         return Method(name, params, self.pick(["void", "void", self.type()]), self.is_atomic())
 
-    def overriding(self, other):
+    def overriding(self, other: Method) -> Method:
         """A method that overrides this one, mostly with other names of its parameters."""
         letters = self.pick(["abc", "bca", "def"])
-        params = [(final if not self.slip() else not final, ty, letters[k]) for k, (final, ty, _) in enumerate(other.params)]
+        params = [
+            (final if not self.slip() else not final, ty, letters[k]) for k, (final, ty, _) in enumerate(other.params)
+        ]
         return Method(other.name, params, other.result, other.atomic if not self.slip() else not other.atomic, other)
 
-    def declare_locks(self, cls):
-        this = [("this", True, cls.name)]
-        for field in cls.fields:
-            if not field.final and self.some(0.6):
-                field.guard, field.word = self.lock(this), self.pick(self.words)
+    def declare_locks(self, cls: Class) -> None:
+        this: list[Variable] = [("this", True, cls.name)]
+        for own in cls.fields:
+            if not own.final and self.some(0.6):
+                own.guard, own.word = self.lock(this), self.pick(self.words)
         for method in cls.methods:
             if method.over and not self.slip():
                 names = {old: new for (_, _, old), (_, _, new) in zip(method.over.params, method.params)}
@@ -146,7 +135,7 @@ class Generator:
                 scope = this + [(name, final, ty) for final, ty, name in method.params]
                 method.requires = [self.lock(scope) for _ in range(self.random.randint(1, 2))]
 
-    def class_text(self, cls):
+    def class_text(self, cls: Class) -> str:
         self.cls = cls
         members = [self.field_text(f) for f in cls.fields]
         if cls.finals() and not self.slip():
@@ -159,11 +148,11 @@ class Generator:
         head += " implements Runnable" * cls.runnable
         return f"{head} {{ {' '.join(members)} }}"
 
-    def field_text(self, field):
-        guard = f" {field.word} {field.guard}" if field.guard else ""
-        return f"{'final ' * field.final}{field.ty} {field.name}{guard};"
+    def field_text(self, own: Field) -> str:
+        guard = f" {own.word} {own.guard}" if own.guard else ""
+        return f"{'final ' * own.final}{own.ty} {own.name}{guard};"
 
-    def method_text(self, method):
+    def method_text(self, method: Method) -> str:
         self.scope = [("this", True, self.cls.name)]
         self.scope += [(name, final, ty) for final, ty, name in method.params]
         self.fresh, self.held = 0, list(method.requires)
@@ -172,50 +161,60 @@ class Generator:
         if method.result != "void" and not self.slip():
             body.append(f"return {self.expr(method.result, 2)};")
         params = ", ".join(f"{'final ' * final}{ty} {name}" for final, ty, name in method.params)
-        head = f"{'public ' * self.some(0.1)}{'atomic ' * method.atomic}{method.result} {method.name}({params}){requires}"
+        head = (
+            f"{'public ' * self.some(0.1)}{'atomic ' * method.atomic}{method.result} {method.name}({params}){requires}"
+        )
         return f"{head} {{ {' '.join(body)} }}"
 
     # Names.
 
-    def find(self, name):
+    def find(self, name: Optional[str]) -> Optional[Class]:
         return next((c for c in self.classes if c.name == name), None)
 
-    def lock(self, scope):
+    def fields_of(self, name: str) -> list[Field]:
+        found = self.find(name)
+        return found.all_fields() if found else []
+
+    def methods_of(self, name: str) -> list[Method]:
+        found = self.find(name)
+        return found.all_methods() if found else []
+
+    def lock(self, scope: Sequence[Variable]) -> str:
         roots = [(n, ty) for n, final, ty in scope if (final or self.slip()) and self.find(ty)]
         if self.slip() or not roots:
             return self.pick(["zz", "this.zz", "this.f.f.f"])
         text, ty = self.pick(roots)
         for _ in range(self.pick([0, 0, 0, 1, 1, 2])):
-            steps = [f for f in self.find(ty).all_fields() if f.final and self.find(f.ty)]
+            steps = [f for f in self.fields_of(ty) if f.final and self.find(f.ty)]
             if not steps:
                 break
             step = self.pick(steps)
             text, ty = f"{text}.{step.name}", step.ty
         return text
 
-    def local(self):
+    def local(self) -> str:
         self.fresh += 1
         return f"x{self.fresh}" if not self.slip() else self.pick(["a", "x1"])
 
     # Statements.
 
-    def statements(self, depth):
+    def statements(self, depth: int) -> list[str]:
         mark = len(self.scope)
         body = [self.statement(depth) for _ in range(self.random.randint(0, 4))]
         del self.scope[mark:]
         return body
 
-    def block(self, depth):
+    def block(self, depth: int) -> str:
         return "{ " + " ".join(self.statements(depth)) + " }"
 
-    def statement(self, depth):
+    def statement(self, depth: int) -> str:
         kind = self.random.randint(0, 15 if depth > 0 else 8)
         if kind <= 2:
             return self.assignment(depth)
         if kind <= 4:
             return self.declaration(depth)
         if kind <= 7:
-            return self.call_of(None, depth) + ";"
+            return (self.call_of(None, depth) or "") + ";"
         if kind == 8:
             return self.pick([";", f"System.out.println({self.expr('int', depth)});", self.start(depth)])
         if kind <= 10:
@@ -237,30 +236,30 @@ class Generator:
         self.held.pop()
         return f"synchronized ({lock}) {body}"
 
-    def wanted_lock(self):
+    def wanted_lock(self) -> str:
         """The guard of some field at hand."""
         targets = self.fields(lambda f: f.guard, True)
-        locks = [renamed(f.guard, {"this": text}) for text, f in targets]
+        locks = [renamed(f.guard, {"this": text}) for text, f in targets if f.guard]
         known = [lock for lock in locks if self.is_lock(lock)]
         return self.pick(known) if known else self.lock(self.scope)
 
-    def start(self, depth):
+    def start(self, depth: int) -> str:
         runnable = [c.name for c in self.classes if c.counts() or self.slip()]
         value = self.value(self.pick(runnable), depth) if runnable else "null"
         return f"new Thread({value}).start();" if value != "null" or self.slip() else ";"
 
-    def declaration(self, depth):
+    def declaration(self, depth: int) -> str:
         final, ty, name = self.some(0.6), self.type(), self.local()
         value = self.path_of(ty) if final and self.some(0.6) else None
         text = f"{'final ' * final}{ty} {name} = {value or self.expr(ty, depth)};"
         self.scope.append((name, final, ty))
         return text
 
-    def path_of(self, ty):
+    def path_of(self, ty: str) -> Optional[str]:
         found = [lock for lock in (self.lock(self.scope) for _ in range(4)) if self.is_kind(self.type_of(lock), ty)]
         return found[0] if found else None
 
-    def type_of(self, lock):
+    def type_of(self, lock: str) -> Optional[str]:
         names = lock.split(".")
         ty = next((ty for n, _, ty in self.scope if n == names[0]), None)
         for name in names[1:]:
@@ -268,7 +267,7 @@ class Generator:
             ty = next((f.ty for f in cls.all_fields() if f.name == name), None) if cls else None
         return ty
 
-    def is_lock(self, lock):
+    def is_lock(self, lock: str) -> bool:
         names = lock.split(".")
         fronts = [".".join(names[:k]) for k in range(1, len(names))]
         classes = [self.find(self.type_of(front)) for front in fronts]
@@ -276,7 +275,7 @@ class Generator:
         roots = [n for n, final, _ in self.scope if final]
         return names[0] in roots and len(names) <= 3 and all(finals) and self.find(self.type_of(lock)) is not None
 
-    def assignment(self, depth):
+    def assignment(self, depth: int) -> str:
         variables = [(n, ty) for n, final, ty in self.scope if not final or (n != "this" and self.slip())]
         if variables and self.some(0.3):
             name, ty = self.pick(variables)
@@ -284,47 +283,47 @@ class Generator:
         targets = self.fields(lambda f: not f.final or self.slip())
         if not targets:
             return ";"
-        text, field = self.pick(targets)
-        return f"{text}.{field.name} = {self.expr(field.ty, depth)};"
+        text, own = self.pick(targets)
+        return f"{text}.{own.name} = {self.expr(own.ty, depth)};"
 
-    def receivers(self):
+    def receivers(self) -> list[tuple[str, str]]:
         found = [(n, ty) for n, _, ty in self.scope if self.find(ty)]
         more = []
         for text, ty in found:
-            more += [(f"{text}.{f.name}", f.ty) for f in self.find(ty).all_fields() if self.find(f.ty)]
+            more += [(f"{text}.{f.name}", f.ty) for f in self.fields_of(ty) if self.find(f.ty)]
         return found + (more if self.some(0.4) else [])
 
-    def fields(self, test, all_of_them=False):
-        found = [(t, f) for t, ty in self.receivers() for f in self.find(ty).all_fields() if test(f)]
+    def fields(self, test: Callable[[Field], object], all_of_them: bool = False) -> list[tuple[str, Field]]:
+        found = [(t, f) for t, ty in self.receivers() for f in self.fields_of(ty) if test(f)]
         if self.calm and not all_of_them and self.some(0.98):
             found = [(t, f) for t, f in found if not f.guard or renamed(f.guard, {"this": t}) in self.held]
         return found
 
     # Expressions.
 
-    def args(self, types, depth):
+    def args(self, types: list[str], depth: int) -> str:
         if self.slip():
             types = types[1:]
         return ", ".join(self.expr(ty, depth - 1) for ty in types)
 
-    def call_of(self, result, depth):
+    def call_of(self, result: Optional[str], depth: int) -> Optional[str]:
         calls = [
             (t, m)
             for t, ty in self.receivers()
-            for m in self.find(ty).all_methods()
+            for m in self.methods_of(ty)
             if result is None or self.is_kind(m.result, result) or self.slip()
         ]
         if not calls:
             return None if result else "new Main()"
         text, method = self.pick(calls)
-        args = [self.path_of(ty) if final and self.some(0.5) else None for final, ty, _ in method.params]
-        args = [a or self.expr(ty, depth - 1) for a, (_, ty, _) in zip(args, method.params)]
+        paths = [self.path_of(ty) if final and self.some(0.5) else None for final, ty, _ in method.params]
+        args = [path or self.expr(ty, depth - 1) for path, (_, ty, _) in zip(paths, method.params)]
         names = {"this": text, **{name: arg for arg, (_, _, name) in zip(args, method.params)}}
         if self.calm and not all(renamed(lock, names) in self.held for lock in method.requires):
             return None if result else "new Main()"
         return f"{text}.{'zz' if self.slip() else method.name}({', '.join(args)})"
 
-    def expr(self, ty, depth):
+    def expr(self, ty: str, depth: int) -> str:
         if self.slip():
             ty = self.type()
         if depth <= 0:
@@ -351,7 +350,7 @@ class Generator:
             return f"{self.value('int', 0)} {self.pick(['<', '<=', '>', '>='])} {self.value('int', 0)}"
         return self.value(ty, depth)
 
-    def value(self, ty, depth):
+    def value(self, ty: str, depth: int) -> str:
         choices = [n for n, _, t in self.scope if self.is_kind(t, ty)]
         choices += [f"{t}.{f.name}" for t, f in self.fields(lambda f: self.is_kind(f.ty, ty))]
         if self.slip():
@@ -369,188 +368,7 @@ class Generator:
         return "null"
 
 
-class Crowd:
-    """A program whose methods have about as many locks as they may."""
-
-    def __init__(self, chooser, words):
-        self.chooser, self.words = chooser, words
-        self.count = chooser.randint(2, 5)
-        # A tame one takes the lock first, and asks for few.
-        self.is_tame = chooser.random() < 0.7
-
-    def lock(self):
-        weights = [30, 3, 2, 1, 1, 1] if self.is_tame else [6, 2, 2, 1, 1, 1]
-        fields = self.chooser.choices(["", ".a", ".b", ".a.a", ".a.b", ".b.a"], weights)[0]
-        return self.chooser.choice(self.roots) + fields
-
-    def call(self):
-        args = ", ".join(self.chooser.choice([self.lock(), self.lock(), "null", "r"]) for _ in range(3))
-        return f"{self.lock()}.m{self.chooser.randrange(self.count)}({args});"
-
-    def statement(self, depth):
-        kind = self.chooser.randint(0, 9 if depth > 0 else 4)
-        lock = self.lock()
-        if kind <= 1:
-            return self.call()
-        if kind == 2 and self.is_tame:
-            return f"{lock}.u = {self.lock()}.u;"
-        if kind == 2:
-            return f"{lock}.{self.chooser.choice('uvw')} = {self.lock()}.{self.chooser.choice('vw')};"
-        if kind <= 4:
-            # The guard of v is the object, that of w its field a.
-            field, guard = self.chooser.choice([("v", lock), ("w", f"{lock}.a")])
-            return f"synchronized ({guard}) {{ {lock}.{field} = 1; }}" if guard.count(".") <= 2 else ";"
-        if kind == 5:
-            name = f"x{len(self.roots)}_{self.chooser.randrange(1000)}"
-            value = self.chooser.choice([self.lock(), self.lock(), "r", "new N(p, q)"])
-            self.roots.append(name)
-            rest = self.statements(depth - 1)
-            self.roots.pop()
-            return f"{{ final N {name} = {value}; {rest} }}"
-        if kind == 6:
-            return f"if (p == q) {{ {self.statements(depth - 1)} }} else {{ {self.statements(depth - 1)} }}"
-        if kind == 7:
-            return f"while (p != q) {{ {self.statements(depth - 1)} }}"
-        return f"synchronized ({lock}) {{ {self.statements(depth - 1)} }}"
-
-    def statements(self, depth):
-        return " ".join(self.statement(depth) for _ in range(self.chooser.randint(1, 3)))
-
-    def method(self, number):
-        self.roots = ["this", "p", "q"]
-        wanted = self.chooser.choice([0, 0, 0, 0, 0, 1] if self.is_tame else [0, 0, 1, 2, 4])
-        requires = sorted({self.lock() for _ in range(wanted)})
-        text = f"{'atomic ' * (self.chooser.random() < 0.2)}void m{number}(final N p, final N q, N r)"
-        return f"{text}{' requires ' * bool(requires)}{', '.join(requires)} {{ {self.statements(2)} }}"
-
-    def source(self):
-        methods = "\n".join(self.method(k) for k in range(self.count))
-        fields = f"int u; int v {self.chooser.choice(self.words)} this; int w {self.chooser.choice(self.words)} this.a;"
-        return (
-            f"class N {{ final N a; final N b; {fields} N(N a, N b) {{ this.a = a; this.b = b; }}\n{methods} }}\n"
-            "class Main { void main() { } }\n"
-        )
-
-
-def method_of(chooser, name, body):
-    return f"{chooser.choice(['atomic ', 'atomic ', '', '', ''])}void {name}(int d) {{ {body} }}"
-
-
-def cell_step(chooser):
-    """A statement of a cell, with its lock held."""
-    return chooser.choice(
-        [
-            "this.v = this.v + d;",
-            "this.v = this.v * 2; this.w = this.v;",
-            "if (this.v > 3) { this.v = d; } else { this.w = this.w - d; }",
-            "int i = 0; while (i < 2) { this.v = this.v + i; i = i + 1; }",
-            "synchronized (this) { this.w = d; }",
-            "if (d == 7) { return; } this.w = this.w + 1;",
-            "this.v = d / this.w;",
-        ]
-    )
-
-
-def cell_body(chooser, calls):
-    held = f"synchronized (this) {{ {cell_step(chooser)} {chooser.choice(calls + [cell_step(chooser)]) if calls else ''} }}"
-    free = ["this.u = d;", "System.out.println(d);", "this.u = this.u + d;", "System.out.println(this.x);", ""]
-    return chooser.choice([held, held, held, held + " " + chooser.choice(free), chooser.choice(free) + " " + held, chooser.choice(free)])
-
-
-def heirs(chooser, cells):
-    """Classes below `Cell`, whose methods override some of these, and one below `W`."""
-    text, above, known = "", "Cell", []
-    for name in ("Near", "Far")[: chooser.randint(1, 2)]:
-        heads = [cell.partition("{")[0] for cell in cells if chooser.random() < 0.6]
-        known += [f"this.{head.split('void ')[1][0]}(d);" for head in heads if chooser.random() < 0.2]
-        bodies = [cell_body(chooser, known[:1] if chooser.random() < 0.3 else []) for _ in heads]
-        locked = f"synchronized (this) {{ {cell_step(chooser)} }}"
-        own = [f"{head}{{ {locked if head.startswith('atomic') else body} }}" for head, body in zip(heads, bodies)]
-        text += f"class {name} extends {above} {{ {' '.join(own)} }}\n"
-        above = chooser.choice([above, name])
-    run = chooser.choice(["", "public void run() { this.p.a.m(1); this.p.b.n(2); } "])
-    return text + f"class V extends W {{ V(Pair p) {{ this.p = p; }} {run}}}\n"
-
-
-def workers(chooser, words, extends=False):
-    """A program in which some threads call methods of two cells and of a pair, which holds both; it ends or faults."""
-    word = chooser.choice(words)
-    cells, calls = [], []
-    for name in ("m", "n", "o", "p")[: chooser.randint(2, 4)]:
-        cells.append(method_of(chooser, name, cell_body(chooser, calls)))
-        calls.append(f"this.{name}(d);")
-    pairs = []
-    for name in ("both", "one", "two"):
-        inner = " ".join(f"this.{chooser.choice('ab')}.{call[5:]}" for call in chooser.choices(calls, k=chooser.randint(1, 3)))
-        first, second = chooser.choice([("a", "b"), ("b", "a")])
-        locked = f"synchronized (this.{first}) {{ {inner} }}"
-        both = f"synchronized (this.{first}) {{ synchronized (this.{second}) {{ {inner} }} }}"
-        pairs.append(method_of(chooser, name, chooser.choice([inner, locked, both, both])))
-    runs = [f"this.p.{chooser.choice(['both', 'one', 'two', 'a.m', 'b.n'])}({chooser.randint(0, 8)});" for _ in range(chooser.randint(1, 3))]
-    below = heirs(chooser, cells) if extends else ""
-    kinds = ["Cell"] + re.findall(r"class (\w+) extends (?:Cell|Near)", below)
-    runs_of = ["W", "V"] if extends else ["W"]
-    starts = " ".join(f"new Thread(new {chooser.choice(runs_of)}(p)).start();" for _ in range(chooser.randint(2, 3)))
-    pair = f"new Pair(new {chooser.choice(kinds)}(), new {chooser.choice(kinds)}())"
-    return (
-        f"class Cell {{ int v {word} this; int w guarded_by this; int u; int x {words[-1]} this; {' '.join(cells)} }}\n"
-        f"class Pair {{ final Cell a; final Cell b; Pair(Cell a, Cell b) {{ this.a = a; this.b = b; }} {' '.join(pairs)} }}\n"
-        f"class W implements Runnable {{ final Pair p; W(Pair p) {{ this.p = p; }} public void run() {{ {' '.join(runs)} }} }}\n"
-        f"{below}class Main {{ void main() {{ final Pair p = {pair}; {starts} }} }}\n"
-    )
-
-
-STATEMENTS = ["{ %s }", "if (true) %s", "if (true) ; else %s", "while (b) %s", "synchronized (this) { %s }", "{ ; %s ; }", "{ int a = 0; %s }"]
-ENDS = ["x = %s;", "this.f = %s;", "%s.f = 1;", "this.m(%s);", "%s.m();", "new A(%s);", "return %s;", "System.out.println(%s);", "new Thread(%s).start();", "{ int y = %s; }", "if (%s) ;", "%s;"]
-EXPRESSIONS = ["(%s)", "!%s", "-%s", "%s + 1", "1 * %s", "%s && b", "%s.f", "%s.m()", "this.m(1, %s)", "new A(%s)", "this.f.m(%s).g", "%s == null"]
-LEAVES = ["1", "x", "this", "-2147483648", "2147483648", "null", "true", "new A()", "a.b.c"]
-
-
-def deep(chooser):
-    """A body whose height is near the limit, by statements, by expressions or by both."""
-    value, levels = chooser.choice(LEAVES), chooser.randint(56, 68)
-    inner = chooser.choice([0, 1, 2, 5, levels // 2, levels])
-    for _ in range(inner):
-        value = chooser.choice(EXPRESSIONS) % value
-    body = chooser.choice(ENDS) % value
-    for _ in range(levels - inner):
-        body = chooser.choice(STATEMENTS) % body
-    return f"class Main {{ void main() {{ {body} }} }}"
-
-
-def renamed(lock, names):
+def renamed(lock: str, names: dict[str, str]) -> str:
     """The lock with its root replaced."""
     root, dot, fields = lock.partition(".")
     return names.get(root, root) + dot + fields
-
-
-def damaged(source, chooser):
-    """The source with some tokens or bytes cut, repeated, swapped or changed."""
-    if chooser.random() < 0.1:
-        data = bytearray(source.encode())
-        for _ in range(chooser.randint(1, 3)):
-            at = chooser.randrange(len(data) + 1)
-            change = chooser.randint(0, 2)
-            if change == 0:
-                data[at:at] = bytes([chooser.randrange(256)])
-            elif change == 1:
-                del data[at : at + chooser.randint(1, 40)]
-            elif at < len(data):
-                data[at] = chooser.randrange(256)
-        return bytes(data)
-    tokens = TOKEN.findall(source)
-    for _ in range(chooser.randint(1, 3)):
-        at = chooser.randrange(len(tokens) + 1)
-        change = chooser.randint(0, 4)
-        if change == 0:
-            tokens.insert(at, f" {chooser.choice(SPARE)} ")
-        elif change == 1:
-            del tokens[at : at + chooser.randint(1, 3)]
-        elif change == 2 and at < len(tokens):
-            tokens[at] = f" {chooser.choice(SPARE)} "
-        elif change == 3 and at + 1 < len(tokens):
-            other = chooser.randrange(len(tokens))
-            tokens[at], tokens[other] = tokens[other], tokens[at]
-        elif change == 4:
-            del tokens[at:]
-    return "".join(tokens).encode()

@@ -1,13 +1,13 @@
 #!/usr/bin/env python3
-"""usage: refuse_allocations.py PROGRAM [--all | --why] [--rest] [--jobs N]
-
-Refuses each allocation of rows of every command in turn: the k-th, for k from 1 up to the first run in which none is refused.
-Each answer has to be status 8 with nothing written, or the row's. PROGRAM is the built `atomic`, proved or not; refuse.c is
-compiled by `cc` and preloaded into it. Without --all there is a row for each command and status, with it come all rows of
-rows.py. With --why PROGRAM is the built `atomic_why`, and the rows are those of docs/why.md and some more. With --rest all allocations
-behind the k-th are refused too. The exit status is 0 where no answer is wrong.
+"""Refuses each allocation of rows of every command in turn: the k-th, for k from 1 up to the first run in which none
+is refused. Each answer has to be status 8 with nothing written, or the row's. PROGRAM is the built `atomic`, proved
+or not; refuse.c is compiled by `cc` and preloaded into it. Without --all there is a row for each command and status,
+with it come all rows of rows.py. With --why PROGRAM is the built `atomic_why`, and the rows are those of docs/why.md
+and some more. With --rest all allocations behind the k-th are refused too. The exit status is 0 where no answer is
+wrong.
 """
-import argparse
+from __future__ import annotations
+
 import collections
 import concurrent.futures
 import os
@@ -15,20 +15,25 @@ import re
 import subprocess
 import sys
 import tempfile
+from collections.abc import Iterable, Iterator
+from typing import Optional
 
 import rows
+from command_line import HERE, count_of, program_of, words_of
 from documents import source_of, table_rows
 
-HERE = os.path.dirname(os.path.abspath(__file__))
+# the words of a command, its files (None where one isn't there), and its status
+Row = tuple[str, list[Optional[bytes]], int]
+
 WANTED = {"check": (0, 1, 2), "print": (0, 1), "run": (0, 3, 4), "serialise": (0, 1, 2, 3, 4, 5)}
 
 
-def example(name):
+def example(name: str) -> bytes:
     with open(os.path.join(HERE, "..", "examples", name), "rb") as file:
         return file.read()
 
 
-def one_of_each(all_rows):
+def one_of_each(all_rows: Iterable[Row]) -> Iterator[Row]:
     """The first rows with each wanted status of a command; a row is the command's words, its files and the status."""
     seen = set()
     for command, files, status in all_rows:
@@ -37,14 +42,19 @@ def one_of_each(all_rows):
             yield command, files, status
 
 
-def fixed_rows():
+def fixed_rows() -> list[Row]:
     """Worked rows as command, files and status; those that take the most steps are left to --all."""
-    given = [(command, [source], status) for command, source, status, _ in rows.rows(True)]
-    given += [(command, [source, schedule], status) for command, source, schedule, status, _ in rows.schedule_rows()]
-    return [(command, [text if isinstance(text, bytes) else text.encode() for text in files], status) for command, files, status in given]
+    given: list[Row] = [(command, [bytes_of(source)], status) for command, source, status, _ in rows.rows(True, True)]
+    for command, source, schedule, status, _ in rows.schedule_rows(True):
+        given.append((command, [bytes_of(source), bytes_of(schedule)], status))
+    return given
 
 
-def more_rows():
+def bytes_of(text: rows.Text) -> bytes:
+    return text if isinstance(text, bytes) else text.encode()
+
+
+def more_rows() -> Iterator[Row]:
     """Rows of books and examples, of `serialise-open` and `generate`, and of words and files that end a call early."""
     counter, locked, twice = example("counter.java"), example("locked.java"), example("twice.java")
     schedule, book, wrong = example("counter.schedule"), example("locked.book"), example("locked_wrong.book")
@@ -81,9 +91,11 @@ def more_rows():
     yield "other", [], 9
 
 
-def why_rows():
+def why_rows() -> Iterator[Row]:
     """Rows of `atomic_why`: the sources of docs/why.md, examples, and words and files that end a call early."""
-    yield from (("", [source_of(row[-1])], 2) for row in table_rows("docs", "why.md") if re.fullmatch(r"`\d+:\d+: .*`", row[0]))
+    for row in table_rows("docs", "why.md"):
+        if re.fullmatch(r"`\d+:\d+: .*`", row[0]):
+            yield "", [source_of(row[-1])], 2
     for command in ("", "--all"):
         yield command, [example("account.java")], 2
         yield command, [example("account_repaired.java")], 0
@@ -93,35 +105,44 @@ def why_rows():
         yield command, [], 9
 
 
+def tried_rows(all_of_them: bool) -> list[Row]:
+    first = fixed_rows()
+    return [*(first if all_of_them else one_of_each(first)), *more_rows()]
+
+
 class Trial:
-    def __init__(self, program, folder, rest):
+    def __init__(self, program: str, folder: str, rest: bool) -> None:
         self.program, self.folder, self.rest = program, folder, rest
         self.library = os.path.join(folder, "refuse.so")
-        subprocess.run(["cc", "-O2", "-shared", "-fPIC", "-o", self.library, os.path.join(HERE, "refuse.c")], check=True)
+        words = ["cc", "-O2", "-shared", "-fPIC", "-o", self.library, os.path.join(HERE, "refuse.c")]
+        subprocess.run(words, check=True)
 
-    def answer(self, words, refused=None):
+    def answer(self, words: list[str], refused: Optional[int] = None) -> tuple[int, bytes, bool]:
         """Status, text, and whether an allocation was refused."""
         if refused is None:
-            done = subprocess.run([self.program, *words], stdout=subprocess.PIPE)
+            done = subprocess.run([self.program, *words], stdout=subprocess.PIPE, check=False)
             return done.returncode, done.stdout, False
         tells, told = os.pipe()
         given = {"LD_PRELOAD": self.library, "REFUSE": str(refused), "REFUSE_TOLD": str(told)}
         if self.rest:
             given["REFUSE_REST"] = "1"
-        done = subprocess.run([self.program, *words], stdout=subprocess.PIPE, env=given, pass_fds=[told])
+        words = [self.program, *words]
+        done = subprocess.run(words, stdout=subprocess.PIPE, env=given, pass_fds=[told], check=False)
         os.close(told)
         was = os.read(tells, 1)
         os.close(tells)
         return done.returncode, done.stdout, was != b""
 
-    def row(self, number, command, files, status):
+    def row(self, number: int, row: Row) -> tuple[str, collections.Counter[str], list[str]]:
         """The counts of a row, and what was wrong."""
+        command, files, status = row
         names = [os.path.join(self.folder, f"{number}-{k}") for k in range(len(files))]
         for name, data in zip(names, files):
             if data is not None:
                 with open(name, "wb") as file:
                     file.write(data)
-        words, counts, wrong = [*command.split(), *names], collections.Counter(rows=1), []
+        words, counts = [*command.split(), *names], collections.Counter(rows=1)
+        wrong: list[str] = []
         plain = self.answer(words)
         if plain[0] != status:
             wrong.append(f"{command} {files}: wanted {status}, given {plain[0]} with ample memory")
@@ -139,28 +160,31 @@ class Trial:
         return (command.split() or ["a file alone"])[0], counts, wrong
 
 
-def main():
-    asked = argparse.ArgumentParser(usage=__doc__.split("\n")[0].removeprefix("usage: "), description=__doc__.split("\n\n")[1])
-    asked.add_argument("program")
+def main() -> None:
+    asked = words_of(__doc__)
+    asked.add_argument("program", metavar="PROGRAM", type=program_of)
     asked.add_argument("--all", action="store_true")
     asked.add_argument("--why", action="store_true")
     asked.add_argument("--rest", action="store_true")
-    asked.add_argument("--jobs", type=int, default=2)
+    asked.add_argument("--jobs", type=count_of, default=2)
     given = asked.parse_args()
-    tried = list(why_rows()) if given.why else (fixed_rows() if given.all else list(one_of_each(fixed_rows()))) + list(more_rows())
-    counts, wrong = collections.defaultdict(collections.Counter), []
+    tried = list(why_rows()) if given.why else tried_rows(given.all)
+    counts: dict[str, collections.Counter[str]] = collections.defaultdict(collections.Counter)
+    wrong: list[str] = []
     with tempfile.TemporaryDirectory() as folder:
-        trial = Trial(os.path.abspath(given.program), folder, given.rest)
+        trial = Trial(given.program, folder, given.rest)
         with concurrent.futures.ThreadPoolExecutor(given.jobs) as pool:
-            for command, of_row, of_wrong in pool.map(lambda row: trial.row(row[0], *row[1]), enumerate(tried)):
+            for command, of_row, of_wrong in pool.map(lambda row: trial.row(*row), enumerate(tried)):
                 counts[command].update(of_row)
                 wrong += of_wrong
     for line in wrong[:20]:
         print(line[:400])
     for command, of_command in counts.items():
-        print(f"{command}: " + ", ".join(f"{of_command[what]} {what}" for what in ("rows", "refused", "status 8", "the row's answer")))
+        told = ("rows", "refused", "status 8", "the row's answer")
+        print(f"{command}: " + ", ".join(f"{of_command[what]} {what}" for what in told))
     print(f"{len(wrong)} wrong")
     sys.exit(1 if wrong else 0)
 
 
-main()
+if __name__ == "__main__":
+    main()

@@ -1,4 +1,13 @@
 """Worked rows: command, source, status and text that are wanted. None of them comes from a program."""
+from __future__ import annotations
+
+from typing import Optional, Tuple, Union
+
+Text = Union[str, bytes]
+# command, source, status and text; where the text is None, only the status is wanted
+Row = Tuple[str, Text, int, Optional[Text]]
+# the same with a schedule behind the source
+ScheduleRow = Tuple[str, Text, Text, int, Optional[Text]]
 
 CELL = "class Cell { int v guarded_by this; atomic void inc() { synchronized (this) { this.v = this.v + 1; } } %s} "
 WORKER = "class W implements Runnable { final Cell c; W(Cell c) { this.c = c; } public void run() { this.c.inc(); } } "
@@ -17,39 +26,39 @@ WRITES = (
 )
 
 
-def counter(in_cell="", in_main="", behind=""):
+def counter(in_cell: str = "", in_main: str = "", behind: str = "") -> str:
     """Two workers that raise a cell, with more members of the cell, statements of `main` and classes."""
     return CELL % in_cell + WORKER + MAIN % in_main + behind
 
 
-def lines(*texts):
+def lines(*texts: str) -> str:
     return "".join(text + "\n" for text in texts)
 
 
-def accepted(source, *texts):
+def accepted(source: Text, *texts: str) -> Row:
     return ("check", source, 0, lines(*texts))
 
 
-def broken(source, text):
+def broken(source: Text, text: str) -> Row:
     return ("check", source, 2, lines(text))
 
 
-def refused(source, text, command="check"):
+def refused(source: Text, text: str, command: str = "check") -> Row:
     return (command, source, 1, lines(f"refused at {text}"))
 
 
 INC, RUN, STARTS = "Cell.inc this ? mover : atomic", "W.run this.c ? mover : atomic", "Main.main cmpd"
 
 
-def counter_with(member, line):
+def counter_with(member: str, line: str) -> Row:
     return accepted(counter(member), INC, line, RUN, STARTS)
 
 
-def verdicts():
+def verdicts() -> list[Row]:
     box = "class Box { final Cell c; Box(Cell c) { this.c = c; } atomic void clear() { final Cell x = this.c; synchronized (x) { x.v = 0; %s} } }"
     peek = "int peek() requires this { return this.v; } "
 
-    def locking(names):
+    def locking(names: str) -> str:
         params = ", ".join(f"final L {name}" for name in names)
         body = "".join(f"synchronized ({name}) {{ }} " for name in names)
         return f"class L {{ }} class Main {{ void m({params}) {{ {body}}} void main() {{ }} }}"
@@ -58,7 +67,10 @@ def verdicts():
         accepted(counter(), INC, RUN, STARTS),
         accepted(counter() + " " * (262144 - len(counter())), INC, RUN, STARTS),
         broken(counter("atomic void twice() { this.inc(); this.inc(); } "), "Cell.twice: declared atomic, found cmpd"),
-        counter_with("atomic void twice() { synchronized (this) { this.inc(); this.inc(); } } ", "Cell.twice this ? mover : atomic"),
+        counter_with(
+            "atomic void twice() { synchronized (this) { this.inc(); this.inc(); } } ",
+            "Cell.twice this ? mover : atomic",
+        ),
         broken(counter("int peek() { return this.v; } "), "Cell.peek: declared cmpd, found error"),
         counter_with(peek, "Cell.peek mover"),
         broken(counter(peek, "c.peek(); "), "Main.main: declared cmpd, found error"),
@@ -91,8 +103,13 @@ def verdicts():
         refused(locking("abcdefghi"), "1:31: too many locks"),
         ("check", locking("abcdefgh"), 0, None),
         accepted(LOCKED, "Main.main this ? mover : atomic"),
-        broken("class Main { int v guarded_by this; void main() { this.v = 7; } }", "Main.main: declared cmpd, found error"),
-        broken("class Main { int u; atomic void main() { this.u = 1; this.u = 2; } }", "Main.main: declared atomic, found cmpd"),
+        broken(
+            "class Main { int v guarded_by this; void main() { this.v = 7; } }", "Main.main: declared cmpd, found error"
+        ),
+        broken(
+            "class Main { int u; atomic void main() { this.u = 1; this.u = 2; } }",
+            "Main.main: declared atomic, found cmpd",
+        ),
         accepted(
             "class Main { int v guarded_by this; void main() { } void set() requires this { this.v = 1; } }",
             "Main.main const",
@@ -101,7 +118,7 @@ def verdicts():
     ]
 
 
-def faults():
+def faults() -> list[Row]:
     many = "\n".join(f"int f{k};" for k in range(33))
     locals_ = "\n".join(f"int a{k} = 0;" for k in range(65))
     deep = "class Main { void main() {" + "{" * 64 + "}" * 64 + "} }"
@@ -130,7 +147,7 @@ def faults():
     ]
 
 
-def prints():
+def prints() -> list[Row]:
     plain = lines("class Main {", "    void main() {", "    }", "}")
     branches = lines(
         "class Main {",
@@ -152,7 +169,7 @@ def prints():
     ]
 
 
-def write_guards():
+def write_guards() -> list[Row]:
     twice = "atomic void twice() { synchronized (this) { this.inc(); this.inc(); } } "
     return [
         accepted(WRITES % "", "Cell.get this ? mover : atomic", "Cell.inc atomic", "Main.main const"),
@@ -161,7 +178,7 @@ def write_guards():
     ]
 
 
-def families():
+def families() -> list[Row]:
     """Classes that extend each other."""
     put = "class A { int v guarded_by this; atomic void put() { synchronized (this) { this.v = 1; } } } class B extends A { atomic void put() { %s} } "
     get = "class A { %s } class B extends A { } class C extends B { %s } "
@@ -171,42 +188,104 @@ def families():
     return [
         broken(put % "this.v = 2; " + EMPTY_MAIN, "A.put: declared atomic, found error"),
         accepted(put % "" + EMPTY_MAIN, "A.put this ? mover : atomic", "B.put const", "Main.main const"),
-        refused("class A { void f() { } } class B extends A { atomic void f() { } } " + EMPTY_MAIN, "1:58: bad override"),
+        refused(
+            "class A { void f() { } } class B extends A { atomic void f() { } } " + EMPTY_MAIN, "1:58: bad override"
+        ),
         refused("class A extends B { } class B extends A { } " + EMPTY_MAIN, "1:7: circle"),
         refused("class A extends A { } " + EMPTY_MAIN, "1:7: circle"),
         refused("class B extends A { } class A extends A { } " + EMPTY_MAIN, "1:7: circle"),
         refused("class A extends B { } " + EMPTY_MAIN, "1:17: unknown class"),
         refused("class A { int f; } class B extends A { boolean f; } " + EMPTY_MAIN, "1:48: declared twice"),
-        refused("class A { final int n; A(int n) { this.n = n; } } class B extends A { } " + EMPTY_MAIN, "1:57: bad constructor"),
-        refused("class A { final int n; A(int n) { this.n = n; } } class B extends A { final int m; B(int m, int n) { this.m = m; this.n = n; } } " + EMPTY_MAIN, "1:84: bad constructor"),
-        refused("class A implements Runnable { void run() { } } class B extends A { int run() { return 1; } } " + EMPTY_MAIN, "1:72: bad override"),
+        refused(
+            "class A { final int n; A(int n) { this.n = n; } } class B extends A { } " + EMPTY_MAIN,
+            "1:57: bad constructor",
+        ),
+        refused(
+            "class A { final int n; A(int n) { this.n = n; } } class B extends A { final int m; B(int m, int n) { this.m = m; this.n = n; } } "
+            + EMPTY_MAIN,
+            "1:84: bad constructor",
+        ),
+        refused(
+            "class A implements Runnable { void run() { } } class B extends A { int run() { return 1; } } "
+            + EMPTY_MAIN,
+            "1:72: bad override",
+        ),
         refused("class B extends A { } class A implements Runnable { } " + EMPTY_MAIN, "1:7: no run"),
         refused(f"class A {{\n{fields}\n}} class B extends A {{ int g; }} " + EMPTY_MAIN, "34:27: too many"),
-        refused("class A { final int n; A(int n) { this.n = n; } } class Main extends A { Main(int n) { this.n = n; } void main() { } }", "1:1: no main"),
-        refused("class A { void f(int a) { } } class B extends A { void f(boolean a) { } } " + EMPTY_MAIN, "1:56: bad override"),
-        refused("class A { void f(int a) { } } class B extends A { void f(final int a) { } } " + EMPTY_MAIN, "1:56: bad override"),
-        refused("class A { int f() { return 1; } } class B extends A { void f() { } } " + EMPTY_MAIN, "1:60: bad override"),
-        refused(locked % ("void f() requires this { }", "void f() requires this.next { }") + EMPTY_MAIN, "1:143: bad override"),
-        accepted(locked % ("void f(final A a) requires a.next, this { }", "void f(final A b) requires this, b.next, this { }") + EMPTY_MAIN, "A.f const", "B.f const", "Main.main const"),
-        accepted(get % ("int v; int get() { return this.v; }", "int both() { return this.v + this.get(); }") + EMPTY_MAIN, "A.get atomic", "C.both cmpd", "Main.main const"),
-        accepted(get % ("void f() { }", "int v; void f() { this.v = 1; this.v = 2; }") + EMPTY_MAIN, "A.f cmpd", "C.f cmpd", "Main.main const"),
-        accepted(run + "class Main { void main() { new Thread(new B()).start(); } }", "A.run const", "Main.main atomic"),
+        refused(
+            "class A { final int n; A(int n) { this.n = n; } } class Main extends A { Main(int n) { this.n = n; } void main() { } }",
+            "1:1: no main",
+        ),
+        refused(
+            "class A { void f(int a) { } } class B extends A { void f(boolean a) { } } " + EMPTY_MAIN,
+            "1:56: bad override",
+        ),
+        refused(
+            "class A { void f(int a) { } } class B extends A { void f(final int a) { } } " + EMPTY_MAIN,
+            "1:56: bad override",
+        ),
+        refused(
+            "class A { int f() { return 1; } } class B extends A { void f() { } } " + EMPTY_MAIN, "1:60: bad override"
+        ),
+        refused(
+            locked % ("void f() requires this { }", "void f() requires this.next { }") + EMPTY_MAIN,
+            "1:143: bad override",
+        ),
+        accepted(
+            locked
+            % ("void f(final A a) requires a.next, this { }", "void f(final A b) requires this, b.next, this { }")
+            + EMPTY_MAIN,
+            "A.f const",
+            "B.f const",
+            "Main.main const",
+        ),
+        accepted(
+            get % ("int v; int get() { return this.v; }", "int both() { return this.v + this.get(); }") + EMPTY_MAIN,
+            "A.get atomic",
+            "C.both cmpd",
+            "Main.main const",
+        ),
+        accepted(
+            get % ("void f() { }", "int v; void f() { this.v = 1; this.v = 2; }") + EMPTY_MAIN,
+            "A.f cmpd",
+            "C.f cmpd",
+            "Main.main const",
+        ),
+        accepted(
+            run + "class Main { void main() { new Thread(new B()).start(); } }", "A.run const", "Main.main atomic"
+        ),
         accepted("class A { void main() { } } class Main extends A { }", "A.main const"),
         refused("class A { } class B extends A { } class Main { void main() { B b = new A(); } }", "1:64: no rule"),
-        ("print", "class B extends A implements Runnable{}public class A{}", 0, lines("class B extends A implements Runnable {", "}", "class A {", "}")),
-        ("print", "class A extends B { } class B extends A { }", 0, lines("class A extends B {", "}", "class B extends A {", "}")),
+        (
+            "print",
+            "class B extends A implements Runnable{}public class A{}",
+            0,
+            lines("class B extends A implements Runnable {", "}", "class A {", "}"),
+        ),
+        (
+            "print",
+            "class A extends B { } class B extends A { }",
+            0,
+            lines("class A extends B {", "}", "class B extends A {", "}"),
+        ),
         refused("class A extends { }", "1:17: unexpected", "print"),
         refused("class A extends B, C { }", "1:18: unexpected", "print"),
         refused("class A implements Runnable extends B { }", "1:29: unexpected", "print"),
     ]
 
 
-def rows(with_write_guards, with_extends):
+def rows(with_write_guards: bool, with_extends: bool) -> list[Row]:
     """All rows; where the text is None, only the status is wanted."""
-    return verdicts() + faults() + prints() + (write_guards() if with_write_guards else []) + (families() if with_extends else [])
+    return (
+        verdicts()
+        + faults()
+        + prints()
+        + (write_guards() if with_write_guards else [])
+        + (families() if with_extends else [])
+    )
 
 
-def family_schedules():
+def family_schedules() -> list[ScheduleRow]:
     """The receiver's class chooses the method."""
     get = "class A { int get() { return 1; } } class B extends A { int get() { return 2; } } class Main { void main() { A a = new B(); System.out.println(a.get()); } }"
     run = (
@@ -219,12 +298,18 @@ def family_schedules():
     )
     return [
         ("run", get, "0*9", 0, lines("print 2", "object 0:0 Main", "object 0:1 B", "thread 0 done")),
-        ("run", run, "0*6 1*4", 0, lines("print 2", "object 0:0 Main", "object 0:1 C", "thread 0 done", "thread 1 done")),
+        (
+            "run",
+            run,
+            "0*6 1*4",
+            0,
+            lines("print 2", "object 0:0 Main", "object 0:1 C", "thread 0 done", "thread 1 done"),
+        ),
         ("run", named, "0*6", 0, lines("object 0:0 Main", "object 0:1 B x=3 y=0 z=4 w=false", "thread 0 done")),
     ]
 
 
-def schedule_rows(with_extends):
+def schedule_rows(with_extends: bool) -> list[ScheduleRow]:
     """Rows of two files: command, source, schedule, status and text."""
     counted = counter()
     left = ["object 0:0 Main", "object 0:1 Cell v=0", "object 0:2 W c=0:1", "object 0:3 W c=0:1"]
@@ -237,7 +322,7 @@ def schedule_rows(with_extends):
     shared = ["object 0:0 Main", "object 0:1 Cell v=2", *left[2:], *done]
     printed = ["print -2147483648", "print -1", "object 0:0 Main", "thread 0 faulted zero"]
 
-    def after(line, state):
+    def after(line: str, state: list[str]) -> str:
         return lines(line, *("# " + text for text in state))
 
     return (family_schedules() if with_extends else []) + [
@@ -257,7 +342,13 @@ def schedule_rows(with_extends):
         ("serialise", numbers, "0*14", 0, after("0*14", printed)),
         ("run", numbers, "0*14", 0, lines(*printed)),
         ("serialise", numbers, "0*15", 4, lines("entry 15: thread 0 is faulted zero")),
-        ("run", twice, "0*5", 0, lines("object 0:0 Main v=0", "lock 0:0 thread 0 count 2", "thread 0 running Main.main 1")),
+        (
+            "run",
+            twice,
+            "0*5",
+            0,
+            lines("object 0:0 Main v=0", "lock 0:0 thread 0 count 2", "thread 0 running Main.main 1"),
+        ),
         ("serialise", twice, "0*11", 0, after("0*11", ["object 0:0 Main v=7", "thread 0 done"])),
         ("run", counted, "0*0", 3, lines("schedule refused at byte 2: form")),
         ("run", counted, "0*200001", 3, lines("schedule refused at byte 0: too long")),

@@ -1,24 +1,29 @@
 #!/bin/sh
 # usage: try_package.sh PACKAGE.deb
-# Installs the package into an empty root in which there is nothing but the C library, runs it there, and takes it away again. Nothing
-# outside of that root is changed. The scripts of tools/ need Python, which the root hasn't: they run from there with this machine's.
+# Installs the package into an empty root in which there is nothing but the C library, runs it there, and takes it away
+# again. Nothing outside of that root is changed. The commands of tools/ need Python, which the root hasn't: they run from
+# there with this machine's.
 set -eu
-[ -f "${1-}" ] || { sed -n '2,4s/^# \{0,1\}//p' "$0"; exit 2; }
+usage() { sed -n '2,/^set /{/^# /s/^# //p}' "$0"; exit "$1"; }
+case ${1-} in --help | -h) usage 0 ;; esac
+[ -f "${1-}" ] || usage 2 >&2
 if [ "$(id -u)" != 0 ]; then exec unshare --user --map-root-user "$0" "$@"; fi
 root=$(mktemp -d)
-trap 'rm -rf "$root"' EXIT
+trap 'rm -rf "$root" "$root.before" "$root.said"' EXIT
+trap 'exit 130' HUP INT TERM
 wrong() { echo "try_package.sh: $*" >&2; exit 1; }
 
 # An empty root: dpkg's own folder, which knows of the C library alone, and that library.
 mkdir -p "$root/var/lib/dpkg/info" "$root/var/lib/dpkg/updates"
-dpkg-query --status libc6 | sed 's/^Multi-Arch:.*/Multi-Arch: no/; /^Conffiles:/,/^[A-Z]/{/^Conffiles:/d; /^ /d}; /^Depends:/d; /^Recommends:/d' > "$root/var/lib/dpkg/status"
+alone='s/^Multi-Arch:.*/Multi-Arch: no/; /^Conffiles:/,/^[A-Z]/{/^Conffiles:/d; /^ /d}; /^Depends:/d; /^Recommends:/d'
+dpkg-query --status libc6 | sed "$alone" > "$root/var/lib/dpkg/status"
 echo >> "$root/var/lib/dpkg/status"
 ldd /bin/true | grep -o '/[^ ]*' | while read -r library; do
     mkdir -p "$root$(dirname "$library")"
     cp -L "$library" "$root$library"
 done
 find "$root" -path "$root/var" -prune -o -type f -print | sort > "$root.before"
-dpkg --root="$root" --log=/dev/null --install "$1" > "$root.said" 2>&1 || { cat "$root.said" >&2; rm -f "$root.before" "$root.said"; wrong "dpkg doesn't install it"; }
+dpkg --root="$root" --log=/dev/null --install "$1" > "$root.said" 2>&1 || { cat "$root.said" >&2; wrong "dpkg doesn't install it"; }
 
 # The programs, in the root.
 examples=/usr/share/doc/atomic/examples
@@ -39,9 +44,14 @@ gzip -dc "$root/usr/share/man/man1/atomic.1.gz" | grep -q '^.TH ATOMIC 1' || wro
 gzip -dc "$root/usr/share/man/man1/atomic-witness.1.gz" | grep -q '^.TH ATOMIC-PAGE 1' || wrong "the manual page of the scripts"
 bash -c '. "$1"; COMP_WORDS=(atomic se); COMP_CWORD=1; _atomic; [ "${COMPREPLY[*]}" = "serialise serialise-open" ]' - \
     "$root/usr/share/bash-completion/completions/atomic" || wrong "the completion"
-find "$root" -name __pycache__ -prune -exec rm -rf {} +
+version=$(dpkg-deb --field "$1" Version)
+for tool in page witness sarif; do
+    [ "$("$root/usr/bin/atomic-$tool" --version)" = "atomic-$tool $version" ] || wrong "atomic-$tool --version"
+done
+# The root has no shell for the package's own script.
+sh -c "$(sed "s|/usr/share|$root/usr/share|g" "$root/var/lib/dpkg/info/atomic.prerm")"
+rm "$root/var/lib/dpkg/info/atomic.prerm"
 
 # Nothing stays.
 dpkg --root="$root" --log=/dev/null --purge atomic > "$root.said" 2>&1 || { cat "$root.said" >&2; wrong "dpkg doesn't take it away"; }
 find "$root" -path "$root/var" -prune -o -type f -print | sort | cmp -s "$root.before" - || wrong "files stay behind"
-rm -f "$root.before" "$root.said"

@@ -1,70 +1,78 @@
 #!/usr/bin/env python3
-"""try_tools.py PROGRAM WHY [COUNT [SEED]]: holds what the scripts of ../tools read from texts against the programs, on random sources.
+"""Holds what the scripts of ../tools read from texts against the programs, on random sources.
 
-PROGRAM is `atomic`, WHY is `atomic_why`. Of each random source that is well-formed: the
-parts as they are read are those of the book and of the listing, and what they are at the `requires`, by the locks as they are read, is
-what `atomic_why --all` says. Of each random schedule of it: the state or the reason that `run` writes is the scripts' too, and the
-written order that `serialise` writes is the one that their kinds and calls give. The exit status is 0 where all of that held.
+Of each random source that is well-formed: the parts as they are read are those of the book and of the listing, and
+what they are at the `requires`, by the locks as they are read, is what `atomic_why --all` says. Of each random
+schedule of it: the state or the reason that `run` writes is the scripts' too, and the written order that `serialise`
+writes is the one that their kinds and calls give. The exit status is 0 where all of that held.
 """
+from __future__ import annotations
+
 import collections
 import os
 import random
+import shutil
 import sys
 import tempfile
 
-HERE = os.path.dirname(os.path.abspath(__file__))
-sys.path.insert(0, os.path.join(HERE, "..", "tools"))
-
-from random_source import Generator, workers
+from command_line import PROGRAM, WHY, count_of, program_of, set_programs, words_of
+from random_shapes import workers
+from random_source import Generator
 from schedules import drawn
 
-from listing import View
-from machine import Machine, Stuck
-from page import without_promises
-from programs import Answers, Failed, atomic
-from runs import calls_of, written
-from source import Source
+from atomic_tools.command import Failed
+from atomic_tools.machine import Machine
+from atomic_tools.page import without_promises
+from atomic_tools.programs import Answers, atomic
+from atomic_tools.runs import calls_of
+from atomic_tools.schedules import written
+from atomic_tools.source import Source
+from atomic_tools.states import Step, Stuck
+from atomic_tools.views import View
 
 WORDS = ("guarded_by", "write_guarded_by")
 
 
-def random_text(chooser):
+def random_text(chooser: random.Random) -> str:
     if chooser.random() < 0.5:
         return workers(chooser, WORDS, chooser.random() < 0.5)
-    return Generator(chooser.randint(0, 10**9), calm=chooser.random() < 0.7, words=WORDS, extends=chooser.random() < 0.7).source()
+    return Generator(
+        chooser.randint(0, 10**9), calm=chooser.random() < 0.7, words=WORDS, extends=chooser.random() < 0.7
+    ).source()
 
 
-def unit_order(steps):
+def unit_order(steps: list[Step]) -> list[int]:
     """The entries in the order of their units' commit places."""
-    owner = {}
+    owner: dict[int, int] = {}
     for call in calls_of(steps):
         for place in range(call.first, call.last + 1):
             if steps[place].thread == call.thread:
-                owner[place] = call.commit
+                owner[place] = place if call.commit is None else call.commit
     places = sorted(range(len(steps)), key=lambda place: (owner.get(place, place), place))
     return [steps[place].thread for place in places]
 
 
 class Trial:
-    def __init__(self, folder, chooser):
-        self.folder, self.chooser, self.counts, self.wrong = folder, chooser, collections.Counter(), 0
+    def __init__(self, folder: str, chooser: random.Random) -> None:
+        self.folder, self.chooser, self.wrong = folder, chooser, 0
+        self.counts: collections.Counter[str] = collections.Counter()
 
-    def path(self, name):
+    def path(self, name: str) -> str:
         return os.path.join(self.folder, name)
 
-    def write(self, name, text):
+    def write(self, name: str, text: str) -> str:
         with open(self.path(name), "w", encoding="utf-8") as file:
             file.write(text)
         return self.path(name)
 
-    def expect(self, what, holds):
+    def expect(self, what: str, holds: bool) -> None:
         if not holds:
             self.wrong += 1
             print(f"{what}: see source.{self.wrong} and schedule.{self.wrong}")
             for name in ("source", "schedule"):
-                os.system(f"cp {self.path(name)} {name}.{self.wrong}")
+                shutil.copy(self.path(name), f"{name}.{self.wrong}")
 
-    def one(self):
+    def one(self) -> None:
         path = self.write("source", random_text(self.chooser))
         self.write("schedule", "")
         answers = Answers(path)
@@ -81,7 +89,7 @@ class Trial:
         for _ in range(3):
             self.schedule(source, path, answers.status == 0)
 
-    def schedule(self, source, path, accepted):
+    def schedule(self, source: Source, path: str, accepted: bool) -> None:
         """A random schedule, without the entries that can't step."""
         entries = drawn(self.chooser)
         for _ in range(60):
@@ -99,26 +107,31 @@ class Trial:
             entry = int(text.split()[1].rstrip(":"))
             entries = entries[: entry - 1] + entries[entry:]
         if accepted and mine[0] == 0:
-            self.order(source, path, steps)
+            self.order(path, steps)
 
-    def order(self, source, path, steps):
+    def order(self, path: str, steps: list[Step]) -> None:
         status, text = atomic("serialise", path, self.path("schedule"))
         self.counts[f"serialise {status}"] += 1
         if status == 0:
             self.expect("serialise", text.splitlines()[0] == written(unit_order(steps)))
 
 
-def main():
-    if not 3 <= len(sys.argv) <= 5 or sys.argv[1].startswith("-"):
-        sys.exit(__doc__.strip())
-    os.environ["ATOMIC"], os.environ["ATOMIC_WHY"] = map(os.path.abspath, sys.argv[1:3])
-    count, seed = (sys.argv[3:] + ["200", "11"][len(sys.argv) - 3 :])[:2]
+def main() -> None:
+    parser = words_of(__doc__)
+    parser.add_argument("program", metavar="PROGRAM", type=program_of, help=PROGRAM)
+    parser.add_argument("why", metavar="WHY", type=program_of, help=WHY)
+    parser.add_argument("count", metavar="COUNT", type=count_of, nargs="?", default=200, help="so many sources (200)")
+    parser.add_argument("seed", metavar="SEED", type=count_of, nargs="?", default=11, help="where chance begins (11)")
+    given = parser.parse_args()
+    set_programs(given.program, given.why)
     with tempfile.TemporaryDirectory() as folder:
-        trial = Trial(folder, random.Random(int(seed)))
-        for _ in range(int(count)):
+        trial = Trial(folder, random.Random(given.seed))
+        for _ in range(given.count):
             trial.one()
-    print(", ".join(f"{what}: {count}" for what, count in sorted(trial.counts.items())) + f"; {trial.wrong} wrong")
+    told = ", ".join(f"{what}: {count}" for what, count in sorted(trial.counts.items()))
+    print(f"{told}; {trial.wrong} wrong")
     sys.exit(1 if trial.wrong else 0)
 
 
-main()
+if __name__ == "__main__":
+    main()

@@ -1,5 +1,9 @@
-# Completion for bash: the words of `atomic` and `atomic_why`, and the files that they read. Sourced, or put into
+# Completion for bash: the words of the commands, and the files that they read. Sourced, or put into
 # /usr/share/bash-completion/completions, it completes `atomic se<Tab>` and `atomic run counter.java <Tab>`.
+
+_atomic_words() {
+    mapfile -t COMPREPLY < <(compgen -W "$1" -- "$word")
+}
 
 _atomic_files() {
     # the files with these endings, and the folders; all files where there are none
@@ -13,12 +17,15 @@ _atomic_files() {
 }
 
 _atomic() {
-    local word=${COMP_WORDS[COMP_CWORD]}
+    # a word that was typed in quotes is the same word
+    local word=${COMP_WORDS[COMP_CWORD]} command=${COMP_WORDS[1]//[\"\'\\]/}
     case $COMP_CWORD in
-    1) mapfile -t COMPREPLY < <(compgen -W "check run serialise derive verify print generate serialise-open blame verify-blame levels replay" -- "$word") ;;
-    2) [ "${COMP_WORDS[1]}" = generate ] || _atomic_files java ;;
+    1)
+        _atomic_words "check run serialise serialise-open replay derive verify blame verify-blame levels print generate"
+        ;;
+    2) [ "$command" = generate ] || _atomic_files java ;;
     3)
-        case ${COMP_WORDS[1]} in
+        case $command in
         run | serialise | serialise-open | replay) _atomic_files schedule witness ;;
         verify) _atomic_files book ;;
         verify-blame) _atomic_files blame ;;
@@ -29,20 +36,33 @@ _atomic() {
 }
 
 _atomic_why() {
-    local word=${COMP_WORDS[COMP_CWORD]}
+    local word=${COMP_WORDS[COMP_CWORD]} first=${COMP_WORDS[1]//[\"\'\\]/}
     if [[ $COMP_CWORD -eq 1 && $word == -* ]]; then
-        mapfile -t COMPREPLY < <(compgen -W "--all" -- "$word")
-    elif [[ $COMP_CWORD -eq 1 || ($COMP_CWORD -eq 2 && ${COMP_WORDS[1]} == --all) ]]; then
+        _atomic_words "--all"
+    elif [[ $COMP_CWORD -eq 1 || ($COMP_CWORD -eq 2 && $first == --all) ]]; then
         _atomic_files java
     fi
 }
 
 _atomic_tool() {
-    local word=${COMP_WORDS[COMP_CWORD]}
-    case ${COMP_WORDS[0]}$COMP_CWORD in
-    *page2) _atomic_files schedule witness ;;
-    *page1 | *witness1 | *sarif*) _atomic_files java ;;
-    esac
+    local word=${COMP_WORDS[COMP_CWORD]} tool=${COMP_WORDS[0]##*/} options="--help --version --output"
+    local number before=- count=0
+    # the words before that are no options, and no file to write to
+    for ((number = 1; number < COMP_CWORD; number++)); do
+        [[ ${COMP_WORDS[number]} == -* || $before == -o || $before == --output ]] || ((count += 1))
+        before=${COMP_WORDS[number]}
+    done
+    [ "$tool" != atomic-sarif ] || options+=" --github --null"
+    if [[ $before == -o || $before == --output ]]; then
+        mapfile -t COMPREPLY < <(compgen -f -- "$word")
+    elif [[ $word == -* ]]; then
+        _atomic_words "$options"
+    else
+        case $tool$count in
+        atomic-page1) _atomic_files schedule witness ;;
+        atomic-page0 | atomic-witness0 | atomic-sarif*) _atomic_files java ;;
+        esac
+    fi
 }
 
 complete -o filenames -F _atomic atomic

@@ -1,0 +1,57 @@
+"""The words of the scripts of this folder, and where the package of tools/ is.
+
+    words = words_of(__doc__)                an argparse parser that says what the script's own text says
+    words.add_argument("program", metavar="PROGRAM", type=program_of, help=PROGRAM)
+
+Importing this module lets the scripts import `atomic_tools`.
+"""
+from __future__ import annotations
+
+import argparse
+import os
+import sys
+from collections.abc import Sequence
+from typing import Any, Optional
+
+HERE = os.path.dirname(os.path.abspath(__file__))
+TOP = os.path.dirname(HERE)
+TOOLS = os.path.join(TOP, "tools")
+if TOOLS not in sys.path:
+    sys.path.insert(0, TOOLS)
+
+PROGRAM = "the built `atomic`, proved or not"
+WHY = "the built `atomic_why`, proved or not"
+
+
+class Words(argparse.ArgumentParser):
+    """A parser that takes options between other words, too."""
+
+    def parse_args(self, args: Optional[Sequence[str]] = None, namespace: Any = None) -> Any:
+        return self.parse_intermixed_args(args, namespace)
+
+
+def words_of(text: Optional[str]) -> Words:
+    """A parser for a script whose first lines say what it does."""
+    form = argparse.RawDescriptionHelpFormatter
+    return Words(description=(text or "").strip(), formatter_class=form, allow_abbrev=False)
+
+
+def program_of(path: str) -> str:
+    """The whole path of a program that can be run."""
+    if not os.access(path, os.X_OK) or os.path.isdir(path):
+        raise argparse.ArgumentTypeError(f"{path} is no program")
+    return os.path.abspath(path)
+
+
+def count_of(text: str) -> int:
+    """A number of things, from 0 on."""
+    if not text.isascii() or not text.isdigit():
+        raise argparse.ArgumentTypeError(f"{text} is no number")
+    return int(text)
+
+
+def set_programs(atomic: Optional[str] = None, why: Optional[str] = None) -> None:
+    """Lets the package run these programs."""
+    for name, path in (("ATOMIC", atomic), ("ATOMIC_WHY", why)):
+        if path:
+            os.environ[name] = path

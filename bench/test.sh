@@ -1,0 +1,122 @@
+#!/bin/sh
+# usage: test.sh [NAME..]
+# Tests all that isn't Rattle, on the built programs: those of crates/*/out that are no older than the crates, proved or
+# not; else it builds them by quick.sh. Each NAME is one of the tests below; without one all of them run, one after the
+# other, and what fails doesn't keep the others from running. The exit status is 0 where all of them hold.
+#
+#     unittest    the commands of tools/ (tools/tests)
+#     types       tools/ and bench/ by mypy --strict
+#     house       what check_house.py measures
+#     documents   every source and command that the documents and examples show (check_docs.py)
+#     jvm         random programs beside a real JVM (jvm.py), where that script is there
+#     java        atomic-java on sources whose verdicts are known (test_java.py), where that script is there
+#
+# What a test needs and isn't there is installed from the distribution, where this runs as root and apt-get reaches its
+# packages. Else that test fails, and a line says what is missing.
+set -u
+usage() { sed -n '2,/^set /{/^# /s/^# //p; /^#$/s/^#//p}' "$0"; exit "$1"; }
+top=$(cd "$(dirname "$0")/.." && pwd) && cd "$top" || exit 2
+case ${1-} in --help | -h) usage 0 ;; -*) usage 2 >&2 ;; esac
+[ $# -gt 0 ] || set -- unittest types house documents jvm java
+
+# needs COMMAND PACKAGE ..: installs what is missing; 1 where something still is.
+needs() {
+    lacking=''
+    while [ $# -gt 0 ]; do
+        command -v "$1" > /dev/null || lacking="$lacking $2"
+        shift 2
+    done
+    [ -n "$lacking" ] || return 0
+    if [ "$(id -u)" = 0 ] && command -v apt-get > /dev/null; then
+        echo "test.sh: installs$lacking"
+        export DEBIAN_FRONTEND=noninteractive
+        # shellcheck disable=SC2086 # these are several words
+        timeout 600 sh -c 'apt-get install -y "$@" || { apt-get update && apt-get install -y "$@"; }' - $lacking \
+            > /dev/null 2>&1 && return 0
+    fi
+    echo "test.sh: missing, and not to be installed from here:$lacking" >&2
+    return 1
+}
+
+# newest CRATE PROVED UNPROVED: the program of a crate that is no older than the crates; nothing where there is none.
+newest() {
+    for made in "crates/$1/out/$2" "crates/$1/out/$3"; do
+        [ -x "$made" ] || continue
+        [ -z "$(find crates -path '*/out' -prune -o -type f -newer "$made" -print | head -n 1)" ] || continue
+        echo "$top/$made"
+        return
+    done
+}
+
+programs() {
+    ATOMIC=${ATOMIC-$(newest atomic_cli atomic_cli atomic-unproved)}
+    ATOMIC_WHY=${ATOMIC_WHY-$(newest atomic_why atomic_why atomic-why-unproved)}
+    if [ -z "$ATOMIC" ] || [ -z "$ATOMIC_WHY" ]; then
+        bench/quick.sh atomic why || return 1
+        ATOMIC=$top/crates/atomic_cli/out/atomic-unproved ATOMIC_WHY=$top/crates/atomic_why/out/atomic-why-unproved
+    fi
+    export ATOMIC ATOMIC_WHY
+}
+
+# The scripts of bench/ but for those that have no types yet.
+typed() {
+    for script in *.py; do
+        case $script in
+        definitions.py | random_source.py | make_checked.py | plant_errors.py | compare.py | mutate.py) ;;
+        check_crates.py | rows.py | attack_*.py | try_schedules.py | refuse_allocations.py | find_levels.py) ;;
+        make_*.py | measure*.py | many.py | check_imports.py | schedules.py | give_libraries.py | compare_books.py) ;;
+        check_times.py | try_tools.py) ;;
+        *) echo "$script" ;;
+        esac
+    done
+}
+
+run_unittest() {
+    needs python3 python3 git git make make bash bash awk mawk || return 1
+    python3 -m unittest discover -s tools/tests -t tools
+}
+
+run_types() {
+    needs python3 python3 mypy mypy || return 1
+    (cd tools && mypy .) && (cd bench && MYPYPATH=../tools mypy --strict $(typed))
+}
+
+run_house() {
+    needs python3 python3 || return 1
+    python3 bench/check_house.py
+}
+
+run_documents() {
+    needs python3 python3 git git make make bash bash parallel parallel vim vim || return 1
+    python3 bench/check_docs.py "$ATOMIC"
+}
+
+run_jvm() {
+    [ -e bench/jvm.py ] || return 0
+    needs python3 python3 javac openjdk-17-jdk-headless || return 1
+    python3 bench/jvm.py sample "$ATOMIC"
+}
+
+run_java() {
+    [ -e bench/test_java.py ] || return 0
+    needs python3 python3 javac openjdk-17-jdk-headless || return 1
+    bench/java.sh && python3 bench/test_java.py
+}
+
+for name do
+    case $name in
+    unittest | types | house | documents | jvm | java) ;;
+    *) echo "test.sh: there is no test $name" >&2; exit 2 ;;
+    esac
+done
+needs python3 python3 && programs || { echo "test.sh: there are no programs to test" >&2; exit 1; }
+failed='' said=''
+for name do
+    begun=$(date +%s)
+    word=held
+    "run_$name" || { word=FAILED; failed="$failed $name"; }
+    said="$said$name $word, $(($(date +%s) - begun)) s
+"
+done
+printf '\n%s' "$said"
+[ -z "$failed" ]

@@ -1,0 +1,105 @@
+"""The machine of these scripts, what counts as the same end, and the search through schedules."""
+from __future__ import annotations
+
+import unittest
+
+from atomic_tools.endings import end_of, endings
+from atomic_tools.machine import Machine
+from atomic_tools.runs import calls_of
+from atomic_tools.source import Source
+from atomic_tools.states import Stuck
+
+COUNTER = b"""class Counter { int n guarded_by this;
+    atomic void inc() { synchronized (this) { this.n = this.n + 1; } } }
+class Worker implements Runnable { final Counter c; Worker(Counter c) { this.c = c; }
+    public void run() { this.c.inc(); } }
+class Main { void main() {
+    final Counter c = new Counter();
+    new Thread(new Worker(c)).start();
+    new Thread(new Worker(c)).start(); } }
+"""
+# a promise that is broken only in an object that nobody can reach
+LOST = b"""class Box { int n; }
+class Worker implements Runnable {
+    public void run() { this.work(); }
+    atomic void work() { final Box box = new Box(); %s } }
+class Main { void main() {
+    final Worker worker = new Worker();
+    new Thread(worker).start();
+    new Thread(worker).start(); } }
+"""
+DIVIDED = (
+    b"class Main { void main() { System.out.println(-7 / 2); System.out.println(-7 % 2); System.out.println(1 / 0); } }"
+)
+
+
+def ended(data: bytes) -> Machine:
+    """The machine where each thread goes to its end, one after the other."""
+    machine = Machine(Source(data))
+    number = 0
+    while number < len(machine.threads):
+        while machine.can_step(number):
+            machine.step(number)
+        number += 1
+    return machine
+
+
+class Machines(unittest.TestCase):
+    def test_a_state_has_its_text(self) -> None:
+        wanted = "object 0:0 Main\nobject 0:1 Counter n=2\nobject 0:2 Worker c=0:1\nobject 0:3 Worker c=0:1\n"
+        self.assertEqual(wanted + "thread 0 done\nthread 1 done\nthread 2 done\n", ended(COUNTER).text())
+
+    def test_numbers_are_divided_toward_zero_and_a_fault_stops_the_thread(self) -> None:
+        self.assertEqual("print -3\nprint -1\nobject 0:0 Main\nthread 0 faulted zero\n", ended(DIVIDED).text())
+
+    def test_a_thread_waits_for_a_lock(self) -> None:
+        machine = Machine(Source(COUNTER))
+        while machine.can_step(0):
+            machine.step(0)
+        while machine.step(1).what != "acquire":
+            pass
+        with self.assertRaisesRegex(Stuck, "waits for 0:1 held by 1"):
+            for _ in range(100):
+                machine.step(2)
+        self.assertFalse(machine.can_step(2))
+
+    def test_a_schedule_tells_the_entry_that_cannot_step(self) -> None:
+        with self.assertRaisesRegex(Stuck, "^entry 2: thread 7 is absent$"):
+            Machine(Source(COUNTER)).run([0, 7])
+
+    def test_calls_commit_at_their_first_step_that_cannot_go_right(self) -> None:
+        machine = Machine(Source(COUNTER))
+        steps = [machine.step(number) for number in (0, 1) for _ in iter(lambda: machine.can_step(number), False)]
+        calls = calls_of(steps)
+        self.assertEqual(["Counter.inc"], [call.method.full_name() for call in calls])
+        self.assertEqual((True, "left"), (calls[0].whole, steps[calls[0].commit or 0].kind))
+
+
+class SameEnds(unittest.TestCase):
+    def test_objects_that_nobody_reaches_do_not_count(self) -> None:
+        one, two = ended(LOST % b"box.n = 1;"), ended(LOST % b"box.n = 2;")
+        self.assertNotEqual(one.text(), two.text())
+        self.assertEqual(end_of(one), end_of(two))
+
+    def test_objects_that_somebody_reaches_count(self) -> None:
+        two = COUNTER.replace(b"this.n + 1", b"this.n + 2")
+        self.assertNotEqual(end_of(ended(COUNTER)), end_of(ended(two)))
+
+    def test_numbers_of_objects_do_not_count(self) -> None:
+        later = COUNTER.replace(b"final Counter c = new", b"new Counter(); final Counter c = new")
+        self.assertNotEqual(ended(COUNTER).text(), ended(later).text())
+        self.assertEqual(end_of(ended(COUNTER)), end_of(ended(later)))
+
+    def test_what_is_printed_counts(self) -> None:
+        self.assertNotEqual(
+            end_of(ended(LOST % b"System.out.println(1);")), end_of(ended(LOST % b"System.out.println(2);"))
+        )
+
+    def test_all_ends_are_met(self) -> None:
+        found = endings(Source(COUNTER), 1000)
+        self.assertEqual({end_of(ended(COUNTER))}, found and found[0])
+        self.assertIsNone(endings(Source(COUNTER), 1))
+
+
+if __name__ == "__main__":
+    unittest.main()
