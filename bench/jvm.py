@@ -1,26 +1,33 @@
 #!/usr/bin/env python3
 """Holds the machine of `atomic run` against a real JVM.
 
-Random sources of the language are printed as Java, compiled by javac, and run in one JVM: plainly, main to its end and then each
-thread in the order of its start; and step by step, by real threads with real monitors that take turns as a random schedule says.
-Printed lines, the ends of threads, objects with their fields, locks, and each step's receiver, field and value have to be those of
-`atomic run`. What is known to differ stands in docs/java-differences.md. PROGRAM is the built `atomic`, proved or not.
+Random sources of the language are printed as Java, compiled by javac, and run in one JVM: plainly, main to its end and
+then each thread in the order of its start; and step by step, by real threads with real monitors that take turns as a
+random schedule says. Printed lines, the ends of threads, objects with their fields, locks, and each step's receiver,
+field and value have to be those of `atomic run`. What is known to differ stands in docs/java-differences.md. PROGRAM is
+the built `atomic`, proved or not.
 """
+from __future__ import annotations
+
 import argparse
 import datetime
 import os
 import random
 import sys
+from typing import Optional
 
 import jvm_page
 import jvm_source
 from jvm_compare import Case, Comparison, Program
-from jvm_controls import CONTROLS, DEEPEST, name_of
+from jvm_controls import CONTROLS, DEEPEST, Altered, name_of
+from jvm_reading import Machine
 from jvm_server import NoJava, Server, version
 from jvm_types import compare_types
 from random_shapes import workers
 
 BATCH = 100
+# How many differences are shown whole.
+MOST_SHOWN = 5
 
 
 def drawn(seed: str) -> bytes:
@@ -42,9 +49,9 @@ def compare(words: argparse.Namespace, server: Server) -> int:
     wrong = 0
     for first in range(words.first, words.first + words.programs, BATCH):
         found = comparison.batch(cases(words, first, min(BATCH, words.first + words.programs - first)))
-        wrong += len(found)
-        for text in found:
+        for text in found[: max(MOST_SHOWN - wrong, 0)]:
             print(text, end="\n\n", flush=True)
+        wrong += len(found)
         if words.progress:
             print(f"{now()} up to {first + BATCH}: {told(comparison)}, {wrong} wrong", flush=True)
     print(f"{told(comparison)}, {wrong} wrong; {version()}")
@@ -52,17 +59,23 @@ def compare(words: argparse.Namespace, server: Server) -> int:
 
 
 def controls(words: argparse.Namespace, server: Server) -> int:
-    """How many altered rules aren't noticed."""
+    """How many altered rules aren't noticed; one more where no rule is altered and there are differences."""
     at_hand = cases(words, words.first, words.programs)
     at_hand += [Case.of(words.first + words.programs + k, DEEPEST.encode(), f"deepest {k}") for k in range(3)]
     Comparison(None, server).compiled(at_hand)
     missed = 0
-    for machine in CONTROLS:
-        comparison = Comparison(None, server, machine)
-        number = next((case.number for case in at_hand if any(comparison.differences(case))), None)
-        missed += number is None
-        print(f"{'NOT NOTICED' if number is None else f'noticed in source {number}'}: {name_of(machine)}", flush=True)
+    machines: list[type[Machine]] = [Machine, *CONTROLS]
+    for machine in machines:
+        number = noticed(Comparison(None, server, machine), at_hand)
+        name = name_of(machine) if issubclass(machine, Altered) else "no rule is altered"
+        missed += (number is None) == issubclass(machine, Altered)
+        print(f"{name}: {'not noticed' if number is None else f'noticed in source {number}'}", flush=True)
     return missed
+
+
+def noticed(comparison: Comparison, at_hand: list[Case]) -> Optional[int]:
+    """The number of the first source that shows a difference."""
+    return next((case.number for case in at_hand if any(comparison.differences(case))), None)
 
 
 def types(words: argparse.Namespace, server: Server) -> int:

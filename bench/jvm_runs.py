@@ -3,11 +3,15 @@
     plain_run(machine)                 main to its end, then each thread in the order of its start
     drawn_run(machine, chooser)        a random schedule
 
-A step is *visible* where a JVM makes it in its turn: reading or writing a field, taking or giving back a lock, a print, a start, and
-the entry of a thread. All others are the thread's own. A random run ends with each thread before its next visible step, or at its end.
+A step is *visible* where a JVM makes it in its turn: reading or writing a field, taking or giving back a lock, a print,
+a start, and the entry of a thread. All others are the thread's own. A random run ends with each thread before its next
+visible step, or at its end.
 """
+from __future__ import annotations
+
 import random
 from dataclasses import dataclass, field
+from typing import Optional
 
 from jvm_reading import Machine, Stuck, shown
 
@@ -22,20 +26,21 @@ class Endless(Exception):
 class Run:
     """A schedule, its visible steps, each with its thread in front, and the state that it ends in.
 
-    count is how many threads a plain run ran to their ends; waiting is a thread whose next step wants the lock of another one.
+    count is how many threads a plain run ran to their ends; waiting is a thread whose next step wants the lock of
+    another one.
     """
 
     schedule: list[int] = field(default_factory=list)
     steps: list[str] = field(default_factory=list)
     text: str = ""
     count: int = 0
-    waiting: "int | None" = None
+    waiting: Optional[int] = None
 
     def threads(self) -> str:
         return " ".join(step.partition(" ")[0] for step in self.steps)
 
 
-def visible(machine: Machine, number: int) -> "str | None":
+def visible(machine: Machine, number: int) -> Optional[str]:
     """What the thread's next step is, without the value that it reads; None where it isn't visible."""
     thread = machine.threads[number]
     if thread.status == "ready":
@@ -68,7 +73,7 @@ class Course:
             raise Endless
         self.run.schedule.append(number)
         if line:
-            if line.startswith("get") and step.fault is None:
+            if line.startswith("get") and not step.fault:
                 line += " " + shown(self.machine.threads[number].frames[-1].operands[-1])
             self.run.steps.append(f"{number} {line}")
 
