@@ -245,6 +245,8 @@ class Completion(InFolder):
             'atomic-page "a b.java" ': 'atomic-page "a b.java" a\\ b.schedule ',
             "atomic-page -o out it": "atomic-page -o out it\\'s.java ",
             "atomic-sarif --g": "atomic-sarif --github ",
+            "atomic-java --pu": "atomic-java --public ",
+            'atomic-java --public "a': 'atomic-java --public "a b.java" ',
             "atomic-sarif --github it": "atomic-sarif --github it\\'s.java ",
         }
         for line, wanted in rows.items():
