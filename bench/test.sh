@@ -5,7 +5,7 @@
 # other, and what fails doesn't keep the others from running. The exit status is 0 where all of them hold.
 #
 #     unittest    the commands of tools/ (tools/tests)
-#     types       tools/ and bench/ by mypy --strict (tools/pyproject.toml, bench/mypy.ini)
+#     types       tools/, bench/ and examples/ by mypy --strict (tools/pyproject.toml, bench/mypy.ini)
 #     house       what check_house.py measures
 #     documents   every source and command that the documents and examples show (check_docs.py)
 #     jvm         random programs beside a real JVM (jvm.py), where that script is there
@@ -65,7 +65,7 @@ run_unittest() {
 
 run_types() {
     needs python3 python3 mypy mypy || return 1
-    (cd tools && mypy .) && (cd bench && mypy .)
+    (cd tools && mypy .) && (cd bench && mypy . ../examples/*.py)
 }
 
 run_house() {
