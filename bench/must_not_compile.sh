@@ -9,6 +9,7 @@ case ${1-} in --help | -h) usage 0 ;; ?*) usage 2 >&2 ;; esac
 top=$(cd "$(dirname "$0")/.." && pwd)
 copy=$(mktemp -d)
 trap 'rm -rf "$copy"' EXIT
+trap 'exit 130' HUP INT TERM
 mkdir "$copy/crates"
 cp "$top/crates.txt" "$copy/"
 [ ! -e "$top/HANDLES" ] || cp "$top/HANDLES" "$copy/"

@@ -8,6 +8,7 @@ here=$(cd "$(dirname "$0")" && pwd)
 program=$(realpath "$1")
 work=$(mktemp -d)
 trap 'rm -rf "$work"' EXIT
+trap 'exit 130' HUP INT TERM
 cd "$work"
 rustc --edition 2024 -O -o plain "$here/plain/main.rs"
 python3 "$here/make_source.py" 262144 > full
