@@ -1,7 +1,7 @@
 #!/usr/bin/env python3
-"""make_checked.py KIND [refused]: writes a well-formed source of at most 262,144 bytes for `check`, as large as that allows; with
-`refused` one that the rules refuse, for `blame`: the last method breaks its bound, in `chain` and `cycle` the first one, which is
-found last.
+"""Writes a well-formed source of at most 262,144 bytes for `check`, as large as that allows; with `refused` one that
+the rules refuse, for `blame`: the last method breaks its bound, in `chain` and `cycle` the first one, which is found
+last.
 
 classes     thousands of classes with a guarded field and a method each
 methods     one class with thousands of methods that call each other
@@ -22,10 +22,16 @@ sets_rise   as many as fit, called under more and more levels, of which each com
 floors      a chain of methods with eight relevant paths whose effect rises three times at each of their 256 parts, round by round; with
             `refused` the longest certificate that was found
 """
+from __future__ import annotations
+
 import itertools
 import string
 import sys
+from collections.abc import Callable
 
+from command_line import words_of
+
+# whether the last method breaks its bound
 REFUSED = sys.argv[2:] == ["refused"]
 LOCKS = "abcdefgh"
 LAST = "class Last { int u; atomic void last() { this.u = 1; this.u = 2; } }\n" if REFUSED else ""
@@ -33,7 +39,7 @@ LIMIT = 262144 - len(LAST)
 MAIN = "class Main { void main() { } }\n"
 
 
-def filled(head, part, tail):
+def filled(head: str, part: Callable[[int], str], tail: str) -> str:
     """The head, as many parts as there is room for, numbered from 0, and the tail."""
     text, number = [head], 0
     size = len(head) + len(tail)
@@ -46,7 +52,7 @@ def filled(head, part, tail):
         number += 1
 
 
-def classes():
+def classes() -> str:
     return filled(
         MAIN,
         lambda k: f"class C{k} {{ int v guarded_by this; atomic void f() {{ synchronized (this) {{ this.v = {k}; }} }} }}\n",
@@ -54,7 +60,7 @@ def classes():
     )
 
 
-def methods():
+def methods() -> str:
     return filled(
         "class Main { int v guarded_by this; void main() { } void m0() requires this { this.v = 0; }\n",
         lambda k: f"void m{k + 1}() requires this {{ this.m{k // 2}(); }}\n",
@@ -62,7 +68,7 @@ def methods():
     )
 
 
-def statements():
+def statements() -> str:
     return filled(
         "class Main { int v guarded_by this; atomic void main() { synchronized (this) {\n",
         lambda k: f"this.v = this.v + {k};\n",
@@ -70,7 +76,7 @@ def statements():
     )
 
 
-def locks():
+def locks() -> str:
     params = ", ".join(f"final C p{k}" for k in range(8))
     line = " ".join(f"p{k}.v = p{(k + 1) % 8}.v;" for k in range(8))
     return filled(
@@ -80,7 +86,7 @@ def locks():
     )
 
 
-def calls():
+def calls() -> str:
     params = ", ".join(f"final C {p}" for p in "abcdefgh")
     locals_ = "".join(f"final C {p} = new C(); synchronized ({p}) {{ " for p in "ijklmnop")
     body = "".join(f"{'abcdefghijklmnop'[k % 16]}.f(); " for k in range(100))
@@ -91,8 +97,9 @@ def calls():
     )
 
 
-def chain(forward):
-    count, part = 3000, []
+def chain(forward: bool) -> str:
+    count = 3000
+    part: list[str] = []
     for k in range(count):
         other = k + 1 if forward else k - 1
         body = f"this.m{other}();" if 0 <= other < count else "this.u = 1; this.u = 2;"
@@ -102,49 +109,50 @@ def chain(forward):
     return "class Main { int u; void main() { }\n" + "".join(part) + "}\n"
 
 
-def cycle():
+def cycle() -> str:
     part = [f"void m{k}() {{ this.u = {k}; this.m{(k + 1) % 1000}(); }}\n" for k in range(1000)]
     if REFUSED:
         part[0] = "atomic " + part[0]
     return "class Main { int u; void main() { }\n" + "".join(part) + "}\n"
 
 
-def paths():
+def paths() -> str:
     return filled(
-        MAIN
-        + "class N { final N a; int v guarded_by this; N(N a) { this.a = a; } void m(final N x) {\n",
+        MAIN + "class N { final N a; int v guarded_by this; N(N a) { this.a = a; } void m(final N x) {\n",
         lambda k: f"synchronized (x.a.a) {{ x.a.a.v = {k}; }}\n",
         "} }\n",
     )
 
 
-def overriding(name, above, value):
-    return f"class {name}{' extends ' * bool(above)}{above} {{ atomic void f() {{ synchronized (this) {{ this.v = {value}; }} }} }}\n"
+def overriding(name: str, above: str, value: int) -> str:
+    body = f"synchronized (this) {{ this.v = {value}; }}"
+    return f"class {name}{' extends ' * bool(above)}{above} {{ atomic void f() {{ {body} }} }}\n"
 
 
 FIRST = "class C { int v guarded_by this; atomic void f() { synchronized (this) { this.v = 0; } } }\n"
 
 
-def line():
+def line() -> str:
     return MAIN + FIRST + "".join(overriding(f"C{k}", f"C{k - 1}" if k else "C", k) for k in range(499))
 
 
-def heirs():
+def heirs() -> str:
     return MAIN + FIRST + "".join(overriding(f"C{k}", "C", k) for k in range(2000))
 
 
-def inherited():
+def inherited() -> str:
     methods = " ".join(f"atomic void f{k}() {{ synchronized (this) {{ this.v = {k}; }} }}" for k in range(20))
-    classes = "".join(f"class C{k} extends C {{ atomic void g() {{ synchronized (this) {{ this.f{k % 20}(); }} }} }}\n" for k in range(1000))
-    return MAIN + f"class C {{ int v guarded_by this; {methods} }}\n" + classes
+    calls = (f"synchronized (this) {{ this.f{k % 20}(); }}" for k in range(1000))
+    heirs_ = "".join(f"class C{k} extends C {{ atomic void g() {{ {call} }} }}\n" for k, call in enumerate(calls))
+    return MAIN + f"class C {{ int v guarded_by this; {methods} }}\n" + heirs_
 
 
-def pairs():
+def pairs() -> str:
     methods = " ".join(f"void f{k}() {{ }}" for k in range(3162))
     return MAIN + f"class C {{ {methods} }}\n" + "".join(f"class C{k} extends C {{ }}\n" for k in range(3162))
 
 
-def at_each_part(call, locks=LOCKS):
+def at_each_part(call: str, locks: str = LOCKS) -> str:
     """The call at each part of the locks."""
     if not locks:
         return call
@@ -157,32 +165,42 @@ EIGHT = ", ".join(f"final D{k} {p}" for k, p in enumerate(LOCKS))
 USES = " ".join(f"{p}.v = 1;" for p in LOCKS)
 
 
-def with_sets(first, methods, classes=""):
+def with_sets(first: str, methods: list[str], more: str = "") -> str:
     """A program whose `main` calls the first of these methods at each part of eight locks of different classes."""
     made = " ".join(f"final D{k} {p} = new D{k}();" for k, p in enumerate(LOCKS))
     locks = "".join(f"class D{k} {{ int v guarded_by this; }}\n" for k in range(len(LOCKS)))
-    return f"{locks}{classes}class Main {{ boolean t;\n{''.join(methods)}void main() {{ {made} {at_each_part(f'this.{first}{ALL};')} }} }}\n"
+    calls = at_each_part(f"this.{first}{ALL};")
+    return f"{locks}{more}class Main {{ boolean t;\n{''.join(methods)}void main() {{ {made} {calls} }} }}\n"
 
 
-def sets():
+def sets() -> str:
     return with_sets("m", [f"void m({EIGHT}) {{ {USES} }}\n"])
 
 
-def sets_calls(count=500):
-    return with_sets("m0", [f"void m{k}({EIGHT}) {{ {USES * (k == 0)} this.m{(k + 1) % count}{ALL}; this.m{(7 * k + 1) % count}{ALL}; }}\n" for k in range(count)])
+def sets_calls(count: int = 500) -> str:
+    def method(k: int) -> str:
+        calls = f"this.m{(k + 1) % count}{ALL}; this.m{(7 * k + 1) % count}{ALL};"
+        return f"void m{k}({EIGHT}) {{ {USES * (k == 0)} {calls} }}\n"
+
+    return with_sets("m0", [method(k) for k in range(count)])
 
 
-def sets_rise(count):
+def sets_rise(count: int) -> str:
     """Levels come to the end of a chain, one a round, and go back to its beginning."""
     methods = [f"void m0({EIGHT}) {{ {USES} this.m1{ALL}; }}\n"]
-    methods += [f"void m{k}({EIGHT}) {{ {f'this.m{k + 1}{ALL};' * (k + 1 < count)} this.m{k - 1}{ALL}; }}\n" for k in range(1, count)]
+    for k in range(1, count):
+        on = f"this.m{k + 1}{ALL};" * (k + 1 < count)
+        methods += [f"void m{k}({EIGHT}) {{ {on} this.m{k - 1}{ALL}; }}\n"]
     methods += [f"void v0({EIGHT}) {{ this.m{count - 1}{ALL}; }}\n"]
-    methods += [f"void v{k}({EIGHT}) {{ final E{k} z = new E{k}(); synchronized (z) {{ this.v{k - 1}{ALL}; }} }}\n" for k in range(1, count)]
-    methods += [f"void w({EIGHT}) {{ this.m0{ALL}; {''.join(f'this.v{k}{ALL}; ' for k in range(count))}}}\n"]
+    for k in range(1, count):
+        held = f"final E{k} z = new E{k}(); synchronized (z) {{ this.v{k - 1}{ALL}; }}"
+        methods += [f"void v{k}({EIGHT}) {{ {held} }}\n"]
+    each = "".join(f"this.v{k}{ALL}; " for k in range(count))
+    methods += [f"void w({EIGHT}) {{ this.m0{ALL}; {each}}}\n"]
     return with_sets("w", methods, "".join(f"class E{k} {{ }}\n" for k in range(1, count)))
 
 
-def most(make):
+def most(make: Callable[[int], str]) -> str:
     """What is made for the greatest number for which it fits."""
     low, high = 2, LIMIT
     while high - low > 1:
@@ -191,18 +209,29 @@ def most(make):
     return make(low)
 
 
-def floors():
-    """The methods that bring a greater effect stand behind the chain, so it comes there a round later. Many fields make long paths."""
-    words = ("".join(letters) for size in range(1, 5) for letters in itertools.product(string.ascii_letters, repeat=size))
-    names = (word for word in words if word not in "if int new for do run try main Main void last this char else long goto enum byte case null true".split())
+TAKEN = frozenset(
+    "if int new for do run try main Main void last this char else long goto enum byte case null true".split()
+)
+
+
+def floors() -> str:
+    """The methods that bring a greater effect stand behind the chain, so it comes there a round later. Many fields
+    make long paths."""
+    words = (
+        "".join(letters) for size in range(1, 5) for letters in itertools.product(string.ascii_letters, repeat=size)
+    )
+    names = (word for word in words if word not in TAKEN)
     fields = "".join(f"class F{k}{{{''.join(f'int {a};' for a in string.ascii_letters[:32])}}}" for k in range(32))
-    locks = f"class D{{int v write_guarded_by this;}}class N{{{''.join(f'final D {p};' for p in LOCKS)}N({','.join(f'D {p}' for p in LOCKS)}){{{''.join(f'this.{p}={p};' for p in LOCKS)}}}}}"
+    finals, given = "".join(f"final D {p};" for p in LOCKS), ",".join(f"D {p}" for p in LOCKS)
+    sets_of = "".join(f"this.{p}={p};" for p in LOCKS)
+    locks = f"class D{{int v write_guarded_by this;}}class N{{{finals}N({given}){{{sets_of}}}}}"
     one, two, three, four = (next(names) for _ in range(4))
     reads = "else ".join(f"if(x==1){{x=this.n.{p}.v;}}" for p in LOCKS)
-    later = f"void {one}(){{int x=0;this.{two}();}}void {two}(){{this.u=1;this.{three}();}}void {three}(){{this.u=1;this.u=2;this.{four}();}}void {four}(){{int x=0;{reads}}}"
+    later = f"void {one}(){{int x=0;this.{two}();}}void {two}(){{this.u=1;this.{three}();}}"
+    later += f"void {three}(){{this.u=1;this.u=2;this.{four}();}}void {four}(){{int x=0;{reads}}}"
     head = f"{fields}{locks}class M{{final N n;int u;M(N n){{this.n=n;}}"
 
-    def end(called):
+    def end(called: str) -> str:
         return f"{later}{'atomic ' * REFUSED}void last(){{this.{called}();}}}}\n{MAIN}"
 
     text, size, called = [head], len(head), one
@@ -212,9 +241,10 @@ def floors():
             return "".join(text) + end(called)
         text.append(piece)
         size, called = size + len(piece), name
+    raise AssertionError("there are fewer names than fit")
 
 
-KINDS = {
+KINDS: dict[str, Callable[[], str]] = {
     "classes": classes,
     "methods": methods,
     "statements": statements,
@@ -233,4 +263,17 @@ KINDS = {
     "sets_rise": lambda: most(sets_rise),
     "floors": floors,
 }
-sys.stdout.write(KINDS[sys.argv[1]]() + ("" if sys.argv[1] in ("chain", "chain_back", "cycle", "floors") else LAST))
+# those whose refused method isn't the last one
+OWN = ("chain", "chain_back", "cycle", "floors")
+
+
+def main() -> None:
+    parser = words_of(__doc__)
+    parser.add_argument("kind", metavar="KIND", choices=sorted(KINDS))
+    parser.add_argument("refused", choices=["refused"], nargs="?", help="a source that the rules refuse")
+    kind = parser.parse_args().kind
+    sys.stdout.write(KINDS[kind]() + ("" if kind in OWN else LAST))
+
+
+if __name__ == "__main__":
+    main()

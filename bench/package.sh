@@ -58,7 +58,9 @@ for tool in atomic-page atomic-witness atomic-sarif; do
     ln -s "../share/atomic/tools/$tool" "$root/usr/bin/$tool"
 done
 install -m 644 "$top/tools/atomic.bash" "$share/bash-completion/completions/atomic"
-for name in atomic_why atomic-page atomic-witness atomic-sarif; do ln -s atomic "$share/bash-completion/completions/$name"; done
+for name in atomic_why atomic-java atomic-page atomic-witness atomic-sarif; do
+    ln -s atomic "$share/bash-completion/completions/$name"
+done
 for name in witness sarif; do ln -s atomic-page.1.gz "$share/man/man1/atomic-$name.1.gz"; done
 for page in "$top"/docs/*.1; do gzip -9n < "$page" > "$share/man/man1/$(basename "$page").gz"; done
 install -m 644 "$top"/README.md "$share/doc/atomic"

@@ -1,10 +1,14 @@
 #!/bin/sh
-# run.sh PROGRAM: times and counts the instructions of the built `atomic` and of the plain program on the same sources.
+# usage: run.sh PROGRAM
+# Times and counts the instructions of the built `atomic` and of the plain program on the same sources.
 set -eu
+usage() { sed -n '2,/^set /{/^# /s/^# //p}' "$0"; exit "$1"; }
+case ${1-} in --help | -h) usage 0 ;; '' | -*) usage 2 >&2 ;; esac
 here=$(cd "$(dirname "$0")" && pwd)
 program=$(realpath "$1")
 work=$(mktemp -d)
 trap 'rm -rf "$work"' EXIT
+trap 'exit 130' HUP INT TERM
 cd "$work"
 rustc --edition 2024 -O -o plain "$here/plain/main.rs"
 python3 "$here/make_source.py" 262144 > full

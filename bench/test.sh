@@ -5,7 +5,7 @@
 # other, and what fails doesn't keep the others from running. The exit status is 0 where all of them hold.
 #
 #     unittest    the commands of tools/ (tools/tests)
-#     types       tools/ and bench/ by mypy --strict
+#     types       tools/, bench/ and examples/ by mypy --strict (tools/pyproject.toml, bench/mypy.ini)
 #     house       what check_house.py measures
 #     documents   every source and command that the documents and examples show (check_docs.py)
 #     jvm         random programs beside a real JVM (jvm.py), where that script is there
@@ -58,19 +58,6 @@ programs() {
     export ATOMIC ATOMIC_WHY
 }
 
-# The scripts of bench/ but for those that have no types yet.
-typed() {
-    for script in *.py; do
-        case $script in
-        definitions.py | random_source.py | make_checked.py | plant_errors.py | compare.py | mutate.py) ;;
-        check_crates.py | rows.py | attack_*.py | try_schedules.py | refuse_allocations.py | find_levels.py) ;;
-        make_*.py | measure*.py | many.py | check_imports.py | schedules.py | give_libraries.py | compare_books.py) ;;
-        check_times.py | try_tools.py) ;;
-        *) echo "$script" ;;
-        esac
-    done
-}
-
 run_unittest() {
     needs python3 python3 git git make make bash bash awk mawk || return 1
     python3 -m unittest discover -s tools/tests -t tools
@@ -78,7 +65,7 @@ run_unittest() {
 
 run_types() {
     needs python3 python3 mypy mypy || return 1
-    (cd tools && mypy .) && (cd bench && MYPYPATH=../tools mypy --strict $(typed))
+    (cd tools && mypy .) && (cd bench && mypy . ../examples/*.py)
 }
 
 run_house() {

@@ -10,7 +10,8 @@
 # What the tool says of each stands behind the name. The exit status is 0 where all were refused.
 set -u
 top=$(cd "$(dirname "$0")/.." && pwd) && cd "$top" || exit 2
-case ${1-} in -*) sed -n '2,11s/^# \{0,1\}//p' "$0"; exit 2 ;; esac
+usage() { sed -n '2,/^set /{/^# /s/^# //p}' "$0"; exit "$1"; }
+case ${1-} in --help | -h) usage 0 ;; -*) usage 2 >&2 ;; esac
 [ $# -gt 0 ] || set -- $(for folder in crates/*/edits; do basename "${folder%/edits}"; done)
 for name do
     [ -d "crates/$name/edits" ] || { echo "$name: there is no folder crates/$name/edits" >&2; exit 2; }

@@ -65,6 +65,16 @@ _atomic_tool() {
     fi
 }
 
+_atomic_java() {
+    local word=${COMP_WORDS[COMP_CWORD]}
+    if [[ $word == -* ]]; then
+        _atomic_words "--public --infer --majority --strict --quiet --classpath --patch-module --library --emit --explain --log"
+    else
+        _atomic_files java
+    fi
+}
+
 complete -o filenames -F _atomic atomic
 complete -o filenames -F _atomic_why atomic_why
+complete -o filenames -F _atomic_java atomic-java
 complete -o filenames -F _atomic_tool atomic-page atomic-witness atomic-sarif

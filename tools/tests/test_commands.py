@@ -152,6 +152,12 @@ class Output(InFolder):
         )
 
 
+def listens_to_signals() -> None:
+    """What runs in the background may ignore signals, and hands that on."""
+    for number in (signal.SIGTERM, signal.SIGHUP, signal.SIGINT):
+        signal.signal(number, signal.SIG_DFL)
+
+
 class Signals(InFolder):
     def ended_by(self, number: int) -> int:
         """The status of a command that a signal stops while it waits for a program, with a folder of its own."""
@@ -159,8 +165,9 @@ class Signals(InFolder):
         os.mkdir(self.path("temporary"))
         waits = self.script("waits", 'case "$2" in f.java) echo; exit 2 ;; esac; touch started; exec sleep 60')
         environment = {**os.environ, "ATOMIC": waits, "ATOMIC_WHY": waits, "TMPDIR": self.path("temporary")}
+        words = [*command("atomic-page"), "f.java"]
         process = subprocess.Popen(
-            [*command("atomic-page"), "f.java"], cwd=self.folder, env=environment, stderr=subprocess.PIPE
+            words, cwd=self.folder, env=environment, stderr=subprocess.PIPE, preexec_fn=listens_to_signals
         )
         with process:
             while not os.path.exists(self.path("started")) and process.poll() is None:

@@ -68,6 +68,9 @@ class Sources(unittest.TestCase):
             with self.subTest(text=text), self.assertRaises(Unread):
                 Source(text)
 
+    def test_a_comment_ends_at_its_first_end(self) -> None:
+        self.assertEqual(2, len(Source(b"class Main { /**/ void main() { } /* { */ void f() { } /***/ }").methods))
+
     def test_only_the_text_of_a_token_counts(self) -> None:
         text = b"class Main { /* \xe2\x80\xae } */ void main() { } // }\n}"
         self.assertEqual(1, len(Source(text).methods))

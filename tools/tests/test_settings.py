@@ -123,6 +123,39 @@ class Hook(InPath):
         self.assertEqual([], os.listdir(self.path("temporary")))
 
 
+class JavaHook(InPath):
+    """The hook where the sources are Java as people write it."""
+
+    def setUp(self) -> None:
+        super().setUp()
+        start = "git init -q . && git config user.name n && git config user.email e@localhost && git config atomic.java true"
+        self.shell(start, {})
+        shutil.copy(os.path.join(TOOLS, "pre-commit"), self.path("work/.git/hooks/pre-commit"))
+        self.write("work/a b.java", b"class A { }\n")
+
+    def commit(self, name: str) -> tuple[int, str, str]:
+        return self.shell(f"git add '{name}' && git commit -qm message", self.more)
+
+    def test_all_staged_sources_are_judged_together(self) -> None:
+        self.script("bin/atomic-java", 'echo "$#:$1:$2:$3"; find . -type f | sort; [ ! -e bad.java ] || exit 2')
+        self.shell("git config --add atomic.options --public && git config --add atomic.options 'a  b'", {})
+        self.assertEqual((0, "", "3:--public:a  b:.\na b.java\n"), self.commit("a b.java"))
+        self.write("work/bad.java", b"")
+        self.write("work/other.java", b"")
+        self.assertEqual((1, "", "3:--public:a  b:.\na b.java\nbad.java\n"), self.commit("bad.java"))
+
+    def test_a_commit_without_sources_asks_nothing(self) -> None:
+        self.script("bin/atomic-java", "echo asked; exit 2")
+        self.write("work/text", b"")
+        self.assertEqual((0, "", ""), self.commit("text"))
+
+    def test_what_is_missing_or_fails_is_told(self) -> None:
+        wanted = "pre-commit: atomic-java isn't installed, so no source was checked\n"
+        self.assertEqual((1, "", wanted), self.commit("a b.java"))
+        self.script("bin/atomic-java", "exit 12")
+        self.assertEqual((1, "", "atomic-java ended with status 12\n"), self.commit("a b.java"))
+
+
 class Make(InPath):
     def setUp(self) -> None:
         super().setUp()
@@ -212,6 +245,8 @@ class Completion(InFolder):
             'atomic-page "a b.java" ': 'atomic-page "a b.java" a\\ b.schedule ',
             "atomic-page -o out it": "atomic-page -o out it\\'s.java ",
             "atomic-sarif --g": "atomic-sarif --github ",
+            "atomic-java --pu": "atomic-java --public ",
+            'atomic-java --public "a': 'atomic-java --public "a b.java" ',
             "atomic-sarif --github it": "atomic-sarif --github it\\'s.java ",
         }
         for line, wanted in rows.items():
