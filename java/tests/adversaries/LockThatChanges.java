@@ -1,7 +1,7 @@
 // The field that holds the lock isn't final: two threads may hold two locks.
 class LockThatChanges {
     private Object lock = new Object();
-    @GuardedBy("lock") private int value; // refused
+    @GuardedBy("lock") private int value;
 
     /* atomic */ void add() { // refused
         synchronized (lock) {
