@@ -23,6 +23,7 @@ import javax.lang.model.type.TypeMirror;
 final class LoggedCalls {
     private static final String TRACE = "atomic.trace.Trace.";
     private static final Set<String> LOCK_CALLS = Set.of("lock", "lockInterruptibly", "tryLock", "unlock");
+    private static final String CONDITION = "java.util.concurrent.locks.Condition";
     private final LoggedCopy copy;
     private final Library library;
     private final Set<Element> classes;
@@ -35,7 +36,7 @@ final class LoggedCalls {
 
     String of(MethodInvocationTree call) {
         Element called = copy.attribution().element(call);
-        if (called == null || classes.contains(called.getEnclosingElement())) {
+        if (called == null || classes.contains(called.getEnclosingElement()) || is(called, CONDITION)) {
             return copy.plain(call);
         }
         String name = called.getSimpleName().toString();
