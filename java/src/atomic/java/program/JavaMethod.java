@@ -1,0 +1,31 @@
+package atomic.java.program;
+
+import atomic.java.skeleton.Place;
+import com.sun.source.tree.MethodTree;
+import javax.lang.model.element.ExecutableElement;
+import javax.lang.model.element.Modifier;
+
+/** A method or constructor of the sources. */
+public record JavaMethod(ExecutableElement symbol, MethodTree tree, JavaClass owner, Place place) {
+
+    public boolean isStatic() {
+        return symbol.getModifiers().contains(Modifier.STATIC);
+    }
+
+    public boolean isConstructor() {
+        return tree.getReturnType() == null;
+    }
+
+    public boolean isPrivate() {
+        return symbol.getModifiers().contains(Modifier.PRIVATE);
+    }
+
+    public boolean isAbstract() {
+        return tree.getBody() == null && !symbol.getModifiers().contains(Modifier.NATIVE);
+    }
+
+    /** Whether a class below may have one of its own in its place. */
+    public boolean isVirtual() {
+        return !isStatic() && !isConstructor() && !isPrivate();
+    }
+}
