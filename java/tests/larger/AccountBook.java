@@ -1,0 +1,88 @@
+package accounts;
+
+import atomic.Atomic;
+import net.jcip.annotations.GuardedBy;
+
+/** Two accounts of a book and transfers between them. */
+public class AccountBook {
+    private final Account checking = new Account();
+    private final Account savings = new Account();
+    private final Object journal = new Object();
+    @GuardedBy("journal") private int entries;
+    @GuardedBy("journal") private String last = "";
+
+    static class Account {
+        @GuardedBy("this") private int balance;
+        @GuardedBy("this") private int changes;
+
+        @Atomic
+        synchronized int balance() {
+            return balance;
+        }
+
+        @Atomic
+        synchronized void add(int amount) {
+            balance += amount;
+            changes++;
+        }
+
+        @Atomic
+        synchronized int changes() {
+            return changes;
+        }
+    }
+
+    @Atomic
+    public void deposit(int amount) {
+        checking.add(amount);
+    }
+
+    @Atomic
+    public boolean save(int amount) {
+        synchronized (checking) {
+            if (checking.balance() < amount) {
+                return false;
+            }
+            synchronized (savings) {
+                checking.add(-amount);
+                savings.add(amount);
+                note("save");
+                return true;
+            }
+        }
+    }
+
+    @Atomic
+    public int total() {
+        synchronized (checking) {
+            synchronized (savings) {
+                return checking.balance() + savings.balance();
+            }
+        }
+    }
+
+    @Atomic
+    public int changes() {
+        synchronized (checking) {
+            synchronized (savings) {
+                int changes = checking.changes();
+                changes += savings.changes();
+                return changes;
+            }
+        }
+    }
+
+    @Atomic
+    public String describe() {
+        synchronized (journal) {
+            return entries + " entries, the last one: " + last;
+        }
+    }
+
+    private void note(String kind) {
+        synchronized (journal) {
+            entries++;
+            last = kind;
+        }
+    }
+}
