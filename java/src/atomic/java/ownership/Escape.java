@@ -57,7 +57,7 @@ public final class Escape {
         if (parent instanceof MemberSelectTree select) {
             return asReceiver(select);
         } else if (parent instanceof MethodInvocationTree call) {
-            return asArgument(call);
+            return asArgument(call, use);
         } else if (parent instanceof NewClassTree made) {
             return isBorrowed(made) ? NEVER : attribution.start(made);
         } else if (parent instanceof AssignmentTree assignment) {
@@ -112,9 +112,11 @@ public final class Escape {
             && symbol.getReturnType().toString().equals(home);
     }
 
-    private long asArgument(MethodInvocationTree call) {
-        if (!(attribution.element(call) instanceof ExecutableElement symbol) || program.method(symbol) != null) {
+    private long asArgument(MethodInvocationTree call, Tree use) {
+        if (!(attribution.element(call) instanceof ExecutableElement symbol)) {
             return attribution.start(call);
+        } else if (program.method(symbol) != null) {
+            return isBorrowed(symbol, call.getArguments().indexOf(use)) ? NEVER : attribution.start(call);
         }
         Choice choice = choose(call.getMethodSelect(), symbol);
         return switch (choice.kind()) {
@@ -122,6 +124,17 @@ public final class Escape {
             case PURE, ASSUMED, READS, RUN -> choice.keeps() ? attribution.start(call) : NEVER;
             default -> attribution.start(call);
         };
+    }
+
+    /** Whether a method of the sources, and each that overrides it, only uses a parameter, and neither keeps nor gives it. */
+    private boolean isBorrowed(ExecutableElement symbol, int at) {
+        if (symbol.isVarArgs() || at < 0 || at >= symbol.getParameters().size()) {
+            return false;
+        }
+        return program.methods().stream().filter(each -> each.symbol() == symbol
+            || each.isVirtual() && each.symbol().getSimpleName().equals(symbol.getSimpleName())
+                && attribution.elements().overrides(each.symbol(), symbol, each.owner().symbol()))
+            .allMatch(each -> each.tree().getBody() != null && through(each.symbol().getParameters().get(at)) == NEVER);
     }
 
     /** What the table says of a library call. */

@@ -89,6 +89,9 @@ final class Calls {
     /** The arguments' steps, and the values that may name locks. */
     private List<Value> arguments(JavaMethod method, List<? extends ExpressionTree> trees) {
         List<Value> all = trees.stream().map(expressions::value).toList();
+        for (int k = 0; k < all.size(); k++) {
+            lend(all.get(k), trees.get(k));
+        }
         List<Value> kept = new ArrayList<>();
         if (!method.isStatic()) {
             kept.add(new Value.Named(body.statics()));
@@ -102,6 +105,14 @@ final class Calls {
             }
         }
         return kept;
+    }
+
+    /** A method that is given an owned object may look at its contents and change them any number of times. */
+    private void lend(Value value, Tree at) {
+        if (value instanceof Value.Owned owned && !(owned.receiver() instanceof Value.Fresh)) {
+            Part access = new Part.Access(owned.receiver(), owned.contents(), true, services.attribution().name(at));
+            body.emit(Part.sequence(List.of(access, access)));
+        }
     }
 
     private void invoke(JavaMethod method, Value receiver, List<Value> arguments, Tree tree) {
