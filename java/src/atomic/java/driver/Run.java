@@ -12,12 +12,16 @@ import atomic.java.places.Text;
 import atomic.java.places.Writer;
 import atomic.java.program.Program;
 import atomic.java.skeleton.Method;
+import atomic.java.trace.Copies;
 import atomic.java.translation.Methods;
+import com.sun.source.tree.MethodTree;
 import java.io.IOException;
 import java.nio.file.Files;
 import java.nio.file.Path;
 import java.util.ArrayList;
 import java.util.List;
+import java.util.Set;
+import java.util.stream.Collectors;
 
 /** One run of the program: from the words of the command line to the answer. */
 public final class Run {
@@ -40,6 +44,7 @@ public final class Run {
         all.clear();
         program.shapes().forEach(shape -> all.addAll(shape.methods()));
         Marking.run(all);
+        log(program, methods, all);
         Text text = new Writer(program.names(), program.helpers()).write(program.shapes());
         emit(text);
         Checker checker = new Checker();
@@ -49,6 +54,14 @@ public final class Run {
         }
         new Answer(text, program.names()).lines(told.lines()).forEach(line -> answer.append(line).append('\n'));
         return told.status();
+    }
+
+    private void log(Program program, Methods methods, List<Method> all) {
+        if (options.log() != null) {
+            Set<MethodTree> atomic = methods.judged().entrySet().stream().filter(each -> each.getKey().atomic())
+                .map(each -> each.getValue().tree()).collect(Collectors.toSet());
+            new Copies(program.attribution(), program.library(), atomic::contains).write(options.log(), all);
+        }
     }
 
     private void emit(Text text) {
