@@ -3,8 +3,10 @@ package atomic.java.driver;
 import atomic.java.attribution.Javac;
 import atomic.java.options.Options;
 import atomic.java.options.Refusal;
+import atomic.java.passes.Inference;
 import atomic.java.passes.Marking;
 import atomic.java.passes.Pruning;
+import atomic.java.passes.Races;
 import atomic.java.passes.ReadLocks;
 import atomic.java.passes.Waiting;
 import atomic.java.places.Answer;
@@ -39,10 +41,16 @@ public final class Run {
         List<Method> all = new ArrayList<>();
         program.shapes().forEach(shape -> all.addAll(shape.methods()));
         new Waiting(all, program.notes(), methods::origin, methods.wait(null)).run();
+        Inference inference = new Inference(all, options.majority());
+        if (options.infer() || options.majority()) {
+            inference.guards();
+        }
+        inference.requirements();
         new ReadLocks(all).run();
         new Pruning(program.shapes(), methods.roots()).run();
         all.clear();
         program.shapes().forEach(shape -> all.addAll(shape.methods()));
+        new Races(program.names(), program.notes()).run(all);
         Marking.run(all);
         log(program, methods, all);
         Text text = new Writer(program.names(), program.helpers()).write(program.shapes());
