@@ -1,5 +1,6 @@
 package atomic.java.driver;
 
+import atomic.java.attribution.Attribution;
 import atomic.java.attribution.Javac;
 import atomic.java.options.Options;
 import atomic.java.options.Refusal;
@@ -9,21 +10,19 @@ import atomic.java.passes.Pruning;
 import atomic.java.passes.Races;
 import atomic.java.passes.ReadLocks;
 import atomic.java.passes.Waiting;
-import atomic.java.places.Answer;
 import atomic.java.places.Text;
 import atomic.java.places.Writer;
+import atomic.java.program.JavaMethod;
 import atomic.java.program.Program;
 import atomic.java.skeleton.Method;
+import atomic.java.skeleton.Place;
 import atomic.java.trace.Copies;
 import atomic.java.translation.Methods;
-import com.sun.source.tree.MethodTree;
 import java.io.IOException;
 import java.nio.file.Files;
 import java.nio.file.Path;
 import java.util.ArrayList;
 import java.util.List;
-import java.util.Set;
-import java.util.stream.Collectors;
 
 /** One run of the program: from the words of the command line to the answer. */
 public final class Run {
@@ -35,11 +34,33 @@ public final class Run {
 
     /** Writes the answer, and gives the status. */
     public int judge(StringBuilder answer) {
-        Program program = new Program(new Javac(options).attribute(), options);
+        Attribution attribution = new Javac(options).attribute();
+        Program program = new Program(attribution, options);
         Methods methods = new Methods(program);
         methods.translate();
-        List<Method> all = new ArrayList<>();
-        program.shapes().forEach(shape -> all.addAll(shape.methods()));
+        refine(program, methods);
+        if (options.log() != null) {
+            new Copies(attribution, program.library(), tree -> methods.promises(program.method(attribution.element(tree))))
+                .write(options.log(), all(program));
+        }
+        if (options.explain() != null) {
+            return explain(program, methods, answer);
+        }
+        Judging judging = new Judging(program, methods);
+        judging.run();
+        emit(judging.texts());
+        if (!options.quiet()) {
+            program.notes().lines().forEach(line -> answer.append(line).append('\n'));
+        }
+        judging.lines().forEach(line -> answer.append(line).append('\n'));
+        long promised = program.methods().stream().filter(methods::promises).count();
+        System.err.println(new Summary(judging, program.notes(), methods.judged()).line((int) promised));
+        return judging.status();
+    }
+
+    /** Takes waits, locks of readers and what has no step out of the skeleton, and finds guards where that is asked. */
+    private void refine(Program program, Methods methods) {
+        List<Method> all = all(program);
         new Waiting(all, program.notes(), methods::origin, methods.wait(null)).run();
         Inference inference = new Inference(all, options.majority());
         if (options.infer() || options.majority()) {
@@ -48,34 +69,44 @@ public final class Run {
         inference.requirements();
         new ReadLocks(all).run();
         new Pruning(program.shapes(), methods.roots()).run();
-        all.clear();
+        List<Method> kept = all(program);
+        new Races(program.names(), program.notes()).run(kept);
+        Marking.run(kept);
+    }
+
+    private static List<Method> all(Program program) {
+        List<Method> all = new ArrayList<>();
         program.shapes().forEach(shape -> all.addAll(shape.methods()));
-        new Races(program.names(), program.notes()).run(all);
-        Marking.run(all);
-        log(program, methods, all);
-        Text text = new Writer(program.names(), program.helpers()).write(program.shapes());
-        emit(text);
-        Checker checker = new Checker();
-        Checker.Answer told = checker.explain(text.bytes());
-        if (!options.quiet()) {
-            program.notes().lines().forEach(line -> answer.append(line).append('\n'));
-        }
-        new Answer(text, program.names()).lines(told.lines()).forEach(line -> answer.append(line).append('\n'));
-        return told.status();
+        return all;
     }
 
-    private void log(Program program, Methods methods, List<Method> all) {
-        if (options.log() != null) {
-            Set<MethodTree> atomic = methods.judged().entrySet().stream().filter(each -> each.getKey().atomic())
-                .map(each -> each.getValue().tree()).collect(Collectors.toSet());
-            new Copies(program.attribution(), program.library(), atomic::contains).write(options.log(), all);
+    /** The skeleton of the methods that the user names, and what was noted of each. */
+    private int explain(Program program, Methods methods, StringBuilder answer) {
+        int found = 0;
+        for (var each : methods.judged().entrySet()) {
+            JavaMethod java = each.getValue();
+            String name = java.symbol().getSimpleName().toString();
+            String whole = program.names().shown(java.owner().shape().name()) + "." + name;
+            if (options.explain().equals(name) || options.explain().equals(whole)) {
+                found++;
+                Place end = program.attribution().source(java.tree()).place(program.attribution().end(java.tree()));
+                answer.append(java.place()).append(": ").append(whole).append('\n');
+                answer.append(new Writer(program.names(), program.helpers()).write(each.getKey()));
+                program.notes().lines(java.place(), end).forEach(line -> answer.append(line).append('\n'));
+            }
         }
+        if (found == 0) {
+            throw new Refusal(Options.USAGE, "no method is called " + options.explain());
+        }
+        return 0;
     }
 
-    private void emit(Text text) {
+    private void emit(List<Text> texts) {
         if (options.emit() != null) {
             try {
-                Files.write(Path.of(options.emit()), text.bytes());
+                StringBuilder all = new StringBuilder();
+                texts.forEach(all::append);
+                Files.writeString(Path.of(options.emit()), all);
             } catch (IOException | java.nio.file.InvalidPathException fault) {
                 throw new Refusal(Options.CANNOT_WRITE, "cannot write " + options.emit());
             }

@@ -94,12 +94,22 @@ public final class Escape {
         if (method != null) {
             return selves.leaks(method) ? attribution.start(call) : NEVER;
         }
+        if (givesItself(symbol)) {
+            return from(call);
+        }
         Choice choice = choose(select, symbol);
         return switch (choice.kind()) {
             case VIEW, PIPE -> from(call);
             case UNKNOWN -> attribution.start(call);
             default -> NEVER;
         };
+    }
+
+    /** Whether a library's method gives the object that it is called on, so that calls can be chained. */
+    static boolean givesItself(ExecutableElement symbol) {
+        String home = symbol.getEnclosingElement().toString();
+        return (home.equals("java.lang.StringBuilder") || home.equals("java.util.StringJoiner"))
+            && symbol.getReturnType().toString().equals(home);
     }
 
     private long asArgument(MethodInvocationTree call) {

@@ -231,8 +231,10 @@ public final class Nodes {
             if (tree.getExpression() != null && isNodes(tree.getExpression())) {
                 Tree around = program.around(tree);
                 JavaMethod method = around instanceof MethodTree ? program.method(attribution.element(around)) : null;
+                boolean hidden = node.symbol().getModifiers().contains(Modifier.PRIVATE);
                 need(method != null && mentions(method.symbol().getReturnType(), node)
-                    && !method.symbol().getModifiers().contains(Modifier.PUBLIC));
+                    && !method.symbol().getModifiers().contains(Modifier.PUBLIC)
+                    && (hidden || method.isPrivate() || method.owner() == node));
             }
             return super.visitReturn(tree, nothing);
         }

@@ -116,6 +116,9 @@ public final class Ownership {
                 && call.getArguments().isEmpty()) {
             return "[]";
         }
+        if (Escape.givesItself(symbol) && call.getMethodSelect() instanceof MemberSelectTree select) {
+            return fresh(select.getExpression());
+        }
         Choice choice = escape.choose(call.getMethodSelect(), symbol);
         return choice.makes();
     }

@@ -1,7 +1,6 @@
 package atomic.java.places;
 
 import atomic.java.skeleton.Place;
-import java.util.ArrayList;
 import java.util.List;
 import java.util.regex.Matcher;
 import java.util.regex.Pattern;
@@ -22,23 +21,26 @@ public final class Answer {
 
     /** The lines at Java places. What is said of the inside of a library's method is left out. */
     public List<String> lines(List<String> told) {
-        List<String> all = new ArrayList<>();
+        Blocks blocks = new Blocks();
         boolean outside = false;
         for (String line : told) {
             Matcher parts = LINE.matcher(line);
             if (!parts.matches()) {
-                all.add(line);
+                blocks.begin(line);
                 continue;
             }
             Place place = text.place(Integer.parseInt(parts.group(1)), Integer.parseInt(parts.group(2)));
+            String written = place + ": " + parts.group(3) + ": " + java(parts.group(4));
             if (HEAD.matcher(parts.group(4)).matches()) {
                 outside = place == null;
-            }
-            if (!outside && place != null) {
-                all.add(place + ": " + parts.group(3) + ": " + java(parts.group(4)));
+                if (!outside) {
+                    blocks.begin(written);
+                }
+            } else if (!outside && place != null) {
+                blocks.add(written);
             }
         }
-        return all;
+        return blocks.lines();
     }
 
     /** A text with the names that Java has for what it speaks of. */

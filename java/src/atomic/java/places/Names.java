@@ -48,7 +48,7 @@ public final class Names {
             letters.insert(0, '_');
         }
         String base = letters.toString();
-        String name = base;
+        String name = base + "_1";
         for (int number = 2; TAKEN.contains(name) || shown.containsKey(name) || plain.containsKey(name); number++) {
             name = base + "_" + number;
         }

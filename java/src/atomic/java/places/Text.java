@@ -66,6 +66,11 @@ public final class Text {
         return before == null ? null : before.getValue();
     }
 
+    /** The number of the line that is written now. */
+    public int lines() {
+        return marks.size();
+    }
+
     public byte[] bytes() {
         return text.toString().getBytes(StandardCharsets.US_ASCII);
     }

@@ -8,6 +8,7 @@ import atomic.java.skeleton.Shape;
 import atomic.java.skeleton.Value;
 import java.util.List;
 import java.util.Map;
+import java.util.Set;
 import java.util.TreeMap;
 import java.util.stream.Collectors;
 
@@ -19,6 +20,7 @@ public final class Writer {
     private final Names names;
     private final Text text = new Text();
     private final Map<String, Shape> somes = new TreeMap<>();
+    private final TreeMap<Integer, Method> lines = new TreeMap<>();
     private final Shape library;
 
     /** A writer whose helper methods stand in the class {@code library}. */
@@ -27,25 +29,37 @@ public final class Writer {
         this.library = library;
     }
 
-    /** The whole text of the classes. */
-    public Text write(List<Shape> shapes) {
+    /** The whole text of the classes, with the methods {@code wanted}. */
+    public Text write(List<Shape> shapes, Set<Method> wanted) {
         text.begin().line("class Main { void main() { } }");
         for (Shape shape : shapes) {
             if (shape != library) {
-                shape(shape);
+                shape(shape, wanted);
             }
         }
-        shape(library);
+        shape(library, wanted);
         return text;
     }
 
-    private void shape(Shape shape) {
+    /** The text of one method. */
+    public String write(Method method) {
+        method(method);
+        return text.toString();
+    }
+
+    /** The method that stands at a line of the text, or null. */
+    public Method method(int line) {
+        Map.Entry<Integer, Method> found = lines.floorEntry(line);
+        return found == null ? null : found.getValue();
+    }
+
+    private void shape(Shape shape, Set<Method> wanted) {
         String parent = shape.parent() == null ? "" : " extends " + shape.parent().name();
         text.begin().put("class ").mark(shape.place()).open(shape.name() + parent);
         List<Field> own = shape.fields().stream().filter(Field::used).toList();
         own.forEach(this::field);
         constructor(shape);
-        shape.methods().forEach(this::method);
+        shape.methods().stream().filter(wanted::contains).forEach(this::method);
         if (shape == library) {
             somes.forEach((name, type) ->
                 text.begin().line(type.name() + " " + name + "() { return null; }"));
@@ -82,6 +96,7 @@ public final class Writer {
     }
 
     private void method(Method method) {
+        lines.put(text.lines(), method);
         text.begin().put(method.atomic() ? "atomic " : "").put("void ").mark(method.place()).put(method.name()).put("(");
         text.put(method.parameters().stream().map(each -> "final " + type(each.type()) + " " + each.name())
             .collect(Collectors.joining(", ")));

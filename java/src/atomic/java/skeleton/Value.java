@@ -18,8 +18,8 @@ public sealed interface Value {
     /** What a field that isn't final holds. */
     record Through(Value receiver, Field field) implements Value { }
 
-    /** An object that only the receiver's field leads to: its contents are that field's. */
-    record Owned(Value receiver, Field contents) implements Value { }
+    /** An object that only the receiver's field leads to: its contents are that field's. It may have a path itself. */
+    record Owned(Value receiver, Field contents, Path own) implements Value { }
 
     /** A node of a container, whose fields belong to the container. */
     record Node(Value container) implements Value { }
@@ -50,6 +50,6 @@ public sealed interface Value {
 
     /** The path of the object, or null. */
     default Path path() {
-        return this instanceof Named named ? named.path() : null;
+        return this instanceof Named named ? named.path() : this instanceof Owned owned ? owned.own() : null;
     }
 }

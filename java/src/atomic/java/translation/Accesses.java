@@ -50,6 +50,7 @@ final class Accesses {
 
     /** Reads a field; what it holds. */
     Value read(VariableElement field, Value receiver, Tree at) {
+        start(field, at);
         if (services.program().find(field.getEnclosingElement()) == null) {
             return foreign(field, receiver, false, at);
         } else if (field.getConstantValue() != null || field.getKind() == javax.lang.model.element.ElementKind.ENUM_CONSTANT) {
@@ -69,7 +70,9 @@ final class Accesses {
         if (owned) {
             Fields.Home contents = services.fields().contents(field);
             Value inside = holder(field, contents, receiver);
-            return inside instanceof Value.Fresh ? new Value.Fresh(null) : new Value.Owned(inside, contents.field());
+            Path own = settled && home.field().type() != null ? behind(holder, home.field()).path() : null;
+            return inside instanceof Value.Fresh ? new Value.Fresh(null)
+                : new Value.Owned(inside, contents.field(), own);
         }
         return settled ? behind(holder, home.field()) : new Value.Opaque(home.field().type());
     }
@@ -90,7 +93,7 @@ final class Accesses {
     private Value holder(VariableElement field, Fields.Home home, Value receiver) {
         JavaClass owner = services.program().find(field.getEnclosingElement());
         if (home.holder() == Fields.Holder.STATICS) {
-            return new Value.Named(body.statics().then(services.fields().staticsOf(owner)));
+            return owner == body.starting() && Families.isStatic(field) ? new Value.Fresh(null) : new Value.Named(body.statics().then(services.fields().staticsOf(owner)));
         } else if (home.holder() == Fields.Holder.CONTAINER) {
             return receiver instanceof Value.Node node ? node.container() : receiver instanceof Value.Fresh ? receiver
                 : new Value.Opaque(home.field().owner());
@@ -103,6 +106,13 @@ final class Accesses {
     private void access(Value holder, Field field, boolean write, Tree at) {
         if (!(holder instanceof Value.Fresh)) {
             body.emit(new Part.Access(holder, field, write, services.attribution().name(at)));
+        }
+    }
+
+    /** The use of a static field may be the first one of its class. */
+    private void start(VariableElement field, Tree at) {
+        if (Families.isStatic(field) && field.getConstantValue() == null) {
+            new Initialisers(services).start(services.program().find(field.getEnclosingElement()), body, at);
         }
     }
 

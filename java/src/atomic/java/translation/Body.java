@@ -30,6 +30,7 @@ final class Body {
     private final Set<String> taken = new HashSet<>();
     private List<Part> sink = new ArrayList<>();
     private int depth;
+    private JavaClass starting;
 
     /** A body of {@code target}; up to the offset {@code freshUntil} no other thread knows its object. */
     Body(Services services, Method target, Owner owner, long freshUntil) {
@@ -38,6 +39,15 @@ final class Body {
         this.owner = owner;
         this.freshUntil = freshUntil;
         target.parameters().forEach(each -> taken.add(each.name()));
+    }
+
+    /** This body is the static initialiser of a class, whose static fields nobody else knows yet. */
+    void start(JavaClass begun) {
+        starting = begun;
+    }
+
+    JavaClass starting() {
+        return starting;
     }
 
     Method target() {

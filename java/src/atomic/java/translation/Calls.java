@@ -106,6 +106,7 @@ final class Calls {
 
     private void invoke(JavaMethod method, Value receiver, List<Value> arguments, Tree tree) {
         if (method.isStatic()) {
+            new Initialisers(services).start(method.owner(), body, tree);
             emit(services.methods().of(method), new Value.Named(body.statics()), arguments, tree);
             return;
         }
@@ -170,6 +171,7 @@ final class Calls {
         if (constructor == null) {
             return new LibraryCalls(services, body).construct(tree);
         }
+        new Initialisers(services).start(constructor.owner(), body, tree);
         List<Value> arguments = arguments(constructor, tree.getArguments());
         Shape shape = constructor.owner().shape();
         emit(services.methods().of(constructor), node(constructor, tree), arguments, tree);

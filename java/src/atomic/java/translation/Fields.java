@@ -218,7 +218,10 @@ public final class Fields {
 
     /** Whether the contents of what a field holds are its own. */
     public boolean owns(VariableElement java) {
-        return program.find(java.getEnclosingElement()) != null && ownership.owns(java);
+        String made = ownership.made(java);
+        boolean contents = made != null && (made.equals("[]") || program.library().hasContents(java.asType())
+            && program.library().hasContents(made));
+        return contents && program.find(java.getEnclosingElement()) != null && ownership.owns(java);
     }
 
     /** The field of the one object {@code Statics} that leads to a class's static fields, and is its lock. */

@@ -1,6 +1,9 @@
 package atomic.java.translation;
 
 import atomic.java.program.JavaClass;
+import atomic.java.skeleton.Method;
+import atomic.java.skeleton.Part;
+import atomic.java.skeleton.Value;
 import com.sun.source.tree.BlockTree;
 import com.sun.source.tree.ExpressionStatementTree;
 import com.sun.source.tree.IdentifierTree;
@@ -8,6 +11,7 @@ import com.sun.source.tree.MethodInvocationTree;
 import com.sun.source.tree.MethodTree;
 import com.sun.source.tree.Tree;
 import com.sun.source.tree.VariableTree;
+import java.util.List;
 import javax.lang.model.element.Modifier;
 
 /** What runs before a constructor's own statements, and when a class is first used. */
@@ -45,13 +49,31 @@ final class Initialisers {
         }
     }
 
-    /** Static initialisers run before anybody else knows the class's fields: this is told where they do more than that. */
-    void judge(JavaClass each) {
-        for (Tree member : each.tree().getMembers()) {
-            if (member instanceof BlockTree block && block.isStatic()) {
-                services.program().notes().tell(atomic.java.places.Notes.Kind.ASSUMED, each,
-                    services.attribution().place(block), "this static initialiser runs before other threads use the class");
+    /** A use of a class may be the first one, which runs what its static initialisers do besides setting its own fields. */
+    void start(JavaClass each, Body body, Tree at) {
+        for (JavaClass used = each; used != null; used = services.families().above(used)) {
+            boolean begun = used == body.self() || used == body.starting()
+                || services.families().isBelow(body.self(), used);
+            if (!begun && hasStaticCode(used)) {
+                Method target = services.methods().initialiser(used);
+                Value statics = new Value.Named(body.statics());
+                body.emit(new Part.Either(new Part.Call(statics, target, List.of(), services.attribution().name(at)),
+                    Part.NOTHING));
             }
         }
+    }
+
+    private static boolean hasStaticCode(JavaClass each) {
+        return each.tree().getMembers().stream().anyMatch(member -> member instanceof BlockTree block && block.isStatic()
+            || member instanceof VariableTree variable && variable.getInitializer() != null
+                && (variable.getModifiers().getFlags().contains(Modifier.STATIC) || each.isInterface())
+                && !(variable.getInitializer() instanceof com.sun.source.tree.LiteralTree));
+    }
+
+    /** Writes the static initialisers of a class. */
+    void write(JavaClass each, Method target) {
+        Body body = new Body(services, target, new Body.Owner(each, null, each), 0);
+        body.start(each);
+        target.body(body.collect(() -> run(each, body, true)));
     }
 }

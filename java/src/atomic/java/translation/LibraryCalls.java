@@ -133,7 +133,11 @@ final class LibraryCalls {
         Choice choice = called.choice();
         switch (choice.kind()) {
             case PURE, VIEW, PIPE -> { }
-            case ASSUMED -> assume(called);
+            case ASSUMED -> {
+                if (!new ThreadLocals(services, body).first(called.at())) {
+                    assume(called);
+                }
+            }
             case STEP -> body.emit(services.step(called.shown(), false, called.at()));
             case COMPOUND -> {
                 services.tell(Notes.Kind.APPROXIMATED, body, called.at(), "compound library call: "
@@ -188,7 +192,8 @@ final class LibraryCalls {
             return new Value.Fresh(null);
         } else if (choice.kind() == Choice.Kind.VIEW || choice.kind() == Choice.Kind.PIPE) {
             return isStatic ? values.isEmpty() ? new Value.Fresh(null) : values.get(0) : called.object();
-        } else if (called.shown().equals("StringBuilder.append") || called.shown().equals("StringBuilder.insert")) {
+        } else if (called.shown().startsWith("StringBuilder.") && services.attribution().type(called.at()).toString()
+                .equals("java.lang.StringBuilder")) {
             return called.object();
         } else if (called.shown().endsWith(".readLock") || called.shown().endsWith(".writeLock")) {
             return called.object();

@@ -15,6 +15,7 @@ import com.sun.source.tree.BlockTree;
 import java.util.ArrayDeque;
 import java.util.ArrayList;
 import java.util.Deque;
+import java.util.HashMap;
 import java.util.LinkedHashMap;
 import java.util.LinkedHashSet;
 import java.util.List;
@@ -37,6 +38,7 @@ public final class Methods {
     private final Map<Key, Method> known = new LinkedHashMap<>();
     private final Map<Method, JavaMethod> judged = new LinkedHashMap<>();
     private final Map<Method, Object> origins = new LinkedHashMap<>();
+    private final Map<JavaClass, Method> initialisers = new HashMap<>();
     private final Set<Method> alone = new LinkedHashSet<>();
     private final Deque<Runnable> waiting = new ArrayDeque<>();
     private final Deque<Runnable> last = new ArrayDeque<>();
@@ -52,7 +54,6 @@ public final class Methods {
             for (JavaMethod method : List.copyOf(each.methods())) {
                 of(method);
             }
-            new Initialisers(services).judge(each);
         }
         while (!waiting.isEmpty() || !last.isEmpty()) {
             (waiting.isEmpty() ? last : waiting).remove().run();
@@ -69,6 +70,11 @@ public final class Methods {
         Set<Method> all = new LinkedHashSet<>(judged.keySet());
         all.addAll(alone);
         return all;
+    }
+
+    /** Whether a Java method says that it is atomic. */
+    public boolean promises(JavaMethod method) {
+        return method != null && new Promises(services.program()).isAtomic(method, families);
     }
 
     /** The Java method that things noted of a method are noted of. */
@@ -106,6 +112,23 @@ public final class Methods {
             Method target = made;
             boolean dispatches = method.isAbstract() || method.owner().isInterface();
             (dispatches ? last : waiting).add(() -> write(key, target));
+        }
+        return made;
+    }
+
+    /** The method that stands for the static initialisers of a class. */
+    Method initialiser(JavaClass each) {
+        Method made = initialisers.get(each);
+        if (made == null) {
+            String shown = services.program().names().shown(each.shape().name());
+            made = new Method(services.program().statics(), services.program().names().invent("init_" + shown,
+                "=the static initialiser of " + shown), each.shape().place());
+            services.program().statics().methods().add(made);
+            made.closed(true);
+            initialisers.put(each, made);
+            origins.put(made, each);
+            Method target = made;
+            later(() -> new Initialisers(services).write(each, target));
         }
         return made;
     }
@@ -180,9 +203,27 @@ public final class Methods {
         if (method.owner().isInterface() && key.self() == method.owner() && !method.isStatic()) {
             target.body(new Dispatch(services).join(target.body(), method, key.self(), body));
         }
-        if (new Promises(services.program()).isAtomic(method, families)) {
-            target.promiseAtomic();
+        Promises promises = new Promises(services.program());
+        if (promises.isAtomic(method, families)) {
+            promise(target, promises.isAtomic(families.root(method), families));
         }
+    }
+
+    /** A promise that the overridden method doesn't give stands with a second method of the same body. */
+    private void promise(Method target, boolean byAll) {
+        if (byAll || target.overridden().isEmpty()) {
+            target.promiseAtomic();
+            return;
+        }
+        String java = services.program().names().shown(target.name());
+        Method alone = new Method(target.owner(), services.program().names().invent(java, java), target.place());
+        alone.parameters().addAll(target.parameters());
+        alone.required().addAll(target.required());
+        alone.loose().addAll(target.loose());
+        alone.body(target.body());
+        alone.promiseAtomic();
+        target.owner().methods().add(alone);
+        judgeAlone(alone, origins.get(target));
     }
 
     private void synchronizedBody(JavaMethod method, Body body, Statements statements) {

@@ -30,6 +30,11 @@ final class Requirements {
         if (word.startsWith("#")) {
             return argument(word.substring(1), method, body);
         }
+        for (VariableElement parameter : method.symbol().getParameters()) {
+            if (parameter.getSimpleName().contentEquals(word)) {
+                return body.locals().getOrDefault(parameter, Value.OPAQUE).path();
+            }
+        }
         Guards.Lock lock = services.fields().guards().lock(word, method.owner());
         if (lock == null) {
             return null;
