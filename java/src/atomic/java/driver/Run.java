@@ -37,13 +37,12 @@ public final class Run {
         Attribution attribution = new Javac(options).attribute();
         Program program = new Program(attribution, options);
         Methods methods = new Methods(program);
-        if (options.log() != null) {
-            new Copies(attribution, program.library(), tree -> methods.promises(program.method(attribution.element(tree))))
-                .write(options.log());
-            return 0;
-        }
         methods.translate();
         refine(program, methods);
+        if (options.log() != null) {
+            new Copies(attribution, program.library(), tree -> methods.promises(program.method(attribution.element(tree))))
+                .write(options.log(), all(program));
+        }
         if (options.explain() != null) {
             return explain(program, methods, answer);
         }

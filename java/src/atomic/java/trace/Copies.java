@@ -5,6 +5,7 @@ import atomic.java.attribution.SourceText;
 import atomic.java.library.Library;
 import atomic.java.options.Options;
 import atomic.java.options.Refusal;
+import atomic.java.skeleton.Method;
 import com.sun.source.tree.ClassTree;
 import com.sun.source.tree.CompilationUnitTree;
 import com.sun.source.tree.MethodTree;
@@ -42,12 +43,13 @@ public final class Copies {
         }.scan(unit, null));
     }
 
-    /** Writes them all. */
-    public void write(String folder) {
+    /** Writes them all, and the skeleton that was judged. */
+    public void write(String folder, List<Method> skeleton) {
         try {
             for (CompilationUnitTree unit : attribution.units()) {
                 write(unit, Path.of(folder));
             }
+            Files.write(Path.of(folder, "skeleton.txt"), new SkeletonText(skeleton).lines());
         } catch (IOException | java.nio.file.InvalidPathException fault) {
             throw new Refusal(Options.CANNOT_WRITE, "cannot write into " + folder);
         }
