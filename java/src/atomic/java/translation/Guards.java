@@ -1,5 +1,6 @@
 package atomic.java.translation;
 
+import atomic.java.attribution.WrittenAnnotations;
 import atomic.java.program.Families;
 import atomic.java.program.JavaClass;
 import atomic.java.program.Program;
@@ -76,7 +77,13 @@ public final class Guards {
         return words(method, List.of("GuardedBy", "Holding", "RequiresLock"));
     }
 
-    private static List<String> words(Element element, List<String> names) {
+    private List<String> words(Element element, List<String> names) {
+        List<String> words = known(element, names);
+        return words.isEmpty() ? WrittenAnnotations.words(program.attribution().trees().getTree(element), names) : words;
+    }
+
+    /** As javac knows them, which also finds the values of constants. */
+    private static List<String> known(Element element, List<String> names) {
         List<String> words = new ArrayList<>();
         List<AnnotationMirror> all = new ArrayList<>(element.getAnnotationMirrors());
         if (element instanceof VariableElement) {

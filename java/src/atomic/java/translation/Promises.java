@@ -1,6 +1,7 @@
 package atomic.java.translation;
 
 import atomic.java.attribution.SourceText;
+import atomic.java.attribution.WrittenAnnotations;
 import atomic.java.program.Families;
 import atomic.java.program.JavaMethod;
 import atomic.java.program.Program;
@@ -22,7 +23,8 @@ final class Promises {
 
     private boolean promises(JavaMethod method) {
         if (method.symbol().getAnnotationMirrors().stream().anyMatch(each ->
-                each.getAnnotationType().asElement().getSimpleName().contentEquals("Atomic"))) {
+                each.getAnnotationType().asElement().getSimpleName().contentEquals("Atomic"))
+                || WrittenAnnotations.has(method.tree(), "Atomic")) {
             return true;
         }
         if (program.options().everyPublic() && method.symbol().getModifiers().contains(Modifier.PUBLIC)
