@@ -1,16 +1,18 @@
 #!/usr/bin/env python3
-"""Runs the tables of docs/java.md: each row has a construct, the lines that come, what is made of it, and the smallest source.
+"""Runs what docs/java.md shows: its commands on its sources, and its tables, whose rows have a construct, the lines that come, what is
+made of it, and the smallest source.
 
 Each error of a source has to stand in its row, each note of an assumption, an approximation or a data race too, and each line of the
 row has to come. The notes that explain an error may be left out. All sources are judged in one run, each in a package of its own.
 """
 import argparse
 import re
+import subprocess
 import sys
 import tempfile
 from pathlib import Path
 
-from documents import TEXT, source_of, table_rows
+from documents import TEXT, blocks, read, source_of, table_rows
 from java_sources import PROGRAM, Answer, Line, run
 
 TOLD = re.compile(r"(?:assumed|approximated|data race)\b")
@@ -38,8 +40,23 @@ def judged(sources: list[str], folder: Path, program: Path) -> tuple[Answer, lis
     return run([], files, program), files
 
 
+def commands(program: Path) -> tuple[int, int]:
+    """The blocks that begin with a command line, in a folder with the document's sources: how many, and how many are wrong."""
+    count = wrong = 0
+    with tempfile.TemporaryDirectory() as folder:
+        for text in blocks("java", "docs", "java.md"):
+            Path(folder, re.findall(r"^public class (\w+)", text, re.MULTILINE)[0] + ".java").write_text(text, encoding="utf-8")
+        for command, text in re.findall(r"^```\n\$ atomic-java (.*)\n((?:.*\n)*?)```$", read("docs", "java.md"), re.MULTILINE):
+            done = subprocess.run([str(program.resolve()), *command.split()], capture_output=True, check=False, cwd=folder)
+            count += 1
+            if done.stdout.decode() != text:
+                wrong += 1
+                print(f"docs/java.md: {command}: wanted\n{text}given {done.returncode}\n{done.stdout.decode()}")
+    return count, wrong
+
+
 def checked(program: Path = PROGRAM) -> tuple[int, int] | None:
-    """How many rows there are and how many are wrong, each of which is told; none where there is no program."""
+    """How many rows and commands there are and how many are wrong, each of which is told; none where there is no program."""
     if not program.exists():
         return None
     table, wrong = rows(), 0
@@ -56,7 +73,8 @@ def checked(program: Path = PROGRAM) -> tuple[int, int] | None:
         if lacking:
             wrong += 1
             print(f"docs/java.md: {row[0]}: wanted {wanted}, given {asked}")
-    return len(table), wrong
+    shown_commands, wrong_commands = commands(program)
+    return len(table) + shown_commands, wrong + wrong_commands
 
 
 def main() -> None:
@@ -66,7 +84,7 @@ def main() -> None:
     found = checked(parser.parse_args().program)
     if found is None:
         sys.exit("there is no atomic-java: bench/java.sh builds it")
-    print(f"{found[0]} rows of docs/java.md, {found[1]} wrong")
+    print(f"{found[0]} rows and commands of docs/java.md, {found[1]} wrong")
     sys.exit(1 if found[1] else 0)
 
 
