@@ -61,7 +61,10 @@ public final class Escape {
         } else if (parent instanceof NewClassTree made) {
             return isBorrowed(made) ? NEVER : attribution.start(made);
         } else if (parent instanceof AssignmentTree assignment) {
-            return assignment.getExpression() == use ? into(assignment.getVariable(), assignment) : NEVER;
+            boolean given = attribution.parent(assignment).getKind() != Tree.Kind.EXPRESSION_STATEMENT;
+            long further = given ? from(assignment) : NEVER;
+            return assignment.getExpression() == use ? Math.min(further, into(assignment.getVariable(), assignment))
+                : further;
         } else if (parent instanceof VariableTree variable) {
             return through(attribution.element(variable));
         } else if (parent instanceof ReturnTree) {

@@ -265,7 +265,8 @@ public final class Methods {
                 body.locals().put(variable, body.declareLoose(variable.getSimpleName().toString(), own));
             }
         }
-        method.symbol().getParameters().forEach(each -> body.locals().putIfAbsent(each, Value.OPAQUE));
+        method.symbol().getParameters().forEach(each -> body.locals().putIfAbsent(each,
+            services.ownership().made(each) != null ? new Value.Given(each.getSimpleName().toString()) : Value.OPAQUE));
     }
 
     /** The locks that the annotations of the method, or of the one that it overrides, say that its callers hold. */
