@@ -84,7 +84,12 @@ public final class Methods {
 
     /** The call that a wait becomes which others can see. */
     public Part.Call wait(Place place) {
-        return services.several("Object.wait", place);
+        return several("Object.wait", place);
+    }
+
+    /** A call of what is several steps, and is called {@code shown}. */
+    public Part.Call several(String shown, Place place) {
+        return services.several(shown, place);
     }
 
     /** A function that is judged by itself. */
