@@ -139,7 +139,8 @@ final class Judging {
                 java.util.Comparator.comparingInt(this::size)).orElse(null);
         }
         if (method == null || !reduced.add(method)) {
-            throw new Refusal(Options.NO_CHECKER, "atomic_why can't read the skeleton: " + String.join("; ", told.lines()));
+            throw new Refusal(Options.NO_CHECKER, "atomic_why can't read the skeleton: " + String.join("; ", told.lines())
+                + (parts.matches() ? ": " + writer.line(Integer.parseInt(parts.group(1))) : ""));
         }
         if (method.place() != null) {
             program.notes().tell(Notes.Kind.APPROXIMATED, methods.origin(method), method.place(), "limit: the checker says "

@@ -4,6 +4,7 @@ import atomic.java.attribution.Attribution;
 import atomic.java.attribution.Javac;
 import atomic.java.options.Options;
 import atomic.java.options.Refusal;
+import atomic.java.passes.ClosedWorld;
 import atomic.java.passes.Inference;
 import atomic.java.passes.Marking;
 import atomic.java.passes.Pruning;
@@ -72,6 +73,7 @@ public final class Run {
         List<Method> kept = all(program);
         new Races(program.names(), program.notes()).run(kept);
         Marking.run(kept);
+        new ClosedWorld(program).run();
     }
 
     private static List<Method> all(Program program) {

@@ -125,7 +125,7 @@ public final class Library {
     private List<String> names(TypeMirror type) {
         TypeMirror erased = types.erasure(type);
         if (!(erased instanceof DeclaredType declared)) {
-            return List.of(erased.toString());
+            return List.of(erased.toString(), "java.lang.Object");
         }
         String own = ((TypeElement) declared.asElement()).getQualifiedName().toString();
         if (!above.containsKey(own)) {

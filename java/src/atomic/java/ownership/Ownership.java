@@ -63,8 +63,7 @@ public final class Ownership {
 
     private String findMade(VariableElement field) {
         String found = UNKNOWN;
-        if (field.getKind() == ElementKind.FIELD && !field.getModifiers().contains(Modifier.PRIVATE)
-                && !field.getModifiers().contains(Modifier.FINAL)) {
+        if (field.getKind() == ElementKind.FIELD && isOpen(field) && !field.getModifiers().contains(Modifier.FINAL)) {
             return UNKNOWN;
         }
         for (Uses.Assignment each : uses.assignments(field)) {
@@ -127,9 +126,14 @@ public final class Ownership {
         return type == null ? null : attribution.types().erasure(type).toString();
     }
 
-    /** Whether the contents of what a field holds are the field's: it is private, made for it, and never gets away. */
+    /** Whether code far away may touch a field; what the package's other files do is told as an assumption. */
+    private static boolean isOpen(VariableElement field) {
+        return field.getModifiers().contains(Modifier.PUBLIC) || field.getModifiers().contains(Modifier.PROTECTED);
+    }
+
+    /** Whether the contents of what a field holds are the field's: it is hidden, made for it, and never gets away. */
     public boolean owns(VariableElement field) {
-        if (!field.getModifiers().contains(Modifier.PRIVATE) || made(field) == null) {
+        if (isOpen(field) || made(field) == null) {
             return false;
         }
         return uses.of(field).stream().allMatch(use -> escape.from(use) == Escape.NEVER);

@@ -41,7 +41,7 @@ public final class Held {
     }
 
     private void settle() {
-        methods.stream().filter(method -> !method.closed()).forEach(method ->
+        methods.stream().filter(method -> !isClosed(method)).forEach(method ->
             entry.put(method, new HashSet<>(method.required())));
         boolean changed = true;
         while (changed) {
@@ -53,13 +53,18 @@ public final class Held {
             }
             changed = false;
             for (Method method : methods) {
-                if (method.closed() && found.containsKey(method)) {
+                if (isClosed(method) && found.containsKey(method)) {
                     Set<Path> now = new HashSet<>(found.get(method));
                     now.addAll(method.required());
                     changed |= !now.equals(entry.put(method, now));
                 }
             }
         }
+    }
+
+    /** Whether all calls of a method are known, and mean this method alone. */
+    boolean isClosed(Method method) {
+        return method.closed() && method.overridden().isEmpty() && callees.of(method).size() == 1;
     }
 
     /** Goes through all accesses. */

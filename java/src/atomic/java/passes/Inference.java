@@ -99,7 +99,7 @@ public final class Inference {
         Set<List<Field>> guards = new HashSet<>();
         methods.forEach(method -> guards(method.body(), guards));
         for (Method method : methods) {
-            if (method.closed() && method.overridden().isEmpty()) {
+            if (held.isClosed(method)) {
                 List<Path> wanted = new ArrayList<>(held.entry(method));
                 wanted.removeIf(path -> guards.stream().noneMatch(guard -> ends(path.fields(), guard)));
                 method.required().addAll(wanted);

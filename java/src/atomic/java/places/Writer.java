@@ -47,6 +47,11 @@ public final class Writer {
         return text.toString();
     }
 
+    /** A line of the text. */
+    public String line(int number) {
+        return text.toString().lines().skip(number - 1L).findFirst().orElse("").strip();
+    }
+
     /** The method that stands at a line of the text, or null. */
     public Method method(int line) {
         Map.Entry<Integer, Method> found = lines.floorEntry(line);

@@ -20,6 +20,12 @@ public record JavaMethod(ExecutableElement symbol, MethodTree tree, JavaClass ow
         return symbol.getModifiers().contains(Modifier.PRIVATE);
     }
 
+    /** Whether code of other packages may call it. */
+    public boolean isOpen() {
+        return symbol.getModifiers().contains(Modifier.PUBLIC) || symbol.getModifiers().contains(Modifier.PROTECTED)
+            || owner.isInterface();
+    }
+
     public boolean isAbstract() {
         return tree.getBody() == null && !symbol.getModifiers().contains(Modifier.NATIVE);
     }

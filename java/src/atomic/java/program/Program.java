@@ -35,6 +35,7 @@ public final class Program {
     private final Names names = new Names();
     private final Notes notes = new Notes();
     private final Map<Element, JavaClass> classes = new LinkedHashMap<>();
+    private final Map<Shape, JavaClass> byShape = new HashMap<>();
     private final Map<Element, JavaMethod> methods = new LinkedHashMap<>();
     private final Map<String, Integer> lambdas = new HashMap<>();
     private final List<Shape> shapes = new ArrayList<>();
@@ -72,6 +73,7 @@ public final class Program {
                 ? names.plain(shown) : names.invent(shown, shown), attribution.name(tree));
             JavaClass declared = new JavaClass(symbol, tree, outer, hasOuterObject(symbol, tree), shape);
             classes.put(symbol, declared);
+            byShape.put(shape, declared);
             shapes.add(shape);
             JavaClass before = outer;
             outer = declared;
@@ -131,6 +133,11 @@ public final class Program {
         }
         return attribution.types().erasure(type) instanceof DeclaredType declared ? classes.get(declared.asElement())
             : null;
+    }
+
+    /** The class that a shape stands for, or null. */
+    public JavaClass find(Shape shape) {
+        return byShape.get(shape);
     }
 
     public JavaClass find(Element symbol) {

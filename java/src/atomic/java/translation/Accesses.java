@@ -7,7 +7,6 @@ import atomic.java.program.JavaClass;
 import atomic.java.skeleton.Field;
 import atomic.java.skeleton.Part;
 import atomic.java.skeleton.Path;
-import atomic.java.skeleton.Shape;
 import atomic.java.skeleton.Value;
 import com.sun.source.tree.ArrayAccessTree;
 import com.sun.source.tree.ExpressionTree;
@@ -33,7 +32,7 @@ final class Accesses {
             return null;
         }
         JavaClass owner = services.program().find(field.getEnclosingElement());
-        return owner == null ? body.me(offset) : body.object(owner, offset);
+        return owner == null ? body.inheriting(field.getEnclosingElement(), offset) : body.object(owner, offset);
     }
 
     /** The object before the dot; its steps are emitted. */
@@ -131,15 +130,10 @@ final class Accesses {
         if (field.getModifiers().contains(Modifier.FINAL) || receiver instanceof Value.Fresh) {
             return Value.OPAQUE;
         }
-        Shape shape = receiver == null ? null : receiver.type();
-        if (receiver != null && receiver.path() != null && receiver.path().isThis()) {
-            String name = services.program().names().plain(field.getSimpleName().toString());
-            Field own = shape.fields().stream().filter(each -> each.name().equals(name)).findFirst().orElse(null);
-            if (own == null) {
-                own = new Field(shape, name, null, false);
-                shape.fields().add(own);
-            }
-            access(receiver, own, write, at);
+        JavaClass heir = receiver == null || receiver.path() == null || receiver.type() == null ? null
+            : services.program().find(receiver.type());
+        if (heir != null && services.nodes().container(heir) == null) {
+            access(receiver, services.fields().inherited(field, heir), write, at);
             return Value.OPAQUE;
         }
         services.tell(Notes.Kind.APPROXIMATED, body, at, "a field of a library's class counts as one that nothing guards");

@@ -14,6 +14,7 @@ import java.util.HashSet;
 import java.util.List;
 import java.util.Map;
 import java.util.Set;
+import javax.lang.model.element.Element;
 import javax.lang.model.element.VariableElement;
 
 /** A method of the skeleton while it is written: its object, its locals, and the parts so far. */
@@ -115,6 +116,22 @@ final class Body {
             current = current.outer();
         }
         return current == null ? null : value;
+    }
+
+    /** The object that has a member of a library's class: this one, or one around it that is of that class. */
+    Value inheriting(Element home, long offset) {
+        JavaClass heir = heir(home);
+        return heir == null ? null : object(heir, offset);
+    }
+
+    /** The innermost class around this code that is below a library's class. */
+    JavaClass heir(Element home) {
+        var types = services.attribution().types();
+        JavaClass each = owner.self();
+        while (each != null && !types.isSubtype(types.erasure(each.symbol().asType()), types.erasure(home.asType()))) {
+            each = each.outer();
+        }
+        return each;
     }
 
     private Value around(JavaClass inner, Value value) {

@@ -39,6 +39,7 @@ public final class Fields {
     private final Guards guards;
     private final Map<VariableElement, Home> homes = new HashMap<>();
     private final Map<VariableElement, Home> contents = new HashMap<>();
+    private final Map<VariableElement, Map<Shape, Field>> inherited = new HashMap<>();
     private final Map<VariableElement, Boolean> settled = new HashMap<>();
     private final Map<JavaClass, Field> statics = new HashMap<>();
     private final Map<Shape, Field> outers = new HashMap<>();
@@ -136,6 +137,24 @@ public final class Fields {
             && (families.isBelow(each, owner) || families.isBelow(owner, each))
             && each.symbol().getEnclosedElements().stream().anyMatch(other -> other.getKind().isField()
                 && other.getSimpleName().equals(java.getSimpleName())));
+    }
+
+    /** The field that stands for one of a library's class, in the class furthest up that has it. */
+    Field inherited(VariableElement java, JavaClass heir) {
+        JavaClass top = heir;
+        var types = program.attribution().types();
+        for (JavaClass above = families.above(heir); above != null && types.isSubtype(
+                types.erasure(above.symbol().asType()), types.erasure(java.getEnclosingElement().asType()));
+                above = families.above(above)) {
+            top = above;
+        }
+        Shape home = top.shape();
+        return inherited.computeIfAbsent(java, key -> new HashMap<>()).computeIfAbsent(home, key -> {
+            String name = java.getSimpleName().toString();
+            Field field = new Field(home, program.names().invent(name, name), null, false);
+            home.fields().add(field);
+            return field;
+        });
     }
 
     private void guard(VariableElement java, Home home) {

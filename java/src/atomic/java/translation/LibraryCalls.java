@@ -62,8 +62,8 @@ final class LibraryCalls {
 
     /** This object, where a method of a library's class above is called without a receiver. */
     private Value own(ExecutableElement symbol, Tree tree) {
-        Value me = body.me(services.attribution().start(tree));
-        return me == null ? Value.OPAQUE : me;
+        Value object = body.inheriting(symbol.getEnclosingElement(), services.attribution().start(tree));
+        return object == null ? Value.OPAQUE : object;
     }
 
     /** Functions that are called at once are written with the call, not where they stand. */
@@ -81,7 +81,8 @@ final class LibraryCalls {
     private Choice choose(ExpressionTree before, ExecutableElement symbol, boolean isStatic) {
         String name = symbol.getSimpleName().toString();
         if (isStatic || before == null) {
-            TypeMirror home = isStatic ? symbol.getEnclosingElement().asType() : body.self().symbol().asType();
+            JavaClass heir = body.heir(symbol.getEnclosingElement());
+            TypeMirror home = isStatic || heir == null ? symbol.getEnclosingElement().asType() : heir.symbol().asType();
             return services.program().library().choose(home, name);
         }
         Element source = services.attribution().element(Uses.bare(before));

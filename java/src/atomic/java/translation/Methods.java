@@ -143,7 +143,7 @@ public final class Methods {
         made.parameters().addAll(parameters(method, home));
         home.methods().add(made);
         origins.put(made, method);
-        made.closed(method.isPrivate() || key.fresh() || container != null);
+        made.closed(!method.isOpen() || key.fresh() || container != null);
         if (own || method.isConstructor()) {
             judged.put(made, method);
         }
@@ -189,6 +189,15 @@ public final class Methods {
         Body body = new Body(services, target, new Body.Owner(key.self(), me, method), freshUntil);
         bindParameters(method, body);
         require(method, body);
+        write(key, target, body);
+        Promises promises = new Promises(services.program());
+        if (promises.isAtomic(method, families)) {
+            promise(target, promises.isAtomic(families.root(method), families));
+        }
+    }
+
+    private void write(Key key, Method target, Body body) {
+        JavaMethod method = key.method();
         if (method.tree().getBody() == null) {
             target.body(new Dispatch(services).body(method, key.self(), body));
             return;
@@ -202,10 +211,6 @@ public final class Methods {
         }));
         if (method.owner().isInterface() && key.self() == method.owner() && !method.isStatic()) {
             target.body(new Dispatch(services).join(target.body(), method, key.self(), body));
-        }
-        Promises promises = new Promises(services.program());
-        if (promises.isAtomic(method, families)) {
-            promise(target, promises.isAtomic(families.root(method), families));
         }
     }
 
