@@ -9,7 +9,7 @@ RULES = {
     "modifier": re.compile(r"\bsynchronized (?!\()"),
     "block": re.compile(r"\bsynchronized \((?:[^()]|\([^()]*\))*\) (?=\{)"),
     "lock": re.compile(r"[\w.()]+\.(?:lock|lockInterruptibly)\(\);"),
-    "guard": re.compile(r"@GuardedBy\(\"[^\"]*\"\)\s+(?!(?:\w+\s+)*[\w<>\[\]]+\s+\w+\()"),
+    "guard": re.compile(r"@GuardedBy\(\"[^\"]*\"\)\s+(?=\S)(?!(?:\w+\s+)*[\w<>\[\]]+\s+\w+\()"),
     "holding": re.compile(r"@(?:Holding|GuardedBy)\(\"[^\"]*\"\)\s+(?=(?:\w+\s+)*[\w<>\[\]]+\s+\w+\()"),
 }
 UNLOCK = re.compile(r"[\w.()]+\.unlock\(\);")

@@ -54,8 +54,8 @@ public class AccountBook {
 
     @Atomic
     public int total() {
-        synchronized (checking) {
-            synchronized (savings) {
+        synchronized (checking) { // harmless without block: the other account is read in one step while this one is held
+            synchronized (savings) { // harmless without block: the other account is read in one step while this one is held
                 return checking.balance() + savings.balance();
             }
         }
@@ -63,8 +63,8 @@ public class AccountBook {
 
     @Atomic
     public int changes() {
-        synchronized (checking) {
-            synchronized (savings) {
+        synchronized (checking) { // harmless without block: the other account is read in one step while this one is held
+            synchronized (savings) { // harmless without block: the other account is read in one step while this one is held
                 int changes = checking.changes();
                 changes += savings.changes();
                 return changes;

@@ -70,13 +70,13 @@ public class Inventory {
         return sum;
     }
 
-    @Holding("this")
+    @Holding("this") // harmless without holding: what every caller of a private method holds is found without it
     private void change(String thing, int amount) {
         amounts.merge(thing, amount, Integer::sum);
         changes.add(thing + " " + amount);
     }
 
-    @Holding("this")
+    @Holding("this") // harmless without holding: what every caller of a private method holds is found without it
     private boolean fits(int amount) {
         return count() + reserved + amount <= limit;
     }

@@ -84,7 +84,7 @@ public class RateLimiter {
         }
     }
 
-    @GuardedBy("lock")
+    @GuardedBy("lock") // harmless without holding: what every caller of a private method holds is found without it
     private void forget(long now) {
         while (!times.isEmpty() && times.peekFirst() <= now - window) {
             times.removeFirst();

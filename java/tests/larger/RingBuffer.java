@@ -76,7 +76,7 @@ public final class RingBuffer {
         }
     }
 
-    @GuardedBy("lock")
+    @GuardedBy("lock") // harmless without holding: what every caller of a private method holds is found without it
     private void append(int number) {
         ring[(first + count) % ring.length] = number;
         count++;

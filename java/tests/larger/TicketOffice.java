@@ -85,7 +85,7 @@ public class TicketOffice {
         }
     }
 
-    @GuardedBy("lock")
+    @GuardedBy("lock") // harmless without holding: what every caller of a private method holds is found without it
     private void sell() {
         left--;
         sold++;
