@@ -122,6 +122,10 @@ public final class Escape {
             return isBorrowed(symbol, call.getArguments().indexOf(use)) ? NEVER : attribution.start(call);
         }
         Choice choice = choose(call.getMethodSelect(), symbol);
+        boolean copies = symbol.getSimpleName().toString().endsWith("All") && choice.kind() != Choice.Kind.UNKNOWN;
+        if (copies) {
+            return NEVER;
+        }
         return switch (choice.kind()) {
             case VIEW -> from(call);
             case PURE, ASSUMED, READS, RUN -> choice.keeps() ? attribution.start(call) : NEVER;

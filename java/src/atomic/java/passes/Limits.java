@@ -55,6 +55,9 @@ public final class Limits {
                 Field one = new Field(shape, names.invent("fields", "one of many fields"), group.get(0).type(), false);
                 one.guard(group.get(0).guard());
                 one.use();
+                if (group.get(0).wide()) {
+                    one.widen();
+                }
                 shape.fields().add(one);
                 group.forEach(field -> field.standFor(one));
             }
@@ -62,8 +65,7 @@ public final class Limits {
     }
 
     private static Object key(Field field) {
-        boolean doubled = field.wide() && field.guard() == null;
-        return List.of(field.guard() == null ? "" : field.guard(), doubled, field.type() == null ? "" : field.type());
+        return List.of(field.guard() == null ? "" : field.guard(), field.wide(), field.type() == null ? "" : field.type());
     }
 
     private static long count(Shape shape) {
