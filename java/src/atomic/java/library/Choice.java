@@ -35,6 +35,11 @@ public record Choice(Kind kind, boolean calls, boolean fills, boolean keeps, Str
         UNKNOWN
     }
 
+    /** Whether a function among the arguments runs within the call: so it does where nothing is kept and nothing waits. */
+    public boolean runsFunctions() {
+        return calls || !keeps && (kind == Kind.PURE || kind == Kind.ASSUMED);
+    }
+
     /** A method that no row speaks of. */
     public static final Choice UNKNOWN = new Choice(Kind.UNKNOWN, false, false, true, null);
 

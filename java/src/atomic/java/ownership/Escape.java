@@ -208,7 +208,7 @@ public final class Escape {
         if (parent instanceof MethodInvocationTree call
                 && attribution.element(call) instanceof ExecutableElement symbol && program.method(symbol) == null) {
             Choice choice = choose(call.getMethodSelect(), symbol);
-            return choice.calls() || choice.kind() == Choice.Kind.PIPE && endsAtOnce(call);
+            return choice.runsFunctions() || choice.kind() == Choice.Kind.PIPE && endsAtOnce(call);
         }
         return false;
     }

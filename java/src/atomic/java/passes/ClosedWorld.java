@@ -4,7 +4,6 @@ import atomic.java.places.Notes;
 import atomic.java.program.JavaClass;
 import atomic.java.program.JavaMethod;
 import atomic.java.program.Program;
-import atomic.java.skeleton.Field;
 import java.util.ArrayList;
 import java.util.List;
 import javax.lang.model.element.Element;
@@ -46,19 +45,13 @@ public final class ClosedWorld {
         for (Element member : each.symbol().getEnclosedElements()) {
             if (member instanceof VariableElement && member.getKind() == ElementKind.FIELD
                     && !member.getModifiers().contains(Modifier.PRIVATE)
-                    && !member.getModifiers().contains(Modifier.FINAL) && isUsed(each, member.getSimpleName().toString())) {
+                    && !member.getModifiers().contains(Modifier.FINAL)) {
                 names.add(member.getSimpleName().toString());
             }
         }
         int more = names.size() - MOST_NAMES;
         return more <= 1 ? String.join(", ", names)
             : String.join(", ", names.subList(0, MOST_NAMES)) + " and " + more + " others";
-    }
-
-    private boolean isUsed(JavaClass each, String name) {
-        return program.shapes().stream().flatMap(shape -> shape.fields().stream()).filter(Field::used)
-            .anyMatch(field -> field.owner().place() != null && field.owner().place().equals(each.shape().place())
-                && program.names().shown(field.name()).equals(name));
     }
 
     private static boolean mayBeExtended(JavaClass each) {

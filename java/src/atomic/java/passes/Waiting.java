@@ -115,10 +115,15 @@ public final class Waiting {
         private Path lock;
         private boolean touched;
         private boolean repeated;
+        private boolean inRegion;
 
+        /** A region within this one, which may be of the same lock. */
         State within(Path taken) {
             State inner = new State();
             inner.lock = taken;
+            inner.touched = inRegion && touched;
+            inner.repeated = inRegion && repeated;
+            inner.inRegion = true;
             return inner;
         }
     }

@@ -147,6 +147,9 @@ final class Calls {
                     new Value.Fresh(each.owner().shape()), arguments, tree)));
             }
         }
+        if (all.isEmpty()) {
+            emit(services.methods().of(method), new Value.Fresh(method.owner().shape()), arguments, tree);
+        }
         body.emit(Dispatch.either(all));
     }
 

@@ -109,7 +109,7 @@ final class Functions {
                 part = body.collect(() -> inline(lambda, body));
             } else if (bare instanceof MemberReferenceTree reference) {
                 part = body.collect(() -> new Calls(services, body).reference(reference));
-            } else if (isFunction(bare)) {
+            } else if (isFunction(bare) && !isLookedAt(at)) {
                 part = services.step("a function that isn't known", true, bare);
                 services.tell(atomic.java.places.Notes.Kind.APPROXIMATED, body, bare,
                     "unknown call: a function that isn't known may do anything");
@@ -118,6 +118,13 @@ final class Functions {
                 body.emit(new Part.Repeat(part, services.attribution().place(at)));
             }
         }
+    }
+
+    /** Whether a call only looks at a function's object: {@code Objects.requireNonNull} does. */
+    private boolean isLookedAt(Tree at) {
+        return at instanceof com.sun.source.tree.MethodInvocationTree call
+            && services.attribution().element(call) instanceof javax.lang.model.element.ExecutableElement symbol
+            && !services.ownership().escape().choose(call.getMethodSelect(), symbol).calls();
     }
 
     /** Whether an argument is an object with a function, which the call then calls; comparators are told as assumed. */

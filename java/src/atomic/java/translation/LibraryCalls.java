@@ -150,7 +150,7 @@ final class LibraryCalls {
                 choice.kind() == Choice.Kind.WRITES, called.at(), called.shown());
             default -> unknown(called);
         }
-        if (choice.calls()) {
+        if (choice.runsFunctions()) {
             services.functions().callAll(called.arguments(), body, called.at());
         }
     }

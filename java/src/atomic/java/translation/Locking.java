@@ -92,7 +92,7 @@ final class Locking {
 
     /** Whether two expressions mean the same lock: they are written alike, or their locks have one name. */
     boolean areSame(ExpressionTree one, ExpressionTree other) {
-        if (one.toString().replace("this.", "").equals(other.toString().replace("this.", ""))) {
+        if (one.toString().equals(other.toString())) {
             return true;
         }
         Lock[] locks = new Lock[2];

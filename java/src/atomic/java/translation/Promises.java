@@ -28,7 +28,8 @@ final class Promises {
             return true;
         }
         if (program.options().everyPublic() && method.symbol().getModifiers().contains(Modifier.PUBLIC)
-                && !method.isConstructor() && !isMain(method)) {
+                && !method.isConstructor() && !isMain(method) && !method.isAbstract()
+                && !method.owner().symbol().getSimpleName().isEmpty()) {
             return true;
         }
         MethodTree tree = method.tree();
