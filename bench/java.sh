@@ -19,7 +19,9 @@ javac --release 17 -Xlint:all -Werror -encoding UTF-8 -d "$work/classes" "@$work
 (cd "$top/java/src" && find . -type f ! -name '*.java') | while read -r file; do cp "$top/java/src/$file" "$work/classes/$file"; done
 version=0.$(git -C "$top" rev-list --count HEAD 2>/dev/null || echo 0)+g$(git -C "$top" rev-parse --short=12 HEAD 2>/dev/null || echo unknown)
 printf 'Main-Class: atomic.java.Main\nImplementation-Version: %s\n' "$version" > "$work/manifest"
-jar --create --file "$work/atomic-java.jar" --manifest "$work/manifest" -C "$work/classes" .
+date=$(date -u -d "@${SOURCE_DATE_EPOCH-$(date +%s)}" +%Y-%m-%dT%H:%M:%SZ)
+(cd "$work/classes" && find . -type f | sort > "$work/names" \
+    && jar --create --file "$work/atomic-java.jar" --manifest "$work/manifest" --date "$date" "@$work/names")
 mv "$work/atomic-java.jar" "$out/atomic-java.jar"
 install -m 755 "$top/java/atomic-java" "$out/atomic-java"
 if [ -z "${ATOMIC_WHY-}" ] && [ ! -x "$top/crates/atomic_why/out/atomic_why" ] && [ ! -x "$top/crates/atomic_why/out/atomic-why-unproved" ] \

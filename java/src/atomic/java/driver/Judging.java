@@ -3,6 +3,7 @@ package atomic.java.driver;
 import atomic.java.options.Options;
 import atomic.java.options.Refusal;
 import atomic.java.passes.Callees;
+import atomic.java.passes.Marking;
 import atomic.java.places.Answer;
 import atomic.java.places.Notes;
 import atomic.java.places.Text;
@@ -146,8 +147,14 @@ final class Judging {
             program.notes().tell(Notes.Kind.APPROXIMATED, methods.origin(method), method.place(), "limit: the checker says "
                 + kind + ", so the method counts as compound, and what it touches isn't judged");
         }
+        Part.Call unknown = methods.several("what is past a limit of the checker", method.place());
+        if (!program.helpers().methods().contains(unknown.target())) {
+            program.helpers().methods().add(unknown.target());
+        }
+        wanted.add(unknown.target());
+        Marking.run(List.of(unknown.target()));
         method.loose().clear();
-        method.body(methods.wait(method.place()));
+        method.body(unknown);
         sizes.remove(method);
     }
 

@@ -6,6 +6,7 @@ import atomic.java.options.Options;
 import atomic.java.options.Refusal;
 import atomic.java.passes.ClosedWorld;
 import atomic.java.passes.Inference;
+import atomic.java.passes.Limits;
 import atomic.java.passes.Marking;
 import atomic.java.passes.Pruning;
 import atomic.java.passes.Races;
@@ -74,6 +75,7 @@ public final class Run {
         new Races(program.names(), program.notes()).run(kept);
         Marking.run(kept);
         new ClosedWorld(program).run();
+        new Limits(program.names()).run(kept, program.shapes());
     }
 
     private static List<Method> all(Program program) {

@@ -113,12 +113,17 @@ public final class Library {
     private boolean hasContents(List<String> names) {
         for (String name : names) {
             Map<String, Choice> members = rows.get(name);
-            if (members != null) {
-                return members.values().stream().anyMatch(choice -> choice.kind() == Choice.Kind.READS
-                    || choice.kind() == Choice.Kind.WRITES);
+            if (members != null && has(members, Choice.Kind.READS, Choice.Kind.WRITES)) {
+                return true;
+            } else if (members != null && has(members, Choice.Kind.STEP, Choice.Kind.COMPOUND)) {
+                return false;
             }
         }
         return false;
+    }
+
+    private static boolean has(Map<String, Choice> members, Choice.Kind one, Choice.Kind other) {
+        return members.values().stream().anyMatch(choice -> choice.kind() == one || choice.kind() == other);
     }
 
     /** The names of a type and of those above it, nearer ones first. */

@@ -61,7 +61,10 @@ public final class Escape {
         } else if (parent instanceof NewClassTree made) {
             return isBorrowed(made) ? NEVER : attribution.start(made);
         } else if (parent instanceof AssignmentTree assignment) {
-            return assignment.getExpression() == use ? into(assignment.getVariable(), assignment) : NEVER;
+            boolean given = attribution.parent(assignment).getKind() != Tree.Kind.EXPRESSION_STATEMENT;
+            long further = given ? from(assignment) : NEVER;
+            return assignment.getExpression() == use ? Math.min(further, into(assignment.getVariable(), assignment))
+                : further;
         } else if (parent instanceof VariableTree variable) {
             return through(attribution.element(variable));
         } else if (parent instanceof ReturnTree) {
@@ -119,6 +122,10 @@ public final class Escape {
             return isBorrowed(symbol, call.getArguments().indexOf(use)) ? NEVER : attribution.start(call);
         }
         Choice choice = choose(call.getMethodSelect(), symbol);
+        boolean copies = symbol.getSimpleName().toString().endsWith("All") && choice.kind() != Choice.Kind.UNKNOWN;
+        if (copies) {
+            return NEVER;
+        }
         return switch (choice.kind()) {
             case VIEW -> from(call);
             case PURE, ASSUMED, READS, RUN -> choice.keeps() ? attribution.start(call) : NEVER;

@@ -40,6 +40,7 @@ public final class Nodes {
     private final Attribution attribution;
     private final Ownership ownership;
     private final Map<JavaClass, Boolean> known = new HashMap<>();
+    private final Map<JavaMethod, Boolean> calls = new HashMap<>();
 
     public Nodes(Program program, Ownership ownership) {
         this.program = program;
@@ -234,9 +235,29 @@ public final class Nodes {
                 boolean hidden = node.symbol().getModifiers().contains(Modifier.PRIVATE);
                 need(method != null && mentions(method.symbol().getReturnType(), node)
                     && !method.symbol().getModifiers().contains(Modifier.PUBLIC)
-                    && (hidden || method.isPrivate() || method.owner() == node));
+                    && (hidden || method.isPrivate() || isHidden(method.owner()) || isCalled(method)));
             }
             return super.visitReturn(tree, nothing);
+        }
+
+        private boolean isHidden(JavaClass each) {
+            return each == node || each != null && (each.symbol().getModifiers().contains(Modifier.PRIVATE)
+                || isHidden(each.outer()));
+        }
+
+        /** A method that gives a node, and that nobody here calls, is there for others. */
+        private boolean isCalled(JavaMethod method) {
+            return calls.computeIfAbsent(method, each -> {
+                boolean[] found = new boolean[1];
+                attribution.units().forEach(unit -> new TreeScanner<Void, Void>() {
+                    @Override
+                    public Void visitMethodInvocation(MethodInvocationTree call, Void nothing) {
+                        found[0] |= each.symbol().equals(attribution.element(call));
+                        return super.visitMethodInvocation(call, nothing);
+                    }
+                }.scan(unit, null));
+                return found[0];
+            });
         }
 
         @Override

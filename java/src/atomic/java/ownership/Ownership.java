@@ -2,6 +2,8 @@ package atomic.java.ownership;
 
 import atomic.java.attribution.Attribution;
 import atomic.java.library.Choice;
+import atomic.java.passes.Inference;
+import atomic.java.places.Notes;
 import atomic.java.program.JavaMethod;
 import atomic.java.program.Program;
 import com.sun.source.tree.ConditionalExpressionTree;
@@ -34,6 +36,7 @@ public final class Ownership {
     private final Escape escape;
     private final Map<VariableElement, String> made = new HashMap<>();
     private final Map<VariableElement, Long> escapes = new HashMap<>();
+    private final Map<VariableElement, Boolean> owned = new HashMap<>();
     private static final String UNKNOWN = "";
 
     public Ownership(Program program, Uses uses) {
@@ -126,17 +129,27 @@ public final class Ownership {
         return type == null ? null : attribution.types().erasure(type).toString();
     }
 
-    /** Whether code far away may touch a field; what the package's other files do is told as an assumption. */
+    /** Whether anybody may touch a field; what the package's other files and classes below do is told as an assumption. */
     private static boolean isOpen(VariableElement field) {
-        return field.getModifiers().contains(Modifier.PUBLIC) || field.getModifiers().contains(Modifier.PROTECTED);
+        return field.getModifiers().contains(Modifier.PUBLIC);
     }
 
     /** Whether the contents of what a field holds are the field's: it is hidden, made for it, and never gets away. */
     public boolean owns(VariableElement field) {
+        return owned.computeIfAbsent(field, this::findOwned);
+    }
+
+    private boolean findOwned(VariableElement field) {
         if (isOpen(field) || made(field) == null) {
             return false;
         }
-        return uses.of(field).stream().allMatch(use -> escape.from(use) == Escape.NEVER);
+        List<Tree> leaks = uses.of(field).stream().filter(use -> escape.from(use) != Escape.NEVER).toList();
+        boolean few = program.options().majority() && 100 * leaks.size() <= (100 - Inference.MOST) * uses.of(field).size();
+        if (few) {
+            leaks.forEach(use -> program.notes().tell(Notes.Kind.APPROXIMATED, field, attribution.place(use),
+                "majority: the contents of " + field + " get away here, which isn't judged"));
+        }
+        return few || leaks.isEmpty();
     }
 
     /** The offset from which on the object in a local may be known to others; 0 where it isn't a new one. */

@@ -14,6 +14,8 @@ import javax.lang.model.element.VariableElement;
 
 /** Tells what code outside the files might do that the verdict doesn't count on. Each class is told of once. */
 public final class ClosedWorld {
+    private static final int MOST_NAMES = 4;
+
     private final Program program;
 
     public ClosedWorld(Program program) {
@@ -48,7 +50,9 @@ public final class ClosedWorld {
                 names.add(member.getSimpleName().toString());
             }
         }
-        return String.join(", ", names);
+        int more = names.size() - MOST_NAMES;
+        return more <= 1 ? String.join(", ", names)
+            : String.join(", ", names.subList(0, MOST_NAMES)) + " and " + more + " others";
     }
 
     private boolean isUsed(JavaClass each, String name) {

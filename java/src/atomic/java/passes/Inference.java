@@ -20,7 +20,7 @@ import java.util.Set;
 public final class Inference {
 
     /** Of a hundred accesses, how many have to hold a lock so that most of them do. */
-    private static final int MOST = 70;
+    public static final int MOST = 70;
 
     private final Collection<Method> methods;
     private final boolean majority;

@@ -161,7 +161,8 @@ public final class Writer {
 
     private void access(Part.Access access) {
         one(access);
-        if (access.field().wide() && access.field().guard() == null) {
+        Field.Guard guard = access.field().guard();
+        if (access.field().wide() && (guard == null || guard.writesOnly())) {
             one(access);
         }
     }

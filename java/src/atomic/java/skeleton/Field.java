@@ -17,6 +17,7 @@ public final class Field {
     private boolean used;
     private boolean shared = true;
     private boolean wide;
+    private Field one;
 
     /** A field of {@code owner}; without a type it holds a number; {@code fixed} says that it is final. */
     public Field(Shape owner, String name, Shape type, boolean fixed) {
@@ -31,7 +32,7 @@ public final class Field {
     }
 
     public String name() {
-        return name;
+        return one == null ? name : one.name();
     }
 
     public Shape type() {
@@ -61,7 +62,12 @@ public final class Field {
 
     /** Whether some part of the skeleton names it; others aren't written. */
     public boolean used() {
-        return used;
+        return used && one == null;
+    }
+
+    /** From here on another field of the same guard is written in its place. */
+    public void standFor(Field other) {
+        one = other;
     }
 
     public void use() {

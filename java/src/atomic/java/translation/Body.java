@@ -2,6 +2,7 @@ package atomic.java.translation;
 
 import atomic.java.ownership.Escape;
 import atomic.java.program.JavaClass;
+import atomic.java.program.JavaMethod;
 import atomic.java.skeleton.Field;
 import atomic.java.skeleton.Method;
 import atomic.java.skeleton.Part;
@@ -112,7 +113,7 @@ final class Body {
         JavaClass current = owner.self();
         while (current != null && value != null && current != wanted
                 && !services.families().isBelow(current, wanted)) {
-            value = around(current, value);
+            value = around(current, current == owner.self() && isConstructor() ? owner.me() : value);
             current = current.outer();
         }
         return current == null ? null : value;
@@ -132,6 +133,11 @@ final class Body {
             each = each.outer();
         }
         return each;
+    }
+
+    /** Whether this is a constructor: the object around a new one isn't new itself. */
+    private boolean isConstructor() {
+        return owner.origin() instanceof JavaMethod method && method.isConstructor() && method.owner() == owner.self();
     }
 
     private Value around(JavaClass inner, Value value) {

@@ -123,8 +123,9 @@ final class LibraryCalls {
 
     private void lookAt(ExpressionTree argument, Value value, boolean fills, Called called) {
         TypeMirror type = services.attribution().type(argument);
-        boolean keeps = called.choice().kind() == Choice.Kind.WRITES && !(value instanceof Value.Owned);
-        if (type != null && type.getKind() != TypeKind.NULL && !keeps && called.choice().kind() != Choice.Kind.STEP
+        boolean puts = called.choice().kind() == Choice.Kind.WRITES || called.choice().kind() == Choice.Kind.STEP;
+        boolean looks = !puts || called.shown().endsWith("All") || value instanceof Value.Owned;
+        if (type != null && type.getKind() != TypeKind.NULL && looks
                 && services.program().library().hasContents(type)) {
             new Contents(services, body).call(value, fills, called.at(), called.shown());
         }

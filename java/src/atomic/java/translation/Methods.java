@@ -84,7 +84,12 @@ public final class Methods {
 
     /** The call that a wait becomes which others can see. */
     public Part.Call wait(Place place) {
-        return services.several("Object.wait", place);
+        return several("Object.wait", place);
+    }
+
+    /** A call of what is several steps, and is called {@code shown}. */
+    public Part.Call several(String shown, Place place) {
+        return services.several(shown, place);
     }
 
     /** A function that is judged by itself. */
@@ -265,7 +270,8 @@ public final class Methods {
                 body.locals().put(variable, body.declareLoose(variable.getSimpleName().toString(), own));
             }
         }
-        method.symbol().getParameters().forEach(each -> body.locals().putIfAbsent(each, Value.OPAQUE));
+        method.symbol().getParameters().forEach(each -> body.locals().putIfAbsent(each,
+            services.ownership().made(each) != null ? new Value.Given(each.getSimpleName().toString()) : Value.OPAQUE));
     }
 
     /** The locks that the annotations of the method, or of the one that it overrides, say that its callers hold. */
