@@ -3,7 +3,8 @@
 made of it, and the smallest source.
 
 Each error of a source has to stand in its row, each note of an assumption, an approximation or a data race too, and each line of the
-row has to come. The notes that explain an error may be left out. All sources are judged in one run, each in a package of its own.
+row has to come. The notes that explain an error may be left out, and what is assumed of code outside the files, which is said of most
+sources. All sources are judged in one run, each in a package of its own.
 """
 import argparse
 import re
@@ -15,7 +16,7 @@ from pathlib import Path
 from documents import TEXT, blocks, read, source_of, table_rows
 from java_sources import PROGRAM, Answer, Line, run
 
-TOLD = re.compile(r"(?:assumed|approximated|data race)\b")
+TOLD = re.compile(r"(?!assumed: no code outside these files)(?:assumed|approximated|data race)\b")
 ROW = re.compile(r"nothing|(?:`\d+:\d+: (?:error|note): [^`]*`(?:, |$))+")
 
 

@@ -4,7 +4,7 @@
 # (java/util/Vector). Each class is judged by itself, as it stands: each public method is asked to be atomic (--public), and fields are
 # guarded by the lock that each access of them holds (--infer). The JDK's sources come from the distribution's package
 # openjdk-17-source, which is installed where that may be done; nothing of them is copied into the repository.
-# ATOMIC_JAVA names another launcher than java/out/atomic-java.
+# ATOMIC_JAVA names another launcher than java/out/atomic-java, ATOMIC_ANSWERS a folder that keeps what is told of each class.
 set -eu
 top=$(cd "$(dirname "$0")/.." && pwd)
 case ${1-} in -*) sed -n '2,7s/^# \{0,1\}//p' "$0"; exit 2 ;; esac
@@ -21,5 +21,5 @@ if [ -z "$archive" ]; then
 fi
 work=$(mktemp -d)
 trap 'rm -rf "$work"' EXIT
-exec_python() { python3 "$top/bench/jdk_table.py" --sources "$archive" --folder "$work" --program "${ATOMIC_JAVA:-$top/java/out/atomic-java}" "$@"; }
-exec_python "$@"
+set -- --sources "$archive" --folder "$work" --program "${ATOMIC_JAVA:-$top/java/out/atomic-java}" ${ATOMIC_ANSWERS:+--answers "$ATOMIC_ANSWERS"} "$@"
+python3 "$top/bench/jdk_table.py" "$@"
