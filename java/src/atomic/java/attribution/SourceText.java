@@ -52,7 +52,7 @@ public final class SourceText {
         return count;
     }
 
-    /** Where the word stands first as a token of its own behind {@code from}, outside comments and texts; else {@code from}. */
+    /** Where the word stands first as a token behind {@code from}, outside comments and texts; else {@code from}. */
     public int find(String word, long from) {
         int at = (int) Math.max(0, from);
         while (at < text.length()) {

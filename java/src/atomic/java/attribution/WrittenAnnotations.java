@@ -14,8 +14,8 @@ import java.util.ArrayList;
 import java.util.List;
 
 /**
- * Annotations as they stand in a source. They count by their simple names, so that one whose class isn't in the class path counts too;
- * javac leaves such a one out of what it knows of the declaration.
+ * Annotations as they stand in a source. They count by their simple names, so that one whose class isn't in the class path
+ * counts too; javac leaves such a one out of what it knows of the declaration.
  */
 public final class WrittenAnnotations {
 

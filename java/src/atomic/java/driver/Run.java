@@ -57,7 +57,18 @@ public final class Run {
         judging.lines().forEach(line -> answer.append(line).append('\n'));
         long promised = program.methods().stream().filter(methods::promises).count();
         System.err.println(new Summary(judging, program.notes(), methods.judged()).line((int) promised));
+        hint(program, methods, promised);
         return judging.status();
+    }
+
+    /** Without promises or guards little is judged: what would help is told, beside the answer. */
+    private void hint(Program program, Methods methods, long promised) {
+        if (promised == 0 && !program.methods().isEmpty()) {
+            System.err.println("hint: no method says that it is atomic: mark one by /* atomic */, or take --public");
+        }
+        if (!options.infer() && !options.majority() && !methods.namesGuards()) {
+            System.err.println("hint: no field says by @GuardedBy which lock guards it: --infer finds such locks");
+        }
     }
 
     /** Takes waits, locks of readers and what has no step out of the skeleton, and finds guards where that is asked. */

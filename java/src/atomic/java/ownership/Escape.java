@@ -19,7 +19,9 @@ import com.sun.source.tree.NewClassTree;
 import com.sun.source.tree.ReturnTree;
 import com.sun.source.tree.Tree;
 import com.sun.source.tree.VariableTree;
+import java.util.HashMap;
 import java.util.HashSet;
+import java.util.Map;
 import java.util.Set;
 import javax.lang.model.element.Element;
 import javax.lang.model.element.ElementKind;
@@ -30,6 +32,9 @@ import javax.lang.model.type.TypeMirror;
 /** Whether the object that an expression gives may be reached by others through what is done with it. */
 public final class Escape {
 
+    /** How many names of an object are followed. */
+    private static final int MOST_NAMES = 6;
+
     /** The object doesn't get away. */
     public static final long NEVER = Long.MAX_VALUE;
 
@@ -38,6 +43,7 @@ public final class Escape {
     private final Uses uses;
     private final Selves selves;
     private final Set<Element> visited = new HashSet<>();
+    private final Map<Element, Long> throughs = new HashMap<>();
 
     public Escape(Program program, Uses uses) {
         this.program = program;
@@ -138,9 +144,8 @@ public final class Escape {
         if (symbol.isVarArgs() || at < 0 || at >= symbol.getParameters().size()) {
             return false;
         }
-        return program.methods().stream().filter(each -> each.symbol() == symbol
-            || each.isVirtual() && each.symbol().getSimpleName().equals(symbol.getSimpleName())
-                && attribution.elements().overrides(each.symbol(), symbol, each.owner().symbol()))
+        return program.named(symbol.getSimpleName()).stream().filter(each -> each.symbol() == symbol
+            || each.isVirtual() && attribution.elements().overrides(each.symbol(), symbol, each.owner().symbol()))
             .allMatch(each -> each.tree().getBody() != null && through(each.symbol().getParameters().get(at)) == NEVER);
     }
 
@@ -173,15 +178,23 @@ public final class Escape {
         if (variable == null || variable.getKind() == ElementKind.FIELD) {
             return 0;
         }
-        if (!visited.add(variable)) {
-            return NEVER;
+        Long known = throughs.get(variable);
+        if (known != null || visited.contains(variable)) {
+            return known != null ? known : NEVER;
+        } else if (visited.size() > MOST_NAMES) {
+            return 0;
         }
-        long first = NEVER;
+        boolean first = visited.isEmpty();
+        visited.add(variable);
+        long found = NEVER;
         for (Tree use : uses.of(variable)) {
-            first = Math.min(first, earliest(use, uses.declaration(variable)));
+            found = Math.min(found, earliest(use, uses.declaration(variable)));
         }
         visited.remove(variable);
-        return first;
+        if (first || found != NEVER) {
+            throughs.put(variable, found);
+        }
+        return found;
     }
 
     /** From where on one use lets the object get away: in a loop from its beginning on, and in a lambda from there. */

@@ -37,9 +37,8 @@ public final class Selves {
         if (from(method) != Escape.NEVER) {
             return true;
         }
-        return method.isVirtual() && program.methods().stream().anyMatch(other -> other != method
-            && other.symbol().getSimpleName().equals(method.symbol().getSimpleName())
-            && attribution.elements().overrides(other.symbol(), method.symbol(), other.owner().symbol())
+        return method.isVirtual() && program.named(method.symbol().getSimpleName()).stream().anyMatch(other ->
+            other != method && attribution.elements().overrides(other.symbol(), method.symbol(), other.owner().symbol())
             && from(other) != Escape.NEVER);
     }
 

@@ -2,7 +2,6 @@ package atomic.java.passes;
 
 import atomic.java.skeleton.Method;
 import atomic.java.skeleton.Part;
-import atomic.java.skeleton.Path;
 import atomic.java.skeleton.Shape;
 import atomic.java.skeleton.Value;
 import java.util.ArrayList;
@@ -37,7 +36,8 @@ public final class Pruning {
             method.body(withoutUnnamed(method.body(), named));
             method.loose().removeIf(each -> !named.contains(each.name()));
         });
-        shapes.removeIf(shape -> shape.methods().isEmpty() && !isMentioned(shape, reached));
+        Set<Shape> mentioned = mentioned(reached);
+        shapes.removeIf(shape -> shape.methods().isEmpty() && !mentioned.contains(shape));
     }
 
     private void findStepping() {
@@ -121,22 +121,32 @@ public final class Pruning {
         return part.map(each -> withoutUnnamed(each, named));
     }
 
-    private boolean isMentioned(Shape shape, Set<Method> reached) {
-        return shapes.stream().anyMatch(other -> other.parent() == shape
-            || other.fields().stream().anyMatch(field -> field.type() == shape))
-            || reached.stream().anyMatch(method -> mentions(method, shape));
+    /** The classes that what is left names. */
+    private Set<Shape> mentioned(Set<Method> reached) {
+        Set<Shape> found = new HashSet<>();
+        for (Method method : reached) {
+            method.parameters().forEach(each -> found.add(each.type()));
+            method.loose().forEach(each -> found.add(each.type()));
+            mention(method.body(), found);
+        }
+        shapes.forEach(shape -> {
+            found.add(shape.parent());
+            shape.fields().forEach(field -> found.add(field.type()));
+        });
+        return found;
     }
 
-    private static boolean mentions(Method method, Shape shape) {
-        return method.parameters().stream().map(Path.Root::type).anyMatch(type -> type == shape)
-            || method.loose().stream().anyMatch(each -> each.type() == shape) || mentions(method.body(), shape);
-    }
-
-    private static boolean mentions(Part part, Shape shape) {
-        return part instanceof Part.Local local && local.variable().type() == shape
-            || part instanceof Part.Access access && (access.receiver().type() == shape || access.field().owner() == shape)
-            || part instanceof Part.Call call && call.target().owner() == shape
-            || part instanceof Part.Region region && region.lock() != null && region.lock().type() == shape
-            || part.parts().stream().anyMatch(each -> mentions(each, shape));
+    private static void mention(Part part, Set<Shape> found) {
+        if (part instanceof Part.Local local) {
+            found.add(local.variable().type());
+        } else if (part instanceof Part.Access access) {
+            found.add(access.receiver().type());
+            found.add(access.field().owner());
+        } else if (part instanceof Part.Call call) {
+            found.add(call.target().owner());
+        } else if (part instanceof Part.Region region && region.lock() != null) {
+            found.add(region.lock().type());
+        }
+        part.parts().forEach(each -> mention(each, found));
     }
 }

@@ -35,6 +35,7 @@ public final class Program {
     private final Names names = new Names();
     private final Notes notes = new Notes();
     private final Map<Element, JavaClass> classes = new LinkedHashMap<>();
+    private final Map<String, List<JavaMethod>> byName = new HashMap<>();
     private final Map<Shape, JavaClass> byShape = new HashMap<>();
     private final Map<Element, JavaMethod> methods = new LinkedHashMap<>();
     private final Map<String, Integer> lambdas = new HashMap<>();
@@ -88,6 +89,7 @@ public final class Program {
                 JavaMethod method = new JavaMethod(symbol, tree, outer, attribution.name(tree));
                 outer.methods().add(method);
                 methods.put(symbol, method);
+                byName.computeIfAbsent(symbol.getSimpleName().toString(), key -> new ArrayList<>()).add(method);
             }
             return super.visitMethod(tree, nothing);
         }
@@ -146,6 +148,11 @@ public final class Program {
 
     public JavaMethod method(Element symbol) {
         return methods.get(symbol);
+    }
+
+    /** All methods of a name. */
+    public List<JavaMethod> named(CharSequence name) {
+        return byName.getOrDefault(name.toString(), List.of());
     }
 
     public Collection<JavaClass> classes() {

@@ -138,9 +138,8 @@ final class Calls {
     /** A call on an object that nobody else knows: any method that may run there, without the steps on that object. */
     private void fresh(JavaMethod method, List<Value> arguments, Tree tree) {
         List<Part> all = new ArrayList<>();
-        for (JavaMethod each : services.program().methods()) {
+        for (JavaMethod each : services.program().named(method.symbol().getSimpleName())) {
             boolean runs = each == method || method.isVirtual() && !each.isAbstract() && each.isVirtual()
-                && each.symbol().getSimpleName().equals(method.symbol().getSimpleName())
                 && services.families().overrides(each, method, each.owner());
             if (runs && !each.isAbstract()) {
                 all.add(body.collect(() -> emit(services.methods().of(each, each.owner(), true),

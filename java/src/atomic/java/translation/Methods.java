@@ -77,6 +77,12 @@ public final class Methods {
         return method != null && new Promises(services.program()).isAtomic(method, families);
     }
 
+    /** Whether some field says which lock guards it. */
+    public boolean namesGuards() {
+        return services.program().classes().stream().flatMap(each -> each.symbol().getEnclosedElements().stream())
+            .anyMatch(member -> member instanceof VariableElement field && services.fields().guards().isNamed(field));
+    }
+
     /** The Java method that things noted of a method are noted of. */
     public Object origin(Method method) {
         return origins.get(method);
