@@ -30,7 +30,8 @@ CLASSES = {
     "java/util/concurrent/PriorityBlockingQueue": [], "java/util/concurrent/DelayQueue": [], "java/util/concurrent/CyclicBarrier": [],
     "java/util/concurrent/CopyOnWriteArrayList": [],
 }
-SUMMARY = re.compile(r"(\d+) methods: (\d+) exact, (\d+) assumed, (\d+) approximated; (\d+) promise to be atomic: (\d+) are, (\d+) refused")
+SUMMARY = re.compile(r"(\d+) methods: (\d+) exact, (\d+) assumed, (\d+) approximated; (\d+) promise to be atomic:")
+REFUSED = re.compile(r"^(.*): error: .* is declared atomic, found \w+$", re.MULTILINE)
 NOTE = re.compile(r": note: approximated: ([^:]*)")
 
 
@@ -69,7 +70,9 @@ def judged(name: str, archive: zipfile.ZipFile, folder: Path, program: Path) -> 
         return f"{name}: status {done.returncode}: {(answer + done.stderr.decode())[:300]}"
     reasons = Counter(reason.split(" (")[0] for reason in NOTE.findall(answer))
     lines = sum(Path(source).read_text(encoding="utf-8").count("\n") for source in sources)
-    return Row(name, lines, tuple(int(number) for number in found.groups()), seconds, reasons, answer)
+    promised, refused = int(found[5]), len(set(REFUSED.findall(answer)))
+    figures = (*(int(number) for number in found.groups()), promised - refused, refused)
+    return Row(name, lines, figures, seconds, reasons, answer)
 
 
 def told(rows: list[Row]) -> None:
