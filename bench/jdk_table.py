@@ -109,7 +109,8 @@ def main() -> None:
             if given.answers:
                 given.answers.mkdir(parents=True, exist_ok=True)
                 (given.answers / (name.replace("/", ".") + ".txt")).write_text(row.answer, encoding="utf-8")
-    told(rows)
+    if rows:
+        told(rows)
     sys.exit(0 if len(rows) == len(given.classes or CLASSES) else 1)
 
 

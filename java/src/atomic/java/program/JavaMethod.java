@@ -34,4 +34,10 @@ public record JavaMethod(ExecutableElement symbol, MethodTree tree, JavaClass ow
     public boolean isVirtual() {
         return !isStatic() && !isConstructor() && !isPrivate();
     }
+
+    /** Whether serialisation calls it to fill an object that nobody else knows yet. */
+    public boolean readsNewObject() {
+        return isPrivate() && symbol.getSimpleName().contentEquals("readObject") && symbol.getParameters().size() == 1
+            && symbol.getParameters().get(0).asType().toString().equals("java.io.ObjectInputStream");
+    }
 }

@@ -110,7 +110,7 @@ public final class Methods {
 
     /** The method that stands for a Java method as its own class has it. */
     Method of(JavaMethod method) {
-        return of(method, method.owner(), method.isConstructor());
+        return of(method, method.owner(), method.isConstructor() || method.readsNewObject());
     }
 
     /** The method for objects of class {@code self}, which may be new ones that nobody else knows. */
@@ -156,7 +156,7 @@ public final class Methods {
         origins.put(made, method);
         boolean bySuper = key.self() != method.owner() && !method.owner().isInterface();
         made.closed(!method.isOpen() || key.fresh() || container != null || bySuper);
-        if (own || method.isConstructor()) {
+        if (own || method.isConstructor() || method.readsNewObject()) {
             judged.put(made, method);
         }
         if (own && !method.isStatic() && container == null) {
