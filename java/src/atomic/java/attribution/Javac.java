@@ -125,7 +125,8 @@ public final class Javac {
         List<String> lines = new ArrayList<>();
         for (Diagnostic<? extends JavaFileObject> each : told.getDiagnostics()) {
             SourceText text = texts.get(each.getSource());
-            if (each.getKind() == Diagnostic.Kind.ERROR && !isUnknownAnnotation(each, annotations)) {
+            boolean named = "compiler.err.class.public.should.be.in.file".equals(each.getCode());
+            if (each.getKind() == Diagnostic.Kind.ERROR && !named && !isUnknownAnnotation(each, annotations)) {
                 String message = each.getMessage(java.util.Locale.ENGLISH).lines().findFirst().orElse("");
                 lines.add((text == null ? "" : text.place(each.getPosition()) + ": ") + "error: " + message);
             }

@@ -74,7 +74,7 @@ public final class Run {
     /** Takes waits, locks of readers and what has no step out of the skeleton, and finds guards where that is asked. */
     private void refine(Program program, Methods methods) {
         List<Method> all = all(program);
-        new Waiting(all, program.notes(), methods::origin, methods.wait(null)).run();
+        new Waiting(all, program.notes(), methods::origin, methods.wait(null)).strictly(options.strict()).run();
         Inference inference = new Inference(all, options.majority());
         if (options.infer() || options.majority()) {
             inference.guards();

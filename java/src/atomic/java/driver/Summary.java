@@ -39,6 +39,7 @@ final class Summary {
 
     private long count(String part) {
         List<String> heads = judging.lines().stream().filter(line -> line.contains(": error: ")).toList();
-        return heads.stream().filter(line -> line.contains(part)).count();
+        return heads.stream().filter(line -> line.contains(part))
+            .map(line -> line.substring(0, line.indexOf(": error: "))).distinct().count();
     }
 }

@@ -2,6 +2,7 @@ package atomic.java.ownership;
 
 import atomic.java.attribution.Attribution;
 import atomic.java.library.Choice;
+import atomic.java.places.Notes;
 import atomic.java.program.JavaClass;
 import atomic.java.program.JavaMethod;
 import atomic.java.program.Program;
@@ -68,6 +69,10 @@ public final class Nodes {
         boolean linked = mentionedByFields(each, outer);
         Test test = new Test(each, outer);
         attribution.units().forEach(unit -> test.scan(unit, null));
+        if (linked && test.holds && !each.symbol().getModifiers().contains(Modifier.PRIVATE)) {
+            program.notes().tell(Notes.Kind.ASSUMED, null, attribution.name(each.tree()), "no code outside these files"
+                + " reaches these nodes, which count as parts of " + outer.symbol().getSimpleName());
+        }
         return linked && test.holds;
     }
 

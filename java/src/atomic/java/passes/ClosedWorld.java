@@ -45,7 +45,8 @@ public final class ClosedWorld {
         for (Element member : each.symbol().getEnclosedElements()) {
             if (member instanceof VariableElement && member.getKind() == ElementKind.FIELD
                     && !member.getModifiers().contains(Modifier.PRIVATE)
-                    && !member.getModifiers().contains(Modifier.FINAL)) {
+                    && (!member.getModifiers().contains(Modifier.FINAL)
+                        || program.library().hasContents(member.asType()))) {
                 names.add(member.getSimpleName().toString());
             }
         }

@@ -114,7 +114,7 @@ public final class Held {
         Path path = value.path();
         if (path != null && path.type() != null && path.type().fits(root.type())) {
             List<Field> rest = behind(lock, path);
-            if (rest != null) {
+            if (rest != null && (rest.isEmpty() || root.type().fits(rest.get(0).owner()))) {
                 inside.add(Path.of(root).then(rest));
             }
         }

@@ -24,6 +24,7 @@ public final class Waiting {
     private final Notes notes;
     private final Function<Method, Object> origin;
     private final Part.Call compound;
+    private boolean strict;
     private final Set<Method> looking = new HashSet<>();
     private final Map<Method, Set<Shape>> held = new HashMap<>();
     private final Callees callees;
@@ -35,6 +36,12 @@ public final class Waiting {
         this.origin = origin;
         this.compound = compound;
         callees = new Callees(methods);
+    }
+
+    /** Callers outside the files are taken to hold any lock. */
+    public Waiting strictly(boolean strictly) {
+        strict = strictly;
+        return this;
     }
 
     /** Takes the waits out of all methods. */
@@ -187,6 +194,9 @@ public final class Waiting {
                 return refuse(wait, "something was done before it in its region");
             } else if (mayBeHeld(wait.lock())) {
                 return refuse(wait, "a caller may hold the lock");
+            }
+            if (strict) {
+                return refuse(wait, "a caller outside these files may hold the lock");
             }
             tell(Notes.Kind.ASSUMED, wait.place(), "no caller outside these files holds the lock when this wait is reached");
             return Part.NOTHING;

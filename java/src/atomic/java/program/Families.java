@@ -88,6 +88,21 @@ public final class Families {
         return defaultOf(self, wanted);
     }
 
+    /**
+     * Whether no object at hand runs this method: its class is abstract and hidden, and each class below that objects are
+     * made of has a method of its own in its place. What {@code super} calls is a copy of it.
+     */
+    public boolean isAlwaysReplaced(JavaMethod method) {
+        var modifiers = method.owner().symbol().getModifiers();
+        if (!method.isVirtual() || !modifiers.contains(Modifier.ABSTRACT) || modifiers.contains(Modifier.PUBLIC)
+                || method.owner().isInterface()) {
+            return false;
+        }
+        List<JavaClass> below = program.classes().stream().filter(each -> each != method.owner()
+            && isBelow(each, method.owner()) && !each.symbol().getModifiers().contains(Modifier.ABSTRACT)).toList();
+        return !below.isEmpty() && below.stream().allMatch(each -> implementation(each, method) != method);
+    }
+
     private JavaMethod defaultOf(JavaClass self, JavaMethod wanted) {
         List<JavaMethod> found = new ArrayList<>();
         for (JavaClass each : program.classes()) {

@@ -261,7 +261,7 @@ final class LibraryCalls {
         Choice choice = services.program().library().choose(type, "toString");
         Called called = new Called(simple(type) + ".toString", Value.OPAQUE, choice, part, List.of());
         if (choice.kind() == Choice.Kind.READS) {
-            services.tell(Notes.Kind.ASSUMED, body, part, called.shown() + " looks at nothing that others write");
+            assume(called);
         } else {
             steps(called);
         }

@@ -154,7 +154,8 @@ public final class Methods {
         made.parameters().addAll(parameters(method, home));
         home.methods().add(made);
         origins.put(made, method);
-        made.closed(!method.isOpen() || key.fresh() || container != null);
+        boolean bySuper = key.self() != method.owner() && !method.owner().isInterface();
+        made.closed(!method.isOpen() || key.fresh() || container != null || bySuper);
         if (own || method.isConstructor() || method.readsNewObject()) {
             judged.put(made, method);
         }
@@ -175,7 +176,7 @@ public final class Methods {
         }
         boolean inherited = !key.fresh() && method.owner().isInterface() && key.self() != method.owner();
         return own ? families.name(method) : services.program().names().invent(
-            java + (key.fresh() ? "_of_new" : inherited ? "_inherited" : "_of_super"), java);
+            java + (key.fresh() ? "_of_new" : inherited ? "_inherited" : "_of_super"), "=" + shape + "." + java);
     }
 
     private List<Path.Root> parameters(JavaMethod method, Shape home) {
@@ -211,6 +212,8 @@ public final class Methods {
         JavaMethod method = key.method();
         if (method.tree().getBody() == null) {
             target.body(new Dispatch(services).body(method, key.self(), body));
+            return;
+        } else if (key.self() == method.owner() && families.isAlwaysReplaced(method)) {
             return;
         }
         Statements statements = new Statements(services, body);

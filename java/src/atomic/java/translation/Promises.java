@@ -29,13 +29,20 @@ final class Promises {
         }
         if (program.options().everyPublic() && method.symbol().getModifiers().contains(Modifier.PUBLIC)
                 && !method.isConstructor() && !isMain(method) && !method.isAbstract()
-                && !method.owner().symbol().getSimpleName().isEmpty()) {
+                && !method.owner().symbol().getSimpleName().isEmpty() && !isHiddenBase(method)) {
             return true;
         }
         MethodTree tree = method.tree();
         SourceText text = program.attribution().source(tree);
         return !method.isConstructor()
             && text.saysAtomic(program.attribution().start(tree), program.attribution().nameOffset(tree));
+    }
+
+    /** A class that is abstract and not public is there for those below it. */
+    private static boolean isHiddenBase(JavaMethod method) {
+        var modifiers = method.owner().symbol().getModifiers();
+        return modifiers.contains(Modifier.ABSTRACT) && !modifiers.contains(Modifier.PUBLIC)
+            && !method.owner().isInterface();
     }
 
     private static boolean isMain(JavaMethod method) {
