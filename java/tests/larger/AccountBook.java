@@ -16,7 +16,7 @@ public class AccountBook {
         @GuardedBy("this") private int changes;
 
         @Atomic
-        synchronized int balance() {
+        synchronized int balance() { // harmless without modifier: each call among these files holds that lock
             return balance;
         }
 
@@ -27,7 +27,7 @@ public class AccountBook {
         }
 
         @Atomic
-        synchronized int changes() {
+        synchronized int changes() { // harmless without modifier: each call among these files holds that lock
             return changes;
         }
     }
