@@ -132,13 +132,23 @@ final class Accesses {
         }
         JavaClass heir = receiver == null || receiver.path() == null || receiver.type() == null ? null
             : services.program().find(receiver.type());
-        if (heir != null && services.nodes().container(heir) == null) {
-            access(receiver, services.fields().inherited(field, heir), write, at);
+        if (heir != null && services.nodes().container(heir) == null && isNeverAssigned(field)) {
+            services.tell(Notes.Kind.ASSUMED, body, at, "nobody assigns " + field.getSimpleName() + " of "
+                + field.getEnclosingElement().getSimpleName() + " once its object is made");
+            return behind(receiver, services.fields().inherited(field, heir, services.families().shape(field.asType())));
+        } else if (heir != null && services.nodes().container(heir) == null) {
+            access(receiver, services.fields().inherited(field, heir, null), write, at);
             return Value.OPAQUE;
         }
         services.tell(Notes.Kind.APPROXIMATED, body, at, "a field of a library's class counts as one that nothing guards");
         body.emit(services.step(field.getEnclosingElement().getSimpleName() + "." + field.getSimpleName(), false, at));
         return Value.OPAQUE;
+    }
+
+    /** Whether a library's field with an object that may be a lock, such as {@code Writer.lock}, keeps that here. */
+    private boolean isNeverAssigned(VariableElement field) {
+        return services.uses().assignments(field).isEmpty() && services.families().shape(field.asType()) != null
+            && !services.program().library().hasContents(field.asType()) && !services.program().options().strict();
     }
 
     /** An assignment: the target's object, a read where the old value is wanted, the value, and the write. */

@@ -139,8 +139,8 @@ public final class Fields {
                 && other.getSimpleName().equals(java.getSimpleName())));
     }
 
-    /** The field that stands for one of a library's class, in the class furthest up that has it. */
-    Field inherited(VariableElement java, JavaClass heir) {
+    /** The field that stands for one of a library's class, in the class furthest up that has it; with a type it is final. */
+    Field inherited(VariableElement java, JavaClass heir, Shape type) {
         JavaClass top = heir;
         var types = program.attribution().types();
         for (JavaClass above = families.above(heir); above != null && types.isSubtype(
@@ -151,7 +151,11 @@ public final class Fields {
         Shape home = top.shape();
         return inherited.computeIfAbsent(java, key -> new HashMap<>()).computeIfAbsent(home, key -> {
             String name = java.getSimpleName().toString();
-            Field field = new Field(home, program.names().invent(name, name), null, false);
+            Field field = new Field(home, program.names().invent(name, name), type, type != null);
+            if (!program.options().majority()) {
+                // The library's own methods touch it too, with locks that aren't known here.
+                field.leaveUnguarded();
+            }
             home.fields().add(field);
             return field;
         });
