@@ -1,8 +1,9 @@
 #!/usr/bin/env python3
 """Random sources of the language, printed as Java and judged by atomic-java: each verdict is the same or worse.
 
-What `atomic_why` refuses in the source, atomic-java has to refuse in the Java text. What it refuses besides is counted. Sources that
-aren't well-typed are drawn again. Many sources are judged in one run, each in a package of its own.
+What `atomic_why` refuses in the source, atomic-java has to refuse in the Java text. What it refuses besides is counted. What is refused
+in the source for a lock under a second name, that of a local, is left out, since atomic-java puts the first name in its place. Sources
+that aren't well-typed are drawn again. Many sources are judged in one run, each in a package of its own.
 
 Printed as Java, an annotation stands where the language has a word; a constructor calls the one above; each method is public, since
 `run` has to be; what isn't final is assigned once more, so that it isn't effectively final either; and the condition of a loop isn't
@@ -22,6 +23,7 @@ from random_source import Class, Generator
 
 WHY = Path(os.environ.get("ATOMIC_WHY", TOP / "crates" / "atomic_why" / "out" / "atomic-why-unproved"))
 REFUSED = re.compile(r"(?:.*\.)?(\w+\.\w+) is declared")
+SECOND_NAME = re.compile(r"note: .*\bx\d+\b.* isn't held here")
 HEAD = re.compile(r"((?:atomic )?)(\w+ )(\w+)\(([^()]*)\)((?: requires [\w., ]+)?) \{(?= |$)")
 FIELD = re.compile(r"(\w+ \w+) guarded_by ([\w.]+);")
 LOCAL = re.compile(r"(?<!final )\b(?!return|new|final)([A-Za-z]\w*) (x\d+) = ([^;]*);")
@@ -61,7 +63,7 @@ def class_as_java(cls: Class, text: str) -> str:
 
 def as_java(generator: Generator, source: str) -> str:
     """The source as Java."""
-    text = source.replace("public ", "")
+    text = " ".join(source.split()).replace("public ", "")
     starts = [text.index(f"class {cls.name} ") for cls in generator.classes] + [len(text)]
     parts = [class_as_java(cls, text[start:end]) for cls, start, end in zip(generator.classes, starts, starts[1:])]
     text = HEAD.sub(method_head, "".join(parts))
@@ -71,9 +73,15 @@ def as_java(generator: Generator, source: str) -> str:
 
 
 def refused(lines: list[str]) -> frozenset[str]:
-    """The methods that are refused in these lines."""
-    found = (REFUSED.search(line) for line in lines if " error: " in line)
-    return frozenset(one[1] for one in found if one)
+    """The methods that are refused in these lines, but not for a lock that has a local's name."""
+    found = []
+    for line in lines:
+        head = REFUSED.search(line) if " error: " in line else None
+        if head:
+            found.append(head[1])
+        elif found and SECOND_NAME.search(line):
+            found.pop()
+    return frozenset(found)
 
 
 def draw(seed: int, folder: Path, why: Path) -> Drawn | None:

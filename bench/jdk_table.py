@@ -32,7 +32,7 @@ CLASSES = {
 }
 SUMMARY = re.compile(r"(\d+) methods: (\d+) exact, (\d+) assumed, (\d+) approximated; (\d+) promise to be atomic:")
 REFUSED = re.compile(r"^(.*): error: .* is declared atomic, found \w+$", re.MULTILINE)
-NOTE = re.compile(r": note: approximated: ([^:]*)")
+NOTE = re.compile(r": note: approximated: ([^:,\n]*)")
 
 
 @dataclass(frozen=True)
