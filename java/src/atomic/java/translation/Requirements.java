@@ -17,6 +17,9 @@ final class Requirements {
     /** Adds the lock that a word of an annotation names; where it names none, that is told. */
     void add(String word, JavaMethod method, Body body) {
         Path path = path(word, method, body);
+        if (path == null && body.me(0) instanceof Value.Fresh) {
+            return;
+        }
         if (path == null || path.fields().size() > Path.MOST_FIELDS) {
             services.tell(Notes.Kind.APPROXIMATED, body, method.tree(), "the lock " + word
                 + " of the annotation isn't this, a class or a final field of this, so it counts as not held");
@@ -32,7 +35,7 @@ final class Requirements {
         }
         for (VariableElement parameter : method.symbol().getParameters()) {
             if (parameter.getSimpleName().contentEquals(word)) {
-                return body.locals().getOrDefault(parameter, Value.OPAQUE).path();
+                return parameter(parameter, method, body);
             }
         }
         Guards.Lock lock = services.fields().guards().lock(word, method.owner());
@@ -45,12 +48,23 @@ final class Requirements {
         return me == null || me.path() == null ? null : me.path().then(lock.fields());
     }
 
-    private static Path argument(String number, JavaMethod method, Body body) {
+    /** The parameter that stands at the same place as one of the method furthest up, whatever it is called here. */
+    private Path parameter(VariableElement wanted, JavaMethod method, Body body) {
+        int at = body.target().owner() == services.program().statics() ? 0 : 1;
+        for (VariableElement each : services.families().parameters(method).keySet()) {
+            if (each.equals(wanted)) {
+                return Path.of(body.target().parameters().get(at));
+            }
+            at++;
+        }
+        return null;
+    }
+
+    private Path argument(String number, JavaMethod method, Body body) {
         int at = number.matches("[0-9]{1,3}") ? Integer.parseInt(number) - 1 : -1;
         if (at < 0 || at >= method.symbol().getParameters().size()) {
             return null;
         }
-        VariableElement parameter = method.symbol().getParameters().get(at);
-        return body.locals().getOrDefault(parameter, Value.OPAQUE).path();
+        return parameter(method.symbol().getParameters().get(at), method, body);
     }
 }
