@@ -287,7 +287,7 @@ public final class Methods {
     private void require(JavaMethod method, Body body) {
         JavaMethod root = families.root(method);
         for (String word : services.fields().guards().required(root.symbol())) {
-            new Requirements(services).add(word, root, body);
+            new Requirements(services).add(word, root, method, body);
         }
     }
 

@@ -4,6 +4,7 @@ import atomic.java.places.Notes;
 import atomic.java.program.JavaMethod;
 import atomic.java.skeleton.Path;
 import atomic.java.skeleton.Value;
+import java.util.List;
 import javax.lang.model.element.VariableElement;
 
 /** The locks that a method's callers hold, as its annotations name them. */
@@ -14,9 +15,12 @@ final class Requirements {
         this.services = services;
     }
 
-    /** Adds the lock that a word of an annotation names; where it names none, that is told. */
-    void add(String word, JavaMethod method, Body body) {
-        Path path = path(word, method, body);
+    /**
+     * Adds the lock that a word of an annotation names; where it names none, that is told. The annotation may be that of a
+     * method {@code root} that this one overrides, and whose parameters have other names.
+     */
+    void add(String word, JavaMethod root, JavaMethod method, Body body) {
+        Path path = path(word, root, method, body);
         if (path == null || path.fields().size() > Path.MOST_FIELDS) {
             services.tell(Notes.Kind.APPROXIMATED, body, method.tree(), "the lock " + word
                 + " of the annotation isn't this, a class or a final field of this, so it counts as not held");
@@ -26,16 +30,17 @@ final class Requirements {
         }
     }
 
-    private Path path(String word, JavaMethod method, Body body) {
+    private Path path(String word, JavaMethod root, JavaMethod method, Body body) {
         if (word.startsWith("#")) {
-            return argument(word.substring(1), method, body);
+            return argument(word.matches("#[0-9]{1,3}") ? Integer.parseInt(word.substring(1)) - 1 : -1, method, body);
         }
-        for (VariableElement parameter : method.symbol().getParameters()) {
-            if (parameter.getSimpleName().contentEquals(word)) {
-                return body.locals().getOrDefault(parameter, Value.OPAQUE).path();
+        List<? extends VariableElement> parameters = root.symbol().getParameters();
+        for (int at = 0; at < parameters.size(); at++) {
+            if (parameters.get(at).getSimpleName().contentEquals(word)) {
+                return argument(at, method, body);
             }
         }
-        Guards.Lock lock = services.fields().guards().lock(word, method.owner());
+        Guards.Lock lock = services.fields().guards().lock(word, root.owner());
         if (lock == null) {
             return null;
         } else if (lock.isStatic()) {
@@ -45,8 +50,7 @@ final class Requirements {
         return me == null || me.path() == null ? null : me.path().then(lock.fields());
     }
 
-    private static Path argument(String number, JavaMethod method, Body body) {
-        int at = number.matches("[0-9]{1,3}") ? Integer.parseInt(number) - 1 : -1;
+    private static Path argument(int at, JavaMethod method, Body body) {
         if (at < 0 || at >= method.symbol().getParameters().size()) {
             return null;
         }
