@@ -63,6 +63,9 @@ for name in atomic_why atomic-java atomic-page atomic-witness atomic-sarif; do
 done
 for name in witness sarif; do ln -s atomic-page.1.gz "$share/man/man1/atomic-$name.1.gz"; done
 for page in "$top"/docs/*.1; do gzip -9n < "$page" > "$share/man/man1/$(basename "$page").gz"; done
+"$here/java.sh" "$work/java" > /dev/null
+install -m 755 "$work/java/atomic-java" "$root/usr/bin/atomic-java"
+install -m 644 "$work/java/atomic-java.jar" "$share/atomic/atomic-java.jar"
 install -m 644 "$top"/README.md "$share/doc/atomic"
 install -m 644 "$top"/docs/* "$share/doc/atomic/docs"
 install -m 644 "$top"/examples/* "$share/doc/atomic/examples"
@@ -76,14 +79,14 @@ Version: $version
 Architecture: amd64
 Maintainer: nobody <nobody@localhost>
 Installed-Size: $size
-Depends: libc6 (>= 2.34)
+Depends: libc6 (>= 2.34), default-jdk-headless (>= 2:1.17) | java17-sdk-headless
 Recommends: python3 (>= 3.9)
 Section: devel
 Priority: optional
 Description: static checker for atomicity in a small Java-like language
  atomic says whether the locking of a source keeps what its methods promise,
  atomic_why which statements are why not. atomic-page, atomic-witness and
- atomic-sarif show it.
+ atomic-sarif show it. atomic-java judges Java sources as they are.
 END
 # What Python keeps of the modules beside them goes with the package.
 cat > "$root/DEBIAN/prerm" <<'END'

@@ -18,6 +18,8 @@ mkdir -p "$root/var/lib/dpkg/info" "$root/var/lib/dpkg/updates"
 alone='s/^Multi-Arch:.*/Multi-Arch: no/; /^Conffiles:/,/^[A-Z]/{/^Conffiles:/d; /^ /d}; /^Depends:/d; /^Recommends:/d'
 dpkg-query --status libc6 | sed "$alone" > "$root/var/lib/dpkg/status"
 echo >> "$root/var/lib/dpkg/status"
+# A JDK is said to be there: atomic-java runs with this machine's.
+printf 'Package: java17-sdk-headless\nStatus: install ok installed\nMaintainer: nobody <nobody@localhost>\nArchitecture: all\nVersion: 17\nDescription: none\n\n' >> "$root/var/lib/dpkg/status"
 ldd /bin/true | grep -o '/[^ ]*' | while read -r library; do
     mkdir -p "$root$(dirname "$library")"
     cp -L "$library" "$root$library"
@@ -40,6 +42,9 @@ export ATOMIC ATOMIC_WHY
 "$root/usr/bin/atomic-page" "$root$examples/account.java" | grep -q '</html>' || wrong "atomic-page writes no page"
 [ "$("$root/usr/bin/atomic-witness" "$root$examples/tickets_race.java" | tail -n 1)" = "0*10 1*7 2*15 1*8" ] || wrong "atomic-witness"
 "$root/usr/bin/atomic-sarif" "$root$examples/account.java" | grep -q '"ruleId": "two-steps"' || wrong "atomic-sarif"
+status=0
+said=$("$root/usr/bin/atomic-java" "$root$examples/account_java.java" 2> "$root.said") || status=$?
+[ $status = 0 ] || wrong "atomic-java ended with $status: $said"
 gzip -dc "$root/usr/share/man/man1/atomic.1.gz" | grep -q '^.TH ATOMIC 1' || wrong "the manual page"
 gzip -dc "$root/usr/share/man/man1/atomic-witness.1.gz" | grep -q '^.TH ATOMIC-PAGE 1' || wrong "the manual page of the scripts"
 bash -c '. "$1"; COMP_WORDS=(atomic se); COMP_CWORD=1; _atomic; [ "${COMPREPLY[*]}" = "serialise serialise-open" ]' - \

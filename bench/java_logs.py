@@ -1,0 +1,148 @@
+"""Logs of runs of logged copies: the kinds of their steps, and whether each atomic method's steps are a reducible word.
+
+A line of a log is a thread, an action and its words, and behind a tab the place in the source (java/src/atomic/trace/Log.java). The
+guard of a place is a lock that is held at each access of it in this run; what one thread alone touches wants none.
+"""
+import re
+from collections import defaultdict
+from collections.abc import Iterator
+from dataclasses import dataclass
+from pathlib import Path
+
+ACCESSES = ("read", "write")
+UNJUDGED = ("enter", "leave", "failed", "stopped")
+
+
+@dataclass(frozen=True)
+class Event:
+    """A line of a log: the thread, the action, what it acts on, and the place in the source."""
+
+    thread: str
+    action: str
+    target: str
+    place: str
+    line: int
+
+    @property
+    def object(self) -> str:
+        """The object that an access touches."""
+        return re.split(r"[.\[]", self.target.removesuffix(".class"), maxsplit=1)[0]
+
+
+@dataclass
+class Block:
+    """What one call of a method did: its name, and the events from its begin to its end in its own thread."""
+
+    name: str
+    thread: str
+    events: list[Event]
+    ended: bool = False
+
+
+def events_of(path: Path) -> list[Event]:
+    """The lines of a log."""
+    found = []
+    for number, text in enumerate(path.read_text(encoding="utf-8").splitlines(), 1):
+        said, _, place = text.partition("\t")
+        words = said.split(" ")
+        found.append(Event(words[0], words[1], words[2] if len(words) > 2 else "", place, number))
+    return found
+
+
+def shared_objects(events: list[Event]) -> set[str]:
+    """The objects that more than one thread touches."""
+    threads = defaultdict(set)
+    for event in events:
+        if event.action in ACCESSES:
+            threads[event.object].add(event.thread)
+    return {name for name, users in threads.items() if len(users) > 1}
+
+
+def with_held(events: list[Event]) -> Iterator[tuple[Event, dict[str, int]]]:
+    """Each event, and how often its thread holds which locks in front of it."""
+    held: dict[str, dict[str, int]] = defaultdict(lambda: defaultdict(int))
+    for event in events:
+        mine = held[event.thread]
+        yield event, {lock: count for lock, count in mine.items() if count}
+        if event.action in ("take", "give"):
+            mine[event.target] += 1 if event.action == "take" else -1
+
+
+def guards_of(events: list[Event]) -> dict[str, set[str]]:
+    """For each place the locks that are held at every access of it."""
+    guards: dict[str, set[str]] = {}
+    for event, held in with_held(events):
+        if event.action in ACCESSES:
+            guards[event.target] = guards.get(event.target, set(held)) & set(held)
+    return guards
+
+
+def kinds_of(events: list[Event]) -> dict[int, str]:
+    """The kind of each event by its line: right, left, both, or none of them."""
+    guards, shared, kinds = guards_of(events), shared_objects(events), {}
+    for event, held in with_held(events):
+        kind = "both"
+        if event.action == "take" and not held.get(event.target):
+            kind = "right"
+        elif event.action == "give" and held.get(event.target) == 1 or event.action == "start":
+            kind = "left"
+        elif event.action == "join":
+            kind = "right"
+        elif event.action in ACCESSES and event.object in shared and not guards[event.target]:
+            kind = "none"
+        kinds[event.line] = kind
+    return kinds
+
+
+def blocks_of(events: list[Event], atomic: set[str]) -> list[Block]:
+    """The outermost calls of the methods that are atomic."""
+    found: list[Block] = []
+    open_blocks: dict[str, list[Block | None]] = defaultdict(list)
+    for event in events:
+        stack = open_blocks[event.thread]
+        for block in stack:
+            if block:
+                block.events.append(event)
+        if event.action in ("begin", "enter"):
+            outermost = event.target in atomic and not any(stack)
+            stack.append(Block(event.target, event.thread, []) if outermost else None)
+            if outermost:
+                found.append(stack[-1])
+        elif event.action in ("end", "leave") and stack:
+            last = stack.pop()
+            if last:
+                last.ended = True
+    return found
+
+
+def behind_waits(block: Block) -> list[Event]:
+    """The block's events from where its last wait ended, if nothing was written before; else all of them.
+
+    A wait gives its lock away and takes it again. What only looked, and then waited, is a turn of an empty loop.
+    """
+    waits = [at for at, event in enumerate(block.events) if event.action == "give" and event.place == "wait"]
+    if not waits or any(event.action in ("write", "start") for event in block.events[: waits[-1]]):
+        return block.events
+    return block.events[waits[-1] + 1 :]
+
+
+def is_reducible(kinds: list[str]) -> bool:
+    """Whether right and both movers come first, then at most one other step, then left and both movers."""
+    letters = "".join({"right": "R", "left": "L", "both": "B", "none": "N"}[kind] for kind in kinds)
+    return re.fullmatch(r"[RB]*N?[LB]*", letters) is not None
+
+
+def as_log(events: list[Event], texts: list[str], atomic: set[str]) -> str:
+    """The log as `atomic_trace` reads it: blocks are ended calls of atomic methods, behind their waits, and places are left out."""
+    blocks = [block for block in blocks_of(events, atomic) if block.ended and behind_waits(block)]
+    begins = {behind_waits(block)[0].line: block.name for block in blocks}
+    ends = {block.events[-1].line for block in blocks}
+    lines = []
+    for event, text in zip(events, texts):
+        if event.line in begins:
+            lines.append(f"{event.thread} begin {begins[event.line]}")
+        if event.line in ends:
+            lines.append(f"{event.thread} end")
+        if event.action not in UNJUDGED + ("begin", "end"):
+            lines.append(text.partition("\t")[0])
+    return "\n".join(lines) + "\n"

@@ -1,0 +1,117 @@
+#!/usr/bin/env python3
+"""Judges classes of the JDK by atomic-java and writes the table of docs/jdk.md; jdk.sh calls it.
+
+Each class is judged together with the classes above it that hold its state, and nothing else of the JDK. Its methods are counted
+without constructors: those whose skeleton is exact, that rest on an assumption, and that are approximated; of the public ones those
+that are found atomic, and those that are refused. Behind the table stand the reasons of the approximations, and how often each came.
+"""
+import argparse
+import re
+import subprocess
+import sys
+import time
+import zipfile
+from collections import Counter
+from dataclasses import dataclass
+from pathlib import Path
+
+CLASSES = {
+    "java/lang/StringBuffer": ["java/lang/AbstractStringBuilder"],
+    "java/util/Vector": [], "java/util/Stack": ["java/util/Vector"], "java/util/Hashtable": [], "java/util/Timer": ["java/util/TimerTask"],
+    "java/util/Observable": [], "java/util/Random": [], "java/util/Collections": [],
+    "java/util/zip/Inflater": [], "java/util/zip/Deflater": [],
+    "java/io/PrintWriter": [], "java/io/BufferedWriter": [], "java/io/BufferedReader": [], "java/io/LineNumberReader": ["java/io/BufferedReader"],
+    "java/io/ByteArrayOutputStream": [], "java/io/ByteArrayInputStream": [], "java/io/BufferedInputStream": ["java/io/FilterInputStream"],
+    "java/io/BufferedOutputStream": ["java/io/FilterOutputStream"], "java/io/PipedInputStream": [], "java/io/PipedReader": [],
+    "java/io/CharArrayWriter": [], "java/io/CharArrayReader": [], "java/io/StringReader": [], "java/io/StringWriter": [],
+    "java/io/PrintStream": ["java/io/FilterOutputStream"],
+    "java/net/URL": [], "java/net/InMemoryCookieStore": [], "java/net/DatagramPacket": [],
+    "java/util/concurrent/ArrayBlockingQueue": [], "java/util/concurrent/LinkedBlockingQueue": [], "java/util/concurrent/LinkedBlockingDeque": [],
+    "java/util/concurrent/PriorityBlockingQueue": [], "java/util/concurrent/DelayQueue": [], "java/util/concurrent/CyclicBarrier": [],
+    "java/util/concurrent/CopyOnWriteArrayList": [],
+}
+SUMMARY = re.compile(r"(\d+) methods: (\d+) exact, (\d+) assumed, (\d+) approximated; (\d+) promise to be atomic:")
+REFUSED = re.compile(r"^(.*): error: .* is declared atomic, found \w+$", re.MULTILINE)
+NOTE = re.compile(r": note: approximated: ([^:,\n]*)")
+
+
+@dataclass(frozen=True)
+class Row:
+    """What is counted of one class."""
+
+    name: str
+    lines: int
+    figures: tuple[int, ...]
+    seconds: float
+    reasons: Counter[str]
+    answer: str
+
+    def text(self) -> str:
+        """The row of the table."""
+        methods, exact, assumed, approximated, promised, atomic, refused = self.figures
+        return (f"| `{self.name.replace('/', '.')}` | {self.lines} | {methods} | {exact} | {assumed} | {approximated} | {promised} | "
+                f"{atomic} | {refused} | {self.seconds:.1f} |")
+
+
+def judged(name: str, archive: zipfile.ZipFile, folder: Path, program: Path) -> Row | str:
+    """The row of a class, or why there is none."""
+    sources = []
+    for each in [name, *CLASSES.get(name, [])]:
+        path = folder / (each + ".java")
+        path.parent.mkdir(parents=True, exist_ok=True)
+        path.write_bytes(archive.read(f"java.base/{each}.java"))
+        sources.append(str(path))
+    begun = time.monotonic()
+    words = [str(program), "--public", "--infer", "--patch-module", f"java.base={folder}", *sources]
+    done = subprocess.run(words, capture_output=True, check=False)
+    seconds, answer = time.monotonic() - begun, done.stdout.decode()
+    found = SUMMARY.search(done.stderr.decode())
+    if not found:
+        return f"{name}: status {done.returncode}: {(answer + done.stderr.decode())[:300]}"
+    reasons = Counter(reason.split(" (")[0] for reason in NOTE.findall(answer))
+    lines = sum(Path(source).read_text(encoding="utf-8").count("\n") for source in sources)
+    promised, refused = int(found[5]), len(set(REFUSED.findall(answer)))
+    figures = (*(int(number) for number in found.groups()), promised - refused, refused)
+    return Row(name, lines, figures, seconds, reasons, answer)
+
+
+def told(rows: list[Row]) -> None:
+    """Prints the table and what stands behind it."""
+    print("| class | lines | methods | exact | assumed | approximated | public | found atomic | refused | seconds |")
+    print("|---|---|---|---|---|---|---|---|---|---|")
+    for row in rows:
+        print(row.text())
+    sums = tuple(map(sum, zip(*(row.figures for row in rows))))
+    reasons = sum((row.reasons for row in rows), Counter[str]())
+    print(Row(f"{len(rows)} classes", sum(row.lines for row in rows), sums, sum(row.seconds for row in rows), reasons, "").text().replace("`", ""))
+    print("\n| why a method is approximated | places |\n|---|---|")
+    for reason, count in reasons.most_common():
+        print(f"| {reason} | {count} |")
+
+
+def main() -> None:
+    """Judges the classes that are named, or all of the table."""
+    parser = argparse.ArgumentParser(description=__doc__, formatter_class=argparse.RawDescriptionHelpFormatter)
+    parser.add_argument("classes", nargs="*", help="such as java/util/Vector")
+    parser.add_argument("--sources", type=Path, required=True, help="the JDK's src.zip")
+    parser.add_argument("--folder", type=Path, required=True, help="a folder for what is judged")
+    parser.add_argument("--program", type=Path, required=True, help="the launcher")
+    parser.add_argument("--answers", type=Path, help="a folder that keeps what is told of each class")
+    given = parser.parse_args()
+    rows = []
+    with zipfile.ZipFile(given.sources) as archive:
+        for name in given.classes or CLASSES:
+            row = judged(name, archive, given.folder / name.replace("/", "_"), given.program)
+            if isinstance(row, str):
+                print(row, file=sys.stderr)
+                continue
+            rows.append(row)
+            if given.answers:
+                given.answers.mkdir(parents=True, exist_ok=True)
+                (given.answers / (name.replace("/", ".") + ".txt")).write_text(row.answer, encoding="utf-8")
+    if rows:
+        told(rows)
+    sys.exit(0 if len(rows) == len(given.classes or CLASSES) else 1)
+
+
+main()

@@ -1,0 +1,140 @@
+#!/usr/bin/env python3
+"""Tests of atomic-java on sources whose verdicts are known.
+
+adversaries  methods that look atomic and aren't (java/tests/adversaries): each is refused, and each right twin is accepted
+users        classes as people bring them (java/tests/users): the verdicts that an expert wrote down before
+larger       accepted sources of ordinary style (java/tests/larger)
+mutants      these, each time without one lock, guard or @Holding: each is told, or its line says why that is harmless
+
+The exit status is 0 where all hold. Without a name all are tried.
+"""
+import argparse
+import re
+import sys
+import tempfile
+from dataclasses import dataclass, field
+from pathlib import Path
+
+from java_mutants import Mutant, mutants
+from java_sources import PROGRAM, TOP, Answer, Line, batches, marks, run, write_into_package
+
+TESTS = TOP / "java" / "tests"
+OPTIONS = re.compile(r"^// judged with: (.*)$", re.MULTILINE)
+RACE = "data race"
+
+
+@dataclass
+class Tester:
+    """Counts what was looked at, and tells what is wrong."""
+
+    program: Path
+    folder: Path
+    count: int = 0
+    wrong: int = 0
+    harmless: list[str] = field(default_factory=list)
+    races: set[tuple[str, int, str]] = field(default_factory=set)
+
+    def tell(self, text: str) -> None:
+        """One thing that is wrong."""
+        self.wrong += 1
+        print(text)
+
+    def judged(self, options: list[str], files: list[Path]) -> Answer:
+        """A run that must end with an answer about the sources."""
+        answer = run(options, files, self.program)
+        if answer.status not in (0, 2):
+            self.tell(f"status {answer.status} of {len(files)} sources from {files[0]} on: {answer.rest[:3]} {answer.lines[:3]}")
+        return answer
+
+    def marked(self, shown: str, text: str, file: Path, answer: Answer, whole: bool) -> None:
+        """Holds the errors against the marks; `whole` says that each error has its mark."""
+        errors = {line.line: line.text for line in answer.errors_of(file)}
+        wanted = marks(text)
+        for number, (mark, reason) in wanted.items():
+            self.count += 1
+            if (mark == "refused") != (number in errors):
+                told = errors.get(number, "no error")
+                self.tell(f"{shown}:{number}: wanted {mark}{': ' if reason else ''}{reason}, given {told}")
+        for number in sorted(set(errors) - set(wanted)) if whole else []:
+            self.tell(f"{shown}:{number}: no mark, given {errors[number]}")
+
+    def adversaries(self) -> None:
+        """Each adversary in a package of its own, many in one run."""
+        for batch in batches(sorted((TESTS / "adversaries").glob("*.java")), 25):
+            texts = {path: path.read_text(encoding="utf-8") for path in batch}
+            copies = {path: write_into_package(text, "adversary." + path.stem.lower(), self.folder, path.name)
+                      for path, text in texts.items()}
+            answer = self.judged([], list(copies.values()))
+            for path, text in texts.items():
+                self.marked(path.name, text, copies[path], answer, whole=False)
+
+    def users(self) -> None:
+        """Each class as its user judges it."""
+        for path in sorted((TESTS / "users").glob("*.java")):
+            text = path.read_text(encoding="utf-8")
+            options = OPTIONS.search(text)
+            answer = self.judged(options[1].split() if options else [], [path])
+            self.marked(path.name, text, path, answer, whole=True)
+
+    def larger(self) -> None:
+        """The larger sources as they are."""
+        files = sorted((TESTS / "larger").glob("*.java"))
+        answer = self.judged([], files)
+        self.count += len(files)
+        for line in answer.lines:
+            if line.kind == "error":
+                self.tell(f"{Path(line.file).name}:{line.line}: wanted no error, given {line.text}")
+
+    def is_new(self, path: Path, line: Line) -> bool:
+        """Whether a line is a data race that the source itself hasn't."""
+        return RACE in line.text and (path.name, line.line, line.text) not in self.races
+
+    def mutants(self) -> None:
+        """Each mutant in a package of its own, many in one run."""
+        answer = self.judged([], sorted((TESTS / "larger").glob("*.java")))
+        self.races = {(Path(line.file).name, line.line, line.text) for line in answer.lines if RACE in line.text}
+        made = [(path, mutant) for path in sorted((TESTS / "larger").glob("*.java"))
+                for mutant in mutants(path.read_text(encoding="utf-8"))]
+        for number, batch in enumerate(batches(made, 20)):
+            copies = [write_into_package(mutant.text, f"mutant{number}_{place}", self.folder, path.name)
+                      for place, (path, mutant) in enumerate(batch)]
+            answer = self.judged([], copies)
+            for (path, mutant), copy in zip(batch, copies):
+                self.mutant(path, mutant, copy, answer)
+
+    def mutant(self, path: Path, mutant: Mutant, copy: Path, answer: Answer) -> None:
+        """A mutant is told by an error, or a race that the source hasn't."""
+        self.count += 1
+        told = [line for line in answer.lines if line.file == str(copy) and (line.kind == "error" or self.is_new(path, line))]
+        shown = f"{path.name}:{mutant.line}: without {mutant.taken!r}"
+        if mutant.harmless:
+            self.harmless.append(f"{shown} ({mutant.harmless})")
+        if bool(told) == bool(mutant.harmless):
+            self.tell(f"{shown}: " + (f"said to be harmless, given {told[0].text}" if told else "nothing is told"))
+
+
+def main() -> None:
+    """Tries the tests that are named."""
+    names = ["adversaries", "users", "larger", "mutants"]
+    parser = argparse.ArgumentParser(description=__doc__, formatter_class=argparse.RawDescriptionHelpFormatter)
+    parser.add_argument("tests", nargs="*", metavar="TEST", help=f"what is tried: {', '.join(names)}")
+    parser.add_argument("--program", type=Path, default=PROGRAM, help="the launcher (default: java/out/atomic-java)")
+    parser.add_argument("--keep", type=Path, help="a folder for the copies that are judged, which then stay")
+    given = parser.parse_args()
+    if set(given.tests) - set(names):
+        parser.error(f"no test is called {', '.join(sorted(set(given.tests) - set(names)))}")
+    if not given.program.exists():
+        sys.exit(f"there is no {given.program}: bench/java.sh builds it")
+    with tempfile.TemporaryDirectory() as folder:
+        all_wrong = 0
+        for name in given.tests or names:
+            tester = Tester(given.program, given.keep or Path(folder))
+            getattr(tester, name)()
+            for line in tester.harmless:
+                print(f"harmless: {line}")
+            print(f"{name}: {tester.count} looked at, {tester.wrong} wrong", flush=True)
+            all_wrong += tester.wrong
+    sys.exit(1 if all_wrong else 0)
+
+
+main()

@@ -1,0 +1,4 @@
+package javax.annotation.concurrent;
+
+/** Says nothing to this checker. Stands in for the library's own annotation. */
+public @interface Immutable { }

@@ -1,0 +1,63 @@
+package atomic.java;
+
+import atomic.java.driver.Run;
+import atomic.java.options.Options;
+import atomic.java.options.Refusal;
+import java.io.FileDescriptor;
+import java.io.FileOutputStream;
+import java.io.IOException;
+import java.io.OutputStream;
+import java.nio.charset.StandardCharsets;
+
+/** Says of Java sources whether the methods that promise to be atomic are. */
+public final class Main {
+
+    private static final long STACK = 512L << 20;
+
+    private Main() { }
+
+    /** Runs on a thread with a large stack, since sources may be nested deeply. */
+    public static void main(String[] words) throws InterruptedException {
+        int[] status = new int[1];
+        Thread worker = new Thread(null, () -> status[0] = run(words), "atomic-java", STACK);
+        worker.start();
+        worker.join();
+        System.exit(status[0]);
+    }
+
+    private static int run(String[] words) {
+        StringBuilder answer = new StringBuilder();
+        int status;
+        try {
+            status = answer(words, answer);
+        } catch (Refusal refusal) {
+            answer.append(refusal.getMessage()).append('\n');
+            status = refusal.status();
+        } catch (OutOfMemoryError | StackOverflowError fault) {
+            answer.setLength(0);
+            answer.append("the sources are too large: memory ran out\n");
+            status = Options.NO_MEMORY;
+        }
+        return write(answer) ? status : Options.CANNOT_WRITE;
+    }
+
+    private static int answer(String[] words, StringBuilder answer) {
+        Options options = Options.of(words);
+        if (options.question() != null) {
+            String version = Main.class.getPackage().getImplementationVersion();
+            answer.append(options.question().equals("--help") ? Options.HELP
+                : "atomic-java " + (version == null ? "of a checkout" : version)).append('\n');
+            return 0;
+        }
+        return new Run(options).judge(answer);
+    }
+
+    private static boolean write(StringBuilder answer) {
+        try (OutputStream out = new FileOutputStream(FileDescriptor.out)) {
+            out.write(answer.toString().getBytes(StandardCharsets.UTF_8));
+            return true;
+        } catch (IOException fault) {
+            return false;
+        }
+    }
+}

@@ -1,0 +1,134 @@
+package atomic.java.attribution;
+
+import atomic.java.skeleton.Place;
+import java.util.Arrays;
+
+/** The text of one Java source, as the command line names it. */
+public final class SourceText {
+    private final String file;
+    private final String text;
+    private final int[] starts;
+
+    public SourceText(String file, String text) {
+        this.file = file;
+        this.text = text;
+        int[] found = new int[16];
+        int count = 1;
+        for (int k = 0; k < text.length(); k++) {
+            if (text.charAt(k) == '\n') {
+                found = count == found.length ? Arrays.copyOf(found, 2 * count) : found;
+                found[count++] = k + 1;
+            }
+        }
+        starts = Arrays.copyOf(found, count);
+    }
+
+    public String file() {
+        return file;
+    }
+
+    public String text() {
+        return text;
+    }
+
+    public int lines() {
+        return starts.length;
+    }
+
+    /** The place of a character; columns count bytes. */
+    public Place place(long offset) {
+        int at = (int) Math.max(0, Math.min(offset, text.length()));
+        int found = Arrays.binarySearch(starts, at);
+        int line = found >= 0 ? found : -found - 2;
+        return new Place(file, line + 1, 1 + bytes(starts[line], at));
+    }
+
+    private int bytes(int from, int to) {
+        int count = 0;
+        for (int k = from; k < to; k++) {
+            char letter = text.charAt(k);
+            count += letter < 0x80 ? 1 : letter < 0x800 || Character.isSurrogate(letter) ? 2 : 3;
+        }
+        return count;
+    }
+
+    /** Where the word stands first as a token behind {@code from}, outside comments and texts; else {@code from}. */
+    public int find(String word, long from) {
+        int at = (int) Math.max(0, from);
+        while (at < text.length()) {
+            if (text.startsWith("//", at) || text.startsWith("/*", at)) {
+                at = behindComment(at);
+            } else if (text.charAt(at) == '"' || text.charAt(at) == '\'') {
+                at = behindQuotes(at);
+            } else if (Character.isJavaIdentifierStart(text.charAt(at))) {
+                int end = at;
+                while (end < text.length() && Character.isJavaIdentifierPart(text.charAt(end))) {
+                    end++;
+                }
+                if (text.substring(at, end).equals(word)) {
+                    return at;
+                }
+                at = end;
+            } else {
+                at++;
+            }
+        }
+        return (int) Math.max(0, from);
+    }
+
+    private int behindComment(int at) {
+        boolean line = text.startsWith("//", at);
+        int end = text.indexOf(line ? "\n" : "*/", at + 2);
+        return end < 0 ? text.length() : end + (line ? 1 : 2);
+    }
+
+    private int behindQuotes(int at) {
+        if (text.startsWith("\"\"\"", at)) {
+            int end = text.indexOf("\"\"\"", at + 3);
+            return end < 0 ? text.length() : end + 3;
+        }
+        int end = at + 1;
+        while (end < text.length() && text.charAt(end) != text.charAt(at) && text.charAt(end) != '\n') {
+            end += text.charAt(end) == '\\' ? 2 : 1;
+        }
+        return end + 1;
+    }
+
+    /** Whether a comment says {@code atomic} between {@code from} and {@code to}, or right before {@code from}. */
+    public boolean saysAtomic(long from, long to) {
+        int begin = before((int) from);
+        int at = begin;
+        while (at < to && at < text.length()) {
+            if (text.startsWith("//", at) || text.startsWith("/*", at)) {
+                int end = behindComment(at);
+                if (text.substring(at, end).replaceAll("[/*\\s]", "").equals("atomic")) {
+                    return true;
+                }
+                at = end;
+            } else {
+                at++;
+            }
+        }
+        return false;
+    }
+
+    /** The beginning of the comments and blanks that stand right before an offset. */
+    private int before(int offset) {
+        int at = offset;
+        while (at > 0) {
+            int line = text.lastIndexOf('\n', at - 1) + 1;
+            String front = text.substring(line, at).strip();
+            if (front.isEmpty() || front.startsWith("//")) {
+                at = Math.max(0, line - 1);
+            } else if (front.endsWith("*/")) {
+                at = Math.max(0, text.lastIndexOf("/*", at - 1));
+            } else {
+                return at;
+            }
+            if (line == 0) {
+                return 0;
+            }
+        }
+        return at;
+    }
+}

@@ -1,0 +1,201 @@
+package atomic.java.driver;
+
+import atomic.java.options.Options;
+import atomic.java.options.Refusal;
+import atomic.java.passes.Callees;
+import atomic.java.passes.Marking;
+import atomic.java.places.Answer;
+import atomic.java.places.Notes;
+import atomic.java.places.Text;
+import atomic.java.places.Writer;
+import atomic.java.program.Program;
+import atomic.java.skeleton.Method;
+import atomic.java.skeleton.Part;
+import atomic.java.skeleton.Shape;
+import atomic.java.translation.Methods;
+import java.util.ArrayList;
+import java.util.HashMap;
+import java.util.LinkedHashSet;
+import java.util.List;
+import java.util.Map;
+import java.util.Set;
+import java.util.regex.Matcher;
+import java.util.regex.Pattern;
+
+/**
+ * Has the skeleton judged. One that is larger than the checker reads is judged in pieces, each with all that its methods
+ * call. A method that breaks a limit of the checker counts as compound, and that is told.
+ */
+final class Judging {
+    private static final Pattern LISTED = Pattern.compile("\\d+:\\d+: (\\w+): (\\S+) 0");
+    private static final Pattern REFUSED = Pattern.compile("(\\d+):(\\d+): error: (.*)");
+    private static final int MOST_REPAIRS = 500;
+
+    private final Program program;
+    private final Methods methods;
+    private final Checker checker = new Checker();
+    private final Callees callees;
+    private final Set<Method> reduced = new LinkedHashSet<>();
+    private final List<String> lines = new ArrayList<>();
+    private final List<Text> texts = new ArrayList<>();
+    private final Map<String, String> found = new HashMap<>();
+    private int status;
+
+    Judging(Program program, Methods methods) {
+        this.program = program;
+        this.methods = methods;
+        List<Method> all = new ArrayList<>();
+        program.shapes().forEach(shape -> all.addAll(shape.methods()));
+        callees = new Callees(all);
+    }
+
+    /** Judges all methods. */
+    void run() {
+        Set<Method> piece = new LinkedHashSet<>();
+        for (Method root : roots()) {
+            Set<Method> more = new LinkedHashSet<>(piece);
+            reach(root, more);
+            if (!piece.isEmpty() && size(more) > Checker.MOST_BYTES) {
+                judge(piece);
+                more = new LinkedHashSet<>();
+                reach(root, more);
+            }
+            piece = more;
+        }
+        judge(piece);
+    }
+
+    private List<Method> roots() {
+        List<Method> roots = new ArrayList<>();
+        Set<Method> judged = methods.roots();
+        for (Shape shape : program.shapes()) {
+            shape.methods().stream().filter(judged::contains).forEach(roots::add);
+        }
+        return roots;
+    }
+
+    /** All methods that one calls or overrides, and those that override these. */
+    private void reach(Method method, Set<Method> reached) {
+        if (reached.add(method)) {
+            calls(method.body(), reached);
+            method.overridden().forEach(above -> reach(above, reached));
+            callees.of(method).forEach(each -> reach(each, reached));
+        }
+    }
+
+    private void calls(Part part, Set<Method> reached) {
+        if (part instanceof Part.Call call) {
+            reach(call.target(), reached);
+        }
+        part.parts().forEach(each -> calls(each, reached));
+    }
+
+    private int size(Set<Method> wanted) {
+        return program.shapes().stream().mapToInt(shape -> shape.methods().stream().anyMatch(wanted::contains) ? 100 : 40)
+            .sum() + wanted.stream().mapToInt(this::size).sum();
+    }
+
+    private final Map<Method, Integer> sizes = new HashMap<>();
+
+    private int size(Method method) {
+        return sizes.computeIfAbsent(method, each -> new Writer(program.names(), program.helpers()).write(each).length());
+    }
+
+    private void judge(Set<Method> wanted) {
+        for (int k = 0; k < MOST_REPAIRS; k++) {
+            Writer writer = new Writer(program.names(), program.helpers());
+            Text text = writer.write(program.shapes(), wanted);
+            Checker.Answer told = checker.explain(text.bytes());
+            if (told.status() != Options.NOT_JAVA && told.status() != Options.TOO_LARGE) {
+                accept(text, told);
+                return;
+            }
+            repair(writer, told, wanted);
+        }
+        throw new Refusal(Options.TOO_LARGE, "the sources break too many limits of the checker");
+    }
+
+    private void accept(Text text, Checker.Answer told) {
+        status = Math.max(status, told.status());
+        texts.add(text);
+        lines.addAll(new Answer(text, program.names()).lines(told.lines()));
+        for (String line : checker.list(text.bytes()).lines()) {
+            Matcher parts = LISTED.matcher(line);
+            if (parts.matches()) {
+                found.put(parts.group(2), parts.group(1));
+            }
+        }
+    }
+
+    /** Makes the method compound that the checker can't read. */
+    private void repair(Writer writer, Checker.Answer told, Set<Method> wanted) {
+        Matcher parts = REFUSED.matcher(told.lines().isEmpty() ? "" : told.lines().get(0));
+        Method method = null;
+        String kind = "too large";
+        if (parts.matches()) {
+            method = writer.method(Integer.parseInt(parts.group(1)));
+            kind = parts.group(3);
+        } else {
+            method = wanted.stream().filter(each -> !reduced.contains(each)).max(
+                java.util.Comparator.comparingInt(this::size)).orElse(null);
+        }
+        if (method == null || !reduced.add(method)) {
+            throw new Refusal(Options.NO_CHECKER, "atomic_why can't read the skeleton: " + String.join("; ", told.lines())
+                + (parts.matches() ? ": " + writer.line(Integer.parseInt(parts.group(1))) : ""));
+        }
+        if (method.place() != null) {
+            program.notes().tell(Notes.Kind.APPROXIMATED, methods.origin(method), method.place(), "limit: the checker says "
+                + kind + (kind.equals("bad override") ? ", so no caller is taken to hold a lock for it"
+                : ", so the method counts as compound, and what it touches isn't judged"));
+        }
+        if (kind.equals("bad override")) {
+            align(method);
+            return;
+        }
+        Part.Call unknown = methods.several("what is past a limit of the checker", method.place());
+        if (!program.helpers().methods().contains(unknown.target())) {
+            program.helpers().methods().add(unknown.target());
+        }
+        wanted.add(unknown.target());
+        Marking.run(List.of(unknown.target()));
+        method.loose().clear();
+        method.body(unknown);
+        sizes.remove(method);
+    }
+
+    /** Methods that override each other and don't agree require nothing, and all promise what one of them promises. */
+    private void align(Method method) {
+        Set<Method> family = new LinkedHashSet<>(callees.of(method));
+        Set<Method> next = new LinkedHashSet<>(method.overridden());
+        while (!next.isEmpty()) {
+            Method above = next.iterator().next();
+            next.remove(above);
+            family.addAll(callees.of(above));
+            next.addAll(above.overridden());
+        }
+        boolean promised = family.stream().anyMatch(Method::atomic);
+        for (Method each : family) {
+            each.required().clear();
+            if (promised) {
+                each.promiseAtomic();
+            }
+        }
+    }
+
+    int status() {
+        return status;
+    }
+
+    List<String> lines() {
+        return lines;
+    }
+
+    List<Text> texts() {
+        return texts;
+    }
+
+    /** What a method of the skeleton was found to be. */
+    String found(Method method) {
+        return found.getOrDefault(method.owner().name() + "." + method.name(), "const");
+    }
+}

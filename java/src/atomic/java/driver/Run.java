@@ -1,0 +1,130 @@
+package atomic.java.driver;
+
+import atomic.java.attribution.Attribution;
+import atomic.java.attribution.Javac;
+import atomic.java.options.Options;
+import atomic.java.options.Refusal;
+import atomic.java.passes.ClosedWorld;
+import atomic.java.passes.Inference;
+import atomic.java.passes.Limits;
+import atomic.java.passes.Marking;
+import atomic.java.passes.Pruning;
+import atomic.java.passes.Races;
+import atomic.java.passes.ReadLocks;
+import atomic.java.passes.Waiting;
+import atomic.java.places.Text;
+import atomic.java.places.Writer;
+import atomic.java.program.JavaMethod;
+import atomic.java.program.Program;
+import atomic.java.skeleton.Method;
+import atomic.java.skeleton.Place;
+import atomic.java.trace.Copies;
+import atomic.java.translation.Methods;
+import java.io.IOException;
+import java.nio.file.Files;
+import java.nio.file.Path;
+import java.util.ArrayList;
+import java.util.List;
+
+/** One run of the program: from the words of the command line to the answer. */
+public final class Run {
+    private final Options options;
+
+    public Run(Options options) {
+        this.options = options;
+    }
+
+    /** Writes the answer, and gives the status. */
+    public int judge(StringBuilder answer) {
+        Attribution attribution = new Javac(options).attribute();
+        Program program = new Program(attribution, options);
+        Methods methods = new Methods(program);
+        methods.translate();
+        refine(program, methods);
+        if (options.log() != null) {
+            new Copies(attribution, program.library(), tree -> methods.promises(program.method(attribution.element(tree))))
+                .write(options.log(), all(program));
+        }
+        if (options.explain() != null) {
+            return explain(program, methods, answer);
+        }
+        Judging judging = new Judging(program, methods);
+        judging.run();
+        emit(judging.texts());
+        if (!options.quiet()) {
+            program.notes().lines().forEach(line -> answer.append(line).append('\n'));
+        }
+        judging.lines().forEach(line -> answer.append(line).append('\n'));
+        long promised = program.methods().stream().filter(methods::promises).count();
+        System.err.println(new Summary(judging, program.notes(), methods.judged()).line((int) promised));
+        hint(program, methods, promised);
+        return judging.status();
+    }
+
+    /** Without promises or guards little is judged: what would help is told, beside the answer. */
+    private void hint(Program program, Methods methods, long promised) {
+        if (promised == 0 && !program.methods().isEmpty()) {
+            System.err.println("hint: no method says that it is atomic: mark one by /* atomic */, or take --public");
+        }
+        if (!options.infer() && !options.majority() && !methods.namesGuards()) {
+            System.err.println("hint: no field says by @GuardedBy which lock guards it: --infer finds such locks");
+        }
+    }
+
+    /** Takes waits, locks of readers and what has no step out of the skeleton, and finds guards where that is asked. */
+    private void refine(Program program, Methods methods) {
+        List<Method> all = all(program);
+        new Waiting(all, program.notes(), methods::origin, methods.wait(null)).strictly(options.strict()).run();
+        Inference inference = new Inference(all, options.majority());
+        if (options.infer() || options.majority()) {
+            inference.guards();
+        }
+        inference.requirements();
+        new ReadLocks(all).run();
+        new Pruning(program.shapes(), methods.roots()).run();
+        List<Method> kept = all(program);
+        new Races(program.names(), program.notes()).run(kept);
+        Marking.run(kept);
+        new ClosedWorld(program).run();
+        new Limits(program.names()).run(kept, program.shapes());
+    }
+
+    private static List<Method> all(Program program) {
+        List<Method> all = new ArrayList<>();
+        program.shapes().forEach(shape -> all.addAll(shape.methods()));
+        return all;
+    }
+
+    /** The skeleton of the methods that the user names, and what was noted of each. */
+    private int explain(Program program, Methods methods, StringBuilder answer) {
+        int found = 0;
+        for (var each : methods.judged().entrySet()) {
+            JavaMethod java = each.getValue();
+            String name = java.symbol().getSimpleName().toString();
+            String whole = program.names().shown(java.owner().shape().name()) + "." + name;
+            if (options.explain().equals(name) || options.explain().equals(whole)) {
+                found++;
+                Place end = program.attribution().source(java.tree()).place(program.attribution().end(java.tree()));
+                answer.append(java.place()).append(": ").append(whole).append('\n');
+                answer.append(new Writer(program.names(), program.helpers()).write(each.getKey()));
+                program.notes().lines(java.place(), end).forEach(line -> answer.append(line).append('\n'));
+            }
+        }
+        if (found == 0) {
+            throw new Refusal(Options.USAGE, "no method is called " + options.explain());
+        }
+        return 0;
+    }
+
+    private void emit(List<Text> texts) {
+        if (options.emit() != null) {
+            try {
+                StringBuilder all = new StringBuilder();
+                texts.forEach(all::append);
+                Files.writeString(Path.of(options.emit()), all);
+            } catch (IOException | java.nio.file.InvalidPathException fault) {
+                throw new Refusal(Options.CANNOT_WRITE, "cannot write " + options.emit());
+            }
+        }
+    }
+}

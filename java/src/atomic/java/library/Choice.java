@@ -1,0 +1,68 @@
+package atomic.java.library;
+
+/**
+ * What a call of a library's method counts as.
+ *
+ * @param kind its steps
+ * @param calls whether it calls the functions among its arguments before it returns
+ * @param fills whether it writes into the objects among its arguments
+ * @param keeps whether it keeps what it is given, so that others may reach it from then on
+ * @param makes the class of the new object that it gives, or null
+ */
+public record Choice(Kind kind, boolean calls, boolean fills, boolean keeps, String makes) {
+
+    /** The steps of a call. */
+    public enum Kind {
+        /** None: it looks at nothing that changes. */
+        PURE,
+        /** None, if nobody else writes what it looks at: this is told. */
+        ASSUMED,
+        /** One step that others can see. */
+        STEP,
+        /** Several steps. */
+        COMPOUND,
+        /** It looks at its object, which isn't safe by itself. */
+        READS,
+        /** It changes its object, which isn't safe by itself. */
+        WRITES,
+        /** It gives an object that shows the contents of this one. */
+        VIEW,
+        /** It adds to a pipeline, and runs nothing yet. */
+        PIPE,
+        /** It runs the pipeline that it ends. */
+        RUN,
+        /** Nothing is known of it. */
+        UNKNOWN
+    }
+
+    /** Whether a function among the arguments runs within the call: so it does where nothing is kept and nothing waits. */
+    public boolean runsFunctions() {
+        return calls || !keeps && (kind == Kind.PURE || kind == Kind.ASSUMED);
+    }
+
+    /** A method that no row speaks of. */
+    public static final Choice UNKNOWN = new Choice(Kind.UNKNOWN, false, false, true, null);
+
+    /** The choice that a word of the table spells: a kind, and flags behind plus signs. */
+    static Choice of(String word) {
+        String[] words = word.split("\\+");
+        boolean calls = false;
+        boolean fills = false;
+        boolean keeps = false;
+        String makes = null;
+        for (int k = 1; k < words.length; k++) {
+            switch (words[k]) {
+                case "calls" -> calls = true;
+                case "fills" -> fills = true;
+                case "keeps" -> keeps = true;
+                default -> {
+                    if (!words[k].startsWith("makes=")) {
+                        throw new IllegalArgumentException(words[k]);
+                    }
+                    makes = words[k].substring("makes=".length());
+                }
+            }
+        }
+        return new Choice(Kind.valueOf(words[0].toUpperCase(java.util.Locale.ROOT)), calls, fills, keeps, makes);
+    }
+}

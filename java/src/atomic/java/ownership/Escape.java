@@ -1,0 +1,241 @@
+package atomic.java.ownership;
+
+import atomic.java.attribution.Attribution;
+import atomic.java.library.Choice;
+import atomic.java.program.JavaMethod;
+import atomic.java.program.Program;
+import com.sun.source.tree.ArrayAccessTree;
+import com.sun.source.tree.AssignmentTree;
+import com.sun.source.tree.BinaryTree;
+import com.sun.source.tree.ConditionalExpressionTree;
+import com.sun.source.tree.EnhancedForLoopTree;
+import com.sun.source.tree.ExpressionTree;
+import com.sun.source.tree.InstanceOfTree;
+import com.sun.source.tree.LambdaExpressionTree;
+import com.sun.source.tree.MemberReferenceTree;
+import com.sun.source.tree.MemberSelectTree;
+import com.sun.source.tree.MethodInvocationTree;
+import com.sun.source.tree.NewClassTree;
+import com.sun.source.tree.ReturnTree;
+import com.sun.source.tree.Tree;
+import com.sun.source.tree.VariableTree;
+import java.util.HashMap;
+import java.util.HashSet;
+import java.util.Map;
+import java.util.Set;
+import javax.lang.model.element.Element;
+import javax.lang.model.element.ElementKind;
+import javax.lang.model.element.ExecutableElement;
+import javax.lang.model.element.VariableElement;
+import javax.lang.model.type.TypeMirror;
+
+/** Whether the object that an expression gives may be reached by others through what is done with it. */
+public final class Escape {
+
+    /** How many names of an object are followed. */
+    private static final int MOST_NAMES = 6;
+
+    /** The object doesn't get away. */
+    public static final long NEVER = Long.MAX_VALUE;
+
+    private final Program program;
+    private final Attribution attribution;
+    private final Uses uses;
+    private final Selves selves;
+    private final Set<Element> visited = new HashSet<>();
+    private final Map<Element, Long> throughs = new HashMap<>();
+
+    public Escape(Program program, Uses uses) {
+        this.program = program;
+        this.uses = uses;
+        attribution = program.attribution();
+        selves = new Selves(program, this);
+    }
+
+    /** Where {@code this} gets away in a method. */
+    public Selves selves() {
+        return selves;
+    }
+
+    /** From which offset on the object of this expression may be known to others. */
+    public long from(Tree use) {
+        Tree parent = attribution.parent(use);
+        if (parent instanceof MemberSelectTree select) {
+            return asReceiver(select);
+        } else if (parent instanceof MethodInvocationTree call) {
+            return asArgument(call, use);
+        } else if (parent instanceof NewClassTree made) {
+            return isBorrowed(made) ? NEVER : attribution.start(made);
+        } else if (parent instanceof AssignmentTree assignment) {
+            boolean given = attribution.parent(assignment).getKind() != Tree.Kind.EXPRESSION_STATEMENT;
+            long further = given ? from(assignment) : NEVER;
+            return assignment.getExpression() == use ? Math.min(further, into(assignment.getVariable(), assignment))
+                : further;
+        } else if (parent instanceof VariableTree variable) {
+            return through(attribution.element(variable));
+        } else if (parent instanceof ReturnTree) {
+            return attribution.end(parent);
+        } else if (parent instanceof MemberReferenceTree reference) {
+            return isCalledAtOnce(reference) ? NEVER : attribution.start(reference);
+        } else if (parent instanceof ConditionalExpressionTree condition) {
+            return condition.getCondition() == use ? NEVER : from(parent);
+        } else if (parent instanceof EnhancedForLoopTree || parent instanceof ArrayAccessTree
+                || parent instanceof BinaryTree || parent instanceof InstanceOfTree instance && instance.getPattern() == null) {
+            return NEVER;
+        }
+        return switch (parent.getKind()) {
+            case PARENTHESIZED -> attribution.parent(parent).getKind() == Tree.Kind.SYNCHRONIZED ? NEVER : from(parent);
+            case TYPE_CAST -> from(parent);
+            case EXPRESSION_STATEMENT -> NEVER;
+            case LAMBDA_EXPRESSION -> attribution.start(parent);
+            default -> attribution.start(use);
+        };
+    }
+
+    private long asReceiver(MemberSelectTree select) {
+        if (!(attribution.parent(select) instanceof MethodInvocationTree call) || call.getMethodSelect() != select) {
+            return NEVER;
+        }
+        if (!(attribution.element(select) instanceof ExecutableElement symbol)) {
+            return attribution.start(call);
+        }
+        JavaMethod method = program.method(symbol);
+        if (method != null) {
+            return selves.leaks(method) ? attribution.start(call) : NEVER;
+        }
+        if (givesItself(symbol)) {
+            return from(call);
+        }
+        Choice choice = choose(select, symbol);
+        return switch (choice.kind()) {
+            case VIEW, PIPE -> from(call);
+            case UNKNOWN -> attribution.start(call);
+            default -> NEVER;
+        };
+    }
+
+    /** Whether a library's method gives the object that it is called on, so that calls can be chained. */
+    static boolean givesItself(ExecutableElement symbol) {
+        String home = symbol.getEnclosingElement().toString();
+        return (home.equals("java.lang.StringBuilder") || home.equals("java.util.StringJoiner"))
+            && symbol.getReturnType().toString().equals(home);
+    }
+
+    private long asArgument(MethodInvocationTree call, Tree use) {
+        if (!(attribution.element(call) instanceof ExecutableElement symbol)) {
+            return attribution.start(call);
+        } else if (program.method(symbol) != null) {
+            return isBorrowed(symbol, call.getArguments().indexOf(use)) ? NEVER : attribution.start(call);
+        }
+        Choice choice = choose(call.getMethodSelect(), symbol);
+        boolean copies = symbol.getSimpleName().toString().endsWith("All") && choice.kind() != Choice.Kind.UNKNOWN;
+        if (copies) {
+            return NEVER;
+        }
+        return switch (choice.kind()) {
+            case VIEW -> from(call);
+            case PURE, ASSUMED, READS, RUN -> choice.keeps() ? attribution.start(call) : NEVER;
+            default -> attribution.start(call);
+        };
+    }
+
+    /** Whether a method of the sources, and each that overrides it, only uses a parameter, and neither keeps nor gives it. */
+    private boolean isBorrowed(ExecutableElement symbol, int at) {
+        if (symbol.isVarArgs() || at < 0 || at >= symbol.getParameters().size()) {
+            return false;
+        }
+        return program.named(symbol.getSimpleName()).stream().filter(each -> each.symbol() == symbol
+            || each.isVirtual() && attribution.elements().overrides(each.symbol(), symbol, each.owner().symbol()))
+            .allMatch(each -> each.tree().getBody() != null && through(each.symbol().getParameters().get(at)) == NEVER);
+    }
+
+    /** What the table says of a library call. */
+    public Choice choose(ExpressionTree select, ExecutableElement symbol) {
+        TypeMirror type = select instanceof MemberSelectTree member ? attribution.type(member.getExpression()) : null;
+        boolean isStatic = symbol.getModifiers().contains(javax.lang.model.element.Modifier.STATIC);
+        return program.library().choose(type == null || isStatic ? symbol.getEnclosingElement().asType() : type,
+            symbol.getSimpleName().toString());
+    }
+
+    private boolean isBorrowed(NewClassTree made) {
+        TypeMirror type = attribution.type(made);
+        if (type == null || program.find(type) != null || made.getClassBody() != null) {
+            return false;
+        }
+        Choice choice = program.library().choose(type, "new");
+        return choice.kind() == Choice.Kind.PURE && !choice.keeps();
+    }
+
+    private long into(ExpressionTree target, AssignmentTree assignment) {
+        Element symbol = attribution.element(Uses.bare(target));
+        boolean local = symbol instanceof VariableElement && symbol.getKind() != ElementKind.FIELD
+            && !(Uses.bare(target) instanceof ArrayAccessTree);
+        return local ? through(symbol) : attribution.end(assignment);
+    }
+
+    /** A second name: where the object gets away by that one. */
+    private long through(Element variable) {
+        if (variable == null || variable.getKind() == ElementKind.FIELD) {
+            return 0;
+        }
+        Long known = throughs.get(variable);
+        if (known != null || visited.contains(variable)) {
+            return known != null ? known : NEVER;
+        } else if (visited.size() > MOST_NAMES) {
+            return 0;
+        }
+        boolean first = visited.isEmpty();
+        visited.add(variable);
+        long found = NEVER;
+        for (Tree use : uses.of(variable)) {
+            found = Math.min(found, earliest(use, uses.declaration(variable)));
+        }
+        visited.remove(variable);
+        if (first || found != NEVER) {
+            throughs.put(variable, found);
+        }
+        return found;
+    }
+
+    /** From where on one use lets the object get away: in a loop from its beginning on, and in a lambda from there. */
+    public long earliest(Tree use, Tree declaration) {
+        Tree home = program.around(declaration);
+        Tree at = program.around(use);
+        while (at instanceof LambdaExpressionTree lambda && at != home && isCalledAtOnce(lambda)) {
+            at = program.around(at);
+        }
+        if (at != home) {
+            Tree loop = uses.outermostLoop(use, declaration);
+            return at == null ? 0 : Math.min(attribution.start(at), loop == null ? NEVER : attribution.start(loop));
+        }
+        long found = from(use);
+        if (found == NEVER || attribution.parent(use) instanceof ReturnTree) {
+            return found;
+        }
+        Tree loop = uses.outermostLoop(use, declaration);
+        return loop == null ? found : Math.min(found, attribution.start(loop));
+    }
+
+    /** Whether a lambda or a method's name is called by what it is given to, before that returns, and not kept. */
+    public boolean isCalledAtOnce(Tree function) {
+        Tree parent = attribution.parent(function);
+        if (parent instanceof MethodInvocationTree call
+                && attribution.element(call) instanceof ExecutableElement symbol && program.method(symbol) == null) {
+            Choice choice = choose(call.getMethodSelect(), symbol);
+            return choice.runsFunctions() || choice.kind() == Choice.Kind.PIPE && endsAtOnce(call);
+        }
+        return false;
+    }
+
+    /** Whether a pipeline is run in the expression that makes it. */
+    private boolean endsAtOnce(MethodInvocationTree stage) {
+        Tree select = attribution.parent(stage);
+        if (!(select instanceof MemberSelectTree member)
+                || !(attribution.parent(select) instanceof MethodInvocationTree next)
+                || !(attribution.element(member) instanceof ExecutableElement symbol)) {
+            return false;
+        }
+        Choice choice = choose(member, symbol);
+        return choice.kind() == Choice.Kind.RUN || choice.kind() == Choice.Kind.PIPE && endsAtOnce(next);
+    }
+}

@@ -1,0 +1,177 @@
+package atomic.java.ownership;
+
+import atomic.java.attribution.Attribution;
+import atomic.java.library.Choice;
+import atomic.java.passes.Inference;
+import atomic.java.places.Notes;
+import atomic.java.program.JavaMethod;
+import atomic.java.program.Program;
+import com.sun.source.tree.ConditionalExpressionTree;
+import com.sun.source.tree.ExpressionTree;
+import com.sun.source.tree.MemberSelectTree;
+import com.sun.source.tree.MethodInvocationTree;
+import com.sun.source.tree.NewArrayTree;
+import com.sun.source.tree.NewClassTree;
+import com.sun.source.tree.Tree;
+import com.sun.source.tree.TypeCastTree;
+import com.sun.source.tree.VariableTree;
+import java.util.HashMap;
+import java.util.List;
+import java.util.Map;
+import javax.lang.model.element.Element;
+import javax.lang.model.element.ElementKind;
+import javax.lang.model.element.ExecutableElement;
+import javax.lang.model.element.Modifier;
+import javax.lang.model.element.VariableElement;
+import javax.lang.model.type.TypeMirror;
+
+/**
+ * Which objects are known to one holder alone: those in a private field that are made for it and never get away from it,
+ * and those in a local as long as they haven't got away. Such an object's contents are the holder's.
+ */
+public final class Ownership {
+    private final Program program;
+    private final Attribution attribution;
+    private final Uses uses;
+    private final Escape escape;
+    private final Map<VariableElement, String> made = new HashMap<>();
+    private final Map<VariableElement, Long> escapes = new HashMap<>();
+    private final Map<VariableElement, Boolean> owned = new HashMap<>();
+    private static final String UNKNOWN = "";
+
+    public Ownership(Program program, Uses uses) {
+        this.program = program;
+        this.uses = uses;
+        attribution = program.attribution();
+        escape = new Escape(program, uses);
+    }
+
+    public Escape escape() {
+        return escape;
+    }
+
+    /**
+     * The class that objects of a field are made of, where all are made by {@code new} or the like, and none is given in
+     * from outside; else null. An array is {@code []}.
+     */
+    public String made(VariableElement field) {
+        String known = made.get(field);
+        if (known == null) {
+            made.put(field, UNKNOWN);
+            known = findMade(field);
+            made.put(field, known);
+        }
+        return known.isEmpty() ? null : known;
+    }
+
+    private String findMade(VariableElement field) {
+        String found = UNKNOWN;
+        if (field.getKind() == ElementKind.FIELD && isOpen(field) && !field.getModifiers().contains(Modifier.FINAL)) {
+            return UNKNOWN;
+        }
+        for (Uses.Assignment each : uses.assignments(field)) {
+            String one = each.value() == null ? null : fresh(each.value());
+            if (one == null) {
+                return UNKNOWN;
+            }
+            found = one.equals("null") ? found : found.isEmpty() || found.equals(one) ? one : "java.lang.Object";
+        }
+        return found;
+    }
+
+    /** The class of the new object that an expression gives, {@code null} for no object at all; else null. */
+    public String fresh(ExpressionTree tree) {
+        ExpressionTree bare = Uses.bare(tree);
+        if (bare.getKind() == Tree.Kind.NULL_LITERAL) {
+            return "null";
+        } else if (bare instanceof NewArrayTree) {
+            return "[]";
+        } else if (bare instanceof NewClassTree made) {
+            JavaMethod constructor = program.method(attribution.element(made));
+            boolean leaks = constructor != null && escape.selves().from(constructor) != Escape.NEVER;
+            return made.getClassBody() != null || leaks ? null : name(attribution.type(made));
+        } else if (bare instanceof TypeCastTree cast) {
+            return fresh(cast.getExpression());
+        } else if (bare instanceof ConditionalExpressionTree either) {
+            String left = fresh(either.getTrueExpression());
+            String right = fresh(either.getFalseExpression());
+            return left == null || right == null ? null : left.equals("null") ? right : left;
+        } else if (bare instanceof MethodInvocationTree call) {
+            return freshCall(call);
+        }
+        Element symbol = attribution.element(bare);
+        boolean local = symbol instanceof VariableElement && symbol.getKind() == ElementKind.LOCAL_VARIABLE;
+        boolean handedOn = local && attribution.start(bare) <= escapes((VariableElement) symbol)
+            && uses.of(symbol).stream().filter(use -> escape.from(use) != Escape.NEVER).count() <= 1;
+        return handedOn ? made((VariableElement) symbol) : null;
+    }
+
+    private String freshCall(MethodInvocationTree call) {
+        if (!(attribution.element(call) instanceof ExecutableElement symbol) || program.method(symbol) != null) {
+            return null;
+        }
+        boolean copiesArray = symbol.getSimpleName().contentEquals("clone")
+            && call.getMethodSelect() instanceof MemberSelectTree select && attribution.type(select.getExpression())
+                .getKind() == javax.lang.model.type.TypeKind.ARRAY;
+        if (copiesArray || symbol.getReturnType().getKind() == javax.lang.model.type.TypeKind.ARRAY
+                && List.of("toCharArray", "getBytes", "split", "toArray").contains(symbol.getSimpleName().toString())
+                && call.getArguments().isEmpty()) {
+            return "[]";
+        }
+        if (Escape.givesItself(symbol) && call.getMethodSelect() instanceof MemberSelectTree select) {
+            return fresh(select.getExpression());
+        }
+        Choice choice = escape.choose(call.getMethodSelect(), symbol);
+        return choice.makes();
+    }
+
+    private String name(TypeMirror type) {
+        return type == null ? null : attribution.types().erasure(type).toString();
+    }
+
+    /** Whether anybody may touch a field; what the package's other files and classes below do is told as an assumption. */
+    private static boolean isOpen(VariableElement field) {
+        return field.getModifiers().contains(Modifier.PUBLIC);
+    }
+
+    /** Whether the contents of what a field holds are the field's: it is hidden, made for it, and never gets away. */
+    public boolean owns(VariableElement field) {
+        return owned.computeIfAbsent(field, this::findOwned);
+    }
+
+    private boolean findOwned(VariableElement field) {
+        if (isOpen(field) || made(field) == null) {
+            return false;
+        }
+        List<Tree> leaks = uses.of(field).stream().filter(use -> escape.from(use) != Escape.NEVER).toList();
+        boolean few = program.options().majority() && 100 * leaks.size() <= (100 - Inference.MOST) * uses.of(field).size();
+        if (few) {
+            leaks.forEach(use -> program.notes().tell(Notes.Kind.APPROXIMATED, field, attribution.place(use),
+                "majority: the contents of " + field + " get away here, which isn't judged"));
+        }
+        return few || leaks.isEmpty();
+    }
+
+    /** The offset from which on the object in a local may be known to others; 0 where it isn't a new one. */
+    public long escapes(VariableElement local) {
+        Long known = escapes.get(local);
+        if (known == null) {
+            escapes.put(local, 0L);
+            known = findEscape(local);
+            escapes.put(local, known);
+        }
+        return known;
+    }
+
+    private long findEscape(VariableElement local) {
+        VariableTree declaration = uses.declaration(local);
+        if (declaration == null || local.getKind() != ElementKind.LOCAL_VARIABLE || made(local) == null) {
+            return 0;
+        }
+        long first = Escape.NEVER;
+        for (Tree use : uses.of(local)) {
+            first = Math.min(first, escape.earliest(use, declaration));
+        }
+        return first;
+    }
+}

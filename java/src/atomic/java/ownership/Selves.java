@@ -1,0 +1,194 @@
+package atomic.java.ownership;
+
+import atomic.java.attribution.Attribution;
+import atomic.java.program.JavaClass;
+import atomic.java.program.JavaMethod;
+import atomic.java.program.Program;
+import com.sun.source.tree.ClassTree;
+import com.sun.source.tree.IdentifierTree;
+import com.sun.source.tree.LambdaExpressionTree;
+import com.sun.source.tree.MemberSelectTree;
+import com.sun.source.tree.MethodInvocationTree;
+import com.sun.source.tree.NewClassTree;
+import com.sun.source.tree.Tree;
+import com.sun.source.util.TreeScanner;
+import java.util.HashMap;
+import java.util.Map;
+import javax.lang.model.element.Element;
+import javax.lang.model.element.ElementKind;
+import javax.lang.model.element.ExecutableElement;
+import javax.lang.model.element.Modifier;
+
+/** Where a method lets its own object get away, so that other threads may reach it from then on. */
+public final class Selves {
+    private final Program program;
+    private final Attribution attribution;
+    private final Escape escape;
+    private final Map<JavaMethod, Long> known = new HashMap<>();
+
+    Selves(Program program, Escape escape) {
+        this.program = program;
+        this.escape = escape;
+        attribution = program.attribution();
+    }
+
+    /** Whether the method, or one that overrides it, lets its object get away. */
+    public boolean leaks(JavaMethod method) {
+        if (from(method) != Escape.NEVER) {
+            return true;
+        }
+        return method.isVirtual() && program.named(method.symbol().getSimpleName()).stream().anyMatch(other ->
+            other != method && attribution.elements().overrides(other.symbol(), method.symbol(), other.owner().symbol())
+            && from(other) != Escape.NEVER);
+    }
+
+    /** The offset in the method from which on its object may be known to others. */
+    public long from(JavaMethod method) {
+        Long before = known.get(method);
+        if (before != null) {
+            return before;
+        }
+        known.put(method, Escape.NEVER);
+        long found = Escape.NEVER;
+        if (method.tree().getBody() != null) {
+            found = new Scanner(method.owner()).scan(method.tree().getBody());
+        }
+        if (method.isConstructor()) {
+            found = Math.min(found, initialisers(method));
+        }
+        known.put(method, found);
+        return found;
+    }
+
+    /** A field's initialiser or a block of the class that lets the object go counts for the whole constructor. */
+    private long initialisers(JavaMethod constructor) {
+        for (Tree member : constructor.owner().tree().getMembers()) {
+            boolean runs = member instanceof com.sun.source.tree.VariableTree variable
+                && !variable.getModifiers().getFlags().contains(Modifier.STATIC)
+                || member instanceof com.sun.source.tree.BlockTree block && !block.isStatic();
+            if (runs && new Scanner(constructor.owner()).scan(member) != Escape.NEVER) {
+                return 0;
+            }
+        }
+        return Escape.NEVER;
+    }
+
+    /** Looks for uses of {@code this}, said or not. */
+    private final class Scanner extends TreeScanner<Void, Void> {
+        private final JavaClass self;
+        private long found = Escape.NEVER;
+
+        Scanner(JavaClass self) {
+            this.self = self;
+        }
+
+        long scan(Tree body) {
+            scan(body, null);
+            return found;
+        }
+
+        private void leak(Tree at) {
+            Tree loop = null;
+            for (Tree each = at; each != null && !(each instanceof ClassTree); each = attribution.parent(each)) {
+                switch (each.getKind()) {
+                    case WHILE_LOOP, DO_WHILE_LOOP, FOR_LOOP, ENHANCED_FOR_LOOP -> loop = each;
+                    default -> { }
+                }
+            }
+            found = Math.min(found, attribution.start(loop == null ? at : loop));
+        }
+
+        @Override
+        public Void visitIdentifier(IdentifierTree tree, Void nothing) {
+            if (tree.getName().contentEquals("this") && !(attribution.parent(tree) instanceof MethodInvocationTree call
+                    && call.getMethodSelect() == tree)) {
+                long from = escape.from(tree);
+                if (from != Escape.NEVER) {
+                    leak(tree);
+                }
+            }
+            return null;
+        }
+
+        @Override
+        public Void visitMemberSelect(MemberSelectTree tree, Void nothing) {
+            if (tree.getIdentifier().contentEquals("this") && attribution.element(tree) != null
+                    && escape.from(tree) != Escape.NEVER) {
+                leak(tree);
+            }
+            return super.visitMemberSelect(tree, nothing);
+        }
+
+        @Override
+        public Void visitMethodInvocation(MethodInvocationTree tree, Void nothing) {
+            Element symbol = attribution.element(tree);
+            boolean own = tree.getMethodSelect() instanceof IdentifierTree || isSuper(tree);
+            if (own && symbol instanceof ExecutableElement && !symbol.getModifiers().contains(Modifier.STATIC)) {
+                JavaMethod method = program.method(symbol);
+                if (method != null && leaks(method)) {
+                    leak(tree);
+                } else if (method == null && symbol.getKind() == ElementKind.METHOD
+                        && escape.choose(tree.getMethodSelect(), (ExecutableElement) symbol).keeps()) {
+                    leak(tree);
+                }
+            }
+            return super.visitMethodInvocation(tree, nothing);
+        }
+
+        private boolean isSuper(MethodInvocationTree tree) {
+            return tree.getMethodSelect() instanceof MemberSelectTree select
+                && select.getExpression() instanceof IdentifierTree name && name.getName().contentEquals("super");
+        }
+
+        @Override
+        public Void visitNewClass(NewClassTree tree, Void nothing) {
+            JavaClass made = program.find(attribution.type(tree));
+            if (tree.getClassBody() != null && attribution.element(tree.getClassBody()) != null) {
+                made = program.find(attribution.element(tree.getClassBody()));
+            }
+            if (made != null && made.hasOuterObject() && tree.getEnclosingExpression() == null && isWithin(made)) {
+                leak(tree);
+            }
+            scan(tree.getArguments(), null);
+            return null;
+        }
+
+        private boolean isWithin(JavaClass made) {
+            for (JavaClass each = made.outer(); each != null; each = each.outer()) {
+                if (each == self) {
+                    return true;
+                }
+            }
+            return false;
+        }
+
+        @Override
+        public Void visitLambdaExpression(LambdaExpressionTree tree, Void nothing) {
+            if (!escape.isCalledAtOnce(tree) && mentionsSelf(tree)) {
+                leak(tree);
+                return null;
+            }
+            return super.visitLambdaExpression(tree, nothing);
+        }
+
+        private boolean mentionsSelf(LambdaExpressionTree tree) {
+            boolean[] mentions = new boolean[1];
+            new TreeScanner<Void, Void>() {
+                @Override
+                public Void visitIdentifier(IdentifierTree name, Void nothing) {
+                    Element symbol = attribution.element(name);
+                    boolean member = symbol != null && (symbol.getKind() == ElementKind.FIELD
+                        || symbol.getKind() == ElementKind.METHOD) && !symbol.getModifiers().contains(Modifier.STATIC);
+                    mentions[0] |= member || name.getName().contentEquals("this") || name.getName().contentEquals("super");
+                    return null;
+                }
+            }.scan(tree.getBody(), null);
+            return mentions[0];
+        }
+
+        @Override
+        public Void visitClass(ClassTree tree, Void nothing) {
+            return null;
+        }
+    }
+}

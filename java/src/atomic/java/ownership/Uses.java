@@ -1,0 +1,170 @@
+package atomic.java.ownership;
+
+import atomic.java.attribution.Attribution;
+import com.sun.source.tree.AssignmentTree;
+import com.sun.source.tree.ClassTree;
+import com.sun.source.tree.CompilationUnitTree;
+import com.sun.source.tree.CompoundAssignmentTree;
+import com.sun.source.tree.EnhancedForLoopTree;
+import com.sun.source.tree.ExpressionTree;
+import com.sun.source.tree.IdentifierTree;
+import com.sun.source.tree.MemberSelectTree;
+import com.sun.source.tree.ParenthesizedTree;
+import com.sun.source.tree.Tree;
+import com.sun.source.tree.UnaryTree;
+import com.sun.source.tree.VariableTree;
+import com.sun.source.util.TreeScanner;
+import java.util.ArrayList;
+import java.util.HashMap;
+import java.util.List;
+import java.util.Map;
+import javax.lang.model.element.Element;
+import javax.lang.model.element.ElementKind;
+import javax.lang.model.element.Modifier;
+import javax.lang.model.element.VariableElement;
+
+/** Where each variable is declared, used and assigned, in all sources. */
+public final class Uses {
+
+    /** An assignment; {@code value} is null where the new value is computed from the old one. */
+    public record Assignment(Tree tree, Tree target, ExpressionTree value) { }
+
+    private final Map<Element, VariableTree> declared = new HashMap<>();
+    private final Map<Element, List<Tree>> uses = new HashMap<>();
+    private final Map<Element, List<Assignment>> assigned = new HashMap<>();
+    private final Attribution attribution;
+
+    /** Looks through all sources. */
+    public Uses(Attribution attribution) {
+        this.attribution = attribution;
+        for (CompilationUnitTree unit : attribution.units()) {
+            new Scanner().scan(unit, null);
+        }
+    }
+
+    private final class Scanner extends TreeScanner<Void, Void> {
+
+        @Override
+        public Void visitVariable(VariableTree tree, Void nothing) {
+            Element symbol = attribution.element(tree);
+            if (symbol != null) {
+                declared.put(symbol, tree);
+                if (tree.getInitializer() != null) {
+                    assign(symbol, new Assignment(tree, tree, tree.getInitializer()));
+                }
+            }
+            return super.visitVariable(tree, nothing);
+        }
+
+        @Override
+        public Void visitIdentifier(IdentifierTree tree, Void nothing) {
+            use(tree);
+            return null;
+        }
+
+        @Override
+        public Void visitMemberSelect(MemberSelectTree tree, Void nothing) {
+            use(tree);
+            return super.visitMemberSelect(tree, nothing);
+        }
+
+        private void use(Tree tree) {
+            if (attribution.element(tree) instanceof VariableElement symbol) {
+                uses.computeIfAbsent(symbol, key -> new ArrayList<>()).add(tree);
+            }
+        }
+
+        @Override
+        public Void visitAssignment(AssignmentTree tree, Void nothing) {
+            assign(tree, tree.getVariable(), tree.getExpression());
+            return super.visitAssignment(tree, nothing);
+        }
+
+        @Override
+        public Void visitCompoundAssignment(CompoundAssignmentTree tree, Void nothing) {
+            assign(tree, tree.getVariable(), null);
+            return super.visitCompoundAssignment(tree, nothing);
+        }
+
+        @Override
+        public Void visitUnary(UnaryTree tree, Void nothing) {
+            switch (tree.getKind()) {
+                case PREFIX_INCREMENT, PREFIX_DECREMENT, POSTFIX_INCREMENT, POSTFIX_DECREMENT ->
+                    assign(tree, tree.getExpression(), null);
+                default -> { }
+            }
+            return super.visitUnary(tree, nothing);
+        }
+
+        private void assign(Tree tree, ExpressionTree target, ExpressionTree value) {
+            ExpressionTree bare = bare(target);
+            Element symbol = attribution.element(bare);
+            if (symbol instanceof VariableElement) {
+                assign(symbol, new Assignment(tree, bare, value));
+            }
+        }
+
+        private void assign(Element symbol, Assignment assignment) {
+            assigned.computeIfAbsent(symbol, key -> new ArrayList<>()).add(assignment);
+        }
+    }
+
+    /** An expression without the parentheses around it. */
+    public static ExpressionTree bare(ExpressionTree tree) {
+        ExpressionTree each = tree;
+        while (each instanceof ParenthesizedTree parentheses) {
+            each = parentheses.getExpression();
+        }
+        return each;
+    }
+
+    public VariableTree declaration(Element variable) {
+        return declared.get(variable);
+    }
+
+    public List<Tree> of(Element variable) {
+        return uses.getOrDefault(variable, List.of());
+    }
+
+    public List<Assignment> assignments(Element variable) {
+        return assigned.getOrDefault(variable, List.of());
+    }
+
+    /** Whether a local or parameter keeps the value that it gets first. */
+    public boolean isSettled(VariableElement variable) {
+        if (variable.getModifiers().contains(Modifier.FINAL)) {
+            return true;
+        }
+        VariableTree tree = declared.get(variable);
+        List<Assignment> all = assignments(variable);
+        if (tree == null) {
+            return false;
+        }
+        boolean begins = tree.getInitializer() != null || variable.getKind() != ElementKind.LOCAL_VARIABLE
+            || attribution.parent(tree) instanceof EnhancedForLoopTree;
+        if (begins) {
+            return all.stream().allMatch(each -> each.tree() == tree);
+        }
+        return all.size() == 1 && all.get(0).value() != null && !isRepeated(all.get(0).tree(), tree);
+    }
+
+    /** Whether a loop stands around {@code tree} and not around {@code declaration}. */
+    public boolean isRepeated(Tree tree, Tree declaration) {
+        return outermostLoop(tree, declaration) != null;
+    }
+
+    /** The outermost loop around {@code tree} within the scope of {@code declaration}, or null. */
+    public Tree outermostLoop(Tree tree, Tree declaration) {
+        Tree scope = declaration == null ? null : attribution.parent(declaration);
+        Tree loop = null;
+        for (Tree each = attribution.parent(tree); each != null && each != scope
+                && !(scope == null && each instanceof ClassTree);
+                each = attribution.parent(each)) {
+            switch (each.getKind()) {
+                case WHILE_LOOP, DO_WHILE_LOOP, FOR_LOOP, ENHANCED_FOR_LOOP -> loop = each;
+                default -> { }
+            }
+        }
+        return loop;
+    }
+}

@@ -1,0 +1,219 @@
+package atomic.java.passes;
+
+import atomic.java.places.Notes;
+import atomic.java.skeleton.Method;
+import atomic.java.skeleton.Part;
+import atomic.java.skeleton.Path;
+import atomic.java.skeleton.Place;
+import atomic.java.skeleton.Shape;
+import java.util.Collection;
+import java.util.HashMap;
+import java.util.HashSet;
+import java.util.List;
+import java.util.Map;
+import java.util.Set;
+import java.util.function.Function;
+
+/**
+ * Waits. A wait gives its lock back and takes it again. In a loop that only looks, at the beginning of a region, what came
+ * before it is as if it hadn't been, so the wait is no step. Anywhere else, and where a caller may hold the lock, others can
+ * see what was done before: the wait is compound.
+ */
+public final class Waiting {
+    private final Collection<Method> methods;
+    private final Notes notes;
+    private final Function<Method, Object> origin;
+    private final Part.Call compound;
+    private boolean strict;
+    private final Set<Method> looking = new HashSet<>();
+    private final Map<Method, Set<Shape>> held = new HashMap<>();
+    private final Callees callees;
+
+    /** The waits of all methods; {@code compound} is the call that a wait in another place becomes. */
+    public Waiting(Collection<Method> methods, Notes notes, Function<Method, Object> origin, Part.Call compound) {
+        this.methods = methods;
+        this.notes = notes;
+        this.origin = origin;
+        this.compound = compound;
+        callees = new Callees(methods);
+    }
+
+    /** Callers outside the files are taken to hold any lock. */
+    public Waiting strictly(boolean strictly) {
+        strict = strictly;
+        return this;
+    }
+
+    /** Takes the waits out of all methods. */
+    public void run() {
+        if (methods.stream().noneMatch(method -> waits(method.body()))) {
+            return;
+        }
+        findLooking();
+        findHeld();
+        for (Method method : methods) {
+            if (waits(method.body())) {
+                method.body(new Walk(method).part(method.body(), new State()));
+            }
+        }
+    }
+
+    private static boolean waits(Part part) {
+        return part instanceof Part.Wait || part.parts().stream().anyMatch(Waiting::waits);
+    }
+
+    /** The methods that only look: none of their steps writes, locks or waits. */
+    private void findLooking() {
+        looking.addAll(methods);
+        boolean changed = true;
+        while (changed) {
+            changed = looking.removeIf(method -> !looks(method.body()));
+        }
+    }
+
+    private boolean looks(Part part) {
+        if (part instanceof Part.Access access) {
+            return !access.write();
+        } else if (part instanceof Part.Call call) {
+            return callees.of(call.target()).stream().allMatch(looking::contains);
+        } else if (part instanceof Part.Region) {
+            return false;
+        }
+        return part.parts().stream().allMatch(this::looks);
+    }
+
+    /** The classes of the locks that callers of each method may hold. */
+    private void findHeld() {
+        methods.forEach(method -> {
+            Set<Shape> all = new HashSet<>();
+            method.required().forEach(path -> all.add(path.type()));
+            held.put(method, all);
+        });
+        boolean changed = true;
+        while (changed) {
+            changed = false;
+            for (Method method : methods) {
+                changed |= spread(method.body(), held.get(method));
+            }
+        }
+    }
+
+    private boolean spread(Part part, Set<Shape> locks) {
+        boolean changed = false;
+        if (part instanceof Part.Call call) {
+            for (Method callee : callees.of(call.target())) {
+                changed |= held.get(callee) != null && held.get(callee).addAll(locks);
+            }
+        } else if (part instanceof Part.Region region) {
+            Set<Shape> more = new HashSet<>(locks);
+            if (region.lock() != null) {
+                more.add(region.lock().type());
+            }
+            return spread(region.body(), more);
+        }
+        for (Part each : part.parts()) {
+            changed |= spread(each, locks);
+        }
+        return changed;
+    }
+
+    /** What came before a place of a region. */
+    private static final class State {
+        private Path lock;
+        private boolean touched;
+        private boolean repeated;
+        private boolean inRegion;
+
+        /** A region within this one, which may be of the same lock. */
+        State within(Path taken) {
+            State inner = new State();
+            inner.lock = taken;
+            inner.touched = inRegion && touched;
+            inner.repeated = inRegion && repeated;
+            inner.inRegion = true;
+            return inner;
+        }
+    }
+
+    /** Goes through one method. */
+    private final class Walk {
+        private final Method method;
+
+        Walk(Method method) {
+            this.method = method;
+        }
+
+        Part part(Part part, State state) {
+            if (part instanceof Part.Wait wait) {
+                return refuse(wait, "it stands in no loop that only looks");
+            } else if (part instanceof Part.Region region) {
+                State inner = state.within(region.lock());
+                Part body = part(region.body(), inner);
+                state.touched = true;
+                return new Part.Region(region.lock(), region.mode(), body, region.place());
+            } else if (part instanceof Part.Repeat repeat && waits(repeat)) {
+                return loop(repeat, state);
+            } else if (part instanceof Part.Either either) {
+                return branches(either, state);
+            } else if (part instanceof Part.Access || part instanceof Part.Call) {
+                state.touched = true;
+                return part;
+            }
+            return part.map(each -> part(each, state));
+        }
+
+        private Part branches(Part.Either either, State state) {
+            boolean before = state.touched;
+            Part left = part(either.left(), state);
+            boolean after = state.touched;
+            state.touched = before;
+            Part right = part(either.right(), state);
+            state.touched |= after;
+            return new Part.Either(left, right);
+        }
+
+        private Part loop(Part.Repeat repeat, State state) {
+            if (looks(repeat.body())) {
+                Part body = waitsOf(repeat.body(), state);
+                state.touched = true;
+                return new Part.Repeat(body, repeat.place());
+            }
+            boolean before = state.repeated;
+            state.repeated = true;
+            Part body = part(repeat.body(), state);
+            state.repeated = before;
+            return new Part.Repeat(body, repeat.place());
+        }
+
+        private Part waitsOf(Part part, State state) {
+            if (!(part instanceof Part.Wait wait)) {
+                return part.map(each -> waitsOf(each, state));
+            } else if (wait.lock() == null || !wait.lock().equals(state.lock)) {
+                return refuse(wait, "its lock isn't the one of the region that it stands in");
+            } else if (state.touched || state.repeated) {
+                return refuse(wait, "something was done before it in its region");
+            } else if (mayBeHeld(wait.lock())) {
+                return refuse(wait, "a caller may hold the lock");
+            }
+            if (strict) {
+                return refuse(wait, "a caller outside these files may hold the lock");
+            }
+            tell(Notes.Kind.ASSUMED, wait.place(), "no caller outside these files holds the lock when this wait is reached");
+            return Part.NOTHING;
+        }
+
+        private boolean mayBeHeld(Path lock) {
+            return held.get(method).stream().anyMatch(each -> each == null || each.fits(lock.type())
+                || lock.type().fits(each));
+        }
+
+        private Part refuse(Part.Wait wait, String why) {
+            tell(Notes.Kind.APPROXIMATED, wait.place(), "wait: others can see what was done before it, since " + why);
+            return new Part.Call(compound.receiver(), compound.target(), List.of(), wait.place());
+        }
+
+        private void tell(Notes.Kind kind, Place place, String text) {
+            notes.tell(kind, origin.apply(method), place, text);
+        }
+    }
+}

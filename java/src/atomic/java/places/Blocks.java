@@ -1,0 +1,32 @@
+package atomic.java.places;
+
+import java.util.ArrayList;
+import java.util.LinkedHashMap;
+import java.util.List;
+import java.util.Map;
+
+/** Explanations line by line: a block for each method. Of two methods that stand for one in Java one block is enough. */
+final class Blocks {
+    private final Map<String, List<String>> blocks = new LinkedHashMap<>();
+    private List<String> current = new ArrayList<>();
+
+    /** Begins the block of a method. */
+    void begin(String head) {
+        current = new ArrayList<>();
+        blocks.putIfAbsent(head, current);
+    }
+
+    void add(String line) {
+        current.add(line);
+    }
+
+    /** All lines, each block once. */
+    List<String> lines() {
+        List<String> all = new ArrayList<>();
+        blocks.forEach((head, rest) -> {
+            all.add(head);
+            all.addAll(rest);
+        });
+        return all;
+    }
+}

@@ -1,0 +1,59 @@
+package atomic.java.places;
+
+import atomic.java.skeleton.Place;
+import java.util.ArrayList;
+import java.util.HashSet;
+import java.util.List;
+import java.util.Set;
+import java.util.TreeMap;
+import java.util.TreeSet;
+
+/** What was assumed or approximated, where and for which method. Each place is told of each thing once. */
+public final class Notes {
+
+    /** How far a skeleton's method is from its Java method. */
+    public enum Kind { DATA_RACE, ASSUMED, APPROXIMATED }
+
+    private final TreeMap<Place, Set<String>> lines = new TreeMap<>();
+    private final Set<Object> assumed = new HashSet<>();
+    private final Set<Object> approximated = new HashSet<>();
+
+    /** Notes something at a place of a method; {@code method} may be null. */
+    public void tell(Kind kind, Object method, Place place, String text) {
+        lines.computeIfAbsent(place, key -> new TreeSet<>()).add(word(kind) + ": " + text);
+        if (method != null && kind != Kind.DATA_RACE) {
+            (kind == Kind.ASSUMED ? assumed : approximated).add(method);
+        }
+    }
+
+    private static String word(Kind kind) {
+        return switch (kind) {
+            case DATA_RACE -> "data race";
+            case ASSUMED -> "assumed";
+            case APPROXIMATED -> "approximated";
+        };
+    }
+
+    public boolean assumes(Object method) {
+        return assumed.contains(method);
+    }
+
+    public boolean approximates(Object method) {
+        return approximated.contains(method);
+    }
+
+    /** All notes as lines, by their places. */
+    public List<String> lines() {
+        List<String> all = new ArrayList<>();
+        lines.forEach((place, texts) -> texts.forEach(text -> all.add(place + ": note: " + text)));
+        return all;
+    }
+
+    /** The notes between two places of one file. */
+    public List<String> lines(Place from, Place to) {
+        List<String> all = new ArrayList<>();
+        lines.subMap(from, true, to, true).forEach((place, texts) ->
+            texts.forEach(text -> all.add(place + ": note: " + text)));
+        return all;
+    }
+}

@@ -1,0 +1,180 @@
+package atomic.java.program;
+
+import atomic.java.skeleton.Shape;
+import java.util.ArrayList;
+import java.util.HashMap;
+import java.util.LinkedHashMap;
+import java.util.List;
+import java.util.Map;
+import java.util.Set;
+import java.util.stream.Collectors;
+import javax.lang.model.element.Modifier;
+import javax.lang.model.element.TypeElement;
+import javax.lang.model.element.VariableElement;
+import javax.lang.model.type.DeclaredType;
+import javax.lang.model.type.TypeKind;
+import javax.lang.model.type.TypeMirror;
+
+/**
+ * Methods that override each other: in a skeleton they have one name and parameters of the same classes. Overloaded
+ * methods, of which a skeleton has none, get names of their own.
+ */
+public final class Families {
+    private static final Set<String> VALUES = Set.of("java.lang.String", "java.lang.Integer", "java.lang.Long",
+        "java.lang.Short", "java.lang.Byte", "java.lang.Character", "java.lang.Boolean", "java.lang.Double",
+        "java.lang.Float", "java.math.BigInteger", "java.math.BigDecimal", "java.lang.CharSequence",
+        "java.lang.Number");
+
+    private static final int MOST_PARAMETERS = 14;
+
+    private final Program program;
+    private final Map<JavaMethod, JavaMethod> roots = new HashMap<>();
+    private final Map<String, String> spellings = new HashMap<>();
+    private final Map<String, Integer> numbers = new HashMap<>();
+
+    public Families(Program program) {
+        this.program = program;
+    }
+
+    /** The method furthest up among the classes that this one overrides; it itself where it overrides none. */
+    public JavaMethod root(JavaMethod method) {
+        JavaMethod known = roots.get(method);
+        if (known == null) {
+            known = method;
+            for (JavaMethod above : overridden(method)) {
+                known = root(above);
+            }
+            roots.put(method, known);
+        }
+        return known;
+    }
+
+    /** The method of the nearest class above that it overrides, if there is one. */
+    public List<JavaMethod> overridden(JavaMethod method) {
+        if (!method.isVirtual() || method.owner().isInterface()) {
+            return List.of();
+        }
+        for (JavaClass above = above(method.owner()); above != null; above = above(above)) {
+            for (JavaMethod other : above.methods()) {
+                if (other.isVirtual() && other.symbol().getSimpleName().equals(method.symbol().getSimpleName())
+                        && overrides(method, other, method.owner())) {
+                    return List.of(other);
+                }
+            }
+        }
+        return List.of();
+    }
+
+    public boolean overrides(JavaMethod method, JavaMethod other, JavaClass self) {
+        return program.attribution().elements().overrides(method.symbol(), other.symbol(), self.symbol());
+    }
+
+    /** The class of the sources that a class extends, or null. */
+    public JavaClass above(JavaClass each) {
+        return each.isInterface() ? null : program.find(each.symbol().getSuperclass());
+    }
+
+    /** The method that runs for an object of class {@code self}, or null where it isn't at hand. */
+    public JavaMethod implementation(JavaClass self, JavaMethod wanted) {
+        for (JavaClass each = self; each != null; each = above(each)) {
+            for (JavaMethod own : each.methods()) {
+                boolean named = own.symbol().getSimpleName().equals(wanted.symbol().getSimpleName());
+                if (own == wanted && !own.isAbstract() || named && own.isVirtual() && !own.isAbstract()
+                        && overrides(own, wanted, self)) {
+                    return own;
+                }
+            }
+        }
+        return defaultOf(self, wanted);
+    }
+
+    /**
+     * Whether no object at hand runs this method: its class is abstract and hidden, and each class below that objects are
+     * made of has a method of its own in its place. What {@code super} calls is a copy of it.
+     */
+    public boolean isAlwaysReplaced(JavaMethod method) {
+        var modifiers = method.owner().symbol().getModifiers();
+        if (!method.isVirtual() || !modifiers.contains(Modifier.ABSTRACT) || modifiers.contains(Modifier.PUBLIC)
+                || method.owner().isInterface()) {
+            return false;
+        }
+        List<JavaClass> below = program.classes().stream().filter(each -> each != method.owner()
+            && isBelow(each, method.owner()) && !each.symbol().getModifiers().contains(Modifier.ABSTRACT)).toList();
+        return !below.isEmpty() && below.stream().allMatch(each -> implementation(each, method) != method);
+    }
+
+    private JavaMethod defaultOf(JavaClass self, JavaMethod wanted) {
+        List<JavaMethod> found = new ArrayList<>();
+        for (JavaClass each : program.classes()) {
+            if (each.isInterface() && isBelow(self, each)) {
+                for (JavaMethod own : each.methods()) {
+                    if (!own.isAbstract() && own.isVirtual() && (own == wanted || overrides(own, wanted, self))) {
+                        found.add(own);
+                    }
+                }
+            }
+        }
+        return found.stream().filter(one -> found.stream().noneMatch(other -> other != one
+            && isBelow(other.owner(), one.owner()))).findFirst().orElse(null);
+    }
+
+    /** Whether a class is another one or below it. */
+    public boolean isBelow(JavaClass one, JavaClass other) {
+        var types = program.attribution().types();
+        return types.isSubtype(types.erasure(one.symbol().asType()), types.erasure(other.symbol().asType()));
+    }
+
+    /** How a skeleton spells the name of a method. */
+    public String name(JavaMethod method) {
+        JavaMethod root = root(method);
+        String java = method.symbol().getSimpleName().toString();
+        boolean apart = method.isPrivate() && (above(method.owner()) != null || hasBelow(method.owner()));
+        String key = java + erased(root) + (apart ? method.owner().shape().name() : "");
+        return spellings.computeIfAbsent(key, word -> numbers.merge(java, 1, Integer::sum) == 1
+            ? program.names().plain(java) : program.names().invent(java + "_" + numbers.get(java), java));
+    }
+
+    private boolean hasBelow(JavaClass self) {
+        return program.classes().stream().anyMatch(each -> above(each) == self);
+    }
+
+    private String erased(JavaMethod method) {
+        return method.symbol().getParameters().stream()
+            .map(each -> program.attribution().types().erasure(each.asType()).toString())
+            .collect(Collectors.joining(",", "(", ")"));
+    }
+
+    /** The parameters that may name a lock, with the skeleton's class of each. */
+    public Map<VariableElement, Shape> parameters(JavaMethod method) {
+        Map<VariableElement, Shape> kept = new LinkedHashMap<>();
+        List<? extends VariableElement> own = method.symbol().getParameters();
+        List<? extends VariableElement> above = root(method).symbol().getParameters();
+        for (int k = 0; k < own.size() && kept.size() < MOST_PARAMETERS; k++) {
+            Shape shape = shape(above.get(k).asType());
+            if (shape != null) {
+                kept.put(own.get(k), shape);
+            }
+        }
+        return kept;
+    }
+
+    /** The skeleton's class for a type; null for values, which name no lock. */
+    public Shape shape(TypeMirror type) {
+        TypeMirror erased = program.attribution().types().erasure(type);
+        if (erased.getKind() == TypeKind.ARRAY) {
+            return program.object();
+        } else if (!(erased instanceof DeclaredType declared) || declared.getKind() == TypeKind.ERROR) {
+            return null;
+        }
+        JavaClass known = program.find(erased);
+        TypeElement symbol = (TypeElement) ((DeclaredType) erased).asElement();
+        boolean value = VALUES.contains(symbol.getQualifiedName().toString()) || symbol.getAnnotationMirrors().stream()
+            .anyMatch(each -> each.getAnnotationType().toString().equals("java.lang.FunctionalInterface"));
+        return known != null ? known.shape() : value ? null : program.object();
+    }
+
+    /** Whether a static member belongs to the class alone. */
+    public static boolean isStatic(javax.lang.model.element.Element symbol) {
+        return symbol.getModifiers().contains(Modifier.STATIC);
+    }
+}

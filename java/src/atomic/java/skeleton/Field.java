@@ -1,0 +1,94 @@
+package atomic.java.skeleton;
+
+import java.util.List;
+
+/** A field of a skeleton's class. Fields are the same where they are the same object. */
+public final class Field {
+
+    /** The lock that guards a field: the fields that lead to it from the field's object, and whether reads want it too. */
+    public record Guard(List<Field> lock, boolean writesOnly) { }
+
+    private final Shape owner;
+    private final String name;
+    private final Shape type;
+    private final boolean fixed;
+    private Guard guard;
+    private Place place;
+    private boolean used;
+    private boolean shared = true;
+    private boolean wide;
+    private Field one;
+
+    /** A field of {@code owner}; without a type it holds a number; {@code fixed} says that it is final. */
+    public Field(Shape owner, String name, Shape type, boolean fixed) {
+        this.owner = owner;
+        this.name = name;
+        this.type = type;
+        this.fixed = fixed;
+    }
+
+    public Shape owner() {
+        return owner;
+    }
+
+    public String name() {
+        return one == null ? name : one.name();
+    }
+
+    public Shape type() {
+        return type;
+    }
+
+    public boolean fixed() {
+        return fixed;
+    }
+
+    public Guard guard() {
+        return guard;
+    }
+
+    public void guard(Guard lock) {
+        guard = lock;
+    }
+
+    /** Where the Java field is declared. */
+    public Place place() {
+        return place;
+    }
+
+    public void place(Place declared) {
+        place = declared;
+    }
+
+    /** Whether some part of the skeleton names it; others aren't written. */
+    public boolean used() {
+        return used && one == null;
+    }
+
+    /** From here on another field of the same guard is written in its place. */
+    public void standFor(Field other) {
+        one = other;
+    }
+
+    public void use() {
+        used = true;
+    }
+
+    /** Whether a guard may be inferred: not for a volatile field, which says that it is read without one. */
+    public boolean mayBeGuarded() {
+        return shared;
+    }
+
+    public void leaveUnguarded() {
+        shared = false;
+    }
+
+    /** Whether an access without a guard is several steps: of 64 bits, or of an object that isn't safe by itself. */
+    public boolean wide() {
+        return wide;
+    }
+
+    public void widen() {
+        wide = true;
+    }
+}

@@ -1,0 +1,83 @@
+package atomic.java.skeleton;
+
+import java.util.ArrayList;
+import java.util.LinkedHashSet;
+import java.util.List;
+import java.util.Set;
+
+/** A method of a skeleton. All methods are void: what a call gives is opaque. */
+public final class Method {
+    private final Shape owner;
+    private final String name;
+    private final Place place;
+    private final List<Path.Root> parameters = new ArrayList<>();
+    private final Set<Path> required = new LinkedHashSet<>();
+    private final List<Path.Root> loose = new ArrayList<>();
+    private boolean atomic;
+    private boolean closed;
+    private Part body = Part.NOTHING;
+    private final List<Method> overridden = new ArrayList<>();
+
+    public Method(Shape owner, String name, Place place) {
+        this.owner = owner;
+        this.name = name;
+        this.place = place;
+    }
+
+    public Shape owner() {
+        return owner;
+    }
+
+    public String name() {
+        return name;
+    }
+
+    /** Where the Java method is named, or null where no Java method stands behind this one. */
+    public Place place() {
+        return place;
+    }
+
+    public List<Path.Root> parameters() {
+        return parameters;
+    }
+
+    /** The locks that each caller holds. */
+    public Set<Path> required() {
+        return required;
+    }
+
+    /** Variables that are assigned again, so that they name no lock. */
+    public List<Path.Root> loose() {
+        return loose;
+    }
+
+    public boolean atomic() {
+        return atomic;
+    }
+
+    public void promiseAtomic() {
+        atomic = true;
+    }
+
+    /** Whether all calls of it stand in the skeleton, so that what they hold may be inferred as required. */
+    public boolean closed() {
+        return closed;
+    }
+
+    public void closed(boolean onlyCalledHere) {
+        closed = onlyCalledHere;
+    }
+
+    public Part body() {
+        return body;
+    }
+
+    public void body(Part part) {
+        body = part;
+    }
+
+    /** The methods of classes above that this one overrides. */
+    public List<Method> overridden() {
+        return overridden;
+    }
+}

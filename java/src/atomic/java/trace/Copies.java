@@ -1,0 +1,66 @@
+package atomic.java.trace;
+
+import atomic.java.attribution.Attribution;
+import atomic.java.attribution.SourceText;
+import atomic.java.library.Library;
+import atomic.java.options.Options;
+import atomic.java.options.Refusal;
+import atomic.java.skeleton.Method;
+import com.sun.source.tree.ClassTree;
+import com.sun.source.tree.CompilationUnitTree;
+import com.sun.source.tree.MethodTree;
+import com.sun.source.util.TreeScanner;
+import java.io.IOException;
+import java.nio.file.Files;
+import java.nio.file.Path;
+import java.util.HashSet;
+import java.util.List;
+import java.util.Set;
+import java.util.function.Predicate;
+import javax.lang.model.element.Element;
+
+/**
+ * Writes logged copies of sources ({@code --log FOLDER}), each into the folder of its package. They are compiled and run with the archive
+ * of this program in the class path: {@code java -cp .. atomic.trace.Runner CLASS SEED COUNT FOLDER} makes runs, each with its log.
+ */
+public final class Copies {
+    private final Attribution attribution;
+    private final Library library;
+    private final Predicate<MethodTree> atomic;
+    private final Set<Element> classes = new HashSet<>();
+
+    /** Of attributed sources; {@code atomic} says which methods promise to be. */
+    public Copies(Attribution attribution, Library library, Predicate<MethodTree> atomic) {
+        this.attribution = attribution;
+        this.library = library;
+        this.atomic = atomic;
+        attribution.units().forEach(unit -> new TreeScanner<Void, Void>() {
+            @Override
+            public Void visitClass(ClassTree tree, Void nothing) {
+                classes.add(attribution.element(tree));
+                return super.visitClass(tree, nothing);
+            }
+        }.scan(unit, null));
+    }
+
+    /** Writes them all, and the skeleton that was judged. */
+    public void write(String folder, List<Method> skeleton) {
+        try {
+            for (CompilationUnitTree unit : attribution.units()) {
+                write(unit, Path.of(folder));
+            }
+            Files.write(Path.of(folder, "skeleton.txt"), new SkeletonText(skeleton).lines());
+        } catch (IOException | java.nio.file.InvalidPathException fault) {
+            throw new Refusal(Options.CANNOT_WRITE, "cannot write into " + folder);
+        }
+    }
+
+    private void write(CompilationUnitTree unit, Path folder) throws IOException {
+        SourceText source = attribution.source(unit);
+        LoggedCopy copy = new LoggedCopy(attribution, library, classes, source.text(), atomic);
+        String named = unit.getPackageName() == null ? "" : unit.getPackageName().toString().replace('.', '/');
+        Path path = folder.resolve(named).resolve(Path.of(source.file()).getFileName());
+        Files.createDirectories(path.getParent());
+        Files.writeString(path, copy.between(0, source.text().length(), List.copyOf(unit.getTypeDecls())));
+    }
+}

@@ -1,0 +1,55 @@
+package atomic.java.trace;
+
+import atomic.java.skeleton.Method;
+import atomic.java.skeleton.Part;
+import atomic.java.skeleton.Place;
+import java.util.ArrayList;
+import java.util.List;
+
+/**
+ * A skeleton's methods as lines for those who compare logs with it: {@code method LINE:COLUMN NAME}, and behind it the body in
+ * parentheses: {@code (seq ..)}, {@code (or A B)}, {@code (rep A)}, {@code (sync A)}, {@code (read LINE:COLUMN)},
+ * {@code (write LINE:COLUMN)}, {@code (wait)} and {@code (call LINE:COLUMN TARGET)}, where TARGET is the number of a line, from 0 on.
+ */
+final class SkeletonText {
+    private final List<Method> methods;
+
+    SkeletonText(List<Method> methods) {
+        this.methods = methods;
+    }
+
+    List<String> lines() {
+        List<String> lines = new ArrayList<>();
+        for (Method method : methods) {
+            lines.add("method " + place(method.place()) + " " + method.name() + "\t" + text(method.body()));
+        }
+        return lines;
+    }
+
+    private static String place(Place place) {
+        return place == null ? "-" : place.line() + ":" + place.column();
+    }
+
+    private String text(Part part) {
+        StringBuilder text = new StringBuilder("(").append(word(part));
+        part.parts().forEach(each -> text.append(' ').append(text(each)));
+        return text.append(')').toString();
+    }
+
+    private String word(Part part) {
+        if (part instanceof Part.Either) {
+            return "or";
+        } else if (part instanceof Part.Repeat) {
+            return "rep";
+        } else if (part instanceof Part.Region) {
+            return "sync";
+        } else if (part instanceof Part.Access access) {
+            return (access.write() ? "write " : "read ") + place(access.place());
+        } else if (part instanceof Part.Call call) {
+            return "call " + place(call.place()) + " " + methods.indexOf(call.target());
+        } else if (part instanceof Part.Wait) {
+            return "wait";
+        }
+        return "seq";
+    }
+}

@@ -1,0 +1,180 @@
+package atomic.java.translation;
+
+import atomic.java.ownership.Uses;
+import atomic.java.places.Notes;
+import atomic.java.program.Families;
+import atomic.java.program.JavaClass;
+import atomic.java.skeleton.Field;
+import atomic.java.skeleton.Part;
+import atomic.java.skeleton.Path;
+import atomic.java.skeleton.Value;
+import com.sun.source.tree.ArrayAccessTree;
+import com.sun.source.tree.ExpressionTree;
+import com.sun.source.tree.MemberSelectTree;
+import com.sun.source.tree.Tree;
+import javax.lang.model.element.Element;
+import javax.lang.model.element.Modifier;
+import javax.lang.model.element.VariableElement;
+
+/** Reads and writes of fields. */
+final class Accesses {
+    private final Services services;
+    private final Body body;
+
+    Accesses(Services services, Body body) {
+        this.services = services;
+        this.body = body;
+    }
+
+    /** The object whose field is meant where none is written; null for a static field. */
+    Value implicit(VariableElement field, long offset) {
+        if (Families.isStatic(field)) {
+            return null;
+        }
+        JavaClass owner = services.program().find(field.getEnclosingElement());
+        return owner == null ? body.inheriting(field.getEnclosingElement(), offset) : body.object(owner, offset);
+    }
+
+    /** The object before the dot; its steps are emitted. */
+    Value receiver(MemberSelectTree tree, VariableElement field, Expressions expressions) {
+        if (Families.isStatic(field)) {
+            Element symbol = services.attribution().element(tree.getExpression());
+            if (symbol instanceof VariableElement) {
+                expressions.value(tree.getExpression());
+            }
+            return null;
+        }
+        return expressions.value(tree.getExpression());
+    }
+
+    /** Reads a field; what it holds. */
+    Value read(VariableElement field, Value receiver, Tree at) {
+        start(field, at);
+        if (services.program().find(field.getEnclosingElement()) == null) {
+            return foreign(field, receiver, false, at);
+        } else if (field.getConstantValue() != null || field.getKind() == javax.lang.model.element.ElementKind.ENUM_CONSTANT) {
+            return Value.OPAQUE;
+        }
+        VariableElement source = LockViews.source(field, services.fields());
+        boolean settled = services.fields().isSettled(source);
+        boolean owned = services.fields().owns(field);
+        if (settled && !owned && services.families().shape(source.asType()) == null) {
+            return Value.OPAQUE;
+        }
+        Fields.Home home = services.fields().home(source);
+        Value holder = holder(source, home, receiver);
+        if (!settled) {
+            access(holder, home.field(), false, at);
+        }
+        if (owned) {
+            Fields.Home contents = services.fields().contents(field);
+            Value inside = holder(field, contents, receiver);
+            Path own = settled && home.field().type() != null ? behind(holder, home.field()).path() : null;
+            return inside instanceof Value.Fresh ? new Value.Fresh(null)
+                : new Value.Owned(inside, contents.field(), own);
+        }
+        return settled ? behind(holder, home.field()) : new Value.Opaque(home.field().type());
+    }
+
+    private Value behind(Value holder, Field field) {
+        Path path = holder.path();
+        if (!field.fixed() || path == null || field.type() == null) {
+            return new Value.Opaque(field.type());
+        } else if (path.hasRoom()) {
+            return new Value.Named(path.then(field));
+        }
+        Path.Root root = new Path.Root(Path.Kind.LOCAL, body.local(field.name()), path.type());
+        body.emit(new Part.Local(root, path));
+        return new Value.Named(Path.of(root).then(field));
+    }
+
+    /** The object in the skeleton that has the field. */
+    private Value holder(VariableElement field, Fields.Home home, Value receiver) {
+        JavaClass owner = services.program().find(field.getEnclosingElement());
+        if (home.holder() == Fields.Holder.STATICS) {
+            return owner == body.starting() && Families.isStatic(field) ? new Value.Fresh(null) : new Value.Named(body.statics().then(services.fields().staticsOf(owner)));
+        } else if (home.holder() == Fields.Holder.CONTAINER) {
+            return receiver instanceof Value.Node node ? node.container() : receiver instanceof Value.Fresh ? receiver
+                : new Value.Opaque(home.field().owner());
+        }
+        boolean fits = receiver != null && receiver.type() != null && receiver.type().fits(home.field().owner())
+            && !(receiver instanceof Value.Node);
+        return fits ? receiver : receiver instanceof Value.Fresh ? receiver : new Value.Opaque(home.field().owner());
+    }
+
+    private void access(Value holder, Field field, boolean write, Tree at) {
+        if (!(holder instanceof Value.Fresh)) {
+            body.emit(new Part.Access(holder, field, write, services.attribution().name(at)));
+        }
+    }
+
+    /** The use of a static field may be the first one of its class. */
+    private void start(VariableElement field, Tree at) {
+        if (Families.isStatic(field) && field.getConstantValue() == null) {
+            new Initialisers(services).start(services.program().find(field.getEnclosingElement()), body, at);
+        }
+    }
+
+    /** Writes a field. */
+    private void write(VariableElement field, Value receiver, Tree at) {
+        if (services.program().find(field.getEnclosingElement()) == null) {
+            foreign(field, receiver, true, at);
+        } else if (!services.fields().isSettled(field)) {
+            Fields.Home home = services.fields().home(field);
+            access(holder(field, home, receiver), home.field(), true, at);
+        }
+    }
+
+    /** A field of a library's class: one of this object's own where it is inherited, else a step. */
+    private Value foreign(VariableElement field, Value receiver, boolean write, Tree at) {
+        if (field.getModifiers().contains(Modifier.FINAL) || receiver instanceof Value.Fresh) {
+            return Value.OPAQUE;
+        }
+        JavaClass heir = receiver == null || receiver.path() == null || receiver.type() == null ? null
+            : services.program().find(receiver.type());
+        if (heir != null && services.nodes().container(heir) == null && isNeverAssigned(field)) {
+            services.tell(Notes.Kind.ASSUMED, body, at, "nobody assigns " + field.getSimpleName() + " of "
+                + field.getEnclosingElement().getSimpleName() + " once its object is made");
+            return behind(receiver, services.fields().inherited(field, heir, services.families().shape(field.asType())));
+        } else if (heir != null && services.nodes().container(heir) == null) {
+            access(receiver, services.fields().inherited(field, heir, null), write, at);
+            return Value.OPAQUE;
+        }
+        services.tell(Notes.Kind.APPROXIMATED, body, at, "a field of a library's class counts as one that nothing guards");
+        body.emit(services.step(field.getEnclosingElement().getSimpleName() + "." + field.getSimpleName(), false, at));
+        return Value.OPAQUE;
+    }
+
+    /** Whether a library's field with an object that may be a lock, such as {@code Writer.lock}, keeps that here. */
+    private boolean isNeverAssigned(VariableElement field) {
+        return services.uses().assignments(field).isEmpty() && services.families().shape(field.asType()) != null
+            && !services.program().library().hasContents(field.asType()) && !services.program().options().strict();
+    }
+
+    /** An assignment: the target's object, a read where the old value is wanted, the value, and the write. */
+    Value assign(ExpressionTree written, ExpressionTree value, boolean reads, Expressions expressions) {
+        ExpressionTree target = Uses.bare(written);
+        if (target instanceof ArrayAccessTree element) {
+            Value array = expressions.value(element.getExpression());
+            expressions.value(element.getIndex());
+            Contents contents = new Contents(services, body);
+            if (reads) {
+                contents.element(array, false, element);
+            }
+            Value result = expressions.value(value);
+            contents.element(array, true, element);
+            return result;
+        }
+        if (!(services.attribution().element(target) instanceof VariableElement variable) || !variable.getKind().isField()) {
+            return expressions.value(value);
+        }
+        Value receiver = target instanceof MemberSelectTree select ? receiver(select, variable, expressions)
+            : implicit(variable, services.attribution().start(target));
+        if (reads) {
+            read(variable, receiver, target);
+        }
+        Value result = expressions.value(value);
+        write(variable, receiver, target);
+        return result;
+    }
+}

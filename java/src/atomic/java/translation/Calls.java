@@ -1,0 +1,218 @@
+package atomic.java.translation;
+
+import atomic.java.ownership.Escape;
+import atomic.java.ownership.Uses;
+import atomic.java.places.Notes;
+import atomic.java.program.JavaClass;
+import atomic.java.program.JavaMethod;
+import atomic.java.skeleton.Method;
+import atomic.java.skeleton.Part;
+import atomic.java.skeleton.Shape;
+import atomic.java.skeleton.Value;
+import com.sun.source.tree.ExpressionTree;
+import com.sun.source.tree.IdentifierTree;
+import com.sun.source.tree.MemberReferenceTree;
+import com.sun.source.tree.MemberSelectTree;
+import com.sun.source.tree.MethodInvocationTree;
+import com.sun.source.tree.NewClassTree;
+import com.sun.source.tree.Tree;
+import java.util.ArrayList;
+import java.util.List;
+import javax.lang.model.element.Element;
+import javax.lang.model.element.ElementKind;
+import javax.lang.model.element.ExecutableElement;
+import javax.lang.model.element.VariableElement;
+
+/** Calls of methods and constructors. */
+final class Calls {
+    private final Services services;
+    private final Body body;
+    private final Expressions expressions;
+
+    Calls(Services services, Body body) {
+        this.services = services;
+        this.body = body;
+        expressions = new Expressions(services, body);
+    }
+
+    /** A call; the object that it gives is known by its class alone, or as the library's table says. */
+    Value call(MethodInvocationTree tree) {
+        Element symbol = services.attribution().element(tree);
+        if (!(symbol instanceof ExecutableElement executable)) {
+            return unknown(tree);
+        } else if (symbol.getKind() == ElementKind.CONSTRUCTOR) {
+            return another(tree, executable);
+        }
+        JavaMethod method = services.program().method(symbol);
+        if (method == null) {
+            return new LibraryCalls(services, body).call(tree, executable);
+        }
+        Value receiver = method.isStatic() ? qualifier(tree) : receiver(tree, method);
+        List<Value> arguments = arguments(method, tree.getArguments());
+        invoke(method, receiver, arguments, tree);
+        return Value.OPAQUE;
+    }
+
+    private Value unknown(MethodInvocationTree tree) {
+        tree.getArguments().forEach(expressions::value);
+        services.tell(Notes.Kind.APPROXIMATED, body, tree, "unknown call: it may do anything");
+        body.emit(services.step(tree.getMethodSelect().toString(), true, tree));
+        return Value.OPAQUE;
+    }
+
+    /** What stands before a static call: the steps of an expression, of which no object is wanted. */
+    private Value qualifier(MethodInvocationTree tree) {
+        if (tree.getMethodSelect() instanceof MemberSelectTree select
+                && services.attribution().element(select.getExpression()) instanceof VariableElement) {
+            expressions.value(select.getExpression());
+        }
+        return null;
+    }
+
+    private Value receiver(MethodInvocationTree tree, JavaMethod method) {
+        if (tree.getMethodSelect() instanceof MemberSelectTree select) {
+            return expressions.value(select.getExpression());
+        }
+        Value own = body.object(method.owner(), services.attribution().start(tree));
+        return own == null ? new Value.Opaque(method.owner().shape()) : own;
+    }
+
+    private static boolean isSuper(ExpressionTree select) {
+        if (!(select instanceof MemberSelectTree member)) {
+            return false;
+        }
+        ExpressionTree before = member.getExpression();
+        return before instanceof IdentifierTree name && name.getName().contentEquals("super")
+            || before instanceof MemberSelectTree inner && inner.getIdentifier().contentEquals("super");
+    }
+
+    /** The arguments' steps, and the values that may name locks. */
+    private List<Value> arguments(JavaMethod method, List<? extends ExpressionTree> trees) {
+        List<Value> all = trees.stream().map(expressions::value).toList();
+        for (int k = 0; k < all.size(); k++) {
+            lend(all.get(k), trees.get(k));
+        }
+        List<Value> kept = new ArrayList<>();
+        if (!method.isStatic()) {
+            kept.add(new Value.Named(body.statics()));
+        }
+        List<? extends VariableElement> parameters = method.symbol().getParameters();
+        var wanted = services.families().parameters(method).keySet();
+        for (int k = 0; k < parameters.size(); k++) {
+            boolean single = k < all.size() && (!method.symbol().isVarArgs() || k < parameters.size() - 1);
+            if (wanted.contains(parameters.get(k))) {
+                kept.add(single ? all.get(k) : Value.OPAQUE);
+            }
+        }
+        return kept;
+    }
+
+    /** A method that is given an owned object may look at its contents and change them any number of times. */
+    private void lend(Value value, Tree at) {
+        if (value instanceof Value.Owned owned && !(owned.receiver() instanceof Value.Fresh)) {
+            Part access = new Part.Access(owned.receiver(), owned.contents(), true, services.attribution().name(at));
+            body.emit(Part.sequence(List.of(access, access)));
+        }
+    }
+
+    private void invoke(JavaMethod method, Value receiver, List<Value> arguments, Tree tree) {
+        if (method.isStatic()) {
+            new Initialisers(services).start(method.owner(), body, tree);
+            emit(services.methods().of(method), new Value.Named(body.statics()), arguments, tree);
+            return;
+        }
+        boolean node = services.nodes().container(method.owner()) != null;
+        Value holder = node && receiver instanceof Value.Node one ? one.container() : receiver;
+        if (holder instanceof Value.Fresh) {
+            fresh(method, arguments, tree);
+        } else if (tree instanceof MethodInvocationTree call && isSuper(call.getMethodSelect())
+                && !method.owner().isInterface() && !method.isAbstract()) {
+            emit(services.methods().of(method, body.self(), false), holder, arguments, tree);
+        } else if (tree instanceof MethodInvocationTree call && isSuper(call.getMethodSelect())) {
+            emit(services.methods().of(method, body.self(), false), holder, arguments, tree);
+        } else {
+            emit(services.methods().of(method), holder, arguments, tree);
+        }
+    }
+
+    /** A call on an object that nobody else knows: any method that may run there, without the steps on that object. */
+    private void fresh(JavaMethod method, List<Value> arguments, Tree tree) {
+        List<Part> all = new ArrayList<>();
+        for (JavaMethod each : services.program().named(method.symbol().getSimpleName())) {
+            boolean runs = each == method || method.isVirtual() && !each.isAbstract() && each.isVirtual()
+                && services.families().overrides(each, method, each.owner());
+            if (runs && !each.isAbstract()) {
+                all.add(body.collect(() -> emit(services.methods().of(each, each.owner(), true),
+                    new Value.Fresh(each.owner().shape()), arguments, tree)));
+            }
+        }
+        if (all.isEmpty()) {
+            emit(services.methods().of(method), new Value.Fresh(method.owner().shape()), arguments, tree);
+        }
+        body.emit(Dispatch.either(all));
+    }
+
+    private void emit(Method target, Value receiver, List<Value> arguments, Tree tree) {
+        boolean fits = receiver.type() != null && receiver.type().fits(target.owner())
+            && !(receiver instanceof Value.Fresh) && !(receiver instanceof Value.Owned);
+        body.emit(new Part.Call(fits ? receiver : new Value.Opaque(target.owner()), target, arguments,
+            services.attribution().name(tree)));
+    }
+
+    /** {@code this(..)} or {@code super(..)} at the beginning of a constructor. */
+    private Value another(MethodInvocationTree tree, ExecutableElement symbol) {
+        JavaMethod method = services.program().method(symbol);
+        boolean above = tree.getMethodSelect() instanceof IdentifierTree name && name.getName().contentEquals("super")
+            || tree.getMethodSelect() instanceof MemberSelectTree;
+        if (method != null) {
+            emit(services.methods().of(method), new Value.Fresh(null), arguments(method, tree.getArguments()), tree);
+        } else {
+            tree.getArguments().forEach(expressions::value);
+        }
+        if (above) {
+            new Initialisers(services).run(body.self(), body);
+        }
+        return Value.OPAQUE;
+    }
+
+    /** The making of an object: nobody else knows it, unless its constructor lets it get away. */
+    Value construct(NewClassTree tree) {
+        if (tree.getEnclosingExpression() != null) {
+            expressions.value(tree.getEnclosingExpression());
+        }
+        JavaMethod constructor = services.program().method(services.attribution().element(tree));
+        if (constructor == null) {
+            return new LibraryCalls(services, body).construct(tree);
+        }
+        new Initialisers(services).start(constructor.owner(), body, tree);
+        List<Value> arguments = arguments(constructor, tree.getArguments());
+        Shape shape = constructor.owner().shape();
+        emit(services.methods().of(constructor), node(constructor, tree), arguments, tree);
+        boolean leaks = services.ownership().escape().selves().from(constructor) != Escape.NEVER;
+        return leaks ? new Value.Opaque(shape) : new Value.Fresh(shape);
+    }
+
+    private Value node(JavaMethod constructor, Tree tree) {
+        JavaClass container = services.nodes().container(constructor.owner());
+        Value holder = container == null ? null : body.object(container, services.attribution().start(tree));
+        return holder == null ? new Value.Fresh(null) : holder;
+    }
+
+    /** What a name of a method calls, with arguments of which nothing is known. */
+    void reference(MemberReferenceTree tree) {
+        Element symbol = services.attribution().element(tree);
+        JavaMethod method = services.program().method(symbol);
+        Element qualifier = services.attribution().element(Uses.bare(tree.getQualifierExpression()));
+        boolean isType = qualifier == null || qualifier.getKind().isClass() || qualifier.getKind().isInterface();
+        if (method != null && method.isConstructor()) {
+            emit(services.methods().of(method), new Value.Fresh(null), List.of(new Value.Named(body.statics())), tree);
+        } else if (method != null) {
+            Value receiver = isType ? new Value.Opaque(method.owner().shape())
+                : expressions.value(tree.getQualifierExpression());
+            List<Value> arguments = method.isStatic() ? List.of() : List.of(new Value.Named(body.statics()));
+            invoke(method, receiver, arguments, tree);
+        } else if (symbol instanceof ExecutableElement executable) {
+            new LibraryCalls(services, body).reference(tree, executable, isType);
+        }
+    }
+}

@@ -1,0 +1,76 @@
+package atomic.java.translation;
+
+import atomic.java.places.Notes;
+import atomic.java.skeleton.Part;
+import atomic.java.skeleton.Path;
+import atomic.java.skeleton.Value;
+import com.sun.source.tree.ArrayAccessTree;
+import com.sun.source.tree.ExpressionTree;
+import com.sun.source.tree.Tree;
+import javax.lang.model.type.TypeKind;
+
+/** Accesses of the contents of arrays, collections and other objects that aren't safe by themselves. */
+final class Contents {
+    private final Services services;
+    private final Body body;
+
+    Contents(Services services, Body body) {
+        this.services = services;
+        this.body = body;
+    }
+
+    /** An element of an array. Of an array that others may know it is a step. */
+    void element(Value array, boolean write, ArrayAccessTree at) {
+        if (!known(array, write, at, at.getExpression().toString())) {
+            services.tell(Notes.Kind.APPROXIMATED, body, at,
+                "array of others: other threads may know this array, so each access of an element is a step");
+            TypeKind kind = services.attribution().type(at).getKind();
+            body.emit(services.step("an element", kind == TypeKind.LONG || kind == TypeKind.DOUBLE, at));
+        }
+    }
+
+    /** The next element of an array that is walked over. */
+    void elements(Value array, ExpressionTree at) {
+        if (!known(array, false, at, at.toString())) {
+            services.tell(Notes.Kind.APPROXIMATED, body, at,
+                "array of others: other threads may know this array, so each access of an element is a step");
+            body.emit(services.step("an element", false, at));
+        }
+    }
+
+    /** A call that looks at an object's contents or changes them; of an object that others may know it is compound. */
+    void call(Value object, boolean write, Tree at, String shown) {
+        if (!known(object, write, at, shown)) {
+            services.tell(Notes.Kind.APPROXIMATED, body, at,
+                "object of others: other threads may know the object of " + shown + ", so the call counts as several steps");
+            body.emit(services.step(shown, true, at));
+        }
+    }
+
+    /** Whether it is known whose contents these are; then the access is written. */
+    private boolean known(Value object, boolean write, Tree at, String shown) {
+        if (object instanceof Value.Fresh) {
+            return true;
+        } else if (object instanceof Value.Owned owned) {
+            if (!(owned.receiver() instanceof Value.Fresh)) {
+                body.emit(new Part.Access(owned.receiver(), owned.contents(), write, services.attribution().name(at)));
+            }
+            return true;
+        } else if (isArgument(object) && !services.program().options().strict()) {
+            services.tell(Notes.Kind.ASSUMED, body, at, "no other thread touches " + named(object, shown)
+                + " during this call");
+            return true;
+        }
+        return false;
+    }
+
+    private static String named(Value object, String shown) {
+        return object.path() == null ? "the object of " + shown : object.path().root().name();
+    }
+
+    /** Whether an object came as an argument of this method. */
+    static boolean isArgument(Value object) {
+        return object instanceof Value.Given || object instanceof Value.Named named
+            && named.path().root().kind() == Path.Kind.PARAMETER && named.path().fields().isEmpty();
+    }
+}

@@ -1,0 +1,294 @@
+package atomic.java.translation;
+
+import atomic.java.ownership.Nodes;
+import atomic.java.ownership.Ownership;
+import atomic.java.ownership.Uses;
+import atomic.java.program.Families;
+import atomic.java.program.JavaClass;
+import atomic.java.program.Program;
+import atomic.java.skeleton.Field;
+import atomic.java.skeleton.Path;
+import atomic.java.skeleton.Shape;
+import com.sun.source.tree.BlockTree;
+import com.sun.source.tree.ClassTree;
+import com.sun.source.tree.MemberSelectTree;
+import com.sun.source.tree.MethodTree;
+import com.sun.source.tree.Tree;
+import com.sun.source.tree.VariableTree;
+import java.util.HashMap;
+import java.util.List;
+import java.util.Map;
+import javax.lang.model.element.ElementKind;
+import javax.lang.model.element.Modifier;
+import javax.lang.model.element.VariableElement;
+
+/** The skeleton's fields: which one stands for a Java field, and for the contents of what it holds. */
+public final class Fields {
+
+    /** Whose field it is in the skeleton. */
+    public enum Holder { OBJECT, STATICS, CONTAINER }
+
+    /** A field of the skeleton, and on which object it is. */
+    public record Home(Field field, Holder holder) { }
+
+    private final Program program;
+    private final Families families;
+    private final Uses uses;
+    private final Ownership ownership;
+    private final Nodes nodes;
+    private final Guards guards;
+    private final Map<VariableElement, Home> homes = new HashMap<>();
+    private final Map<VariableElement, Home> contents = new HashMap<>();
+    private final Map<VariableElement, Map<Shape, Field>> inherited = new HashMap<>();
+    private final Map<VariableElement, Boolean> settled = new HashMap<>();
+    private final Map<JavaClass, Field> statics = new HashMap<>();
+    private final Map<Shape, Field> outers = new HashMap<>();
+
+    Fields(Program program, Families families, Uses uses, Ownership ownership, Nodes nodes) {
+        this.program = program;
+        this.families = families;
+        this.uses = uses;
+        this.ownership = ownership;
+        this.nodes = nodes;
+        guards = new Guards(program, this);
+    }
+
+    public Guards guards() {
+        return guards;
+    }
+
+    /** The field that stands for a Java field. */
+    public Home home(VariableElement java) {
+        Home known = homes.get(java);
+        if (known == null) {
+            JavaClass owner = program.find(java.getEnclosingElement());
+            boolean fixed = isSettled(java);
+            String name = java.getSimpleName().toString();
+            known = make(java, owner, new Wish(name, name, families.shape(java.asType()), fixed));
+            homes.put(java, known);
+            if (!fixed) {
+                guard(java, known);
+            }
+        }
+        return known;
+    }
+
+    /** The field that stands for the contents of what a Java field holds. */
+    public Home contents(VariableElement java) {
+        Home known = contents.get(java);
+        if (known == null) {
+            JavaClass owner = program.find(java.getEnclosingElement());
+            String name = java.getSimpleName().toString();
+            boolean array = java.asType().getKind() == javax.lang.model.type.TypeKind.ARRAY;
+            known = make(java, owner, new Wish(name + "_contents", name + (array ? "[]" : "'s contents"), null, false));
+            contents.put(java, known);
+            guard(java, known);
+        }
+        return known;
+    }
+
+    /** What a field of the skeleton is to be. */
+    private record Wish(String name, String shown, Shape type, boolean fixed) { }
+
+    private Home make(VariableElement java, JavaClass owner, Wish wish) {
+        JavaClass container = nodes.container(owner);
+        Shape home = owner.shape();
+        Holder holder = Holder.OBJECT;
+        String name = wish.name();
+        String shown = wish.shown();
+        if (Families.isStatic(java) || guards.isStatic(java) && !wish.fixed()) {
+            home = staticsOf(owner).type();
+            holder = Holder.STATICS;
+        } else if (container != null) {
+            home = container.shape();
+            holder = Holder.CONTAINER;
+            name = owner.symbol().getSimpleName() + "_" + name;
+            shown = owner.symbol().getSimpleName() + "." + shown;
+        }
+        boolean plain = name.equals(shown) && home.fields().stream().noneMatch(each -> each.name().equals(name(wish)))
+            && !isInherited(java, owner);
+        Field field = new Field(home, plain ? program.names().plain(name) : program.names().invent(name, shown),
+            wish.type(), wish.fixed() && holder != Holder.CONTAINER);
+        home.fields().add(field);
+        Tree tree = uses.declaration(java);
+        field.place(tree == null ? null : program.attribution().name(tree));
+        boolean contents = !wish.name().contentEquals(java.getSimpleName());
+        boolean isVolatile = java.getModifiers().contains(Modifier.VOLATILE);
+        if (contents ? isWide(elementType(java)) || program.library().hasContents(elementType(java))
+                : isWide(java.asType()) && !isVolatile) {
+            field.widen();
+        }
+        return new Home(field, holder);
+    }
+
+    private String name(Wish wish) {
+        return program.names().plain(wish.name());
+    }
+
+    /** Numbers of 64 bits are written in two halves. */
+    private static boolean isWide(javax.lang.model.type.TypeMirror type) {
+        return type.getKind() == javax.lang.model.type.TypeKind.LONG
+            || type.getKind() == javax.lang.model.type.TypeKind.DOUBLE;
+    }
+
+    /** Whether a class above or below has a field of this name, which in a skeleton it may not. */
+    private boolean isInherited(VariableElement java, JavaClass owner) {
+        return program.classes().stream().anyMatch(each -> each != owner
+            && (families.isBelow(each, owner) || families.isBelow(owner, each))
+            && each.symbol().getEnclosedElements().stream().anyMatch(other -> other.getKind().isField()
+                && other.getSimpleName().equals(java.getSimpleName())));
+    }
+
+    /** The field that stands for one of a library's class, in the class furthest up that has it; with a type it is final. */
+    Field inherited(VariableElement java, JavaClass heir, Shape type) {
+        JavaClass top = heir;
+        var types = program.attribution().types();
+        for (JavaClass above = families.above(heir); above != null && types.isSubtype(
+                types.erasure(above.symbol().asType()), types.erasure(java.getEnclosingElement().asType()));
+                above = families.above(above)) {
+            top = above;
+        }
+        Shape home = top.shape();
+        return inherited.computeIfAbsent(java, key -> new HashMap<>()).computeIfAbsent(home, key -> {
+            String name = java.getSimpleName().toString();
+            Field field = new Field(home, program.names().invent(name, name), type, type != null);
+            if (!program.options().majority()) {
+                // The library's own methods touch it too, with locks that aren't known here.
+                field.leaveUnguarded();
+            }
+            home.fields().add(field);
+            return field;
+        });
+    }
+
+    private void guard(VariableElement java, Home home) {
+        if (java.getModifiers().contains(Modifier.VOLATILE) && !guards.isNamed(java)) {
+            home.field().leaveUnguarded();
+        }
+        Guards.Lock lock = guards.of(java);
+        if (lock == null && home.holder() == Holder.CONTAINER) {
+            lock = containersGuard(program.find(java.getEnclosingElement()));
+        }
+        if (lock != null) {
+            boolean writesOnly = java.getModifiers().contains(Modifier.VOLATILE)
+                && home.field().name().equals(program.names().plain(java.getSimpleName().toString()));
+            lock.fields().forEach(Field::use);
+            List<Field> fields = lock.isStatic() && home.holder() == Holder.STATICS
+                ? guards.withinStatics(lock, home.field().owner()) : lock.fields();
+            if (fields != null) {
+                home.field().guard(new Field.Guard(fields, writesOnly));
+            }
+        }
+    }
+
+    /** Nodes are guarded as the fields of the container are that lead to them, where these agree. */
+    private Guards.Lock containersGuard(JavaClass node) {
+        JavaClass container = nodes.container(node);
+        Guards.Lock found = null;
+        for (var member : container.symbol().getEnclosedElements()) {
+            if (member instanceof VariableElement field && program.find(elementType(field)) == node) {
+                Guards.Lock one = guards.of(field);
+                if (one == null && !isSettled(field) || one != null && found != null && !found.equals(one)) {
+                    return null;
+                }
+                found = one == null ? found : one;
+            }
+        }
+        return found;
+    }
+
+    private static javax.lang.model.type.TypeMirror elementType(VariableElement field) {
+        return field.asType() instanceof javax.lang.model.type.ArrayType array ? array.getComponentType()
+            : field.asType();
+    }
+
+    /** Whether a field keeps the value that it gets before its object is known to others. */
+    public boolean isSettled(VariableElement java) {
+        if (java.getModifiers().contains(Modifier.FINAL) || java.getKind() != ElementKind.FIELD) {
+            return true;
+        }
+        return settled.computeIfAbsent(java, this::isNeverAssignedLater);
+    }
+
+    private boolean isNeverAssignedLater(VariableElement java) {
+        if (guards.isNamed(java) || java.getModifiers().contains(Modifier.VOLATILE)) {
+            return false;
+        }
+        return uses.assignments(java).stream().allMatch(each -> each.tree() instanceof VariableTree
+            || isSelf(each.target()) && begins(each.tree(), java));
+    }
+
+    private static boolean isSelf(Tree target) {
+        return !(target instanceof MemberSelectTree select) || select.getExpression().toString().equals("this");
+    }
+
+    /** Whether a tree belongs to a constructor or an initialiser of the field's class. */
+    private boolean begins(Tree tree, VariableElement java) {
+        Tree each = tree;
+        while (each != null && !(program.attribution().parent(each) instanceof ClassTree)) {
+            if (each instanceof com.sun.source.tree.LambdaExpressionTree) {
+                return false;
+            }
+            each = program.attribution().parent(each);
+        }
+        boolean own = each != null
+            && program.attribution().element(program.attribution().parent(each)) == java.getEnclosingElement();
+        boolean constructs = each instanceof MethodTree method && method.getReturnType() == null
+            && !Families.isStatic(java);
+        return own && (constructs || each instanceof BlockTree block && block.isStatic() == Families.isStatic(java)
+            || each instanceof VariableTree);
+    }
+
+    /** Whether the contents of what a field holds are its own. */
+    public boolean owns(VariableElement java) {
+        String made = ownership.made(java);
+        boolean contents = made != null && (made.equals("[]") || program.library().hasContents(java.asType())
+            && program.library().hasContents(made));
+        return contents && program.find(java.getEnclosingElement()) != null && ownership.owns(java);
+    }
+
+    /** The field of the one object {@code Statics} that leads to a class's static fields, and is its lock. */
+    public Field staticsOf(JavaClass owner) {
+        return statics.computeIfAbsent(owner, each -> {
+            String shown = program.names().shown(each.shape().name());
+            Shape shape = new Shape(program.names().invent(each.shape().name() + "_statics", shown), each.shape().place());
+            shape.parent(program.object());
+            program.shapes().add(shape);
+            Field field = new Field(program.statics(), program.names().invent(each.shape().name() + "_class",
+                "=" + shown + ".class"), shape, true);
+            program.statics().fields().add(field);
+            return field;
+        });
+    }
+
+    /** The final field of an inner object that leads to the one around it. */
+    public Field outerOf(Shape inner, Shape outer) {
+        return outers.computeIfAbsent(inner, each -> {
+            Field field = new Field(inner, program.names().invent("outer",
+                "=" + program.names().shown(outer.name()) + ".this"), outer, true);
+            inner.fields().add(field);
+            return field;
+        });
+    }
+
+    /** The path of a class's own lock, from a root that is the object {@code Statics}. */
+    public Path classLock(JavaClass owner, Path statics) {
+        return statics.then(staticsOf(owner));
+    }
+
+    Uses uses() {
+        return uses;
+    }
+
+    Nodes nodes() {
+        return nodes;
+    }
+
+    Ownership ownership() {
+        return ownership;
+    }
+
+    Families families() {
+        return families;
+    }
+}

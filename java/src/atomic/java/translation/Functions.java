@@ -1,0 +1,141 @@
+package atomic.java.translation;
+
+import atomic.java.program.JavaClass;
+import atomic.java.skeleton.Field;
+import atomic.java.skeleton.Method;
+import atomic.java.skeleton.Part;
+import atomic.java.skeleton.Path;
+import atomic.java.skeleton.Shape;
+import atomic.java.skeleton.Value;
+import com.sun.source.tree.BlockTree;
+import com.sun.source.tree.ExpressionTree;
+import com.sun.source.tree.LambdaExpressionTree;
+import com.sun.source.tree.MemberReferenceTree;
+import com.sun.source.tree.Tree;
+import com.sun.source.tree.VariableTree;
+import java.util.ArrayList;
+import java.util.HashMap;
+import java.util.List;
+import java.util.Map;
+import javax.lang.model.element.VariableElement;
+
+/**
+ * Lambdas and names of methods. One that a library calls at once is a part of its caller; any other is a class with one
+ * method, and is judged alone, since it may run at any time and in any thread.
+ */
+final class Functions {
+    private final Services services;
+    private final Map<JavaClass, List<Method>> implementations = new HashMap<>();
+
+    Functions(Services services) {
+        this.services = services;
+    }
+
+    /** The functions that stand for objects of an interface of the sources. */
+    List<Method> implementations(JavaClass type) {
+        return implementations.getOrDefault(type, List.of());
+    }
+
+    /** Writes a lambda as a part of the body that it stands in. */
+    void inline(LambdaExpressionTree tree, Body body) {
+        for (VariableTree parameter : tree.getParameters()) {
+            new Locals(services, body).declare(parameter, new Value.Opaque(null));
+        }
+        if (tree.getBody() instanceof BlockTree block) {
+            new Statements(services, body).all(block.getStatements());
+        } else {
+            new Expressions(services, body).value((ExpressionTree) tree.getBody());
+        }
+    }
+
+    /** Makes a lambda a class of its own. */
+    void apart(LambdaExpressionTree tree, Body around) {
+        Method method = method(tree, around);
+        Body body = body(tree, method, around);
+        services.methods().later(() -> method.body(body.collect(() -> inline(tree, body))));
+    }
+
+    /** Makes the name of a method a class of its own, whose method calls that one. */
+    void apart(MemberReferenceTree tree, Body around) {
+        Method method = method(tree, around);
+        Body body = body(tree, method, around);
+        services.methods().later(() -> method.body(body.collect(() -> new Calls(services, body).reference(tree))));
+    }
+
+    private Method method(Tree tree, Body around) {
+        String home = services.program().names().shown(around.target().owner().name());
+        String name = services.program().names().shown(around.target().name());
+        String shown = "lambda in " + (name.startsWith("=") ? name.substring(1) : home + "." + name);
+        Shape shape = new Shape(services.program().names().invent("Lambda", shown), services.attribution().place(tree));
+        shape.parent(services.program().object());
+        services.program().shapes().add(shape);
+        Method method = new Method(shape, services.program().names().invent("call", "=" + shown), shape.place());
+        method.parameters().add(new Path.Root(Path.Kind.PARAMETER, "S", services.program().statics()));
+        shape.methods().add(method);
+        services.methods().judgeAlone(method, around.origin());
+        JavaClass type = services.program().find(services.attribution().type(tree));
+        if (type != null) {
+            implementations.computeIfAbsent(type, key -> new ArrayList<>()).add(method);
+        }
+        return method;
+    }
+
+    private Body body(Tree tree, Method method, Body around) {
+        Value outer = around.me(services.attribution().start(tree)) == null ? null : outer(method.owner(), around);
+        Body body = new Body(services, method, new Body.Owner(around.self(), outer, around.origin()), 0);
+        if (tree instanceof LambdaExpressionTree lambda) {
+            for (VariableTree each : lambda.getParameters()) {
+                if (services.attribution().element(each) instanceof VariableElement symbol) {
+                    body.locals().put(symbol, Value.OPAQUE);
+                }
+            }
+        }
+        return body;
+    }
+
+    private Value outer(Shape shape, Body around) {
+        Shape type = around.me(Long.MAX_VALUE).type();
+        Field field = services.fields().outerOf(shape, type);
+        Value found = new Value.Named(Path.of(new Path.Root(Path.Kind.THIS, "this", shape)).then(field));
+        return around.me(Long.MAX_VALUE) instanceof Value.Node ? new Value.Node(found) : found;
+    }
+
+    /** Writes the functions among the arguments of a call that calls them, any number of times. */
+    void callAll(List<? extends ExpressionTree> arguments, Body body, Tree at) {
+        for (ExpressionTree argument : arguments) {
+            ExpressionTree bare = atomic.java.ownership.Uses.bare(argument);
+            Part part = Part.NOTHING;
+            if (bare instanceof LambdaExpressionTree lambda) {
+                part = body.collect(() -> inline(lambda, body));
+            } else if (bare instanceof MemberReferenceTree reference) {
+                part = body.collect(() -> new Calls(services, body).reference(reference));
+            } else if (services.program().find(services.attribution().type(bare)) != null) {
+                part = body.collect(() -> new Comparisons(services, body).comparator(bare, at));
+            } else if (isFunction(bare) && !isLookedAt(at)) {
+                part = services.step("a function that isn't known", true, bare);
+                services.tell(atomic.java.places.Notes.Kind.APPROXIMATED, body, bare,
+                    "unknown call: a function that isn't known may do anything");
+            }
+            if (!part.isNothing()) {
+                body.emit(new Part.Repeat(part, services.attribution().place(at)));
+            }
+        }
+    }
+
+    /** Whether a call only looks at a function's object: {@code Objects.requireNonNull} does. */
+    private boolean isLookedAt(Tree at) {
+        return at instanceof com.sun.source.tree.MethodInvocationTree call
+            && services.attribution().element(call) instanceof javax.lang.model.element.ExecutableElement symbol
+            && !services.ownership().escape().choose(call.getMethodSelect(), symbol).calls();
+    }
+
+    /** Whether an argument is an object with a function, which the call then calls; comparators are told as assumed. */
+    private boolean isFunction(ExpressionTree tree) {
+        var type = services.attribution().type(tree);
+        if (!(type instanceof javax.lang.model.type.DeclaredType declared)) {
+            return false;
+        }
+        String name = ((javax.lang.model.element.TypeElement) declared.asElement()).getQualifiedName().toString();
+        return name.startsWith("java.util.function.") || name.equals("java.lang.Runnable");
+    }
+}

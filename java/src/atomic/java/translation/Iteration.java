@@ -1,0 +1,90 @@
+package atomic.java.translation;
+
+import atomic.java.library.Choice;
+import atomic.java.places.Notes;
+import atomic.java.program.JavaClass;
+import atomic.java.program.JavaMethod;
+import atomic.java.skeleton.Part;
+import atomic.java.skeleton.Value;
+import com.sun.source.tree.EnhancedForLoopTree;
+import com.sun.source.tree.Tree;
+import com.sun.source.tree.VariableTree;
+import java.util.List;
+import javax.lang.model.type.TypeKind;
+import javax.lang.model.type.TypeMirror;
+
+/** Calls that Java makes by itself: those of {@code for (x : ..)} and of resources that are closed. */
+final class Iteration {
+    private final Services services;
+    private final Body body;
+
+    Iteration(Services services, Body body) {
+        this.services = services;
+        this.body = body;
+    }
+
+    /** The step to the next element of what is walked over. */
+    void next(EnhancedForLoopTree tree, Value source) {
+        TypeMirror type = services.attribution().type(tree.getExpression());
+        Contents contents = new Contents(services, body);
+        if (type.getKind() == TypeKind.ARRAY) {
+            contents.elements(source, tree.getExpression());
+            return;
+        }
+        JavaClass known = services.program().find(type);
+        if (known != null) {
+            own(known, "iterator", tree.getExpression());
+            return;
+        }
+        Choice walk = services.program().library().choose(type, "iterator");
+        if (walk.kind() == Choice.Kind.VIEW) {
+            contents.call(source, false, tree.getExpression(), "Iterator.next");
+        } else if (walk.kind() != Choice.Kind.PURE) {
+            services.tell(Notes.Kind.APPROXIMATED, body, tree.getExpression(),
+                "compound library call: walking over this object counts as several steps");
+            body.emit(services.step("Iterator.next", true, tree.getExpression()));
+        }
+    }
+
+    /** The call that closes a resource. */
+    void close(Tree resource) {
+        TypeMirror type = resource instanceof VariableTree variable
+            ? services.attribution().element(variable).asType() : services.attribution().type(resource);
+        JavaClass known = services.program().find(type);
+        if (known != null) {
+            own(known, "close", resource);
+            return;
+        }
+        Choice choice = services.program().library().choose(type, "close");
+        if (choice.kind() != Choice.Kind.PURE && choice.kind() != Choice.Kind.ASSUMED) {
+            services.tell(Notes.Kind.APPROXIMATED, body, resource,
+                "compound library call: closing this object counts as several steps");
+            body.emit(services.step("AutoCloseable.close", choice.kind() != Choice.Kind.STEP, resource));
+        }
+    }
+
+    /** A call of a method of the sources without arguments. */
+    private void own(JavaClass known, String name, Tree at) {
+        for (JavaClass each = known; each != null; each = services.families().above(each)) {
+            for (JavaMethod method : each.methods()) {
+                if (method.symbol().getSimpleName().contentEquals(name) && method.symbol().getParameters().isEmpty()) {
+                    body.emit(new Part.Call(new Value.Opaque(each.shape()), services.methods().of(method),
+                        List.of(new Value.Named(body.statics())), services.attribution().place(at)));
+                    walk(method, at);
+                    return;
+                }
+            }
+        }
+        services.tell(Notes.Kind.APPROXIMATED, body, at, "unknown call: " + name + " may do anything");
+        body.emit(services.step(known.symbol().getSimpleName() + "." + name, true, at));
+    }
+
+    /** The iterator of a class of the sources: its own methods where it is one of them too, else nothing is known. */
+    private void walk(JavaMethod method, Tree at) {
+        if (method.symbol().getSimpleName().contentEquals("iterator")) {
+            services.tell(Notes.Kind.APPROXIMATED, body, at,
+                "unknown call: the iterator that this loop walks with may do anything");
+            body.emit(services.step("Iterator.next", true, at));
+        }
+    }
+}

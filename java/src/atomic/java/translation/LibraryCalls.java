@@ -1,0 +1,286 @@
+package atomic.java.translation;
+
+import atomic.java.library.Choice;
+import atomic.java.ownership.Uses;
+import atomic.java.places.Notes;
+import atomic.java.program.JavaClass;
+import atomic.java.program.JavaMethod;
+import atomic.java.skeleton.Part;
+import atomic.java.skeleton.Value;
+import com.sun.source.tree.ExpressionTree;
+import com.sun.source.tree.LambdaExpressionTree;
+import com.sun.source.tree.MemberReferenceTree;
+import com.sun.source.tree.MemberSelectTree;
+import com.sun.source.tree.MethodInvocationTree;
+import com.sun.source.tree.NewClassTree;
+import com.sun.source.tree.Tree;
+import java.util.ArrayList;
+import java.util.List;
+import javax.lang.model.element.Element;
+import javax.lang.model.element.ElementKind;
+import javax.lang.model.element.ExecutableElement;
+import javax.lang.model.element.Modifier;
+import javax.lang.model.element.TypeElement;
+import javax.lang.model.element.VariableElement;
+import javax.lang.model.type.TypeKind;
+import javax.lang.model.type.TypeMirror;
+
+/** Calls of methods that aren't at hand, as the table of library classes says. */
+final class LibraryCalls {
+    private final Services services;
+    private final Body body;
+    private final Expressions expressions;
+
+    /** A call: what it is called, on which object, what the table says, where it stands, and what is given to it. */
+    private record Called(String shown, Value object, Choice choice, Tree at, List<? extends ExpressionTree> arguments) { }
+
+    LibraryCalls(Services services, Body body) {
+        this.services = services;
+        this.body = body;
+        expressions = new Expressions(services, body);
+    }
+
+    Value call(MethodInvocationTree tree, ExecutableElement symbol) {
+        ExpressionTree before = tree.getMethodSelect() instanceof MemberSelectTree select ? select.getExpression() : null;
+        boolean isStatic = symbol.getModifiers().contains(Modifier.STATIC);
+        Value object = isStatic ? Value.OPAQUE : before == null ? own(symbol, tree) : expressions.value(before);
+        if (new Waits(services, body).isWait(tree, symbol, before)) {
+            tree.getArguments().forEach(expressions::value);
+            return Value.OPAQUE;
+        }
+        Choice choice = choose(before, symbol, isStatic);
+        List<Value> values = values(tree.getArguments(), choice);
+        Called called = new Called(shown(symbol, before, isStatic), object, choice, tree, tree.getArguments());
+        lookAtArguments(called, values);
+        if (choice.kind() == Choice.Kind.RUN) {
+            pipeline(called, before);
+        } else {
+            steps(called);
+        }
+        return result(called, values, isStatic);
+    }
+
+    /** This object, where a method of a library's class above is called without a receiver. */
+    private Value own(ExecutableElement symbol, Tree tree) {
+        Value object = body.inheriting(symbol.getEnclosingElement(), services.attribution().start(tree));
+        return object == null ? Value.OPAQUE : object;
+    }
+
+    /** Functions that are called at once are written with the call, not where they stand. */
+    private List<Value> values(List<? extends ExpressionTree> arguments, Choice choice) {
+        List<Value> values = new ArrayList<>();
+        for (ExpressionTree argument : arguments) {
+            ExpressionTree bare = Uses.bare(argument);
+            boolean function = bare instanceof LambdaExpressionTree || bare instanceof MemberReferenceTree;
+            boolean later = function && services.ownership().escape().isCalledAtOnce(bare);
+            values.add(later ? Value.OPAQUE : expressions.value(argument));
+        }
+        return values;
+    }
+
+    private Choice choose(ExpressionTree before, ExecutableElement symbol, boolean isStatic) {
+        String name = symbol.getSimpleName().toString();
+        if (isStatic || before == null) {
+            JavaClass heir = body.heir(symbol.getEnclosingElement());
+            TypeMirror home = isStatic || heir == null ? symbol.getEnclosingElement().asType() : heir.symbol().asType();
+            return services.program().library().choose(home, name);
+        }
+        Element source = services.attribution().element(Uses.bare(before));
+        String made = source instanceof VariableElement variable
+            && (variable.getKind() == ElementKind.FIELD || variable.getKind() == ElementKind.LOCAL_VARIABLE)
+            ? services.ownership().made(variable) : null;
+        if (made != null && !made.equals("[]")) {
+            Choice choice = services.program().library().choose(made, name);
+            if (choice.kind() != Choice.Kind.UNKNOWN) {
+                return choice;
+            }
+        }
+        return services.program().library().choose(services.attribution().type(before), name);
+    }
+
+    private String shown(ExecutableElement symbol, ExpressionTree before, boolean isStatic) {
+        TypeMirror type = before == null || isStatic ? null : services.attribution().types()
+            .erasure(services.attribution().type(before));
+        Element home = type instanceof javax.lang.model.type.DeclaredType declared ? declared.asElement()
+            : symbol.getEnclosingElement();
+        return home.getSimpleName() + "." + symbol.getSimpleName();
+    }
+
+    /** What a call looks at, or fills, among its arguments. */
+    private void lookAtArguments(Called called, List<Value> values) {
+        if (called.choice().kind() == Choice.Kind.UNKNOWN || called.choice().kind() == Choice.Kind.VIEW) {
+            return;
+        }
+        for (int k = 0; k < values.size(); k++) {
+            lookAt(called.arguments().get(k), values.get(k), called.choice().fills() && k == filled(called), called);
+        }
+    }
+
+    /** Of a copy the third argument is filled, of other calls the first. */
+    private static int filled(Called called) {
+        return called.shown().equals("System.arraycopy") || called.shown().endsWith(".getChars") ? 2 : 0;
+    }
+
+    private void lookAt(ExpressionTree argument, Value value, boolean fills, Called called) {
+        TypeMirror type = services.attribution().type(argument);
+        boolean puts = called.choice().kind() == Choice.Kind.WRITES || called.choice().kind() == Choice.Kind.STEP;
+        boolean looks = !puts || called.shown().endsWith("All") || value instanceof Value.Owned;
+        if (type != null && type.getKind() != TypeKind.NULL && looks
+                && services.program().library().hasContents(type)) {
+            new Contents(services, body).call(value, fills, called.at(), called.shown());
+        }
+    }
+
+    private void steps(Called called) {
+        Choice choice = called.choice();
+        if (choice.kind() != Choice.Kind.UNKNOWN && called.shown().contains(".")) {
+            new Comparisons(services, body).write(called.shown(), called.arguments(), called.at());
+        }
+        switch (choice.kind()) {
+            case PURE, VIEW, PIPE -> { }
+            case ASSUMED -> {
+                if (!new ThreadLocals(services, body).first(called.at())) {
+                    assume(called);
+                }
+            }
+            case STEP -> body.emit(services.step(called.shown(), false, called.at()));
+            case COMPOUND -> {
+                services.tell(Notes.Kind.APPROXIMATED, body, called.at(), "compound library call: "
+                    + called.shown() + " counts as several steps");
+                body.emit(services.step(called.shown(), true, called.at()));
+            }
+            case READS, WRITES, RUN -> new Contents(services, body).call(called.object(),
+                choice.kind() == Choice.Kind.WRITES, called.at(), called.shown());
+            default -> unknown(called);
+        }
+        if (choice.runsFunctions()) {
+            services.functions().callAll(called.arguments(), body, called.at());
+        }
+    }
+
+    private void unknown(Called called) {
+        services.tell(Notes.Kind.APPROXIMATED, body, called.at(),
+            "unknown call: " + called.shown() + " may do anything, so it counts as several steps");
+        body.emit(services.step(called.shown(), true, called.at()));
+    }
+
+    private void assume(Called called) {
+        if (services.program().options().strict()) {
+            unknown(called);
+        } else {
+            services.tell(Notes.Kind.ASSUMED, body, called.at(), called.shown() + " looks at nothing that others write");
+        }
+    }
+
+    /** A pipeline that is run: it walks over what it began with, and calls its functions any number of times. */
+    private void pipeline(Called called, ExpressionTree before) {
+        Part part = body.collect(() -> {
+            new Contents(services, body).call(called.object(), false, called.at(), called.shown());
+            functions(before);
+            services.functions().callAll(called.arguments(), body, called.at());
+        });
+        body.emit(new Part.Repeat(part, services.attribution().name(called.at())));
+    }
+
+    private void functions(ExpressionTree tree) {
+        if (tree instanceof MethodInvocationTree stage && stage.getMethodSelect() instanceof MemberSelectTree select
+                && services.attribution().element(stage) instanceof ExecutableElement symbol
+                && services.ownership().escape().choose(select, symbol).kind() == Choice.Kind.PIPE) {
+            functions(select.getExpression());
+            services.functions().callAll(stage.getArguments(), body, stage);
+        }
+    }
+
+    private Value result(Called called, List<Value> values, boolean isStatic) {
+        Choice choice = called.choice();
+        if (choice.makes() != null) {
+            return new Value.Fresh(null);
+        } else if (choice.kind() == Choice.Kind.VIEW || choice.kind() == Choice.Kind.PIPE) {
+            return isStatic ? values.isEmpty() ? new Value.Fresh(null) : values.get(0) : called.object();
+        } else if (called.shown().startsWith("StringBuilder.") && services.attribution().type(called.at()).toString()
+                .equals("java.lang.StringBuilder")) {
+            return called.object();
+        } else if (called.shown().endsWith(".readLock") || called.shown().endsWith(".writeLock")) {
+            return called.object();
+        }
+        return isMadeNew(called) ? new Value.Fresh(null) : Value.OPAQUE;
+    }
+
+    private boolean isMadeNew(Called called) {
+        return called.at() instanceof MethodInvocationTree call && services.ownership().fresh(call) != null;
+    }
+
+    /** The making of a library's object. */
+    Value construct(NewClassTree tree) {
+        List<Value> values = tree.getArguments().stream().map(expressions::value).toList();
+        TypeMirror type = services.attribution().type(tree);
+        if (tree.getClassBody() != null && services.attribution().element(tree.getClassBody()) instanceof TypeElement own) {
+            JavaClass known = services.program().find(own);
+            return known == null ? Value.OPAQUE : new Value.Opaque(known.shape());
+        } else if (services.program().find(type) != null) {
+            return new Value.Fresh(services.program().find(type).shape());
+        }
+        Choice choice = services.program().library().choose(type, "new");
+        Called called = new Called("new " + simple(type), Value.OPAQUE, choice, tree, tree.getArguments());
+        if (choice.kind() == Choice.Kind.PURE) {
+            lookAtArguments(called, values);
+        } else {
+            steps(called);
+        }
+        return choice.keeps() || choice.kind() == Choice.Kind.UNKNOWN ? Value.OPAQUE : new Value.Fresh(null);
+    }
+
+    private String simple(TypeMirror type) {
+        return type instanceof javax.lang.model.type.DeclaredType declared ? declared.asElement().getSimpleName().toString()
+            : String.valueOf(type);
+    }
+
+    /** A method's name that stands for a library's method. */
+    void reference(MemberReferenceTree tree, ExecutableElement symbol, boolean isType) {
+        if (symbol.getKind() == ElementKind.CONSTRUCTOR) {
+            Choice choice = services.program().library().choose(symbol.getEnclosingElement().asType(), "new");
+            steps(new Called("new " + symbol.getEnclosingElement().getSimpleName(), Value.OPAQUE, choice, tree, List.of()));
+            return;
+        }
+        boolean isStatic = symbol.getModifiers().contains(Modifier.STATIC);
+        Value object = isType ? Value.OPAQUE : expressions.value(tree.getQualifierExpression());
+        Choice choice = choose(tree.getQualifierExpression(), symbol, isStatic);
+        steps(new Called(shown(symbol, isStatic ? null : tree.getQualifierExpression(), isStatic), object, choice, tree,
+            List.of()));
+    }
+
+    /** A part of a text: its {@code toString} is called. */
+    void joined(ExpressionTree part, Tree at) {
+        TypeMirror type = services.attribution().type(part);
+        if (type == null || type.getKind().isPrimitive() || type.getKind() == TypeKind.NULL
+                || type.getKind() == TypeKind.ARRAY) {
+            return;
+        }
+        JavaClass known = services.program().find(type);
+        if (known != null) {
+            joinedOwn(known, part, at);
+            return;
+        }
+        Choice choice = services.program().library().choose(type, "toString");
+        Called called = new Called(simple(type) + ".toString", Value.OPAQUE, choice, part, List.of());
+        if (choice.kind() == Choice.Kind.READS) {
+            assume(called);
+        } else {
+            steps(called);
+        }
+    }
+
+    private void joinedOwn(JavaClass known, ExpressionTree part, Tree at) {
+        for (JavaClass each = known; each != null; each = services.families().above(each)) {
+            for (JavaMethod method : each.methods()) {
+                if (method.symbol().getSimpleName().contentEquals("toString")
+                        && method.symbol().getParameters().isEmpty() && !method.isAbstract()) {
+                    body.emit(new Part.Call(new Value.Opaque(each.shape()), services.methods().of(method),
+                        List.of(new Value.Named(body.statics())), services.attribution().place(part)));
+                    return;
+                }
+            }
+        }
+    }
+
+}

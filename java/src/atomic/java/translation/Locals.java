@@ -1,0 +1,61 @@
+package atomic.java.translation;
+
+import atomic.java.program.JavaClass;
+import atomic.java.skeleton.Shape;
+import atomic.java.skeleton.Value;
+import com.sun.source.tree.VariableTree;
+import javax.lang.model.element.VariableElement;
+
+/** What the locals of a method stand for. */
+final class Locals {
+    private final Services services;
+    private final Body body;
+
+    Locals(Services services, Body body) {
+        this.services = services;
+        this.body = body;
+    }
+
+    /** Declares a local whose first value is known; null where it has none yet. */
+    void declare(VariableTree tree, Value first) {
+        if (services.attribution().element(tree) instanceof VariableElement variable) {
+            body.locals().put(variable, value(variable, first == null ? Value.OPAQUE : first));
+        }
+    }
+
+    private Value value(VariableElement variable, Value first) {
+        String name = variable.getSimpleName().toString();
+        Shape shape = services.families().shape(variable.asType());
+        JavaClass type = services.program().find(variable.asType());
+        if (shape == null || services.nodes().container(type) != null) {
+            return Value.OPAQUE;
+        } else if (services.ownership().escapes(variable) > 0) {
+            return new Value.Fresh(shape);
+        } else if (!services.uses().isSettled(variable)) {
+            return shape == services.program().object() ? Value.OPAQUE : body.declareLoose(name, shape);
+        } else if (first instanceof Value.Owned || first instanceof Value.Given) {
+            return first;
+        } else if (first.path() != null && first.path().type().fits(shape)) {
+            return first;
+        }
+        return body.declare(name, shape);
+    }
+
+    /** The value of a local or parameter where it is read. */
+    Value read(VariableElement variable, long offset) {
+        JavaClass node = services.program().find(variable.asType());
+        JavaClass container = services.nodes().container(node);
+        if (container != null) {
+            Value holder = body.object(container, offset);
+            return holder == null ? Value.OPAQUE : new Value.Node(holder);
+        }
+        Value known = body.locals().get(variable);
+        if (known == null) {
+            return body.captured(variable);
+        } else if (known instanceof Value.Fresh fresh && services.ownership().escapes(variable) > 0
+                && !body.isFreshAt(variable, offset)) {
+            return new Value.Opaque(fresh.type());
+        }
+        return known;
+    }
+}

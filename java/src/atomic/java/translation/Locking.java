@@ -1,0 +1,104 @@
+package atomic.java.translation;
+
+import atomic.java.ownership.Uses;
+import atomic.java.program.JavaClass;
+import atomic.java.skeleton.Part;
+import atomic.java.skeleton.Path;
+import atomic.java.skeleton.Value;
+import com.sun.source.tree.ExpressionStatementTree;
+import com.sun.source.tree.ExpressionTree;
+import com.sun.source.tree.MemberSelectTree;
+import com.sun.source.tree.MethodInvocationTree;
+import com.sun.source.tree.StatementTree;
+import javax.lang.model.element.Element;
+import javax.lang.model.element.TypeElement;
+import javax.lang.model.element.VariableElement;
+import javax.lang.model.type.TypeMirror;
+
+/** Which lock an expression means. */
+final class Locking {
+
+    /** A lock: its name, or null where it has none, and how it is taken. */
+    record Lock(Path path, Part.Mode mode) { }
+
+    private final Services services;
+    private final Body body;
+
+    Locking(Services services, Body body) {
+        this.services = services;
+        this.body = body;
+    }
+
+    /** The lock that an expression means; the expression's steps are emitted. */
+    Lock lock(ExpressionTree written) {
+        ExpressionTree tree = Uses.bare(written);
+        if (tree instanceof MemberSelectTree select && select.getIdentifier().contentEquals("class")) {
+            JavaClass known = services.program().find(services.attribution().type(select.getExpression()));
+            return new Lock(known == null ? null : services.fields().classLock(known, body.statics()),
+                Part.Mode.EXCLUSIVE);
+        }
+        Part.Mode mode = isShared(tree) ? Part.Mode.SHARED : Part.Mode.EXCLUSIVE;
+        Value value = new Expressions(services, body).value(tree);
+        return new Lock(value.path(), mode);
+    }
+
+    /** The object that an expression gives, without its steps. */
+    Value object(ExpressionTree tree) {
+        Value[] found = new Value[1];
+        body.collect(() -> found[0] = new Expressions(services, body).value(tree));
+        return found[0];
+    }
+
+    private boolean isShared(ExpressionTree tree) {
+        if (tree instanceof MethodInvocationTree call) {
+            return call.getMethodSelect() instanceof MemberSelectTree select
+                && select.getIdentifier().contentEquals("readLock");
+        }
+        Element symbol = services.attribution().element(tree);
+        if (!(symbol instanceof VariableElement variable)) {
+            return false;
+        } else if (symbol.getKind().isField()) {
+            return LockViews.isShared(variable, services.fields());
+        }
+        var assignments = services.uses().assignments(variable);
+        return isA(tree, "java.util.concurrent.locks.Lock") && assignments.stream().anyMatch(each ->
+            each.value() != null && isShared(Uses.bare(each.value())));
+    }
+
+    /** The lock that a statement takes, gives back or tries to take, where it does; null elsewhere. */
+    ExpressionTree operand(StatementTree statement, String... names) {
+        return statement instanceof ExpressionStatementTree expression ? operand(expression.getExpression(), names) : null;
+    }
+
+    /** The same of an expression. */
+    ExpressionTree operand(ExpressionTree written, String... names) {
+        if (Uses.bare(written) instanceof MethodInvocationTree call
+                && call.getMethodSelect() instanceof MemberSelectTree select
+                && java.util.List.of(names).contains(select.getIdentifier().toString())
+                && isA(select.getExpression(), "java.util.concurrent.locks.Lock")) {
+            return select.getExpression();
+        }
+        return null;
+    }
+
+    /** Whether an expression's type is a library's type, or below it. */
+    boolean isA(ExpressionTree tree, String name) {
+        TypeMirror type = services.attribution().type(tree);
+        TypeElement wanted = services.attribution().elements().getTypeElement(name);
+        var types = services.attribution().types();
+        return type != null && wanted != null && !type.getKind().isPrimitive()
+            && types.isSubtype(types.erasure(type), types.erasure(wanted.asType()));
+    }
+
+    /** Whether two expressions mean the same lock: they are written alike, or their locks have one name. */
+    boolean areSame(ExpressionTree one, ExpressionTree other) {
+        if (one.toString().equals(other.toString())) {
+            return true;
+        }
+        Lock[] locks = new Lock[2];
+        body.collect(() -> locks[0] = lock(one));
+        body.collect(() -> locks[1] = lock(other));
+        return locks[0].path() != null && locks[0].equals(locks[1]);
+    }
+
+}

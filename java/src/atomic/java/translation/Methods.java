@@ -1,0 +1,297 @@
+package atomic.java.translation;
+
+import atomic.java.ownership.Escape;
+import atomic.java.program.Families;
+import atomic.java.program.JavaClass;
+import atomic.java.program.JavaMethod;
+import atomic.java.program.Program;
+import atomic.java.skeleton.Method;
+import atomic.java.skeleton.Part;
+import atomic.java.skeleton.Path;
+import atomic.java.skeleton.Place;
+import atomic.java.skeleton.Shape;
+import atomic.java.skeleton.Value;
+import com.sun.source.tree.BlockTree;
+import java.util.ArrayDeque;
+import java.util.ArrayList;
+import java.util.Deque;
+import java.util.HashMap;
+import java.util.LinkedHashMap;
+import java.util.LinkedHashSet;
+import java.util.List;
+import java.util.Map;
+import java.util.Set;
+import javax.lang.model.element.Modifier;
+import javax.lang.model.element.VariableElement;
+
+/**
+ * The methods of the skeleton. Each Java method has one; more of the same code are made where a constructor or another
+ * holder of a new object calls it, and where a class has it by {@code super} or from an interface.
+ */
+public final class Methods {
+
+    /** Whose object runs a method's code, and whether nobody else knows that object yet. */
+    private record Key(JavaMethod method, JavaClass self, boolean fresh) { }
+
+    private final Services services;
+    private final Families families;
+    private final Map<Key, Method> known = new LinkedHashMap<>();
+    private final Map<Method, JavaMethod> judged = new LinkedHashMap<>();
+    private final Map<Method, Object> origins = new LinkedHashMap<>();
+    private final Map<JavaClass, Method> initialisers = new HashMap<>();
+    private final Set<Method> alone = new LinkedHashSet<>();
+    private final Deque<Runnable> waiting = new ArrayDeque<>();
+    private final Deque<Runnable> last = new ArrayDeque<>();
+
+    public Methods(Program program) {
+        services = new Services(program, this);
+        families = services.families();
+    }
+
+    /** Writes the whole skeleton. */
+    public void translate() {
+        for (JavaClass each : services.program().classes()) {
+            for (JavaMethod method : List.copyOf(each.methods())) {
+                of(method);
+            }
+        }
+        while (!waiting.isEmpty() || !last.isEmpty()) {
+            (waiting.isEmpty() ? last : waiting).remove().run();
+        }
+    }
+
+    /** The Java method of each method that is judged for its own sake. */
+    public Map<Method, JavaMethod> judged() {
+        return judged;
+    }
+
+    /** The methods that are judged: the Java methods, and the functions that run by themselves. */
+    public Set<Method> roots() {
+        Set<Method> all = new LinkedHashSet<>(judged.keySet());
+        all.addAll(alone);
+        return all;
+    }
+
+    /** Whether a Java method says that it is atomic. */
+    public boolean promises(JavaMethod method) {
+        return method != null && new Promises(services.program()).isAtomic(method, families);
+    }
+
+    /** Whether some field says which lock guards it. */
+    public boolean namesGuards() {
+        return services.program().classes().stream().flatMap(each -> each.symbol().getEnclosedElements().stream())
+            .anyMatch(member -> member instanceof VariableElement field && services.fields().guards().isNamed(field));
+    }
+
+    /** The Java method that things noted of a method are noted of. */
+    public Object origin(Method method) {
+        return origins.get(method);
+    }
+
+    /** The call that a wait becomes which others can see. */
+    public Part.Call wait(Place place) {
+        return several("Object.wait", place);
+    }
+
+    /** A call of what is several steps, and is called {@code shown}. */
+    public Part.Call several(String shown, Place place) {
+        return services.several(shown, place);
+    }
+
+    /** A function that is judged by itself. */
+    void judgeAlone(Method method, Object java) {
+        alone.add(method);
+        origins.put(method, java);
+    }
+
+    void later(Runnable work) {
+        waiting.add(work);
+    }
+
+    /** The method that stands for a Java method as its own class has it. */
+    Method of(JavaMethod method) {
+        return of(method, method.owner(), method.isConstructor() || method.readsNewObject());
+    }
+
+    /** The method for objects of class {@code self}, which may be new ones that nobody else knows. */
+    Method of(JavaMethod method, JavaClass self, boolean fresh) {
+        Key key = new Key(method, method.isStatic() ? method.owner() : self, fresh);
+        Method made = known.get(key);
+        if (made == null) {
+            made = make(key);
+            known.put(key, made);
+            Method target = made;
+            boolean dispatches = method.isAbstract() || method.owner().isInterface();
+            (dispatches ? last : waiting).add(() -> write(key, target));
+        }
+        return made;
+    }
+
+    /** The method that stands for the static initialisers of a class. */
+    Method initialiser(JavaClass each) {
+        Method made = initialisers.get(each);
+        if (made == null) {
+            String shown = services.program().names().shown(each.shape().name());
+            made = new Method(services.program().statics(), services.program().names().invent("init_" + shown,
+                "=the static initialiser of " + shown), each.shape().place());
+            services.program().statics().methods().add(made);
+            made.closed(true);
+            initialisers.put(each, made);
+            origins.put(made, each);
+            Method target = made;
+            later(() -> new Initialisers(services).write(each, target));
+        }
+        return made;
+    }
+
+    private Method make(Key key) {
+        JavaMethod method = key.method();
+        JavaClass container = services.nodes().container(key.self());
+        Shape home = method.isStatic() ? services.program().statics() : (container == null ? key.self() : container).shape();
+        boolean own = !key.fresh() && key.self() == method.owner();
+        Place place = method.place();
+        Method made = new Method(home, name(key, own, container), place);
+        made.parameters().addAll(parameters(method, home));
+        home.methods().add(made);
+        origins.put(made, method);
+        boolean bySuper = key.self() != method.owner() && !method.owner().isInterface();
+        made.closed(!method.isOpen() || key.fresh() || container != null || bySuper);
+        if (own || method.isConstructor() || method.readsNewObject()) {
+            judged.put(made, method);
+        }
+        if (own && !method.isStatic() && container == null) {
+            families.overridden(method).forEach(above -> made.overridden().add(of(above)));
+        }
+        return made;
+    }
+
+    private String name(Key key, boolean own, JavaClass container) {
+        JavaMethod method = key.method();
+        String java = method.symbol().getSimpleName().toString();
+        String shape = services.program().names().shown(method.owner().shape().name());
+        if (method.isConstructor()) {
+            return services.program().names().invent("new_" + shape, "=new " + shape);
+        } else if (method.isStatic() || container != null) {
+            return services.program().names().invent(shape + "_" + java, "=" + shape + "." + java);
+        }
+        boolean inherited = !key.fresh() && method.owner().isInterface() && key.self() != method.owner();
+        return own ? families.name(method) : services.program().names().invent(
+            java + (key.fresh() ? "_of_new" : inherited ? "_inherited" : "_of_super"), "=" + shape + "." + java);
+    }
+
+    private List<Path.Root> parameters(JavaMethod method, Shape home) {
+        List<Path.Root> roots = new ArrayList<>();
+        if (home != services.program().statics()) {
+            roots.add(new Path.Root(Path.Kind.PARAMETER, "S", services.program().statics()));
+        }
+        families.parameters(method).forEach((variable, shape) -> {
+            String wish = variable.getSimpleName().toString();
+            String name = services.program().names().plain(wish);
+            boolean twice = roots.stream().anyMatch(each -> each.name().equals(name));
+            roots.add(new Path.Root(Path.Kind.PARAMETER, twice ? services.program().names().invent(wish, wish) : name,
+                shape));
+        });
+        return roots;
+    }
+
+    private void write(Key key, Method target) {
+        JavaMethod method = key.method();
+        long freshUntil = !key.fresh() ? 0 : services.ownership().escape().selves().from(method);
+        Value me = method.isStatic() ? null : me(key.self(), target.owner());
+        Body body = new Body(services, target, new Body.Owner(key.self(), me, method), freshUntil);
+        require(method, body);
+        write(key, target, body);
+        Promises promises = new Promises(services.program());
+        if (promises.isAtomic(method, families)) {
+            promise(target, promises.isAtomic(families.root(method), families));
+        }
+    }
+
+    private void write(Key key, Method target, Body body) {
+        JavaMethod method = key.method();
+        if (method.tree().getBody() == null) {
+            target.body(new Dispatch(services).body(method, key.self(), body));
+            return;
+        } else if (key.self() == method.owner() && families.isAlwaysReplaced(method)) {
+            return;
+        }
+        Statements statements = new Statements(services, body);
+        target.body(body.collect(() -> {
+            bindParameters(method, body);
+            if (method.isConstructor() && !Initialisers.callsAnother(method.tree())) {
+                new Initialisers(services).run(method.owner(), body);
+            }
+            synchronizedBody(method, body, statements);
+        }));
+        if (method.owner().isInterface() && key.self() == method.owner() && !method.isStatic()) {
+            target.body(new Dispatch(services).join(target.body(), method, key.self(), body));
+        }
+    }
+
+    /** A promise that the overridden method doesn't give stands with a second method of the same body. */
+    private void promise(Method target, boolean byAll) {
+        if (byAll || target.overridden().isEmpty()) {
+            target.promiseAtomic();
+            return;
+        }
+        String java = services.program().names().shown(target.name());
+        Method alone = new Method(target.owner(), services.program().names().invent(java, java), target.place());
+        alone.parameters().addAll(target.parameters());
+        alone.required().addAll(target.required());
+        alone.loose().addAll(target.loose());
+        alone.body(target.body());
+        alone.promiseAtomic();
+        target.owner().methods().add(alone);
+        judgeAlone(alone, origins.get(target));
+    }
+
+    private void synchronizedBody(JavaMethod method, Body body, Statements statements) {
+        BlockTree block = method.tree().getBody();
+        if (!method.symbol().getModifiers().contains(Modifier.SYNCHRONIZED)) {
+            statements.all(block.getStatements());
+            return;
+        }
+        Value me = body.me(services.attribution().start(block));
+        Path lock = method.isStatic() ? services.fields().classLock(method.owner(), body.statics()) : me.path();
+        Part inside = body.collect(() -> statements.all(block.getStatements()));
+        body.emit(me instanceof Value.Fresh ? inside
+            : new Part.Region(lock, Part.Mode.EXCLUSIVE, inside, method.place()));
+    }
+
+    private Value me(JavaClass self, Shape home) {
+        Value here = new Value.Named(Path.of(new Path.Root(Path.Kind.THIS, "this", home)));
+        return services.nodes().container(self) == null ? here : new Value.Node(here);
+    }
+
+    /** What each parameter stands for in the body: itself where it keeps its value. */
+    private void bindParameters(JavaMethod method, Body body) {
+        int at = body.target().owner() == services.program().statics() ? 0 : 1;
+        for (VariableElement variable : families.parameters(method).keySet()) {
+            Path.Root root = body.target().parameters().get(at++);
+            Shape own = families.shape(variable.asType());
+            JavaClass node = services.program().find(variable.asType());
+            if (services.nodes().container(node) != null) {
+                body.locals().put(variable, Value.OPAQUE);
+            } else if (own != null && services.uses().isSettled(variable)) {
+                body.locals().put(variable, root.type().fits(own) ? new Value.Named(Path.of(root))
+                    : body.declare(variable.getSimpleName().toString(), own));
+            } else if (own != null && own != services.program().object()) {
+                body.locals().put(variable, body.declareLoose(variable.getSimpleName().toString(), own));
+            }
+        }
+        method.symbol().getParameters().forEach(each -> body.locals().putIfAbsent(each,
+            services.ownership().made(each) != null ? new Value.Given(each.getSimpleName().toString()) : Value.OPAQUE));
+    }
+
+    /** The locks that the annotations of the method, or of the one that it overrides, say that its callers hold. */
+    private void require(JavaMethod method, Body body) {
+        JavaMethod root = families.root(method);
+        for (String word : services.fields().guards().required(root.symbol())) {
+            new Requirements(services).add(word, root, body);
+        }
+    }
+
+    Services services() {
+        return services;
+    }
+}

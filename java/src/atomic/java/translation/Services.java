@@ -1,0 +1,110 @@
+package atomic.java.translation;
+
+import atomic.java.attribution.Attribution;
+import atomic.java.ownership.Nodes;
+import atomic.java.ownership.Ownership;
+import atomic.java.ownership.Uses;
+import atomic.java.places.Notes;
+import atomic.java.program.Families;
+import atomic.java.program.Program;
+import atomic.java.skeleton.Field;
+import atomic.java.skeleton.Method;
+import atomic.java.skeleton.Part;
+import atomic.java.skeleton.Path;
+import atomic.java.skeleton.Place;
+import atomic.java.skeleton.Value;
+import com.sun.source.tree.Tree;
+import java.util.HashMap;
+import java.util.List;
+import java.util.Map;
+
+/** What all translators share: what is known of the program, and the methods that stand for a library's. */
+final class Services {
+    private final Program program;
+    private final Uses uses;
+    private final Ownership ownership;
+    private final Nodes nodes;
+    private final Families families;
+    private final Fields fields;
+    private final Methods methods;
+    private final Functions functions;
+    private final Map<String, Method> helpers = new HashMap<>();
+    private final Field state;
+
+    Services(Program program, Methods methods) {
+        this.program = program;
+        this.methods = methods;
+        uses = new Uses(program.attribution());
+        ownership = new Ownership(program, uses);
+        nodes = new Nodes(program, ownership);
+        families = new Families(program);
+        fields = new Fields(program, families, uses, ownership, nodes);
+        functions = new Functions(this);
+        state = new Field(program.helpers(), program.names().invent("state", "a step"), null, false);
+        state.leaveUnguarded();
+        program.helpers().fields().add(state);
+    }
+
+    Program program() {
+        return program;
+    }
+
+    Attribution attribution() {
+        return program.attribution();
+    }
+
+    Uses uses() {
+        return uses;
+    }
+
+    Ownership ownership() {
+        return ownership;
+    }
+
+    Nodes nodes() {
+        return nodes;
+    }
+
+    Families families() {
+        return families;
+    }
+
+    Fields fields() {
+        return fields;
+    }
+
+    Functions functions() {
+        return functions;
+    }
+
+    Methods methods() {
+        return methods;
+    }
+
+    /** A call of what is one step, or several, that Java calls {@code shown}. */
+    Part step(String shown, boolean compound, Tree at) {
+        return helper(shown, compound, program.attribution().name(at));
+    }
+
+    /** A call of what is several steps. */
+    Part.Call several(String shown, Place place) {
+        return helper(shown, true, place);
+    }
+
+    private Part.Call helper(String shown, boolean compound, Place place) {
+        Method helper = helpers.computeIfAbsent(shown + compound, key -> {
+            Method made = new Method(program.helpers(), program.names().invent(shown, "=" + shown), null);
+            Value self = new Value.Named(Path.of(new Path.Root(Path.Kind.THIS, "this", program.helpers())));
+            Part one = new Part.Access(self, state, true, null);
+            made.body(compound ? Part.sequence(List.of(one, one)) : one);
+            program.helpers().methods().add(made);
+            return made;
+        });
+        return new Part.Call(new Value.Opaque(program.helpers()), helper, List.of(), place);
+    }
+
+    /** Tells something of a method at a place. */
+    void tell(Notes.Kind kind, Body body, Tree at, String text) {
+        program.notes().tell(kind, body.origin(), program.attribution().name(at), text);
+    }
+}

@@ -1,0 +1,267 @@
+package atomic.java.translation;
+
+import atomic.java.ownership.Uses;
+import atomic.java.skeleton.Part;
+import atomic.java.skeleton.Value;
+import com.sun.source.tree.AssertTree;
+import com.sun.source.tree.BlockTree;
+import com.sun.source.tree.CatchTree;
+import com.sun.source.tree.DoWhileLoopTree;
+import com.sun.source.tree.EnhancedForLoopTree;
+import com.sun.source.tree.ExpressionStatementTree;
+import com.sun.source.tree.ExpressionTree;
+import com.sun.source.tree.ForLoopTree;
+import com.sun.source.tree.IfTree;
+import com.sun.source.tree.LabeledStatementTree;
+import com.sun.source.tree.ReturnTree;
+import com.sun.source.tree.StatementTree;
+import com.sun.source.tree.SwitchTree;
+import com.sun.source.tree.SynchronizedTree;
+import com.sun.source.tree.ThrowTree;
+import com.sun.source.tree.Tree;
+import com.sun.source.tree.TryTree;
+import com.sun.source.tree.VariableTree;
+import com.sun.source.tree.WhileLoopTree;
+import com.sun.source.tree.YieldTree;
+import com.sun.source.util.SimpleTreeVisitor;
+import java.util.List;
+
+/**
+ * Writes the steps of statements. A jump is left out: what it skips is then done too, and a path that does more is at least
+ * as great. Where a branch can't go on, what follows is written into the other one, so that the two aren't one path.
+ */
+final class Statements extends SimpleTreeVisitor<Void, Void> {
+
+    /** How deeply what follows a branch is written into it. */
+    private static final int DEEPEST = 16;
+
+    private final Services services;
+    private final Body body;
+    private final Expressions expressions;
+    private final Regions regions;
+
+    Statements(Services services, Body body) {
+        this.services = services;
+        this.body = body;
+        expressions = new Expressions(services, body);
+        regions = new Regions(services, body, this);
+    }
+
+    /** All statements of a block, in order. */
+    void all(List<? extends StatementTree> statements) {
+        for (int k = 0; k < statements.size(); k++) {
+            StatementTree statement = statements.get(k);
+            List<? extends StatementTree> rest = statements.subList(k + 1, statements.size());
+            int locked = regions.region(statement, rest);
+            if (locked > 0) {
+                k += locked;
+            } else if (statement instanceof IfTree branch && branches(branch, rest)) {
+                return;
+            } else {
+                one(statement);
+            }
+        }
+    }
+
+    /** One statement. */
+    void one(StatementTree statement) {
+        if (statement != null) {
+            visit(statement, null);
+        }
+    }
+
+    private Part part(StatementTree statement) {
+        return body.collect(() -> one(statement));
+    }
+
+    /** An {@code if} of which one branch can't go on: the rest belongs to the other one. */
+    private boolean branches(IfTree tree, List<? extends StatementTree> rest) {
+        ExpressionTree tried = regions.tried(tree);
+        boolean thenEnds = Jumps.ends(tree.getThenStatement());
+        boolean elseEnds = tree.getElseStatement() != null && Jumps.ends(tree.getElseStatement());
+        if (tried != null) {
+            return regions.attempt(tree, tried, rest);
+        }
+        if (!thenEnds && !elseEnds || rest.isEmpty() || body.depth() > DEEPEST) {
+            return false;
+        }
+        expressions.value(tree.getCondition());
+        Part left = body.collect(() -> {
+            one(tree.getThenStatement());
+            all(thenEnds ? List.of() : rest);
+        });
+        Part right = body.collect(() -> {
+            one(tree.getElseStatement());
+            all(elseEnds || !thenEnds ? List.of() : rest);
+        });
+        body.emit(new Part.Either(left, right));
+        return true;
+    }
+
+    @Override
+    public Void visitIf(IfTree tree, Void nothing) {
+        ExpressionTree tried = regions.tried(tree);
+        if (tried == null || !regions.attempt(tree, tried, List.of())) {
+            expressions.value(tree.getCondition());
+            Part left = part(tree.getThenStatement());
+            body.emit(new Part.Either(left, part(tree.getElseStatement())));
+        }
+        return null;
+    }
+
+    @Override
+    public Void visitBlock(BlockTree tree, Void nothing) {
+        all(tree.getStatements());
+        return null;
+    }
+
+    @Override
+    public Void visitExpressionStatement(ExpressionStatementTree tree, Void nothing) {
+        expressions.value(tree.getExpression());
+        return null;
+    }
+
+    @Override
+    public Void visitVariable(VariableTree tree, Void nothing) {
+        Value first = tree.getInitializer() == null ? null : expressions.value(tree.getInitializer());
+        new Locals(services, body).declare(tree, first);
+        return null;
+    }
+
+    @Override
+    public Void visitReturn(ReturnTree tree, Void nothing) {
+        expressions.value(tree.getExpression());
+        return null;
+    }
+
+    @Override
+    public Void visitThrow(ThrowTree tree, Void nothing) {
+        expressions.value(tree.getExpression());
+        return null;
+    }
+
+    @Override
+    public Void visitYield(YieldTree tree, Void nothing) {
+        expressions.value(tree.getValue());
+        return null;
+    }
+
+    @Override
+    public Void visitAssert(AssertTree tree, Void nothing) {
+        Part checked = body.collect(() -> {
+            expressions.value(tree.getCondition());
+            expressions.value(tree.getDetail());
+        });
+        body.emit(new Part.Either(checked, Part.NOTHING));
+        return null;
+    }
+
+    @Override
+    public Void visitLabeledStatement(LabeledStatementTree tree, Void nothing) {
+        one(tree.getStatement());
+        return null;
+    }
+
+    @Override
+    public Void visitWhileLoop(WhileLoopTree tree, Void nothing) {
+        repeat(tree, body.collect(() -> {
+            expressions.value(tree.getCondition());
+            one(tree.getStatement());
+        }));
+        return null;
+    }
+
+    @Override
+    public Void visitDoWhileLoop(DoWhileLoopTree tree, Void nothing) {
+        repeat(tree, body.collect(() -> {
+            one(tree.getStatement());
+            expressions.value(tree.getCondition());
+        }));
+        return null;
+    }
+
+    @Override
+    public Void visitForLoop(ForLoopTree tree, Void nothing) {
+        all(tree.getInitializer());
+        repeat(tree, body.collect(() -> {
+            expressions.value(tree.getCondition());
+            one(tree.getStatement());
+            all(tree.getUpdate());
+        }));
+        return null;
+    }
+
+    @Override
+    public Void visitEnhancedForLoop(EnhancedForLoopTree tree, Void nothing) {
+        Value source = expressions.value(tree.getExpression());
+        repeat(tree, body.collect(() -> {
+            Iteration iteration = new Iteration(services, body);
+            iteration.next(tree, source);
+            new Locals(services, body).declare(tree.getVariable(), Value.OPAQUE);
+            one(tree.getStatement());
+        }));
+        return null;
+    }
+
+    /** A loop, unless its body is left at its end the first time. */
+    private void repeat(StatementTree tree, Part part) {
+        StatementTree inner = tree instanceof WhileLoopTree loop ? loop.getStatement() : null;
+        boolean once = inner != null && Jumps.leaves(inner);
+        body.emit(once ? new Part.Either(part, Part.NOTHING)
+            : new Part.Repeat(part, services.attribution().place(tree)));
+    }
+
+    @Override
+    public Void visitSwitch(SwitchTree tree, Void nothing) {
+        expressions.value(tree.getExpression());
+        new Switches(services, body).cases(tree.getCases());
+        return null;
+    }
+
+    @Override
+    public Void visitSynchronized(SynchronizedTree tree, Void nothing) {
+        ExpressionTree operand = Uses.bare(tree.getExpression());
+        Locking.Lock lock = new Locking(services, body).lock(operand);
+        Value object = operand.getKind() == Tree.Kind.IDENTIFIER ? new Locking(services, body).object(operand) : null;
+        Part inside = part(tree.getBlock());
+        body.emit(object instanceof Value.Fresh ? inside
+            : new Part.Region(lock.path(), Part.Mode.EXCLUSIVE, inside, services.attribution().place(tree)));
+        return null;
+    }
+
+    @Override
+    public Void visitTry(TryTree tree, Void nothing) {
+        tree.getResources().forEach(this::resource);
+        if (!regions.lockedWithin(tree)) {
+            all(tree.getBlock().getStatements());
+        }
+        tree.getResources().forEach(each -> new Iteration(services, body).close(each));
+        catches(tree);
+        one(tree.getFinallyBlock());
+        return null;
+    }
+
+    private void resource(Tree resource) {
+        if (resource instanceof StatementTree statement) {
+            one(statement);
+        } else if (resource instanceof ExpressionTree expression) {
+            expressions.value(expression);
+        }
+    }
+
+    /** The handlers of a {@code try}: one of them, or none. */
+    void catches(TryTree tree) {
+        List<Part> parts = tree.getCatches().stream().map(this::handler).toList();
+        Part all = Dispatch.either(parts);
+        if (!all.isNothing()) {
+            body.emit(new Part.Either(all, Part.NOTHING));
+        }
+    }
+
+    private Part handler(CatchTree each) {
+        return body.collect(() -> {
+            new Locals(services, body).declare(each.getParameter(), Value.OPAQUE);
+            one(each.getBlock());
+        });
+    }
+}
