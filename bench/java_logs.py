@@ -9,7 +9,7 @@ from collections.abc import Iterator
 from dataclasses import dataclass
 from pathlib import Path
 
-ACCESSES = ("read", "write")
+ACCESSES = ("read", "write", "change")
 UNJUDGED = ("enter", "leave", "failed", "stopped")
 
 
@@ -121,7 +121,7 @@ def behind_waits(block: Block) -> list[Event]:
     A wait gives its lock away and takes it again. What only looked, and then waited, is a turn of an empty loop.
     """
     waits = [at for at, event in enumerate(block.events) if event.action == "give" and event.place == "wait"]
-    if not waits or any(event.action in ("write", "start") for event in block.events[: waits[-1]]):
+    if not waits or any(event.action in ("write", "change", "start") for event in block.events[: waits[-1]]):
         return block.events
     return block.events[waits[-1] + 1 :]
 
