@@ -9,7 +9,8 @@ and of examples/README.md (a file, the lines, the status), the blocks of lines i
 docs/machine.md and docs/levels.md that begin with a command line. Where crates/atomic_cli has a test of the examples, it is held against
 examples/as_test.py. The book that `derive` writes of each accepted example has to be good, and changed books of it are
 refused with their lines. Each file that README.md and the documents name has to be there. Where there is an `atomic_why`,
-as the scripts of tools/ find it, check_tools.py then does the same for what they make. The exit status is 0 where all of
+as the scripts of tools/ find it, check_tools.py then does the same for what they make; where
+there is an `atomic-java`, check_java.py for docs/java.md. The exit status is 0 where all of
 them hold.
 """
 import os
@@ -18,6 +19,7 @@ import subprocess
 import sys
 import tempfile
 
+import check_java
 import check_tools
 from documents import TEXT, TOP, read, source_of, table_rows
 
@@ -178,7 +180,9 @@ def main():
     print(f"{checker.count} answers, {checker.wrong} wrong")
     tools = check_tools.checked(sys.argv[1])
     print("there is no atomic_why" if tools is None else f"{tools[0]} answers of scripts, {tools[1]} wrong")
-    sys.exit(1 if checker.wrong or tools and tools[1] else 0)
+    java = check_java.checked()
+    print("there is no atomic-java" if java is None else f"{java[0]} rows and commands of docs/java.md, {java[1]} wrong")
+    sys.exit(1 if checker.wrong or tools and tools[1] or java and java[1] else 0)
 
 
 main()
