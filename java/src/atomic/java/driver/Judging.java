@@ -145,7 +145,12 @@ final class Judging {
         }
         if (method.place() != null) {
             program.notes().tell(Notes.Kind.APPROXIMATED, methods.origin(method), method.place(), "limit: the checker says "
-                + kind + ", so the method counts as compound, and what it touches isn't judged");
+                + kind + (kind.equals("bad override") ? ", so no caller is taken to hold a lock for it"
+                : ", so the method counts as compound, and what it touches isn't judged"));
+        }
+        if (kind.equals("bad override")) {
+            align(method);
+            return;
         }
         Part.Call unknown = methods.several("what is past a limit of the checker", method.place());
         if (!program.helpers().methods().contains(unknown.target())) {
@@ -156,6 +161,25 @@ final class Judging {
         method.loose().clear();
         method.body(unknown);
         sizes.remove(method);
+    }
+
+    /** Methods that override each other and don't agree require nothing, and all promise what one of them promises. */
+    private void align(Method method) {
+        Set<Method> family = new LinkedHashSet<>(callees.of(method));
+        Set<Method> next = new LinkedHashSet<>(method.overridden());
+        while (!next.isEmpty()) {
+            Method above = next.iterator().next();
+            next.remove(above);
+            family.addAll(callees.of(above));
+            next.addAll(above.overridden());
+        }
+        boolean promised = family.stream().anyMatch(Method::atomic);
+        for (Method each : family) {
+            each.required().clear();
+            if (promised) {
+                each.promiseAtomic();
+            }
+        }
     }
 
     int status() {

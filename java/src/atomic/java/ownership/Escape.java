@@ -205,7 +205,8 @@ public final class Escape {
             at = program.around(at);
         }
         if (at != home) {
-            return at == null ? 0 : attribution.start(at);
+            Tree loop = uses.outermostLoop(use, declaration);
+            return at == null ? 0 : Math.min(attribution.start(at), loop == null ? NEVER : attribution.start(loop));
         }
         long found = from(use);
         if (found == NEVER || attribution.parent(use) instanceof ReturnTree) {

@@ -157,7 +157,8 @@ public final class Uses {
     public Tree outermostLoop(Tree tree, Tree declaration) {
         Tree scope = declaration == null ? null : attribution.parent(declaration);
         Tree loop = null;
-        for (Tree each = attribution.parent(tree); each != null && each != scope && !(each instanceof ClassTree);
+        for (Tree each = attribution.parent(tree); each != null && each != scope
+                && !(scope == null && each instanceof ClassTree);
                 each = attribution.parent(each)) {
             switch (each.getKind()) {
                 case WHILE_LOOP, DO_WHILE_LOOP, FOR_LOOP, ENHANCED_FOR_LOOP -> loop = each;

@@ -109,6 +109,8 @@ final class Functions {
                 part = body.collect(() -> inline(lambda, body));
             } else if (bare instanceof MemberReferenceTree reference) {
                 part = body.collect(() -> new Calls(services, body).reference(reference));
+            } else if (services.program().find(services.attribution().type(bare)) != null) {
+                part = body.collect(() -> new Comparisons(services, body).comparator(bare, at));
             } else if (isFunction(bare) && !isLookedAt(at)) {
                 part = services.step("a function that isn't known", true, bare);
                 services.tell(atomic.java.places.Notes.Kind.APPROXIMATED, body, bare,

@@ -133,6 +133,9 @@ final class LibraryCalls {
 
     private void steps(Called called) {
         Choice choice = called.choice();
+        if (choice.kind() != Choice.Kind.UNKNOWN && called.shown().contains(".")) {
+            new Comparisons(services, body).write(called.shown(), called.arguments(), called.at());
+        }
         switch (choice.kind()) {
             case PURE, VIEW, PIPE -> { }
             case ASSUMED -> {

@@ -199,7 +199,6 @@ public final class Methods {
         long freshUntil = !key.fresh() ? 0 : services.ownership().escape().selves().from(method);
         Value me = method.isStatic() ? null : me(key.self(), target.owner());
         Body body = new Body(services, target, new Body.Owner(key.self(), me, method), freshUntil);
-        bindParameters(method, body);
         require(method, body);
         write(key, target, body);
         Promises promises = new Promises(services.program());
@@ -218,6 +217,7 @@ public final class Methods {
         }
         Statements statements = new Statements(services, body);
         target.body(body.collect(() -> {
+            bindParameters(method, body);
             if (method.isConstructor() && !Initialisers.callsAnother(method.tree())) {
                 new Initialisers(services).run(method.owner(), body);
             }
@@ -287,7 +287,7 @@ public final class Methods {
     private void require(JavaMethod method, Body body) {
         JavaMethod root = families.root(method);
         for (String word : services.fields().guards().required(root.symbol())) {
-            new Requirements(services).add(word, root, method, body);
+            new Requirements(services).add(word, root, body);
         }
     }
 

@@ -4,7 +4,6 @@ import atomic.java.places.Notes;
 import atomic.java.program.JavaMethod;
 import atomic.java.skeleton.Path;
 import atomic.java.skeleton.Value;
-import java.util.List;
 import javax.lang.model.element.VariableElement;
 
 /** The locks that a method's callers hold, as its annotations name them. */
@@ -15,12 +14,12 @@ final class Requirements {
         this.services = services;
     }
 
-    /**
-     * Adds the lock that a word of an annotation names; where it names none, that is told. The annotation may be that of a
-     * method {@code root} that this one overrides, and whose parameters have other names.
-     */
-    void add(String word, JavaMethod root, JavaMethod method, Body body) {
-        Path path = path(word, root, method, body);
+    /** Adds the lock that a word of an annotation names; where it names none, that is told. */
+    void add(String word, JavaMethod method, Body body) {
+        Path path = path(word, method, body);
+        if (path == null && body.me(0) instanceof Value.Fresh) {
+            return;
+        }
         if (path == null || path.fields().size() > Path.MOST_FIELDS) {
             services.tell(Notes.Kind.APPROXIMATED, body, method.tree(), "the lock " + word
                 + " of the annotation isn't this, a class or a final field of this, so it counts as not held");
@@ -30,17 +29,16 @@ final class Requirements {
         }
     }
 
-    private Path path(String word, JavaMethod root, JavaMethod method, Body body) {
+    private Path path(String word, JavaMethod method, Body body) {
         if (word.startsWith("#")) {
-            return argument(word.matches("#[0-9]{1,3}") ? Integer.parseInt(word.substring(1)) - 1 : -1, method, body);
+            return argument(word.substring(1), method, body);
         }
-        List<? extends VariableElement> parameters = root.symbol().getParameters();
-        for (int at = 0; at < parameters.size(); at++) {
-            if (parameters.get(at).getSimpleName().contentEquals(word)) {
-                return argument(at, method, body);
+        for (VariableElement parameter : method.symbol().getParameters()) {
+            if (parameter.getSimpleName().contentEquals(word)) {
+                return parameter(parameter, method, body);
             }
         }
-        Guards.Lock lock = services.fields().guards().lock(word, root.owner());
+        Guards.Lock lock = services.fields().guards().lock(word, method.owner());
         if (lock == null) {
             return null;
         } else if (lock.isStatic()) {
@@ -50,11 +48,23 @@ final class Requirements {
         return me == null || me.path() == null ? null : me.path().then(lock.fields());
     }
 
-    private static Path argument(int at, JavaMethod method, Body body) {
+    /** The parameter that stands at the same place as one of the method furthest up, whatever it is called here. */
+    private Path parameter(VariableElement wanted, JavaMethod method, Body body) {
+        int at = body.target().owner() == services.program().statics() ? 0 : 1;
+        for (VariableElement each : services.families().parameters(method).keySet()) {
+            if (each.equals(wanted)) {
+                return Path.of(body.target().parameters().get(at));
+            }
+            at++;
+        }
+        return null;
+    }
+
+    private Path argument(String number, JavaMethod method, Body body) {
+        int at = number.matches("[0-9]{1,3}") ? Integer.parseInt(number) - 1 : -1;
         if (at < 0 || at >= method.symbol().getParameters().size()) {
             return null;
         }
-        VariableElement parameter = method.symbol().getParameters().get(at);
-        return body.locals().getOrDefault(parameter, Value.OPAQUE).path();
+        return parameter(method.symbol().getParameters().get(at), method, body);
     }
 }
