@@ -9,7 +9,7 @@ from collections.abc import Iterator
 from dataclasses import dataclass
 from pathlib import Path
 
-ACCESSES = ("read", "write")
+ACCESSES = ("read", "write", "change")
 UNJUDGED = ("enter", "leave", "failed", "stopped")
 
 
@@ -68,18 +68,18 @@ def with_held(events: list[Event]) -> Iterator[tuple[Event, dict[str, int]]]:
             mine[event.target] += 1 if event.action == "take" else -1
 
 
-def guards_of(events: list[Event]) -> dict[str, set[str]]:
-    """For each place the locks that are held at every access of it."""
+def guards_of(events: list[Event], told: set[int]) -> dict[str, set[str]]:
+    """For each place the locks that are held at every access of it; what stands in these lines, which are told as errors, is left out."""
     guards: dict[str, set[str]] = {}
     for event, held in with_held(events):
-        if event.action in ACCESSES:
+        if event.action in ACCESSES and event.line not in told:
             guards[event.target] = guards.get(event.target, set(held)) & set(held)
     return guards
 
 
-def kinds_of(events: list[Event]) -> dict[int, str]:
+def kinds_of(events: list[Event], told: set[int]) -> dict[int, str]:
     """The kind of each event by its line: right, left, both, or none of them."""
-    guards, shared, kinds = guards_of(events), shared_objects(events), {}
+    guards, shared, kinds = guards_of(events, told), shared_objects(events), {}
     for event, held in with_held(events):
         kind = "both"
         if event.action == "take" and not held.get(event.target):
@@ -88,7 +88,7 @@ def kinds_of(events: list[Event]) -> dict[int, str]:
             kind = "left"
         elif event.action == "join":
             kind = "right"
-        elif event.action in ACCESSES and event.object in shared and not guards[event.target]:
+        elif event.action in ACCESSES and event.object in shared and not guards.get(event.target):
             kind = "none"
         kinds[event.line] = kind
     return kinds
@@ -121,7 +121,7 @@ def behind_waits(block: Block) -> list[Event]:
     A wait gives its lock away and takes it again. What only looked, and then waited, is a turn of an empty loop.
     """
     waits = [at for at, event in enumerate(block.events) if event.action == "give" and event.place == "wait"]
-    if not waits or any(event.action in ("write", "start") for event in block.events[: waits[-1]]):
+    if not waits or any(event.action in ("write", "change", "start") for event in block.events[: waits[-1]]):
         return block.events
     return block.events[waits[-1] + 1 :]
 

@@ -1,12 +1,12 @@
 #!/usr/bin/env python3
 """Random sources of the language, printed as Java and judged by atomic-java: each verdict is the same or worse.
 
-What `atomic_why` refuses in the source, atomic-java has to refuse in the Java text. What it refuses besides is counted. What is refused
-in the source for a lock under a second name, that of a local, is left out, since atomic-java puts the first name in its place. Sources
-that aren't well-typed are drawn again. Many sources are judged in one run, each in a package of its own.
+What `atomic_why` refuses in the source, atomic-java has to refuse in the Java text. What it refuses besides is counted. Sources
+that aren't well-typed are drawn again; so are those in which something is refused for a lock under a second name, that of a local, since
+atomic-java puts the first name in its place, and those that require a field of a parameter, which @Holding can't say. Many sources are judged in one run, each in a package of its own.
 
 Printed as Java, an annotation stands where the language has a word; a constructor calls the one above; each method is public, since
-`run` has to be; what isn't final is assigned once more, so that it isn't effectively final either; and the condition of a loop isn't
+`run` has to be; a class Touching writes each field, since one that nobody writes makes no step in Java; what isn't final is assigned once more, so that it isn't effectively final either; and the condition of a loop isn't
 constant, which javac would take as unreachable code.
 """
 import argparse
@@ -23,10 +23,11 @@ from random_source import Class, Generator
 
 WHY = Path(os.environ.get("ATOMIC_WHY", TOP / "crates" / "atomic_why" / "out" / "atomic-why-unproved"))
 REFUSED = re.compile(r"(?:.*\.)?(\w+\.\w+) is declared")
-SECOND_NAME = re.compile(r"note: .*\bx\d+\b.* isn't held here")
+SECOND_NAME = re.compile(r"note: .*(?:\bx\d+\b.* isn't held here|is held here under another name)")
 HEAD = re.compile(r"((?:atomic )?)(\w+ )(\w+)\(([^()]*)\)((?: requires [\w., ]+)?) \{(?= |$)")
 FIELD = re.compile(r"(\w+ \w+) guarded_by ([\w.]+);")
 LOCAL = re.compile(r"(?<!final )\b(?!return|new|final)([A-Za-z]\w*) (x\d+) = ([^;]*);")
+FIELD_OF_PARAMETER = re.compile(r"requires [^{]*\b(?!this\b)\w+\.\w")
 INTERFACES = "@interface GuardedBy { String value(); } @interface Holding { String[] value(); }"
 
 
@@ -69,31 +70,33 @@ def as_java(generator: Generator, source: str) -> str:
     text = HEAD.sub(method_head, "".join(parts))
     text = FIELD.sub(r'@GuardedBy("\2") \1;', text)
     text = LOCAL.sub(r"\1 \2 = \3; \2 = \2;", text)
-    return re.sub(r"\bwhile \(", "while (new Object() != null && ", text) + f"\n{INTERFACES}\n"
+    text = re.sub(r"\bwhile \(", "while (new Object() != null && ", text)
+    return f"{text}\nclass Touching {{ {' '.join(map(touched, generator.classes))} }}\n{INTERFACES}\n"
+
+
+def touched(cls: Class) -> str:
+    """A method that writes the fields of a class."""
+    writes = " ".join(f"given.{field.name} = given.{field.name};" for field in cls.fields if not field.final)
+    return f"void touch({cls.name} given) {{ {writes} }}"
 
 
 def refused(lines: list[str]) -> frozenset[str]:
-    """The methods that are refused in these lines, but not for a lock that has a local's name."""
-    found = []
-    for line in lines:
-        head = REFUSED.search(line) if " error: " in line else None
-        if head:
-            found.append(head[1])
-        elif found and SECOND_NAME.search(line):
-            found.pop()
-    return frozenset(found)
+    """The methods that are refused in these lines."""
+    found = (REFUSED.search(line) for line in lines if " error: " in line)
+    return frozenset(one[1] for one in found if one)
 
 
 def draw(seed: int, folder: Path, why: Path) -> Drawn | None:
     """The random source of a seed, or none where it isn't well-typed."""
     generator = Generator(seed, calm=seed % 3 != 0, extends=seed % 2 == 0)
     source = generator.source()
-    if any(cls.finals() and f"{cls.name}(" not in source for cls in generator.classes):
+    without = any(cls.finals() and f"{cls.name}(" not in source for cls in generator.classes)
+    if without or FIELD_OF_PARAMETER.search(source):
         return None
     path = folder / "source.java"
     path.write_text(source, encoding="utf-8")
     done = subprocess.run([str(why), str(path)], capture_output=True, check=False)
-    if done.returncode not in (0, 2):
+    if done.returncode not in (0, 2) or SECOND_NAME.search(done.stdout.decode()):
         return None
     return Drawn(seed, source, as_java(generator, source), refused(done.stdout.decode().splitlines()))
 
@@ -117,7 +120,7 @@ def compare(batch: list[Drawn], folder: Path, program: Path) -> tuple[int, int]:
         return len(batch), 0
     better = worse = 0
     for one, file in zip(batch, files):
-        given = refused([f" error: {line.text}" for line in answer.errors_of(file)])
+        given = refused([f" error: {line.text}" for line in answer.errors_of(file)]) - {"Touching.touch"}
         if one.refused - given:
             better += 1
             print(f"seed {one.seed}: refused in the source alone: {', '.join(sorted(one.refused - given))}")

@@ -1,7 +1,8 @@
 #!/usr/bin/env python3
 """Runs logged copies of Java sources under random schedules, and holds the logs against the verdicts and the skeletons of atomic-java.
 
-Of each method that is found atomic, each call's steps have to be a reducible word (right movers and both, at most one other step, left
+A field that is touched without its guard is told as an error, and those touches don't count against the others. Of each method that is
+found atomic, each call's steps have to be a reducible word (right movers and both, at most one other step, left
 movers and both), and each logged step has to stand on a path of the method's skeleton. The sources are those of java/tests/larger and
 java/tests/users. With --logs FOLDER the logs stay there, in the format that `atomic_trace` reads.
 """
@@ -44,6 +45,7 @@ class Judged:
     path: Path
     name: str
     refused: frozenset[int]
+    unguarded: frozenset[int]
     skeleton: list[Method]
 
 
@@ -57,7 +59,9 @@ def judge(path: Path, folder: Path, program: Path) -> Judged | None:
         print(f"{path.name}: status {answer.status}: {(answer.rest + answer.lines)[:3]}")
         return None
     name = f"{package[1]}.{path.stem}" if package else path.stem
-    return Judged(path, name, frozenset(line.line for line in answer.errors_of(path)), skeleton_of(folder / "skeleton.txt"))
+    errors = answer.errors_of(path)
+    unguarded = frozenset(line.line for line in errors if line.text.endswith("found error"))
+    return Judged(path, name, frozenset(line.line for line in errors), unguarded, skeleton_of(folder / "skeleton.txt"))
 
 
 def compiled(folder: Path, archive: Path) -> bool:
@@ -75,7 +79,10 @@ def look(source: Judged, log: Path, counts: Counts) -> str:
     events = events_of(log)
     promised = {event.target for event in events if event.action == "begin"}
     atomic = {name for name in promised if int(name.rpartition("@")[2].split(":")[0]) not in source.refused}
-    kinds, shared = kinds_of(events), shared_objects(events)
+    unguarded = {event.target for event in events if event.action in ("begin", "enter")
+                 and int(event.target.rpartition("@")[2].split(":")[0]) in source.unguarded}
+    told = {event.line for block in blocks_of(events, unguarded) for event in block.events}
+    kinds, shared = kinds_of(events, told), shared_objects(events)
     counts.runs += 1
     for block in blocks_of(events, promised):
         if not block.ended:
@@ -109,7 +116,7 @@ def trace(source: Judged, folder: Path, archive: Path, runs: int, counts: Counts
             (logs / log.name).write_text(text, encoding="utf-8")
 
 
-def told(counts: Counts) -> int:
+def conclusion(counts: Counts) -> int:
     """Prints what was found; the exit status."""
     for text in counts.wrong[:20]:
         print(text)
@@ -139,7 +146,7 @@ def main() -> None:
         else:
             counts.wrong.append(f"{path.name}: not run")
         shutil.rmtree(folder)
-    sys.exit(told(counts))
+    sys.exit(conclusion(counts))
 
 
 if __name__ == "__main__":

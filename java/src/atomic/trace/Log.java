@@ -31,6 +31,13 @@ final class Log {
         add(thread, "write " + where + " " + versions.merge(where, 1, Integer::sum), place);
     }
 
+    /** A step that looks and writes at once. */
+    void change(String thread, String where, String place) {
+        int before = versions.getOrDefault(where, 0);
+        add(thread, "change " + where + " " + before + " " + (before + 1), place);
+        versions.put(where, before + 1);
+    }
+
     /** The name of an object: its class and a number. */
     String name(Object object) {
         if (object instanceof Class<?> known) {

@@ -105,6 +105,8 @@ public final class Trace {
             log.read(name, where, place);
         } else if (kind.equals("writes")) {
             log.write(name, where, place);
+        } else if (kind.equals("step")) {
+            log.change(name, where, place);
         } else {
             log.read(name, where, place);
             log.write(name, where, place);

@@ -101,15 +101,30 @@ final class LoggedCalls {
         };
     }
 
+    /** The arguments; what one of them is filled with is logged when all of them are known. */
     private String arguments(MethodInvocationTree call, Choice choice, String around) {
         StringBuilder words = new StringBuilder("(");
-        int left = call.getArguments().size();
-        for (ExpressionTree each : call.getArguments()) {
-            boolean fills = choice.fills() && isFilled(each);
-            String word = fills ? TRACE + "filled(" + copy.at(call) + ", " + copy.of(each) + ")" : copy.of(each);
-            words.append(--left == 0 && !around.isEmpty() ? around + word + ")" : word).append(left == 0 ? "" : ", ");
+        List<? extends ExpressionTree> arguments = call.getArguments();
+        int filled = choice.fills() ? filled(arguments) : -1;
+        for (int at = 0; at < arguments.size(); at++) {
+            boolean last = at == arguments.size() - 1;
+            String word = copy.of(arguments.get(at));
+            word = at != filled ? word : last ? TRACE + "filled(" + copy.at(call) + ", " + word + ")" : TRACE + "on(" + word + ")";
+            if (last && filled >= 0 && filled != at) {
+                word = TRACE + "callingWith(" + copy.at(call) + ", \"writes\", " + word + ")";
+            }
+            words.append(last && !around.isEmpty() ? around + word + ")" : word).append(last ? "" : ", ");
         }
         return words.append(")").toString();
+    }
+
+    /** Which argument is filled: of two arrays the second one, as in {@code arraycopy}. */
+    private int filled(List<? extends ExpressionTree> arguments) {
+        int found = -1;
+        for (int at = 0; at < arguments.size(); at++) {
+            found = isFilled(arguments.get(at)) ? at : found;
+        }
+        return found;
     }
 
     private boolean isFilled(ExpressionTree argument) {

@@ -146,8 +146,7 @@ final class LoggedCopy extends Copy {
     private String ofLoop(EnhancedForLoopTree loop) {
         ExpressionTree over = loop.getExpression();
         long start = attribution().start(loop);
-        return text(start, attribution().start(over)) + TRACE + "calling(\"" + attribution().place(over).line() + ":"
-            + attribution().place(over).column() + "\", \"reads\", " + of(over) + ")"
+        return text(start, attribution().start(over)) + TRACE + "calling(" + at(over) + ", \"reads\", " + of(over) + ")"
             + text(attribution().end(over), attribution().start(loop.getStatement())) + of(loop.getStatement());
     }
 
