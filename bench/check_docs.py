@@ -2,17 +2,13 @@
 """Runs what the documents show, and tells each line that the program doesn't write. PROGRAM is the built `atomic`,
 proved (crates/atomic_cli/out/atomic_cli) or not (crates/atomic_cli/out/atomic-unproved, by bench/quick.sh).
 
-Runs what the documents show, and tells each line that the program doesn't write. PROGRAM is the built `atomic`, proved
-(crates/atomic_cli/out/atomic_cli) or not (crates/atomic_cli/out/atomic-unproved, by bench/quick.sh).
-
-It reads the tables of docs/repairs.md and docs/tutorial.md (a line in the first cell, and the source for it in the last)
-and of examples/README.md (a file, the lines, the status), the blocks of lines in docs/tutorial.md, and the blocks in
-docs/machine.md and docs/levels.md that begin with a command line. Where crates/atomic_cli has a test of the examples, it is held against
-examples/as_test.py. The book that `derive` writes of each accepted example has to be good, and changed books of it are
-refused with their lines. Each file that README.md and the documents name has to be there. Where there is an `atomic_why`,
-as the scripts of tools/ find it, check_tools.py then does the same for what they make; where
-there is an `atomic-java`, check_java.py for docs/java.md. The exit status is 0 where all of
-them hold.
+It reads the tables of docs/repairs.md and docs/tutorial.md (a line in the first cell, and the source for it in the
+last) and of examples/README.md (a file, the lines, the status), the blocks of lines in docs/tutorial.md, and the
+blocks in docs/machine.md and docs/levels.md that begin with a command line. Where crates/atomic_cli has a test of the
+examples, it is held against examples/as_test.py. The book that `derive` writes of each accepted example has to be
+good, and changed books of it are refused with their lines. Each file that README.md and the documents name has to be
+there. Where there is an `atomic_why`, as the scripts of tools/ find it, check_tools.py then does the same for what
+they make; where there is an `atomic-java`, check_java.py does it for Java. The exit status is 0 where all of them hold.
 """
 from __future__ import annotations
 
@@ -209,7 +205,7 @@ def main() -> None:
     tools = check_tools.checked(program)
     print("there is no atomic_why" if tools is None else f"{tools[0]} answers of scripts, {tools[1]} wrong")
     java = check_java.checked()
-    print("there is no atomic-java" if java is None else f"{java[0]} rows and commands of docs/java.md, {java[1]} wrong")
+    print("there is no atomic-java" if java is None else f"{java[0]} rows and commands with Java, {java[1]} wrong")
     sys.exit(1 if checker.wrong or tools and tools[1] or java and java[1] else 0)
 
 

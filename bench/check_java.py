@@ -8,6 +8,7 @@ sources. All sources are judged in one run, each in a package of its own.
 """
 import argparse
 import re
+import shutil
 import subprocess
 import sys
 import tempfile
@@ -16,6 +17,8 @@ from pathlib import Path
 from documents import TEXT, blocks, read, source_of, table_rows
 from java_sources import PROGRAM, Answer, Line, run
 
+# The documents that show Java sources with the command and its answer.
+DOCUMENTS = [("README.md",), ("docs", "java.md"), ("docs", "tutorial.md")]
 TOLD = re.compile(r"(?!assumed: no code outside these files)(?:assumed|approximated|data race)\b")
 ROW = re.compile(r"nothing|(?:`\d+:\d+: (?:error|note): [^`]*`(?:, |$))+")
 
@@ -42,17 +45,25 @@ def judged(sources: list[str], folder: Path, program: Path) -> tuple[Answer, lis
 
 
 def commands(program: Path) -> tuple[int, int]:
-    """The blocks that begin with a command line, in a folder with the document's sources: how many, and how many are wrong."""
+    """The blocks of the documents that begin with a command line: how many, and how many are wrong."""
+    counts = [commands_of(program, *place) for place in DOCUMENTS]
+    return sum(count for count, _ in counts), sum(wrong for _, wrong in counts)
+
+
+def commands_of(program: Path, *place: str) -> tuple[int, int]:
+    """Those of one document, in a folder with the examples and with the sources that it shows."""
     count = wrong = 0
     with tempfile.TemporaryDirectory() as folder:
-        for text in blocks("java", "docs", "java.md"):
-            Path(folder, re.findall(r"^public class (\w+)", text, re.MULTILINE)[0] + ".java").write_text(text, encoding="utf-8")
-        for command, text in re.findall(r"^```\n\$ atomic-java (.*)\n((?:.*\n)*?)```$", read("docs", "java.md"), re.MULTILINE):
+        shutil.copytree(Path(__file__).resolve().parent.parent / "examples", folder, dirs_exist_ok=True)
+        for text in blocks("java", *place):
+            for name in re.findall(r"^public (?:final )?class (\w+)", text, re.MULTILINE)[:1]:
+                Path(folder, name + ".java").write_text(text, encoding="utf-8")
+        for command, text in re.findall(r"^```\n\$ atomic-java (.*)\n((?:.*\n)*?)```$", read(*place), re.MULTILINE):
             done = subprocess.run([str(program.resolve()), *command.split()], capture_output=True, check=False, cwd=folder)
             count += 1
             if done.stdout.decode() != text:
                 wrong += 1
-                print(f"docs/java.md: {command}: wanted\n{text}given {done.returncode}\n{done.stdout.decode()}")
+                print(f"{'/'.join(place)}: {command}: wanted\n{text}given {done.returncode}\n{done.stdout.decode()}")
     return count, wrong
 
 
@@ -85,7 +96,7 @@ def main() -> None:
     found = checked(parser.parse_args().program)
     if found is None:
         sys.exit("there is no atomic-java: bench/java.sh builds it")
-    print(f"{found[0]} rows and commands of docs/java.md, {found[1]} wrong")
+    print(f"{found[0]} rows and commands of documents, {found[1]} wrong")
     sys.exit(1 if found[1] else 0)
 
 

@@ -99,10 +99,17 @@ class Comparison:
         refused = self.compiled(cases)
         found = []
         for case in cases:
+            if case.number in refused and self.is_refused(case):
+                self.counts["refused by both"] += 1
+                continue
             wrong = refused.get(case.number) or list(self.differences(case))
             found += [f"{text}\n{case.data.decode()}" for text in wrong]
         self.counts["programs"] += len(cases)
         return found
+
+    def is_refused(self, case: Case) -> bool:
+        """Whether the program refuses the source too: a random body may declare a variable again."""
+        return self.program is not None and self.program.run(case.data, [])[0] == 1
 
     def compiled(self, cases: list[Case]) -> dict[int, list[str]]:
         """What javac says of the cases that it refuses."""

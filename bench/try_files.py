@@ -110,9 +110,10 @@ def try_replaced(tries):
 
 
 def try_words(tries):
-    """Words that aren't UTF-8 can't be kept, and have the status of want of memory."""
-    tries.want("a name that isn't UTF-8", tries.run(["check", b"\xff"]), (8, b""))
-    tries.want("a command that isn't UTF-8", tries.run([b"\xff", "a"]), (8, b""))
+    """A word that isn't UTF-8 stands in no row."""
+    _, usage = tries.run([])
+    tries.want("a name that isn't UTF-8", tries.run(["check", b"\xff"]), (9, usage))
+    tries.want("a command that isn't UTF-8", tries.run([b"\xff", "a"]), (9, usage))
     missing = os.path.join(tries.folder, "nowhere")
     tries.want("no file", tries.run(["check", missing]), (6, f"cannot read {missing}\n".encode()))
     tries.want("a folder", tries.run(["check", tries.folder]), (6, f"cannot read {tries.folder}\n".encode()))

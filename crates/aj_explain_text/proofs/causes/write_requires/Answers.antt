@@ -6,4 +6,4 @@ pub returns : goal.returns
 returns c =
     ends c.write_path.result _ _
     (next _ (next _ (wrote (string_bytes c.args.out.now) _ c.in_ok-push_str.ensures.bytes) c.in_ok-write_title.ensures.title) c.in_ok-push_str-2.ensures.bytes)
-    c.write_path.ensures
+    c.write_path.ensures.path

@@ -1,16 +1,11 @@
-package bank;
-
 import java.util.ArrayList;
 import java.util.List;
 
-/** An account that remembers what was done to it. */
-public class Account {
+public final class Account {
     private int balance;
     private final List<String> history = new ArrayList<>();
 
-    public synchronized int read() {
-        return balance;
-    }
+    public synchronized int read() { return balance; }
 
     public synchronized void add(int amount) {
         balance += amount;
