@@ -1,5 +1,6 @@
 -- Lemmas on faults that are found one after the other, on sets of names, and on what a program without faults keeps (Faultless).
 mod Sets
+mod Fronts
 mod Meanings
 mod Places
 mod Climbing

@@ -1,6 +1,6 @@
 //! Finds the first fault of a program's classes.
 
-ghost use Rattle.std.specs.Prelude.{◌≡◌, ◌++◌, ◌∷◌, [], None, map, IfOk, OnOk, if◌then◌else◌};
+ghost use Rattle.std.specs.Prelude.{◌≡◌, ◌⊎◌, ℕ, List, ◌++◌, ◌∷◌, [], None, map, IfOk, OnOk, OnErr, if◌then◌else◌};
 ghost use Rattle.std.specs.List.{list_any};
 ghost use Rattle.aj_syntax.specs.Views.{member_of, class_of, program_of};
 ghost use Rattle.aj_class_rules.specs.Names.{has_text, with_text, distinct};
@@ -272,6 +272,7 @@ fn see_class<'a>(
     ensures fault { IfOk result (λ f. f ≡ (if has_text names.old class.now.name.text then noted first (kind.Twice class.now.name.at ∷ []) else first)) }
     ensures names { OnOk result (names.new ≡ with_text names.old class.now.name.text) }
     ensures firsts { OnOk result (firsts.new.items ≡ (if has_text names.old class.now.name.text then firsts.old.items else firsts.old.items ++ number ∷ [])) }
+    ensures kept { OnErr result ((names.new ≡ names.old) ⊎ (names.new ≡ with_text names.old class.now.name.text)) }
 {
     let is_new = names.add(class.name.text)?;
     if is_new {
@@ -282,8 +283,8 @@ fn see_class<'a>(
     }
 }
 
-/// The names of classes that stand again. The set has then the names of all classes, and the list for each of these the
-/// number of the first class that has it.
+/// The names of classes that stand again. The set has then the names of all classes, after want of memory a front of them, and the
+/// list for each of these the number of the first class that has it.
 fn note_class_names<'a>(
     classes: &[Class<'a>],
     names: &mut NameSet<'a>,
@@ -294,6 +295,7 @@ fn note_class_names<'a>(
     ensures fault { IfOk result (λ f. f ≡ noted None (twice_faults (class_names (map class_of classes.now)))) }
     ensures names { OnOk result (names.new ≡ distinct (class_names (map class_of classes.now))) }
     ensures firsts { OnOk result (firsts.new.items ≡ first_places (class_names (map class_of classes.now))) }
+    ensures kept { OnErr result ((more : List (List ℕ)) × (distinct (class_names (map class_of classes.now)) ≡ names.new ++ more)) }
 {
     let mut found = None;
     for (number, class) in classes.iter().enumerate() {
@@ -328,7 +330,7 @@ fn note_all<'p, 'a>(
 }
 
 /// The first fault of a program whose classes have these own names, if it has one. The set has then the names of its classes, each
-/// once, in order of first appearance.
+/// once, in order of first appearance; after want of memory a front of them.
 #[tactic(auto, using(crate::proofs::Noting::noted_append))]
 pub fn first_fault<'a>(
     alloc: Global,
@@ -340,6 +342,7 @@ pub fn first_fault<'a>(
     requires names { names.old ≡ [] }
     ensures fault { IfOk result (λ f. f ≡ noted None (faults_of (program_of program.now))) }
     ensures names { OnOk result (names.new ≡ distinct (class_names (program_of program.now))) }
+    ensures kept { OnErr result ((more : List (List ℕ)) × (distinct (class_names (program_of program.now)) ≡ names.new ++ more)) }
 {
     let classes = program.classes.as_slice();
     let mut firsts = Vec::new(alloc);

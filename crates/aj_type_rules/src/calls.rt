@@ -1,6 +1,6 @@
 //! The rules of calls and of `new`.
 
-ghost use Rattle.std.specs.Prelude.{◌≡◌, ◌++◌, List, count_by, map, take, drop, slice_get, option_map, IfOk, OnOk};
+ghost use Rattle.std.specs.Prelude.{◌≡◌, ◌++◌, List, count_by, map, take, drop, slice_get, option_map, IfOk, OnOk, OnErr};
 ghost use Rattle.aj_classes.specs.Views.{table_data, class_data};
 ghost use Rattle.aj_core.specs.declared.types.CoreType.{CoreType};
 ghost use Rattle.aj_core.specs.Core.{CallE, NewE};
@@ -194,7 +194,7 @@ fn result_type(returns: Option<CoreType>) -> ExprType
     }
 }
 
-/// A call whose receiver and arguments have types.
+/// A call whose receiver and arguments have types. After want of memory no fault is noted.
 fn typed_call(
     alloc: Global,
     table: &ClassTable,
@@ -205,6 +205,7 @@ fn typed_call(
 ) -> Result<Option<TypedExpr>, NoMemory>
     ensures typed { IfOk result (λ e. option_map typed_data e ≡ gain (call_rule (table_data table.now) name.now (boxed_data receiver, typed_list args.items))) }
     ensures fault { OnOk result (first.new ≡ noted first.old (loss (call_rule (table_data table.now) name.now (boxed_data receiver, typed_list args.items)))) }
+    ensures err { OnErr result (first.new ≡ first.old) }
 {
     let Some((id, method)) = method_rule(table, name, receiver.ty, first) else {
         return Ok(None);
@@ -220,7 +221,8 @@ fn typed_call(
     }))
 }
 
-/// A call. Where the arguments have no types, only a method that the class lacks is a fault.
+/// A call. Where the arguments have no types, only a method that the class lacks is a fault. After want of memory none is
+/// noted.
 pub fn call_rule(
     alloc: Global,
     table: &ClassTable,
@@ -231,6 +233,7 @@ pub fn call_rule(
 ) -> Result<Option<TypedExpr>, NoMemory>
     ensures typed { IfOk result (λ e. option_map typed_data e ≡ given (call_rule (table_data table.now) name.now) (both (option_map boxed_data receiver) (option_map (λ a. typed_list a.items) args))) }
     ensures fault { OnOk result (first.new ≡ noted first.old (call_fault (table_data table.now) name.now (option_map boxed_data receiver) (option_map (λ a. typed_list a.items) args))) }
+    ensures err { OnErr result (first.new ≡ first.old) }
 {
     let Some(receiver) = receiver else {
         return Ok(None);
@@ -242,7 +245,7 @@ pub fn call_rule(
     typed_call(alloc, table, name, receiver, args, first)
 }
 
-/// A `new`. Where the arguments have no types, only a name of no class is a fault.
+/// A `new`. Where the arguments have no types, only a name of no class is a fault. After want of memory none is noted.
 pub fn new_rule(
     alloc: Global,
     table: &ClassTable,
@@ -252,6 +255,7 @@ pub fn new_rule(
 ) -> Result<Option<TypedExpr>, NoMemory>
     ensures typed { IfOk result (λ e. option_map typed_data e ≡ given (new_rule (table_data table.now) name.now) (option_map (λ a. typed_list a.items) args)) }
     ensures fault { OnOk result (first.new ≡ noted first.old (new_fault (table_data table.now) name.now (option_map (λ a. typed_list a.items) args))) }
+    ensures err { OnErr result (first.new ≡ first.old) }
 {
     let Some(class) = class_rule(table, name, first) else {
         return Ok(None);
