@@ -1,8 +1,9 @@
 //! A frame of the machine that runs code.
-ghost use Rattle.std.specs.Prelude.{◌≡◌, ◌<◌, ◌≤◌, ◌+◌, ◌-◌, max, [], ◌∷◌, ◌++◌, take, vec_len, vec_capacity, OnSome, IfNone, reverse, length, Some, None, IsOk, IfOk, OnOk, OnErr, slice_set};
+ghost use Rattle.std.specs.Prelude.{◌≡◌, ◌<◌, ◌≤◌, ◌+◌, ◌-◌, max, [], ◌∷◌, ◌++◌, take, vec_len, vec_capacity, OnSome, IfNone, true, reverse, length, Some, None, IsOk, IfOk, OnOk, OnErr, slice_set};
 ghost use Rattle.aj_state.specs.Values.{under, dropped};
 ghost use Rattle.aj_threads.specs.Frames.{code_frame, given, settled, settled_operands, first_frame, rest_of};
 
+use crate::values::{same_addresses, same_values};
 use aj_paths::MethodId;
 use aj_state::{Address, Value};
 use std::alloc::{AllocError as NoMemory, Global};
@@ -207,13 +208,13 @@ impl FrameCell {
         self.taken.pop()
     }
 
-    /// An equal frame, but for its spare room.
+    /// An equal frame, with the same spare room.
     pub(crate) fn copy(&self, alloc: Global) -> Result<FrameCell, NoMemory>
-        ensures { IfOk result (λ f. code_frame f ≡ code_frame self.now) }
+        ensures { IfOk result (λ f. f ≡ self.now) }
     {
         let mut slots = Vec::with_capacity(alloc, self.slots.len())?;
         slots.extend_from_slice(self.slots.as_slice())?;
-        let mut operands = Vec::with_capacity(alloc, self.operands.len())?;
+        let mut operands = Vec::with_capacity(alloc, self.operands.len() + self.room)?;
         operands.extend_from_slice(self.operands.as_slice())?;
         let mut taken = Vec::with_capacity(alloc, self.taken.len())?;
         taken.extend_from_slice(self.taken.as_slice())?;
@@ -221,10 +222,26 @@ impl FrameCell {
             method: self.method,
             slots,
             operands,
-            room: 0,
+            room: self.room,
             place: self.place,
             taken,
         })
+    }
+
+    /// Whether two frames are equal, but for their spare rooms.
+    pub(crate) fn same(&self, other: &FrameCell) -> bool
+        ensures { result ≡ true → code_frame self.now ≡ code_frame other.now }
+    {
+        if self.method() != other.method() || self.place() != other.place() {
+            return false;
+        }
+        if !same_values(self.slots(), other.slots()) {
+            return false;
+        }
+        if !same_values(self.operands(), other.operands()) {
+            return false;
+        }
+        same_addresses(self.taken(), other.taken())
     }
 }
 

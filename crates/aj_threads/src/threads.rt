@@ -1,11 +1,13 @@
 //! Threads of the machine that runs code.
 ghost use Rattle.std.specs.Prelude.{◌≡◌, ◌<◌, ◌≤◌, ◌+◌, ◌-◌, ◌∷◌, [], max, reverse, length, map, Option, Some, None, true, IsSome, IsOk, IfOk, OnOk, OnErr, OnSome, IfNone, slice_get, slice_set};
-ghost use Rattle.std.specs.Option.{option_map, option_copied};
+ghost use Rattle.std.specs.Option.{option_map};
 ghost use Rattle.aj_state.specs.Values.{under};
 ghost use Rattle.aj_state.specs.States.{ThreadOf, Ready, Running, Faulted};
 ghost use Rattle.aj_threads.specs.Frames.{CellFrame, code_frame, code_thread, frames_in, top_frame, on_top, status_of, waiting_of, is_running, may_enter, popped, settled, settled_operands, with_given, HasRoom, HasSpare, first_frame, rest_of, on_first, given, slots_of, operands_of, taken_of};
 
+use crate::copies::{copy_frames, copy_top, same_frames, same_status, same_top};
 use crate::frame::{Entered, FrameCell};
+use crate::values::same_address;
 use aj_paths::MethodId;
 use aj_state::{Address, Fault, ThreadState, Value};
 use std::alloc::{AllocError as NoMemory, Global};
@@ -333,9 +335,9 @@ impl ThreadCell {
         }
     }
 
-    /// An equal thread, but for the spare rooms of its frames.
+    /// An equal thread, with the same spare rooms.
     pub fn copy(&self, alloc: Global) -> Result<ThreadCell, NoMemory>
-        ensures { IfOk result (λ t. code_thread t ≡ code_thread self.now) }
+        ensures { IfOk result (λ t. t ≡ self.now) }
     {
         let top = copy_top(alloc, self.top.as_ref())?;
         let below = copy_frames(alloc, self.below.as_slice())?;
@@ -347,27 +349,22 @@ impl ThreadCell {
             below,
         })
     }
-}
 
-/// An equal frame or none, but for its spare room.
-fn copy_top(alloc: Global, top: Option<&FrameCell>) -> Result<Option<FrameCell>, NoMemory>
-    ensures { IfOk result (λ o. option_map code_frame o ≡ option_map code_frame (option_copied top.entry)) }
-{
-    match top {
-        Some(frame) => Ok(Some(frame.copy(alloc)?)),
-        None => Ok(None),
+    /// Whether two threads are equal, but for the spare rooms of their frames.
+    pub fn same(&self, other: &ThreadCell) -> bool
+        ensures { result ≡ true → code_thread self.now ≡ code_thread other.now }
+    {
+        if !same_status(self.state, other.state) || !same_address(self.on, other.on) {
+            return false;
+        }
+        if self.method != other.method {
+            return false;
+        }
+        if !same_top(self.top.as_ref(), other.top.as_ref()) {
+            return false;
+        }
+        same_frames(self.below.as_slice(), other.below.as_slice())
     }
-}
-
-/// Equal frames, but for their spare rooms.
-fn copy_frames(alloc: Global, frames: &[FrameCell]) -> Result<Vec<FrameCell>, NoMemory>
-    ensures { IfOk result (λ v. map code_frame v.items ≡ map code_frame frames.now) }
-{
-    let mut copies = Vec::with_capacity(alloc, frames.len())?;
-    for frame in frames {
-        copies.push(frame.copy(alloc)?)?;
-    }
-    Ok(copies)
 }
 
 /// The last frame drops its topmost operands and goes on at a place.
