@@ -1,12 +1,11 @@
 -- From the run of units in order to the written order of a schedule.
-use Rattle.std.proofs.Common.{◌≡◌, ◌≢◌, ℕ, zero, suc, ◌+◌, ◌==◌, Bool, true, false, not, ◌||◌, ◌&&◌, List, [], ◌∷◌, ◌++◌, length, refl, sym, ap, subst, ◌∙◌, Some, None, arith}
+use Rattle.std.proofs.Common.{◌≡◌, ◌≢◌, ℕ, zero, suc, ◌+◌, ◌==◌, Bool, true, false, not, ◌||◌, List, [], ◌∷◌, ◌++◌, length, refl, sym, ap, subst, ◌∙◌, Some, None, arith}
 use Rattle.std.specs.Prelude.{Option, map, take, slice_get, count_by, cond, is_some, IsSome, if◌then◌else◌}
 use Rattle.std.proofs.lemmas.Bool.{eqb-true, and_from, and_parts, or_right, or_left, eq-eqb}
 use Rattle.std.proofs.lemmas.List.Sums.{sum_by-cons}
 use Rattle.std.proofs.lemmas.Option.{same_Some}
 use Rattle.aj_state.specs.declared.value.StepKind.{StepKind}
 use Rattle.aj_state.specs.declared.value.StepKind.TheVariants.{Both, Right, Left, Other, Bare}
-use Rattle.aj_steps.specs.Run.{IsRearrangement}
 use Rattle.aj_steps.specs.Units.{Entry, are_kept, is_of_thread, added, units, is_whole, word_of, in_order, schedule_of}
 use Rattle.aj_steps.specs.Words.{IsReducible, is_reducible}
 use Rattle.aj_steps.proofs.WordLemmas.{is_reducible_of}
@@ -15,7 +14,7 @@ use Rattle.aj_movers.specs.Movers.{HasMovers}
 use Rattle.aj_movers.specs.Runs.{Run}
 use Rattle.aj_movers.specs.Serial.{IsUninterrupted, NobodyInside, IsSerial}
 use Rattle.aj_movers.proofs.Shape.{Each, flat, has, IsOf, IsFine, each_in_order}
-use Rattle.aj_movers.proofs.Slides.{Becomes, fits_there, fits_grow, run_grows}
+use Rattle.aj_movers.proofs.Slides.{fits_there, fits_grow, run_grows}
 use Rattle.aj_movers.proofs.Sorting.{Rises, NotBare, HasWord, fine_units, words_later, sorted}
 
 unless : (a b : Bool) → (not a || b) ≡ true → a ≡ true → b ≡ true

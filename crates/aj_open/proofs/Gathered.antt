@@ -1,6 +1,6 @@
 -- The open order of a schedule.
-use Rattle.std.proofs.Common.{◌≡◌, ℕ, ◌+◌, ◌==◌, Bool, true, false, not, ◌||◌, List, [], ◌∷◌, ◌++◌, length, refl, sym, ap, subst, ◌∙◌, Some, None, arith}
-use Rattle.std.specs.Prelude.{Option, map, filter, cond, count_by, slice_get, is_some, option_and_then}
+use Rattle.std.proofs.Common.{◌≡◌, ℕ, ◌+◌, Bool, true, false, not, ◌||◌, List, [], ◌∷◌, ◌++◌, length, refl, sym, ap, subst, ◌∙◌, Some, None}
+use Rattle.std.specs.Prelude.{map, filter, slice_get, is_some}
 use Rattle.std.specs.List.{list_any}
 use Rattle.std.proofs.lemmas.List.{append-nil}
 use Rattle.aj_core.specs.Core.{Program}

@@ -1,6 +1,6 @@
 -- The machine is a system whose kinds of steps mean what they say.
-use Rattle.std.proofs.Common.{◌≡◌, ◌≢◌, ℕ, suc, zero, ◌+◌, ◌<◌, ◌≤◌, ◌==◌, Bool, true, false, List, [], ◌∷◌, ◌++◌, length, refl, sym, ap, subst, ◌∙◌, Some, None, arith}
-use Rattle.std.specs.Prelude.{Option, map, nat_lt, slice_get, slice_set, option_and_then, if◌then◌else◌}
+use Rattle.std.proofs.Common.{◌≡◌, ◌≢◌, ℕ, suc, zero, ◌+◌, ◌<◌, ◌≤◌, ◌==◌, true, List, [], ◌∷◌, ◌++◌, length, refl, sym, ap, subst, ◌∙◌, Some, arith}
+use Rattle.std.specs.Prelude.{nat_lt, slice_get, slice_set, option_and_then, if◌then◌else◌}
 use Rattle.std.proofs.lemmas.Bool.{ltb-true, lt-ltb}
 use Rattle.std.proofs.lemmas.List.{length-set}
 use Rattle.std.proofs.lemmas.Option.{same_Some}
@@ -12,7 +12,7 @@ use Rattle.aj_state.specs.States.{Thread, Ready, State}
 use Rattle.aj_steps.specs.Asks.{Ask, asks}
 use Rattle.aj_steps.specs.Run.{run_from, own_states, owns_then}
 use Rattle.aj_steps.specs.Step.{Shared, Change, Nothing, FieldIs, ObjectIs, LockIs, Prints, Starts, Move, Outcome, Moves, Absent, IsDone, HadFaulted, Waits, outcome, moved, state_after, seen_by}
-use Rattle.aj_steps.specs.Units.{Entry, entry_then, entries_from}
+use Rattle.aj_steps.specs.Units.{entry_then, entries_from}
 use Rattle.aj_steps.specs.Words.{moves_right, moves_left}
 use Rattle.aj_exchange.specs.Changes.{Did, quiet, was_read, was_written, was_made, was_taken, taken_more, was_given, was_started, was_printed}
 use Rattle.aj_exchange.specs.Parts.{on_threads}
@@ -23,7 +23,7 @@ use Rattle.aj_exchange.proofs.Dids.{moves_did}
 use Rattle.aj_exchange.proofs.Moving.{right_mover, left_mover}
 use Rattle.aj_exchange.proofs.SoundRuns.{sound_moved}
 use Rattle.aj_exchange.proofs.Swap.{stepper, thread_kept}
-use Rattle.aj_movers.specs.Systems.{StepTo, Steps, IsThere}
+use Rattle.aj_movers.specs.Systems.{StepTo, Steps}
 use Rattle.aj_movers.specs.Systems as of
 use Rattle.aj_movers.specs.Movers.{Swaps, HasMovers}
 use Rattle.aj_rewrite.specs.Machine.{step_to, machine}

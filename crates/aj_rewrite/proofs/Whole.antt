@@ -6,7 +6,7 @@ use Rattle.std.specs.List.{position_from}
 use Rattle.aj_core.specs.Core.{Program}
 use Rattle.aj_core.specs.Typed.{IsTyped}
 use Rattle.aj_state.specs.States.{Thread, State, initial}
-use Rattle.aj_steps.specs.Run.{run, run_from, is_inside, is_inside_some, inside, open_thread, own_states, IsUninterrupted}
+use Rattle.aj_steps.specs.Run.{run, run_from, is_inside, is_inside_some, inside, open_thread, own_states}
 use Rattle.aj_steps.specs.Units.{Entry, entries_from, entries, units, word_of, in_order, schedule_of, written_order}
 use Rattle.aj_steps.specs.Words.{IsReducible}
 use Rattle.aj_exchange.proofs.SoundRuns.{sound_initial}
