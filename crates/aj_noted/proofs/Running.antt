@@ -1,5 +1,5 @@
 -- A run with a note of each step.
-use Rattle.std.proofs.Common.{◌≡◌, ℕ, zero, suc, ◌+◌, ◌<◌, nat_lt, List, [], ◌∷◌, ◌++◌, length, get_or, Some, refl, sym, ap, subst, ◌∙◌, arith}
+use Rattle.std.proofs.Common.{◌≡◌, ℕ, zero, suc, ◌+◌, ◌<◌, nat_lt, List, [], ◌∷◌, ◌++◌, length, get_or, Some, refl, sym, ap, subst, ◌∙◌, arith, inl}
 use Rattle.std.proofs.lemmas.Grind.{common_steps}
 use Rattle.std.proofs.lemmas.List.{length-take-le, take_more}
 use Rattle.std.proofs.lemmas.Option.{slice_get-get_or}
@@ -16,14 +16,14 @@ use Rattle.aj_deeds.specs.declared.deed.StepEnd.{StepEnd}
 use Rattle.aj_deeds.specs.declared.deed.StepEnd.TheVariants as step
 use Rattle.aj_machine.specs.MachineValue.{MachineValue}
 use Rattle.aj_machine.specs.Reasons.{IsReason}
-use Rattle.aj_machine.specs.Standing.{program_run, StandsFor, IsKindTurn, IsStop}
+use Rattle.aj_machine.specs.Standing.{program_run, StandsFor, IsTurn, IsKindTurn, IsSame, IsStop}
 use Rattle.aj_noted.specs.declared.calls.Frames.{Frames}
 use Rattle.aj_noted.specs.Calls.{AreCalls, calls_after, frames_seen, methods_at}
 use Rattle.aj_noted.specs.Tables.{value_at, put_at}
 use Rattle.aj_noted.proofs.AtomicCalls.{calls_moved, inside_is}
 use Rattle.aj_noted.specs.declared.step.Step.{Step}
 use Rattle.aj_noted.specs.Entries.{entry_of, entries_of}
-use Rattle.aj_noted.specs.Made.{IsMade, HaveRun}
+use Rattle.aj_noted.specs.Made.{IsMade, IsLeft, HaveRun}
 use Rattle.aj_noted.specs.NoRun.{refusal}
 use Rattle.aj_noted.specs.NoRun.{IsNoRun}
 
@@ -53,6 +53,22 @@ only_memory t q m k Absent turn = absurd cc
 only_memory t q m k IsDone turn = absurd cc
 only_memory t q m k (HadFaulted f) turn = absurd cc
 only_memory t q m k (Waits a holder) turn = absurd cc
+
+-- a step that told its kind was made
+pub told_turn : (t : ℕ) (q : State) (m : MachineValue) (k : StepKind) (o : Outcome) → IsKindTurn t (Ok k) m q o → IsTurn t (Ok tt) m q o
+told_turn t q m k (Moves move) turn = turn.1
+told_turn t q m k Absent turn = absurd cc
+told_turn t q m k IsDone turn = absurd cc
+told_turn t q m k (HadFaulted f) turn = absurd cc
+told_turn t q m k (Waits a holder) turn = absurd cc
+
+-- a refused step leaves the machine as it was
+pub left_same : (t : ℕ) (old new : MachineValue) (why : StepEnd) → IsSame new old → IsLeft t old new why
+left_same t old new step.NoMemory same = inl same
+left_same t old new step.Absent same = same
+left_same t old new step.Done same = same
+left_same t old new (step.Faulted f) same = same
+left_same t old new (step.Waits a holder) same = same
 
 abbrev Refused : StepEnd → Result StepKind StepEnd
 Refused why = Err why

@@ -1,12 +1,14 @@
 -- Steps that a machine made.
-use Rattle.std.specs.Prelude.{◌≡◌, ℕ, List, Some}
+use Rattle.std.specs.Prelude.{◌≡◌, ◌⊎◌, ℕ, List, Some, Ok}
 use Rattle.aj_core.specs.Core.{Program}
 use Rattle.aj_state.specs.States.{State}
 use Rattle.aj_steps.specs.Run.{run, inside}
-use Rattle.aj_steps.specs.Step.{Outcome, Moves, moved}
+use Rattle.aj_steps.specs.Step.{Outcome, Moves, moved, outcome}
 use Rattle.aj_steps.specs.Units.{entries}
+use Rattle.aj_deeds.specs.declared.deed.StepEnd.{StepEnd}
+use Rattle.aj_deeds.specs.declared.deed.StepEnd.TheVariants as ends
 use Rattle.aj_machine.specs.MachineValue.{MachineValue}
-use Rattle.aj_machine.specs.Standing.{program_run, StandsFor}
+use Rattle.aj_machine.specs.Standing.{program_run, StandsFor, IsTurn, IsSame}
 use Rattle.aj_noted.specs.declared.step.Step.{Step}
 use Rattle.aj_noted.specs.Calls.{AreCalls}
 use Rattle.aj_noted.specs.Entries.{entries_of}
@@ -17,6 +19,12 @@ abbrev pub IsMade : Program → ℕ → State → MachineValue → Step → (ℕ
 IsMade P t q m step calls (Moves move) =
     (step ≡ record { thread = t; kind = move.kind; inside = inside P (moved t move q) t }) × StandsFor m (moved t move q) × AreCalls P (moved t move q) calls
 IsMade P t q m step calls _ = ⊥
+
+-- the machine after a thread's step that isn't told, for this reason: it is as it was, or memory was wanting for the note of a
+-- step that it made
+abbrev pub IsLeft : ℕ → MachineValue → MachineValue → StepEnd → Type 0
+IsLeft t old new ends.NoMemory = IsSame new old ⊎ ((q : State) → StandsFor old q → IsTurn t (Ok tt) new q (outcome (program_run old) q t))
+IsLeft t old new _ = IsSame new old
 
 -- these steps are those of the schedule from the start, the machine stands for the state that it runs to, and these are the
 -- numbers of atomic calls in it

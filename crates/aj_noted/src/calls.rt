@@ -1,5 +1,5 @@
 //! In how many atomic calls each thread stands.
-ghost use Rattle.std.specs.Prelude.{◌≡◌, ◌-◌, ℕ, map, slice_get, IfOk, OnOk, Some};
+ghost use Rattle.std.specs.Prelude.{◌≡◌, ◌-◌, ℕ, map, slice_get, IfOk, OnOk, OnErr, Some};
 ghost use Rattle.aj_core.specs.Views.{program_of};
 ghost use Rattle.aj_threads.specs.Frames.{frames_in};
 ghost use Rattle.aj_state.specs.States.{State};
@@ -98,7 +98,8 @@ fn calls_after(
     Ok(calls)
 }
 
-/// Notes how a step changed the number of its thread's atomic calls, by what is seen of the frames before and after it.
+/// Notes how a step changed the number of its thread's atomic calls, by what is seen of the frames before and after it. After
+/// want of memory the table is as before.
 pub(crate) fn note_calls(
     program: &CoreProgram,
     calls: &mut Vec<u32>,
@@ -106,8 +107,9 @@ pub(crate) fn note_calls(
     before: Frames,
     after: Frames,
 ) -> Result<(), NoMemory>
-    ensures { OnOk result ((other : ℕ) → value_at 0 calls.new.items other ≡
+    ensures noted { OnOk result ((other : ℕ) → value_at 0 calls.new.items other ≡
         put_at (value_at 0 calls.old.items) thread (calls_after (program_of program.now) before after (value_at 0 calls.old.items thread)) other) }
+    ensures err { OnErr result (calls.new.items ≡ calls.old.items) }
 {
     if before.count == after.count {
         return Ok(());

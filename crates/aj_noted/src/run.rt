@@ -1,5 +1,5 @@
 //! Running a schedule, with a note of each step.
-ghost use Rattle.std.specs.Prelude.{◌≡◌, ◌+◌, ◌<◌, ◌≤◌, ℕ, Some, nat_lt, length, slice_get, IfOk, IfErr, OnOk};
+ghost use Rattle.std.specs.Prelude.{◌≡◌, ◌+◌, ◌<◌, ◌≤◌, ℕ, Some, nat_lt, length, slice_get, IfOk, IfErr, OnOk, OnErr};
 ghost use Rattle.aj_core.specs.Views.{program_of};
 ghost use Rattle.aj_state.specs.States.{State, initial};
 ghost use Rattle.aj_compile.specs.IsCode.{IsCodeOf};
@@ -8,7 +8,7 @@ ghost use Rattle.aj_steps.specs.Step.{outcome};
 ghost use Rattle.aj_machine.specs.Reasons.{IsReason};
 ghost use Rattle.aj_machine.specs.Standing.{program_run, StandsFor};
 ghost use Rattle.aj_noted.specs.Calls.{AreCalls, calls_after, frames_seen, methods_at};
-ghost use Rattle.aj_noted.specs.Made.{IsMade, HaveRun};
+ghost use Rattle.aj_noted.specs.Made.{IsMade, IsLeft, HaveRun};
 ghost use Rattle.aj_noted.specs.NoRun.{IsNoRun};
 ghost use Rattle.aj_noted.specs.Tables.{value_at, put_at};
 
@@ -42,6 +42,7 @@ fn note_step(
     ensures calls { OnOk result ((q : State) → StandsFor machine.now q → (other : ℕ) → value_at 0 calls.new.items other ≡
         put_at (value_at 0 calls.old.items) thread
         (calls_after (program_run machine.now) before (frames_seen (methods_at (slice_get q.threads thread))) (value_at 0 calls.old.items thread)) other) }
+    ensures err { OnErr result (calls.new.items ≡ calls.old.items) }
 {
     let after = frames_at(machine, thread);
     note_calls(machine.program(), calls, thread, before, after)?;
@@ -53,7 +54,8 @@ fn note_step(
 }
 
 /// Makes a step of a thread, and notes it. The table has the number of atomic calls in which each thread stands; its steps keep it, so no
-/// frames are looked through.
+/// frames are looked through. Where no step is told, the table is as before; so is the machine, or memory was wanting only for the
+/// note of the step that it made.
 pub fn make_step(
     alloc: Global,
     machine: &mut Machine<'_>,
@@ -64,6 +66,8 @@ pub fn make_step(
     ensures made { IfOk result (λ step. (q : State) → StandsFor machine.old q → AreCalls (program_run machine.old) q (value_at 0 calls.old.items) →
         IsMade (program_run machine.old) thread q machine.new step (value_at 0 calls.new.items) (outcome (program_run machine.old) q thread)) }
     ensures refused { IfErr result (λ why. (q : State) → StandsFor machine.old q → IsReason why (outcome (program_run machine.old) q thread)) }
+    ensures left { IfErr result (IsLeft thread machine.old machine.new) }
+    ensures kept { OnErr result (calls.new.items ≡ calls.old.items) }
     ensures counted { OnOk result (machine.new.made ≡ machine.old.made + 1) }
     ensures program { machine.new.program ≡ machine.old.program }
 {

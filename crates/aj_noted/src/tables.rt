@@ -1,5 +1,5 @@
 //! Tables of values by number, which grow as they are written.
-ghost use Rattle.std.specs.Prelude.{◌≡◌, ℕ, OnOk};
+ghost use Rattle.std.specs.Prelude.{◌≡◌, ℕ, OnOk, OnErr};
 ghost use Rattle.aj_noted.specs.Tables.{value_at, put_at};
 
 use std::alloc::AllocError as NoMemory;
@@ -14,9 +14,10 @@ pub fn value_at<T: Copy>(table: &[T], empty: T, number: u32) -> T
     }
 }
 
-/// Puts the value of a number.
+/// Puts the value of a number. After want of memory the table is as before.
 pub fn put<T: Copy>(table: &mut Vec<T>, empty: T, number: u32, value: T) -> Result<(), NoMemory>
-    ensures { OnOk result ((other : ℕ) → value_at empty table.new.items other ≡ put_at (value_at empty table.old.items) number value other) }
+    ensures put { OnOk result ((other : ℕ) → value_at empty table.new.items other ≡ put_at (value_at empty table.old.items) number value other) }
+    ensures err { OnErr result (table.new.items ≡ table.old.items) }
 {
     let place = number as usize;
     if table.len() <= place {

@@ -1,10 +1,10 @@
-use Rattle.std.proofs.Common.{refl, ap}
+use Rattle.std.proofs.Common.{refl, ap, inr}
 use Rattle.std.proofs.lemmas.Result.{err_from_is_err_and}
 use Rattle.aj_core.specs.Views.{program_of}
 use Rattle.aj_steps.specs.Step.{outcome}
 use Rattle.aj_machine.specs.Standing.{program_run}
 use Rattle.aj_noted.specs.Tables.{value_at}
-use Rattle.aj_noted.proofs.Running.{was_made, was_refused, only_memory}
+use Rattle.aj_noted.proofs.Running.{was_made, was_refused, only_memory, told_turn, left_same}
 use Rattle.aj_noted.proofs.run.make_step.Goals as goal
 
 pub returns-in_err-kind-clause-refused : goal.returns-in_err-kind-clause-refused
@@ -20,3 +20,12 @@ returns-in-Ok-clause-made c q stands are =
 pub returns-in-Err-clause-refused : goal.returns-in-Err-clause-refused
 returns-in-Err-clause-refused c q stands =
     only_memory c.args.thread q c.step_kind.new.self c.in_ok-kind.kind (outcome (program_run c.args.machine.now) q c.args.thread) (c.in_ok-kind.ensures.turn q stands)
+
+pub returns-in_err-kind-clause-left : goal.returns-in_err-kind-clause-left
+returns-in_err-kind-clause-left c =
+    let p = err_from_is_err_and c.from_residual.result c.from_residual.ensures.1 in
+    rw (p.1, p.2) (left_same c.args.thread c.args.machine.now c.step_kind.new.self c.in_err-kind.field-0.0 c.in_err-kind.ensures.kept)
+
+pub returns-in-Err-clause-left : goal.returns-in-Err-clause-left
+returns-in-Err-clause-left c =
+    inr (λ q stands. told_turn c.args.thread q c.step_kind.new.self c.in_ok-kind.kind (outcome (program_run c.args.machine.now) q c.args.thread) (c.in_ok-kind.ensures.turn q stands))
