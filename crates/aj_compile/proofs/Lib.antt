@@ -6,5 +6,7 @@ mod Fronts
 pub mod Depth
 mod Lengths
 mod Standings
+mod Operands
 mod Fitting
+mod Attaining
 mod Methods

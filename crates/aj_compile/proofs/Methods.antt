@@ -13,6 +13,7 @@ use Rattle.aj_compile.specs.Emission.{emitted_method, method_weight, method_entr
 use Rattle.aj_compile.proofs.Lengths.{HasAt, split, length_method, all_at}
 use Rattle.aj_compile.proofs.Standings.{method_stands}
 use Rattle.aj_compile.proofs.Fitting.{reached_fits, method_fits}
+use Rattle.aj_compile.proofs.Attaining.{method_attains}
 
 -- where a method's code stands
 record Placed (code : List Code) (method : Method) (entry : ℕ) : Type 0 where
@@ -74,6 +75,13 @@ code_is_of P =
           let fits = reached_fits P code (stmt_room found.0.body) (method_entry found.0 p.at) (λ k. method_fits P code typed m found.0 p.at k found.1 p.has) place n
           (subst (λ x. Reached P code x place n) p.is reached) 1 in
           subst (λ x. n ≤ x) (sym room) fits.0;
+      attained = λ typed m start most method there whole start_is most_is.
+          let p = placed code P.methods 0 m start method all there start_is in
+          let room = room_is P.methods m most method there most_is in
+          let a = method_attains P code typed m method p.at there p.has whole in
+          let fits = (reached_fits P code (stmt_room method.body) (method_entry method p.at) (λ k. method_fits P code typed m method p.at k there p.has) a.0 a.1 a.2 1).0 in
+          let same : a.1 ≡ most = omega (arith, a.3, fits, room) in
+          (a.0, subst (λ n. Reached P code start a.0 n) same (subst (λ x. Reached P code x a.0 a.1) (sym p.is) a.2));
     }
 
 -- what the compiler makes is the program's code

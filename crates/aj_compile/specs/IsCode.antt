@@ -1,11 +1,11 @@
 -- What it means that code is a program's.
-use Rattle.std.specs.Prelude.{◌≡◌, ℕ, ◌≤◌, List, [], ◌∷◌, length, Some, is_some, slice_get}
+use Rattle.std.specs.Prelude.{◌≡◌, ℕ, ◌≤◌, true, List, [], ◌∷◌, length, Some, is_some, slice_get}
 use Rattle.aj_core.specs.Core.{Program, Method}
 use Rattle.aj_core.specs.Typed.{IsTyped}
 use Rattle.aj_state.specs.Work.{St, Act, Ret}
 use Rattle.aj_compile.specs.declared.stack.Code.{Code}
 use Rattle.aj_compile.specs.Standing.{Stands}
-use Rattle.aj_compile.specs.Rooms.{Reached, stmt_room}
+use Rattle.aj_compile.specs.Rooms.{Reached, stmt_room, is_whole}
 
 -- Lines of code, with each method's entry and room, are the code of a program.
 pub record IsCodeOf (P : Program) (code : List Code) (entry room : List ℕ) : Type 0 where
@@ -22,3 +22,6 @@ pub record IsCodeOf (P : Program) (code : List Code) (entry room : List ℕ) : T
   -- without typedness there may be no such number, since a loop could leave operands behind in each turn
   pub bounds : IsTyped P → (m start most place n : ℕ) → slice_get entry m ≡ Some start → slice_get room m ≡ Some most →
       Reached P code start place n → n ≤ most
+  -- and so many stand at some of these places, where control can come to every statement of the body
+  pub attained : IsTyped P → (m start most : ℕ) (method : Method) → slice_get P.methods m ≡ Some method → is_whole method.body ≡ true →
+      slice_get entry m ≡ Some start → slice_get room m ≡ Some most → (place : ℕ) × Reached P code start place most

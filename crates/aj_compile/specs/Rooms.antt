@@ -1,9 +1,10 @@
 -- How many operands stand in a frame at each place of the code, and how many at most.
-use Rattle.std.specs.Prelude.{◌≡◌, ℕ, ◌+◌, ◌-◌, max, List, [], ◌∷◌, length, Option, Some, None, slice_get}
+use Rattle.std.specs.Prelude.{◌≡◌, ℕ, ◌+◌, ◌-◌, max, Bool, true, false, ◌&&◌, ◌||◌, List, [], ◌∷◌, length, Option, Some, None, slice_get}
 use Rattle.aj_core.specs.declared.types.CoreType.{CoreType}
 use Rattle.aj_core.specs.Core.{Program, Class, Method}
 use Rattle.aj_core.specs.Core.{Expr, Exprs, NotE, NegE, BinaryE, AndE, OrE, GetE, CallE, NewE, no_exprs, and_expr}
 use Rattle.aj_core.specs.Core.{Stmt, Stmts, EmptyS, BlockS, LocalS, SetVarS, SetFieldS, DoS, IfS, WhileS, SyncS, ReturnS, PrintS, StartS, no_stmts, and_stmt}
+use Rattle.aj_core.specs.Typed.{completes}
 use Rattle.aj_compile.specs.declared.stack.Instr.{Instr}
 use Rattle.aj_compile.specs.declared.stack.Instr.TheVariants as i
 use Rattle.aj_compile.specs.declared.stack.Code.{Code}
@@ -107,6 +108,26 @@ abbrev mutual
   pub stmts_room : Stmts → ℕ
   stmts_room no_stmts = 0
   stmts_room (and_stmt s ss) = max (stmt_room s) (stmts_room ss)
+
+-- whether no statement follows
+abbrev pub none_follow : Stmts → Bool
+none_follow no_stmts = true
+none_follow (and_stmt s ss) = false
+
+-- Whether control can come to every statement that stands in a part: in a block each but the last one completes.
+abbrev mutual
+  -- of a statement
+  pub is_whole : Stmt → Bool
+  is_whole (BlockS ss) = are_whole ss
+  is_whole (IfS c s t) = is_whole s && is_whole t
+  is_whole (WhileS c s) = is_whole s
+  is_whole (SyncS p s) = is_whole s
+  is_whole _ = true
+
+  -- of the statements of a block
+  pub are_whole : Stmts → Bool
+  are_whole no_stmts = true
+  are_whole (and_stmt s ss) = is_whole s && ((none_follow ss || completes s) && are_whole ss)
 
 -- of methods, one after the other
 abbrev pub method_rooms : List Method → List ℕ
