@@ -8,6 +8,7 @@ mod Cells
 pub mod RoomLemmas
 pub mod Following
 pub mod Counting
+pub mod EqualMaps
 mod KindOf
 mod KindTurns
 mod Turned

@@ -3,6 +3,7 @@
 #![tactic(auto)]
 
 mod act;
+mod equal;
 mod inside;
 mod machine;
 mod make;
@@ -11,6 +12,7 @@ mod shared;
 mod turn;
 
 pub use act::object_values;
+pub use equal::same_heap;
 pub use inside::is_annotated;
 pub use machine::{Machine, Stopped};
 pub use make::slots_of;

@@ -1,5 +1,5 @@
 //! The machine.
-ghost use Rattle.std.specs.Prelude.{◌≡◌, ◌≢◌, false, Err, ◌<◌, ◌≤◌, [], ◌+◌, length, Some, None, OnOk, OnErr, IfOk, IfErr, MatchResult, slice_get};
+ghost use Rattle.std.specs.Prelude.{◌≡◌, ◌≢◌, true, false, Err, ◌<◌, ◌≤◌, [], ◌+◌, length, Some, None, OnOk, OnErr, IfOk, IfErr, MatchResult, slice_get};
 ghost use Rattle.std.specs.Option.{option_map};
 ghost use Rattle.aj_core.specs.Views.{program_of};
 ghost use Rattle.aj_core.specs.Typed.{IsTyped};
@@ -12,9 +12,11 @@ ghost use Rattle.aj_steps.specs.Run.{is_inside, open_thread};
 ghost use Rattle.aj_deeds.specs.declared.deed.StepEnd.TheVariants as ends;
 ghost use Rattle.aj_machine.specs.Lean.{step_takes};
 ghost use Rattle.aj_machine.specs.Standing.{program_run, StandsFor, IsTurn, IsKindTurn, IsSame, HasRun, HasStopped};
+ghost use Rattle.aj_machine.specs.MachineValue.{code_state};
 ghost use Rattle.aj_machine.specs.Taken.{turn_of};
 
 use crate::act::object_values;
+use crate::equal::{copy_numbers, copy_threads, same_heap, same_locks, same_threads};
 use crate::inside::{first_inside, stands_inside};
 use crate::shared::SharedState;
 use crate::turn::take_turn;
@@ -107,6 +109,43 @@ impl<'p> Machine<'p> {
         })
     }
 
+    /// An equal machine.
+    pub fn copy(&self, alloc: Global) -> Result<Machine<'p>, NoMemory>
+        ensures { IfOk result (λ m. m ≡ self.now) }
+    {
+        let heap = self.shared.heap.copy(alloc)?;
+        let locks = self.shared.locks.copy(alloc)?;
+        let output = copy_numbers(alloc, self.shared.output.as_slice())?;
+        let threads = copy_threads(alloc, self.threads.as_slice())?;
+        Ok(Machine {
+            program: self.program,
+            code: self.code,
+            shared: SharedState {
+                heap,
+                locks,
+                output,
+            },
+            threads,
+            made: self.made,
+        })
+    }
+
+    /// Whether two machines have come to equal states, but for the spare rooms of frames.
+    pub fn same(&self, other: &Machine<'_>) -> bool
+        ensures { result ≡ true → code_state self.now.state ≡ code_state other.now.state }
+    {
+        if !same_threads(self.threads(), other.threads()) {
+            return false;
+        }
+        if !same_heap(self.heap(), other.heap()) {
+            return false;
+        }
+        if !same_locks(self.locks(), other.locks()) {
+            return false;
+        }
+        self.output() == other.output()
+    }
+
     /// The program.
     pub fn program(&self) -> &'p CoreProgram
         ensures { result.now ≡ self.now.program }
@@ -134,6 +173,14 @@ impl<'p> Machine<'p> {
         ensures { result.now ≡ self.now.state.threads }
     {
         self.threads.as_slice()
+    }
+
+    /// The number of threads: at most one more than steps were made.
+    pub fn thread_count(&self) -> usize
+        ensures count { result ≡ length self.now.state.threads }
+        ensures few { result ≤ self.now.made + 1 }
+    {
+        self.threads.len()
     }
 
     /// The printed numbers.
