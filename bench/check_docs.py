@@ -153,9 +153,8 @@ class Checker:
             self.count += 1
             if done.stdout.decode() != text:
                 self.wrong += 1
-                print(
-                    f"{os.path.join(*names)}: wanted of {command}\n{text}given {done.returncode}\n{done.stdout.decode()}"
-                )
+                print(f"{os.path.join(*names)}: wanted of {command}")
+                print(f"{text}given {done.returncode}\n{done.stdout.decode()}")
 
     def books(self) -> None:
         """The derived book of each accepted example, and what is said of it where it is changed."""

@@ -1,21 +1,35 @@
 #!/usr/bin/env python3
-"""usage: check_proved.py
+"""Looks up what docs/PROVED.md and README.md say is proved.
 
-Looks up what docs/PROVED.md and README.md say is proved: each crate of crates.txt has its place in docs/PROVED.md; each call, type,
-clause and file of definitions that stands there between backquotes is in the crate that is spoken of, or in one that this uses or
-that the line names; and no cell of a table has more than 70 words. It tells each name that isn't found, and the exit status is 0
-where all are.
+Each crate of crates.txt has its place in docs/PROVED.md; each call, type, clause and file of definitions that stands
+there between backquotes is in the crate that is spoken of, or in one that this uses or that the line names; and no cell
+of a table has more than 70 words. It tells each name that isn't found, and the exit status is 0 where all are.
 
-Whether a sentence says what the clause says no script can tell."""
+Whether a sentence says what the clause says no script can tell.
+"""
+from __future__ import annotations
+
 import glob
 import os
 import re
 import sys
+from collections.abc import Generator, Iterator, Sequence
 
-from documents import TOP, read
+from command_line import TOP, words_of
+from documents import read
 
 # What is written or read, and no name: words of the command line, answers, and names of other files.
-OTHER = re.compile(r"[A-Z]+(:[A-Z]+)*: error: KIND|--\w+|cannot read NAME|NAME is too large|.*\.(md|py|txt|java|edit)|rt\b.*|HANDLES")
+OTHER = re.compile(
+    r"[A-Z]+(:[A-Z]+)*: error: KIND|--\w+|cannot read NAME|NAME is too large|.*\.(md|py|txt|java|edit)|rt\b.*|HANDLES"
+)
+# What a file of definitions, and one of code, calls something.
+DEFINED = re.compile(r"^(?:abbrev )?(?:pub |unfoldable )*(?:record |data )?([\w-]+)\b", re.MULTILINE)
+CODE = [
+    re.compile(r"\b(?:fn|struct|enum|trait|mod|type) (\w+)"),
+    re.compile(r"\b(?:ensures|requires) (\w+) \{"),
+    re.compile(r"^    (\w+) ?[,({]", re.MULTILINE),
+]
+EXPORTED = re.compile(r"^pub use ([^;]*);", re.MULTILINE)
 LONGEST_CELL = 70
 # A crate's own name is its prefix and a word.
 CRATE = re.compile(r"`((?:aj_|atomic_)\w+)(?:::(\w+))?`")
@@ -27,10 +41,11 @@ COMMANDS = "check print run serialise serialise-open replay derive verify blame 
 KEYWORDS = {"extends", "main", "this", "synchronized", "atomic", *COMMANDS.split()}
 
 
-def crate_uses():
+def crate_uses() -> dict[str, list[str]]:
     """What each crate uses."""
     with open(f"{TOP}/crates.txt", encoding="utf-8") as lines:
-        return {line.split(":")[0]: line.split(":")[1].split() for line in lines if line.strip() and not line.startswith("#")}
+        rows = [line.split(":") for line in lines if line.strip() and not line.startswith("#")]
+    return {name: uses.split() for name, uses in rows}
 
 
 USES = crate_uses()
@@ -39,40 +54,39 @@ USES = crate_uses()
 class Names:
     """The names that the files of a crate give."""
 
-    def __init__(self):
-        self.known = {}
+    def __init__(self) -> None:
+        self.known: dict[str, set[str]] = {}
 
-    def of(self, crate):
+    def of(self, crate: str) -> set[str]:
         if crate not in self.known:
             self.known[crate] = self.found(f"{TOP}/crates/{crate}")
         return self.known[crate]
 
     @staticmethod
-    def found(folder):
-        names = set()
+    def found(folder: str) -> set[str]:
+        names: set[str] = set()
         for path in glob.glob(f"{folder}/src/**/*.rt", recursive=True):
             text = read(path)
-            names.update(re.findall(r"\b(?:fn|struct|enum|trait|mod|type) (\w+)", text))
-            names.update(re.findall(r"\b(?:ensures|requires) (\w+) \{", text))
-            names.update(re.findall(r"^    (\w+) ?[,({]", text, re.M))
-            names.update(re.findall(r"\w+", " ".join(re.findall(r"^pub use ([^;]*);", text, re.M))))
+            names.update(name for form in CODE for name in form.findall(text))
+            names.update(re.findall(r"\w+", " ".join(EXPORTED.findall(text))))
         for path in glob.glob(f"{folder}/specs/**/*.antt", recursive=True):
             names.add("specs/" + os.path.splitext(os.path.relpath(path, f"{folder}/specs"))[0])
-            names.update(re.findall(r"^(?:abbrev )?(?:pub |unfoldable )*(?:record |data )?([\w-]+)\b", read(path), re.M))
+            names.update(DEFINED.findall(read(path)))
         return names
 
 
-def is_there(names, crates, word):
+def is_there(names: Names, crates: Sequence[str], word: str) -> bool:
     """Whether a word is a name of one of these crates: a call, or a type and a call of it."""
     parts = word.split("::")
     if parts[0] in USES:
         return all(part in names.of(parts[0]) for part in parts[1:])
-    return any(all(part in names.of(crate) or f"specs/{part}" in names.of(crate) for part in parts) for crate in crates)
+    return any(all({part, f"specs/{part}"} & names.of(crate) for part in parts) for crate in crates)
 
 
-def parts_of(text):
+def parts_of(text: str) -> Iterator[tuple[list[str], list[str]]]:
     """The document's parts: the headings above, and the lines."""
-    heads, part = [], []
+    heads: list[str] = []
+    part: list[str] = []
     for line in text.splitlines():
         if match := re.match(r"(#+) (.*)", line):
             yield heads, part
@@ -82,20 +96,21 @@ def parts_of(text):
     yield heads, part
 
 
-def long_cells(lines):
+def long_cells(lines: Sequence[str]) -> Iterator[str]:
+    """Cells that are too long to be read."""
     for line in lines:
         for cell in line.split("|") if line.startswith("|") else []:
             if len(cell.split()) > LONGEST_CELL:
                 yield f"a cell of {len(cell.split())} words: {cell.strip()[:60]}"
 
 
-def crates_said(line, before):
+def crates_said(line: str, before: list[str]) -> list[str]:
     """The crates that a line of the list speaks of: those in bold at its head, else those of the line before."""
     head = re.match(r"- ((?:\*\*`\w+`\*\*(?:, )?)+)", line)
     return re.findall(r"\*\*`(\w+)`\*\*", head[1]) if head else before
 
 
-def unknown_words(names, crates, line):
+def unknown_words(names: Names, crates: list[str], line: str) -> Iterator[str]:
     """The names of a line that neither these crates have, nor those that they use, nor those that the line names."""
     around = crates + [use for crate in crates for use in USES[crate] if use in USES]
     around += [word for word in re.findall(r"\w+", line) if word in USES]
@@ -106,8 +121,10 @@ def unknown_words(names, crates, line):
             yield word
 
 
-def check_list(names, lines):
-    crates, seen = [], []
+def check_list(names: Names, lines: Sequence[str]) -> Generator[str, None, list[str]]:
+    """What is wrong in the list of crates; and the crates that have a place in it."""
+    crates: list[str] = []
+    seen: list[str] = []
     for line in lines:
         crates = crates_said(line, crates) if not line.startswith("  ") else crates
         seen += crates if line.startswith("- ") else []
@@ -116,8 +133,9 @@ def check_list(names, lines):
     return seen
 
 
-def check_proved(names):
-    seen = []
+def check_proved(names: Names) -> Iterator[str]:
+    """What is wrong in docs/PROVED.md."""
+    seen: list[str] = []
     for heads, lines in parts_of(read(f"{TOP}/docs/PROVED.md")):
         yield from long_cells(lines)
         if "Crate by crate" in heads:
@@ -132,17 +150,15 @@ def check_proved(names):
             yield f"docs/PROVED.md: {crate} has {seen.count(crate)} places"
 
 
-def check_calls(names, path):
+def check_calls(names: Names, path: str) -> Iterator[str]:
     """Each call that a document names with its crate. Names of crates themselves are looked up by check_crates.py."""
     for crate, call in CRATE.findall(read(f"{TOP}/{path}")):
         if crate in USES and call and call not in names.of(crate):
             yield f"{path}: no {call} in {crate}"
 
 
-def main():
-    if len(sys.argv) > 1:
-        print(__doc__.split("\n\n", 1)[0], file=sys.stderr)
-        return 2
+def main() -> int:
+    words_of(__doc__).parse_args()
     names = Names()
     wrong = list(check_proved(names))
     for path in ("README.md", "docs/PROVED.md", "docs/PROVING.md", "docs/DECISIONS.md", "docs/architecture.md"):

@@ -3,7 +3,8 @@
     words = words_of(__doc__)                an argparse parser that says what the script's own text says
     words.add_argument("program", metavar="PROGRAM", type=program_of, help=PROGRAM)
 
-Importing this module lets the scripts import `atomic_tools`.
+Importing this module lets the scripts import `atomic_tools`, and lets them end in silence, with status 3, where nobody
+reads what they write any more or an interrupt comes.
 """
 from __future__ import annotations
 
@@ -11,6 +12,7 @@ import argparse
 import os
 import sys
 from collections.abc import Sequence
+from types import TracebackType
 from typing import Any, Optional
 
 HERE = os.path.dirname(os.path.abspath(__file__))
@@ -21,6 +23,16 @@ if TOOLS not in sys.path:
 
 PROGRAM = "the built `atomic`, proved or not"
 WHY = "the built `atomic_why`, proved or not"
+
+
+def end_of(kind: type[BaseException], error: BaseException, trace: Optional[TracebackType]) -> None:
+    """Ends the script at an error that nobody caught."""
+    if issubclass(kind, (BrokenPipeError, KeyboardInterrupt)):
+        os._exit(3)
+    sys.__excepthook__(kind, error, trace)
+
+
+sys.excepthook = end_of
 
 
 class Words(argparse.ArgumentParser):

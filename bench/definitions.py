@@ -2,11 +2,11 @@
 """Computes the definitions of crates (crates/CRATE/specs/*.antt) without any proof, in a second: a small evaluator of
 the part of antt that they are written in, functions by clauses on data, records, numbers, lists and maps.
 
-  check  computes both sides of each clause `left ≡ right` of the examples, which are the functions without a body in the
-         crates named here, or in those whose names end in `_examples`. It prints the clauses whose sides differ, and counts
-         those that it can't compute, as they are about all programs or about types
-  cover  prints the clauses and branches of the definitions of a crate, or of one of its files, that no example of any crate
-         computes
+  check  computes both sides of each clause `left ≡ right` of the examples, which are the functions without a body in
+         the crates named here, or in those whose names end in `_examples`. It prints the clauses whose sides differ,
+         and counts those that it can't compute, as they are about all programs or about types
+  cover  prints the clauses and branches of the definitions of a crate, or of one of its files, that no example of any
+         crate computes
 
 It proves nothing, and the checker alone says what holds. It is here to find missing examples, and for
 bench/mutate.py. Terms are read in definition_terms.py, files in definition_files.py; definition_compiler.py makes
@@ -208,9 +208,8 @@ def check(crates: Iterable[str], tells_all: bool) -> int:
         counts[same] = counts.get(same, 0) + 1
         if same is False:
             differ += 1
-            print(
-                f"differs  {example.label()}\n    left:  {shown(example.sides[0])}\n    right: {shown(example.sides[1])}"
-            )
+            print(f"differs  {example.label()}")
+            print(f"    left:  {shown(example.sides[0])}\n    right: {shown(example.sides[1])}")
         elif same is None and tells_all:
             print(f"not computed  {example.label()}: {example.why!r}")
     print(f"{counts.get(True, 0)} equal, {counts.get(False, 0)} differ, {counts.get(None, 0)} not computed")

@@ -11,7 +11,8 @@ from collections.abc import Sequence
 
 TOKEN = re.compile(r"[A-Za-z_0-9]+|==|!=|<=|>=|&&|\|\||--|\S|\s+")
 SPARE = (
-    "class A B this f g ( ) { } ; , . = == < + - ! && 0 7 2147483648 if else while return synchronized new final int boolean void atomic requires guarded_by null true @ /* // public implements Runnable extends Thread System x y"
+    "class A B this f g ( ) { } ; , . = == < + - ! && 0 7 2147483648 if else while return synchronized new final int "
+    "boolean void atomic requires guarded_by null true @ /* // public implements Runnable extends Thread System x y"
 ).split()
 
 

@@ -6,7 +6,6 @@ each uses only earlier ones, with the sentence that stands above it in its file.
 clause of the two programs adds. Without --write both pages are compared with what stands in docs, and the exit
 status is 1 where one differs.
 """
-import argparse
 import re
 import sys
 from collections.abc import Iterable, Iterator
@@ -14,20 +13,61 @@ from dataclasses import dataclass, field
 from pathlib import Path
 
 import definitions
+from command_line import words_of
+from law_index import clean, crates, joined, quoted, theorem_index
 
 TOP = Path(__file__).resolve().parent.parent
 
 # The subjects, in the order in which a person reads them, each with its crates.
 SUBJECTS: list[tuple[str, str, list[str]]] = [
-    ("Rules", "What a program is once its types are known, and what the checker asks of it. This is what a person has to believe, "
-     "together with the machine.", ["aj_ancestors", "aj_paths", "aj_core", "aj_algebra", "aj_rules"]),
-    ("Machine", "What a state is, what one step of one thread does, and what a run of a schedule is.", ["aj_state", "aj_steps"]),
-    ("From bytes to programs", "Tokens, grammar, classes and types: which bytes are a well-formed source, and of which program.",
-     ["aj_lexer", "aj_syntax", "aj_class_rules", "aj_classes", "aj_type_rules", "aj_elaborate", "aj_printer"]),
-    ("Verdicts, books, certificates", "The least assignment and the bound that it breaks; verdicts that others can check.",
-     ["aj_fix", "aj_effects", "aj_callers", "aj_infer", "aj_cond", "aj_books", "aj_book_rules", "aj_book_check", "aj_derive", "aj_blame", "aj_blame_text"]),
-    ("Above the machine", "Orders of open calls, circles of waiting threads, plain evaluation, explanations.",
-     ["aj_open", "aj_levels", "aj_level_text", "aj_replay", "aj_book_rules", "aj_why", "aj_explain", "aj_effect_at", "aj_places"]),
+    (
+        "Rules",
+        "What a program is once its types are known, and what the checker asks of it. This is what a person has to "
+        "believe, together with the machine.",
+        ["aj_ancestors", "aj_paths", "aj_core", "aj_algebra", "aj_rules"],
+    ),
+    (
+        "Machine",
+        "What a state is, what one step of one thread does, and what a run of a schedule is.",
+        ["aj_state", "aj_steps"],
+    ),
+    (
+        "From bytes to programs",
+        "Tokens, grammar, classes and types: which bytes are a well-formed source, and of which program.",
+        ["aj_lexer", "aj_syntax", "aj_class_rules", "aj_classes", "aj_type_rules", "aj_elaborate", "aj_printer"],
+    ),
+    (
+        "Verdicts, books, certificates",
+        "The least assignment and the bound that it breaks; verdicts that others can check.",
+        [
+            "aj_fix",
+            "aj_effects",
+            "aj_callers",
+            "aj_infer",
+            "aj_cond",
+            "aj_books",
+            "aj_book_rules",
+            "aj_book_check",
+            "aj_derive",
+            "aj_blame",
+            "aj_blame_text",
+        ],
+    ),
+    (
+        "Above the machine",
+        "Orders of open calls, circles of waiting threads, plain evaluation, explanations.",
+        [
+            "aj_open",
+            "aj_levels",
+            "aj_level_text",
+            "aj_replay",
+            "aj_book_rules",
+            "aj_why",
+            "aj_explain",
+            "aj_effect_at",
+            "aj_places",
+        ],
+    ),
     ("Texts and calls", "Which bytes are read and written, and what a call of the program is.", []),
 ]
 
@@ -35,7 +75,11 @@ SUBJECTS: list[tuple[str, str, list[str]]] = [
 CLAUSES: list[tuple[str, str, str]] = [
     ("open_calls", "aj_commands/OpenCalls", "every schedule that runs has an order that leaves open calls whole"),
     ("books", "aj_commands/Books", "a book that is verified is of an accepted source"),
-    ("refutations", "aj_commands/Refutations", "a certificate that is verified is of a source without an admissible assignment"),
+    (
+        "refutations",
+        "aj_commands/Refutations",
+        "a certificate that is verified is of a source without an admissible assignment",
+    ),
     ("no_circles", "aj_commands/NoCircles", "an ordered program reaches no circle of waiting threads"),
     ("replayed_calls", "aj_commands/ReplayedCalls", "completed atomic calls agree with plain evaluation"),
     ("sentence", "aj_explain_commands/Sentence", "`atomic_why` tells exactly the methods that break their bound"),
@@ -70,12 +114,6 @@ class Page:
         return sum(entry.lines for entry in self.entries)
 
 
-def crates() -> list[str]:
-    """All crates, each behind those that it uses."""
-    text = (TOP / "crates.txt").read_text(encoding="utf-8")
-    return [line.split(":")[0].split()[0] for line in text.splitlines() if ":" in line and not line.startswith("#")]
-
-
 BEGINS = re.compile(r"\s*(?:abbrev |unfoldable )?(?:pub )?(?:(?:data|record) )?([^\W\d][\w'\-]*)(?= :| \(| \{|$)")
 
 
@@ -108,19 +146,37 @@ def entries_of(path: Path, wanted: set[str]) -> Iterator[Entry]:
 
 
 def place_of(name: str, names: dict[int, str], lines: list[str]) -> int:
-    """The line that begins the definition of a name: the first of those that stand least far to the right, so no record's field."""
-    return min((at for at, other in names.items() if other == name), key=lambda at: (len(lines[at]) - len(lines[at].lstrip()), at))
+    """The line that begins the definition of a name.
+
+    It is the first of those that stand least far to the right, so no record's field.
+    """
+    return min(
+        (at for at, other in names.items() if other == name),
+        key=lambda at: (len(lines[at]) - len(lines[at].lstrip()), at),
+    )
 
 
 def is_start(line: str) -> bool:
     """Whether a line begins a definition: a signature, a record or a data type."""
-    return bool(re.match(r"\s{0,4}(?:abbrev |unfoldable )?(?:pub )?(?:data |record )?[^\W\d][\w'\-]*(?: \(.*| \{.*)? : ", line)
-                or re.match(r"\s{0,4}(?:pub )?(?:data|record) ", line)) and " = " not in line.split(" : ")[0] and not line.startswith("      ")
+    return (
+        bool(
+            re.match(
+                r"\s{0,4}(?:abbrev |unfoldable )?(?:pub )?(?:data |record )?[^\W\d][\w'\-]*(?: \(.*| \{.*)? : ", line
+            )
+            or re.match(r"\s{0,4}(?:pub )?(?:data|record) ", line)
+        )
+        and " = " not in line.split(" : ")[0]
+        and not line.startswith("      ")
+    )
 
 
 def count_lines(lines: Iterable[str]) -> int:
     """Lines that aren't empty and no comment."""
-    return sum(1 for line in lines if line.strip() and not line.lstrip().startswith("--") and not re.match(r"(module|pub mod|use) ", line.strip()))
+    return sum(
+        1
+        for line in lines
+        if line.strip() and not line.lstrip().startswith("--") and not re.match(r"(module|pub mod|use) ", line.strip())
+    )
 
 
 def pages_of(items: Iterable[Item]) -> list[Page]:
@@ -177,10 +233,6 @@ def subject_of(crate: str) -> str:
     return SUBJECTS[-1][0]
 
 
-def clean(text: str) -> str:
-    return text.replace("|", "\\|").strip()
-
-
 def page_lines(page: Page) -> Iterator[str]:
     """A file of the list: its name, what its head says, and a row for each definition."""
     yield f"### `{page.path.relative_to(TOP / 'crates')}`"
@@ -200,9 +252,16 @@ def totals(pages: list[Page]) -> str:
 
 
 def cited(world: definitions.World, name: str) -> set[Item]:
-    """The definitions that a file of clauses cites, directly or through others; a data type stands for its constructors."""
-    found: set[Item] = definitions.cited_from(world, definitions.specs(name))
-    return {(path, item) for path, item in found if item not in world.file(definitions.module_of(path)).constructors}
+    """The definitions that a file of clauses cites, directly or through others.
+
+    A data type stands for its constructors.
+    """
+    return {item for item in definitions.cited_from(world, definitions.specs(name)) if not is_constructor(world, item)}
+
+
+def is_constructor(world: definitions.World, item: Item) -> bool:
+    file = world.file(definitions.module_of(item[0]))
+    return file is not None and item[1] in file.constructors
 
 
 def headline_lines(pages: list[Page]) -> Iterator[str]:
@@ -224,18 +283,28 @@ def clause_lines(world: definitions.World, seen: set[Item]) -> Iterator[str]:
     for clause, name, said in CLAUSES:
         more = cited(world, name) - seen
         pages = pages_of(more)
-        yield from (f"## What `{clause}` adds", "", f"{said[0].upper()}{said[1:]} (`{name.replace('/', '/specs/')}.antt`). {totals(pages)}.", "")
+        yield from (
+            f"## What `{clause}` adds",
+            "",
+            f"{said[0].upper()}{said[1:]} (`{name.replace('/', '/specs/')}.antt`). {totals(pages)}.",
+            "",
+        )
         for page in pages:
             yield from page_lines(page)
 
 
 INTRODUCTION = """# The reading list of the theorem
 
-A proof shows that the program meets its contracts. It can't show that the contracts say what you want. For that, somebody has to read the definitions that they are written in. This page lists them, so that you know what to read, and when you are done.
+A proof shows that the program meets its contracts. It can't show that the contracts say what you want. For that,
+somebody has to read the definitions that they are written in. This page lists them, so that you know what to read, and
+when you are done.
 
-Begin with *Rules* and *Machine*: they say what acceptance is and what a run is. If you believe these two, you know what the theorem claims. The other parts tie both to bytes. Each file uses only files that stand before it, and words of the standard library, which are listed at the end.
+Begin with *Rules* and *Machine*: they say what acceptance is and what a run is. If you believe these two, you know what
+the theorem claims. The other parts tie both to bytes. Each file uses only files that stand before it, and words of the
+standard library, which are listed at the end.
 
-Types that are written in Rust (enumerations such as the five basic atomicities) aren't listed: they stand in the `src/` folder of the same crate.
+Types that are written in Rust (enumerations such as the five basic atomicities) aren't listed: they stand in the `src/`
+folder of the same crate.
 
 `bench/reading.py` writes this page from the sources, and the check of documents compares them.
 """
@@ -246,62 +315,13 @@ def reading_list() -> str:
     world = definitions.World()
     items = cited(world, "aj_commands/Headline")
     pages = pages_of(items)
-    lines = [INTRODUCTION, *headline_lines(pages), *clause_lines(world, items)]
-    lines += ["## Words of the standard library", "", ", ".join(f"`{name}`" for name in std_names(pages)) + ".", ""]
-    return "\n".join(lines)
-
-
-@dataclass
-class Law:
-    """A public function without a body: its contract is a theorem."""
-
-    name: str
-    file: Path
-    said: str
-    clauses: list[str]
-
-
-LAW = re.compile(r"((?:^///[^\n]*\n)+)(?:^#\[[^\n]*\n)*^pub fn (\w+)(?:<[^>]*>)?\(\)((?:\n {4}[^\n]*)*)\n\{\}", re.M)
-
-
-def laws() -> Iterator[Law]:
-    """All laws, crate by crate; examples aside."""
-    for crate in crates():
-        if crate.endswith("_examples") or crate == "aj_examples":
-            continue
-        for path in sorted((TOP / "crates" / crate / "src").rglob("*.rt")):
-            text = path.read_text(encoding="utf-8")
-            for found in LAW.finditer(text):
-                said = " ".join(line.strip().lstrip("/").strip() for line in found.group(1).splitlines())
-                yield Law(found.group(2), path, said, re.findall(r"(?m)^    ensures (\w+) ", found.group(3)))
-
-
-def uses_of(crate: str) -> list[str]:
-    """The crates whose proofs a crate's proofs cite."""
-    found: set[str] = set()
-    for path in (TOP / "crates" / crate / "proofs").rglob("*.antt"):
-        found |= set(re.findall(r"use Rattle\.(\w+)\.proofs\.", path.read_text(encoding="utf-8")))
-    return [name for name in crates() if name in found and name != crate]
-
-
-def theorem_index() -> str:
-    """The whole of docs/theorems.md."""
-    lines = ["# The laws, one by one", "",
-             "A law is a public function without a body: its contract is the theorem, and the check proves it. This page has a row for each, in the "
-             "order of the crates. `docs/PROVED.md` says what they come to together. `bench/reading.py` writes this page.", ""]
-    by_crate: dict[str, list[Law]] = {}
-    for law in laws():
-        by_crate.setdefault(law.file.parent.parent.name, []).append(law)
-    for crate, own in by_crate.items():
-        uses = ", ".join(f"`{name}`" for name in uses_of(crate)) or "std alone"
-        lines += [f"## `{crate}`", "", f"Its proofs cite: {uses}.", "", "| law | clauses | what it says |", "|---|---|---|"]
-        lines += [f"| `{law.name}` (`src/{law.file.name}`) | {', '.join(f'`{it}`' for it in law.clauses)} | {clean(law.said)} |" for law in own]
-        lines += [""]
+    lines = [joined(INTRODUCTION), *headline_lines(pages), *clause_lines(world, items)]
+    lines += ["## Words of the standard library", "", quoted(std_names(pages)) + ".", ""]
     return "\n".join(lines)
 
 
 def main() -> int:
-    parser = argparse.ArgumentParser(description=__doc__, formatter_class=argparse.RawDescriptionHelpFormatter)
+    parser = words_of(__doc__)
     parser.add_argument("--write", action="store_true", help="write both pages")
     arguments = parser.parse_args()
     wrong = 0

@@ -11,7 +11,8 @@ ScheduleRow = Tuple[str, Text, Text, int, Optional[Text]]
 
 CELL = "class Cell { int v guarded_by this; atomic void inc() { synchronized (this) { this.v = this.v + 1; } } %s} "
 WORKER = "class W implements Runnable { final Cell c; W(Cell c) { this.c = c; } public void run() { this.c.inc(); } } "
-MAIN = "class Main { void main() { final Cell c = new Cell(); new Thread(new W(c)).start(); new Thread(new W(c)).start(); %s} }"
+START = "new Thread(new W(c)).start(); "
+MAIN = "class Main { void main() { final Cell c = new Cell(); " + 2 * START + "%s} }"
 EMPTY_MAIN = "class Main { void main() { } }"
 LOCKED = "class Main { int v guarded_by this; atomic void main() { synchronized (this) { this.v = 7; } } }"
 BUFFER = (
@@ -55,7 +56,8 @@ def counter_with(member: str, line: str) -> Row:
 
 
 def verdicts() -> list[Row]:
-    box = "class Box { final Cell c; Box(Cell c) { this.c = c; } atomic void clear() { final Cell x = this.c; synchronized (x) { x.v = 0; %s} } }"
+    clear = "atomic void clear() { final Cell x = this.c; synchronized (x) { x.v = 0; %s} } "
+    box = "class Box { final Cell c; Box(Cell c) { this.c = c; } " + clear + "}"
     peek = "int peek() requires this { return this.v; } "
 
     def locking(names: str) -> str:
@@ -91,7 +93,8 @@ def verdicts() -> list[Row]:
             "Cell.grow: declared atomic, found cmpd",
         ),
         counter_with(
-            "atomic void down(int k) requires this { if (k > 0) { this.v = this.v + k; this.down(k - 1); this.down(k - 1); } } ",
+            "atomic void down(int k) requires this { "
+            "if (k > 0) { this.v = this.v + k; this.down(k - 1); this.down(k - 1); } } ",
             "Cell.down mover",
         ),
         accepted(counter(behind=box % ""), INC, RUN, STARTS, "Box.clear this.c ? mover : atomic"),
@@ -180,11 +183,17 @@ def write_guards() -> list[Row]:
 
 def families() -> list[Row]:
     """Classes that extend each other."""
-    put = "class A { int v guarded_by this; atomic void put() { synchronized (this) { this.v = 1; } } } class B extends A { atomic void put() { %s} } "
+    put = (
+        "class A { int v guarded_by this; atomic void put() { synchronized (this) { this.v = 1; } } } "
+        "class B extends A { atomic void put() { %s} } "
+    )
     get = "class A { %s } class B extends A { } class C extends B { %s } "
     fields = "\n".join(f"int f{k};" for k in range(32))
     run = "class A implements Runnable { void run() { } } class B extends A { } "
-    locked = "class A { final A next; A(A next) { this.next = next; } %s } class B extends A { B(A next) { this.next = next; } %s } "
+    locked = (
+        "class A { final A next; A(A next) { this.next = next; } %s } "
+        "class B extends A { B(A next) { this.next = next; } %s } "
+    )
     return [
         broken(put % "this.v = 2; " + EMPTY_MAIN, "A.put: declared atomic, found error"),
         accepted(put % "" + EMPTY_MAIN, "A.put this ? mover : atomic", "B.put const", "Main.main const"),
@@ -201,8 +210,8 @@ def families() -> list[Row]:
             "1:57: bad constructor",
         ),
         refused(
-            "class A { final int n; A(int n) { this.n = n; } } class B extends A { final int m; B(int m, int n) { this.m = m; this.n = n; } } "
-            + EMPTY_MAIN,
+            "class A { final int n; A(int n) { this.n = n; } } "
+            "class B extends A { final int m; B(int m, int n) { this.m = m; this.n = n; } } " + EMPTY_MAIN,
             "1:84: bad constructor",
         ),
         refused(
@@ -213,7 +222,8 @@ def families() -> list[Row]:
         refused("class B extends A { } class A implements Runnable { } " + EMPTY_MAIN, "1:7: no run"),
         refused(f"class A {{\n{fields}\n}} class B extends A {{ int g; }} " + EMPTY_MAIN, "34:27: too many"),
         refused(
-            "class A { final int n; A(int n) { this.n = n; } } class Main extends A { Main(int n) { this.n = n; } void main() { } }",
+            "class A { final int n; A(int n) { this.n = n; } } "
+            "class Main extends A { Main(int n) { this.n = n; } void main() { } }",
             "1:1: no main",
         ),
         refused(
@@ -287,13 +297,18 @@ def rows(with_write_guards: bool, with_extends: bool) -> list[Row]:
 
 def family_schedules() -> list[ScheduleRow]:
     """The receiver's class chooses the method."""
-    get = "class A { int get() { return 1; } } class B extends A { int get() { return 2; } } class Main { void main() { A a = new B(); System.out.println(a.get()); } }"
+    get = (
+        "class A { int get() { return 1; } } class B extends A { int get() { return 2; } } "
+        "class Main { void main() { A a = new B(); System.out.println(a.get()); } }"
+    )
     run = (
-        "class A implements Runnable { void run() { } } class B extends A { public void run() { System.out.println(2); } } "
+        "class A implements Runnable { void run() { } } "
+        "class B extends A { public void run() { System.out.println(2); } } "
         "class C extends B { } class Main { void main() { A a = new C(); new Thread(a).start(); } }"
     )
     named = (
-        "class A { final int x; int y; A(int x) { this.x = x; } } class B extends A { final int z; boolean w; B(int x, int z) { this.x = x; this.z = z; } } "
+        "class A { final int x; int y; A(int x) { this.x = x; } } "
+        "class B extends A { final int z; boolean w; B(int x, int z) { this.x = x; this.z = z; } } "
         "class Main { void main() { new B(3, 4); } }"
     )
     return [
@@ -313,8 +328,10 @@ def schedule_rows(with_extends: bool) -> list[ScheduleRow]:
     """Rows of two files: command, source, schedule, status and text."""
     counted = counter()
     left = ["object 0:0 Main", "object 0:1 Cell v=0", "object 0:2 W c=0:1", "object 0:3 W c=0:1"]
-    numbers = "class Main { void main() { System.out.println(-2147483648 / -1); System.out.println(-7 % 3); System.out.println(1 / 0); } }"
-    twice = "class Main { int v guarded_by this; atomic void main() { synchronized (this) { synchronized (this) { this.v = 7; } } } }"
+    terms = [f"System.out.println({term}); " for term in ("-2147483648 / -1", "-7 % 3", "1 / 0")]
+    numbers = "class Main { void main() { " + "".join(terms) + "} }"
+    locked = "synchronized (this) { synchronized (this) { this.v = 7; } }"
+    twice = "class Main { int v guarded_by this; atomic void main() { " + locked + " } }"
     calls = "class Main { void f() { this.f(); } void main() { this.f(); } }"
     follows = "class Main { Main m; void main() { this.m.m = this; } }"
     loop = "class Main { void main() { while (true) { } } }"
