@@ -1,8 +1,8 @@
 #!/bin/sh
 # usage: must_not_compile.sh
 # A token that is kept after its source is gone must not compile, and neither must a node of a book that is kept after
-# the book's bytes. Makes each edit of a test in a copy, and wants the borrow checker's refusal. Needs no proof, and takes
-# a minute.
+# the book's bytes. Makes each edit of a test in a copy, and wants the borrow checker's refusal. Needs no proof, and
+# takes a minute.
 set -eu
 usage() { sed -n '2,/^set /{/^# /s/^# //p}' "$0"; exit "$1"; }
 case ${1-} in --help | -h) usage 0 ;; ?*) usage 2 >&2 ;; esac

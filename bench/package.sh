@@ -26,11 +26,13 @@ umask 022
 if [ $proved = yes ]; then
     atomic=$top/crates/atomic_cli/out/atomic_cli why=$top/crates/atomic_why/out/atomic_why
 else
-    atomic=${ATOMIC-$top/crates/atomic_cli/out/atomic-unproved} why=${ATOMIC_WHY-$top/crates/atomic_why/out/atomic-why-unproved}
+    atomic=${ATOMIC-$top/crates/atomic_cli/out/atomic-unproved}
+    why=${ATOMIC_WHY-$top/crates/atomic_why/out/atomic-why-unproved}
 fi
 for program in "$atomic" "$why"; do
     [ -x "$program" ] || { echo "package.sh: there is no $program" >&2; exit 1; }
-    if [ $proved = yes ] && [ -n "$(find "$top/crates" -path '*/out' -prune -o -type f -newer "$program" -print | head -n 1)" ]; then
+    newer=$(find "$top/crates" -path '*/out' -prune -o -type f -newer "$program" -print | head -n 1)
+    if [ $proved = yes ] && [ -n "$newer" ]; then
         echo "package.sh: $program is older than its crates" >&2
         exit 1
     fi
@@ -50,7 +52,9 @@ mkdir -p "$root/DEBIAN" "$root/usr/bin" "$share/atomic" "$share/man/man1" "$shar
     "$share/doc/atomic/docs" "$share/doc/atomic/examples"
 install -m 755 -s "$atomic" "$root/usr/bin/atomic"
 install -m 755 -s "$why" "$root/usr/bin/atomic_why"
-git -C "$top" ls-files tools/atomic_tools | while read -r file; do install -D -m 644 "$top/$file" "$share/atomic/$file"; done
+git -C "$top" ls-files tools/atomic_tools | while read -r file; do
+    install -D -m 644 "$top/$file" "$share/atomic/$file"
+done
 echo "$version" > "$share/atomic/tools/atomic_tools/VERSION"
 install -m 644 "$top/tools/pre-commit" "$share/atomic/tools"
 for tool in atomic-page atomic-witness atomic-sarif; do
@@ -69,7 +73,9 @@ install -m 644 "$work/java/atomic-java.jar" "$share/atomic/atomic-java.jar"
 install -m 644 "$top"/README.md "$share/doc/atomic"
 install -m 644 "$top"/docs/* "$share/doc/atomic/docs"
 install -m 644 "$top"/examples/* "$share/doc/atomic/examples"
-echo "The repository that this package was made of has no licence file, and nothing in it says under which licence it stands." > "$share/doc/atomic/copyright"
+cat > "$share/doc/atomic/copyright" << 'END'
+The repository that this package was made of has no licence file, and nothing in it says under which licence it stands.
+END
 
 # What dpkg wants to know.
 size=$(du -sk --apparent-size "$root/usr" | cut -f 1)
