@@ -3,7 +3,7 @@
 
 What `atomic_why` refuses in the source, atomic-java has to refuse in the Java text. What it refuses besides is counted. Sources
 that aren't well-typed are drawn again; so are those in which something is refused for a lock under a second name, that of a local, since
-atomic-java puts the first name in its place, and those that require a field of a parameter, which @Holding can't say. Many sources are judged in one run, each in a package of its own.
+atomic-java puts the first name in its place. Many sources are judged in one run, each in a package of its own.
 
 Printed as Java, an annotation stands where the language has a word; a constructor calls the one above; each method is public, since
 `run` has to be; a class Touching writes each field, since one that nobody writes makes no step in Java; what isn't final is assigned once more, so that it isn't effectively final either; and the condition of a loop isn't
@@ -27,7 +27,6 @@ SECOND_NAME = re.compile(r"note: .*(?:\bx\d+\b.* isn't held here|is held here un
 HEAD = re.compile(r"((?:atomic )?)(\w+ )(\w+)\(([^()]*)\)((?: requires [\w., ]+)?) \{(?= |$)")
 FIELD = re.compile(r"(\w+ \w+) guarded_by ([\w.]+);")
 LOCAL = re.compile(r"(?<!final )\b(?!return|new|final)([A-Za-z]\w*) (x\d+) = ([^;]*);")
-FIELD_OF_PARAMETER = re.compile(r"requires [^{]*\b(?!this\b)\w+\.\w")
 INTERFACES = "@interface GuardedBy { String value(); } @interface Holding { String[] value(); }"
 
 
@@ -91,7 +90,7 @@ def draw(seed: int, folder: Path, why: Path) -> Drawn | None:
     generator = Generator(seed, calm=seed % 3 != 0, extends=seed % 2 == 0)
     source = generator.source()
     without = any(cls.finals() and f"{cls.name}(" not in source for cls in generator.classes)
-    if without or FIELD_OF_PARAMETER.search(source):
+    if without:
         return None
     path = folder / "source.java"
     path.write_text(source, encoding="utf-8")

@@ -32,6 +32,7 @@ CLASSES = {
 }
 SUMMARY = re.compile(r"(\d+) methods: (\d+) exact, (\d+) assumed, (\d+) approximated; (\d+) promise to be atomic:")
 REFUSED = re.compile(r"^(.*): error: .* is declared atomic, found \w+$", re.MULTILINE)
+PERHAPS = re.compile(r"^(.*): note: this may be a wrong alarm", re.MULTILINE)
 NOTE = re.compile(r": note: approximated: ([^:,\n]*)")
 
 
@@ -48,9 +49,9 @@ class Row:
 
     def text(self) -> str:
         """The row of the table."""
-        methods, exact, assumed, approximated, promised, atomic, refused = self.figures
+        methods, exact, assumed, approximated, promised, atomic, refused, perhaps = self.figures
         return (f"| `{self.name.replace('/', '.')}` | {self.lines} | {methods} | {exact} | {assumed} | {approximated} | {promised} | "
-                f"{atomic} | {refused} | {self.seconds:.1f} |")
+                f"{atomic} | {refused} | {perhaps} | {self.seconds:.1f} |")
 
 
 def judged(name: str, archive: zipfile.ZipFile, folder: Path, program: Path) -> Row | str:
@@ -70,15 +71,16 @@ def judged(name: str, archive: zipfile.ZipFile, folder: Path, program: Path) -> 
         return f"{name}: status {done.returncode}: {(answer + done.stderr.decode())[:300]}"
     reasons = Counter(reason.split(" (")[0] for reason in NOTE.findall(answer))
     lines = sum(Path(source).read_text(encoding="utf-8").count("\n") for source in sources)
-    promised, refused = int(found[5]), len(set(REFUSED.findall(answer)))
-    figures = (*(int(number) for number in found.groups()), promised - refused, refused)
+    refused = set(REFUSED.findall(answer))
+    promised, certain = int(found[5]), len(refused - set(PERHAPS.findall(answer)))
+    figures = (*(int(number) for number in found.groups()), promised - len(refused), certain, len(refused) - certain)
     return Row(name, lines, figures, seconds, reasons, answer)
 
 
 def told(rows: list[Row]) -> None:
     """Prints the table and what stands behind it."""
-    print("| class | lines | methods | exact | assumed | approximated | public | found atomic | refused | seconds |")
-    print("|---|---|---|---|---|---|---|---|---|---|")
+    print("| class | lines | methods | exact | assumed | approximated | public | found atomic | refused for certain | perhaps | seconds |")
+    print("|---|---|---|---|---|---|---|---|---|---|---|")
     for row in rows:
         print(row.text())
     sums = tuple(map(sum, zip(*(row.figures for row in rows))))

@@ -5,6 +5,7 @@ adversaries  methods that look atomic and aren't (java/tests/adversaries): each 
 users        classes as people bring them (java/tests/users): the verdicts that an expert wrote down before
 larger       accepted sources of ordinary style (java/tests/larger)
 mutants      these, each time without one lock, guard or @Holding: each is told, or its line says why that is harmless
+summaries    sources whose first line has the line of figures that comes (java/tests/summaries)
 
 The exit status is 0 where all hold. Without a name all are tried.
 """
@@ -85,6 +86,15 @@ class Tester:
             if line.kind == "error":
                 self.tell(f"{Path(line.file).name}:{line.line}: wanted no error, given {line.text}")
 
+    def summaries(self) -> None:
+        """The figures of each source, in which a method with several errors counts once."""
+        for path in sorted((TESTS / "summaries").glob("*.java")):
+            wanted = path.read_text(encoding="utf-8").splitlines()[0].removeprefix("// summary: ")
+            self.count += 1
+            rest = self.judged([], [path]).rest
+            if wanted not in rest:
+                self.tell(f"{path.name}: wanted {wanted}, given {rest}")
+
     def is_new(self, path: Path, line: Line) -> bool:
         """Whether a line is a data race that the source itself hasn't."""
         return RACE in line.text and (path.name, line.line, line.text) not in self.races
@@ -115,7 +125,7 @@ class Tester:
 
 def main() -> None:
     """Tries the tests that are named."""
-    names = ["adversaries", "users", "larger", "mutants"]
+    names = ["adversaries", "users", "larger", "summaries", "mutants"]
     parser = argparse.ArgumentParser(description=__doc__, formatter_class=argparse.RawDescriptionHelpFormatter)
     parser.add_argument("tests", nargs="*", metavar="TEST", help=f"what is tried: {', '.join(names)}")
     parser.add_argument("--program", type=Path, default=PROGRAM, help="the launcher (default: java/out/atomic-java)")

@@ -152,6 +152,12 @@ final class Judging {
             align(method);
             return;
         }
+        if (program.sure()) {
+            method.loose().clear();
+            method.body(Part.NOTHING);
+            sizes.remove(method);
+            return;
+        }
         Part.Call unknown = methods.several("what is past a limit of the checker", method.place());
         if (!program.helpers().methods().contains(unknown.target())) {
             program.helpers().methods().add(unknown.target());

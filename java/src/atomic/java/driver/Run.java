@@ -5,12 +5,14 @@ import atomic.java.attribution.Javac;
 import atomic.java.options.Options;
 import atomic.java.options.Refusal;
 import atomic.java.passes.ClosedWorld;
+import atomic.java.passes.Doubts;
 import atomic.java.passes.Inference;
 import atomic.java.passes.Limits;
 import atomic.java.passes.Marking;
 import atomic.java.passes.Pruning;
 import atomic.java.passes.Races;
 import atomic.java.passes.ReadLocks;
+import atomic.java.passes.Unwritten;
 import atomic.java.passes.Waiting;
 import atomic.java.places.Text;
 import atomic.java.places.Writer;
@@ -37,10 +39,8 @@ public final class Run {
     /** Writes the answer, and gives the status. */
     public int judge(StringBuilder answer) {
         Attribution attribution = new Javac(options).attribute();
-        Program program = new Program(attribution, options);
-        Methods methods = new Methods(program);
-        methods.translate();
-        refine(program, methods);
+        Program program = new Program(attribution, options, false);
+        Methods methods = skeleton(program);
         if (options.log() != null) {
             new Copies(attribution, program.library(), tree -> methods.promises(program.method(attribution.element(tree))))
                 .write(options.log(), all(program));
@@ -54,11 +54,29 @@ public final class Run {
         if (!options.quiet()) {
             program.notes().lines().forEach(line -> answer.append(line).append('\n'));
         }
-        judging.lines().forEach(line -> answer.append(line).append('\n'));
+        lines(attribution, program, judging).forEach(line -> answer.append(line).append('\n'));
         long promised = program.methods().stream().filter(methods::promises).count();
-        System.err.println(new Summary(judging, program.notes(), methods.judged()).line((int) promised));
+        System.err.println(new Summary(program.notes(), methods).line(judging, (int) promised));
         hint(program, methods, promised);
         return judging.status();
+    }
+
+    private Methods skeleton(Program program) {
+        Methods methods = new Methods(program);
+        methods.translate();
+        refine(program, methods);
+        return methods;
+    }
+
+    /** The errors, each with what else is refused for certain where something is approximated. */
+    private List<String> lines(Attribution attribution, Program program, Judging judging) {
+        if (judging.status() == 0 || !program.notes().approximates()) {
+            return judging.lines();
+        }
+        Program rest = new Program(attribution, options, true);
+        Judging certain = new Judging(rest, skeleton(rest));
+        certain.run();
+        return new Certainty(judging.lines(), certain.lines()).lines();
     }
 
     /** Without promises or guards little is judged: what would help is told, beside the answer. */
@@ -74,10 +92,14 @@ public final class Run {
     /** Takes waits, locks of readers and what has no step out of the skeleton, and finds guards where that is asked. */
     private void refine(Program program, Methods methods) {
         List<Method> all = all(program);
+        if (program.sure()) {
+            new Doubts(all).run();
+        }
+        new Unwritten(all).run();
         new Waiting(all, program.notes(), methods::origin, methods.wait(null)).strictly(options.strict()).run();
         Inference inference = new Inference(all, options.majority());
         if (options.infer() || options.majority()) {
-            inference.guards();
+            inference.guards(program.names(), program.notes());
         }
         inference.requirements();
         new ReadLocks(all).run();

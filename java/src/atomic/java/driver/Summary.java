@@ -3,43 +3,45 @@ package atomic.java.driver;
 import atomic.java.places.Notes;
 import atomic.java.program.JavaMethod;
 import atomic.java.skeleton.Method;
+import atomic.java.translation.Methods;
 import java.util.HashMap;
-import java.util.List;
 import java.util.Map;
 import java.util.Set;
+import java.util.function.Predicate;
 
 /** The figures of a run: how far the skeleton is from the methods, and what these were found to be. */
 final class Summary {
     private static final Set<String> ATOMIC = Set.of("const", "mover", "atomic");
 
-    private final Judging judging;
     private final Notes notes;
+    private final Methods all;
     private final Map<JavaMethod, Method> methods = new HashMap<>();
 
-    Summary(Judging judging, Notes notes, Map<Method, JavaMethod> judged) {
-        this.judging = judging;
+    Summary(Notes notes, Methods all) {
         this.notes = notes;
-        judged.forEach((method, java) -> {
+        this.all = all;
+        all.judged().forEach((method, java) -> {
             if (!java.isConstructor()) {
                 methods.put(java, method);
             }
         });
     }
 
-    /** The line with the figures; {@code promised} methods say that they are atomic. */
-    String line(int promised) {
+    /** The line with the figures; {@code promised} methods say that they are atomic. Each method counts once. */
+    String line(Judging judging, int promised) {
         long approximated = methods.keySet().stream().filter(notes::approximates).count();
         long assumed = methods.keySet().stream().filter(each -> notes.assumes(each) && !notes.approximates(each)).count();
-        long refused = count(" is declared atomic, found ");
+        long refused = count(each -> each.atomic() && !ATOMIC.contains(judging.found(each)));
         long atomic = methods.values().stream().filter(each -> ATOMIC.contains(judging.found(each))).count();
+        long errors = count(each -> judging.found(each).equals("error")
+            || each.atomic() && !ATOMIC.contains(judging.found(each)));
         return methods.size() + " methods: " + (methods.size() - approximated - assumed) + " exact, " + assumed
             + " assumed, " + approximated + " approximated; " + promised + " promise to be atomic: " + (promised - refused)
-            + " are, " + refused + " refused; " + atomic + " found atomic, " + count(": error: ") + " errors";
+            + " are, " + refused + " refused; " + atomic + " found atomic, " + errors + " errors";
     }
 
-    private long count(String part) {
-        List<String> heads = judging.lines().stream().filter(line -> line.contains(": error: ")).toList();
-        return heads.stream().filter(line -> line.contains(part))
-            .map(line -> line.substring(0, line.indexOf(": error: "))).distinct().count();
+    /** How many Java methods have a method of the skeleton that is such. */
+    private long count(Predicate<Method> wanted) {
+        return all.written().stream().filter(wanted).map(all::origin).distinct().count();
     }
 }

@@ -16,6 +16,7 @@ import java.util.LinkedHashSet;
 import java.util.List;
 import java.util.Map;
 import java.util.Set;
+import javax.lang.model.element.ExecutableElement;
 import javax.lang.model.element.TypeElement;
 import javax.lang.model.type.DeclaredType;
 import javax.lang.model.type.TypeMirror;
@@ -75,6 +76,11 @@ public final class Library {
         }
     }
 
+    /** A method as {@link #choose} knows it: its name, and the number of its parameters, which a row may ask for. */
+    public static String key(ExecutableElement method) {
+        return method.getSimpleName() + "/" + method.getParameters().size();
+    }
+
     /** What a call of a method of a type counts as: by the type's own rows, else by those of the types above it. */
     public Choice choose(TypeMirror type, String method) {
         return choose(names(type), method);
@@ -87,10 +93,12 @@ public final class Library {
     }
 
     private Choice choose(List<String> names, String method) {
+        String plain = method.split("/")[0];
         for (String name : names) {
             Map<String, Choice> members = rows.get(name);
             if (members != null) {
-                Choice choice = members.getOrDefault(method, method.equals("new") ? null : members.get("*"));
+                Choice others = plain.equals("new") ? null : members.get("*");
+                Choice choice = members.getOrDefault(method, members.getOrDefault(plain, others));
                 if (choice != null) {
                     return choice;
                 }

@@ -2,6 +2,7 @@ package atomic.java.ownership;
 
 import atomic.java.attribution.Attribution;
 import atomic.java.library.Choice;
+import atomic.java.library.Library;
 import atomic.java.program.JavaMethod;
 import atomic.java.program.Program;
 import com.sun.source.tree.ArrayAccessTree;
@@ -154,7 +155,7 @@ public final class Escape {
         TypeMirror type = select instanceof MemberSelectTree member ? attribution.type(member.getExpression()) : null;
         boolean isStatic = symbol.getModifiers().contains(javax.lang.model.element.Modifier.STATIC);
         return program.library().choose(type == null || isStatic ? symbol.getEnclosingElement().asType() : type,
-            symbol.getSimpleName().toString());
+            Library.key(symbol));
     }
 
     private boolean isBorrowed(NewClassTree made) {

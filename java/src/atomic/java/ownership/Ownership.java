@@ -4,6 +4,7 @@ import atomic.java.attribution.Attribution;
 import atomic.java.library.Choice;
 import atomic.java.passes.Inference;
 import atomic.java.places.Notes;
+import atomic.java.program.JavaClass;
 import atomic.java.program.JavaMethod;
 import atomic.java.program.Program;
 import com.sun.source.tree.ConditionalExpressionTree;
@@ -18,11 +19,13 @@ import com.sun.source.tree.VariableTree;
 import java.util.HashMap;
 import java.util.List;
 import java.util.Map;
+import java.util.Set;
 import javax.lang.model.element.Element;
 import javax.lang.model.element.ElementKind;
 import javax.lang.model.element.ExecutableElement;
 import javax.lang.model.element.Modifier;
 import javax.lang.model.element.VariableElement;
+import javax.lang.model.type.TypeKind;
 import javax.lang.model.type.TypeMirror;
 
 /**
@@ -34,9 +37,12 @@ public final class Ownership {
     private final Attribution attribution;
     private final Uses uses;
     private final Escape escape;
+    private final Looks looks;
+    private final Sites sites;
     private final Map<VariableElement, String> made = new HashMap<>();
     private final Map<VariableElement, Long> escapes = new HashMap<>();
     private final Map<VariableElement, Boolean> owned = new HashMap<>();
+    private final Map<Element, VariableElement> confined = new HashMap<>();
     private static final String UNKNOWN = "";
 
     public Ownership(Program program, Uses uses) {
@@ -44,10 +50,52 @@ public final class Ownership {
         this.uses = uses;
         attribution = program.attribution();
         escape = new Escape(program, uses);
+        looks = new Looks(program, uses, escape);
+        sites = new Sites(program);
     }
 
     public Escape escape() {
         return escape;
+    }
+
+    /** Finds the fields whose objects stay within their classes, under whatever names. */
+    public void confine() {
+        for (JavaClass each : program.classes()) {
+            for (Element member : each.symbol().getEnclosedElements()) {
+                if (member instanceof VariableElement field && field.getKind() == ElementKind.FIELD && !isOpen(field)
+                        && (field.asType().getKind() == TypeKind.ARRAY || program.library().hasContents(field.asType()))) {
+                    confine(field, new Confinement(program, uses, this, sites, field));
+                }
+            }
+        }
+    }
+
+    private void confine(VariableElement field, Confinement confinement) {
+        Set<Element> holders = confinement.holders();
+        if (holders != null) {
+            holders.forEach(each -> confined.put(each, field));
+            made.put(field, confinement.made());
+            owned.put(field, true);
+        }
+    }
+
+    /** Whether objects of a class are only made to be wrapped by a library, which takes a lock around each call of theirs. */
+    public boolean isWrapped(JavaClass each) {
+        List<Tree> makings = sites.makings(each);
+        return !makings.isEmpty() && makings.stream().allMatch(making ->
+            attribution.parent(making) instanceof MethodInvocationTree call
+            && attribution.element(call) instanceof ExecutableElement symbol && program.method(symbol) == null
+            && "java.util.Collections.Synchronized".equals(escape.choose(call.getMethodSelect(), symbol).makes()));
+    }
+
+    /** Whether a method only looks at the array in its parameter. */
+    public boolean onlyLooks(VariableElement parameter) {
+        return looks.only(parameter);
+    }
+
+    /** The field whose object a variable holds, or a method gives; null where that may be another one. */
+    public VariableElement holding(Element name) {
+        return confined.get(name);
     }
 
     /**
@@ -110,6 +158,9 @@ public final class Ownership {
         if (!(attribution.element(call) instanceof ExecutableElement symbol) || program.method(symbol) != null) {
             return null;
         }
+        if (Clones.isOwn(call, program)) {
+            return Clones.isCopy(call, program, uses) ? "java.lang.Object" : null;
+        }
         boolean copiesArray = symbol.getSimpleName().contentEquals("clone")
             && call.getMethodSelect() instanceof MemberSelectTree select && attribution.type(select.getExpression())
                 .getKind() == javax.lang.model.type.TypeKind.ARRAY;
@@ -140,7 +191,7 @@ public final class Ownership {
     }
 
     private boolean findOwned(VariableElement field) {
-        if (isOpen(field) || made(field) == null) {
+        if (isOpen(field) || made(field) == null || Clones.share(field, program, uses)) {
             return false;
         }
         List<Tree> leaks = uses.of(field).stream().filter(use -> escape.from(use) != Escape.NEVER).toList();

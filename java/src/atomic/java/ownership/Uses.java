@@ -8,16 +8,21 @@ import com.sun.source.tree.CompoundAssignmentTree;
 import com.sun.source.tree.EnhancedForLoopTree;
 import com.sun.source.tree.ExpressionTree;
 import com.sun.source.tree.IdentifierTree;
+import com.sun.source.tree.LiteralTree;
 import com.sun.source.tree.MemberSelectTree;
+import com.sun.source.tree.MethodInvocationTree;
 import com.sun.source.tree.ParenthesizedTree;
 import com.sun.source.tree.Tree;
 import com.sun.source.tree.UnaryTree;
 import com.sun.source.tree.VariableTree;
 import com.sun.source.util.TreeScanner;
 import java.util.ArrayList;
+import java.util.Collections;
 import java.util.HashMap;
+import java.util.HashSet;
 import java.util.List;
 import java.util.Map;
+import java.util.Set;
 import javax.lang.model.element.Element;
 import javax.lang.model.element.ElementKind;
 import javax.lang.model.element.Modifier;
@@ -26,12 +31,18 @@ import javax.lang.model.element.VariableElement;
 /** Where each variable is declared, used and assigned, in all sources. */
 public final class Uses {
 
+    /** Methods that give a way to a field by its name, other than the field itself. */
+    private static final Set<String> HANDLES = Set.of("findVarHandle", "findStaticVarHandle", "findSetter",
+        "findStaticSetter", "newUpdater", "getDeclaredField", "getField", "objectFieldOffset", "staticFieldOffset");
+
     /** An assignment; {@code value} is null where the new value is computed from the old one. */
     public record Assignment(Tree tree, Tree target, ExpressionTree value) { }
 
     private final Map<Element, VariableTree> declared = new HashMap<>();
     private final Map<Element, List<Tree>> uses = new HashMap<>();
     private final Map<Element, List<Assignment>> assigned = new HashMap<>();
+    private final List<MethodInvocationTree> clones = new ArrayList<>();
+    private final Map<String, Set<Element>> reflected = new HashMap<>();
     private final Attribution attribution;
 
     /** Looks through all sources. */
@@ -96,6 +107,41 @@ public final class Uses {
             return super.visitUnary(tree, nothing);
         }
 
+        @Override
+        public Void visitMethodInvocation(MethodInvocationTree tree, Void nothing) {
+            Element symbol = attribution.element(tree);
+            if (symbol != null && HANDLES.contains(symbol.getSimpleName().toString())) {
+                reflect(tree);
+            } else if (symbol != null && symbol.getSimpleName().contentEquals("clone")) {
+                clones.add(tree);
+            }
+            return super.visitMethodInvocation(tree, nothing);
+        }
+
+        /** The fields that a call names by texts, in the classes that it names; without any class, of all classes. */
+        private void reflect(MethodInvocationTree tree) {
+            List<ExpressionTree> parts = new ArrayList<>(tree.getArguments());
+            if (tree.getMethodSelect() instanceof MemberSelectTree select) {
+                parts.add(select.getExpression());
+            }
+            Set<Element> classes = new HashSet<>();
+            for (ExpressionTree part : parts) {
+                Element named = part instanceof MemberSelectTree select && select.getIdentifier().contentEquals("class")
+                    ? attribution.element(select.getExpression()) : null;
+                if (named != null) {
+                    classes.add(named);
+                }
+            }
+            for (ExpressionTree part : parts) {
+                Object value = part instanceof LiteralTree literal ? literal.getValue()
+                    : attribution.element(bare(part)) instanceof VariableElement named ? named.getConstantValue() : null;
+                if (value instanceof String name) {
+                    Set<Element> known = reflected.computeIfAbsent(name, key -> new HashSet<>());
+                    known.addAll(classes.isEmpty() ? Collections.singleton((Element) null) : classes);
+                }
+            }
+        }
+
         private void assign(Tree tree, ExpressionTree target, ExpressionTree value) {
             ExpressionTree bare = bare(target);
             Element symbol = attribution.element(bare);
@@ -116,6 +162,17 @@ public final class Uses {
             each = parentheses.getExpression();
         }
         return each;
+    }
+
+    /** All calls of a {@code clone}. */
+    public List<MethodInvocationTree> clones() {
+        return clones;
+    }
+
+    /** Whether some code reaches a field by its name in a text, so that not all of its accesses are seen. */
+    public boolean isReflected(VariableElement field) {
+        Set<Element> classes = reflected.getOrDefault(field.getSimpleName().toString(), Set.of());
+        return !classes.isEmpty() && (classes.contains(null) || classes.contains(field.getEnclosingElement()));
     }
 
     public VariableTree declaration(Element variable) {

@@ -20,7 +20,7 @@ public final class Held {
 
     /** Who is told of each access, with the locks that are held there; those of readers apart. */
     public interface Visitor {
-        void access(Part.Access access, Set<Path> held, Set<Path> shared);
+        void access(Method method, Part.Access access, Set<Path> held, Set<Path> shared);
     }
 
     private final Collection<Method> methods;
@@ -41,7 +41,9 @@ public final class Held {
     }
 
     private void settle() {
-        methods.stream().filter(method -> !isClosed(method)).forEach(method ->
+        Set<Method> called = new HashSet<>();
+        methods.forEach(method -> calls(method.body(), called));
+        methods.stream().filter(method -> !isClosed(method) || !called.contains(method)).forEach(method ->
             entry.put(method, new HashSet<>(method.required())));
         boolean changed = true;
         while (changed) {
@@ -62,6 +64,13 @@ public final class Held {
         }
     }
 
+    private static void calls(Part part, Set<Method> called) {
+        if (part instanceof Part.Call call) {
+            called.add(call.target());
+        }
+        part.parts().forEach(each -> calls(each, called));
+    }
+
     /** Whether all calls of a method are known, and mean this method alone. */
     boolean isClosed(Method method) {
         return method.closed() && method.overridden().isEmpty() && callees.of(method).size() == 1;
@@ -70,13 +79,14 @@ public final class Held {
     /** Goes through all accesses. */
     public void visit(Visitor visitor) {
         for (Method method : methods) {
-            walk(method.body(), entry(method), Set.of(), visitor);
+            walk(method.body(), entry(method), Set.of(), (ignored, access, held, shared) ->
+                visitor.access(method, access, held, shared));
         }
     }
 
     private void walk(Part part, Set<Path> held, Set<Path> shared, Visitor visitor) {
         if (part instanceof Part.Access access && visitor != null) {
-            visitor.access(access, held, shared);
+            visitor.access(null, access, held, shared);
         } else if (part instanceof Part.Call call) {
             callees.of(call.target()).forEach(callee -> pass(call, callee, held));
         } else if (part instanceof Part.Region region && region.lock() != null) {

@@ -1,17 +1,22 @@
 package atomic.java.passes;
 
+import atomic.java.places.Names;
+import atomic.java.places.Notes;
 import atomic.java.skeleton.Field;
 import atomic.java.skeleton.Method;
 import atomic.java.skeleton.Part;
 import atomic.java.skeleton.Path;
+import atomic.java.skeleton.Place;
 import java.util.ArrayList;
 import java.util.Collection;
+import java.util.Comparator;
 import java.util.HashMap;
 import java.util.HashSet;
 import java.util.LinkedHashMap;
 import java.util.List;
 import java.util.Map;
 import java.util.Set;
+import java.util.stream.Collectors;
 
 /**
  * Guards of fields that say none. A lock that each access of a field holds guards it; one that each write holds guards its
@@ -25,10 +30,15 @@ public final class Inference {
     private final Collection<Method> methods;
     private final boolean majority;
     private final Map<Field, Tally> tallies = new LinkedHashMap<>();
+    private UnderLock underLock;
+
+    /** Of a hundred accesses, how many have to hold a lock so that the others are told as races. */
+    private static final int MOST_OF_RACE = 50;
 
     /** How often a field is touched, and how often with each lock, named from its object. */
     private static final class Tally {
         private int all;
+        private final Map<Place, Set<List<Field>>> places = new LinkedHashMap<>();
         private int writes;
         private final Map<List<Field>, Integer> held = new HashMap<>();
         private final Map<List<Field>, Integer> heldWriting = new HashMap<>();
@@ -39,8 +49,9 @@ public final class Inference {
         this.majority = majority;
     }
 
-    /** Gives guards to the fields that have none. */
-    public void guards() {
+    /** Gives guards to the fields that have none, and tells of accesses that keep a field from having one. */
+    public void guards(Names names, Notes notes) {
+        underLock = new UnderLock(methods);
         new Held(methods).visit(this::count);
         tallies.forEach((field, tally) -> {
             List<Field> lock = field.mayBeGuarded() ? best(tally.held, tally.all) : null;
@@ -50,10 +61,33 @@ public final class Inference {
             } else if (writing != null) {
                 field.guard(new Field.Guard(writing, true));
             }
+            if (lock == null && field.mayBeGuarded() && field.place() != null) {
+                races(field, tally, names, notes);
+            }
         });
     }
 
-    private void count(Part.Access access, Set<Path> held, Set<Path> shared) {
+    /** The accesses without the lock that most of them hold. */
+    private static void races(Field field, Tally tally, Names names, Notes notes) {
+        tally.held.entrySet().stream().filter(each -> 100 * each.getValue() >= MOST_OF_RACE * tally.all)
+            .max(Comparator.comparingInt((Map.Entry<List<Field>, Integer> each) -> each.getValue())
+                .thenComparing(each -> -each.getKey().size())).ifPresent(best ->
+            tally.places.forEach((place, held) -> {
+                if (!held.contains(best.getKey())) {
+                    notes.tell(Notes.Kind.DATA_RACE, null, place, names.shown(field.name()) + " is touched here without the"
+                        + " lock of " + shown(best.getKey(), names) + ", which " + best.getValue() + " of its " + tally.all
+                        + " accesses hold");
+                }
+            }));
+    }
+
+    private static String shown(List<Field> lock, Names names) {
+        String text = lock.stream().map(each -> names.shown(each.name())).map(each -> each.startsWith("=")
+            ? each.substring(1) : each).collect(Collectors.joining("."));
+        return text.isEmpty() ? "its object" : text;
+    }
+
+    private void count(Method method, Part.Access access, Set<Path> held, Set<Path> shared) {
         if (access.field().guard() != null || access.field().place() == null && !access.field().mayBeGuarded()) {
             return;
         }
@@ -61,14 +95,19 @@ public final class Inference {
         tally.all++;
         tally.writes += access.write() ? 1 : 0;
         Path receiver = access.receiver().path();
+        Set<List<Field>> here = new HashSet<>();
         for (Path lock : receiver == null ? Set.<Path>of() : held) {
             List<Field> rest = Held.behind(lock, receiver);
             if (rest != null && !(access.write() && shared.contains(lock))) {
+                here.add(rest);
                 tally.held.merge(rest, 1, Integer::sum);
                 if (access.write()) {
                     tally.heldWriting.merge(rest, 1, Integer::sum);
                 }
             }
+        }
+        if (Doubts.isCertain(access, underLock.isAlways(method) && method.required().isEmpty())) {
+            tally.places.put(access.place(), here);
         }
     }
 

@@ -42,6 +42,11 @@ public final class Notes {
         return approximated.contains(method);
     }
 
+    /** Whether anything is approximated. */
+    public boolean approximates() {
+        return lines.values().stream().anyMatch(texts -> texts.stream().anyMatch(each -> each.startsWith("approximated")));
+    }
+
     /** All notes as lines, by their places. */
     public List<String> lines() {
         List<String> all = new ArrayList<>();

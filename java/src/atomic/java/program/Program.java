@@ -31,6 +31,7 @@ import javax.lang.model.type.TypeMirror;
 public final class Program {
     private final Attribution attribution;
     private final Options options;
+    private final boolean sure;
     private final Library library;
     private final Names names = new Names();
     private final Notes notes = new Notes();
@@ -44,10 +45,11 @@ public final class Program {
     private final Shape statics = new Shape("Statics", null);
     private final Shape helpers = new Shape("Library", null);
 
-    /** The program of attributed sources. */
-    public Program(Attribution attribution, Options options) {
+    /** The program of attributed sources; {@code sure} leaves out what may be no step. */
+    public Program(Attribution attribution, Options options, boolean sure) {
         this.attribution = attribution;
         this.options = options;
+        this.sure = sure;
         library = new Library(options.libraries(), attribution.types(), attribution.elements());
         shapes.addAll(List.of(object, statics, helpers));
         for (CompilationUnitTree unit : attribution.units()) {
@@ -179,6 +181,11 @@ public final class Program {
 
     public Options options() {
         return options;
+    }
+
+    /** Whether what may be no step is left out, so that what is refused is refused for certain. */
+    public boolean sure() {
+        return sure;
     }
 
     public Library library() {

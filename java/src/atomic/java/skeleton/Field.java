@@ -17,6 +17,8 @@ public final class Field {
     private boolean used;
     private boolean shared = true;
     private boolean wide;
+    private boolean ofNodes;
+    private boolean contents;
     private Field one;
 
     /** A field of {@code owner}; without a type it holds a number; {@code fixed} says that it is final. */
@@ -81,6 +83,24 @@ public final class Field {
 
     public void leaveUnguarded() {
         shared = false;
+    }
+
+    /** Whether it stands for the contents of what a Java field holds. */
+    public boolean isContents() {
+        return contents;
+    }
+
+    public void standForContents() {
+        contents = true;
+    }
+
+    /** Whether it stands for a field of a container's nodes, of which one may be new where it is touched. */
+    public boolean ofNodes() {
+        return ofNodes;
+    }
+
+    public void standForNodes() {
+        ofNodes = true;
     }
 
     /** Whether an access without a guard is several steps: of 64 bits, or of an object that isn't safe by itself. */

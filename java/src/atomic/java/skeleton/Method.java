@@ -7,6 +7,17 @@ import java.util.Set;
 
 /** A method of a skeleton. All methods are void: what a call gives is opaque. */
 public final class Method {
+
+    /** Whether a method that stands for a library's may have fewer steps than its body. */
+    public enum Doubt {
+        /** It has these. */
+        NONE,
+        /** It runs code that others bring: it may have them, unless a lock keeps others away meanwhile. */
+        OPEN,
+        /** Nothing is known. */
+        ANY
+    }
+
     private final Shape owner;
     private final String name;
     private final Place place;
@@ -15,6 +26,8 @@ public final class Method {
     private final List<Path.Root> loose = new ArrayList<>();
     private boolean atomic;
     private boolean closed;
+    private boolean wrapped;
+    private Doubt doubt = Doubt.NONE;
     private Part body = Part.NOTHING;
     private final List<Method> overridden = new ArrayList<>();
 
@@ -66,6 +79,23 @@ public final class Method {
 
     public void closed(boolean onlyCalledHere) {
         closed = onlyCalledHere;
+    }
+
+    /** Whether only a library's wrapper calls it, which holds a lock then. */
+    public boolean wrapped() {
+        return wrapped;
+    }
+
+    public void wrapped(boolean byLibrary) {
+        wrapped = byLibrary;
+    }
+
+    public Doubt doubt() {
+        return doubt;
+    }
+
+    public void doubt(Doubt kind) {
+        doubt = kind;
     }
 
     public Part body() {

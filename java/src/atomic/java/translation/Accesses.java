@@ -5,6 +5,7 @@ import atomic.java.places.Notes;
 import atomic.java.program.Families;
 import atomic.java.program.JavaClass;
 import atomic.java.skeleton.Field;
+import atomic.java.skeleton.Method;
 import atomic.java.skeleton.Part;
 import atomic.java.skeleton.Path;
 import atomic.java.skeleton.Value;
@@ -55,6 +56,11 @@ final class Accesses {
         } else if (field.getConstantValue() != null || field.getKind() == javax.lang.model.element.ElementKind.ENUM_CONSTANT) {
             return Value.OPAQUE;
         }
+        VariableElement root = services.ownership().holding(field);
+        if (root != null && root != field) {
+            passing(field, receiver, at);
+            return confined(root, services.attribution().start(at));
+        }
         VariableElement source = LockViews.source(field, services.fields());
         boolean settled = services.fields().isSettled(source);
         boolean owned = services.fields().owns(field);
@@ -74,6 +80,25 @@ final class Accesses {
                 : new Value.Owned(inside, contents.field(), own);
         }
         return settled ? behind(holder, home.field()) : new Value.Opaque(home.field().type());
+    }
+
+    /** Reads a field that has the object of another one, of an object around. */
+    private void passing(VariableElement field, Value receiver, Tree at) {
+        if (!services.fields().isSettled(field)) {
+            Fields.Home home = services.fields().home(field);
+            access(holder(field, home, receiver), home.field(), false, at);
+        }
+    }
+
+    /** The object of a field under another name; where there is no {@code this}, who calls has written its accesses. */
+    Value confined(VariableElement field, long offset) {
+        Value object = body.object(services.program().find(field.getEnclosingElement()), offset);
+        if (object == null) {
+            return new Value.Fresh(null);
+        }
+        Fields.Home contents = services.fields().contents(field);
+        Value inside = holder(field, contents, object);
+        return inside instanceof Value.Fresh ? new Value.Fresh(null) : new Value.Owned(inside, contents.field(), null);
     }
 
     private Value behind(Value holder, Field field) {
@@ -140,8 +165,8 @@ final class Accesses {
             access(receiver, services.fields().inherited(field, heir, null), write, at);
             return Value.OPAQUE;
         }
-        services.tell(Notes.Kind.APPROXIMATED, body, at, "a field of a library's class counts as one that nothing guards");
-        body.emit(services.step(field.getEnclosingElement().getSimpleName() + "." + field.getSimpleName(), false, at));
+        body.emit(services.doubt(Method.Doubt.ANY, field.getEnclosingElement().getSimpleName() + "." + field.getSimpleName(),
+            false, body, at, "a field of a library's class counts as one that nothing guards"));
         return Value.OPAQUE;
     }
 

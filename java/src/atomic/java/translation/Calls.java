@@ -2,7 +2,6 @@ package atomic.java.translation;
 
 import atomic.java.ownership.Escape;
 import atomic.java.ownership.Uses;
-import atomic.java.places.Notes;
 import atomic.java.program.JavaClass;
 import atomic.java.program.JavaMethod;
 import atomic.java.skeleton.Method;
@@ -50,13 +49,15 @@ final class Calls {
         Value receiver = method.isStatic() ? qualifier(tree) : receiver(tree, method);
         List<Value> arguments = arguments(method, tree.getArguments());
         invoke(method, receiver, arguments, tree);
-        return Value.OPAQUE;
+        VariableElement field = services.ownership().holding(symbol);
+        return field == null ? Value.OPAQUE
+            : new Accesses(services, body).confined(field, services.attribution().start(tree));
     }
 
     private Value unknown(MethodInvocationTree tree) {
         tree.getArguments().forEach(expressions::value);
-        services.tell(Notes.Kind.APPROXIMATED, body, tree, "unknown call: it may do anything");
-        body.emit(services.step(tree.getMethodSelect().toString(), true, tree));
+        body.emit(services.doubt(Method.Doubt.ANY, tree.getMethodSelect().toString(), true, body, tree,
+            "unknown call: it may do anything"));
         return Value.OPAQUE;
     }
 
@@ -89,14 +90,20 @@ final class Calls {
     /** The arguments' steps, and the values that may name locks. */
     private List<Value> arguments(JavaMethod method, List<? extends ExpressionTree> trees) {
         List<Value> all = trees.stream().map(expressions::value).toList();
+        List<? extends VariableElement> parameters = method.symbol().getParameters();
         for (int k = 0; k < all.size(); k++) {
-            lend(all.get(k), trees.get(k));
+            boolean told = !method.isStatic() && k < parameters.size()
+                && services.ownership().holding(parameters.get(k)) != null;
+            if (!told) {
+                boolean looks = k < parameters.size() && !method.symbol().isVarArgs()
+                    && services.ownership().onlyLooks(parameters.get(k));
+                lend(all.get(k), !looks, trees.get(k));
+            }
         }
         List<Value> kept = new ArrayList<>();
         if (!method.isStatic()) {
             kept.add(new Value.Named(body.statics()));
         }
-        List<? extends VariableElement> parameters = method.symbol().getParameters();
         var wanted = services.families().parameters(method).keySet();
         for (int k = 0; k < parameters.size(); k++) {
             boolean single = k < all.size() && (!method.symbol().isVarArgs() || k < parameters.size() - 1);
@@ -107,10 +114,10 @@ final class Calls {
         return kept;
     }
 
-    /** A method that is given an owned object may look at its contents and change them any number of times. */
-    private void lend(Value value, Tree at) {
+    /** A method that is given an owned object may look at its contents, or change them, any number of times. */
+    private void lend(Value value, boolean write, Tree at) {
         if (value instanceof Value.Owned owned && !(owned.receiver() instanceof Value.Fresh)) {
-            Part access = new Part.Access(owned.receiver(), owned.contents(), true, services.attribution().name(at));
+            Part access = new Part.Access(owned.receiver(), owned.contents(), write, services.attribution().name(at));
             body.emit(Part.sequence(List.of(access, access)));
         }
     }

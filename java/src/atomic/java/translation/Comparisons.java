@@ -6,11 +6,14 @@ import atomic.java.program.JavaMethod;
 import atomic.java.skeleton.Part;
 import atomic.java.skeleton.Value;
 import com.sun.source.tree.ExpressionTree;
+import com.sun.source.tree.MemberSelectTree;
+import com.sun.source.tree.MethodInvocationTree;
 import com.sun.source.tree.Tree;
 import java.util.ArrayList;
 import java.util.List;
 import java.util.Set;
 import javax.lang.model.element.ElementKind;
+import javax.lang.model.type.ArrayType;
 import javax.lang.model.type.DeclaredType;
 import javax.lang.model.type.TypeKind;
 import javax.lang.model.type.TypeMirror;
@@ -24,6 +27,14 @@ final class Comparisons {
         "indexOf", "lastIndexOf", "putIfAbsent", "getOrDefault", "replace", "computeIfAbsent", "computeIfPresent", "compute",
         "merge", "removeFirstOccurrence", "removeLastOccurrence", "floor", "ceiling", "higher", "lower");
     private static final Set<String> CALLED = Set.of("equals", "hashCode", "compareTo");
+    private static final Set<String> ALL = Set.of("equals", "hashCode", "compareTo", "toString");
+    private static final Set<String> WHOLE = Set.of("equals", "hashCode", "toString", "sort", "addAll", "removeAll",
+        "retainAll", "containsAll", "putAll", "sorted", "distinct");
+    private static final Set<String> JOINING = Set.of("append", "insert", "print", "println", "printf", "format",
+        "formatted", "valueOf", "join", "toString");
+
+    /** What makes a text of an object. */
+    static final Set<String> TEXT = Set.of("toString");
 
     private final Services services;
     private final Body body;
@@ -33,14 +44,53 @@ final class Comparisons {
         this.body = body;
     }
 
-    /** Writes what a call of a collection may call of its arguments. */
-    void write(String shown, List<? extends ExpressionTree> arguments, Tree at) {
+    /** Whether a call makes a text of its arguments, and so calls their {@code toString}. */
+    static boolean joins(String shown) {
+        return JOINING.contains(shown.substring(shown.lastIndexOf('.') + 1)) || shown.startsWith("Logger.")
+            || shown.startsWith("StringJoiner.");
+    }
+
+    /** Writes what a call may call of its arguments, and of the elements of collections among them. */
+    void write(LibraryCalls.Called called) {
+        String shown = called.shown();
         String type = shown.substring(0, shown.lastIndexOf('.') + 1);
         String name = shown.substring(type.length());
-        boolean compares = COMPARING.contains(name) || (name.equals("add") && (type.contains("Set") || type.contains("Queue")
-            && type.contains("Priority")));
-        for (ExpressionTree argument : compares ? arguments : List.<ExpressionTree>of()) {
-            argument(argument, at);
+        boolean ordered = type.contains("Set") || type.contains("Priority") && type.contains("Queue");
+        boolean compares = COMPARING.contains(name) || type.equals("Objects.") || name.equals("add") && ordered;
+        for (ExpressionTree argument : called.arguments()) {
+            if (compares) {
+                argument(argument, called.at());
+            }
+            elements(services.attribution().type(argument), called);
+        }
+        if ((WHOLE.contains(name) || ordered) && called.at() instanceof MethodInvocationTree call
+                && call.getMethodSelect() instanceof MemberSelectTree select) {
+            elements(services.attribution().type(select.getExpression()), called);
+        }
+    }
+
+    /** A new set, map or queue in order compares the elements that it begins with. */
+    void fill(LibraryCalls.Called called) {
+        boolean compares = called.shown().contains("Set") || called.shown().contains("Map")
+            || called.shown().contains("Priority");
+        for (ExpressionTree argument : compares ? called.arguments() : List.<ExpressionTree>of()) {
+            elements(services.attribution().type(argument), called);
+        }
+    }
+
+    /** A call that is given a whole collection may compare its elements, or make texts of them. */
+    private void elements(TypeMirror type, LibraryCalls.Called called) {
+        if (type instanceof ArrayType array) {
+            element(array.getComponentType(), called);
+        } else if (type instanceof DeclaredType declared && services.program().find(type) == null) {
+            declared.getTypeArguments().forEach(each -> element(each, called));
+        }
+    }
+
+    private void element(TypeMirror type, LibraryCalls.Called called) {
+        JavaClass known = services.program().find(type);
+        if (known != null) {
+            own(known, ALL, called.at());
         }
     }
 
@@ -52,7 +102,7 @@ final class Comparisons {
         }
         JavaClass known = services.program().find(type);
         if (known != null) {
-            own(known, at);
+            own(known, CALLED, at);
         } else if (!isConstant(type)) {
             services.program().notes().tell(Notes.Kind.ASSUMED, null, body.self().shape().place(),
                 "equals, hashCode and compareTo of keys and elements look at nothing that others write");
@@ -65,20 +115,22 @@ final class Comparisons {
             || declared.asElement().getSimpleName().contentEquals("Thread"));
     }
 
-    /** The methods of a class at hand that a collection calls: any of them, or none. */
-    private void own(JavaClass known, Tree at) {
+    /** The methods of these names that an object of a class at hand may have: any of them, or none. */
+    void own(JavaClass known, Set<String> names, Tree at) {
         List<Part> calls = new ArrayList<>();
-        for (JavaClass each = known; each != null; each = services.families().above(each)) {
-            for (JavaMethod method : each.methods()) {
-                if (CALLED.contains(method.symbol().getSimpleName().toString()) && !method.isStatic()
-                        && !method.isAbstract()) {
+        for (JavaClass each : services.program().classes()) {
+            boolean kin = services.families().isBelow(each, known) || services.families().isBelow(known, each);
+            for (JavaMethod method : kin ? each.methods() : List.<JavaMethod>of()) {
+                if (names.contains(method.symbol().getSimpleName().toString()) && method.isVirtual()
+                        && !method.isAbstract() && method.symbol().getParameters().size() <= 1) {
                     calls.add(new Part.Call(new Value.Opaque(each.shape()), services.methods().of(method),
                         List.of(new Value.Named(body.statics())), services.attribution().name(at)));
                 }
             }
         }
         if (!calls.isEmpty()) {
-            body.emit(new Part.Repeat(Dispatch.either(calls), services.attribution().name(at)));
+            Part one = Dispatch.either(calls);
+            body.emit(names == TEXT ? one : new Part.Repeat(one, services.attribution().name(at)));
         }
     }
 

@@ -1,16 +1,21 @@
 package atomic.java.translation;
 
 import atomic.java.places.Notes;
+import atomic.java.skeleton.Method;
 import atomic.java.skeleton.Part;
 import atomic.java.skeleton.Path;
 import atomic.java.skeleton.Value;
 import com.sun.source.tree.ArrayAccessTree;
 import com.sun.source.tree.ExpressionTree;
+import com.sun.source.tree.MethodInvocationTree;
 import com.sun.source.tree.Tree;
 import javax.lang.model.type.TypeKind;
 
 /** Accesses of the contents of arrays, collections and other objects that aren't safe by themselves. */
 final class Contents {
+    private static final String ARRAY = "array of others: other threads may know this array, so each access of an"
+        + " element is a step";
+
     private final Services services;
     private final Body body;
 
@@ -22,29 +27,33 @@ final class Contents {
     /** An element of an array. Of an array that others may know it is a step. */
     void element(Value array, boolean write, ArrayAccessTree at) {
         if (!known(array, write, at, at.getExpression().toString())) {
-            services.tell(Notes.Kind.APPROXIMATED, body, at,
-                "array of others: other threads may know this array, so each access of an element is a step");
             TypeKind kind = services.attribution().type(at).getKind();
-            body.emit(services.step("an element", kind == TypeKind.LONG || kind == TypeKind.DOUBLE, at));
+            body.emit(services.doubt(Method.Doubt.ANY, "an element", kind == TypeKind.LONG || kind == TypeKind.DOUBLE,
+                body, at, ARRAY));
         }
     }
 
     /** The next element of an array that is walked over. */
     void elements(Value array, ExpressionTree at) {
         if (!known(array, false, at, at.toString())) {
-            services.tell(Notes.Kind.APPROXIMATED, body, at,
-                "array of others: other threads may know this array, so each access of an element is a step");
-            body.emit(services.step("an element", false, at));
+            body.emit(services.doubt(Method.Doubt.ANY, "an element", false, body, at, ARRAY));
         }
     }
 
     /** A call that looks at an object's contents or changes them; of an object that others may know it is compound. */
     void call(Value object, boolean write, Tree at, String shown) {
         if (!known(object, write, at, shown)) {
-            services.tell(Notes.Kind.APPROXIMATED, body, at,
-                "object of others: other threads may know the object of " + shown + ", so the call counts as several steps");
-            body.emit(services.step(shown, true, at));
+            body.emit(services.doubt(doubt(object, at), shown, true, body, at,
+                "object of others: other threads may know the object of " + shown + ", so the call counts as several steps"));
         }
+    }
+
+    /** An object that came from outside is anybody's; this one's own part in a library is only not known. */
+    private Method.Doubt doubt(Value object, Tree at) {
+        boolean own = object.path() != null && object.path().isThis();
+        boolean array = at instanceof MethodInvocationTree call && call.getArguments().stream().anyMatch(each ->
+            services.attribution().type(each) != null && services.attribution().type(each).getKind() == TypeKind.ARRAY);
+        return own || array ? Method.Doubt.ANY : Method.Doubt.OPEN;
     }
 
     /** Whether it is known whose contents these are; then the access is written. */

@@ -1,6 +1,5 @@
 package atomic.java.translation;
 
-import atomic.java.places.Notes;
 import atomic.java.program.JavaClass;
 import atomic.java.program.JavaMethod;
 import atomic.java.skeleton.Method;
@@ -24,8 +23,8 @@ final class Dispatch {
     /** The body of an abstract or native method. */
     Part body(JavaMethod method, JavaClass self, Body body) {
         if (!method.isAbstract()) {
-            services.tell(Notes.Kind.APPROXIMATED, body, method.tree(), "unknown call: a native method may do anything");
-            return services.step(shown(method), true, method.tree());
+            return services.doubt(Method.Doubt.ANY, shown(method), true, body, method.tree(),
+                "unknown call: a native method may do anything");
         } else if (!self.isInterface()) {
             return hasImplementation(method, self) ? Part.NOTHING : unknown(method, body);
         }
@@ -41,9 +40,8 @@ final class Dispatch {
     }
 
     private Part unknown(JavaMethod method, Body body) {
-        services.tell(Notes.Kind.APPROXIMATED, body, method.tree(),
+        return services.doubt(Method.Doubt.OPEN, shown(method), true, body, method.tree(),
             "unknown call: no class at hand has " + shown(method) + ", so it may do anything");
-        return services.step(shown(method), true, method.tree());
     }
 
     private String shown(JavaMethod method) {

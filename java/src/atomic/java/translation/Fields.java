@@ -3,6 +3,7 @@ package atomic.java.translation;
 import atomic.java.ownership.Nodes;
 import atomic.java.ownership.Ownership;
 import atomic.java.ownership.Uses;
+import atomic.java.places.Notes;
 import atomic.java.program.Families;
 import atomic.java.program.JavaClass;
 import atomic.java.program.Program;
@@ -110,9 +111,15 @@ public final class Fields {
         Field field = new Field(home, plain ? program.names().plain(name) : program.names().invent(name, shown),
             wish.type(), wish.fixed() && holder != Holder.CONTAINER);
         home.fields().add(field);
+        if (holder == Holder.CONTAINER) {
+            field.standForNodes();
+        }
         Tree tree = uses.declaration(java);
         field.place(tree == null ? null : program.attribution().name(tree));
         boolean contents = !wish.name().contentEquals(java.getSimpleName());
+        if (contents) {
+            field.standForContents();
+        }
         boolean isVolatile = java.getModifiers().contains(Modifier.VOLATILE);
         if (contents ? isWide(elementType(java)) || program.library().hasContents(elementType(java))
                 : isWide(java.asType()) && !isVolatile) {
@@ -152,7 +159,7 @@ public final class Fields {
         return inherited.computeIfAbsent(java, key -> new HashMap<>()).computeIfAbsent(home, key -> {
             String name = java.getSimpleName().toString();
             Field field = new Field(home, program.names().invent(name, name), type, type != null);
-            if (!program.options().majority()) {
+            if (!program.options().majority() && !program.sure()) {
                 // The library's own methods touch it too, with locks that aren't known here.
                 field.leaveUnguarded();
             }
@@ -162,6 +169,14 @@ public final class Fields {
     }
 
     private void guard(VariableElement java, Home home) {
+        if (uses.isReflected(java) && !java.getModifiers().contains(Modifier.FINAL)) {
+            home.field().leaveUnguarded();
+            if (!java.getModifiers().contains(Modifier.VOLATILE)) {
+                program.notes().tell(Notes.Kind.APPROXIMATED, java, home.field().place(), "unknown access: some code"
+                    + " reaches " + java + " by a handle or by reflection, so it counts as unguarded");
+            }
+            return;
+        }
         if (java.getModifiers().contains(Modifier.VOLATILE) && !guards.isNamed(java)) {
             home.field().leaveUnguarded();
         }
@@ -211,7 +226,7 @@ public final class Fields {
     }
 
     private boolean isNeverAssignedLater(VariableElement java) {
-        if (guards.isNamed(java) || java.getModifiers().contains(Modifier.VOLATILE)) {
+        if (guards.isNamed(java) || java.getModifiers().contains(Modifier.VOLATILE) || uses.isReflected(java)) {
             return false;
         }
         return uses.assignments(java).stream().allMatch(each -> each.tree() instanceof VariableTree

@@ -130,12 +130,13 @@ final class Functions {
     }
 
     /** Whether an argument is an object with a function, which the call then calls; comparators are told as assumed. */
-    private boolean isFunction(ExpressionTree tree) {
+    boolean isFunction(ExpressionTree tree) {
         var type = services.attribution().type(tree);
         if (!(type instanceof javax.lang.model.type.DeclaredType declared)) {
             return false;
         }
         String name = ((javax.lang.model.element.TypeElement) declared.asElement()).getQualifiedName().toString();
-        return name.startsWith("java.util.function.") || name.equals("java.lang.Runnable");
+        return name.startsWith("java.util.function.") || name.equals("java.lang.Runnable")
+            || name.equals("java.util.concurrent.Callable");
     }
 }

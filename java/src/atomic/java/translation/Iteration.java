@@ -1,9 +1,9 @@
 package atomic.java.translation;
 
 import atomic.java.library.Choice;
-import atomic.java.places.Notes;
 import atomic.java.program.JavaClass;
 import atomic.java.program.JavaMethod;
+import atomic.java.skeleton.Method;
 import atomic.java.skeleton.Part;
 import atomic.java.skeleton.Value;
 import com.sun.source.tree.EnhancedForLoopTree;
@@ -40,9 +40,8 @@ final class Iteration {
         if (walk.kind() == Choice.Kind.VIEW) {
             contents.call(source, false, tree.getExpression(), "Iterator.next");
         } else if (walk.kind() != Choice.Kind.PURE) {
-            services.tell(Notes.Kind.APPROXIMATED, body, tree.getExpression(),
-                "compound library call: walking over this object counts as several steps");
-            body.emit(services.step("Iterator.next", true, tree.getExpression()));
+            body.emit(services.doubt(Method.Doubt.OPEN, "Iterator.next", true, body, tree.getExpression(),
+                "compound library call: walking over this object counts as several steps"));
         }
     }
 
@@ -57,9 +56,8 @@ final class Iteration {
         }
         Choice choice = services.program().library().choose(type, "close");
         if (choice.kind() != Choice.Kind.PURE && choice.kind() != Choice.Kind.ASSUMED) {
-            services.tell(Notes.Kind.APPROXIMATED, body, resource,
-                "compound library call: closing this object counts as several steps");
-            body.emit(services.step("AutoCloseable.close", choice.kind() != Choice.Kind.STEP, resource));
+            body.emit(services.doubt(Method.Doubt.OPEN, "AutoCloseable.close", choice.kind() != Choice.Kind.STEP, body, resource,
+                "compound library call: closing this object counts as several steps"));
         }
     }
 
@@ -75,16 +73,15 @@ final class Iteration {
                 }
             }
         }
-        services.tell(Notes.Kind.APPROXIMATED, body, at, "unknown call: " + name + " may do anything");
-        body.emit(services.step(known.symbol().getSimpleName() + "." + name, true, at));
+        body.emit(services.doubt(Method.Doubt.OPEN, known.symbol().getSimpleName() + "." + name, true, body, at,
+            "unknown call: " + name + " may do anything"));
     }
 
     /** The iterator of a class of the sources: its own methods where it is one of them too, else nothing is known. */
     private void walk(JavaMethod method, Tree at) {
         if (method.symbol().getSimpleName().contentEquals("iterator")) {
-            services.tell(Notes.Kind.APPROXIMATED, body, at,
-                "unknown call: the iterator that this loop walks with may do anything");
-            body.emit(services.step("Iterator.next", true, at));
+            body.emit(services.doubt(Method.Doubt.OPEN, "Iterator.next", true, body, at,
+                "unknown call: the iterator that this loop walks with may do anything"));
         }
     }
 }

@@ -1,10 +1,12 @@
 package atomic.java.translation;
 
 import atomic.java.library.Choice;
+import atomic.java.library.Library;
 import atomic.java.ownership.Uses;
 import atomic.java.places.Notes;
 import atomic.java.program.JavaClass;
 import atomic.java.program.JavaMethod;
+import atomic.java.skeleton.Method;
 import atomic.java.skeleton.Part;
 import atomic.java.skeleton.Value;
 import com.sun.source.tree.ExpressionTree;
@@ -32,7 +34,7 @@ final class LibraryCalls {
     private final Expressions expressions;
 
     /** A call: what it is called, on which object, what the table says, where it stands, and what is given to it. */
-    private record Called(String shown, Value object, Choice choice, Tree at, List<? extends ExpressionTree> arguments) { }
+    record Called(String shown, Value object, Choice choice, Tree at, List<? extends ExpressionTree> arguments) { }
 
     LibraryCalls(Services services, Body body) {
         this.services = services;
@@ -51,7 +53,7 @@ final class LibraryCalls {
         Choice choice = choose(before, symbol, isStatic);
         List<Value> values = values(tree.getArguments(), choice);
         Called called = new Called(shown(symbol, before, isStatic), object, choice, tree, tree.getArguments());
-        lookAtArguments(called, values);
+        new Arguments(services, body).lookAt(called, values);
         if (choice.kind() == Choice.Kind.RUN) {
             pipeline(called, before);
         } else {
@@ -79,7 +81,7 @@ final class LibraryCalls {
     }
 
     private Choice choose(ExpressionTree before, ExecutableElement symbol, boolean isStatic) {
-        String name = symbol.getSimpleName().toString();
+        String name = Library.key(symbol);
         if (isStatic || before == null) {
             JavaClass heir = body.heir(symbol.getEnclosingElement());
             TypeMirror home = isStatic || heir == null ? symbol.getEnclosingElement().asType() : heir.symbol().asType();
@@ -106,35 +108,13 @@ final class LibraryCalls {
         return home.getSimpleName() + "." + symbol.getSimpleName();
     }
 
-    /** What a call looks at, or fills, among its arguments. */
-    private void lookAtArguments(Called called, List<Value> values) {
-        if (called.choice().kind() == Choice.Kind.UNKNOWN || called.choice().kind() == Choice.Kind.VIEW) {
-            return;
-        }
-        for (int k = 0; k < values.size(); k++) {
-            lookAt(called.arguments().get(k), values.get(k), called.choice().fills() && k == filled(called), called);
-        }
-    }
-
-    /** Of a copy the third argument is filled, of other calls the first. */
-    private static int filled(Called called) {
-        return called.shown().equals("System.arraycopy") || called.shown().endsWith(".getChars") ? 2 : 0;
-    }
-
-    private void lookAt(ExpressionTree argument, Value value, boolean fills, Called called) {
-        TypeMirror type = services.attribution().type(argument);
-        boolean puts = called.choice().kind() == Choice.Kind.WRITES || called.choice().kind() == Choice.Kind.STEP;
-        boolean looks = !puts || called.shown().endsWith("All") || value instanceof Value.Owned;
-        if (type != null && type.getKind() != TypeKind.NULL && looks
-                && services.program().library().hasContents(type)) {
-            new Contents(services, body).call(value, fills, called.at(), called.shown());
-        }
-    }
-
     private void steps(Called called) {
         Choice choice = called.choice();
-        if (choice.kind() != Choice.Kind.UNKNOWN && called.shown().contains(".")) {
-            new Comparisons(services, body).write(called.shown(), called.arguments(), called.at());
+        if (choice.kind() != Choice.Kind.UNKNOWN) {
+            new Comparisons(services, body).write(called);
+            if (Comparisons.joins(called.shown())) {
+                called.arguments().forEach(each -> joined(each, called.at()));
+            }
         }
         switch (choice.kind()) {
             case PURE, VIEW, PIPE -> { }
@@ -144,11 +124,8 @@ final class LibraryCalls {
                 }
             }
             case STEP -> body.emit(services.step(called.shown(), false, called.at()));
-            case COMPOUND -> {
-                services.tell(Notes.Kind.APPROXIMATED, body, called.at(), "compound library call: "
-                    + called.shown() + " counts as several steps");
-                body.emit(services.step(called.shown(), true, called.at()));
-            }
+            case COMPOUND -> body.emit(services.doubt(Method.Doubt.OPEN, called.shown(), true, body, called.at(),
+                "compound library call: " + called.shown() + " counts as several steps"));
             case READS, WRITES, RUN -> new Contents(services, body).call(called.object(),
                 choice.kind() == Choice.Kind.WRITES, called.at(), called.shown());
             default -> unknown(called);
@@ -159,9 +136,26 @@ final class LibraryCalls {
     }
 
     private void unknown(Called called) {
-        services.tell(Notes.Kind.APPROXIMATED, body, called.at(),
-            "unknown call: " + called.shown() + " may do anything, so it counts as several steps");
-        body.emit(services.step(called.shown(), true, called.at()));
+        if (called.at() instanceof MethodInvocationTree call && call.getMethodSelect() instanceof MemberSelectTree select
+                && services.functions().isFunction(select.getExpression())) {
+            services.tell(Notes.Kind.APPROXIMATED, body, called.at(),
+                "unknown call: " + called.shown() + " runs a function that isn't known, so it counts as several steps");
+            body.emit(services.step(called.shown(), true, called.at()));
+        } else {
+            body.emit(services.doubt(openness(called.at()), called.shown(), true, body, called.at(),
+                "unknown call: " + called.shown() + " may do anything, so it counts as several steps"));
+        }
+    }
+
+    /** A method of an object that others bring, and may have a class of their own, runs what they want. */
+    private Method.Doubt openness(Tree at) {
+        boolean named = at instanceof MethodInvocationTree call && call.getMethodSelect() instanceof MemberSelectTree select
+            && !select.getExpression().toString().equals("super");
+        Element symbol = services.attribution().element(at);
+        boolean fixed = symbol == null || symbol.getModifiers().contains(Modifier.STATIC)
+            || symbol.getModifiers().contains(Modifier.FINAL)
+            || symbol.getEnclosingElement().getModifiers().contains(Modifier.FINAL);
+        return named && !fixed ? Method.Doubt.OPEN : Method.Doubt.ANY;
     }
 
     private void assume(Called called) {
@@ -194,7 +188,7 @@ final class LibraryCalls {
     private Value result(Called called, List<Value> values, boolean isStatic) {
         Choice choice = called.choice();
         if (choice.makes() != null) {
-            return new Value.Fresh(null);
+            return !called.shown().endsWith(".clone") || isMadeNew(called) ? new Value.Fresh(null) : Value.OPAQUE;
         } else if (choice.kind() == Choice.Kind.VIEW || choice.kind() == Choice.Kind.PIPE) {
             return isStatic ? values.isEmpty() ? new Value.Fresh(null) : values.get(0) : called.object();
         } else if (called.shown().startsWith("StringBuilder.") && services.attribution().type(called.at()).toString()
@@ -223,7 +217,8 @@ final class LibraryCalls {
         Choice choice = services.program().library().choose(type, "new");
         Called called = new Called("new " + simple(type), Value.OPAQUE, choice, tree, tree.getArguments());
         if (choice.kind() == Choice.Kind.PURE) {
-            lookAtArguments(called, values);
+            new Arguments(services, body).lookAt(called, values);
+            new Comparisons(services, body).fill(called);
         } else {
             steps(called);
         }
@@ -258,7 +253,7 @@ final class LibraryCalls {
         }
         JavaClass known = services.program().find(type);
         if (known != null) {
-            joinedOwn(known, part, at);
+            new Comparisons(services, body).own(known, Comparisons.TEXT, part);
             return;
         }
         Choice choice = services.program().library().choose(type, "toString");
@@ -269,18 +264,4 @@ final class LibraryCalls {
             steps(called);
         }
     }
-
-    private void joinedOwn(JavaClass known, ExpressionTree part, Tree at) {
-        for (JavaClass each = known; each != null; each = services.families().above(each)) {
-            for (JavaMethod method : each.methods()) {
-                if (method.symbol().getSimpleName().contentEquals("toString")
-                        && method.symbol().getParameters().isEmpty() && !method.isAbstract()) {
-                    body.emit(new Part.Call(new Value.Opaque(each.shape()), services.methods().of(method),
-                        List.of(new Value.Named(body.statics())), services.attribution().place(part)));
-                    return;
-                }
-            }
-        }
-    }
-
 }

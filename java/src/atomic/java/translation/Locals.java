@@ -50,6 +50,11 @@ final class Locals {
             return holder == null ? Value.OPAQUE : new Value.Node(holder);
         }
         Value known = body.locals().get(variable);
+        VariableElement field = services.ownership().holding(variable);
+        if (field != null && !(known instanceof Value.Fresh && services.ownership().escapes(variable) > 0
+                && body.isFreshAt(variable, offset))) {
+            return new Accesses(services, body).confined(field, offset);
+        }
         if (known == null) {
             return body.captured(variable);
         } else if (known instanceof Value.Fresh fresh && services.ownership().escapes(variable) > 0

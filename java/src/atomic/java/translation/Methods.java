@@ -65,6 +65,11 @@ public final class Methods {
         return judged;
     }
 
+    /** All methods that stand for code of the sources. */
+    public Set<Method> written() {
+        return origins.keySet();
+    }
+
     /** The methods that are judged: the Java methods, and the functions that run by themselves. */
     public Set<Method> roots() {
         Set<Method> all = new LinkedHashSet<>(judged.keySet());
@@ -156,6 +161,7 @@ public final class Methods {
         origins.put(made, method);
         boolean bySuper = key.self() != method.owner() && !method.owner().isInterface();
         made.closed(!method.isOpen() || key.fresh() || container != null || bySuper);
+        made.wrapped(services.ownership().isWrapped(method.owner()));
         if (own || method.isConstructor() || method.readsNewObject()) {
             judged.put(made, method);
         }

@@ -42,13 +42,21 @@ final class Regions {
         if (length == 0) {
             services.tell(Notes.Kind.APPROXIMATED, body, lock, "lock and unlock stand in no form that is known here, so"
                 + " the lock counts as never held");
-            return 0;
+            return services.program().sure() ? open(statement, lock, rest) : 0;
         }
         Locking.Lock taken = locking.lock(lock);
         Part inside = body.collect(() -> inside(lock, rest.subList(0, length)));
         body.emit(new Part.Region(taken.path(), taken.mode(), inside, services.attribution().place(statement)));
         behind(lock, rest.get(length - 1));
         return length;
+    }
+
+    /** A region that may end anywhere is one to the end, where only what is certain counts. */
+    private int open(StatementTree statement, ExpressionTree lock, List<? extends StatementTree> rest) {
+        Locking.Lock taken = locking.lock(lock);
+        Part inside = body.collect(() -> statements.all(rest));
+        body.emit(new Part.Region(taken.path(), taken.mode(), inside, services.attribution().place(statement)));
+        return Math.max(1, rest.size());
     }
 
     /** How many statements behind the taking of a lock lead up to where it is given back; 0 where that isn't known. */

@@ -1,6 +1,7 @@
 package atomic.java.translation;
 
 import atomic.java.places.Notes;
+import atomic.java.program.JavaClass;
 import atomic.java.program.JavaMethod;
 import atomic.java.skeleton.Path;
 import atomic.java.skeleton.Value;
@@ -29,14 +30,15 @@ final class Requirements {
         }
     }
 
-    private Path path(String word, JavaMethod method, Body body) {
-        if (word.startsWith("#")) {
-            return argument(word.substring(1), method, body);
-        }
-        for (VariableElement parameter : method.symbol().getParameters()) {
-            if (parameter.getSimpleName().contentEquals(word)) {
-                return parameter(parameter, method, body);
-            }
+    /** The path of a lock: a parameter, by its name or as {@code #1}, a lock of the class, or a field behind one of these. */
+    private Path path(String written, JavaMethod method, Body body) {
+        String word = written.strip();
+        int dot = word.indexOf('.');
+        String first = dot < 0 ? word : word.substring(0, dot);
+        VariableElement given = given(first, method);
+        if (given != null || first.startsWith("#")) {
+            Path path = given == null ? null : parameter(given, method, body);
+            return dot < 0 || path == null ? path : behind(path, word.substring(dot + 1), given, body);
         }
         Guards.Lock lock = services.fields().guards().lock(word, method.owner());
         if (lock == null) {
@@ -46,6 +48,23 @@ final class Requirements {
         }
         Value me = body.me(0) instanceof Value.Node node ? node.container() : body.me(0);
         return me == null || me.path() == null ? null : me.path().then(lock.fields());
+    }
+
+    /** The parameter that a name or a number means, or null. */
+    private static VariableElement given(String word, JavaMethod method) {
+        var parameters = method.symbol().getParameters();
+        if (word.matches("#[0-9]{1,3}")) {
+            int at = Integer.parseInt(word.substring(1)) - 1;
+            return at >= 0 && at < parameters.size() ? parameters.get(at) : null;
+        }
+        return parameters.stream().filter(each -> each.getSimpleName().contentEquals(word)).findFirst().orElse(null);
+    }
+
+    /** A lock of a parameter's class, behind the parameter. */
+    private Path behind(Path path, String word, VariableElement parameter, Body body) {
+        JavaClass type = services.program().find(parameter.asType());
+        Guards.Lock lock = type == null ? null : services.fields().guards().lock(word, type);
+        return lock == null ? null : lock.isStatic() ? body.statics().then(lock.fields()) : path.then(lock.fields());
     }
 
     /** The parameter that stands at the same place as one of the method furthest up, whatever it is called here. */
@@ -58,13 +77,5 @@ final class Requirements {
             at++;
         }
         return null;
-    }
-
-    private Path argument(String number, JavaMethod method, Body body) {
-        int at = number.matches("[0-9]{1,3}") ? Integer.parseInt(number) - 1 : -1;
-        if (at < 0 || at >= method.symbol().getParameters().size()) {
-            return null;
-        }
-        return parameter(method.symbol().getParameters().get(at), method, body);
     }
 }

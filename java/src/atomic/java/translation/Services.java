@@ -36,6 +36,7 @@ final class Services {
         this.methods = methods;
         uses = new Uses(program.attribution());
         ownership = new Ownership(program, uses);
+        ownership.confine();
         nodes = new Nodes(program, ownership);
         families = new Families(program);
         fields = new Fields(program, families, uses, ownership, nodes);
@@ -83,17 +84,24 @@ final class Services {
 
     /** A call of what is one step, or several, that Java calls {@code shown}. */
     Part step(String shown, boolean compound, Tree at) {
-        return helper(shown, compound, program.attribution().name(at));
+        return helper(shown, compound, Method.Doubt.NONE, program.attribution().name(at));
+    }
+
+    /** The same of what counts as more than it may be, and that is told. */
+    Part doubt(Method.Doubt doubt, String shown, boolean compound, Body body, Tree at, String why) {
+        tell(Notes.Kind.APPROXIMATED, body, at, why);
+        return helper(shown, compound, doubt, program.attribution().name(at));
     }
 
     /** A call of what is several steps. */
     Part.Call several(String shown, Place place) {
-        return helper(shown, true, place);
+        return helper(shown, true, Method.Doubt.NONE, place);
     }
 
-    private Part.Call helper(String shown, boolean compound, Place place) {
-        Method helper = helpers.computeIfAbsent(shown + compound, key -> {
+    private Part.Call helper(String shown, boolean compound, Method.Doubt doubt, Place place) {
+        Method helper = helpers.computeIfAbsent(shown + compound + doubt, key -> {
             Method made = new Method(program.helpers(), program.names().invent(shown, "=" + shown), null);
+            made.doubt(doubt);
             Value self = new Value.Named(Path.of(new Path.Root(Path.Kind.THIS, "this", program.helpers())));
             Part one = new Part.Access(self, state, true, null);
             made.body(compound ? Part.sequence(List.of(one, one)) : one);

@@ -1,0 +1,109 @@
+package atomic.java.ownership;
+
+import atomic.java.attribution.Attribution;
+import atomic.java.program.JavaClass;
+import atomic.java.program.Program;
+import com.sun.source.tree.AssignmentTree;
+import com.sun.source.tree.ClassTree;
+import com.sun.source.tree.ExpressionTree;
+import com.sun.source.tree.MemberSelectTree;
+import com.sun.source.tree.MethodInvocationTree;
+import com.sun.source.tree.Tree;
+import com.sun.source.tree.TypeCastTree;
+import com.sun.source.tree.VariableTree;
+import javax.lang.model.element.Element;
+import javax.lang.model.element.ElementKind;
+import javax.lang.model.element.Modifier;
+import javax.lang.model.element.VariableElement;
+
+/**
+ * What {@code super.clone()} gives: an object that nobody else knows yet, whose fields hold the same objects as those of the first
+ * one. It counts as new where nothing but numbers and texts is read of it before it gets a value of its own.
+ */
+final class Clones {
+
+    private Clones() { }
+
+    /** Whether a call makes a copy of an object of a class at hand, field by field. */
+    static boolean isOwn(MethodInvocationTree call, Program program) {
+        Attribution attribution = program.attribution();
+        ExpressionTree select = call.getMethodSelect();
+        if (!attribution.element(call).getSimpleName().contentEquals("clone") || !call.getArguments().isEmpty()) {
+            return false;
+        }
+        return !(select instanceof MemberSelectTree member) || member.getExpression().toString().equals("super")
+            || program.find(attribution.type(member.getExpression())) != null;
+    }
+
+    /** Whether such a copy goes into a local that is used in this way. */
+    static boolean isCopy(MethodInvocationTree call, Program program, Uses uses) {
+        Attribution attribution = program.attribution();
+        Tree parent = attribution.parent(call);
+        while (parent instanceof TypeCastTree || parent != null && parent.getKind() == Tree.Kind.PARENTHESIZED) {
+            parent = attribution.parent(parent);
+        }
+        return parent instanceof VariableTree local && attribution.element(local) instanceof VariableElement copy
+            && copy.getKind() == ElementKind.LOCAL_VARIABLE
+            && uses.of(copy).stream().allMatch(use -> isHarmless(use, copy, attribution, uses));
+    }
+
+    private static boolean isHarmless(Tree use, VariableElement copy, Attribution attribution, Uses uses) {
+        if (!(attribution.parent(use) instanceof MemberSelectTree select)) {
+            return attribution.parent(use) instanceof TypeCastTree || attribution.parent(use).getKind() == Tree.Kind.RETURN;
+        }
+        Element member = attribution.element(select);
+        boolean field = member instanceof VariableElement && member.getKind() == ElementKind.FIELD;
+        boolean target = attribution.parent(select) instanceof AssignmentTree assignment && assignment.getVariable() == select;
+        return field && (target || member.asType().getKind().isPrimitive()
+            || member.asType().toString().equals("java.lang.String")
+            || uses.assignments(member).stream().anyMatch(each -> isBefore(each, select, copy, attribution, uses)));
+    }
+
+    /** Whether an assignment surely gave the copy's field a value of its own before it is read. */
+    private static boolean isBefore(Uses.Assignment each, Tree read, VariableElement copy, Attribution attribution, Uses uses) {
+        Tree statement = attribution.parent(each.tree());
+        return each.target() instanceof MemberSelectTree target
+            && copy.equals(attribution.element(target.getExpression()))
+            && attribution.end(each.tree()) <= attribution.start(read)
+            && attribution.parent(statement) == attribution.parent(uses.declaration(copy));
+    }
+
+    /** Whether two objects may share what a field holds, since one is a copy of the other, field by field. */
+    static boolean share(VariableElement field, Program program, Uses uses) {
+        JavaClass home = program.find(field.getEnclosingElement());
+        boolean plain = home == null || home.symbol().getSuperclass().toString().equals("java.lang.Object");
+        boolean open = !plain && program.attribution().elements().getAllMembers(home.symbol()).stream().anyMatch(each ->
+            each.getSimpleName().contentEquals("clone") && each.getModifiers().contains(Modifier.PUBLIC)
+            && program.find(each.getEnclosingElement()) == null);
+        return open || uses.clones().stream().anyMatch(call -> isOwn(call, program) && program.method(
+            program.attribution().element(call)) == null && isKin(call, home, program) && !givesOwn(call, field, program, uses));
+    }
+
+    private static boolean isKin(MethodInvocationTree call, JavaClass home, Program program) {
+        Tree at = call;
+        while (at != null && !(at instanceof ClassTree)) {
+            at = program.attribution().parent(at);
+        }
+        JavaClass here = at == null ? null : program.find(program.attribution().element(at));
+        if (here == null || home == null) {
+            return true;
+        }
+        var types = program.attribution().types();
+        var one = types.erasure(here.symbol().asType());
+        var other = types.erasure(home.symbol().asType());
+        return types.isSubtype(one, other) || types.isSubtype(other, one);
+    }
+
+    /** Whether the copy's field surely gets a value of its own. */
+    private static boolean givesOwn(MethodInvocationTree call, VariableElement field, Program program, Uses uses) {
+        Attribution attribution = program.attribution();
+        Tree parent = attribution.parent(call);
+        while (parent instanceof TypeCastTree || parent.getKind() == Tree.Kind.PARENTHESIZED) {
+            parent = attribution.parent(parent);
+        }
+        return parent instanceof VariableTree local && attribution.element(local) instanceof VariableElement copy
+            && uses.assignments(field).stream().anyMatch(each -> each.target() instanceof MemberSelectTree target
+                && copy.equals(attribution.element(target.getExpression()))
+                && attribution.parent(attribution.parent(each.tree())) == attribution.parent(local));
+    }
+}

@@ -1,0 +1,80 @@
+package atomic.java.translation;
+
+import atomic.java.library.Choice;
+import atomic.java.skeleton.Method;
+import atomic.java.skeleton.Value;
+import com.sun.source.tree.ExpressionTree;
+import java.util.List;
+import java.util.Set;
+import javax.lang.model.element.TypeElement;
+import javax.lang.model.type.TypeKind;
+import javax.lang.model.type.TypeMirror;
+
+/**
+ * What a library's call looks at, or fills, among its arguments. Of an object that isn't safe by itself that is an access of its
+ * contents. One that is safe by itself takes its own lock for each look, so that each look is a step besides the call's own.
+ */
+final class Arguments {
+    /** Classes whose methods look at the reference of an argument alone. */
+    private static final Set<String> BARE = Set.of("Objects.", "Optional.", "Thread.", "System.", "Reference.");
+
+    private final Services services;
+    private final Body body;
+
+    Arguments(Services services, Body body) {
+        this.services = services;
+        this.body = body;
+    }
+
+    /** Emits what a call looks at, or fills, among its arguments. */
+    void lookAt(LibraryCalls.Called called, List<Value> values) {
+        if (called.choice().kind() == Choice.Kind.UNKNOWN || called.choice().kind() == Choice.Kind.VIEW) {
+            return;
+        }
+        boolean handle = called.shown().startsWith("VarHandle.");
+        for (int k = 0; k < values.size(); k++) {
+            boolean fills = handle ? k == 0 : called.choice().fills() && k == filled(called);
+            lookAt(called.arguments().get(k), values.get(k), fills, called);
+        }
+    }
+
+    /** Of a copy the third argument is filled, of other calls the first. */
+    private static int filled(LibraryCalls.Called called) {
+        return called.shown().equals("System.arraycopy") || called.shown().endsWith(".getChars") ? 2 : 0;
+    }
+
+    private void lookAt(ExpressionTree argument, Value value, boolean fills, LibraryCalls.Called called) {
+        TypeMirror type = services.attribution().type(argument);
+        boolean puts = called.choice().kind() == Choice.Kind.WRITES || called.choice().kind() == Choice.Kind.STEP;
+        boolean whole = called.shown().endsWith("All") || called.shown().endsWith("drainTo");
+        if (type == null || type.getKind() == TypeKind.NULL || puts && !whole && !(value instanceof Value.Owned)) {
+            return;
+        } else if (services.program().library().hasContents(type)) {
+            new Contents(services, body).call(value, fills, called.at(), called.shown());
+        } else if (!(value instanceof Value.Fresh) && BARE.stream().noneMatch(called.shown()::startsWith)) {
+            lookAtSafe(type, called);
+        }
+    }
+
+    /** A collection that is safe by itself is looked at in one step where the table says so of {@code toArray}. */
+    private void lookAtSafe(TypeMirror type, LibraryCalls.Called called) {
+        boolean map = isBelow(type, "java.util.Map");
+        if (!map && !isBelow(type, "java.util.Collection") || services.program().find(type) != null) {
+            return;
+        }
+        Choice.Kind kind = services.program().library().choose(type, map ? "entrySet" : "toArray").kind();
+        if (kind == Choice.Kind.STEP) {
+            body.emit(services.step(called.shown(), false, called.at()));
+        } else if (kind != Choice.Kind.PURE) {
+            body.emit(services.doubt(Method.Doubt.OPEN, called.shown(), true, body, called.at(),
+                "compound library call: " + called.shown() + " looks at many elements of its argument, one after the other"));
+        }
+    }
+
+    private boolean isBelow(TypeMirror type, String name) {
+        TypeElement wanted = services.attribution().elements().getTypeElement(name);
+        var types = services.attribution().types();
+        return wanted != null && !type.getKind().isPrimitive()
+            && types.isSubtype(types.erasure(type), types.erasure(wanted.asType()));
+    }
+}
