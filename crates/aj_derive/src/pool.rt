@@ -35,7 +35,8 @@ fn fields_fit(fields: &[FieldId]) -> bool
 
 /// Whether a path can be written.
 fn path_fits(path: &Path) -> bool
-    ensures { result ≡ true → IsPath path.now }
+    ensures only { result ≡ true → IsPath path.now }
+    ensures all { IsPath path.now → result ≡ true }
 {
     // Only the proof needs this: that a slot's number fits 16 bits is known where the slot is read.
     let _root = path.root;
@@ -44,7 +45,8 @@ fn path_fits(path: &Path) -> bool
 
 /// Whether a tree has fewer than `room` tests within each other, on paths that can be written.
 fn fits(t: &Tree, room: u32) -> bool
-    ensures { result ≡ true → IsAtMost room (cond_of t.now) }
+    ensures only { result ≡ true → IsAtMost room (cond_of t.now) }
+    ensures all { IsAtMost room (cond_of t.now) → result ≡ true }
 {
     if room == 0 {
         return false;

@@ -34,5 +34,5 @@ returns-clause-pool c =
     let table = ap (map cond_of) c.in_ok-push.ensures.items ∙ map-append cond_of old.trees.items (c.in_ok-tree.tree ∷ []) in
     let few = subst (λ ts. length ts < 2 ^ 32) (sym table) (longer_few old.trees.items (pool_table old) t c.len-number.result (length-map old.trees.items cond_of) (c.len-number.ensures ∙ old.trees.ok.0) c.if-number.false) in
     let l = pool_longer c.args.table.now old c.insert_full.new.self.keys c.args.node.now t (map cond_of c.push.new.self.items) c.in_ok-place.is_new c.count-count.ensures.table c.requires.pool c.requires.known
-    (sym c.in_ok-tree.ensures.tree) (tree_is t c.in_ok-tree.ensures.canonical (c.fits.ensures c.if-not-fits.false)) few f.added c.if-not-is_new.false f.keys table in
+    (sym c.in_ok-tree.ensures.tree) (tree_is t c.in_ok-tree.ensures.canonical (c.fits.ensures.only c.if-not-fits.false)) few f.added c.if-not-is_new.false f.keys table in
     record { pooled = l.0; there = l.1; nodes = l.2 }
