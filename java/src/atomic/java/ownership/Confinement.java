@@ -34,9 +34,9 @@ import javax.lang.model.element.VariableElement;
 
 /**
  * The names under which code of a class knows the object of one of its fields: locals, parameters and results of methods that are
- * called here alone, and fields of inner objects. The object gets no further where each of these only hands it to another one, and
+ * called here alone, and fields of nested objects. The object gets no further where each of these only hands it to another one, and
  * where all that any of them ever holds was made for the field. All of it stays with one object of the class: each such call and
- * field is one of {@code this}, or of the object around it.
+ * field is one of {@code this}, of the object around it, or of a nested object, which knows it for an object without a name.
  */
 final class Confinement {
     private final Program program;
@@ -52,9 +52,9 @@ final class Confinement {
     private boolean holds = true;
     private String made = "";
 
-    Confinement(Program program, Uses uses, Ownership ownership, Sites sites, VariableElement field) {
+    Confinement(Program program, Ownership ownership, Sites sites, VariableElement field) {
         this.program = program;
-        this.uses = uses;
+        uses = ownership.uses();
         this.ownership = ownership;
         this.sites = sites;
         this.field = field;
@@ -64,8 +64,7 @@ final class Confinement {
 
     /** The names, where the object gets no further; else null. */
     Set<Element> holders() {
-        holds = home != null && !Families.isStatic(field) && sites.hasNoHeirWithin(home)
-            && !Clones.share(field, program, uses);
+        holds = home != null && !Families.isStatic(field) && sites.hasNoHeirWithin(home);
         add(field);
         while (holds && !waiting.isEmpty()) {
             Element next = waiting.remove();
@@ -111,7 +110,7 @@ final class Confinement {
             source(each.value());
         }
         if (variable.getKind() == ElementKind.FIELD && variable != field) {
-            need(isInner(program.find(variable.getEnclosingElement())));
+            need(isNested(program.find(variable.getEnclosingElement())));
         } else if (variable.getKind() != ElementKind.FIELD && variable.getKind() != ElementKind.LOCAL_VARIABLE) {
             parameter(variable);
         }
@@ -141,9 +140,9 @@ final class Confinement {
         return around != null && at == around;
     }
 
-    /** Whether objects of a class know one of the field's class around them. */
-    private boolean isInner(JavaClass each) {
-        return each != null && each.hasOuterObject() && (each.outer() == home || isInner(each.outer()));
+    /** Whether a class stands within the field's class. */
+    private boolean isNested(JavaClass each) {
+        return each != null && (each.outer() == home || isNested(each.outer()));
     }
 
     /** All calls of its method hand in what the field may hold. */
@@ -196,14 +195,14 @@ final class Confinement {
 
     /** Whether a method belongs to the field's class, or to one within it. */
     private boolean isNear(JavaMethod method) {
-        return method.owner() == home || isInner(method.owner()) || method.isStatic() && method.owner().outer() == home;
+        return method.owner() == home || isNested(method.owner());
     }
 
     private boolean isOwnCall(Tree site) {
         if (site instanceof NewClassTree making) {
             JavaMethod constructor = program.method(attribution.element(making));
             return making.getEnclosingExpression() == null && making.getClassBody() == null && constructor != null
-                && isInner(constructor.owner());
+                && isNested(constructor.owner());
         }
         ExpressionTree select = ((MethodInvocationTree) site).getMethodSelect();
         return isOwn(select) || Families.isStatic(attribution.element(select));

@@ -17,6 +17,7 @@ import com.sun.source.tree.Tree;
 import com.sun.source.tree.TypeCastTree;
 import com.sun.source.tree.VariableTree;
 import java.util.HashMap;
+import java.util.HashSet;
 import java.util.List;
 import java.util.Map;
 import java.util.Set;
@@ -43,6 +44,7 @@ public final class Ownership {
     private final Map<VariableElement, Long> escapes = new HashMap<>();
     private final Map<VariableElement, Boolean> owned = new HashMap<>();
     private final Map<Element, VariableElement> confined = new HashMap<>();
+    private final Set<VariableElement> shared = new HashSet<>();
     private static final String UNKNOWN = "";
 
     public Ownership(Program program, Uses uses) {
@@ -52,6 +54,10 @@ public final class Ownership {
         escape = new Escape(program, uses);
         looks = new Looks(program, uses, escape);
         sites = new Sites(program);
+    }
+
+    Uses uses() {
+        return uses;
     }
 
     public Escape escape() {
@@ -64,19 +70,28 @@ public final class Ownership {
             for (Element member : each.symbol().getEnclosedElements()) {
                 if (member instanceof VariableElement field && field.getKind() == ElementKind.FIELD && !isOpen(field)
                         && (field.asType().getKind() == TypeKind.ARRAY || program.library().hasContents(field.asType()))) {
-                    confine(field, new Confinement(program, uses, this, sites, field));
+                    confine(field);
                 }
             }
         }
     }
 
-    private void confine(VariableElement field, Confinement confinement) {
+    private void confine(VariableElement field) {
+        Confinement confinement = new Confinement(program, this, sites, field);
         Set<Element> holders = confinement.holders();
+        if (Clones.share(field, program, uses)) {
+            shared.add(field);
+        }
         if (holders != null) {
             holders.forEach(each -> confined.put(each, field));
             made.put(field, confinement.made());
             owned.put(field, true);
         }
+    }
+
+    /** Whether two objects may share what a field holds, since one is a copy of the other, field by field. */
+    public boolean isShared(VariableElement field) {
+        return shared.contains(field);
     }
 
     /** Whether objects of a class are only made to be wrapped by a library, which takes a lock around each call of theirs. */
@@ -191,7 +206,7 @@ public final class Ownership {
     }
 
     private boolean findOwned(VariableElement field) {
-        if (isOpen(field) || made(field) == null || Clones.share(field, program, uses)) {
+        if (isOpen(field) || made(field) == null) {
             return false;
         }
         List<Tree> leaks = uses.of(field).stream().filter(use -> escape.from(use) != Escape.NEVER).toList();

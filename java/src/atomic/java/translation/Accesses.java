@@ -92,12 +92,13 @@ final class Accesses {
 
     /** The object of a field under another name; where there is no {@code this}, who calls has written its accesses. */
     Value confined(VariableElement field, long offset) {
-        Value object = body.object(services.program().find(field.getEnclosingElement()), offset);
-        if (object == null) {
+        JavaClass home = services.program().find(field.getEnclosingElement());
+        Value object = body.object(home, offset);
+        if (object == null && body.self() == home) {
             return new Value.Fresh(null);
         }
         Fields.Home contents = services.fields().contents(field);
-        Value inside = holder(field, contents, object);
+        Value inside = holder(field, contents, object == null ? new Value.Opaque(home.shape()) : object);
         return inside instanceof Value.Fresh ? new Value.Fresh(null) : new Value.Owned(inside, contents.field(), null);
     }
 

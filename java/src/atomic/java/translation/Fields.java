@@ -83,7 +83,13 @@ public final class Fields {
             boolean array = java.asType().getKind() == javax.lang.model.type.TypeKind.ARRAY;
             known = make(java, owner, new Wish(name + "_contents", name + (array ? "[]" : "'s contents"), null, false));
             contents.put(java, known);
-            guard(java, known);
+            if (ownership.isShared(java)) {
+                known.field().leaveUnguarded();
+                program.notes().tell(Notes.Kind.APPROXIMATED, java, known.field().place(), "object of others: a copy by"
+                    + " clone() shares what " + java + " holds, so its contents count as unguarded");
+            } else {
+                guard(java, known);
+            }
         }
         return known;
     }

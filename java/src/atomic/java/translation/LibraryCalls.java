@@ -50,6 +50,11 @@ final class LibraryCalls {
             tree.getArguments().forEach(expressions::value);
             return Value.OPAQUE;
         }
+        if (before != null && services.attribution().type(before).getKind() == TypeKind.ARRAY
+                && symbol.getSimpleName().contentEquals("clone")) {
+            new Contents(services, body).call(object, false, tree, before + ".clone");
+            return new Value.Fresh(null);
+        }
         Choice choice = choose(before, symbol, isStatic);
         List<Value> values = values(tree.getArguments(), choice);
         Called called = new Called(shown(symbol, before, isStatic), object, choice, tree, tree.getArguments());
