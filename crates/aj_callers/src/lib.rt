@@ -2,7 +2,9 @@
 #![tactic(auto)]
 
 mod laws;
+mod overriding;
 mod rows;
 
 pub use laws::only_callees_count;
+pub use overriding::Overriding;
 pub use rows::{Callers, callers_of};

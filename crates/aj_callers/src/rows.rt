@@ -1,12 +1,12 @@
-//! Which methods call a method. A method counts as a caller of those that override it.
+//! Which methods call a method. A method counts as a caller of those that override it, by the rows that are given.
 ghost use Rattle.std.specs.Prelude.{◌≡◌, ◌++◌, ℕ, ◌<◌, ◌≤◌, ◌^◌, List, length, IfOk, OnOk};
 ghost use Rattle.aj_core.specs.Views.{program_of, expr_of, exprs_from, stmt_of, stmts_from};
 ghost use Rattle.aj_rules.specs.Search.{row_at as overs_at};
 ghost use Rattle.aj_callers.specs.Called.{expr_callees, exprs_callees, stmt_callees, block_callees, HasCaller, HasCallers, AreCallers};
 
+use crate::overriding::Overriding;
 use aj_core::{CoreExpr, CoreProgram, CoreStmt};
 use aj_paths::MethodId;
-use aj_rules::OverridingMethods;
 use std::alloc::{AllocError as NoMemory, Global};
 use std::marker::Model;
 
@@ -153,35 +153,35 @@ fn no_callers(alloc: Global, count: usize) -> Result<Vec<Callers>, NoMemory>
     Ok(rows)
 }
 
-/// Adds each method to the callers of those that its body calls and of those that override it.
-fn add_methods(
+/// Adds each method to the callers of those that its body calls and of those in its row.
+fn add_methods<R: Overriding>(
     alloc: Global,
     program: &CoreProgram,
-    over: &OverridingMethods,
+    over: &R,
     rows: &mut [Callers],
 ) -> Result<(), NoMemory>
     requires { length (program_of program.now).methods ≤ 2 ^ 32 }
     ensures size { length rows.new ≡ length rows.old }
-    ensures callers { OnOk result (AreCallers (program_of program.now) (overs_at over.now) rows.new) }
+    ensures callers { OnOk result (AreCallers (program_of program.now) (overs_at (R.rows over.now)) rows.new) }
 {
     for (caller, method) in program.methods().iter().enumerate() {
         let mut callees = Vec::new(alloc);
         put_stmt(&method.body, &mut callees)?;
         add_callers(rows, callees.as_slice(), caller)?;
-        add_callers(rows, over.of(MethodId(caller as u32)), caller)?;
+        add_callers(rows, over.row(MethodId(caller as u32)), caller)?;
     }
     Ok(())
 }
 
-/// The callers of each method of a program.
-pub fn callers_of(
+/// The callers of each method of a program, by these rows of overriding methods.
+pub fn callers_of<R: Overriding>(
     alloc: Global,
     program: &CoreProgram,
-    over: &OverridingMethods,
+    over: &R,
 ) -> Result<Vec<Callers>, NoMemory>
     requires { length (program_of program.now).methods ≤ 2 ^ 32 }
     ensures size { IfOk result (λ rows. length rows.items ≡ length (program_of program.now).methods) }
-    ensures callers { IfOk result (λ rows. AreCallers (program_of program.now) (overs_at over.now) rows.items) }
+    ensures callers { IfOk result (λ rows. AreCallers (program_of program.now) (overs_at (R.rows over.now)) rows.items) }
 {
     let mut rows = no_callers(alloc, program.methods().len())?;
     add_methods(alloc, program, over, &mut rows)?;

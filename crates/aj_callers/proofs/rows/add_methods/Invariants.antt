@@ -6,7 +6,7 @@ use Rattle.aj_callers.proofs.rows.add_methods.Given as goal
 
 -- the methods before this one were looked at
 abbrev pub invariant-loop-caller : goal.invariant-loop-caller
-invariant-loop-caller l = record {
+invariant-loop-caller g l = record {
   size : length l.rows ≡ length l.fn.rows;
-  callers : SoFar (program_of l.program) (overs_at l.over) l.rows l.caller;
+  callers : SoFar (program_of l.program) (overs_at (g.R.Overriding.rows l.over)) l.rows l.caller;
 }
