@@ -1,0 +1,211 @@
+#!/usr/bin/env python3
+"""Gives the commands the sources that are worst for them, up to the limit of 262,144 bytes, and what belongs to these:
+the book that `derive` writes, the certificate that `blame` writes, a level for each class. A line for each run tells
+the bytes of the source and of the other file, the status, seconds of the processor, the most memory, and how often the
+time of half the source it took. A run that takes more seconds than --seconds is stopped.
+
+overriding  classes in a line, each of which overrides the one method; it calls a method with eight relevant paths
+reverse     the same, where the last class stands first in the source
+rising      the same without the call; the last one alone is compound, and the others come to be so by it
+empty       classes in a line, each of which overrides an empty method
+names       the same with three methods
+pairs       classes that inherit many methods, and override none
+line        classes in a line, each of which overrides a method with a lock
+sets_calls  methods that call each other, called at each part of eight locks
+sets_rise   methods that are called under more and more levels
+"""
+from __future__ import annotations
+
+import os
+import re
+import subprocess
+import tempfile
+from collections.abc import Callable
+from typing import NamedTuple, Optional
+
+import make_checked
+from command_line import PROGRAM, count_of, program_of, words_of
+
+LIMIT = 262144
+MAIN = "class Main{void main(){}}\n"
+LAST = "class Last{int u;atomic void last(){this.u=1;this.u=2;}}\n"
+FIELDS = "abcdefg"
+Family = Callable[[int], str]
+
+
+def locked() -> str:
+    """A class with a method that locks each of its fields and then itself."""
+    fields = "".join(f"final L {name};" for name in FIELDS)
+    sets = "".join(f"this.{name}={name};" for name in FIELDS)
+    params = ",".join(f"L {name}" for name in FIELDS)
+    locks = "".join(f"synchronized(this.{name}){{}}" for name in FIELDS)
+    return f"class L{{}}class X{{{fields}X({params}){{{sets}}}void g(){{{locks}synchronized(this){{}}}}}}\n"
+
+
+def heirs(count: int, body: Callable[[int], str]) -> list[str]:
+    """So many classes in a line, with these bodies."""
+    return [f"class c{k}{f' extends c{k - 1}' if k else ''}{{{body(k)}}}\n" for k in range(count)]
+
+
+def overriding(count: int) -> str:
+    return MAIN + locked() + "".join(heirs(count, lambda k: "void f(final X x){x.g();}"))
+
+
+def reverse(count: int) -> str:
+    return MAIN + locked() + "".join(reversed(heirs(count, lambda k: "void f(final X x){x.g();}")))
+
+
+def rising(count: int) -> str:
+    last = "this.u=1;this.u=2;"
+    return MAIN + "".join(heirs(count, lambda k: "int u;" * (k == 0) + f"void f(){{{last * (k == count - 1)}}}"))
+
+
+def empty(count: int) -> str:
+    return MAIN + "".join(heirs(count, lambda k: "void f(){}"))
+
+
+def names(count: int) -> str:
+    return MAIN + "".join(heirs(count, lambda k: "void f(){}void g(){}void h(){}"))
+
+
+def pairs(count: int) -> str:
+    methods = "".join(f"void f{k}(){{}}" for k in range(count))
+    return MAIN + f"class C{{{methods}}}\n" + "".join(f"class C{k} extends C{{}}\n" for k in range(count))
+
+
+def line(count: int) -> str:
+    rest = (make_checked.overriding(f"C{k}", f"C{k - 1}" if k else "C", k) for k in range(count))
+    return MAIN + make_checked.FIRST + "".join(rest)
+
+
+FAMILIES: dict[str, Family] = {
+    "overriding": overriding,
+    "reverse": reverse,
+    "rising": rising,
+    "empty": empty,
+    "names": names,
+    "pairs": pairs,
+    "line": line,
+    "sets_calls": make_checked.sets_calls,
+    "sets_rise": make_checked.sets_rise,
+}
+
+
+def most(make: Family, size: int) -> Optional[str]:
+    """What is made for the greatest number for which it has at most so many bytes, if there is one."""
+    low, high = 2, size
+    if len(make(low)) > size:
+        return None
+    while high - low > 1:
+        middle = (low + high) // 2
+        low, high = (middle, high) if len(make(middle)) <= size else (low, middle)
+    return make(low)
+
+
+def levels_of(source: str) -> str:
+    """A level for each class in source order; a class has that of the class at the top of its line."""
+    above: dict[str, str] = dict(re.findall(r"\bclass\s+(\w+)(?:\s+extends\s+(\w+))?", source))
+    level = {name: place for place, name in enumerate(above, 1)}
+    top: dict[str, str] = {}
+    for name in above:
+        line_up = [name]
+        while above[line_up[-1]] and line_up[-1] not in top:
+            line_up.append(above[line_up[-1]])
+        end = top.get(line_up[-1], line_up[-1])
+        top.update((each, end) for each in line_up)
+    return "".join(f"{name} {level[top[name]]}\n" for name in above)
+
+
+class Ran(NamedTuple):
+    """What a run took, and what it wrote; the status is None where it was stopped."""
+
+    status: Optional[int]
+    seconds: float
+    megabytes: float
+    output: bytes
+
+
+def run(words: list[str], seconds: int) -> Ran:
+    """Runs a program for so many seconds of the processor, at most."""
+    with tempfile.NamedTemporaryFile("r") as used:
+        timed = ["/usr/bin/time", "--quiet", "-f", "%U %S %M", "-o", used.name, "prlimit", f"--cpu={seconds}", *words]
+        done = subprocess.run(timed, stdout=subprocess.PIPE, stderr=subprocess.DEVNULL, check=False)
+        user, system, kibibytes = used.read().split()[-3:]
+    status = done.returncode if done.returncode < 128 else None
+    return Ran(status, float(user) + float(system), int(kibibytes) / 1024, done.stdout)
+
+
+class Case(NamedTuple):
+    """The words of a command, and the bytes of the file beside the source."""
+
+    words: list[str]
+    other: int
+
+
+def put(folder: str, name: str, text: bytes) -> str:
+    """The path of a new file with this text."""
+    path = os.path.join(folder, name)
+    with open(path, "wb") as file:
+        file.write(text)
+    return path
+
+
+def judging(program: str, maker: str, judge: str, source: str, seconds: int) -> Optional[Case]:
+    """The command that judges what another writes of a source; none where that writes nothing."""
+    ran = run([program, maker, source], seconds)
+    if ran.status != 0:
+        return None
+    return Case([program, judge, source, put(os.path.dirname(source), judge, ran.output)], len(ran.output))
+
+
+def case(program: str, command: str, folder: str, text: str, seconds: int) -> Optional[Case]:
+    """A command with this source and what belongs to it."""
+    source = put(folder, "source", (text + LAST * ("blame" in command)).encode())
+    if command == "levels":
+        levels = levels_of(text).encode()
+        return Case([program, command, source, put(folder, command, levels)], len(levels))
+    if command == "verify":
+        return judging(program, "derive", command, source, seconds)
+    if command == "verify-blame":
+        return judging(program, "blame", command, source, seconds)
+    return Case([program, command, source], 0)
+
+
+def row(program: str, command: str, family: str, text: str, seconds: int, before: float) -> float:
+    """Prints the line of a command and a source, and gives its seconds."""
+    with tempfile.TemporaryDirectory() as folder:
+        of = case(program, command, folder, text, seconds)
+        if of is None:
+            return 0
+        ran = run(of.words, seconds)
+    cells = [command, family, f"{len(text):,}", f"{of.other:,}" if of.other else ""]
+    cells += ["stopped" if ran.status is None else str(ran.status), f"{ran.seconds:.2f}", f"{ran.megabytes:.0f}"]
+    cells += [f"{ran.seconds / before:.1f}" if before > 0.05 and ran.status is not None else ""]
+    print("|", " | ".join(cells), "|", flush=True)
+    return 0 if ran.status is None else ran.seconds
+
+
+COMMANDS = ["check", "derive", "verify", "levels", "blame", "verify-blame"]
+
+
+def main() -> None:
+    parser = words_of(__doc__)
+    parser.add_argument("program", metavar="PROGRAM", type=program_of, help=PROGRAM)
+    parser.add_argument("families", metavar="FAMILY", nargs="*", choices=[[], *FAMILIES], help="these alone")
+    parser.add_argument("--command", action="append", choices=COMMANDS, help="this command alone; may be given again")
+    parser.add_argument("--parts", type=count_of, default=4, help="sizes from the limit down, each half the one before")
+    parser.add_argument("--seconds", type=count_of, default=60, help="the most seconds of a run")
+    given = parser.parse_args()
+    sizes = [LIMIT >> part for part in range(given.parts)][::-1]
+    print("| command | family | source | other file | status | seconds | MB | times half |")
+    print("|---|---|---|---|---|---|---|---|")
+    for family in given.families or FAMILIES:
+        sources = [text for size in sizes if (text := most(FAMILIES[family], size - len(LAST))) is not None]
+        for command in given.command or COMMANDS:
+            before = 0.0
+            for text in sources:
+                before = row(given.program, command, family, text, given.seconds, before)
+
+
+if __name__ == "__main__":
+    main()
