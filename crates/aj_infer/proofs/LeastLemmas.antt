@@ -15,12 +15,11 @@ use Rattle.aj_algebra.specs.Tables.{count_of_parts}
 use Rattle.aj_core.specs.Core.{Program, Method}
 use Rattle.aj_core.specs.Typed.{IsTyped}
 use Rattle.aj_fix.specs.Assignments as fix
-use Rattle.aj_core.specs.Dispatch.{Overrides}
 use Rattle.aj_rules.specs.Near.{MethodPaths, AreRelevant, AreFew, rel_of}
 use Rattle.aj_rules.specs.Search.{row_at as overs_at}
-use Rattle.aj_rules.specs.Overriding.{AreOverriders}
+use Rattle.aj_nearest.specs.Nearest.{AreNearest}
 use Rattle.aj_rules.specs.Effect.{Assignment, effect}
-use Rattle.aj_rules.specs.Rules.{IsPart, AtMost, IsFalling, IsClosed, held_in, HoldsBound, IsAdmissible, IsAccepted}
+use Rattle.aj_rules.specs.Rules.{IsPart, AtMost, IsFalling, AreBodiesBelow, IsClosed, held_in, HoldsBound, IsAdmissible, IsAccepted}
 use Rattle.aj_rules.proofs.BasicLemmas.{below_chain, both_below}
 use Rattle.aj_rules.proofs.SetLemmas.{first, second}
 use Rattle.aj_rules.proofs.UniqueSets.{unique_sets}
@@ -29,6 +28,7 @@ use Rattle.aj_infer.specs.Cells.{numbers_of, table_in, tables_in, all_const, run
 use Rattle.aj_infer.specs.Least.{IsLeast}
 use Rattle.aj_infer.specs.Verdicts.{HoldBounds}
 use Rattle.aj_infer.proofs.RunLemmas.{greatest_first, greatest_of_each, greatest_least, run_falls, run_rises}
+use Rattle.aj_infer.proofs.ChainLemmas.{follows}
 use Rattle.aj_infer.proofs.TableParts.{length_parts, chosen_parts, chosen_below, chosen_none, parts_below, in_first, in_second, in_either, in_filter, of_list, filter_has, bits_same, none_falls, parts_fall}
 use Rattle.aj_infer.proofs.CellLemmas.{tables_same, length_numbers, length_above, tables_fall, above_assigned, demand_is, le_test}
 use Rattle.aj_rules.proofs.Required.{required_in_rel}
@@ -79,14 +79,17 @@ module _ (P : Program) (overs : ℕ → List ℕ) (rel : ℕ → List PathData) 
       (run_falls P rel (overs m) method (assigned rel tables) (tables_fall P rel tables each_table) (has_path (method.requires_ ++ filter H (rel m))) H (with_required method.requires_ (rel m) H has))
       (subst (λ b. AtMost b (assigned rel tables m H)) (demand_is P overs rel (assigned rel tables) m method H) low)
 
-  pub met_closed : ((m over : ℕ) → Overrides P over m → Contains (overs m) over) → IsClosed P rel (assigned rel tables)
-  met_closed listed = record {
-    bodies = λ m method is H part has. below_chain (effect P rel (assigned rel tables) method.body H) (run_effect P rel (assigned rel tables) (overs m) method H) (assigned rel tables m H)
-        (greatest_first rel (assigned rel tables) (effect P rel (assigned rel tables) method.body H) (overs m) H) (run_below m method is H has);
-    overrides = λ m over method is o H part has.
-        below_chain (assigned rel tables over (held_in (rel over) H)) (run_effect P rel (assigned rel tables) (overs m) method H) (assigned rel tables m H)
-        (greatest_of_each rel (assigned rel tables) (effect P rel (assigned rel tables) method.body H) (overs m) over H (listed m over o)) (run_below m method is H has);
-  }
+  -- the effect of each body is below the table
+  met_bodies : AreBodiesBelow P rel (assigned rel tables)
+  met_bodies m method is H part has = below_chain (effect P rel (assigned rel tables) method.body H) (run_effect P rel (assigned rel tables) (overs m) method H) (assigned rel tables m H)
+      (greatest_first rel (assigned rel tables) (effect P rel (assigned rel tables) method.body H) (overs m) H) (run_below m method is H has)
+
+  -- and what is assigned to each method of its row
+  met_listed : (m over : ℕ) (method : Method) → slice_get P.methods m ≡ Some method → Contains (overs m) over → (H : Held) → IsPart (has_path method.requires_) H
+      → AtMost (assigned rel tables over (held_in (rel over) H)) (assigned rel tables m H)
+  met_listed m over method is listed H has =
+      below_chain (assigned rel tables over (held_in (rel over) H)) (run_effect P rel (assigned rel tables) (overs m) method H) (assigned rel tables m H)
+      (greatest_of_each rel (assigned rel tables) (effect P rel (assigned rel tables) method.body H) (overs m) over H listed) (run_below m method is H has)
 
 -- paths of both lists are in the set
 append_in : (xs ys : List PathData) (K : Held) → IsPart (has_path xs) K → IsPart (has_path ys) K → IsPart (has_path (xs ++ ys)) K
@@ -187,7 +190,7 @@ met_are_tables P overs rel tables closed up =
           (subst (λ ts. is_met_by P overs rel ts m ≡ true) (tables_same tables) (closed m within)));
     }
 
-module _ (P : Program) (rows : List (List ℕ)) (overriders : AreOverriders P rows) (rel : ℕ → List PathData) (needs : (m : ℕ) (method : Method) → slice_get P.methods m ≡ Some method → IsPart (has_path method.requires_) (has_path (rel m))) where
+module _ (P : Program) (typed : IsTyped P) (rows : List (List ℕ)) (nearest : AreNearest P rows) (rel : ℕ → List PathData) (needs : (m : ℕ) (method : Method) → slice_get P.methods m ≡ Some method → IsPart (has_path method.requires_) (has_path (rel m))) where
   abbrev overs : ℕ → List ℕ
   overs = overs_at rows
 
@@ -211,7 +214,7 @@ module _ (P : Program) (rows : List (List ℕ)) (overriders : AreOverriders P ro
         let has : IsPart (has_path method.requires_) K = λ q e. in_first method.requires_ qs q e in
         below_chain _ _ _ (run_rises P rel (overs m) method T B tables_under K)
         (below_chain _ _ _
-        (greatest_least rel B (effect P rel B method.body K) (B m K) (overs m) K (closed.bodies m method is K within has) (λ n listed. closed.overrides m n method is ((overriders m n).0 listed) K within has))
+        (greatest_least rel B (effect P rel B method.body K) (B m K) (overs m) K (closed.bodies m method is K within has) (λ n listed. closed.overrides m n method is (nearest.sound m n listed) K within has))
         (falling m (has_path qs) K within (λ q e. in_second method.requires_ qs q e))))
 
     met_at : (m : ℕ) (o : Option Method) → slice_get P.methods m ≡ o → are_below (demands_of P overs rel (assigned rel (tables_in rel B 0 (length P.methods))) m o) (table_of (slice_get (tables_in rel B 0 (length P.methods)) m)) ≡ true
@@ -239,9 +242,16 @@ module _ (P : Program) (rows : List (List ℕ)) (overriders : AreOverriders P ro
   pub is_least : (tables : List (List Basic)) → fix.IsClosed (is_met P overs rel) (numbers_of tables)
       → fix.IsBetween (is_met P overs rel) (numbers_of (tables_in rel all_const 0 (length P.methods))) (numbers_of tables) → IsLeast P rel (assigned rel tables)
   is_least tables closed between =
-      let each_table = met_are_tables P overs rel tables closed between.above in record {
-        falling = tables_fall P rel tables each_table;
-        closed = met_closed P overs rel tables each_table (λ m within. closed m (subst (λ n. m < n) (sym (length_numbers tables)) within)) (λ m over o. (overriders m over).1 o);
+      let each_table = met_are_tables P overs rel tables closed between.above in
+      let falls = tables_fall P rel tables each_table in
+      let met : (m : ℕ) → m < length tables → IsTrue (is_met P overs rel (numbers_of tables) m) = λ m within. closed m (subst (λ n. m < n) (sym (length_numbers tables)) within) in
+      record {
+        falling = falls;
+        closed = record {
+          bodies = met_bodies P overs rel tables each_table met;
+          overrides = λ m over method is o H part has.
+              (follows P typed rows nearest rel needs (assigned rel tables) falls (met_listed P overs rel tables each_table met) m over method is H has (nearest.lead m over o)).below;
+        };
         below = λ B falls closed_there m H part.
             let up = between.below (numbers_of (tables_in rel B 0 (length P.methods))) (tables_met B falls closed_there) (above_const rel B 0 (length P.methods)) in
             below_chain _ _ _

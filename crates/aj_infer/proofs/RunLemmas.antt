@@ -41,7 +41,7 @@ join_least a b c low high = chosen_at (below_of a b)
 pub held_part : (rel : List PathData) (H : Held) → IsPart (held_in rel H) (has_path rel)
 held_part rel H q e = first (has_path rel q) (H q) e
 
-held_more : (rel : List PathData) (H K : Held) → IsPart H K → IsPart (held_in rel H) (held_in rel K)
+pub held_more : (rel : List PathData) (H K : Held) → IsPart H K → IsPart (held_in rel H) (held_in rel K)
 held_more rel H K part q e = both_held (has_path rel q) (H q) (K q) (part q) e
   where
     both_held : (r h k : Bool) → (h ≡ true → k ≡ true) → (r && h) ≡ true → (r && k) ≡ true

@@ -6,7 +6,7 @@ use Rattle.aj_core.specs.Typed.{IsTyped}
 use Rattle.aj_fix.specs.Assignments as fix
 use Rattle.aj_rules.specs.Near.{MethodPaths, AreRelevant, AreFew, rel_of}
 use Rattle.aj_rules.specs.Search.{row_at as overs_at}
-use Rattle.aj_rules.specs.Overriding.{AreOverriders}
+use Rattle.aj_nearest.specs.Nearest.{AreNearest}
 use Rattle.aj_callers.specs.Called.{AreCallers}
 use Rattle.aj_infer.specs.Tables.{assigned}
 use Rattle.aj_infer.specs.Cells.{numbers_of, tables_in, all_const, is_met, rooms_of, AreTables, AreCells}
@@ -35,7 +35,7 @@ module _ (P : Program) (sets : List MethodPaths) (start : List (List Basic)) (co
   pub least_count : (tables : List (List Basic)) → fix.IsAbove (numbers_of tables) (numbers_of start) → length tables ≡ length P.methods
   least_count tables up = sym (length_numbers tables) ∙ length_above (numbers_of tables) (numbers_of start) up ∙ length_numbers start ∙ start_length
 
-  pub least_is : (overs : List (List ℕ)) → IsTyped P → AreRelevant P sets → AreOverriders P overs → (tables : List (List Basic)) → fix.IsClosed (is_met P (overs_at overs) (rel_of sets)) (numbers_of tables)
+  pub least_is : (overs : List (List ℕ)) → IsTyped P → AreRelevant P sets → (IsTyped P → AreNearest P overs) → (tables : List (List Basic)) → fix.IsClosed (is_met P (overs_at overs) (rel_of sets)) (numbers_of tables)
       → fix.IsBetween (is_met P (overs_at overs) (rel_of sets)) (numbers_of start) (numbers_of tables) → IsLeast P (rel_of sets) (assigned (rel_of sets) tables)
-  least_is overs typed relevant overriders tables closed between = is_least P overs overriders (rel_of sets) (λ m method is. required_in_rel P sets relevant typed m method is) tables closed
+  least_is overs typed relevant nearest tables closed between = is_least P typed overs (nearest typed) (rel_of sets) (λ m method is. required_in_rel P sets relevant typed m method is) tables closed
       (subst (λ ts. fix.IsBetween (is_met P (overs_at overs) (rel_of sets)) (numbers_of ts) (numbers_of tables)) start_at between)

@@ -19,15 +19,15 @@ use aj_algebra::{Algebra, Basic};
 use aj_callers::Callers;
 use aj_core::CoreMethod;
 use aj_fix::{Rising, least};
+use aj_nearest::NearestMethods;
 use aj_paths::{MethodId, Path};
-use aj_rules::OverridingMethods;
 use std::alloc::{AllocError as NoMemory, Global};
 
 /// What the calls of a method demand of its table.
 fn demands<G: Algebra>(
     alloc: Global,
     judged: &Judged<'_>,
-    over: &OverridingMethods,
+    over: &NearestMethods,
     tables: &[Table],
     algebra: &mut G,
     method: MethodId,
@@ -49,7 +49,7 @@ fn demands<G: Algebra>(
 fn walk_demands<G: Algebra>(
     alloc: Global,
     walk: &Walk<'_>,
-    over: &OverridingMethods,
+    over: &NearestMethods,
     algebra: &mut G,
 ) -> Result<Vec<Basic>, NoMemory>
     requires { AreRelevant (program_at walk.now) walk.now.sets.now }
@@ -66,7 +66,7 @@ fn walk_demands<G: Algebra>(
 fn method_demands<G: Algebra>(
     alloc: Global,
     walk: &Walk<'_>,
-    over: &OverridingMethods,
+    over: &NearestMethods,
     algebra: &mut G,
     method: &CoreMethod,
 ) -> Result<Vec<Basic>, NoMemory>
@@ -89,7 +89,7 @@ fn method_demands<G: Algebra>(
     Ok(row)
 }
 
-/// What a call of the walk's method, which is this one, may come to: its body, or one of the methods that override it.
+/// What a call of the walk's method, which is this one, may come to: its body, or one of these methods, which override it.
 fn run_value<G: Algebra>(
     alloc: Global,
     walk: &Walk<'_>,
@@ -148,7 +148,7 @@ pub(crate) struct Cells<'a, 'b, G: Algebra> {
     pub(crate) algebra: &'b mut G,
     pub(crate) tables: Vec<Table>,
     pub(crate) room: u64,
-    pub(crate) over: OverridingMethods,
+    pub(crate) over: NearestMethods,
     pub(crate) callers: Vec<Callers>,
     ghost sound: { AreCells (program_of judged.0) (overs_at over) (rel_of judged.1) tables.items room callers.items },
 }

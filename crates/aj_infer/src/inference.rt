@@ -19,8 +19,9 @@ use crate::table::{Table, value_of};
 use aj_algebra::{Algebra, Basic};
 use aj_callers::callers_of;
 use aj_core::CoreProgram;
+use aj_nearest::nearest_overriders;
 use aj_paths::{MethodId, Path};
-use aj_rules::{RelevantSets, overriders};
+use aj_rules::RelevantSets;
 use std::alloc::{AllocError as NoMemory, Global};
 
 /// How often the table of a method can rise: four times at each part of eight relevant paths.
@@ -68,7 +69,7 @@ fn least_tables<'a, G: Algebra>(
     let tables = const_tables(alloc, sets, program.methods().len())?;
     let count = tables.len();
     let room = MOST_RISES * count as u64;
-    let over = overriders(alloc, program)?;
+    let over = nearest_overriders(alloc, program)?;
     let callers = callers_of(alloc, program, &over)?;
     let mut cells = Cells {
         judged: Judged { program, sets },
