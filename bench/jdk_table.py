@@ -3,9 +3,12 @@
 
 Each class is judged together with the classes above it that hold its state, and nothing else of the JDK. Its methods are counted
 without constructors: those whose skeleton is exact, that rest on an assumption, and that are approximated; of the public ones those
-that are found atomic, and those that are refused. Behind the table stand the reasons of the approximations, and how often each came.
+that are found atomic, those that are refused for certain, and those that are perhaps wrong alarms. Behind the table stand the reasons
+of the certain refusals and of the approximations, and how often each came. With --sample, so many of the certain refusals are drawn,
+to be read by hand.
 """
 import argparse
+import random
 import re
 import subprocess
 import sys
@@ -30,9 +33,12 @@ CLASSES = {
     "java/util/concurrent/PriorityBlockingQueue": [], "java/util/concurrent/DelayQueue": [], "java/util/concurrent/CyclicBarrier": [],
     "java/util/concurrent/CopyOnWriteArrayList": [],
 }
+SEED = 52
 SUMMARY = re.compile(r"(\d+) methods: (\d+) exact, (\d+) assumed, (\d+) approximated; (\d+) promise to be atomic:")
 REFUSED = re.compile(r"^(.*): error: .* is declared atomic, found \w+$", re.MULTILINE)
 PERHAPS = re.compile(r"^(.*): note: this may be a wrong alarm", re.MULTILINE)
+STEP = re.compile(r"^(.*): note: (?:compound step|atomic step|a second one): (.*)$", re.MULTILINE)
+TOLD = re.compile(r"^(.*): note: approximated: (.*)$", re.MULTILINE)
 NOTE = re.compile(r": note: approximated: ([^:,\n]*)")
 
 
@@ -45,6 +51,7 @@ class Row:
     figures: tuple[int, ...]
     seconds: float
     reasons: Counter[str]
+    certain: dict[str, str]
     answer: str
 
     def text(self) -> str:
@@ -52,6 +59,34 @@ class Row:
         methods, exact, assumed, approximated, promised, atomic, refused, perhaps = self.figures
         return (f"| `{self.name.replace('/', '.')}` | {self.lines} | {methods} | {exact} | {assumed} | {approximated} | {promised} | "
                 f"{atomic} | {refused} | {perhaps} | {self.seconds:.1f} |")
+
+
+def reason(block: str, told: dict[str, str]) -> str:
+    """Why a method is refused, by the two steps that its explanation names; `told` has the approximations by their places."""
+    steps = STEP.findall(block)
+    known = " ".join(told.get(place, "") for place, _ in steps)
+    texts = [text for _, text in steps]
+    if any("which nothing guards" in text or "guarded for writing only" in text for text in texts):
+        return "a field that is touched without its lock, or that has none"
+    if "overrides it, and is" in block:
+        return "a method in its place below that is refused"
+    if "function that isn't known" in known or any("a function that isn't known" in text for text in texts):
+        return "a function that the caller gives"
+    if known.startswith("wait"):
+        return "a wait in the middle"
+    if known:
+        return "an object of others, while no lock is held"
+    if any("which is cmpd" in text for text in texts):
+        return "a call of a method that is refused itself"
+    return "two regions, or two calls that take a lock or are a step"
+
+
+def certain_of(answer: str) -> dict[str, str]:
+    """The refusals that are certain, and why: by their places and names."""
+    perhaps, told = set(PERHAPS.findall(answer)), dict(TOLD.findall(answer))
+    blocks = re.split(r"(?m)^(?=.*: error: )", answer)[1:]
+    heads = [(REFUSED.match(block), block) for block in blocks]
+    return {found[0].replace(": error", ""): reason(block, told) for found, block in heads if found and found[1] not in perhaps}
 
 
 def judged(name: str, archive: zipfile.ZipFile, folder: Path, program: Path) -> Row | str:
@@ -71,10 +106,10 @@ def judged(name: str, archive: zipfile.ZipFile, folder: Path, program: Path) -> 
         return f"{name}: status {done.returncode}: {(answer + done.stderr.decode())[:300]}"
     reasons = Counter(reason.split(" (")[0] for reason in NOTE.findall(answer))
     lines = sum(Path(source).read_text(encoding="utf-8").count("\n") for source in sources)
-    refused = set(REFUSED.findall(answer))
-    promised, certain = int(found[5]), len(refused - set(PERHAPS.findall(answer)))
-    figures = (*(int(number) for number in found.groups()), promised - len(refused), certain, len(refused) - certain)
-    return Row(name, lines, figures, seconds, reasons, answer)
+    refused, certain = set(REFUSED.findall(answer)), certain_of(answer)
+    sure = len({place.split(": ")[0] for place in certain})
+    figures = (*(int(number) for number in found.groups()), int(found[5]) - len(refused), sure, len(refused) - sure)
+    return Row(name, lines, figures, seconds, reasons, certain, answer)
 
 
 def told(rows: list[Row]) -> None:
@@ -85,10 +120,21 @@ def told(rows: list[Row]) -> None:
         print(row.text())
     sums = tuple(map(sum, zip(*(row.figures for row in rows))))
     reasons = sum((row.reasons for row in rows), Counter[str]())
-    print(Row(f"{len(rows)} classes", sum(row.lines for row in rows), sums, sum(row.seconds for row in rows), reasons, "").text().replace("`", ""))
-    print("\n| why a method is approximated | places |\n|---|---|")
-    for reason, count in reasons.most_common():
-        print(f"| {reason} | {count} |")
+    whole = Row(f"{len(rows)} classes", sum(row.lines for row in rows), sums, sum(row.seconds for row in rows), reasons, {}, "")
+    print(whole.text().replace("`", ""))
+    print("\n| why a method is refused for certain | methods |\n|---|---|")
+    for why, count in Counter(why for row in rows for why in row.certain.values()).most_common():
+        print(f"| {why} | {count} |")
+    print("\n| why something is approximated | places |\n|---|---|")
+    for why, count in reasons.most_common():
+        print(f"| {why} | {count} |")
+
+
+def sample(rows: list[Row], count: int) -> None:
+    """Prints certain refusals that are drawn at random, always the same ones."""
+    every = sorted((re.sub(r"^.*?/java_\w+/", "", head), why) for row in rows for head, why in row.certain.items())
+    for head, why in sorted(random.Random(SEED).sample(every, min(count, len(every)))):
+        print(f"{head}: {why}")
 
 
 def main() -> None:
@@ -98,6 +144,7 @@ def main() -> None:
     parser.add_argument("--sources", type=Path, required=True, help="the JDK's src.zip")
     parser.add_argument("--folder", type=Path, required=True, help="a folder for what is judged")
     parser.add_argument("--program", type=Path, required=True, help="the launcher")
+    parser.add_argument("--sample", type=int, default=0, help="how many of the certain refusals are drawn, to be read by hand")
     parser.add_argument("--answers", type=Path, help="a folder that keeps what is told of each class")
     given = parser.parse_args()
     rows = []
@@ -113,6 +160,7 @@ def main() -> None:
                 (given.answers / (name.replace("/", ".") + ".txt")).write_text(row.answer, encoding="utf-8")
     if rows:
         told(rows)
+        sample(rows, given.sample)
     sys.exit(0 if len(rows) == len(given.classes or CLASSES) else 1)
 
 

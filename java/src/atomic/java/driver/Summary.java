@@ -5,9 +5,11 @@ import atomic.java.program.JavaMethod;
 import atomic.java.skeleton.Method;
 import atomic.java.translation.Methods;
 import java.util.HashMap;
+import java.util.HashSet;
 import java.util.Map;
 import java.util.Set;
 import java.util.function.Predicate;
+import java.util.stream.Collectors;
 
 /** The figures of a run: how far the skeleton is from the methods, and what these were found to be. */
 final class Summary {
@@ -31,17 +33,19 @@ final class Summary {
     String line(Judging judging, int promised) {
         long approximated = methods.keySet().stream().filter(notes::approximates).count();
         long assumed = methods.keySet().stream().filter(each -> notes.assumes(each) && !notes.approximates(each)).count();
-        long refused = count(each -> each.atomic() && !ATOMIC.contains(judging.found(each)));
-        long atomic = methods.values().stream().filter(each -> ATOMIC.contains(judging.found(each))).count();
-        long errors = count(each -> judging.found(each).equals("error")
-            || each.atomic() && !ATOMIC.contains(judging.found(each)));
+        Set<Object> refused = origins(each -> each.atomic() && !ATOMIC.contains(judging.found(each)));
+        Set<Object> errors = origins(each -> judging.found(each).equals("error"));
+        errors.addAll(refused);
+        long atomic = methods.entrySet().stream().filter(each -> ATOMIC.contains(judging.found(each.getValue()))
+            && !refused.contains(each.getKey())).count();
         return methods.size() + " methods: " + (methods.size() - approximated - assumed) + " exact, " + assumed
-            + " assumed, " + approximated + " approximated; " + promised + " promise to be atomic: " + (promised - refused)
-            + " are, " + refused + " refused; " + atomic + " found atomic, " + errors + " errors";
+            + " assumed, " + approximated + " approximated; " + promised + " promise to be atomic: " + (promised
+            - refused.size()) + " are, " + refused.size() + " refused; " + atomic + " found atomic, " + errors.size()
+            + " errors";
     }
 
-    /** How many Java methods have a method of the skeleton that is such. */
-    private long count(Predicate<Method> wanted) {
-        return all.written().stream().filter(wanted).map(all::origin).distinct().count();
+    /** The Java methods that have a method of the skeleton that is such. */
+    private Set<Object> origins(Predicate<Method> wanted) {
+        return all.written().stream().filter(wanted).map(all::origin).collect(Collectors.toCollection(HashSet::new));
     }
 }

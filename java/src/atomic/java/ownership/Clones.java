@@ -2,6 +2,7 @@ package atomic.java.ownership;
 
 import atomic.java.attribution.Attribution;
 import atomic.java.program.JavaClass;
+import atomic.java.program.JavaMethod;
 import atomic.java.program.Program;
 import com.sun.source.tree.AssignmentTree;
 import com.sun.source.tree.ClassTree;
@@ -11,6 +12,7 @@ import com.sun.source.tree.MethodInvocationTree;
 import com.sun.source.tree.Tree;
 import com.sun.source.tree.TypeCastTree;
 import com.sun.source.tree.VariableTree;
+import java.util.List;
 import javax.lang.model.element.Element;
 import javax.lang.model.element.ElementKind;
 import javax.lang.model.element.Modifier;
@@ -68,15 +70,37 @@ final class Clones {
             && attribution.parent(statement) == attribution.parent(uses.declaration(copy));
     }
 
+    /** Whether a method of one class only gives such a copy. */
+    static boolean isMaker(JavaMethod method, Sites sites, Program program) {
+        boolean fixed = method.isPrivate() || !method.isOpen() && method.symbol().getModifiers().contains(Modifier.FINAL);
+        List<ExpressionTree> results = fixed && method.tree().getBody() != null ? sites.results(method) : List.of();
+        return !results.isEmpty() && results.stream().allMatch(each -> bare(each) instanceof MethodInvocationTree call
+            && isOwn(call, program) && program.method(program.attribution().element(call)) == null);
+    }
+
+    private static ExpressionTree bare(ExpressionTree tree) {
+        ExpressionTree each = tree == null ? null : Uses.bare(tree);
+        return each instanceof TypeCastTree cast ? bare(cast.getExpression()) : each;
+    }
+
     /** Whether two objects may share what a field holds, since one is a copy of the other, field by field. */
-    static boolean share(VariableElement field, Program program, Uses uses) {
+    static boolean share(VariableElement field, Program program, Uses uses, Sites sites) {
         JavaClass home = program.find(field.getEnclosingElement());
         boolean plain = home == null || home.symbol().getSuperclass().toString().equals("java.lang.Object");
         boolean open = !plain && program.attribution().elements().getAllMembers(home.symbol()).stream().anyMatch(each ->
             each.getSimpleName().contentEquals("clone") && each.getModifiers().contains(Modifier.PUBLIC)
             && program.find(each.getEnclosingElement()) == null);
-        return open || uses.clones().stream().anyMatch(call -> isOwn(call, program) && program.method(
-            program.attribution().element(call)) == null && isKin(call, home, program) && !givesOwn(call, field, program, uses));
+        return open || uses.clones().stream().filter(call -> isOwn(call, program) && isKin(call, home, program)
+            && program.method(program.attribution().element(call)) == null).anyMatch(call ->
+                copies(call, program, sites).stream().anyMatch(each -> !givesOwn(each, field, program, uses)));
+    }
+
+    /** The calls that give a copy to somebody: the call itself, or those of the method that only returns it. */
+    private static List<? extends Tree> copies(MethodInvocationTree call, Program program, Sites sites) {
+        Tree around = program.around(call);
+        JavaMethod method = around == null ? null : program.method(program.attribution().element(around));
+        return method != null && isMaker(method, sites, program) && !sites.isReferenced(method.symbol())
+            ? sites.of(method.symbol()) : List.of(call);
     }
 
     private static boolean isKin(MethodInvocationTree call, JavaClass home, Program program) {
@@ -95,7 +119,7 @@ final class Clones {
     }
 
     /** Whether the copy's field surely gets a value of its own. */
-    private static boolean givesOwn(MethodInvocationTree call, VariableElement field, Program program, Uses uses) {
+    private static boolean givesOwn(Tree call, VariableElement field, Program program, Uses uses) {
         Attribution attribution = program.attribution();
         Tree parent = attribution.parent(call);
         while (parent instanceof TypeCastTree || parent.getKind() == Tree.Kind.PARENTHESIZED) {

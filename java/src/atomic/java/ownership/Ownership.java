@@ -79,7 +79,7 @@ public final class Ownership {
     private void confine(VariableElement field) {
         Confinement confinement = new Confinement(program, this, sites, field);
         Set<Element> holders = confinement.holders();
-        if (Clones.share(field, program, uses)) {
+        if (Clones.share(field, program, uses, sites)) {
             shared.add(field);
         }
         if (holders != null) {
@@ -170,8 +170,11 @@ public final class Ownership {
     }
 
     private String freshCall(MethodInvocationTree call) {
-        if (!(attribution.element(call) instanceof ExecutableElement symbol) || program.method(symbol) != null) {
+        if (!(attribution.element(call) instanceof ExecutableElement symbol)) {
             return null;
+        } else if (program.method(symbol) != null) {
+            return Clones.isMaker(program.method(symbol), sites, program) && Clones.isCopy(call, program, uses)
+                ? "java.lang.Object" : null;
         }
         if (Clones.isOwn(call, program)) {
             return Clones.isCopy(call, program, uses) ? "java.lang.Object" : null;

@@ -29,6 +29,10 @@ public final class ClosedWorld {
             if (!fields.isEmpty()) {
                 doings.add("touches " + fields);
             }
+            String methods = openMethods(each);
+            if (!methods.isEmpty()) {
+                doings.add("calls " + methods);
+            }
             if (mayBeExtended(each)) {
                 doings.add("extends this class");
             }
@@ -50,6 +54,24 @@ public final class ClosedWorld {
                 names.add(member.getSimpleName().toString());
             }
         }
+        return listed(names);
+    }
+
+    /** The methods that others might call without the locks that each call here holds. */
+    private static String openMethods(JavaClass each) {
+        List<String> names = new ArrayList<>();
+        for (JavaMethod java : each.methods()) {
+            boolean holds = each.shape().methods().stream().anyMatch(method -> java.place().equals(method.place())
+                && method.closed() && !method.required().isEmpty());
+            if (holds && !java.isPrivate() && !java.isConstructor()
+                    && !names.contains(java.symbol().getSimpleName().toString())) {
+                names.add(java.symbol().getSimpleName().toString());
+            }
+        }
+        return listed(names);
+    }
+
+    private static String listed(List<String> names) {
         int more = names.size() - MOST_NAMES;
         return more <= 1 ? String.join(", ", names)
             : String.join(", ", names.subList(0, MOST_NAMES)) + " and " + more + " others";

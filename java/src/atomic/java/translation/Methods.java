@@ -160,7 +160,8 @@ public final class Methods {
         home.methods().add(made);
         origins.put(made, method);
         boolean bySuper = key.self() != method.owner() && !method.owner().isInterface();
-        made.closed(!method.isOpen() || key.fresh() || container != null || bySuper);
+        boolean known = !method.isOpen() || method.isForHeirs() && !services.program().options().strict();
+        made.closed(known || key.fresh() || container != null || bySuper);
         made.wrapped(services.ownership().isWrapped(method.owner()));
         if (own || method.isConstructor() || method.readsNewObject()) {
             judged.put(made, method);
