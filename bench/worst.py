@@ -193,10 +193,11 @@ def main() -> None:
     parser.add_argument("program", metavar="PROGRAM", type=program_of, help=PROGRAM)
     parser.add_argument("families", metavar="FAMILY", nargs="*", choices=[[], *FAMILIES], help="these alone")
     parser.add_argument("--command", action="append", choices=COMMANDS, help="this command alone; may be given again")
+    parser.add_argument("--limit", type=count_of, default=LIMIT, help="the most bytes of a source")
     parser.add_argument("--parts", type=count_of, default=4, help="sizes from the limit down, each half the one before")
     parser.add_argument("--seconds", type=count_of, default=60, help="the most seconds of a run")
     given = parser.parse_args()
-    sizes = [LIMIT >> part for part in range(given.parts)][::-1]
+    sizes = [given.limit >> part for part in range(given.parts)][::-1]
     print("| command | family | source | other file | status | seconds | MB | times half |")
     print("|---|---|---|---|---|---|---|---|")
     for family in given.families or FAMILIES:
