@@ -1,7 +1,7 @@
 #!/usr/bin/env python3
 """Writes a well-formed source of at most 262,144 bytes for `check`, as large as that allows; with `refused` one that
 the rules refuse, for `blame`: the last method breaks its bound, in `chain` and `cycle` the first one, which is found
-last.
+last. With `--share N` the source has the N-th part of that size, or of the counts below.
 
 classes     thousands of classes with a guarded field and a method each
 methods     one class with thousands of methods that call each other
@@ -28,14 +28,32 @@ import itertools
 import string
 import sys
 from collections.abc import Callable
+from dataclasses import dataclass
 
-from command_line import words_of
+from command_line import count_of, words_of
 
-# whether the last method breaks its bound
-REFUSED = sys.argv[2:] == ["refused"]
+
+@dataclass
+class Wanted:
+    """Which part of the whole size a source has, and whether its last method breaks its bound."""
+
+    share: int = 1
+    refused: bool = False
+
+    @property
+    def last(self) -> str:
+        return "class Last { int u; atomic void last() { this.u = 1; this.u = 2; } }\n" if self.refused else ""
+
+    @property
+    def limit(self) -> int:
+        return 262144 // self.share - len(self.last)
+
+    def of(self, count: int) -> int:
+        return max(count // self.share, 1)
+
+
+WANTED = Wanted()
 LOCKS = "abcdefgh"
-LAST = "class Last { int u; atomic void last() { this.u = 1; this.u = 2; } }\n" if REFUSED else ""
-LIMIT = 262144 - len(LAST)
 MAIN = "class Main { void main() { } }\n"
 
 
@@ -45,7 +63,7 @@ def filled(head: str, part: Callable[[int], str], tail: str) -> str:
     size = len(head) + len(tail)
     while True:
         piece = part(number)
-        if size + len(piece) > LIMIT:
+        if size + len(piece) > WANTED.limit:
             return "".join(text) + tail
         text.append(piece)
         size += len(piece)
@@ -98,20 +116,21 @@ def calls() -> str:
 
 
 def chain(forward: bool) -> str:
-    count = 3000
+    count = WANTED.of(3000)
     part: list[str] = []
     for k in range(count):
         other = k + 1 if forward else k - 1
         body = f"this.m{other}();" if 0 <= other < count else "this.u = 1; this.u = 2;"
         part.append(f"void m{k}() {{ {body} }}\n")
-    if REFUSED:
+    if WANTED.refused:
         part[0 if forward else -1] = "atomic " + part[0 if forward else -1]
     return "class Main { int u; void main() { }\n" + "".join(part) + "}\n"
 
 
 def cycle() -> str:
-    part = [f"void m{k}() {{ this.u = {k}; this.m{(k + 1) % 1000}(); }}\n" for k in range(1000)]
-    if REFUSED:
+    count = WANTED.of(1000)
+    part = [f"void m{k}() {{ this.u = {k}; this.m{(k + 1) % count}(); }}\n" for k in range(count)]
+    if WANTED.refused:
         part[0] = "atomic " + part[0]
     return "class Main { int u; void main() { }\n" + "".join(part) + "}\n"
 
@@ -133,23 +152,24 @@ FIRST = "class C { int v guarded_by this; atomic void f() { synchronized (this) 
 
 
 def line() -> str:
-    return MAIN + FIRST + "".join(overriding(f"C{k}", f"C{k - 1}" if k else "C", k) for k in range(499))
+    return MAIN + FIRST + "".join(overriding(f"C{k}", f"C{k - 1}" if k else "C", k) for k in range(WANTED.of(500) - 1))
 
 
 def heirs() -> str:
-    return MAIN + FIRST + "".join(overriding(f"C{k}", "C", k) for k in range(2000))
+    return MAIN + FIRST + "".join(overriding(f"C{k}", "C", k) for k in range(WANTED.of(2000)))
 
 
 def inherited() -> str:
     methods = " ".join(f"atomic void f{k}() {{ synchronized (this) {{ this.v = {k}; }} }}" for k in range(20))
-    calls = (f"synchronized (this) {{ this.f{k % 20}(); }}" for k in range(1000))
+    calls = (f"synchronized (this) {{ this.f{k % 20}(); }}" for k in range(WANTED.of(1000)))
     heirs_ = "".join(f"class C{k} extends C {{ atomic void g() {{ {call} }} }}\n" for k, call in enumerate(calls))
     return MAIN + f"class C {{ int v guarded_by this; {methods} }}\n" + heirs_
 
 
 def pairs() -> str:
-    methods = " ".join(f"void f{k}() {{ }}" for k in range(3162))
-    return MAIN + f"class C {{ {methods} }}\n" + "".join(f"class C{k} extends C {{ }}\n" for k in range(3162))
+    count = WANTED.of(3162)
+    methods = " ".join(f"void f{k}() {{ }}" for k in range(count))
+    return MAIN + f"class C {{ {methods} }}\n" + "".join(f"class C{k} extends C {{ }}\n" for k in range(count))
 
 
 def at_each_part(call: str, locks: str = LOCKS) -> str:
@@ -177,7 +197,9 @@ def sets() -> str:
     return with_sets("m", [f"void m({EIGHT}) {{ {USES} }}\n"])
 
 
-def sets_calls(count: int = 500) -> str:
+def sets_calls() -> str:
+    count = WANTED.of(500)
+
     def method(k: int) -> str:
         calls = f"this.m{(k + 1) % count}{ALL}; this.m{(7 * k + 1) % count}{ALL};"
         return f"void m{k}({EIGHT}) {{ {USES * (k == 0)} {calls} }}\n"
@@ -202,10 +224,10 @@ def sets_rise(count: int) -> str:
 
 def most(make: Callable[[int], str]) -> str:
     """What is made for the greatest number for which it fits."""
-    low, high = 2, LIMIT
+    low, high = 2, WANTED.limit
     while high - low > 1:
         middle = (low + high) // 2
-        low, high = (middle, high) if len(make(middle)) <= LIMIT else (low, middle)
+        low, high = (middle, high) if len(make(middle)) <= WANTED.limit else (low, middle)
     return make(low)
 
 
@@ -232,12 +254,12 @@ def floors() -> str:
     head = f"{fields}{locks}class M{{final N n;int u;M(N n){{this.n=n;}}"
 
     def end(called: str) -> str:
-        return f"{later}{'atomic ' * REFUSED}void last(){{this.{called}();}}}}\n{MAIN}"
+        return f"{later}{'atomic ' * WANTED.refused}void last(){{this.{called}();}}}}\n{MAIN}"
 
     text, size, called = [head], len(head), one
     for name in names:
         piece = f"void {name}(){{this.{called}();}}"
-        if size + len(piece) + len(end(name)) > LIMIT:
+        if size + len(piece) + len(end(name)) > WANTED.limit:
             return "".join(text) + end(called)
         text.append(piece)
         size, called = size + len(piece), name
@@ -271,8 +293,10 @@ def main() -> None:
     parser = words_of(__doc__)
     parser.add_argument("kind", metavar="KIND", choices=sorted(KINDS))
     parser.add_argument("refused", choices=["refused"], nargs="?", help="a source that the rules refuse")
-    kind = parser.parse_args().kind
-    sys.stdout.write(KINDS[kind]() + ("" if kind in OWN else LAST))
+    parser.add_argument("--share", metavar="N", type=count_of, default=1, help="the N-th part of the size")
+    given = parser.parse_args()
+    WANTED.share, WANTED.refused = given.share, bool(given.refused)
+    sys.stdout.write(KINDS[given.kind]() + ("" if given.kind in OWN else WANTED.last))
 
 
 if __name__ == "__main__":

@@ -1,5 +1,6 @@
 #!/usr/bin/env python3
-"""Writes a source and a schedule of up to 200,000 entries for `run` and `serialise`.
+"""Writes a source and a schedule of up to 200,000 entries for `run` and `serialise`; with `--share N` of the N-th part
+of them.
 
 workers  100 workers that raise one cell by turns, each call in between those of the others
 objects  100 threads that make 100,000 objects
@@ -10,7 +11,7 @@ from __future__ import annotations
 
 from typing import Optional
 
-from command_line import words_of
+from command_line import count_of, words_of
 from schedules import written
 
 # a source and a schedule of it
@@ -41,11 +42,11 @@ def rounds(each: int, steps: int) -> list[int]:
     return [thread for _ in range(steps) for thread in range(1, each + 1)]
 
 
-def workers() -> Made:
+def workers(entries: int) -> Made:
     """A turn of a worker's loop is 15 steps: the 7th takes the lock, the 14th frees it, the 15th ends the call."""
     schedule, places = main_steps(THREADS), [0] * (THREADS + 1)
     holder: Optional[int] = None
-    while len(schedule) < ENTRIES - 20 * THREADS:
+    while len(schedule) < entries - 20 * THREADS:
         for thread in range(1, THREADS + 1):
             # The first step of all enters the thread.
             place = (places[thread] - 1) % 15 if places[thread] else None
@@ -63,22 +64,22 @@ def workers() -> Made:
     return CELL + worker("while (true) { this.c.inc(); }") + main_class(THREADS), schedule
 
 
-def objects() -> Made:
+def objects(entries: int) -> Made:
     made = "new Cell(); " * 500
     schedule = main_steps(THREADS)
-    schedule += rounds(THREADS, (ENTRIES - len(schedule)) // THREADS)
+    schedule += rounds(THREADS, (entries - len(schedule)) // THREADS)
     return CELL + worker(f"while (true) {{ {made}}}") + main_class(THREADS), schedule
 
 
-def deep() -> Made:
+def deep(entries: int) -> Made:
     schedule = main_steps(THREADS)
-    schedule += rounds(THREADS, (ENTRIES - len(schedule)) // THREADS)
+    schedule += rounds(THREADS, (entries - len(schedule)) // THREADS)
     return CELL + worker("this.f();", "void f() { this.f(); } ") + main_class(THREADS), schedule
 
 
-def prints() -> Made:
+def prints(entries: int) -> Made:
     body = "System.out.println(7); " * 5000
-    return f"class Main {{ void main() {{ while (true) {{ {body}}} }} }}\n", [0] * ENTRIES
+    return f"class Main {{ void main() {{ while (true) {{ {body}}} }} }}\n", [0] * entries
 
 
 KINDS = {"workers": workers, "objects": objects, "deep": deep, "prints": prints}
@@ -89,8 +90,9 @@ def main() -> None:
     parser.add_argument("kind", metavar="KIND", choices=sorted(KINDS))
     parser.add_argument("source", metavar="SOURCE")
     parser.add_argument("schedule", metavar="SCHEDULE")
+    parser.add_argument("--share", metavar="N", type=count_of, default=1, help="the N-th part of the entries")
     given = parser.parse_args()
-    text, schedule = KINDS[given.kind]()
+    text, schedule = KINDS[given.kind](ENTRIES // given.share)
     with open(given.source, "w", encoding="ascii") as file:
         file.write(text)
     with open(given.schedule, "w", encoding="ascii") as file:
