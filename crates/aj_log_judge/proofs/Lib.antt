@@ -1,0 +1,5 @@
+mod Putting
+mod Noted
+mod Noting
+mod Turned
+mod Closed
