@@ -23,7 +23,8 @@ fn fields_fit(fields: &[FieldId]) -> bool
 
 /// Whether a path can be written, as each can.
 fn path_fits(path: &Path) -> bool
-    ensures { result ≡ true → IsPath path.now }
+    ensures only { result ≡ true → IsPath path.now }
+    ensures all { IsPath path.now → result ≡ true }
 {
     // Only the proof needs this: that a slot's number fits 16 bits is known where the slot is read.
     let _root = path.root;
@@ -32,7 +33,8 @@ fn path_fits(path: &Path) -> bool
 
 /// Whether paths can be written.
 fn paths_fit(paths: &[ShortPath]) -> bool
-    ensures { result ≡ true → AllByRecursion IsPath paths.now }
+    ensures only { result ≡ true → AllByRecursion IsPath paths.now }
+    ensures all { AllByRecursion IsPath paths.now → result ≡ true }
 {
     for path in paths {
         if !path_fits(&path.path()) {
@@ -45,7 +47,8 @@ fn paths_fit(paths: &[ShortPath]) -> bool
 /// Whether lines can be written, whose paths ascend.
 fn lines_fit(lines: &[Line]) -> bool
     requires { AreAscending lines.now }
-    ensures { result ≡ true → AllByRecursion IsLine lines.now }
+    ensures only { result ≡ true → AllByRecursion IsLine lines.now }
+    ensures all { AllByRecursion IsLine lines.now → result ≡ true }
 {
     for line in lines {
         // Only the proof needs this: that a method's number fits 32 bits is known where it is read.

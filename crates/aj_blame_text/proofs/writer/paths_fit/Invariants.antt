@@ -3,6 +3,9 @@ use Rattle.std.specs.List.{AllByRecursion}
 use Rattle.aj_books.specs.Books.{IsPath}
 use Rattle.aj_blame_text.proofs.writer.paths_fit.Given as goal
 
--- where the rest can be written, all can
+-- the rest can be written where all can
 abbrev pub invariant-loop-path : goal.invariant-loop-path
-invariant-loop-path l = AllByRecursion IsPath (drop l.path-index l.paths) → AllByRecursion IsPath l.paths
+invariant-loop-path l = record {
+  all : AllByRecursion IsPath (drop l.path-index l.paths) → AllByRecursion IsPath l.paths;
+  rest : AllByRecursion IsPath l.paths → AllByRecursion IsPath (drop l.path-index l.paths);
+}
