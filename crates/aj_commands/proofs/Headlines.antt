@@ -85,6 +85,7 @@ module _ (call : Call) where
         least = refutes.assignment;
         is_least = refutes.least.least;
         found_is = refutes.first.found_is ∙ ap (λ x. refutes.assignment m (has_path x.requires_)) same;
+        earlier = refutes.first.first;
       }
 
   -- what was written for an answer of `check`
@@ -93,6 +94,7 @@ module _ (call : Call) where
   judged_exactly file _ _ (judged t Q trees source least) status wrote tree P well =
       let accepted : IsAccepted P = subst IsAccepted (same_core file t tree Q P source.has_core well.has_core) least.accepted in
       record {
+        accepts = λ _. status;
         only = λ two. absurd (omega (arith, two, status));
         all = λ none. absurd (none accepted);
         names = λ two. absurd (omega (arith, two, status));
@@ -103,6 +105,7 @@ module _ (call : Call) where
       let table : table_of t ≡ table_of tree = ap table_of (same_tree file t tree source.has_core.program well.has_core.program) in
       let none : IsAccepted P → ⊥ = λ accepted. broken.none (subst IsAccepted (sym program) accepted) in
       record {
+        accepts = λ accepted. absurd (none accepted);
         only = λ two. none;
         all = λ n. status;
         names = λ two. named_broken P (table_of tree) m declared found (subst (λ R. IsRefuted R m declared found) program broken)

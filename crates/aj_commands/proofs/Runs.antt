@@ -11,7 +11,7 @@ use Rattle.aj_commands.specs.Files.{IsAsked, AreBounded}
 use Rattle.aj_commands.specs.Reading.{AreTheirs, IsQuiet}
 use Rattle.aj_outcomes.specs.Said.{Yields, Says}
 use Rattle.aj_commands.specs.Answers.{Answer, Belongs, too_large, ended, IsExact}
-use Rattle.aj_commands.specs.Said.{IsUnread, WritesUnread, WritesTooLarge, WritesAnswer, WritesAnswerToBytes, WritesFront}
+use Rattle.aj_commands.specs.Said.{IsUnread, WritesUnread, WritesTooLarge, WritesAnswer, WritesAnswerToBytes, WritesFront, BelongsToBytes, WritesFrontToBytes}
 use Rattle.aj_commands.specs.Commands.{status_of}
 use Rattle.aj_commands.specs.Outcomes.{IsAnswer, IsOutcome}
 use Rattle.aj_commands.proofs.Endings.{exact_answer, exact_yield, no_ending}
@@ -110,6 +110,24 @@ module _ (words : List (List ℕ)) (result : ℕ) (told : List ℕ → Option (L
       by CannotWrite is (inl s) = absurd is
       by NoMemory is (inl s) = absurd is
       by Usage is (inl s) = absurd is
+
+  -- whatever is told, a front of the line of a file that can't be read, or of the answer to bytes that the files have
+  pub cut_short : (row : Row) → IsRow words row → result ≡ 7 → WritesFrontToBytes row told before now old new
+  cut_short row is seven = by d.said
+    where
+      belongs : (status : Status) → IsOutcome row told before now status d.text → IsUnread row told before now d.text ⊎ BelongsToBytes row told d.text
+      belongs CannotRead is = inl is
+      belongs (Ended ending) is = inr (record { files = is.files; theirs = is.read.theirs; status = code_of ending; belongs = answer_belongs row is.files ending (given row told before now ending d.text is) })
+      belongs TooLarge is =
+          let some = over_some told before now (limits_of row.command) row.names is.name is.first in
+          inr (record { files = some.files; theirs = some.theirs; status = 10; belongs = subst (Belongs row some.files 10) (sym is.says) (too_large is.name some.over) })
+      belongs CannotWrite is = absurd is
+      belongs NoMemory is = absurd is
+      belongs Usage is = absurd is
+
+      by : Says result (status_of d.status) d.text old new sink_before sink_now → WritesFrontToBytes row told before now old new
+      by (inl s) = absurd (other_than_seven d.row told before now d.status d.text d.outcome (sym s.0 ∙ seven))
+      by (inr s) = record { text = d.text; belongs = belongs d.status (subst (λ r. IsOutcome r told before now d.status d.text) (one_row words d.row row d.is_row is) d.outcome); written = s.1 }
 
   module _ (row : Row) (files : List (List ℕ)) (asked : IsAsked words told row files) where
     -- the line of a file that can't be read, or what belongs to the files

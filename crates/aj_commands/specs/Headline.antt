@@ -3,19 +3,19 @@
 -- writes, unless memory is refused, a rearrangement of that schedule that runs to the same heap, locks, threads and output and
 -- interrupts no atomic call; and `check` refuses a well-formed source exactly where no assignment of atomicities is admissible,
 -- naming a method whose bound every closed assignment breaks.
-use Rattle.std.specs.Prelude.{◌≡◌, ℕ, ◌≤◌, List, [], ◌∷◌, Some, None, length, codes, ◌⊎◌}
+use Rattle.std.specs.Prelude.{◌≡◌, ℕ, ◌<◌, ◌≤◌, List, [], ◌∷◌, Some, None, length, slice_get, codes, ◌⊎◌}
 use Rattle.std.specs.Io.KnownBytes.{Appends}
 use Rattle.aj_algebra.specs.declared.basic.Basic.{Basic}
 use Rattle.aj_algebra.specs.HeldPaths.{has_path}
 use Rattle.aj_classes.specs.Table.{TableData, table_of}
-use Rattle.aj_core.specs.Core.{Program}
+use Rattle.aj_core.specs.Core.{Program, Method}
 use Rattle.aj_infer.specs.Least.{IsLeast}
 use Rattle.aj_infer.specs.Verdicts.{IsBrokenByAll}
 use Rattle.aj_outcomes.specs.Calls.{Call, IsCalm}
 use Rattle.aj_report.specs.Verdicts.{broken_line}
 use Rattle.aj_rules.specs.Effect.{Assignment}
 use Rattle.aj_rules.specs.Near.{MethodPaths, AreRelevant, rel_of}
-use Rattle.aj_rules.specs.Rules.{IsAccepted, declared_bound}
+use Rattle.aj_rules.specs.Rules.{IsAccepted, HoldsBound, declared_bound}
 use Rattle.aj_schedule.specs.Text.{IsSchedule}
 use Rattle.aj_sources.specs.Checking.{IsWellFormedSource}
 use Rattle.aj_state.specs.States.{State}
@@ -52,9 +52,12 @@ pub record NamesBroken (call : Call) (P : Program) (table : TableData) : Type 0 
   pub least : Assignment
   pub is_least : IsLeast P (rel_of sets) least
   pub found_is : found ≡ least method (has_path broken.method.requires_)
+  -- and it is the first in source order: there each method before it keeps its bound
+  pub earlier : (k : ℕ) (other : Method) → k < method → slice_get P.methods k ≡ Some other → HoldsBound least k other
 
--- the call refuses exactly where no assignment is admissible, and names such a method
+-- the call accepts where some assignment is admissible; it refuses exactly where none is, and names such a method
 pub record RefusesExactly (call : Call) (P : Program) (table : TableData) : Type 0 where
+  pub accepts : IsAccepted P → call.status ≡ 0
   pub only : call.status ≡ 2 → IsAccepted P → ⊥
   pub all : (IsAccepted P → ⊥) → call.status ≡ 2
   pub names : call.status ≡ 2 → NamesBroken call P table
@@ -74,5 +77,5 @@ pub record Headline (call : Call) : Type 0 where
   -- `check`, on a file that is told and within its limit, where nothing failed
   pub check : (name file : List ℕ) → call.words ≡ codes "check" ∷ name ∷ [] → call.told name ≡ Some file → length file ≤ 262144
       → IsCalm call (name ∷ [])
-      -- refuses a well-formed source exactly where no assignment is admissible, unless memory is refused
+      -- refuses a well-formed source exactly where no assignment is admissible, and else accepts it, unless memory is refused
       → (tree : ProgramTree) (P : Program) → IsWellFormedSource file tree P → (call.status ≡ 8) ⊎ RefusesExactly call P (table_of tree)

@@ -1,9 +1,12 @@
 -- For a reader of the top call, in this order: what a call is, and the lines and texts that any program over a folder and a sink writes
 -- (`aj_outcomes`), the line for words that are no row (Lines), the rows of words and their files (Rows, Files), in which order these
--- are read (Reading), what each row answers and when it ends how (Check and Print of `aj_source_commands`, Run, Serialise, SerialiseOpen
--- and Generate of `aj_schedule_commands`, Derive and Verify of `aj_book_commands`), the same for all rows (Answers), what is written (Said),
--- the sentence that the program is for (Headline), what books are for (Books), what `serialise-open` is for (OpenCalls), what certificates of refusal are for (Refutations), what lock levels are for (NoCircles), what `replay` is for (ReplayedCalls). Commands and
--- Outcomes serve the proofs.
+-- are read (Reading), what each row answers and when it ends how, the same for all rows (Answers), what is written (Said), the sentence
+-- that the program is for (Headline), what `serialise-open` is for (OpenCalls), what books are for (Books), what certificates of
+-- refusal are for (Refutations), what lock levels are for (NoCircles), what `replay` is for (ReplayedCalls). Commands and Outcomes serve
+-- the proofs.
+-- What each row answers stands in crates of its own: Check and Print of `aj_source_commands`; Run, Serialise, SerialiseOpen, Replay and
+-- Generate of `aj_schedule_commands`; Derive and Verify of `aj_book_commands`; Blames and Verifying of `aj_blame_commands`; Levels of
+-- `aj_level_commands`.
 pub mod Lines
 pub mod Rows
 pub mod Files

@@ -50,3 +50,16 @@ pub record WritesFront (row : Row) (files : List (List ℕ)) (told : List ℕ �
   pub text : List ℕ
   pub belongs : IsUnread row told before now text ⊎ Belongs row files status text
   pub written : AppendsFront old new text
+
+-- the text belongs to the row, some status, and bytes of the files, which are those that are told where the folder tells a file
+pub record BelongsToBytes (row : Row) (told : List ℕ → Option (List ℕ)) (text : List ℕ) : Type 0 where
+  pub files : List (List ℕ)
+  pub theirs : AreTheirs told row.names files
+  pub status : ℕ
+  pub belongs : Belongs row files status text
+
+-- a front was written of such a text, or of the line of a file that couldn't be read
+pub record WritesFrontToBytes (row : Row) (told : List ℕ → Option (List ℕ)) (before now : List ℕ → ℕ) (old new : Option (List ℕ)) : Type 0 where
+  pub text : List ℕ
+  pub belongs : IsUnread row told before now text ⊎ BelongsToBytes row told text
+  pub written : AppendsFront old new text

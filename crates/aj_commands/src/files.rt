@@ -1,6 +1,6 @@
 //! Reads the files that a row names.
 
-ghost use Rattle.std.specs.Prelude.{◌≡◌, ◌++◌, ◌∷◌, [], length, map, string_bytes, OnOk, IfOk, IfErr};
+ghost use Rattle.std.specs.Prelude.{◌≡◌, ◌≤◌, ◌+◌, ◌++◌, ◌∷◌, [], length, map, string_bytes, OnOk, IfOk, IfErr};
 ghost use Rattle.aj_commands.specs.Files.{file_at};
 ghost use Rattle.aj_commands.specs.Reading.{AreRead};
 ghost use Rattle.aj_commands.specs.Outcomes.{HasMore, IsUnreadFor};
@@ -52,6 +52,7 @@ fn read_each<'a, F: Folder>(
     ensures read { OnOk result (HasMore (F.told folder.old) (F.faults folder.old) (F.faults folder.new) limits.now (map string_bytes names.now)
         (map (λ file. file.items) files.old.items) (map (λ file. file.items) files.new.items)) }
     ensures end { IfErr result (IsUnreadFor limits.now (map string_bytes names.now) (F.told folder.old) (F.faults folder.old) (F.faults folder.new)) }
+    ensures opened { F.opened folder.new ≤ F.opened folder.old + length names.now }
 {
     let Some((limit, more)) = limits.split_first() else {
         return Ok(());
@@ -79,6 +80,7 @@ pub fn read_files<'a, F: Folder>(
     requires { length (map string_bytes names.now) ≡ length limits.now }
     ensures read { IfOk result (λ files. AreRead (F.told folder.old) (F.faults folder.old) (F.faults folder.new) limits.now (map string_bytes names.now) (map (λ file. file.items) files.items)) }
     ensures end { IfErr result (IsUnreadFor limits.now (map string_bytes names.now) (F.told folder.old) (F.faults folder.old) (F.faults folder.new)) }
+    ensures opened { F.opened folder.new ≤ F.opened folder.old + length names.now }
 {
     let mut files = Vec::new(alloc);
     read_each(alloc, folder, limits, names, &mut files)?;

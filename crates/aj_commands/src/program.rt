@@ -1,6 +1,6 @@
 //! The top call of the program.
 
-ghost use Rattle.std.specs.Prelude.{◌≡◌, ◌⊎◌, ℕ, List, Option, Contains, length, map, IfOk, MatchResult, string_bytes};
+ghost use Rattle.std.specs.Prelude.{◌≡◌, ◌⊎◌, ◌≤◌, ◌+◌, ℕ, List, Option, Contains, length, map, IfOk, MatchResult, string_bytes};
 ghost use Rattle.std.specs.Io.KnownBytes.{Keeps};
 ghost use Rattle.aj_edge.specs.Faults.{Rose};
 ghost use Rattle.aj_sources.specs.Refusals.{IsRight};
@@ -11,7 +11,7 @@ ghost use Rattle.aj_commands.specs.Files.{IsAsked, AreBounded};
 ghost use Rattle.aj_outcomes.specs.Said.{Yields, Says};
 ghost use Rattle.aj_commands.specs.Answers.{Answer, IsExact};
 ghost use Rattle.aj_commands.specs.Reading.{IsQuiet};
-ghost use Rattle.aj_commands.specs.Said.{WritesUnread, WritesTooLarge, WritesAnswer, WritesAnswerToBytes, WritesFront};
+ghost use Rattle.aj_commands.specs.Said.{WritesUnread, WritesTooLarge, WritesAnswer, WritesAnswerToBytes, WritesFront, WritesFrontToBytes};
 ghost use Rattle.aj_commands.specs.Commands.{row_of, status_of};
 ghost use Rattle.aj_outcomes.specs.Calls.{call_of};
 ghost use Rattle.aj_commands.specs.Headline.{Headline};
@@ -108,7 +108,8 @@ fn unread(alloc: Global, end: Unread<'_>) -> Result<Outcome, NoMemory>
 fn perform<F: Folder>(alloc: Global, folder: &mut F, words: Words<'_>) -> Result<Outcome, NoMemory>
     requires within { IsWithin words.command }
     requires files { length (row_of words).names ≡ length (limits_of words.command) }
-    ensures { IfOk result (λ o. IsOutcome (row_of words.entry) (F.told folder.old) (F.faults folder.old) (F.faults folder.new) o.status o.text.items) }
+    ensures outcome { IfOk result (λ o. IsOutcome (row_of words.entry) (F.told folder.old) (F.faults folder.old) (F.faults folder.new) o.status o.text.items) }
+    ensures opened { F.opened folder.new ≤ F.opened folder.old + length (row_of words.entry).names }
 {
     match read_files(alloc, folder, words.command.limits(), words.names) {
         Ok(files) => ended(alloc, words.command, files.as_slice()),
@@ -152,6 +153,13 @@ pub fn run<F: Folder, K: Sink>(alloc: Global, words: &[String], folder: &mut F, 
     // Whether or not the folder tells the files: they have bytes to which status and text are the answer.
     ensures bytes { (row : Row) → IsRow (map string_bytes words.now) row →
         Yields result ⊎ WritesAnswerToBytes row (F.told folder.old) result (K.written sink.old) (K.written sink.new) }
+
+    // Where the sink failed, a front of such a text was written, or of the line of a file that can't be read.
+    ensures cut_short { (row : Row) → IsRow (map string_bytes words.now) row → result ≡ 7 →
+        WritesFrontToBytes row (F.told folder.old) (F.faults folder.old) (F.faults folder.new) (K.written sink.old) (K.written sink.new) }
+
+    // Each file of a row is opened once, so the answer speaks of one file.
+    ensures opened { (row : Row) → IsRow (map string_bytes words.now) row → F.opened folder.new ≤ F.opened folder.old + length row.names }
 
     // The files are told: each status comes exactly where its fact holds, and the text is the one that belongs to it.
     ensures exact { (row : Row) (files : List (List ℕ)) → IsAsked (map string_bytes words.now) (F.told folder.old) row files → IsExact row files result }

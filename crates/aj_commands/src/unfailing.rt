@@ -1,5 +1,10 @@
 //! The top call over a folder and a sink that never fail.
-ghost use Rattle.std.specs.Prelude.{◌≡◌};
+ghost use Rattle.std.specs.Prelude.{◌≡◌, ◌⊎◌, List, ℕ, Some, None, map, string_bytes};
+ghost use Rattle.aj_edge.specs.InMemory.{bytes_or_none};
+ghost use Rattle.aj_commands.specs.Answers.{IsExact};
+ghost use Rattle.aj_commands.specs.Files.{IsAsked};
+ghost use Rattle.aj_commands.specs.Rows.{Row, IsNoRow};
+ghost use Rattle.aj_commands.specs.Said.{WritesAnswer};
 
 use crate::program::run;
 use aj_edge::{NeverFailsFolder, NeverFailsSink};
@@ -15,6 +20,16 @@ pub fn run_unfailing(
 ) -> u8
     ensures read { result ≡ 6 → ⊥ }
     ensures written { result ≡ 7 → ⊥ }
+
+    // Words that are no row.
+    ensures usage { IsNoRow (map string_bytes words.now) → result ≡ 9 }
+    ensures usage_only { result ≡ 9 → IsNoRow (map string_bytes words.now) }
+
+    // Each status comes exactly where its fact holds of the files, or memory was refused, and a text belongs to it.
+    ensures exact { (row : Row) (files : List (List ℕ)) → IsAsked (map string_bytes words.now) (λ name. Some (bytes_or_none folder.old name)) row files →
+        IsExact row files result }
+    ensures text { (row : Row) (files : List (List ℕ)) → IsAsked (map string_bytes words.now) (λ name. Some (bytes_or_none folder.old name)) row files →
+        (result ≡ 8) ⊎ WritesAnswer row files result None None }
 {
     run(alloc, words, folder, sink)
 }

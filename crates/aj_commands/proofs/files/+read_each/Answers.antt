@@ -1,4 +1,4 @@
-use Rattle.std.proofs.Common.{◌≡◌, map, string_bytes, ap, subst, IfSome, Err}
+use Rattle.std.proofs.Common.{◌≡◌, map, length, string_bytes, ap, subst, arith, IfSome, Err}
 use Rattle.aj_commands.proofs.FileLemmas.{read_more, end_more, unread_first, over_here, no_fault}
 use Rattle.aj_commands.proofs.files.+read_each.Goals as goal
 
@@ -32,3 +32,6 @@ returns-in-Err-TooLarge-clause-end g t c =
     (string_bytes c.in-Some-split_first.name.now) c.as_str.result.now c.as_str-in-Err-TooLarge.result.now (map string_bytes c.in-Some-split_first.others.now) (map string_bytes c.args.names.now)
     c.in-Some.ensures.cases.0 (ap (map string_bytes) c.in-Some-split_first.ensures.cases.0) c.as_str.ensures.value c.as_str-in-Err-TooLarge.ensures.value
     (c.in-Err-TooLarge.ensures.too_large (ap Err c.in-Err-TooLarge.field-0-is)) (c.in-Err-TooLarge.ensures.calm_end (no_fault c.in-Err-TooLarge.field-0 c.in-Err-TooLarge.field-0-is))
+
+pub returns-clause-opened : goal.returns-clause-opened
+returns-clause-opened g t c = omega (arith, c.in-Ok.ensures.opened, c.read_each.ensures.opened, ap length c.in-Some-split_first.ensures.cases.0)

@@ -1,5 +1,7 @@
-use Rattle.std.proofs.Common.{map, string_bytes, subst, inl, inr}
+use Rattle.std.proofs.Common.{◌≡◌, ℕ, ◌+◌, ◌≤◌, length, map, string_bytes, subst, inl, inr}
 use Rattle.aj_commands.specs.Commands.{row_of, status_of}
+use Rattle.aj_commands.specs.Rows.{Row}
+use Rattle.aj_commands.proofs.OneRow.{one_row}
 use Rattle.aj_outcomes.specs.Said.{Says}
 use Rattle.aj_commands.proofs.Headlines.{headline_of}
 use Rattle.aj_commands.proofs.Certified.{books_of}
@@ -8,9 +10,13 @@ use Rattle.aj_commands.proofs.Refuted.{refutations_of}
 use Rattle.aj_commands.proofs.Ordered.{no_circles_of}
 use Rattle.aj_commands.proofs.Replayed.{replayed_calls_of}
 use Rattle.aj_commands.proofs.Endings.{exact_yield}
-use Rattle.aj_commands.proofs.Runs.{IsDone, exact, answered, front, unreadable, over_limit, quiet, to_bytes, complete}
+use Rattle.aj_commands.proofs.Runs.{IsDone, exact, answered, front, unreadable, over_limit, quiet, to_bytes, cut_short, complete}
 use Rattle.aj_commands.proofs.program.run.Given.{Over}
 use Rattle.aj_commands.proofs.program.run.Goals as goal
+
+-- files were opened for the row that the words are
+opened_by : (before now : ℕ) (its row : Row) → its ≡ row → now ≤ before + length its.names → now ≤ before + length row.names
+opened_by before now its row is few = subst (λ r. now ≤ before + length r.names) is few
 
 the_row : (g : Over) (c : goal.After-drop-outcome g) → IsDone (map string_bytes c.args.words.now) c.say-in-Ok.result (g.F.Folder.told c.args.folder.now) (g.F.Folder.faults c.args.folder.now) (g.F.Folder.faults c.perform.new.folder)
     (g.K.Sink.written c.args.sink.now) (g.K.Sink.written c.say-in-Ok.new.sink) (g.K.Sink.faults c.args.sink.now) (g.K.Sink.faults c.say-in-Ok.new.sink)
@@ -19,7 +25,7 @@ the_row g c = record {
   is_row = c.in-Some.ensures;
   status = c.in-Ok.outcome.status;
   text = c.in-Ok.outcome.text.items;
-  outcome = c.in-Ok.ensures;
+  outcome = c.in-Ok.ensures.outcome;
   said = subst (λ text. Says c.say-in-Ok.result (status_of c.in-Ok.outcome.status) text (g.K.Sink.written c.args.sink.now) (g.K.Sink.written c.say-in-Ok.new.sink) (g.K.Sink.faults c.args.sink.now) (g.K.Sink.faults c.say-in-Ok.new.sink))
       c.as_slice.ensures.value c.say-in-Ok.ensures;
 }
@@ -107,3 +113,15 @@ returns-in-Err-clause-replayed_calls g c = replayed_calls_of _ (λ row files ask
 
 pub returns-in_default-clause-replayed_calls : goal.returns-in_default-clause-replayed_calls
 returns-in_default-clause-replayed_calls g c = replayed_calls_of _ (λ row files asked calm. absurd (c.in_default.ensures row asked.is_row))
+
+pub returns-in-Ok-clause-cut_short : goal.returns-in-Ok-clause-cut_short
+returns-in-Ok-clause-cut_short g c = λ row is seven. cut_short _ _ _ _ _ _ _ _ _ (the_row g c) row is seven
+
+pub returns-in-Ok-clause-opened : goal.returns-in-Ok-clause-opened
+returns-in-Ok-clause-opened g c = λ row is. opened_by _ _ _ _ (one_row _ (row_of c.in-Some.row) row c.in-Some.ensures is) c.in-Ok.ensures.opened
+
+pub returns-in-Err-clause-opened : goal.returns-in-Err-clause-opened
+returns-in-Err-clause-opened g c = λ row is. opened_by _ _ _ _ (one_row _ (row_of c.in-Some.row) row c.in-Some.ensures is) c.perform.ensures.opened
+
+pub returns-in_default-clause-opened : goal.returns-in_default-clause-opened
+returns-in_default-clause-opened g c = λ row is. absurd (c.in_default.ensures row is)

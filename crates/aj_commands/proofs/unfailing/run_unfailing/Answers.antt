@@ -14,3 +14,15 @@ returns-clause-read c = λ e. elim (c.run.ensures.usage (λ row is. no_rise (c.r
 
 pub returns-clause-written : goal.returns-clause-written
 returns-clause-written c = λ e. no_rise (c.run.ensures.cannot_write e)
+
+pub returns-clause-usage : goal.returns-clause-usage
+returns-clause-usage c = λ none. elim (c.run.ensures.usage none) [
+  | inl says ↦ says.0
+  | inr fails ↦ absurd (no_rise (fails.2))
+]
+
+pub returns-clause-exact : goal.returns-clause-exact
+returns-clause-exact c = λ row files asked. c.run.ensures.exact row files asked
+
+pub returns-clause-text : goal.returns-clause-text
+returns-clause-text c = λ row files asked. c.run.ensures.complete row files asked (λ name named. no_rise) no_rise
