@@ -63,6 +63,47 @@ fn parameters_fields_and_locals_are_counted(rt: HostRuntime) -> Result<(), Fail>
     Ok(())
 }
 
+/// Classes whose constructors take 16 and 17 final fields, each with the status and the text of `check`. The last parameter stands in a
+/// line of its own.
+static CONSTRUCTED: [(&str, u8, &str); 2] = [
+    (
+        "class A { final int a; final int b; final int c; final int d; final int e; final int f; final int g; final int \
+        h; final int i; final int j; final int k; final int l; final int m; final int n; final int o; final int p; \
+        A(int a, int b, int c, int d, int e, int f, int g, int h, int i, int j, int k, int l, int m, int n, int o,\n\
+        int p) { this.a = a; this.b = b; this.c = c; this.d = d; this.e = e; this.f = f; this.g = g; this.h = h; this.i \
+        = i; this.j = j; this.k = k; this.l = l; this.m = m; this.n = n; this.o = o; this.p = p; } } class Main { void \
+        main() { } }",
+        0,
+        "Main.main const\n",
+    ),
+    (
+        "class A { final int a; final int b; final int c; final int d; final int e; final int f; final int g; final int \
+        h; final int i; final int j; final int k; final int l; final int m; final int n; final int o; final int p; \
+        final int q; A(int a, int b, int c, int d, int e, int f, int g, int h, int i, int j, int k, int l, int m, int \
+        n, int o, int p,\n\
+        int q) { this.a = a; this.b = b; this.c = c; this.d = d; this.e = e; this.f = f; this.g = g; this.h = h; this.i \
+        = i; this.j = j; this.k = k; this.l = l; this.m = m; this.n = n; this.o = o; this.p = p; this.q = q; } } class \
+        Main { void main() { } }",
+        1,
+        "refused at 2:5: too many\n",
+    ),
+];
+
+#[test]
+fn parameters_of_a_constructor_are_counted(rt: HostRuntime) -> Result<(), Fail> {
+    for (source, status, text) in &CONSTRUCTED {
+        expect(
+            &rt,
+            rt.alloc(),
+            &["check", "a"],
+            source.as_bytes(),
+            *status,
+            text,
+        )?;
+    }
+    Ok(())
+}
+
 /// A method whose `requires` names eight locks.
 const EIGHT_REQUIRED: &str =
     "class L { } class Main { void m(final L a, final L b, final L c, final L d, final L e, final L f, final L g, final L h) \
