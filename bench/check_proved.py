@@ -29,6 +29,7 @@ CODE = [
     re.compile(r"\b(?:ensures|requires) (\w+) \{"),
     re.compile(r"^    (\w+) ?[,({]", re.MULTILINE),
 ]
+FIELD = re.compile(r"^ +pub (\w+) :", re.MULTILINE)
 EXPORTED = re.compile(r"^pub use ([^;]*);", re.MULTILINE)
 LONGEST_CELL = 70
 # A crate's own name is its prefix and a word.
@@ -71,7 +72,7 @@ class Names:
             names.update(re.findall(r"\w+", " ".join(EXPORTED.findall(text))))
         for path in glob.glob(f"{folder}/specs/**/*.antt", recursive=True):
             names.add("specs/" + os.path.splitext(os.path.relpath(path, f"{folder}/specs"))[0])
-            names.update(DEFINED.findall(read(path)))
+            names.update(DEFINED.findall(read(path)) + FIELD.findall(read(path)))
         return names
 
 
