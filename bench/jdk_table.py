@@ -2,10 +2,10 @@
 """Judges classes of the JDK by atomic-java and writes the table of docs/jdk.md; jdk.sh calls it.
 
 Each class is judged together with the classes above it that hold its state, and nothing else of the JDK. Its methods are counted
-without constructors: those whose skeleton is exact, that rest on an assumption, and that are approximated; of the public ones those
-that are found atomic, those that are refused for certain, and those that are perhaps wrong alarms. Behind the table stand the reasons
-of the certain refusals and of the approximations, and how often each came. With --sample, so many of the certain refusals are drawn,
-to be read by hand.
+without constructors: those whose skeleton is exact, that rest on an assumption, and that are approximated; of the
+public ones those that are found atomic, those that are refused for certain, and those that are perhaps wrong alarms.
+Behind the table stand the reasons of the certain refusals and of the approximations, and how often each came. With
+--sample, so many of the certain refusals are drawn, to be read by hand.
 """
 import argparse
 import random
@@ -62,7 +62,7 @@ class Row:
 
 
 def reason(block: str, told: dict[str, str]) -> str:
-    """Why a method is refused, by the two steps that its explanation names; `told` has the approximations by their places."""
+    """Why a method is refused, by the two steps of its explanation; `told` has the approximations by their places."""
     steps = STEP.findall(block)
     known = " ".join(told.get(place, "") for place, _ in steps)
     texts = [text for _, text in steps]
@@ -86,7 +86,8 @@ def certain_of(answer: str) -> dict[str, str]:
     perhaps, told = set(PERHAPS.findall(answer)), dict(TOLD.findall(answer))
     blocks = re.split(r"(?m)^(?=.*: error: )", answer)[1:]
     heads = [(REFUSED.match(block), block) for block in blocks]
-    return {found[0].replace(": error", ""): reason(block, told) for found, block in heads if found and found[1] not in perhaps}
+    certain = [(found[0], block) for found, block in heads if found and found[1] not in perhaps]
+    return {head.replace(": error", ""): reason(block, told) for head, block in certain}
 
 
 def judged(name: str, archive: zipfile.ZipFile, folder: Path, program: Path) -> Row | str:
@@ -114,13 +115,15 @@ def judged(name: str, archive: zipfile.ZipFile, folder: Path, program: Path) -> 
 
 def told(rows: list[Row]) -> None:
     """Prints the table and what stands behind it."""
-    print("| class | lines | methods | exact | assumed | approximated | public | found atomic | refused for certain | perhaps | seconds |")
+    print("| class | lines | methods | exact | assumed | approximated | public | found atomic "
+          "| refused for certain | perhaps | seconds |")
     print("|---|---|---|---|---|---|---|---|---|---|---|")
     for row in rows:
         print(row.text())
     sums = tuple(map(sum, zip(*(row.figures for row in rows))))
     reasons = sum((row.reasons for row in rows), Counter[str]())
-    whole = Row(f"{len(rows)} classes", sum(row.lines for row in rows), sums, sum(row.seconds for row in rows), reasons, {}, "")
+    lines, seconds = sum(row.lines for row in rows), sum(row.seconds for row in rows)
+    whole = Row(f"{len(rows)} classes", lines, sums, seconds, reasons, {}, "")
     print(whole.text().replace("`", ""))
     print("\n| why a method is refused for certain | methods |\n|---|---|")
     for why, count in Counter(why for row in rows for why in row.certain.values()).most_common():
@@ -144,7 +147,7 @@ def main() -> None:
     parser.add_argument("--sources", type=Path, required=True, help="the JDK's src.zip")
     parser.add_argument("--folder", type=Path, required=True, help="a folder for what is judged")
     parser.add_argument("--program", type=Path, required=True, help="the launcher")
-    parser.add_argument("--sample", type=int, default=0, help="how many of the certain refusals are drawn, to be read by hand")
+    parser.add_argument("--sample", type=int, default=0, help="how many of the certain refusals are drawn")
     parser.add_argument("--answers", type=Path, help="a folder that keeps what is told of each class")
     given = parser.parse_args()
     rows = []

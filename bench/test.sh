@@ -9,8 +9,8 @@
 #     house       what check_house.py measures
 #     documents   every source and command that the documents and examples show (check_docs.py)
 #     jvm         random programs beside a real JVM (jvm.py), where that script is there
-#     java        atomic-java on sources whose verdicts are known (test_java.py), where that script is there; a sample of
-#                 random sources (java_random.py)
+#     java        atomic-java on sources whose verdicts are known (test_java.py), where that script is there; a sample
+#                 of random sources (java_random.py)
 #
 # What a test needs and isn't there is installed from the distribution, where this runs as root and apt-get reaches its
 # packages. Else that test fails, and a line says what is missing.
