@@ -6,8 +6,8 @@ import java.util.List;
 import java.util.Map;
 
 /**
- * The errors of a run beside those that are left where what may be no step is left out. One that is there too is certain, and
- * explained by steps that are surely there; any other may be a wrong alarm, and that is told.
+ * The errors of a run beside those that are left where what may be no step is left out. One that is there too is
+ * certain, and explained by steps that are surely there; any other may be a wrong alarm, and that is told.
  */
 final class Certainty {
     private static final String ERROR = ": error: ";

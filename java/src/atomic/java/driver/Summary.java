@@ -32,7 +32,8 @@ final class Summary {
     /** The line with the figures; {@code promised} methods say that they are atomic. Each method counts once. */
     String line(Judging judging, int promised) {
         long approximated = methods.keySet().stream().filter(notes::approximates).count();
-        long assumed = methods.keySet().stream().filter(each -> notes.assumes(each) && !notes.approximates(each)).count();
+        long assumed = methods.keySet().stream()
+            .filter(each -> notes.assumes(each) && !notes.approximates(each)).count();
         Set<Object> refused = origins(each -> each.atomic() && !ATOMIC.contains(judging.found(each)));
         Set<Object> errors = origins(each -> judging.found(each).equals("error"));
         errors.addAll(refused);

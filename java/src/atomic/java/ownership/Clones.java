@@ -19,8 +19,9 @@ import javax.lang.model.element.Modifier;
 import javax.lang.model.element.VariableElement;
 
 /**
- * What {@code super.clone()} gives: an object that nobody else knows yet, whose fields hold the same objects as those of the first
- * one. It counts as new where nothing but numbers and texts is read of it before it gets a value of its own.
+ * What {@code super.clone()} gives: an object that nobody else knows yet, whose fields hold the same objects as those
+ * of the first one. It counts as new where nothing but numbers and texts is read of it before it gets a value of its
+ * own.
  */
 final class Clones {
 
@@ -51,18 +52,21 @@ final class Clones {
 
     private static boolean isHarmless(Tree use, VariableElement copy, Attribution attribution, Uses uses) {
         if (!(attribution.parent(use) instanceof MemberSelectTree select)) {
-            return attribution.parent(use) instanceof TypeCastTree || attribution.parent(use).getKind() == Tree.Kind.RETURN;
+            Tree parent = attribution.parent(use);
+            return parent instanceof TypeCastTree || parent.getKind() == Tree.Kind.RETURN;
         }
         Element member = attribution.element(select);
         boolean field = member instanceof VariableElement && member.getKind() == ElementKind.FIELD;
-        boolean target = attribution.parent(select) instanceof AssignmentTree assignment && assignment.getVariable() == select;
+        boolean target = attribution.parent(select) instanceof AssignmentTree assignment
+            && assignment.getVariable() == select;
         return field && (target || member.asType().getKind().isPrimitive()
             || member.asType().toString().equals("java.lang.String")
             || uses.assignments(member).stream().anyMatch(each -> isBefore(each, select, copy, attribution, uses)));
     }
 
     /** Whether an assignment surely gave the copy's field a value of its own before it is read. */
-    private static boolean isBefore(Uses.Assignment each, Tree read, VariableElement copy, Attribution attribution, Uses uses) {
+    private static boolean isBefore(Uses.Assignment each, Tree read, VariableElement copy, Attribution attribution,
+            Uses uses) {
         Tree statement = attribution.parent(each.tree());
         return each.target() instanceof MemberSelectTree target
             && copy.equals(attribution.element(target.getExpression()))
@@ -72,7 +76,8 @@ final class Clones {
 
     /** Whether a method of one class only gives such a copy. */
     static boolean isMaker(JavaMethod method, Sites sites, Program program) {
-        boolean fixed = method.isPrivate() || !method.isOpen() && method.symbol().getModifiers().contains(Modifier.FINAL);
+        boolean fixed = method.isPrivate()
+            || !method.isOpen() && method.symbol().getModifiers().contains(Modifier.FINAL);
         List<ExpressionTree> results = fixed && method.tree().getBody() != null ? sites.results(method) : List.of();
         return !results.isEmpty() && results.stream().allMatch(each -> bare(each) instanceof MethodInvocationTree call
             && isOwn(call, program) && program.method(program.attribution().element(call)) == null);

@@ -33,10 +33,11 @@ import javax.lang.model.element.Modifier;
 import javax.lang.model.element.VariableElement;
 
 /**
- * The names under which code of a class knows the object of one of its fields: locals, parameters and results of methods that are
- * called here alone, and fields of nested objects. The object gets no further where each of these only hands it to another one, and
- * where all that any of them ever holds was made for the field. All of it stays with one object of the class: each such call and
- * field is one of {@code this}, of the object around it, or of a nested object, which knows it for an object without a name.
+ * The names under which code of a class knows the object of one of its fields: locals, parameters and results of
+ * methods that are called here alone, and fields of nested objects. The object gets no further where each of these
+ * only hands it to another one, and where all that any of them ever holds was made for the field. All of it stays
+ * with one object of the class: each such call and field is one of {@code this}, of the object around it, or of a
+ * nested object, which knows it for an object without a name.
  */
 final class Confinement {
     private final Program program;
@@ -178,12 +179,20 @@ final class Confinement {
             open.add(method);
         }
         return !method.isOpen() && !sites.isReferenced(method.symbol()) && isNear(method)
-            && (hidden || !sites.of(method.symbol()).isEmpty() && !program.options().strict()) && program.named(method.symbol().getSimpleName()).stream().allMatch(each -> each == method
-                || !method.isVirtual() || !attribution.elements().overrides(each.symbol(), method.symbol(), each.owner().symbol())
-                && !attribution.elements().overrides(method.symbol(), each.symbol(), method.owner().symbol()));
+            && (hidden || !sites.of(method.symbol()).isEmpty() && !program.options().strict()) && runsItself(method);
     }
 
-    /** Whether only code of the same source can call a method. One that isn't hidden and that nobody here calls is for others. */
+    /** Whether a call of a method runs that one, and not one in its place. */
+    private boolean runsItself(JavaMethod method) {
+        return !method.isVirtual() || program.named(method.symbol().getSimpleName()).stream()
+            .allMatch(each -> each == method || !overrides(each, method) && !overrides(method, each));
+    }
+
+    private boolean overrides(JavaMethod one, JavaMethod other) {
+        return attribution.elements().overrides(one.symbol(), other.symbol(), one.owner().symbol());
+    }
+
+    /** Whether only code of the same source can call a method. Another one that nobody here calls is for others. */
     private static boolean isHidden(JavaMethod method) {
         for (JavaClass each = method.owner(); each != null; each = each.outer()) {
             if (each.symbol().getModifiers().contains(Modifier.PRIVATE) || each.symbol().getSimpleName().isEmpty()) {
@@ -211,8 +220,8 @@ final class Confinement {
     /** Whether a member is named without an object, or behind {@code this}. */
     private static boolean isOwn(Tree tree) {
         return tree instanceof IdentifierTree || tree instanceof MemberSelectTree select
-            && (select.getExpression() instanceof IdentifierTree name && name.getName().contentEquals("this")
-                || select.getExpression() instanceof MemberSelectTree outer && outer.getIdentifier().contentEquals("this"));
+            && (select.getExpression().toString().equals("this") || select.getExpression() instanceof MemberSelectTree outer
+                && outer.getIdentifier().contentEquals("this"));
     }
 
     /** Where the object goes from an expression. */

@@ -17,6 +17,7 @@ import java.util.HashMap;
 import java.util.Map;
 import javax.lang.model.element.ExecutableElement;
 import javax.lang.model.element.VariableElement;
+import javax.lang.model.type.TypeKind;
 
 /** Which parameters are arrays that a method only looks at. */
 final class Looks {
@@ -37,7 +38,8 @@ final class Looks {
     boolean only(VariableElement parameter) {
         Boolean before = known.putIfAbsent(parameter, true);
         if (before == null) {
-            known.put(parameter, uses.assignments(parameter).isEmpty() && uses.of(parameter).stream().allMatch(this::looks));
+            known.put(parameter, uses.assignments(parameter).isEmpty()
+                && uses.of(parameter).stream().allMatch(this::looks));
         }
         return known.get(parameter);
     }
@@ -48,7 +50,7 @@ final class Looks {
             Tree around = attribution.parent(element);
             boolean writes = around instanceof AssignmentTree assignment && assignment.getVariable() == element
                 || around instanceof CompoundAssignmentTree || around instanceof UnaryTree;
-            return !writes && !attribution.type(element).getKind().equals(javax.lang.model.type.TypeKind.ARRAY);
+            return !writes && attribution.type(element).getKind() != TypeKind.ARRAY;
         } else if (parent instanceof MemberSelectTree select) {
             return select.getIdentifier().contentEquals("length");
         } else if (parent instanceof MethodInvocationTree call) {

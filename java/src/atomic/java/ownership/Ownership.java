@@ -26,7 +26,6 @@ import javax.lang.model.element.ElementKind;
 import javax.lang.model.element.ExecutableElement;
 import javax.lang.model.element.Modifier;
 import javax.lang.model.element.VariableElement;
-import javax.lang.model.type.TypeKind;
 import javax.lang.model.type.TypeMirror;
 
 /**
@@ -69,7 +68,7 @@ public final class Ownership {
         for (JavaClass each : program.classes()) {
             for (Element member : each.symbol().getEnclosedElements()) {
                 if (member instanceof VariableElement field && field.getKind() == ElementKind.FIELD && !isOpen(field)
-                        && (field.asType().getKind() == TypeKind.ARRAY || program.library().hasContents(field.asType()))) {
+                        && program.library().hasContents(field.asType())) {
                     confine(field);
                 }
             }
@@ -94,7 +93,7 @@ public final class Ownership {
         return shared.contains(field);
     }
 
-    /** Whether objects of a class are only made to be wrapped by a library, which takes a lock around each call of theirs. */
+    /** Whether objects of a class are only made for a library's wrapper, which takes a lock around each call of theirs. */
     public boolean isWrapped(JavaClass each) {
         List<Tree> makings = sites.makings(each);
         return !makings.isEmpty() && makings.stream().allMatch(making ->

@@ -133,13 +133,16 @@ public final class Uses {
                 }
             }
             for (ExpressionTree part : parts) {
-                Object value = part instanceof LiteralTree literal ? literal.getValue()
-                    : attribution.element(bare(part)) instanceof VariableElement named ? named.getConstantValue() : null;
-                if (value instanceof String name) {
+                if (constant(part) instanceof String name) {
                     Set<Element> known = reflected.computeIfAbsent(name, key -> new HashSet<>());
                     known.addAll(classes.isEmpty() ? Collections.singleton((Element) null) : classes);
                 }
             }
+        }
+
+        private Object constant(ExpressionTree part) {
+            return part instanceof LiteralTree literal ? literal.getValue()
+                : attribution.element(bare(part)) instanceof VariableElement named ? named.getConstantValue() : null;
         }
 
         private void assign(Tree tree, ExpressionTree target, ExpressionTree value) {

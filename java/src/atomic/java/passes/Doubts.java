@@ -6,10 +6,10 @@ import atomic.java.skeleton.Part;
 import java.util.Collection;
 
 /**
- * Takes out of a skeleton what may be no step: what is refused in what is left is refused whatever the approximated parts do.
- * A call of code that others bring stays only where no lock can be held, since nothing keeps others away then. An access of a
- * field that may have a guard goes where the lock may be held under another name: that of an object without a name, of a node that may
- * be new, and in a method that is only called where some lock is held.
+ * Takes out of a skeleton what may be no step: what is refused in what is left is refused whatever the approximated
+ * parts do. A call of code that others bring stays only where no lock can be held, since nothing keeps others away
+ * then. An access of a field that may have a guard goes where the lock may be held under another name: that of an
+ * object without a name, of a node that may be new, and in a method that is only called where some lock is held.
  */
 public final class Doubts {
     private final Collection<Method> methods;

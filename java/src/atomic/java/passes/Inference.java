@@ -74,9 +74,9 @@ public final class Inference {
                 .thenComparing(each -> -each.getKey().size())).ifPresent(best ->
             tally.places.forEach((place, held) -> {
                 if (!held.contains(best.getKey())) {
-                    notes.tell(Notes.Kind.DATA_RACE, null, place, names.shown(field.name()) + " is touched here without the"
-                        + " lock of " + shown(best.getKey(), names) + ", which " + best.getValue() + " of its " + tally.all
-                        + " accesses hold");
+                    notes.tell(Notes.Kind.DATA_RACE, null, place, names.shown(field.name())
+                        + " is touched here without the lock of " + shown(best.getKey(), names) + ", which "
+                        + best.getValue() + " of its " + tally.all + " accesses hold");
                 }
             }));
     }

@@ -7,7 +7,7 @@ import java.util.Collection;
 import java.util.HashSet;
 import java.util.Set;
 
-/** Takes out the looks at contents that nobody changes once others know them, such as those of arrays that are copied on each write. */
+/** Takes out the looks at contents that nobody changes once others know them, as of arrays that are copied on write. */
 public final class Unwritten {
     private final Collection<Method> methods;
     private final Set<Field> written = new HashSet<>();
@@ -30,7 +30,8 @@ public final class Unwritten {
     }
 
     private Part without(Part part) {
-        boolean idle = part instanceof Part.Access access && access.field().isContents() && !written.contains(access.field());
+        boolean idle = part instanceof Part.Access access && access.field().isContents()
+            && !written.contains(access.field());
         return idle ? Part.NOTHING : part.map(this::without);
     }
 }

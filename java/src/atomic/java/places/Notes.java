@@ -44,7 +44,7 @@ public final class Notes {
 
     /** Whether anything is approximated. */
     public boolean approximates() {
-        return lines.values().stream().anyMatch(texts -> texts.stream().anyMatch(each -> each.startsWith("approximated")));
+        return lines.values().stream().flatMap(Set::stream).anyMatch(each -> each.startsWith("approximated"));
     }
 
     /** All notes as lines, by their places. */

@@ -26,7 +26,7 @@ public record JavaMethod(ExecutableElement symbol, MethodTree tree, JavaClass ow
             || owner.isInterface();
     }
 
-    /** Whether only classes below it and those of its package may call it: where none of them is missing, all calls are known. */
+    /** Whether only classes below and those of its package may call it: where none is missing, all calls are known. */
     public boolean isForHeirs() {
         return symbol.getModifiers().contains(Modifier.PROTECTED) && !owner.isInterface();
     }

@@ -166,8 +166,8 @@ final class Accesses {
             access(receiver, services.fields().inherited(field, heir, null), write, at);
             return Value.OPAQUE;
         }
-        body.emit(services.doubt(Method.Doubt.ANY, field.getEnclosingElement().getSimpleName() + "." + field.getSimpleName(),
-            false, body, at, "a field of a library's class counts as one that nothing guards"));
+        String shown = field.getEnclosingElement().getSimpleName() + "." + field.getSimpleName();
+        body.emit(services.doubt(Method.Doubt.ANY, shown, false, body, at, "a field of a library's class counts as one that nothing guards"));
         return Value.OPAQUE;
     }
 

@@ -11,8 +11,9 @@ import javax.lang.model.type.TypeKind;
 import javax.lang.model.type.TypeMirror;
 
 /**
- * What a library's call looks at, or fills, among its arguments. Of an object that isn't safe by itself that is an access of its
- * contents. One that is safe by itself takes its own lock for each look, so that each look is a step besides the call's own.
+ * What a library's call looks at, or fills, among its arguments. Of an object that isn't safe by itself that is an
+ * access of its contents. One that is safe by itself takes its own lock for each look, so that each look is a step
+ * besides the call's own.
  */
 final class Arguments {
     /** Classes whose methods look at the reference of an argument alone. */
@@ -67,7 +68,8 @@ final class Arguments {
             body.emit(services.step(called.shown(), false, called.at()));
         } else if (kind != Choice.Kind.PURE) {
             body.emit(services.doubt(Method.Doubt.OPEN, called.shown(), true, body, called.at(),
-                "compound library call: " + called.shown() + " looks at many elements of its argument, one after the other"));
+                "compound library call: " + called.shown()
+                    + " looks at many elements of its argument, one after the other"));
         }
     }
 

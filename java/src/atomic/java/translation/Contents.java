@@ -44,7 +44,8 @@ final class Contents {
     void call(Value object, boolean write, Tree at, String shown) {
         if (!known(object, write, at, shown)) {
             body.emit(services.doubt(doubt(object, at), shown, true, body, at,
-                "object of others: other threads may know the object of " + shown + ", so the call counts as several steps"));
+                "object of others: other threads may know the object of " + shown
+                    + ", so the call counts as several steps"));
         }
     }
 

@@ -56,7 +56,8 @@ final class Iteration {
         }
         Choice choice = services.program().library().choose(type, "close");
         if (choice.kind() != Choice.Kind.PURE && choice.kind() != Choice.Kind.ASSUMED) {
-            body.emit(services.doubt(Method.Doubt.OPEN, "AutoCloseable.close", choice.kind() != Choice.Kind.STEP, body, resource,
+            boolean several = choice.kind() != Choice.Kind.STEP;
+            body.emit(services.doubt(Method.Doubt.OPEN, "AutoCloseable.close", several, body, resource,
                 "compound library call: closing this object counts as several steps"));
         }
     }

@@ -30,7 +30,7 @@ final class Requirements {
         }
     }
 
-    /** The path of a lock: a parameter, by its name or as {@code #1}, a lock of the class, or a field behind one of these. */
+    /** The path of a lock: a parameter, by name or as {@code #1}, a lock of the class, or a field behind one of these. */
     private Path path(String written, JavaMethod method, Body body) {
         String word = written.strip();
         int dot = word.indexOf('.');
