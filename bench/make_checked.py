@@ -197,9 +197,7 @@ def sets() -> str:
     return with_sets("m", [f"void m({EIGHT}) {{ {USES} }}\n"])
 
 
-def sets_calls() -> str:
-    count = WANTED.of(500)
-
+def sets_calls(count: int) -> str:
     def method(k: int) -> str:
         calls = f"this.m{(k + 1) % count}{ALL}; this.m{(7 * k + 1) % count}{ALL};"
         return f"void m{k}({EIGHT}) {{ {USES * (k == 0)} {calls} }}\n"
@@ -281,7 +279,7 @@ KINDS: dict[str, Callable[[], str]] = {
     "inherited": inherited,
     "pairs": pairs,
     "sets": sets,
-    "sets_calls": sets_calls,
+    "sets_calls": lambda: sets_calls(WANTED.of(500)),
     "sets_rise": lambda: most(sets_rise),
     "floors": floors,
 }
