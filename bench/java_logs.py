@@ -133,7 +133,7 @@ def is_reducible(kinds: list[str]) -> bool:
 
 
 def as_log(events: list[Event], texts: list[str], atomic: set[str]) -> str:
-    """The log as `atomic_trace` reads it: blocks are ended calls of atomic methods, behind their waits, and places are left out."""
+    """The log in the format of docs/traces.md: blocks are ended calls of atomic methods, behind their waits, and places are left out."""
     blocks = [block for block in blocks_of(events, atomic) if block.ended and behind_waits(block)]
     begins = {behind_waits(block)[0].line: block.name for block in blocks}
     ends = {block.events[-1].line for block in blocks}

@@ -4,7 +4,7 @@
 A field that is touched without its guard is told as an error, and those touches don't count against the others. Of each method that is
 found atomic, each call's steps have to be a reducible word (right movers and both, at most one other step, left
 movers and both), and each logged step has to stand on a path of the method's skeleton. The sources are those of java/tests/larger and
-java/tests/users. With --logs FOLDER the logs stay there, in the format that `atomic_trace` reads.
+java/tests/users. With --logs FOLDER the logs stay there, in the format of docs/traces.md.
 """
 import argparse
 import re
@@ -75,7 +75,7 @@ def compiled(folder: Path, archive: Path) -> bool:
 
 
 def look(source: Judged, log: Path, counts: Counts) -> str:
-    """Looks at one log; the same log for `atomic_trace`."""
+    """Looks at one log; the same log in the format of docs/traces.md."""
     events = events_of(log)
     promised = {event.target for event in events if event.action == "begin"}
     atomic = {name for name in promised if int(name.rpartition("@")[2].split(":")[0]) not in source.refused}
