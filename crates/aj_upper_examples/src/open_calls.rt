@@ -1,8 +1,9 @@
 //! The open order of a schedule: which units commit, and where the others stand.
-ghost use Rattle.std.specs.Prelude.{◌≡◌, true, false, [], ◌∷◌, map};
+ghost use Rattle.std.specs.Prelude.{◌≡◌, ◌+◌, true, false, [], ◌∷◌, map};
 ghost use Rattle.aj_state.specs.declared.value.StepKind.TheVariants.{Both, Right, Left, Other};
 ghost use Rattle.aj_steps.specs.Units.{units, schedule_of};
 ghost use Rattle.aj_open.specs.OpenOrder.{commits, is_uncommitted, thread_of, placed_by_thread, by_thread, open_units};
+ghost use Rattle.aj_open.specs.Spreading.{stays_open, committed_size, left_size, spread_committed, with_left, left_sizes, spread_threads};
 ghost use Rattle.aj_examples.specs.Entries.{entry};
 
 /// A unit commits where it is whole, or has made a Left or Other step.
@@ -30,4 +31,27 @@ pub fn what_the_open_order_is()
     ensures committed_first { schedule_of (open_units (units (entry 0 0 Right true ∷ entry 1 1 Both false ∷ entry 2 0 Both true ∷ []))) ≡ 1 ∷ 0 ∷ 0 ∷ [] }
     ensures by_commit_and_thread { schedule_of (open_units (units (entry 0 3 Right true ∷ entry 1 2 Right true ∷ entry 2 1 Right true ∷ entry 3 0 Other true ∷ entry 4 1 Left true ∷ entry 5 0 Both false ∷ []))) ≡ 0 ∷ 0 ∷ 1 ∷ 1 ∷ 2 ∷ 3 ∷ [] }
     ensures open_and_committed { schedule_of (open_units (units (entry 0 1 Other true ∷ entry 1 0 Other true ∷ entry 2 0 Both false ∷ []))) ≡ 1 ∷ 0 ∷ 0 ∷ [] }
+{}
+
+/// How many steps the unit has whose commit place is at a step, where it commits, and where it is left open.
+pub fn which_units_are_left_open()
+    ensures left_open { stays_open (record { thread = 0; kind = Right; inside = true }) ≡ true }
+    ensures committed { stays_open (record { thread = 0; kind = Left; inside = true }) ≡ false }
+    ensures whole { stays_open (record { thread = 0; kind = Both; inside = false }) ≡ false }
+    ensures size { committed_size (λ place. place + 2) 3 (record { thread = 0; kind = Left; inside = true }) ≡ 5 }
+    ensures none { committed_size (λ place. place + 2) 3 (record { thread = 0; kind = Right; inside = true }) ≡ 0 }
+    ensures none_left { left_size (λ place. place + 2) 3 (record { thread = 0; kind = Left; inside = true }) ≡ 0 }
+    ensures size_left { left_size (λ place. place + 2) 3 (record { thread = 0; kind = Right; inside = true }) ≡ 5 }
+{}
+
+/// The threads of the units that commit, in the order of their commit places; those of the others, by thread.
+pub fn how_steps_are_spread()
+    ensures committed { spread_committed (λ place. place + 1) 1 (record { thread = 7; kind = Left; inside = false } ∷ record { thread = 8; kind = Right; inside = true }
+        ∷ record { thread = 9; kind = Both; inside = false } ∷ []) ≡ 7 ∷ 7 ∷ 9 ∷ 9 ∷ 9 ∷ 9 ∷ [] }
+    ensures one_more { map (with_left 1 5 (λ thread. thread + 7)) (0 ∷ 1 ∷ 2 ∷ []) ≡ 7 ∷ 5 ∷ 9 ∷ [] }
+    ensures of_the_first_thread { map (with_left 0 5 (λ thread. thread + 7)) (0 ∷ 1 ∷ []) ≡ 5 ∷ 8 ∷ [] }
+    ensures nothing_more { map (with_left 1 0 (λ thread. thread + 7)) (0 ∷ 1 ∷ 2 ∷ []) ≡ 7 ∷ 8 ∷ 9 ∷ [] }
+    ensures left { map (left_sizes (λ place. place + 2) 1 (record { thread = 0; kind = Right; inside = true } ∷ record { thread = 1; kind = Left; inside = true }
+        ∷ record { thread = 2; kind = Both; inside = true } ∷ [])) (0 ∷ 1 ∷ 2 ∷ 3 ∷ []) ≡ 3 ∷ 0 ∷ 5 ∷ 0 ∷ [] }
+    ensures by_thread { spread_threads 3 (2 ∷ 0 ∷ 1 ∷ []) ≡ 3 ∷ 3 ∷ 5 ∷ [] }
 {}

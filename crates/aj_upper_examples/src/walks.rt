@@ -6,6 +6,7 @@ ghost use Rattle.aj_core.specs.Core.{NullE, ThisE, VarE, NotE, NegE, BinaryE, An
 ghost use Rattle.aj_core.specs.Core.{EmptyS, BlockS, LocalS, SetVarS, SetFieldS, DoS, IfS, WhileS, SyncS, ReturnS, PrintS, StartS, no_stmts, and_stmt};
 ghost use Rattle.aj_core.specs.Examples.{this_path, plain_method};
 ghost use Rattle.aj_levels.specs.SlotTypes.{local_types, slot_types, result_of, taken_by_method, taken_by_new, type_of, top_type, under_types, taken_types, dropped_types};
+ghost use Rattle.aj_levels.specs.Suited.{brought, pushed_types};
 ghost use Rattle.aj_levels.specs.Walks.{level_in, class_in, last_type, lock_class, syncs_in, expr_visits, visits, body_visits};
 ghost use Rattle.aj_levels.specs.Contexts.{Context, IsBadAt};
 ghost use Rattle.aj_levels.specs.Circles.{Circle};
@@ -27,6 +28,8 @@ pub fn which_types_slots_have()
     ensures final_fields { map (taken_by_new buffers) (None ∷ Some (record { fields = 0 ∷ 1 ∷ []; finals = 1 ∷ []; run = None; above = None; targets = [] }) ∷ []) ≡ [] ∷ (buf ∷ []) ∷ [] }
     ensures expressions { map (type_of buffers (type.Class 1 ∷ buf ∷ [])) (ThisE ∷ other ∷ AndE ThisE other ∷ OrE ThisE other ∷ GetE ThisE 2 ∷ CallE other 0 no_exprs ∷ NewE 2 no_exprs ∷ NullE ∷ VarE 2 true buf ∷ [])
         ≡ Some (type.Class 1) ∷ Some buf ∷ Some buf ∷ Some buf ∷ Some buf ∷ Some type.Int ∷ Some (type.Class 2) ∷ None ∷ None ∷ [] }
+    ensures pushed { map (λ e. pushed_types buffers all_one (type.Class 1 ∷ buf ∷ []) e (None ∷ [])) (length_call ∷ run_call ∷ []) ≡ (Some type.Int ∷ None ∷ []) ∷ (None ∷ []) ∷ [] }
+    ensures brought_back { map brought (None ∷ Some type.Int ∷ []) ≡ [] ∷ (Some type.Int ∷ []) ∷ [] }
     ensures tops { map top_type ([] ∷ (Some buf ∷ None ∷ []) ∷ []) ≡ None ∷ Some buf ∷ [] }
     ensures under_tops { map under_types ([] ∷ (Some buf ∷ None ∷ []) ∷ []) ≡ [] ∷ (None ∷ []) ∷ [] }
     ensures taken { taken_types 2 (Some type.Int ∷ []) (Some buf ∷ Some type.Boolean ∷ None ∷ []) ≡ Some type.Boolean ∷ Some buf ∷ Some type.Int ∷ [] }
