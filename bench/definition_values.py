@@ -198,6 +198,10 @@ def filter_map(f: Value, xs: Value) -> Value:
     return to_list([o[1] for o in found if o[0] == "Some"])
 
 
+def find(f: Value, xs: Value) -> Value:
+    return next((("Some", x) for x in from_list(xs) if one(f, x)), NONE)
+
+
 def pointwise(f: Value, xs: Value, ys: Value) -> bool:
     first, second = from_list(xs), from_list(ys)
     return len(first) == len(second) and all(one(f, x, y) for x, y in zip(first, second))
@@ -216,6 +220,7 @@ STD: dict[str, tuple[int, Callable[..., Value]]] = {
     "filter": (2, lambda f, xs: to_list([x for x in from_list(xs) if one(f, x)])),
     "flat_map": (2, lambda f, xs: to_list([y for x in from_list(xs) for y in from_list(apply(f, x))])),
     "filter_map": (2, filter_map),
+    "find": (2, find),
     "list_any": (2, lambda f, xs: any(one(f, x) for x in from_list(xs))),
     "list_all": (2, lambda f, xs: all(one(f, x) for x in from_list(xs))),
     "position": (2, position),

@@ -8,4 +8,6 @@ pub mod Following
 pub mod Stepping
 pub mod WalkedStatements
 pub mod Reasons
-pub mod NoLocks
+pub mod Taken
+pub mod TakenLaws
+pub mod Meant

@@ -1,15 +1,15 @@
 -- From what a walk found to an explanation.
 use Rattle.std.proofs.Common.{◌≡◌, ℕ, zero, suc, ◌+◌, ◌<◌, ◌≤◌, Bool, true, false, List, [], ◌∷◌, ◌++◌, Option, Some, None, IsSome, length, drop, get_or, refl, sym, ap, not, ◌∙◌, subst, if◌then◌else◌}
-use Rattle.std.specs.Prelude.{map, slice_get, option_map}
+use Rattle.std.specs.Prelude.{filter, map, slice_get, option_map}
 use Rattle.std.proofs.Math.ListN.{drop_of_length-le}
 use Rattle.std.proofs.lemmas.List.{drop-map}
 use Rattle.std.proofs.lemmas.Option.{slice_get-map, slice_get_read}
 use Rattle.aj_paths.specs.Paths.{PathData}
 use Rattle.aj_algebra.specs.declared.basic.Basic.{Basic}
-use Rattle.aj_algebra.specs.declared.basic.Basic.TheVariants.{Mover, Atomic, Error}
+use Rattle.aj_algebra.specs.declared.basic.Basic.TheVariants.{Const, Mover, Atomic, Cmpd, Error}
 use Rattle.aj_algebra.specs.Basics.{below_of}
 use Rattle.aj_algebra.specs.HeldPaths.{Held, has_path}
-use Rattle.aj_core.specs.Core.{Program, Expr, Stmt, GetE}
+use Rattle.aj_core.specs.Core.{Program, Method, Expr, Stmt, GetE}
 use Rattle.aj_core.specs.Core.{EmptyS, BlockS, LocalS, SetVarS, SetFieldS, DoS, IfS, WhileS, SyncS, ReturnS, PrintS, StartS}
 use Rattle.aj_book_rules.specs.Parts.{ExprP, StmtP}
 use Rattle.aj_lemmas.proofs.Lists.{next_drop}
@@ -20,14 +20,14 @@ use Rattle.aj_rules.specs.Guards.{guard_of}
 use Rattle.aj_core.specs.Locks.{path_of}
 use Rattle.aj_rules.specs.Rules.{held_in}
 use Rattle.aj_why.specs.Parts.{own_of, lock_effect}
-use Rattle.aj_why.specs.Readings.{first_where, is_cmpd, own_at}
+use Rattle.aj_why.specs.Readings.{first_where, is_cmpd, is_error, own_at}
 use Rattle.aj_why.specs.Steps.{stmt_steps}
 use Rattle.aj_why.specs.Visits.{Visit, stmt_visits}
 use Rattle.aj_explain.specs.declared.found.Found.{Found}
 use Rattle.aj_explain.specs.declared.found.Visited.{Visited}
 use Rattle.aj_explain.specs.Basics.{stmt_basics}
-use Rattle.aj_explain.specs.Explaining.{calls, compound_or, first_wrong, is_own, looped_or, only_step_why, over_of, steps_of, steps_why, with_first, wrong_of, wrong_or}
-use Rattle.aj_explain.specs.Views.{errors_in, part_of, visit_of, visits_of}
+use Rattle.aj_explain.specs.Explaining.{body_why, calls, compound_or, first_wrong, is_own, looped_or, only_step_why, over_of, steps_of, steps_why, why_of, with_first, wrong_of, wrong_or}
+use Rattle.aj_explain.specs.Views.{errors_in, heavy_in, is_heavy, part_of, visit_of, visits_of}
 use Rattle.aj_explain.specs.Walked.{WalkedStmt}
 use Rattle.aj_explain.specs.Whys.{WhyData, Wrong, Compound, Two, Overridden, Nothing}
 use Rattle.aj_explain.proofs.WalkedStatements.{at_stmt}
@@ -104,6 +104,48 @@ first_at (v ∷ vs) (suc n) = first_at vs n
 
 pub wrong_taken : (vs : List Visit) (n : ℕ) (o : Option Visited) (w : WhyData) → option_map visit_of o ≡ slice_get vs n → first_wrong (drop n vs) ≡ w → wrong_at (option_map visit_of o) ≡ w
 wrong_taken vs n o w is found = ap wrong_at is ∙ sym (first_at vs n) ∙ found
+
+-- only accesses and calls are errors by themselves
+pub wrong_variable : (x : ℕ) (is_final : Bool) (H : Held) → is_error (variable_effect is_final) ≡ false
+wrong_variable x true H = refl
+wrong_variable x false H = refl
+
+pub wrong_lock : (b : Bool) → is_error (lock_effect b) ≡ false
+wrong_lock true = refl
+wrong_lock false = refl
+
+-- of the parts that can't be moved the errors are those of all
+wrong_or_not : (b : Basic) (v : Visit) (vs ws : List Visit) → vs ≡ ws
+    → (if is_heavy b then (if is_error b then v ∷ vs else vs) else vs) ≡ (if is_error b then v ∷ ws else ws)
+wrong_or_not Const v vs ws e = e
+wrong_or_not Mover v vs ws e = e
+wrong_or_not Atomic v vs ws e = e
+wrong_or_not Cmpd v vs ws e = e
+wrong_or_not Error v vs ws e = ap (λ l. v ∷ l) e
+
+-- a filter of a list of which the first item is there or not
+one_more : (test : Visit → Bool) (t : Bool) (v : Visit) (vs : List Visit) → filter test (if t then v ∷ vs else vs) ≡ (if t then (if test v then v ∷ filter test vs else filter test vs) else filter test vs)
+one_more test true v vs = refl
+one_more test false v vs = refl
+
+pub heavy_errors : (P : Program) (rel : ℕ → List PathData) (A : Assignment) (vs : List Visit) → errors_in P rel A (heavy_in P rel A vs) ≡ errors_in P rel A vs
+heavy_errors P rel A [] = refl
+heavy_errors P rel A (v ∷ vs) =
+    one_more (λ w. is_error (own_at P rel A w)) (is_heavy (own_at P rel A v)) v (heavy_in P rel A vs)
+    ∙ wrong_or_not (own_at P rel A v) v (errors_in P rel A (heavy_in P rel A vs)) (errors_in P rel A vs) (heavy_errors P rel A vs)
+
+-- a body that is more than the limit has the reason that is found in a walk
+pub more_why : (P : Program) (rel : ℕ → List PathData) (A : Assignment) (overs : List ℕ) (self : ℕ) (method : Method) (limit b : Basic) (heavy steps : List Visit)
+    → b ≡ effect P rel A method.body (has_path method.requires_) → heavy ≡ heavy_in P rel A (stmt_visits P method.body 0 (has_path method.requires_) None)
+    → steps ≡ stmt_steps P rel A method.body 0 (has_path method.requires_) None → below_of b limit ≡ false
+    → body_why P rel A self b (errors_in P rel A heavy) steps ≡ why_of P rel A overs self method limit
+more_why P rel A overs self method limit b heavy steps b_is heavy_is steps_are above =
+    let H = has_path method.requires_ in
+    let visits = stmt_visits P method.body 0 H None in
+    let errors = ap (errors_in P rel A) heavy_is ∙ heavy_errors P rel A visits in
+    (λ i. body_why P rel A self (b_is i) (errors i) (steps_are i))
+    ∙ sym (ap (λ (t : Bool). if t then over_of rel A limit overs H else body_why P rel A self (effect P rel A method.body H) (errors_in P rel A visits) (stmt_steps P rel A method.body 0 H None))
+    (sym (ap (λ z. below_of z limit) b_is) ∙ above))
 
 -- ---- compound steps
 
@@ -191,21 +233,15 @@ module _ (P : Program) (rel : ℕ → List PathData) (A : Assignment) where
     pub effect_is : given ≡ effect P rel A s H
     pub basics_are : new.basics.items ≡ stmt_basics P rel A s H
     pub steps_are : visits_of new.steps.items ≡ stmt_steps P rel A s 0 H None
-    pub errors_are : visits_of new.errors.items ≡ errors_in P rel A (stmt_visits P s 0 H None)
+    pub heavy_are : visits_of new.heavy.items ≡ heavy_in P rel A (stmt_visits P s 0 H None)
 
-  pub began : (s : Stmt) (H : Held) (old : Found) (given : Basic) (new : Found) → old.basics.items ≡ [] → old.steps.items ≡ [] → old.errors.items ≡ []
+  pub began : (s : Stmt) (H : Held) (old : Found) (given : Basic) (new : Found) → old.basics.items ≡ [] → old.steps.items ≡ [] → old.heavy.items ≡ []
       → WalkedStmt P rel A s H None old given new → Began s H given new
-  began s H old given new none no_steps no_errors w =
+  began s H old given new none no_steps no_heavy w =
       let at = at_stmt P rel A s H None 0 (ap length none) w in
       record {
         effect_is = at.effect_is;
         basics_are = at.basics_are ∙ ap (λ l. l ++ stmt_basics P rel A s H) none;
         steps_are = at.steps_are ∙ ap (λ l. visits_of l ++ stmt_steps P rel A s 0 H None) no_steps;
-        errors_are = at.errors_are ∙ ap (λ l. visits_of l ++ errors_in P rel A (stmt_visits P s 0 H None)) no_errors;
+        heavy_are = at.heavy_are ∙ ap (λ l. visits_of l ++ heavy_in P rel A (stmt_visits P s 0 H None)) no_heavy;
       }
-
--- ---- lists
-
-pub map_twice : {A B C : Type 0} (f : B → C) (h : A → B) (xs : List A) → map (λ x. f (h x)) xs ≡ map f (map h xs)
-map_twice f h [] = refl
-map_twice f h (x ∷ xs) = ap (λ z. f (h x) ∷ z) (map_twice f h xs)

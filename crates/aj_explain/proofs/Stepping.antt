@@ -21,10 +21,10 @@ use Rattle.aj_explain.specs.Names.{second_name}
 
 module _ (P : Program) (rel : ℕ → List PathData) (A : Assignment) (H : Held) (x : Part) (whole : CoreExpr) (m : ℕ) (all : List CoreExpr) (is : x ≡ ExprP (CallE (expr_of whole) m (exprs_from all))) where
   -- a call
-  pub call_done : {E : Type 0} (locks : List (Option PathData)) (r : CoreExpr) (es : List CoreExpr) (done : Result Deed E) → r ≡ whole → es ≡ all
-      → IfOk done (λ d. d ≡ deed_of P rel A locks (ExprP (CallE (expr_of r) m (exprs_from es))) H) → IfOk done (λ d. d ≡ deed_of P rel A locks x H)
-  call_done locks r es (Ok d) one two e = e ∙ (λ i. deed_of P rel A locks (ExprP (CallE (expr_of (one i)) m (exprs_from (two i)))) H) ∙ ap (λ y. deed_of P rel A locks y H) (sym is)
-  call_done locks r es (Err e) one two h = h
+  pub call_done : {E : Type 0} (overs : ℕ → List ℕ) (r : CoreExpr) (es : List CoreExpr) (done : Result Deed E) → r ≡ whole → es ≡ all
+      → IfOk done (λ d. d ≡ deed_of P rel A overs (ExprP (CallE (expr_of r) m (exprs_from es))) H) → IfOk done (λ d. d ≡ deed_of P rel A overs x H)
+  call_done overs r es (Ok d) one two e = e ∙ (λ i. deed_of P rel A overs (ExprP (CallE (expr_of (one i)) m (exprs_from (two i)))) H) ∙ ap (λ y. deed_of P rel A overs y H) (sym is)
+  call_done overs r es (Err e) one two h = h
 
   module _ (aliases : List Alias) (r : CoreExpr) (es : List CoreExpr) (o : Option PathData) (h : Help) (one : r ≡ whole) (two : es ≡ all) (found : o ≡ help P rel A (ExprP (CallE (expr_of r) m (exprs_from es))) H) where
     found_whole : help P rel A x H ≡ o

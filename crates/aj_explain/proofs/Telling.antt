@@ -90,7 +90,7 @@ lacks_marked (m ∷ ks) told k is = (apart told m k (were_untold ks (slice_set t
 abbrev Differs : ℕ → List ℕ → Type 0
 Differs m ks = AllByRecursion (λ k. (m == k) ≡ false) ks
 
-all_append : {X : Type 0} (Q : X → Type 0) (xs ys : List X) → AllByRecursion Q xs → AllByRecursion Q ys → AllByRecursion Q (xs ++ ys)
+pub all_append : {X : Type 0} (Q : X → Type 0) (xs ys : List X) → AllByRecursion Q xs → AllByRecursion Q ys → AllByRecursion Q (xs ++ ys)
 all_append Q [] ys h k = k
 all_append Q (x ∷ xs) ys h k = (h.0, all_append Q xs ys h.1 k)
 
@@ -169,11 +169,11 @@ module _ (P : Program) (rel : ℕ → List PathData) (A : Assignment) (overs : �
   abbrev led_from : List Bool → ℕ → Method → List ExplainedData
   led_from told m method = led P rel A overs (length P.methods) told (led_to (refused P rel A overs m method).why)
 
-  abbrev Over : Type 1
+  abbrev pub Over : Type 1
   Over = List Bool → ℕ → List Method → List ExplainedData → Type 0
 
   -- what holds of no methods, and goes on over one that keeps its bound and over one that breaks it, holds of all explanations
-  all_from : (Q : Over) → ((told : List Bool) (m : ℕ) → Q told m [] [])
+  pub all_from : (Q : Over) → ((told : List Bool) (m : ℕ) → Q told m [] [])
       → ((told : List Bool) (m : ℕ) (method : Method) (methods : List Method) (xs : List ExplainedData) → keeps A m method ≡ true → Q told (m + 1) methods xs → Q told m (method ∷ methods) xs)
       → ((told : List Bool) (m : ℕ) (method : Method) (methods : List Method) (xs : List ExplainedData) → keeps A m method ≡ false
       → Q (marked told (methods_of (led_from told m method))) (m + 1) methods xs → Q told m (method ∷ methods) (refused P rel A overs m method ∷ (led_from told m method ++ xs)))
@@ -206,13 +206,13 @@ module _ (P : Program) (rel : ℕ → List PathData) (A : Assignment) (overs : �
   -- ---- each method once
 
   -- the methods from a number on
-  record IsRest (m : ℕ) (methods : List Method) : Type 0 where
-    at : (j : ℕ) → slice_get P.methods (m + j) ≡ slice_get methods j
+  pub record IsRest (m : ℕ) (methods : List Method) : Type 0 where
+    pub at : (j : ℕ) → slice_get P.methods (m + j) ≡ slice_get methods j
 
-  rest_first : (m : ℕ) (method : Method) (methods : List Method) → IsRest m (method ∷ methods) → slice_get P.methods m ≡ Some method
+  pub rest_first : (m : ℕ) (method : Method) (methods : List Method) → IsRest m (method ∷ methods) → slice_get P.methods m ≡ Some method
   rest_first m method methods r = let e : m ≡ m + 0 = omega arith in ap (slice_get P.methods) e ∙ r.at 0
 
-  rest_next : (m : ℕ) (method : Method) (methods : List Method) → IsRest m (method ∷ methods) → IsRest (m + 1) methods
+  pub rest_next : (m : ℕ) (method : Method) (methods : List Method) → IsRest m (method ∷ methods) → IsRest (m + 1) methods
   rest_next m method methods r = record { at = λ j. let e : (m + 1) + j ≡ m + suc j = omega arith in ap (slice_get P.methods) e ∙ r.at (suc j) }
 
   -- a method that may be told from here on, where these are told
@@ -305,7 +305,7 @@ module _ (P : Program) (rel : ℕ → List PathData) (A : Assignment) (overs : �
 
   -- ---- each is one of the program's
 
-  all_contains : {X : Type 0} (Q : X → Type 0) (xs : List X) (x : X) → AllByRecursion Q xs → Contains xs x → Q x
+  pub all_contains : {X : Type 0} (Q : X → Type 0) (xs : List X) (x : X) → AllByRecursion Q xs → Contains xs x → Q x
   all_contains Q [] x h c = let low = c.1 in absurd (omega (arith, low))
   all_contains Q (y ∷ ys) x h c = elim (contains_cases y x ys c) as (λ _. Q x) [
     | inl same ↦ subst Q same h.0
@@ -453,7 +453,7 @@ module _ (P : Program) (rel : ℕ → List PathData) (A : Assignment) (overs : �
   within (y ∷ ys) zero x is = omega arith
   within (y ∷ ys) (suc k) x is = let h = within ys k x is in omega (arith, h)
 
-  whole : IsRest 0 P.methods
+  pub whole : IsRest 0 P.methods
   whole = record { at = λ j. let e : 0 + j ≡ j = omega arith in ap (slice_get P.methods) e }
 
   pub all_refused : filter (λ x. x.is_refused) (explanations P rel A overs) ≡ refused_from P rel A overs 0 P.methods

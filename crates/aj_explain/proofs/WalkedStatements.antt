@@ -17,16 +17,16 @@ use Rattle.aj_core.specs.Sizes.{nodes_of, stmt_nodes}
 use Rattle.aj_book_rules.specs.Parts.{StmtP}
 use Rattle.aj_rules.specs.Effect.{Assignment, access_of, expr_effect, sync_effect, effect, block_effect, after_stmt}
 use Rattle.aj_why.proofs.Readings.{stmt_moved}
-use Rattle.aj_why.specs.Readings.{is_error, own_at}
+use Rattle.aj_why.specs.Parts.{lock_effect}
+use Rattle.aj_why.specs.Readings.{own_at}
 use Rattle.aj_why.specs.Steps.{of_greater, of_taken, expr_steps, stmt_steps, block_steps}
 use Rattle.aj_why.specs.Visits.{Visit, visit, by_lock, expr_visits, stmt_visits, block_visits}
-use Rattle.aj_why.proofs.Errors.{lock_fine}
 use Rattle.aj_explain.specs.declared.found.Found.{Found}
 use Rattle.aj_explain.specs.declared.found.Visited.{Visited}
 use Rattle.aj_explain.specs.Basics.{basics_by_lock, expr_basics, stmt_basics, block_basics}
-use Rattle.aj_explain.specs.Views.{visit_of, visits_of, errors_in, inner}
+use Rattle.aj_explain.specs.Views.{visit_of, visits_of, heavy_in, is_heavy, inner}
 use Rattle.aj_explain.specs.Walked.{next, Walked, WalkedExpr, WalkedStmt, InsideStmt, WalkedBlock, WalkedBranches}
-use Rattle.aj_explain.proofs.Walking.{errors_append, two, behind, noted, with_basics, with_visits, with_effect, entered, expr_long, stmt_long, behind_walk, at_expr, nothing}
+use Rattle.aj_explain.proofs.Walking.{heavy_append, heavy_one, two, behind, noted, with_basics, with_visits, with_effect, entered, expr_long, stmt_long, behind_walk, at_expr, nothing}
 
 -- a list behind another, where the test passes only if it is empty, and then this one
 own_or : (t : Bool) (before steps own : List Visit) → (t ≡ true → steps ≡ []) → (before ++ steps) ++ (if t then own else []) ≡ before ++ (if t then own else steps)
@@ -74,13 +74,13 @@ module _ (P : Program) (rel : ℕ → List PathData) (A : Assignment) where
   whole_stmt (StartS e) H = refl
 
   pub entered_stmt : (s : Stmt) (H : Held) (loop : Option ℕ) (old front mid new : Found) (a d : Basic) (place : ℕ) → place ≡ next old
-      → front.basics.items ≡ old.basics.items ++ Const ∷ [] → front.steps ≡ old.steps → front.errors ≡ old.errors
+      → front.basics.items ≡ old.basics.items ++ Const ∷ [] → front.steps ≡ old.steps → front.heavy ≡ old.heavy
       → InsideStmt P rel A s place H loop front a mid
-      → d ≡ a → new.basics.items ≡ slice_set mid.basics.items place a → new.steps ≡ mid.steps → new.errors ≡ mid.errors
+      → d ≡ a → new.basics.items ≡ slice_set mid.basics.items place a → new.steps ≡ mid.steps → new.heavy ≡ mid.heavy
       → WalkedStmt P rel A s H loop old d new
-  entered_stmt s H loop old front mid new a d place is room steps errors w given set steps_kept errors_kept =
+  entered_stmt s H loop old front mid new a d place is room steps heavy w given set steps_kept heavy_kept =
       subst (λ k. Walked P rel A (stmt_visits P s k H loop) (stmt_steps P rel A s k H loop) (stmt_basics P rel A s H) (effect P rel A s H) old d new) is
-      (entered P rel A (stmt_basics P rel A s H) new place d is room steps errors w (whole_stmt s H) given set steps_kept errors_kept)
+      (entered P rel A (stmt_basics P rel A s H) new place d is room steps heavy w (whole_stmt s H) given set steps_kept heavy_kept)
 
   -- ---- one kind of statement after the other
 
@@ -104,27 +104,27 @@ module _ (P : Program) (rel : ℕ → List PathData) (A : Assignment) where
       → WalkedExpr P rel A e H loop old a mid → WalkedExpr P rel A g H loop mid b late
       → own ≡ access_of P true f (path_of P e) H → new.basics ≡ late.basics
       → visits_of new.steps.items ≡ visits_of late.steps.items ++ (if below_of own Mover then [] else visit n (StmtP (SetFieldS e f g)) H loop)
-      → visits_of new.errors.items ≡ visits_of late.errors.items ++ (if is_error own then visit n (StmtP (SetFieldS e f g)) H loop else [])
+      → visits_of new.heavy.items ≡ visits_of late.heavy.items ++ (if is_heavy own then visit n (StmtP (SetFieldS e f g)) H loop else [])
       → c ≡ seq_of b own → d ≡ seq_of a c → InsideStmt P rel A (SetFieldS e f g) n H loop old d new
-  set_field_walked e f g H loop n {late = late} new own c d start one other own_is basics steps errors c_is d_is =
+  set_field_walked e f g H loop n {late = late} new own c d start one other own_is basics steps heavy c_is d_is =
       let v : Visit = record { node = n; part = StmtP (SetFieldS e f g); held = H; loop = loop } in
       with_basics P rel A (ap (λ l. expr_basics P rel A e H ++ l) (append-nil (expr_basics P rel A g H)))
       (two P rel A d (at_expr P rel A e H loop (n + 1) start one)
       (two P rel A c (at_expr P rel A g H loop (n + 1 + nodes_of e) (behind_walk P rel A (n + 1) (nodes_of e) start (expr_long P rel A e H) one) other)
-      (noted P rel A v own late new own_is basics steps errors) c_is) d_is)
+      (noted P rel A v own late new own_is basics steps heavy) c_is) d_is)
 
   -- the same of a part that is known to be such an assignment
   pub set_field_known : (x : Stmt) (e : Expr) (f : ℕ) (g : Expr) (H : Held) (loop : Option ℕ) (n : ℕ) {old mid late : Found} {a b : Basic} (new : Found) (own c d : Basic) → x ≡ SetFieldS e f g → next old ≡ n + 1
       → WalkedExpr P rel A e H loop old a mid → WalkedExpr P rel A g H loop mid b late
       → own ≡ access_of P true f (path_of P e) H → new.basics ≡ late.basics
       → visits_of new.steps.items ≡ visits_of late.steps.items ++ (if below_of own Mover then [] else visit n (StmtP x) H loop)
-      → visits_of new.errors.items ≡ visits_of late.errors.items ++ (if is_error own then visit n (StmtP x) H loop else [])
+      → visits_of new.heavy.items ≡ visits_of late.heavy.items ++ (if is_heavy own then visit n (StmtP x) H loop else [])
       → c ≡ seq_of b own → d ≡ seq_of a c → InsideStmt P rel A x n H loop old d new
-  set_field_known x e f g H loop n {old = old} {late = late} new own c d is start one other own_is basics steps errors c_is d_is =
+  set_field_known x e f g H loop n {old = old} {late = late} new own c d is start one other own_is basics steps heavy c_is d_is =
       subst (λ z. visits_of new.steps.items ≡ visits_of late.steps.items ++ (if below_of own Mover then [] else visit n (StmtP z) H loop)
-      → visits_of new.errors.items ≡ visits_of late.errors.items ++ (if is_error own then visit n (StmtP z) H loop else [])
+      → visits_of new.heavy.items ≡ visits_of late.heavy.items ++ (if is_heavy own then visit n (StmtP z) H loop else [])
       → InsideStmt P rel A z n H loop old d new) (sym is)
-      (λ s r. set_field_walked e f g H loop n new own c d start one other own_is basics s r c_is d_is) steps errors
+      (λ s r. set_field_walked e f g H loop n new own c d start one other own_is basics s r c_is d_is) steps heavy
 
   pub do_walked : (e : Expr) (drops : Bool) (H : Held) (loop : Option ℕ) (n : ℕ) {old new : Found} {a : Basic} → next old ≡ n + 1
       → WalkedExpr P rel A e H loop old a new → InsideStmt P rel A (DoS e drops) n H loop old a new
@@ -163,17 +163,18 @@ module _ (P : Program) (rel : ℕ → List PathData) (A : Assignment) where
       (by_lock t (stmt_steps P rel A s (n + 1) H loop) (of_taken (effect P rel A s (with_path p H)) (v ∷ []) (stmt_steps P rel A s (n + 1) (with_path p H) loop)))
       (basics_by_lock t (stmt_basics P rel A s H) (stmt_basics P rel A s (with_path p H)))
       (sync_effect t (effect P rel A s H) (effect P rel A s (with_path p H))) old a new) (sym held)
-      (behind P rel A v (lock_fine (H p)) (at_stmt s H loop (n + 1) start w))
+      (behind P rel A v (ap (λ (t : Bool). is_heavy (lock_effect t)) held) (at_stmt s H loop (n + 1) start w))
 
   -- the lock is taken: the part is a step itself where its body can be moved
   pub taken_walked : (p : PathData) (s : Stmt) (H : Held) (loop : Option ℕ) (n : ℕ) {old mid : Found} {a : Basic} (new : Found) (d : Basic) → H p ≡ false → next old ≡ n + 1
       → WalkedStmt P rel A s (with_path p H) loop old a mid → new.basics ≡ mid.basics
       → visits_of new.steps.items ≡ visits_of mid.steps.items ++ (if below_of a Mover then visit n (StmtP (SyncS p s)) H loop else [])
-      → visits_of new.errors.items ≡ visits_of mid.errors.items
+      → visits_of new.heavy.items ≡ visits_of mid.heavy.items ++ visit n (StmtP (SyncS p s)) H loop
       → d ≡ lift_of a → InsideStmt P rel A (SyncS p s) n H loop old d new
-  taken_walked p s H loop n {old = old} {mid = mid} {a = a} new d free start w basics steps errors is =
+  taken_walked p s H loop n {old = old} {mid = mid} {a = a} new d free start w basics steps heavy is =
       let v : Visit = record { node = n; part = StmtP (SyncS p s); held = H; loop = loop } in
-      let inside = behind P rel A v (lock_fine (H p)) (at_stmt s (with_path p H) loop (n + 1) start w) in
+      let inside = at_stmt s (with_path p H) loop (n + 1) start w in
+      let vs = stmt_visits P s (n + 1) (with_path p H) loop in
       subst (λ (t : Bool). Walked P rel A
       (by_lock t (stmt_visits P s (n + 1) H loop) (stmt_visits P s (n + 1) (with_path p H) loop) ++ (v ∷ []))
       (by_lock t (stmt_steps P rel A s (n + 1) H loop) (of_taken (effect P rel A s (with_path p H)) (v ∷ []) (stmt_steps P rel A s (n + 1) (with_path p H) loop)))
@@ -186,50 +187,52 @@ module _ (P : Program) (rel : ℕ → List PathData) (A : Assignment) where
             ∙ ap (λ l. l ++ (if below_of (effect P rel A s (with_path p H)) Mover then v ∷ [] else [])) inside.steps_are
             ∙ own_or (below_of (effect P rel A s (with_path p H)) Mover) (visits_of old.steps.items) (stmt_steps P rel A s (n + 1) (with_path p H) loop) (v ∷ [])
             (stmt_moved P rel A s (n + 1) (with_path p H) loop);
-        errors_are = errors ∙ inside.errors_are;
+        heavy_are = heavy ∙ ap (λ l. l ++ (v ∷ [])) inside.heavy_are ∙ append_assoc (visits_of old.heavy.items) (heavy_in P rel A vs) (v ∷ [])
+            ∙ ap (λ l. visits_of old.heavy.items ++ l) (sym (heavy_append P rel A vs (v ∷ []) ∙ ap (λ l. heavy_in P rel A vs ++ l) (heavy_one P rel A v (ap (λ (t : Bool). is_heavy (lock_effect t)) free))));
       })
 
   pub taken_known : (x : Stmt) (p : PathData) (s : Stmt) (H : Held) (loop : Option ℕ) (n : ℕ) {old mid : Found} {a : Basic} (new : Found) (d : Basic) → x ≡ SyncS p s → H p ≡ false → next old ≡ n + 1
       → WalkedStmt P rel A s (with_path p H) loop old a mid → new.basics ≡ mid.basics
       → visits_of new.steps.items ≡ visits_of mid.steps.items ++ (if below_of a Mover then visit n (StmtP x) H loop else [])
-      → visits_of new.errors.items ≡ visits_of mid.errors.items
+      → visits_of new.heavy.items ≡ visits_of mid.heavy.items ++ visit n (StmtP x) H loop
       → d ≡ lift_of a → InsideStmt P rel A x n H loop old d new
-  taken_known x p s H loop n {old = old} {mid = mid} {a = a} new d known free start w basics steps errors is =
-      subst (λ z. visits_of new.steps.items ≡ visits_of mid.steps.items ++ (if below_of a Mover then visit n (StmtP z) H loop else []) → InsideStmt P rel A z n H loop old d new) (sym known)
-      (λ r. taken_walked p s H loop n new d free start w basics r errors is) steps
+  taken_known x p s H loop n {old = old} {mid = mid} {a = a} new d known free start w basics steps heavy is =
+      subst (λ z. visits_of new.steps.items ≡ visits_of mid.steps.items ++ (if below_of a Mover then visit n (StmtP z) H loop else [])
+      → visits_of new.heavy.items ≡ visits_of mid.heavy.items ++ visit n (StmtP z) H loop → InsideStmt P rel A z n H loop old d new) (sym known)
+      (λ r h. taken_walked p s H loop n new d free start w basics r h is) steps heavy
 
   -- what is atomic by itself, behind its value
   atomic_walked : (v : Visit) (e : Expr) (H : Held) (loop : Option ℕ) (n : ℕ) {old mid : Found} {a : Basic} (new : Found) (d : Basic) → Atomic ≡ own_at P rel A v → next old ≡ n + 1
       → WalkedExpr P rel A e H loop old a mid → new.basics ≡ mid.basics
-      → visits_of new.steps.items ≡ visits_of mid.steps.items ++ (v ∷ []) → visits_of new.errors.items ≡ visits_of mid.errors.items ++ []
+      → visits_of new.steps.items ≡ visits_of mid.steps.items ++ (v ∷ []) → visits_of new.heavy.items ≡ visits_of mid.heavy.items ++ (v ∷ [])
       → d ≡ seq_of a Atomic
       → Walked P rel A (expr_visits e (n + 1) H loop ++ (v ∷ [])) (expr_steps P rel A e (n + 1) H loop ++ (if below_of (own_at P rel A v) Mover then [] else v ∷ []))
       (expr_basics P rel A e H) (seq_of (expr_effect P rel A e H) (own_at P rel A v)) old d new
-  atomic_walked v e H loop n {mid = mid} new d own start w basics steps errors is =
-      with_basics P rel A (append-nil (expr_basics P rel A e H)) (two P rel A d (at_expr P rel A e H loop (n + 1) start w) (noted P rel A v Atomic mid new own basics steps errors) is)
+  atomic_walked v e H loop n {mid = mid} new d own start w basics steps heavy is =
+      with_basics P rel A (append-nil (expr_basics P rel A e H)) (two P rel A d (at_expr P rel A e H loop (n + 1) start w) (noted P rel A v Atomic mid new own basics steps heavy) is)
 
   pub print_walked : (e : Expr) (H : Held) (loop : Option ℕ) (n : ℕ) {old mid : Found} {a : Basic} (new : Found) (d : Basic) → next old ≡ n + 1
       → WalkedExpr P rel A e H loop old a mid → new.basics ≡ mid.basics
-      → visits_of new.steps.items ≡ visits_of mid.steps.items ++ visit n (StmtP (PrintS e)) H loop → visits_of new.errors.items ≡ visits_of mid.errors.items ++ []
+      → visits_of new.steps.items ≡ visits_of mid.steps.items ++ visit n (StmtP (PrintS e)) H loop → visits_of new.heavy.items ≡ visits_of mid.heavy.items ++ visit n (StmtP (PrintS e)) H loop
       → d ≡ seq_of a Atomic → InsideStmt P rel A (PrintS e) n H loop old d new
-  print_walked e H loop n new d start w basics steps errors is =
-      atomic_walked (record { node = n; part = StmtP (PrintS e); held = H; loop = loop }) e H loop n new d refl start w basics steps errors is
+  print_walked e H loop n new d start w basics steps heavy is =
+      atomic_walked (record { node = n; part = StmtP (PrintS e); held = H; loop = loop }) e H loop n new d refl start w basics steps heavy is
 
   pub start_walked : (e : Expr) (H : Held) (loop : Option ℕ) (n : ℕ) {old mid : Found} {a : Basic} (new : Found) (d : Basic) → next old ≡ n + 1
       → WalkedExpr P rel A e H loop old a mid → new.basics ≡ mid.basics
-      → visits_of new.steps.items ≡ visits_of mid.steps.items ++ visit n (StmtP (StartS e)) H loop → visits_of new.errors.items ≡ visits_of mid.errors.items ++ []
+      → visits_of new.steps.items ≡ visits_of mid.steps.items ++ visit n (StmtP (StartS e)) H loop → visits_of new.heavy.items ≡ visits_of mid.heavy.items ++ visit n (StmtP (StartS e)) H loop
       → d ≡ seq_of a Atomic → InsideStmt P rel A (StartS e) n H loop old d new
-  start_walked e H loop n new d start w basics steps errors is =
-      atomic_walked (record { node = n; part = StmtP (StartS e); held = H; loop = loop }) e H loop n new d refl start w basics steps errors is
+  start_walked e H loop n new d start w basics steps heavy is =
+      atomic_walked (record { node = n; part = StmtP (StartS e); held = H; loop = loop }) e H loop n new d refl start w basics steps heavy is
 
   -- ---- both branches of an `if`: the steps so far are taken away before each, and put back behind
 
   pub branches_walked : (s t : Stmt) (H : Held) (loop : Option ℕ) (old one left three right five new : Found) (first second given : Basic)
-      → one.basics ≡ old.basics → one.steps.items ≡ [] → one.errors ≡ old.errors → WalkedStmt P rel A s H loop one first left
-      → three.basics ≡ left.basics → three.steps.items ≡ [] → three.errors ≡ left.errors → WalkedStmt P rel A t H loop three second right
+      → one.basics ≡ old.basics → one.steps.items ≡ [] → one.heavy ≡ old.heavy → WalkedStmt P rel A s H loop one first left
+      → three.basics ≡ left.basics → three.steps.items ≡ [] → three.heavy ≡ left.heavy → WalkedStmt P rel A t H loop three second right
       → (keeps : Bool) → keeps ≡ below_of second first
-      → five.basics ≡ right.basics → five.steps.items ≡ (if keeps then left.steps.items else right.steps.items) → five.errors ≡ right.errors
-      → new.basics ≡ five.basics → new.steps.items ≡ old.steps.items ++ five.steps.items → new.errors ≡ five.errors
+      → five.basics ≡ right.basics → five.steps.items ≡ (if keeps then left.steps.items else right.steps.items) → five.heavy ≡ right.heavy
+      → new.basics ≡ five.basics → new.steps.items ≡ old.steps.items ++ five.steps.items → new.heavy ≡ five.heavy
       → given ≡ join_of first second → WalkedBranches P rel A s t H loop old given new
   branches_walked s t H loop old one left three right five new first second given b1 s1 e1 w b2 s2 e2 v keeps test b3 s3 e3 b4 s4 e4 is =
       let start : next one ≡ next old = ap (λ z. length z.items) b1 in
@@ -253,11 +256,11 @@ module _ (P : Program) (rel : ℕ → List PathData) (A : Assignment) where
             (v2.steps_are ∙ ap (λ l. visits_of l ++ stmt_steps P rel A t m H loop) s2)
             ∙ ap (λ (b : Bool). if b then stmt_steps P rel A s (next old) H loop else stmt_steps P rel A t m H loop)
             (test ∙ (λ i. below_of (v2.effect_is i) (w2.effect_is i))));
-        errors_are = ap (λ z. visits_of z.items) e4 ∙ ap (λ z. visits_of z.items) e3 ∙ v2.errors_are
-            ∙ ap (λ z. visits_of z.items ++ errors_in P rel A vs) e2 ∙ ap (λ l. l ++ errors_in P rel A vs) w2.errors_are
-            ∙ ap (λ z. (visits_of z.items ++ errors_in P rel A us) ++ errors_in P rel A vs) e1
-            ∙ append_assoc (visits_of old.errors.items) (errors_in P rel A us) (errors_in P rel A vs)
-            ∙ ap (λ l. visits_of old.errors.items ++ l) (sym (errors_append P rel A us vs));
+        heavy_are = ap (λ z. visits_of z.items) e4 ∙ ap (λ z. visits_of z.items) e3 ∙ v2.heavy_are
+            ∙ ap (λ z. visits_of z.items ++ heavy_in P rel A vs) e2 ∙ ap (λ l. l ++ heavy_in P rel A vs) w2.heavy_are
+            ∙ ap (λ z. (visits_of z.items ++ heavy_in P rel A us) ++ heavy_in P rel A vs) e1
+            ∙ append_assoc (visits_of old.heavy.items) (heavy_in P rel A us) (heavy_in P rel A vs)
+            ∙ ap (λ l. visits_of old.heavy.items ++ l) (sym (heavy_append P rel A us vs));
       }
 
   -- ---- the statements of a block, one after the other

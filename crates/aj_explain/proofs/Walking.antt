@@ -20,12 +20,12 @@ use Rattle.aj_core.specs.Sizes.{nodes_of, nodes_of_each, value_nodes, stmt_nodes
 use Rattle.aj_book_rules.specs.Parts.{ExprP}
 use Rattle.aj_rules.specs.Effect.{Assignment, call_of, expr_effect, exprs_effect, after_stmt}
 use Rattle.aj_rules.specs.Mentions.{paths_of}
-use Rattle.aj_why.specs.Readings.{is_error, own_at}
+use Rattle.aj_why.specs.Readings.{own_at}
 use Rattle.aj_why.specs.Steps.{expr_steps, exprs_steps}
 use Rattle.aj_why.specs.Visits.{Visit, visit, expr_visits, exprs_visits}
 use Rattle.aj_explain.specs.declared.found.Found.{Found}
 use Rattle.aj_explain.specs.Basics.{basics_by_lock, expr_basics, exprs_basics, value_basics, stmt_basics, block_basics}
-use Rattle.aj_explain.specs.Views.{visits_of, errors_in, inner}
+use Rattle.aj_explain.specs.Views.{visits_of, heavy_in, is_heavy, inner}
 use Rattle.aj_explain.specs.Walked.{next, Walked, WalkedExpr, InsideExpr, WalkedExprs}
 
 -- ---- numbers
@@ -42,8 +42,8 @@ later m o l n k whole start long = omega (arith, whole, start, long)
 -- ---- a walk behind another
 
 module _ (P : Program) (rel : ℕ → List PathData) (A : Assignment) where
-  pub errors_append : (vs ws : List Visit) → errors_in P rel A (vs ++ ws) ≡ errors_in P rel A vs ++ errors_in P rel A ws
-  errors_append vs ws = filter-append (λ v. is_error (own_at P rel A v)) vs ws
+  pub heavy_append : (vs ws : List Visit) → heavy_in P rel A (vs ++ ws) ≡ heavy_in P rel A vs ++ heavy_in P rel A ws
+  heavy_append vs ws = filter-append (λ v. is_heavy (own_at P rel A v)) vs ws
 
   pub two : {vs ws ss ts : List Visit} {bs cs : List Basic} {x y : Basic} {old mid new : Found} {a b : Basic} (d : Basic)
       → Walked P rel A vs ss bs x old a mid → Walked P rel A ws ts cs y mid b new → d ≡ seq_of a b
@@ -52,42 +52,46 @@ module _ (P : Program) (rel : ℕ → List PathData) (A : Assignment) where
     effect_is = is ∙ (λ i. seq_of (one.effect_is i) (other.effect_is i));
     basics_are = other.basics_are ∙ ap (λ l. l ++ cs) one.basics_are ∙ append_assoc old.basics.items bs cs;
     steps_are = other.steps_are ∙ ap (λ l. l ++ ts) one.steps_are ∙ append_assoc (visits_of old.steps.items) ss ts;
-    errors_are = other.errors_are ∙ ap (λ l. l ++ errors_in P rel A ws) one.errors_are
-        ∙ append_assoc (visits_of old.errors.items) (errors_in P rel A vs) (errors_in P rel A ws)
-        ∙ ap (λ l. visits_of old.errors.items ++ l) (sym (errors_append vs ws));
+    heavy_are = other.heavy_are ∙ ap (λ l. l ++ heavy_in P rel A ws) one.heavy_are
+        ∙ append_assoc (visits_of old.heavy.items) (heavy_in P rel A vs) (heavy_in P rel A ws)
+        ∙ ap (λ l. visits_of old.heavy.items ++ l) (sym (heavy_append vs ws));
   }
 
-  -- no step and no error
-  quiet_one : (v : Visit) → is_error (own_at P rel A v) ≡ false → errors_in P rel A (v ∷ []) ≡ []
+  -- a part that can be moved by itself
+  quiet_one : (v : Visit) → is_heavy (own_at P rel A v) ≡ false → heavy_in P rel A (v ∷ []) ≡ []
   quiet_one v e = ap (λ (b : Bool). if b then v ∷ [] else []) e
 
-  pub behind : {vs ss : List Visit} {bs : List Basic} {x : Basic} {old new : Found} {a : Basic} (v : Visit) → is_error (own_at P rel A v) ≡ false
+  -- and one that can't
+  pub heavy_one : (v : Visit) → is_heavy (own_at P rel A v) ≡ true → heavy_in P rel A (v ∷ []) ≡ v ∷ []
+  heavy_one v e = ap (λ (b : Bool). if b then v ∷ [] else []) e
+
+  pub behind : {vs ss : List Visit} {bs : List Basic} {x : Basic} {old new : Found} {a : Basic} (v : Visit) → is_heavy (own_at P rel A v) ≡ false
       → Walked P rel A vs ss bs x old a new → Walked P rel A (vs ++ (v ∷ [])) ss bs x old a new
   behind {vs = vs} {old = old} v quiet w = record {
     effect_is = w.effect_is;
     basics_are = w.basics_are;
     steps_are = w.steps_are;
-    errors_are = w.errors_are ∙ ap (λ l. visits_of old.errors.items ++ l) (sym (errors_append vs (v ∷ []) ∙ ap (λ l. errors_in P rel A vs ++ l) (quiet_one v quiet) ∙ append-nil (errors_in P rel A vs)));
+    heavy_are = w.heavy_are ∙ ap (λ l. visits_of old.heavy.items ++ l) (sym (heavy_append vs (v ∷ []) ∙ ap (λ l. heavy_in P rel A vs ++ l) (quiet_one v quiet) ∙ append-nil (heavy_in P rel A vs)));
   }
 
-  pub alone : (v : Visit) (old : Found) (x a : Basic) → is_error (own_at P rel A v) ≡ false → a ≡ x → Walked P rel A (v ∷ []) [] [] x old a old
+  pub alone : (v : Visit) (old : Found) (x a : Basic) → is_heavy (own_at P rel A v) ≡ false → a ≡ x → Walked P rel A (v ∷ []) [] [] x old a old
   alone v old x a quiet is = record {
     effect_is = is;
     basics_are = sym (append-nil old.basics.items);
     steps_are = sym (append-nil (visits_of old.steps.items));
-    errors_are = sym (ap (λ l. visits_of old.errors.items ++ l) (quiet_one v quiet) ∙ append-nil (visits_of old.errors.items));
+    heavy_are = sym (ap (λ l. visits_of old.heavy.items ++ l) (quiet_one v quiet) ∙ append-nil (visits_of old.heavy.items));
   }
 
   -- a part that is noted by itself
   pub noted : (v : Visit) (own : Basic) (old new : Found) → own ≡ own_at P rel A v → new.basics ≡ old.basics
       → visits_of new.steps.items ≡ visits_of old.steps.items ++ (if below_of own Mover then [] else v ∷ [])
-      → visits_of new.errors.items ≡ visits_of old.errors.items ++ (if is_error own then v ∷ [] else [])
+      → visits_of new.heavy.items ≡ visits_of old.heavy.items ++ (if is_heavy own then v ∷ [] else [])
       → Walked P rel A (v ∷ []) (if below_of (own_at P rel A v) Mover then [] else v ∷ []) [] (own_at P rel A v) old own new
-  noted v own old new is basics steps errors = record {
+  noted v own old new is basics steps heavy = record {
     effect_is = is;
     basics_are = ap (λ z. z.items) basics ∙ sym (append-nil old.basics.items);
     steps_are = steps ∙ ap (λ (b : Basic). visits_of old.steps.items ++ (if below_of b Mover then [] else v ∷ [])) is;
-    errors_are = errors ∙ ap (λ (b : Basic). visits_of old.errors.items ++ (if is_error b then v ∷ [] else [])) is;
+    heavy_are = heavy ∙ ap (λ (b : Basic). visits_of old.heavy.items ++ (if is_heavy b then v ∷ [] else [])) is;
   }
 
   -- the same with other names
@@ -98,22 +102,22 @@ module _ (P : Program) (rel : ℕ → List PathData) (A : Assignment) where
   with_visits {ss = ss} {bs = bs} {x = x} {old = old} {new = new} {a = a} e w = subst (λ l. Walked P rel A l ss bs x old a new) e w
 
   pub with_effect : {vs ss : List Visit} {bs : List Basic} {x : Basic} {old new : Found} {a : Basic} (y b : Basic) → b ≡ y → Walked P rel A vs ss bs x old a new → Walked P rel A vs ss bs y old b new
-  with_effect y b is w = record { effect_is = is; basics_are = w.basics_are; steps_are = w.steps_are; errors_are = w.errors_are }
+  with_effect y b is w = record { effect_is = is; basics_are = w.basics_are; steps_are = w.steps_are; heavy_are = w.heavy_are }
 
   -- room was made for a part's own basic, which is put there at the end
   pub entered : {vs ss : List Visit} {x : Basic} {old front mid : Found} {a : Basic} (whole : List Basic) (new : Found) (place : ℕ) (d : Basic) → place ≡ next old
-      → front.basics.items ≡ old.basics.items ++ Const ∷ [] → front.steps ≡ old.steps → front.errors ≡ old.errors
+      → front.basics.items ≡ old.basics.items ++ Const ∷ [] → front.steps ≡ old.steps → front.heavy ≡ old.heavy
       → Walked P rel A vs ss (inner whole) x front a mid → whole ≡ x ∷ inner whole
-      → d ≡ a → new.basics.items ≡ slice_set mid.basics.items place a → new.steps ≡ mid.steps → new.errors ≡ mid.errors
+      → d ≡ a → new.basics.items ≡ slice_set mid.basics.items place a → new.steps ≡ mid.steps → new.heavy ≡ mid.heavy
       → Walked P rel A vs ss whole x old d new
-  entered {vs = vs} {ss = ss} {x = x} {old = old} {a = a} whole new place d place_is room steps errors w whole_is is set steps_kept errors_kept = record {
+  entered {vs = vs} {ss = ss} {x = x} {old = old} {a = a} whole new place d place_is room steps heavy w whole_is is set steps_kept heavy_kept = record {
     effect_is = is ∙ w.effect_is;
     basics_are = set ∙ (λ i. slice_set ((w.basics_are ∙ ap (λ l. l ++ inner whole) room ∙ append_assoc old.basics.items (Const ∷ []) (inner whole)) i) (place_is i) a)
         ∙ set-append_seam old.basics.items Const (inner whole) a
         ∙ ap (λ b. old.basics.items ++ b ∷ inner whole) w.effect_is
         ∙ ap (λ l. old.basics.items ++ l) (sym whole_is);
     steps_are = ap (λ z. visits_of z.items) steps_kept ∙ w.steps_are ∙ ap (λ z. visits_of z.items ++ ss) steps;
-    errors_are = ap (λ z. visits_of z.items) errors_kept ∙ w.errors_are ∙ ap (λ z. visits_of z.items ++ errors_in P rel A vs) errors;
+    heavy_are = ap (λ z. visits_of z.items) heavy_kept ∙ w.heavy_are ∙ ap (λ z. visits_of z.items ++ heavy_in P rel A vs) heavy;
   }
 
   -- ---- how many basics there are
@@ -201,15 +205,15 @@ module _ (P : Program) (rel : ℕ → List PathData) (A : Assignment) where
   whole_expr (NewE c args) H = refl
 
   pub entered_expr : (e : Expr) (H : Held) (loop : Option ℕ) (old front mid new : Found) (a d : Basic) (place : ℕ) → place ≡ next old
-      → front.basics.items ≡ old.basics.items ++ Const ∷ [] → front.steps ≡ old.steps → front.errors ≡ old.errors
+      → front.basics.items ≡ old.basics.items ++ Const ∷ [] → front.steps ≡ old.steps → front.heavy ≡ old.heavy
       → InsideExpr P rel A e place H loop front a mid
-      → d ≡ a → new.basics.items ≡ slice_set mid.basics.items place a → new.steps ≡ mid.steps → new.errors ≡ mid.errors
+      → d ≡ a → new.basics.items ≡ slice_set mid.basics.items place a → new.steps ≡ mid.steps → new.heavy ≡ mid.heavy
       → WalkedExpr P rel A e H loop old d new
-  entered_expr e H loop old front mid new a d place is room steps errors w given set steps_kept errors_kept =
+  entered_expr e H loop old front mid new a d place is room steps heavy w given set steps_kept heavy_kept =
       subst (λ k. Walked P rel A (expr_visits e k H loop) (expr_steps P rel A e k H loop) (expr_basics P rel A e H) (expr_effect P rel A e H) old d new) is
-      (entered (expr_basics P rel A e H) new place d is room steps errors w (whole_expr e H) given set steps_kept errors_kept)
+      (entered (expr_basics P rel A e H) new place d is room steps heavy w (whole_expr e H) given set steps_kept heavy_kept)
 
-  pub pair_walked : (e f : Expr) (H : Held) (loop : Option ℕ) (n : ℕ) {old mid new : Found} {a b : Basic} (d : Basic) (v : Visit) → is_error (own_at P rel A v) ≡ false → next old ≡ n + 1
+  pub pair_walked : (e f : Expr) (H : Held) (loop : Option ℕ) (n : ℕ) {old mid new : Found} {a b : Basic} (d : Basic) (v : Visit) → is_heavy (own_at P rel A v) ≡ false → next old ≡ n + 1
       → WalkedExpr P rel A e H loop old a mid → WalkedExpr P rel A f H loop mid b new → d ≡ seq_of a b
       → Walked P rel A (expr_visits e (n + 1) H loop ++ (expr_visits f (n + 1 + nodes_of e) H loop ++ (v ∷ [])))
       (expr_steps P rel A e (n + 1) H loop ++ expr_steps P rel A f (n + 1 + nodes_of e) H loop)
@@ -237,26 +241,26 @@ module _ (P : Program) (rel : ℕ → List PathData) (A : Assignment) where
       → WalkedExpr P rel A e H loop old a mid → WalkedExprs P rel A args H loop mid b late
       → own ≡ call_of P rel A m (path_of P e) (paths_of P args) H → new.basics ≡ late.basics
       → visits_of new.steps.items ≡ visits_of late.steps.items ++ (if below_of own Mover then [] else visit n (ExprP (CallE e m args)) H loop)
-      → visits_of new.errors.items ≡ visits_of late.errors.items ++ (if is_error own then visit n (ExprP (CallE e m args)) H loop else [])
+      → visits_of new.heavy.items ≡ visits_of late.heavy.items ++ (if is_heavy own then visit n (ExprP (CallE e m args)) H loop else [])
       → c ≡ seq_of b own → d ≡ seq_of a c → InsideExpr P rel A (CallE e m args) n H loop old d new
-  call_walked e m args H loop n {late = late} new own c d start one other own_is basics steps errors c_is d_is =
+  call_walked e m args H loop n {late = late} new own c d start one other own_is basics steps heavy c_is d_is =
       let v : Visit = record { node = n; part = ExprP (CallE e m args); held = H; loop = loop } in
       let rest = at_exprs args H loop (n + 1 + nodes_of e) (behind_walk (n + 1) (nodes_of e) start (expr_long e H) one) other in
       with_basics (ap (λ l. expr_basics P rel A e H ++ l) (append-nil (exprs_basics P rel A args H)))
-      (two d (at_expr e H loop (n + 1) start one) (two c rest (noted v own late new own_is basics steps errors) c_is) d_is)
+      (two d (at_expr e H loop (n + 1) start one) (two c rest (noted v own late new own_is basics steps heavy) c_is) d_is)
 
   -- the same of a part that is known to be such a call
   pub call_known : (x : Expr) (e : Expr) (m : ℕ) (args : Exprs) (H : Held) (loop : Option ℕ) (n : ℕ) {old mid late : Found} {a b : Basic} (new : Found) (own c d : Basic) → x ≡ CallE e m args → next old ≡ n + 1
       → WalkedExpr P rel A e H loop old a mid → WalkedExprs P rel A args H loop mid b late
       → own ≡ call_of P rel A m (path_of P e) (paths_of P args) H → new.basics ≡ late.basics
       → visits_of new.steps.items ≡ visits_of late.steps.items ++ (if below_of own Mover then [] else visit n (ExprP x) H loop)
-      → visits_of new.errors.items ≡ visits_of late.errors.items ++ (if is_error own then visit n (ExprP x) H loop else [])
+      → visits_of new.heavy.items ≡ visits_of late.heavy.items ++ (if is_heavy own then visit n (ExprP x) H loop else [])
       → c ≡ seq_of b own → d ≡ seq_of a c → InsideExpr P rel A x n H loop old d new
-  call_known x e m args H loop n {old = old} {late = late} new own c d is start one other own_is basics steps errors c_is d_is =
+  call_known x e m args H loop n {old = old} {late = late} new own c d is start one other own_is basics steps heavy c_is d_is =
       subst (λ z. visits_of new.steps.items ≡ visits_of late.steps.items ++ (if below_of own Mover then [] else visit n (ExprP z) H loop)
-      → visits_of new.errors.items ≡ visits_of late.errors.items ++ (if is_error own then visit n (ExprP z) H loop else [])
+      → visits_of new.heavy.items ≡ visits_of late.heavy.items ++ (if is_heavy own then visit n (ExprP z) H loop else [])
       → InsideExpr P rel A z n H loop old d new) (sym is)
-      (λ s f. call_walked e m args H loop n new own c d start one other own_is basics s f c_is d_is) steps errors
+      (λ s f. call_walked e m args H loop n new own c d start one other own_is basics s f c_is d_is) steps heavy
 
   pub new_walked : (class : ℕ) (args : Exprs) (H : Held) (loop : Option ℕ) (n : ℕ) {old new : Found} {a : Basic} (d : Basic) → next old ≡ n + 1
       → WalkedExprs P rel A args H loop old a new → d ≡ seq_of a Mover → InsideExpr P rel A (NewE class args) n H loop old d new
@@ -271,7 +275,7 @@ module _ (P : Program) (rel : ℕ → List PathData) (A : Assignment) where
     effect_is = refl;
     basics_are = sym (append-nil old.basics.items);
     steps_are = sym (append-nil (visits_of old.steps.items));
-    errors_are = sym (append-nil (visits_of old.errors.items));
+    heavy_are = sym (append-nil (visits_of old.heavy.items));
   }
 
   -- a basic so far, where any walk through the rest makes a walk through all

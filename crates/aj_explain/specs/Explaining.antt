@@ -1,13 +1,13 @@
 -- Why a method is more than it may be at its required paths.
-use Rattle.std.specs.Prelude.{ℕ, Bool, true, false, not, ◌==◌, ◌||◌, List, [], ◌∷◌, filter, Option, Some, None, slice_get, if◌then◌else◌}
+use Rattle.std.specs.Prelude.{ℕ, Bool, true, false, not, ◌==◌, List, [], ◌∷◌, filter, Option, Some, None, slice_get, if◌then◌else◌}
 use Rattle.std.specs.List.{list_all}
 use Rattle.aj_paths.specs.Paths.{PathData}
 use Rattle.aj_algebra.specs.declared.basic.Basic.{Basic}
 use Rattle.aj_algebra.specs.Basics.{below_of}
 use Rattle.aj_algebra.specs.HeldPaths.{Held, has_path}
-use Rattle.aj_core.specs.Core.{Program, Method, CallE, Stmt, Stmts, BlockS, IfS, WhileS, SyncS, no_stmts, and_stmt}
+use Rattle.aj_core.specs.Core.{Program, Method, CallE}
 use Rattle.aj_core.specs.Locks.{path_of}
-use Rattle.aj_book_rules.specs.Parts.{Part, ExprP, StmtP}
+use Rattle.aj_book_rules.specs.Parts.{Part, ExprP}
 use Rattle.aj_rules.specs.Effect.{Assignment, effect, held_under, required_paths}
 use Rattle.aj_rules.specs.Mentions.{paths_of}
 use Rattle.aj_rules.specs.Rules.{held_in}
@@ -95,32 +95,3 @@ module _ (P : Program) (rel : ℕ → List PathData) (A : Assignment) where
       if below_of b limit
       then over_of rel A limit overs H
       else body_why self b (errors_in P rel A (stmt_visits P method.body 0 H None)) (stmt_steps P rel A method.body 0 H None)
-
--- the lock that a step takes, where it takes one
-abbrev pub lock_of : Part → Option PathData
-lock_of (StmtP (SyncS p s)) = Some p
-lock_of part = None
-
--- the lock of the only step, where there is one step and it takes a lock
-abbrev pub only_lock : List Visit → Option PathData
-only_lock [] = None
-only_lock (v ∷ []) = lock_of v.part
-only_lock (v ∷ w ∷ vs) = None
-
-abbrev mutual
-  -- whether a statement has a `synchronized` in it
-  pub has_lock : Stmt → Bool
-  has_lock (BlockS ss) = have_locks ss
-  has_lock (IfS c s t) = has_lock s || has_lock t
-  has_lock (WhileS c s) = has_lock s
-  has_lock (SyncS p s) = true
-  has_lock _ = false
-
-  -- whether one of the statements of a block has
-  pub have_locks : Stmts → Bool
-  have_locks no_stmts = false
-  have_locks (and_stmt s ss) = has_lock s || have_locks ss
-
--- that of a method at its required paths
-abbrev pub method_lock : Program → (ℕ → List PathData) → Assignment → Method → Option PathData
-method_lock P rel A method = only_lock (stmt_steps P rel A method.body 0 (has_path method.requires_) None)

@@ -1,7 +1,9 @@
 -- What the walk in code finds, as plain data.
-use Rattle.std.specs.Prelude.{ℕ, List, [], ◌∷◌, map, filter}
+use Rattle.std.specs.Prelude.{ℕ, Bool, not, List, [], ◌∷◌, map, filter}
 use Rattle.aj_paths.specs.Paths.{PathData}
 use Rattle.aj_algebra.specs.declared.basic.Basic.{Basic}
+use Rattle.aj_algebra.specs.declared.basic.Basic.TheVariants.{Mover}
+use Rattle.aj_algebra.specs.Basics.{below_of}
 use Rattle.aj_algebra.specs.HeldPaths.{has_path}
 use Rattle.aj_core.specs.Core.{Program}
 use Rattle.aj_core.specs.Views.{expr_of, stmt_of}
@@ -33,6 +35,14 @@ visits_of vs = map visit_of vs
 -- those of visits that are an error by themselves
 abbrev pub errors_in : Program → (ℕ → List PathData) → Assignment → List Visit → List Visit
 errors_in P rel A vs = filter (λ v. is_error (own_at P rel A v)) vs
+
+-- whether what is this by itself can't be moved
+abbrev pub is_heavy : Basic → Bool
+is_heavy b = not (below_of b Mover)
+
+-- those of visits that can't be moved by themselves
+abbrev pub heavy_in : Program → (ℕ → List PathData) → Assignment → List Visit → List Visit
+heavy_in P rel A vs = filter (λ v. is_heavy (own_at P rel A v)) vs
 
 -- the basics behind the first, which is that of the whole part
 abbrev pub inner : List Basic → List Basic

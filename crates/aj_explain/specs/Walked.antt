@@ -11,18 +11,18 @@ use Rattle.aj_why.specs.Visits.{Visit, expr_visits, exprs_visits, stmt_visits, b
 use Rattle.aj_why.specs.Steps.{of_greater, expr_steps, exprs_steps, stmt_steps, block_steps}
 use Rattle.aj_explain.specs.declared.found.Found.{Found}
 use Rattle.aj_explain.specs.Basics.{expr_basics, exprs_basics, stmt_basics, block_basics}
-use Rattle.aj_explain.specs.Views.{visits_of, errors_in, inner}
+use Rattle.aj_explain.specs.Views.{visits_of, heavy_in, inner}
 
 -- the number of the next part
 abbrev pub next : Found → ℕ
 next found = length found.basics.items
 
--- a walk that comes to these parts gave this effect, and added their basics, their steps, and those that are an error by themselves
+-- a walk that comes to these parts gave this effect, and added their basics, their steps, and those that can't be moved by themselves
 pub record Walked (P : Program) (rel : ℕ → List PathData) (A : Assignment) (visits steps : List Visit) (basics : List Basic) (effect : Basic) (old : Found) (given : Basic) (new : Found) : Type 0 where
   pub effect_is : given ≡ effect
   pub basics_are : new.basics.items ≡ old.basics.items ++ basics
   pub steps_are : visits_of new.steps.items ≡ visits_of old.steps.items ++ steps
-  pub errors_are : visits_of new.errors.items ≡ visits_of old.errors.items ++ errors_in P rel A visits
+  pub heavy_are : visits_of new.heavy.items ≡ visits_of old.heavy.items ++ heavy_in P rel A visits
 
 module _ (P : Program) (rel : ℕ → List PathData) (A : Assignment) where
   -- the walk through an expression; through its parts, where there is room for its own basic already; through arguments

@@ -1,7 +1,6 @@
 //! What a step does, and which lock would help it.
 
 ghost use Rattle.std.specs.Prelude.{◌≡◌, IfOk};
-ghost use Rattle.std.specs.Option.{option_copied};
 ghost use Rattle.aj_algebra.specs.Basics.{below_of};
 ghost use Rattle.aj_algebra.specs.declared.basic.Basic.TheVariants.{Mover};
 ghost use Rattle.aj_rules.specs.Effect.{call_of};
@@ -13,28 +12,22 @@ ghost use Rattle.aj_book_rules.specs.Parts.{ExprP};
 ghost use Rattle.aj_rules.specs.Guards.{guard_of};
 ghost use Rattle.aj_rules.specs.Mentions.{paths_of};
 ghost use Rattle.aj_rules.specs.Near.{rel_of};
+ghost use Rattle.aj_rules.specs.Search.{row_at};
 ghost use Rattle.aj_why.specs.Helping.{guard_help, help};
-ghost use Rattle.aj_explain.specs.Deeds.{deed_of, help_of, hold_or, if_atomic, no_access_help, no_call_help, taken_at};
+ghost use Rattle.aj_explain.specs.Deeds.{deed_of, help_of, hold_or, no_access_help, no_call_help};
 ghost use Rattle.aj_explain.specs.Names.{second_name};
 ghost use Rattle.aj_explain.specs.Views.{part_of};
 
 use crate::found::CorePart;
-use crate::names::{Alias, Lack, lack_of, name_at_call, second_name};
+use crate::names::{Alias, Lack, lack_of, second_name};
+use crate::takings::taken_by;
 use crate::walk::Walk;
 use aj_algebra::Basic;
 use aj_core::{CoreExpr, CoreProgram, CoreStmt, path_of};
 use aj_effect_at::{Assigned, Called, call_effect, with_path};
 use aj_paths::{FieldId, MethodId, Path};
-use aj_rules::{Guard, guard_at, renaming_at};
+use aj_rules::{Guard, OverridingMethods, guard_at, renaming_at};
 use std::alloc::AllocError as NoMemory;
-
-/// The lock that a called method takes and gives back, as far as that is known: with its name at the call, or without one there.
-#[derive(Drop)]
-pub enum Takes {
-    Unknown,
-    Named(Path),
-    Unnamed,
-}
 
 /// What a step does.
 #[derive(Drop)]
@@ -43,8 +36,8 @@ pub enum Deed {
     Reads(Option<Path>, FieldId, Guard),
     /// Writes one.
     Writes(Option<Path>, FieldId, Guard),
-    /// Calls a method that is this at the paths that it begins with.
-    Calls(MethodId, Basic, Takes),
+    /// Calls a method that is this at the paths that it begins with, and the lock that the call takes and gives back, if it does nothing else.
+    Calls(MethodId, Basic, Option<Path>),
     /// Takes a lock and gives it back.
     Locks(Path),
     Prints,
@@ -72,45 +65,17 @@ pub enum Help {
     Seen,
 }
 
-/// The lock that a callee takes and gives back, where this is its only step's, at a call.
-fn taken_at(
-    program: &CoreProgram,
-    receiver: &CoreExpr,
-    args: &[CoreExpr],
-    lock: Option<&Option<Path>>,
-) -> Takes
-    ensures { let P = program_of program.now in result ≡ taken_at (option_copied lock.entry) (path_of P (expr_of receiver.now)) (paths_of P (exprs_from args.now)) }
-{
-    let Some(Some(lock)) = lock else {
-        return Takes::Unknown;
-    };
-    match name_at_call(program, receiver, args, lock) {
-        Some(name) => Takes::Named(name),
-        None => Takes::Unnamed,
-    }
-}
-
-/// What a call of a method that is this takes: nothing is told of one that isn't atomic.
-fn if_atomic(own: Basic, taken: Takes) -> Takes
-    ensures { result ≡ if_atomic own taken }
-{
-    match own {
-        Basic::Atomic => taken,
-        Basic::Const | Basic::Mover | Basic::Cmpd | Basic::Error => Takes::Unknown,
-    }
-}
-
 /// What a call does by itself.
 fn call_deed<A: Assigned>(
     walk: &Walk<'_, A>,
-    locks: &[Option<Path>],
+    over: &OverridingMethods,
     receiver: &CoreExpr,
     callee: MethodId,
     args: &[CoreExpr],
     held: &[Path],
 ) -> Result<Deed, NoMemory>
     ensures { IfOk result (λ deed. let part = ExprP (CallE (expr_of receiver.now) callee (exprs_from args.now)) in
-        deed ≡ deed_of (program_of walk.now.program.now) (rel_of walk.now.sets.now) (A.Assigned.assigned walk.now.assigned.now) locks.now part (has_path held.now)) }
+        deed ≡ deed_of (program_of walk.now.program.now) (rel_of walk.now.sets.now) (A.Assigned.assigned walk.now.assigned.now) (row_at over.now) part (has_path held.now)) }
 {
     let call = Called {
         receiver,
@@ -125,19 +90,18 @@ fn call_deed<A: Assigned>(
         &call,
         held,
     )?;
-    let lock = locks.get(callee.0 as usize);
-    let taken = taken_at(walk.program, receiver, args, lock);
-    Ok(Deed::Calls(callee, own, if_atomic(own, taken)))
+    let taken = taken_by(walk, over, &call, own, held)?;
+    Ok(Deed::Calls(callee, own, taken))
 }
 
 /// What an expression does by itself.
 fn expr_deed<A: Assigned>(
     walk: &Walk<'_, A>,
-    locks: &[Option<Path>],
+    over: &OverridingMethods,
     e: &CoreExpr,
     held: &[Path],
 ) -> Result<Deed, NoMemory>
-    ensures { IfOk result (λ deed. deed ≡ deed_of (program_of walk.now.program.now) (rel_of walk.now.sets.now) (A.Assigned.assigned walk.now.assigned.now) locks.now (ExprP (expr_of e.now)) (has_path held.now)) }
+    ensures { IfOk result (λ deed. deed ≡ deed_of (program_of walk.now.program.now) (rel_of walk.now.sets.now) (A.Assigned.assigned walk.now.assigned.now) (row_at over.now) (ExprP (expr_of e.now)) (has_path held.now)) }
 {
     match e {
         CoreExpr::Get(receiver, field) => Ok(Deed::Reads(
@@ -146,23 +110,23 @@ fn expr_deed<A: Assigned>(
             guard_at(walk.program, receiver, *field),
         )),
         CoreExpr::Call(receiver, callee, args) => {
-            call_deed(walk, locks, receiver, *callee, args.as_slice(), held)
+            call_deed(walk, over, receiver, *callee, args.as_slice(), held)
         }
         _ => Ok(Deed::Other),
     }
 }
 
-/// What a part does by itself. `locks` has for each method the lock of its only step.
+/// What a part does by itself. `over` has the methods that override each.
 pub fn deed_of<A: Assigned>(
     walk: &Walk<'_, A>,
-    locks: &[Option<Path>],
+    over: &OverridingMethods,
     part: CorePart<'_>,
     held: &[Path],
 ) -> Result<Deed, NoMemory>
-    ensures { IfOk result (λ deed. deed ≡ deed_of (program_of walk.now.program.now) (rel_of walk.now.sets.now) (A.Assigned.assigned walk.now.assigned.now) locks.now (part_of part.entry) (has_path held.now)) }
+    ensures { IfOk result (λ deed. deed ≡ deed_of (program_of walk.now.program.now) (rel_of walk.now.sets.now) (A.Assigned.assigned walk.now.assigned.now) (row_at over.now) (part_of part.entry) (has_path held.now)) }
 {
     match part {
-        CorePart::Expr(e) => expr_deed(walk, locks, e, held),
+        CorePart::Expr(e) => expr_deed(walk, over, e, held),
         CorePart::Stmt(CoreStmt::SetField(receiver, field, _)) => Ok(Deed::Writes(
             path_of(walk.program, receiver),
             *field,
@@ -210,7 +174,7 @@ fn access_help(
 }
 
 /// Whether a call can be moved with one path more held.
-fn moves_with<A: Assigned>(
+pub(crate) fn moves_with<A: Assigned>(
     walk: &Walk<'_, A>,
     receiver: &CoreExpr,
     callee: MethodId,

@@ -1,9 +1,9 @@
 //! Why a method is more than it may be.
 
-ghost use Rattle.std.specs.Prelude.{◌≡◌, ◌∷◌, ◌++◌, List, [], map, slice_get, drop, filter, not, option_map, IfOk, IfSome, IfNone, OnOk, MatchOption, IsSome, None, if◌then◌else◌};
+ghost use Rattle.std.specs.Prelude.{◌≡◌, ◌∷◌, ◌++◌, List, [], slice_get, filter, not, option_map, IfOk, IfSome, IfNone, OnOk, MatchOption, IsSome, None, if◌then◌else◌};
 ghost use Rattle.aj_algebra.specs.HeldPaths.{has_path};
-ghost use Rattle.aj_core.specs.Views.{expr_of, method_of, program_of, stmt_of, stmts_from};
-ghost use Rattle.aj_book_rules.specs.Parts.{ExprP, StmtP};
+ghost use Rattle.aj_core.specs.Views.{expr_of, method_of, program_of, stmt_of};
+ghost use Rattle.aj_book_rules.specs.Parts.{ExprP};
 ghost use Rattle.aj_rules.specs.Effect.{effect};
 ghost use Rattle.aj_rules.specs.Near.{rel_of};
 ghost use Rattle.aj_why.specs.Parts.{own_of};
@@ -11,16 +11,16 @@ ghost use Rattle.aj_why.specs.Readings.{first_where, is_cmpd, own_at};
 ghost use Rattle.aj_why.specs.Steps.{stmt_steps};
 ghost use Rattle.aj_why.specs.Visits.{Visit, stmt_visits};
 ghost use Rattle.aj_explain.specs.Basics.{stmt_basics};
-ghost use Rattle.aj_explain.specs.Explaining.{body_why, calls, compound_or, compound_why, first_wrong, is_own, lock_of, method_lock, has_lock, have_locks, only_lock, only_step_why, over_of, steps_of, steps_why, why_of, with_first, wrong_of};
-ghost use Rattle.aj_explain.specs.Views.{errors_in, part_of, visit_of, visits_of, why_data};
+ghost use Rattle.aj_explain.specs.Explaining.{body_why, calls, compound_or, compound_why, only_step_why, over_of, steps_of, steps_why, why_of, with_first};
+ghost use Rattle.aj_explain.specs.Views.{errors_in, heavy_in, part_of, visit_of, visits_of, why_data};
 
+use crate::errors::{errors_of, wrong};
 use crate::found::{CorePart, Found, Visited};
 use crate::walk::{Walk, walk_stmt};
 use aj_algebra::Basic;
 use aj_core::{CoreExpr, CoreMethod, CoreStmt};
-use aj_effect_at::{Assigned, Called, among, call_effect, has_all, held_under};
+use aj_effect_at::{Assigned, Called, among, call_effect};
 use aj_paths::{MethodId, Path};
-use aj_rules::required_of;
 use std::alloc::AllocError as NoMemory;
 
 /// Why a method is more than it may be.
@@ -40,73 +40,11 @@ pub enum Why<'p> {
     Nothing,
 }
 
-/// Whether an error comes from the part itself, and not from a method that is called and is an error where it has what it requires.
-fn is_own<A: Assigned>(
-    walk: &Walk<'_, A>,
-    part: CorePart<'_>,
-    held: &[Path],
-) -> Result<bool, NoMemory>
-    ensures { IfOk result (λ b. b ≡ is_own (program_of walk.now.program.now) (rel_of walk.now.sets.now) (part_of part.entry) (has_path held.now)) }
-{
-    match part {
-        CorePart::Expr(e) => is_own_expr(walk, e, held),
-        CorePart::Stmt(_) => Ok(true),
-    }
-}
-
-/// The same of an expression.
-fn is_own_expr<A: Assigned>(
-    walk: &Walk<'_, A>,
-    e: &CoreExpr,
-    held: &[Path],
-) -> Result<bool, NoMemory>
-    ensures { IfOk result (λ b. b ≡ is_own (program_of walk.now.program.now) (rel_of walk.now.sets.now) (ExprP (expr_of e.now)) (has_path held.now)) }
-{
-    match e {
-        CoreExpr::Call(receiver, callee, args) => {
-            let known = held_under(
-                walk.alloc,
-                walk.program,
-                walk.sets,
-                receiver,
-                *callee,
-                args.as_slice(),
-                held,
-            )?;
-            Ok(!has_all(known.as_slice(), required_of(walk.program, *callee)))
-        }
-        _ => Ok(true),
-    }
-}
-
-/// The place of the first error that comes from its part itself; 0 where there is none.
-fn own_place<A: Assigned>(walk: &Walk<'_, A>, errors: &[Visited<'_>]) -> Result<usize, NoMemory>
-    ensures { IfOk result (λ place. first_wrong (drop place (visits_of errors.now)) ≡ wrong_of (program_of walk.now.program.now) (rel_of walk.now.sets.now) (visits_of errors.now)) }
-{
-    for (place, error) in errors.iter().enumerate() {
-        if is_own(walk, error.part, error.held.as_slice())? {
-            return Ok(place);
-        }
-    }
-    Ok(0)
-}
-
 /// The visit at a place, where there is one.
-fn taken<'p>(visits: Vec<Visited<'p>>, place: usize) -> Option<Visited<'p>>
+pub(crate) fn taken<'p>(visits: Vec<Visited<'p>>, place: usize) -> Option<Visited<'p>>
     ensures { option_map visit_of result ≡ slice_get (visits_of visits.entry.items) place }
 {
     visits.into_iter().nth(place)
-}
-
-/// The first error that comes from its part itself; else the first.
-fn wrong<'p, A: Assigned>(walk: &Walk<'_, A>, errors: Vec<Visited<'p>>) -> Result<Why<'p>, NoMemory>
-    ensures { IfOk result (λ why. why_data why ≡ wrong_of (program_of walk.now.program.now) (rel_of walk.now.sets.now) (visits_of errors.entry.items)) }
-{
-    let place = own_place(walk, errors.as_slice())?;
-    match taken(errors, place) {
-        Some(error) => Ok(Why::Wrong(error)),
-        None => Ok(Why::Nothing),
-    }
 }
 
 /// Whether a step is compound by itself.
@@ -332,6 +270,26 @@ fn first_over<'p, A: Assigned>(
     Ok(Why::Nothing)
 }
 
+/// What a walk through a body finds where these paths are held, and its effect there.
+pub(crate) fn walk_body<'p, A: Assigned>(
+    walk: &Walk<'_, A>,
+    body: &'p CoreStmt,
+    held: &[Path],
+) -> Result<(Basic, Found<'p>), NoMemory>
+    ensures effect { IfOk result (λ walked. let P = program_of walk.now.program.now in let rel = rel_of walk.now.sets.now in let T = A.Assigned.assigned walk.now.assigned.now in
+        walked.0 ≡ effect P rel T (stmt_of body.now) (has_path held.now)) }
+    ensures basics { IfOk result (λ walked. let P = program_of walk.now.program.now in let rel = rel_of walk.now.sets.now in let T = A.Assigned.assigned walk.now.assigned.now in
+        walked.1.basics.items ≡ stmt_basics P rel T (stmt_of body.now) (has_path held.now)) }
+    ensures steps { IfOk result (λ walked. let P = program_of walk.now.program.now in let rel = rel_of walk.now.sets.now in let T = A.Assigned.assigned walk.now.assigned.now in
+        visits_of walked.1.steps.items ≡ stmt_steps P rel T (stmt_of body.now) 0 (has_path held.now) None) }
+    ensures heavy { IfOk result (λ walked. let P = program_of walk.now.program.now in let rel = rel_of walk.now.sets.now in let T = A.Assigned.assigned walk.now.assigned.now in
+        visits_of walked.1.heavy.items ≡ heavy_in P rel T (stmt_visits P (stmt_of body.now) 0 (has_path held.now) None)) }
+{
+    let mut found = Found::new(walk.alloc);
+    let effect = walk_stmt(walk, body, held, None, &mut found)?;
+    Ok((effect, found))
+}
+
 /// What a walk through a method's body finds at its required paths, and its effect there.
 fn walk_method<'p, A: Assigned>(
     walk: &Walk<'_, A>,
@@ -343,27 +301,26 @@ fn walk_method<'p, A: Assigned>(
         walked.1.basics.items ≡ stmt_basics P rel T m.body (has_path m.requires_)) }
     ensures steps { IfOk result (λ walked. let P = program_of walk.now.program.now in let rel = rel_of walk.now.sets.now in let T = A.Assigned.assigned walk.now.assigned.now in let m = method_of method.now in
         visits_of walked.1.steps.items ≡ stmt_steps P rel T m.body 0 (has_path m.requires_) None) }
-    ensures errors { IfOk result (λ walked. let P = program_of walk.now.program.now in let rel = rel_of walk.now.sets.now in let T = A.Assigned.assigned walk.now.assigned.now in let m = method_of method.now in
-        visits_of walked.1.errors.items ≡ errors_in P rel T (stmt_visits P m.body 0 (has_path m.requires_) None)) }
+    ensures heavy { IfOk result (λ walked. let P = program_of walk.now.program.now in let rel = rel_of walk.now.sets.now in let T = A.Assigned.assigned walk.now.assigned.now in let m = method_of method.now in
+        visits_of walked.1.heavy.items ≡ heavy_in P rel T (stmt_visits P m.body 0 (has_path m.requires_) None)) }
 {
-    let mut found = Found::new(walk.alloc);
-    let held = method.requires_.as_slice();
-    let effect = walk_stmt(walk, &method.body, held, None, &mut found)?;
+    let (effect, found) = walk_body(walk, &method.body, method.requires_.as_slice())?;
     Ok((effect, found))
 }
 
-/// Why a body with this effect, these errors and these steps is an error or compound.
+/// Why a body with this effect, these parts that can't be moved and these steps is an error or compound.
 fn body_why<'p, A: Assigned>(
     walk: &Walk<'_, A>,
     id: MethodId,
     effect: Basic,
     found: Found<'p>,
 ) -> Result<Why<'p>, NoMemory>
-    ensures { IfOk result (λ why. why_data why ≡ body_why (program_of walk.now.program.now) (rel_of walk.now.sets.now) (A.Assigned.assigned walk.now.assigned.now) id effect (visits_of found.entry.errors.items) (visits_of found.entry.steps.items)) }
+    ensures { IfOk result (λ why. why_data why ≡ body_why (program_of walk.now.program.now) (rel_of walk.now.sets.now) (A.Assigned.assigned walk.now.assigned.now) id effect
+        (errors_in (program_of walk.now.program.now) (rel_of walk.now.sets.now) (A.Assigned.assigned walk.now.assigned.now) (visits_of found.entry.heavy.items)) (visits_of found.entry.steps.items)) }
 {
-    let Found { steps, errors, .. } = found;
+    let Found { steps, heavy, .. } = found;
     if effect == Basic::Error {
-        wrong(walk, errors)
+        wrong(walk, errors_of(walk, heavy)?)
     } else {
         compound_body(walk, id, steps)
     }
@@ -395,106 +352,4 @@ pub fn basics<A: Assigned>(walk: &Walk<'_, A>, method: &CoreMethod) -> Result<Ve
     let (_, found) = walk_method(walk, method)?;
     let Found { basics, .. } = found;
     Ok(basics)
-}
-
-/// The lock that a step takes, where it takes one.
-fn lock_of(part: CorePart<'_>) -> Option<Path>
-    ensures { result ≡ lock_of (part_of part.entry) }
-{
-    match part {
-        CorePart::Expr(_) => None,
-        CorePart::Stmt(s) => taken_lock(s),
-    }
-}
-
-/// That of a statement.
-fn taken_lock(s: &CoreStmt) -> Option<Path>
-    ensures { result ≡ lock_of (StmtP (stmt_of s.now)) }
-{
-    match s {
-        CoreStmt::Sync(path, _) => Some(path.copy()),
-        _ => None,
-    }
-}
-
-/// The lock of the only step, where there is one step and it takes a lock.
-fn only_lock(steps: &[Visited<'_>]) -> Option<Path>
-    ensures { result ≡ only_lock (visits_of steps.now) }
-{
-    let (step, rest) = steps.split_first()?;
-    if rest.is_empty() {
-        lock_of(step.part)
-    } else {
-        None
-    }
-}
-
-/// Whether a statement has a `synchronized` in it.
-#[cycle(locking)]
-fn has_lock(s: &CoreStmt) -> bool
-    ensures { result ≡ has_lock (stmt_of s.now) }
-{
-    match s {
-        CoreStmt::Sync(_, _) => true,
-        CoreStmt::Block(body) => have_locks(body.as_slice()),
-        CoreStmt::If(_, a, b) => has_lock(a) || has_lock(b),
-        CoreStmt::While(_, a) => has_lock(a),
-        CoreStmt::Empty
-        | CoreStmt::Local { .. }
-        | CoreStmt::SetVar(_, _)
-        | CoreStmt::SetField(_, _, _)
-        | CoreStmt::Do(_, _)
-        | CoreStmt::Return(_)
-        | CoreStmt::Print(_)
-        | CoreStmt::Start(_) => false,
-    }
-}
-
-/// Whether one of the statements of a block has.
-#[cycle(locking)]
-fn have_locks(body: &[CoreStmt]) -> bool
-    ensures { result ≡ have_locks (stmts_from body.now) }
-{
-    for s in body {
-        if has_lock(s) {
-            return true;
-        }
-    }
-    false
-}
-
-/// The lock of the only step of a method's body, which is walked through.
-fn walked_lock<A: Assigned>(
-    walk: &Walk<'_, A>,
-    method: &CoreMethod,
-) -> Result<Option<Path>, NoMemory>
-    ensures { IfOk result (λ lock. lock ≡ method_lock (program_of walk.now.program.now) (rel_of walk.now.sets.now) (A.Assigned.assigned walk.now.assigned.now) (method_of method.now)) }
-{
-    let (_, found) = walk_method(walk, method)?;
-    Ok(only_lock(found.steps.as_slice()))
-}
-
-/// That of a method at its required paths; without a `synchronized` in the body there is none.
-fn method_lock<A: Assigned>(
-    walk: &Walk<'_, A>,
-    method: &CoreMethod,
-) -> Result<Option<Path>, NoMemory>
-    ensures { IfOk result (λ lock. lock ≡ method_lock (program_of walk.now.program.now) (rel_of walk.now.sets.now) (A.Assigned.assigned walk.now.assigned.now) (method_of method.now)) }
-{
-    if !has_lock(&method.body) {
-        return Ok(None);
-    }
-    walked_lock(walk, method)
-}
-
-/// For each method the lock of its only step, where it has one step at its required paths and that takes a lock.
-pub fn only_locks<A: Assigned>(walk: &Walk<'_, A>) -> Result<Vec<Option<Path>>, NoMemory>
-    ensures { IfOk result (λ locks. let P = program_of walk.now.program.now in
-        locks.items ≡ map (method_lock P (rel_of walk.now.sets.now) (A.Assigned.assigned walk.now.assigned.now)) P.methods) }
-{
-    let mut locks = Vec::new(walk.alloc);
-    for method in walk.program.methods() {
-        locks.push(method_lock(walk, method)?)?;
-    }
-    Ok(locks)
 }

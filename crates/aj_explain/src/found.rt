@@ -4,9 +4,8 @@ ghost use Rattle.std.specs.Prelude.{◌≡◌, ◌<◌, ◌∷◌, ◌++◌, [],
 ghost use Rattle.aj_algebra.specs.Basics.{below_of};
 ghost use Rattle.aj_algebra.specs.HeldPaths.{has_path};
 ghost use Rattle.aj_algebra.specs.declared.basic.Basic.TheVariants as basic;
-ghost use Rattle.aj_why.specs.Readings.{is_error};
 ghost use Rattle.aj_why.specs.Visits.{visit};
-ghost use Rattle.aj_explain.specs.Views.{part_of, visits_of};
+ghost use Rattle.aj_explain.specs.Views.{is_heavy, part_of, visits_of};
 
 use aj_algebra::Basic;
 use aj_core::{CoreExpr, CoreStmt};
@@ -40,13 +39,13 @@ pub struct Visited<'p> {
     pub looped: Option<usize>,
 }
 
-/// What the walk found so far: the basic of each part by its number, the steps that can't be moved, and the parts that are an error by
-/// themselves.
+/// What the walk found so far: the basic of each part by its number, the steps, of which those of one branch alone count, and all parts
+/// that can't be moved by themselves.
 #[derive(Drop)]
 pub(crate) struct Found<'p> {
     pub(crate) basics: Vec<Basic>,
     pub(crate) steps: Vec<Visited<'p>>,
-    pub(crate) errors: Vec<Visited<'p>>,
+    pub(crate) heavy: Vec<Visited<'p>>,
 }
 
 impl<'p> Found<'p> {
@@ -54,12 +53,12 @@ impl<'p> Found<'p> {
     pub(crate) fn new(alloc: Global) -> Found<'p>
         ensures basics { result.basics.items ≡ [] }
         ensures steps { result.steps.items ≡ [] }
-        ensures errors { result.errors.items ≡ [] }
+        ensures heavy { result.heavy.items ≡ [] }
     {
         Found {
             basics: Vec::new(alloc),
             steps: Vec::new(alloc),
-            errors: Vec::new(alloc),
+            heavy: Vec::new(alloc),
         }
     }
 
@@ -68,7 +67,7 @@ impl<'p> Found<'p> {
         ensures place { IfOk result (λ place. place ≡ length self.old.basics.items) }
         ensures basics { OnOk result (self.new.basics.items ≡ self.old.basics.items ++ basic.Const ∷ []) }
         ensures steps { self.new.steps ≡ self.old.steps }
-        ensures errors { self.new.errors ≡ self.old.errors }
+        ensures heavy { self.new.heavy ≡ self.old.heavy }
     {
         let place = self.basics.as_slice().len();
         self.basics.push(Basic::Const)?;
@@ -81,13 +80,13 @@ impl<'p> Found<'p> {
         ensures effect { result ≡ effect }
         ensures basics { self.new.basics.items ≡ slice_set self.old.basics.items place effect }
         ensures steps { self.new.steps ≡ self.old.steps }
-        ensures errors { self.new.errors ≡ self.old.errors }
+        ensures heavy { self.new.heavy ≡ self.old.heavy }
     {
         self.basics[place] = effect;
         effect
     }
 
-    /// Notes a part that is this by itself: as a step where it can't be moved, and as an error where it is one.
+    /// Notes a part that is this by itself, where it can't be moved.
     pub(crate) fn note(
         &mut self,
         alloc: Global,
@@ -97,16 +96,28 @@ impl<'p> Found<'p> {
         ensures basics { self.new.basics ≡ self.old.basics }
         ensures steps { OnOk result (visits_of self.new.steps.items ≡ visits_of self.old.steps.items
             ++ (if below_of own basic.Mover then [] else visit reached.entry.node (part_of reached.entry.part) (has_path reached.entry.held.now) reached.entry.looped)) }
-        ensures errors { OnOk result (visits_of self.new.errors.items ≡ visits_of self.old.errors.items
-            ++ (if is_error own then visit reached.entry.node (part_of reached.entry.part) (has_path reached.entry.held.now) reached.entry.looped else [])) }
+        ensures heavy { OnOk result (visits_of self.new.heavy.items ≡ visits_of self.old.heavy.items
+            ++ (if is_heavy own then visit reached.entry.node (part_of reached.entry.part) (has_path reached.entry.held.now) reached.entry.looped else [])) }
     {
         if own.below(Basic::Mover) {
             return Ok(());
         }
         self.steps.push(with_held(alloc, reached)?)?;
-        if own == Basic::Error {
-            self.errors.push(with_held(alloc, reached)?)?;
-        }
+        self.note_heavy(alloc, reached)
+    }
+
+    /// Notes a part that can't be moved by itself, and that is no step.
+    pub(crate) fn note_heavy(
+        &mut self,
+        alloc: Global,
+        reached: Reached<'p, '_>,
+    ) -> Result<(), NoMemory>
+        ensures basics { self.new.basics ≡ self.old.basics }
+        ensures steps { self.new.steps ≡ self.old.steps }
+        ensures heavy { OnOk result (visits_of self.new.heavy.items ≡ visits_of self.old.heavy.items
+            ++ visit reached.entry.node (part_of reached.entry.part) (has_path reached.entry.held.now) reached.entry.looped) }
+    {
+        self.heavy.push(with_held(alloc, reached)?)?;
         Ok(())
     }
 
@@ -115,7 +126,7 @@ impl<'p> Found<'p> {
         ensures result { result ≡ self.old.steps }
         ensures basics { self.new.basics ≡ self.old.basics }
         ensures steps { self.new.steps.items ≡ [] }
-        ensures errors { self.new.errors ≡ self.old.errors }
+        ensures heavy { self.new.heavy ≡ self.old.heavy }
     {
         replace(&mut self.steps, Vec::new(alloc))
     }
@@ -124,7 +135,7 @@ impl<'p> Found<'p> {
     pub(crate) fn choose(&mut self, first: Vec<Visited<'p>>, keeps_first: bool)
         ensures basics { self.new.basics ≡ self.old.basics }
         ensures steps { self.new.steps.items ≡ (if keeps_first then first.entry.items else self.old.steps.items) }
-        ensures errors { self.new.errors ≡ self.old.errors }
+        ensures heavy { self.new.heavy ≡ self.old.heavy }
     {
         if keeps_first {
             self.steps = first;
@@ -135,7 +146,7 @@ impl<'p> Found<'p> {
     pub(crate) fn put_before(&mut self, before: Vec<Visited<'p>>) -> Result<(), NoMemory>
         ensures basics { self.new.basics ≡ self.old.basics }
         ensures steps { OnOk result (self.new.steps.items ≡ before.entry.items ++ self.old.steps.items) }
-        ensures errors { self.new.errors ≡ self.old.errors }
+        ensures heavy { self.new.heavy ≡ self.old.heavy }
     {
         let mut all = before;
         all.append(&mut self.steps)?;

@@ -1,9 +1,11 @@
 //! What explanations are worth. Nothing is asked of the assignment or the overriding methods.
 
-ghost use Rattle.std.specs.Prelude.{◌≡◌, ◌==◌, ℕ, List, Contains, Option, Some, true, filter, slice_get};
+ghost use Rattle.std.specs.Prelude.{◌≡◌, ◌==◌, ℕ, List, Contains, Option, None, Some, false, true, filter, slice_get};
 ghost use Rattle.std.specs.List.{IsDistinct};
 ghost use Rattle.aj_algebra.specs.HeldPaths.{Held, has_path, with_path};
-ghost use Rattle.aj_algebra.specs.declared.basic.Basic.TheVariants.{Error, Mover};
+ghost use Rattle.aj_algebra.specs.Basics.{below_of};
+ghost use Rattle.aj_algebra.specs.declared.basic.Basic.{Basic};
+ghost use Rattle.aj_algebra.specs.declared.basic.Basic.TheVariants.{Atomic, Error, Mover};
 ghost use Rattle.aj_book_rules.specs.Parts.{Part};
 ghost use Rattle.aj_paths.specs.Paths.{PathData};
 ghost use Rattle.aj_core.specs.Core.{Method, Program};
@@ -11,12 +13,16 @@ ghost use Rattle.aj_rules.specs.Effect.{Assignment, required_paths};
 ghost use Rattle.aj_rules.specs.Rules.{AtMost, IsPart};
 ghost use Rattle.aj_why.specs.Helping.{help};
 ghost use Rattle.aj_why.specs.Parts.{own_of};
+ghost use Rattle.aj_explain.specs.Around.{around, wrapped};
 ghost use Rattle.aj_explain.specs.Causes.{cause_of, IsReason};
 ghost use Rattle.aj_explain.specs.declared.deeds.Help.TheVariants.{Hold};
 ghost use Rattle.aj_explain.specs.declared.names.Alias.{Alias};
 ghost use Rattle.aj_explain.specs.Deeds.{help_of};
+ghost use Rattle.aj_explain.specs.Explaining.{why_of};
+ghost use Rattle.aj_explain.specs.Meanings.{are_within, IsReasonOf};
 ghost use Rattle.aj_explain.specs.Names.{second_name};
 ghost use Rattle.aj_explain.specs.Programs.{compound, explanations, keeps, led_to, methods_of, refused_from, IsExplained};
+ghost use Rattle.aj_explain.specs.Takings.{taken_by, IsTaken};
 ghost use Rattle.aj_explain.specs.Whys.{ExplainedData};
 
 /// The refused methods are told in source order, exactly those that break their bounds. No method is told twice, and none is left out
@@ -46,4 +52,26 @@ pub fn hold_laws()
     ensures told { (P : Program) (rel : ℕ → List PathData) (A : Assignment) (aliases : List Alias) (x : Part) (H : Held) (p : PathData) →
         help P rel A x H ≡ Some p → help_of P rel A aliases x H ≡ Hold p (second_name aliases H p) }
     ensures held { (aliases : List Alias) (H : Held) (p q : PathData) → second_name aliases H p ≡ Some q → H q ≡ true }
+{}
+
+/// A call of which it is told that it takes a lock and gives it back does so, and does nothing else that others can see. Nothing is asked
+/// of what overrides the callee, beyond that these are the methods.
+pub fn taking_laws()
+    ensures { (P : Program) (rel : ℕ → List PathData) (A : Assignment) (overs : List ℕ) (m : ℕ) (receiver : Option PathData) (args : List (Option PathData)) (H : Held) (p : PathData) →
+        taken_by P rel A overs m receiver args H ≡ Some p → IsTaken P rel A overs m receiver args H p }
+{}
+
+/// With the lock that is told held around all of it, a method's body is at most what is asked for, and that lock is relevant to the method.
+/// Where none is told, no relevant one helps.
+pub fn around_laws()
+    ensures fits { (P : Program) (rel : ℕ → List PathData) (A : Assignment) (m : ℕ) (method : Method) (limit : Basic) → slice_get P.methods m ≡ Some method →
+        (p : PathData) → around P rel A m limit ≡ Some p → Contains (rel m) p × AtMost (wrapped P rel A method p) limit }
+    ensures none { (P : Program) (rel : ℕ → List PathData) (A : Assignment) (m : ℕ) (method : Method) (limit : Basic) → slice_get P.methods m ≡ Some method →
+        around P rel A m limit ≡ None → (p : PathData) → Contains (rel m) p → below_of (wrapped P rel A method p) limit ≡ false }
+{}
+
+/// A method whose body, or one that overrides it, is more than the limit has a reason, and what is told as its reason is so.
+pub fn reason_laws()
+    ensures { (P : Program) (rel : ℕ → List PathData) (A : Assignment) (overs : List ℕ) (self : ℕ) (method : Method) (limit : Basic) → AtMost Atomic limit →
+        are_within P rel A overs method limit ≡ false → IsReasonOf P rel A overs method limit (why_of P rel A overs self method limit) }
 {}

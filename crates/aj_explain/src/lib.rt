@@ -5,19 +5,23 @@
 mod assigned;
 mod causes;
 mod deeds;
+mod errors;
 mod explaining;
 mod found;
 mod laws;
 mod names;
 mod program;
+mod takings;
 mod walk;
+mod wrapping;
 
 pub use assigned::Shown;
 pub use causes::{Cause, cause_of};
-pub use deeds::{Deed, Help, Takes, deed_of, help_of};
-pub use explaining::{Why, basics, only_locks};
+pub use deeds::{Deed, Help, deed_of, help_of};
+pub use explaining::{Why, basics};
 pub use found::{CorePart, Visited};
-pub use laws::{cause_laws, explanation_laws, hold_laws};
+pub use laws::{around_laws, cause_laws, explanation_laws, hold_laws, reason_laws, taking_laws};
 pub use names::{Alias, Lack, aliases, ascending};
 pub use program::{Explained, explanations};
 pub use walk::Walk;
+pub use wrapping::around;

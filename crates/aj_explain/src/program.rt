@@ -90,7 +90,7 @@ fn is_told(told: &[bool], id: MethodId) -> bool
 }
 
 /// The method with this id, where it is there.
-fn method_at(program: &CoreProgram, id: MethodId) -> Option<&CoreMethod>
+pub(crate) fn method_at(program: &CoreProgram, id: MethodId) -> Option<&CoreMethod>
     ensures { option_map method_of (option_copied result) ≡ slice_get (program_of program.now).methods id }
 {
     program.methods().get(id.0 as usize)

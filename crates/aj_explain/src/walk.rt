@@ -1,5 +1,5 @@
 //! The walk through a body. Its functions give the effect of a part, and add to what was found: the basic of each of its parts, its
-//! steps, and its parts that are an error by themselves.
+//! steps, and its parts that can't be moved by themselves.
 
 ghost use Rattle.std.specs.Prelude.{◌≡◌, ◌+◌, ◌++◌, [], IfOk, OnOk, if◌then◌else◌};
 ghost use Rattle.aj_algebra.specs.declared.basic.Basic.TheVariants.{Mover};
@@ -246,10 +246,11 @@ fn note_lock<'p, A: Assigned>(
     ensures basics { found.new.basics ≡ found.old.basics }
     ensures steps { OnOk result (visits_of found.new.steps.items ≡ visits_of found.old.steps.items
         ++ (if below_of taken Mover then visit reached.entry.node (part_of reached.entry.part) (has_path reached.entry.held.now) reached.entry.looped else [])) }
-    ensures errors { OnOk result (visits_of found.new.errors.items ≡ visits_of found.old.errors.items) }
+    ensures heavy { OnOk result (visits_of found.new.heavy.items ≡ visits_of found.old.heavy.items
+        ++ visit reached.entry.node (part_of reached.entry.part) (has_path reached.entry.held.now) reached.entry.looped) }
 {
     if !taken.below(Basic::Mover) {
-        return Ok(());
+        return found.note_heavy(walk.alloc, reached);
     }
     found.note(walk.alloc, Basic::Atomic, reached)
 }

@@ -11,7 +11,7 @@ use Rattle.aj_explain_commands.specs.declared.words.Order.TheVariants.{Why, All}
 use Rattle.aj_explain_commands.specs.Outcomes.{IsOutcome, unread, over, read}
 use Rattle.aj_explain_commands.specs.Reading.{longest_file, IsQuiet, IsUnread, IsOver}
 use Rattle.aj_explain_commands.specs.Words.{IsRow, all_word}
-use Rattle.aj_explain_commands.specs.Written.{IsAsked, Belongs, too_large, ended, IsExact, WritesAnswer, WritesAnswerToBytes, IsSomeText, some_unread, some_answer, WritesFront}
+use Rattle.aj_explain_commands.specs.Written.{IsAsked, Belongs, too_large, ended, IsExact, WritesAnswer, WritesAnswerToBytes, IsSomeText, some_unread, some_answer, WritesFront, IsSomeTextToBytes, unread_line, answer_to, WritesFrontToBytes}
 use Rattle.aj_explain_commands.proofs.Endings.{caused, low_code, exact_answer, exact_yield}
 
 -- words ask for one thing at most
@@ -85,6 +85,12 @@ module _ (told : List ℕ → Option (List ℕ)) (before now : List ℕ → ℕ)
   to_some _ _ (over is) = let some = some_over (told name) is.over in inr (record { bytes = some.file; its = some.its; belongs = too_large some.is_over })
   to_some _ _ (read file ending text is answer) = inr (record { bytes = file; its = is.its; belongs = ended ending text is.within answer })
 
+  -- what a front was written of, whatever is told
+  some_text : (status : ℕ) (text : List ℕ) → IsOutcome order name told before now status text → IsSomeTextToBytes order name told before now text
+  some_text _ _ (unread is) = unread_line is
+  some_text _ _ (over is) = let some = some_over (told name) is.over in answer_to some.file 10 (too_large_line name) some.its (too_large some.is_over)
+  some_text _ _ (read file ending text is answer) = answer_to file (code_of ending) text is.its (ended ending text is.within answer)
+
   -- of a file that is told: that it can't be read, or what belongs to its bytes
   to_told : (file : List ℕ) → told name ≡ Some file → (status : ℕ) (text : List ℕ) → IsOutcome order name told before now status text
       → (IsUnread told before now name × (status ≡ 6) × (text ≡ cannot_read_line name)) ⊎ Belongs order name file status text
@@ -139,6 +145,14 @@ module _ (words : List (List ℕ)) (result : ℕ) (told : List ℕ → Option (L
         its = b.its;
         answer = record { text = d.text; belongs = subst (λ n. Belongs order name b.bytes n d.text) (sym s.0) b.belongs; written = s.1 };
       })
+
+  -- whatever is told, a front of the line of a file that can't be read, or of the answer to bytes that the file has
+  pub cut_short : (order : Order) (name : List ℕ) → IsRow words order name → result ≡ 7 → WritesFrontToBytes order name told before now old new
+  cut_short order name is seven = by d.said
+    where
+      by : Says result d.status d.text old new sink_before sink_now → WritesFrontToBytes order name told before now old new
+      by (inl s) = absurd (not_seven told before now order name d.status d.text (its order name is) (sym s.0 ∙ seven))
+      by (inr s) = record { text = d.text; is = some_text told before now order name d.status d.text (its order name is); written = s.1 }
 
   module _ (order : Order) (name file : List ℕ) (asked : IsAsked words told order name file) where
     found : (IsUnread told before now name × (d.status ≡ 6) × (d.text ≡ cannot_read_line name)) ⊎ Belongs order name file d.status d.text

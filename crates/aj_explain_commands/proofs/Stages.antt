@@ -5,6 +5,7 @@ use Rattle.std.proofs.lemmas.Option.{slice_get_cases, slice_get_within}
 use Rattle.aj_classes.specs.Table.{TableData, table_of}
 use Rattle.aj_cond.specs.Conditions.{Cond}
 use Rattle.aj_core.specs.Core.{Program}
+use Rattle.aj_core.specs.Typed.{IsTyped}
 use Rattle.aj_core.specs.Views.{program_of}
 use Rattle.aj_elaborate.specs.Programs.{core_of}
 use Rattle.aj_explain.specs.Shown.{shown}
@@ -40,12 +41,13 @@ found_there tree P members n core same count =
 
 -- the text is the one that belongs to a judged source
 pub judged_text : (order : Order) (name : List ℕ) (tree : ProgramTree) (file : List ℕ) (source : Source) (trees : List Cond) (ending : Ending) (text : List ℕ) (table : TableData) (members : List MemberTree)
-    → IsLeastJudged (program_of source.program) source.sets trees ending → table ≡ table_of tree → members ≡ map MethodM (methods_in tree)
+    → IsTyped (program_of source.program) → IsLeastJudged (program_of source.program) source.sets trees ending → table ≡ table_of tree → members ≡ map MethodM (methods_in tree)
     → IsText order (program_of source.program) (rel_of source.sets) (shown trees) (page_of name file table members) text
     → IsJudged order (program_of source.program) (pages_of name file tree) ending text
-judged_text order name tree file source trees ending text table members least same found is = record {
+judged_text order name tree file source trees ending text table members typed least same found is = record {
   sets = source.sets;
   assignment = shown trees;
+  typed = typed;
   least = least.least;
   ending_is = least.ending_is;
   verdict = least.verdict;

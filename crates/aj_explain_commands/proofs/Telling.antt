@@ -11,6 +11,7 @@ use Rattle.aj_paths.specs.Paths.{PathData}
 use Rattle.aj_rules.specs.Effect.{Assignment}
 use Rattle.aj_rules.specs.Near.{rel_of}
 use Rattle.aj_rules.specs.Rules.{IsAccepted}
+use Rattle.aj_reasons.proofs.ToldAbove.{all_above, all_causes, all_reasons}
 use Rattle.aj_rules.specs.Search.{row_at}
 use Rattle.aj_sources.specs.declared.refusal.Ending.{Ending}
 use Rattle.aj_sources.specs.declared.refusal.Ending.TheVariants.{Done, Refused, Inadmissible, NoSchedule, Stopped, Open, BookRefused, NothingToBlame, BlameRefused, LevelsRefused, CallTooDeep}
@@ -47,9 +48,9 @@ as_rules P status LevelsRefused e v = absurd v
 as_rules P status CallTooDeep e v = absurd v
 
 -- no explanations have no lines
-no_lines : (P : Program) (rel : ℕ → List PathData) (A : Assignment) (pages : ℕ → PageData) (xs : List ExplainedData) (text : List ℕ) → xs ≡ [] → AreTexts P rel A pages xs text → text ≡ []
-no_lines P rel A pages _ _ e none = refl
-no_lines P rel A pages _ _ e (more x xs text rest one others) = absurd cc
+no_lines : (P : Program) (rel : ℕ → List PathData) (A : Assignment) (pages : ℕ → PageData) (overs : ℕ → List ℕ) (xs : List ExplainedData) (text : List ℕ) → xs ≡ [] → AreTexts P rel A pages overs xs text → text ≡ []
+no_lines P rel A pages overs _ _ e none = refl
+no_lines P rel A pages overs _ _ e (more x xs text rest one others) = absurd cc
 
 module _ (call : Call) (name file : List ℕ) where
   tells : (tree : ProgramTree) (P : Program) (ending : Ending) (text : List ℕ) → IsJudged Why P (pages_of name file tree) ending text → call.status ≡ code_of ending
@@ -68,9 +69,12 @@ module _ (call : Call) (name file : List ℕ) where
         texts = j.text_is.texts;
         written = written;
         methods = exactly_broken P (rel_of j.sets) j.assignment (row_at overs);
+        above = all_above P j.sets j.assignment overs j.typed j.least.relevant j.least.least j.text_is.are_overs;
+        reasons = all_reasons P j.sets j.assignment overs j.typed j.least.relevant j.least.least j.text_is.are_overs;
+        causes = all_causes P j.sets j.assignment overs j.typed j.least.relevant j.least.least j.text_is.are_overs;
         refused = by_list.0;
         accepted = by_list.1;
-        silent = λ zero. no_lines P (rel_of j.sets) j.assignment (pages_of name file tree) (explanations P (rel_of j.sets) j.assignment (row_at overs)) text
+        silent = λ zero. no_lines P (rel_of j.sets) j.assignment (pages_of name file tree) (row_at overs) (explanations P (rel_of j.sets) j.assignment (row_at overs)) text
             (nothing_explained P (rel_of j.sets) j.assignment (row_at overs) (by_list.1.0 zero)) j.text_is.texts;
         inadmissible = by_rules.0;
         admissible = by_rules.1;

@@ -1,5 +1,5 @@
 -- The lines of methods, one behind the other.
-use Rattle.std.proofs.Common.{◌≡◌, ℕ, zero, suc, ◌+◌, ◌<◌, ◌≤◌, List, [], ◌∷◌, ◌++◌, map, drop, get_or, length, slice_get, Option, sym, ap, subst, ◌∙◌, append_assoc, append-nil, arith}
+use Rattle.std.proofs.Common.{◌≡◌, ℕ, zero, suc, ◌+◌, ◌<◌, ◌≤◌, List, [], ◌∷◌, ◌++◌, map, drop, get_or, length, slice_get, sym, ap, subst, ◌∙◌, append_assoc, append-nil, arith}
 use Rattle.std.proofs.Math.ListN.{drop_of_length-le}
 use Rattle.aj_lemmas.proofs.Lists.{next_drop}
 use Rattle.aj_core.specs.Core.{Program}
@@ -12,7 +12,7 @@ use Rattle.aj_explain_text.specs.Blocks.{IsBlock}
 use Rattle.aj_explain_text.specs.Pages.{PageData}
 use Rattle.aj_paths.specs.Paths.{PathData}
 use Rattle.aj_rules.specs.Effect.{Assignment}
-use Rattle.aj_explain_commands.specs.Explained.{AreTexts, AreWithin, aliases_at, more, none, only_locks}
+use Rattle.aj_explain_commands.specs.Explained.{AreTexts, AreWithin, aliases_at, more, none}
 use Rattle.aj_explain_commands.specs.Listed.{all_lines, lines_from}
 
 -- ---- the listing
@@ -36,30 +36,23 @@ within_at n [] i x below is w = absurd (omega (arith, below))
 within_at n (y ∷ ys) zero x below is w = subst (λ z. (explained_data z).method < n) (sym is) w.0
 within_at n (y ∷ ys) (suc i) x below is w = within_at n ys i x (omega (arith, below)) is w.1
 
-module _ (P : Program) (rel : ℕ → List PathData) (A : Assignment) (pages : ℕ → PageData) where
+module _ (P : Program) (rel : ℕ → List PathData) (A : Assignment) (pages : ℕ → PageData) (overs : ℕ → List ℕ) where
   -- whatever lines of the rest complete the lines so far to those of all
   abbrev pub AreSoFar : List Explained → ℕ → List ℕ → Type 0
-  AreSoFar all i text = (rest : List ℕ) → AreTexts P rel A pages (map explained_data (drop i all)) rest → AreTexts P rel A pages (map explained_data all) (text ++ rest)
+  AreSoFar all i text = (rest : List ℕ) → AreTexts P rel A pages overs (map explained_data (drop i all)) rest → AreTexts P rel A pages overs (map explained_data all) (text ++ rest)
 
   pub none_so_far : (all : List Explained) (text : List ℕ) → text ≡ [] → AreSoFar all 0 text
-  none_so_far all text is rest texts = subst (λ t. AreTexts P rel A pages (map explained_data all) (t ++ rest)) (sym is) texts
+  none_so_far all text is rest texts = subst (λ t. AreTexts P rel A pages overs (map explained_data all) (t ++ rest)) (sym is) texts
 
-  pub more_so_far : (all : List Explained) (i : ℕ) (x : Explained) (locks found : List (Option PathData)) (old new lines : List ℕ) → i < length all → x ≡ get_or all i x → locks ≡ found
-      → found ≡ only_locks P rel A → new ≡ old ++ lines → IsBlock P rel A (pages (explained_data x).method) locks (aliases_at P (slice_get P.methods (explained_data x).method)) (explained_data x) lines
+  pub more_so_far : (all : List Explained) (i : ℕ) (x : Explained) (old new lines : List ℕ) → i < length all → x ≡ get_or all i x
+      → new ≡ old ++ lines → IsBlock P rel A (pages (explained_data x).method) overs (aliases_at P (slice_get P.methods (explained_data x).method)) (explained_data x) lines
       → AreSoFar all i old → AreSoFar all (i + 1) new
-  more_so_far all i x locks found old new lines below is locks_are found_are added block so_far rest texts =
-      let known = aliases_at P (slice_get P.methods (explained_data x).method) in
-      let text = subst (λ ls. IsBlock P rel A (pages (explained_data x).method) ls known (explained_data x) lines) (locks_are ∙ found_are) block in
-      let here = subst (λ ys. AreTexts P rel A pages (map explained_data ys) (lines ++ rest)) (sym (next_drop all i x below is))
+  more_so_far all i x old new lines below is added text so_far rest texts =
+      let here = subst (λ ys. AreTexts P rel A pages overs (map explained_data ys) (lines ++ rest)) (sym (next_drop all i x below is))
       (more (explained_data x) (map explained_data (drop (i + 1) all)) lines rest text texts) in
-      subst (AreTexts P rel A pages (map explained_data all)) (sym (append_assoc old lines rest) ∙ ap (λ t. t ++ rest) (sym added)) (so_far (lines ++ rest) here)
+      subst (AreTexts P rel A pages overs (map explained_data all)) (sym (append_assoc old lines rest) ∙ ap (λ t. t ++ rest) (sym added)) (so_far (lines ++ rest) here)
 
-  pub all_so_far : (all : List Explained) (i : ℕ) (text : List ℕ) → length all ≤ i → AreSoFar all i text → AreTexts P rel A pages (map explained_data all) text
+  pub all_so_far : (all : List Explained) (i : ℕ) (text : List ℕ) → length all ≤ i → AreSoFar all i text → AreTexts P rel A pages overs (map explained_data all) text
   all_so_far all i text past so_far =
-      let last = subst (λ ys. AreTexts P rel A pages (map explained_data ys) []) (sym (drop_of_length-le all past)) none in
-      subst (AreTexts P rel A pages (map explained_data all)) (append-nil text) (so_far [] last)
-
-  -- of none there are no lines
-  pub no_lines : (all : List Explained) (text : List ℕ) → length all ≡ 0 → text ≡ [] → AreTexts P rel A pages (map explained_data all) text
-  no_lines [] text none_there is = subst (AreTexts P rel A pages []) (sym is) none
-  no_lines (x ∷ all) text none_there is = absurd (omega (arith, none_there))
+      let last = subst (λ ys. AreTexts P rel A pages overs (map explained_data ys) []) (sym (drop_of_length-le all past)) none in
+      subst (AreTexts P rel A pages overs (map explained_data all)) (append-nil text) (so_far [] last)

@@ -2,6 +2,7 @@
 use Rattle.std.specs.Prelude.{◌≡◌, ℕ, List, map}
 use Rattle.aj_classes.specs.Table.{table_of}
 use Rattle.aj_core.specs.Core.{Program}
+use Rattle.aj_core.specs.Typed.{IsTyped}
 use Rattle.aj_explain.specs.Programs.{explanations}
 use Rattle.aj_explain_text.specs.Pages.{PageData}
 use Rattle.aj_paths.specs.Paths.{PathData}
@@ -26,7 +27,7 @@ pub record Explains (P : Program) (rel : ℕ → List PathData) (A : Assignment)
   -- for each method those that override it
   pub overs : List (List ℕ)
   pub are_overs : AreOverriders P overs
-  pub texts : AreTexts P rel A pages (explanations P rel A (row_at overs)) text
+  pub texts : AreTexts P rel A pages (row_at overs) (explanations P rel A (row_at overs)) text
 
 -- the text that belongs to what is asked for
 abbrev pub IsText : Order → Program → (ℕ → List PathData) → Assignment → (ℕ → PageData) → List ℕ → Type 0
@@ -37,10 +38,11 @@ IsText All P rel A pages text = text ≡ all_lines P rel A pages
 abbrev pub pages_of : (name file : List ℕ) → ProgramTree → ℕ → PageData
 pages_of name file tree = page_of name file (table_of tree) (map MethodM (methods_in tree))
 
--- how it ends for a program, by its least closed assignment, and the text
+-- how it ends for a program, which is typed, by its least closed assignment, and the text
 pub record IsJudged (order : Order) (P : Program) (pages : ℕ → PageData) (ending : Ending) (text : List ℕ) : Type 0 where
   pub sets : List MethodPaths
   pub assignment : Assignment
+  pub typed : IsTyped P
   pub least : HasLeast P sets assignment
   -- it ends as refused where some method breaks its bound in that assignment, and as done where none does
   pub ending_is : ending ≡ ending_for (broken_methods P assignment)

@@ -1,9 +1,8 @@
 -- The lines of explanations.
-use Rattle.std.specs.Prelude.{ℕ, ◌<◌, List, [], ◌∷◌, ◌++◌, map, Option, Some, None, slice_get}
+use Rattle.std.specs.Prelude.{ℕ, ◌<◌, List, [], ◌∷◌, ◌++◌, Option, Some, None, slice_get}
 use Rattle.aj_classes.specs.Table.{TableData}
 use Rattle.aj_core.specs.Core.{Program, Method}
 use Rattle.aj_explain.specs.declared.names.Alias.{Alias}
-use Rattle.aj_explain.specs.Explaining.{method_lock}
 use Rattle.aj_explain.specs.Names.{aliases_after}
 use Rattle.aj_explain.specs.Whys.{ExplainedData}
 use Rattle.aj_explain_text.specs.Blocks.{IsBlock}
@@ -45,14 +44,10 @@ abbrev pub aliases_at : Program → Option Method → List Alias
 aliases_at P None = []
 aliases_at P (Some method) = aliases_after P [] method.body
 
--- for each method the lock of its only step, where it has one step and that takes a lock
-abbrev pub only_locks : Program → (ℕ → List PathData) → Assignment → List (Option PathData)
-only_locks P rel A = map (method_lock P rel A) P.methods
-
-module _ (P : Program) (rel : ℕ → List PathData) (A : Assignment) (pages : ℕ → PageData) where
+module _ (P : Program) (rel : ℕ → List PathData) (A : Assignment) (pages : ℕ → PageData) (overs : ℕ → List ℕ) where
   -- the lines of one method
   abbrev pub IsMethodText : ExplainedData → List ℕ → Type 0
-  IsMethodText x text = IsBlock P rel A (pages x.method) (only_locks P rel A) (aliases_at P (slice_get P.methods x.method)) x text
+  IsMethodText x text = IsBlock P rel A (pages x.method) overs (aliases_at P (slice_get P.methods x.method)) x text
 
   -- the lines of one method after the other
   pub data AreTexts : List ExplainedData → List ℕ → Type 0 where

@@ -1,10 +1,16 @@
 -- The sentence that the program is for: the lines are those of the explanations of exactly the methods whose bound the least closed
 -- assignment breaks, and status 2 comes exactly where there is one; which is exactly where no assignment of atomicities is admissible.
-use Rattle.std.specs.Prelude.{◌≡◌, ◌≢◌, ◌↔◌, ℕ, ◌≤◌, List, [], ◌∷◌, Some, length, ◌⊎◌}
+use Rattle.std.specs.Prelude.{◌≡◌, ◌≢◌, ◌↔◌, ℕ, ◌≤◌, false, List, [], ◌∷◌, Contains, Some, length, slice_get, ◌⊎◌}
 use Rattle.std.specs.Io.KnownBytes.{Appends}
-use Rattle.aj_core.specs.Core.{Program}
+use Rattle.aj_algebra.specs.Basics.{below_of}
+use Rattle.aj_core.specs.Core.{Program, Method}
+use Rattle.aj_explain.specs.declared.names.Alias.{Alias}
+use Rattle.aj_explain.specs.Causes.{cause_of}
+use Rattle.aj_explain.specs.Meanings.{IsReasonOf}
 use Rattle.aj_explain.specs.Programs.{explanations}
+use Rattle.aj_explain.specs.Whys.{ExplainedData, Wrong}
 use Rattle.aj_outcomes.specs.Calls.{Call, IsCalm}
+use Rattle.aj_reasons.specs.Causing.{IsCause}
 use Rattle.aj_rules.specs.Effect.{Assignment}
 use Rattle.aj_rules.specs.Near.{MethodPaths, rel_of}
 use Rattle.aj_rules.specs.Overriding.{AreOverriders}
@@ -13,6 +19,7 @@ use Rattle.aj_rules.specs.Search.{row_at}
 use Rattle.aj_sources.specs.Checking.{IsWellFormedSource}
 use Rattle.aj_sources.specs.Verdicts.{HasLeast}
 use Rattle.aj_syntax.specs.Trees.{ProgramTree}
+use Rattle.aj_why.specs.Visits.{Visit}
 use Rattle.aj_explain_commands.specs.Answers.{pages_of}
 use Rattle.aj_explain_commands.specs.Broken.{broken_methods, refused_in}
 use Rattle.aj_explain_commands.specs.Explained.{AreTexts}
@@ -28,10 +35,17 @@ pub record TellsBroken (call : Call) (name file : List ℕ) (tree : ProgramTree)
   pub are_overs : AreOverriders P overs
   -- the lines are those of the explanations
   pub text : List ℕ
-  pub texts : AreTexts P (rel_of sets) assignment (pages_of name file tree) (explanations P (rel_of sets) assignment (row_at overs)) text
+  pub texts : AreTexts P (rel_of sets) assignment (pages_of name file tree) (row_at overs) (explanations P (rel_of sets) assignment (row_at overs)) text
   pub written : Appends call.written_before call.written_after text
   -- which are those of exactly the methods whose bound the assignment breaks, in source order
   pub methods : refused_in (explanations P (rel_of sets) assignment (row_at overs)) ≡ broken_methods P assignment
+  -- each method that is told is more than it may be, also one to which another leads, and has a reason, which is so
+  pub above : (x : ExplainedData) → Contains (explanations P (rel_of sets) assignment (row_at overs)) x → below_of x.found x.limit ≡ false
+  pub reasons : (x : ExplainedData) → Contains (explanations P (rel_of sets) assignment (row_at overs)) x → (method : Method) → slice_get P.methods x.method ≡ Some method
+      → IsReasonOf P (rel_of sets) assignment (row_at overs x.method) method x.limit x.why
+  -- and so has each access or call that lacks a lock: the line tells what lacks there
+  pub causes : (x : ExplainedData) → Contains (explanations P (rel_of sets) assignment (row_at overs)) x → (v : Visit) → x.why ≡ Wrong v
+      → (aliases : List Alias) → IsCause P (rel_of sets) assignment v.held v.part (cause_of P (rel_of sets) aliases v.held v.part)
   -- status 2 comes exactly where there is one; else it is 0, and nothing is written
   pub refused : (call.status ≡ 2) ↔ (broken_methods P assignment ≢ [])
   pub accepted : (call.status ≡ 0) ↔ (broken_methods P assignment ≡ [])

@@ -52,3 +52,16 @@ pub record WritesFront (order : Order) (name file : List ℕ) (told : List ℕ �
   pub text : List ℕ
   pub is : IsSomeText order name file told before now text
   pub written : AppendsFront old new text
+
+-- the line of a file that couldn't be read, or a text that belongs to some status and to bytes of the file, which are those that are told
+-- where the folder tells it
+pub data IsSomeTextToBytes (order : Order) (name : List ℕ) (told : List ℕ → Option (List ℕ)) (before now : List ℕ → ℕ) : List ℕ → Type 0 where
+  unread_line : IsUnread told before now name → IsSomeTextToBytes order name told before now (cannot_read_line name)
+  answer_to : (file : List ℕ) (status : ℕ) (text : List ℕ) → IfSome (told name) (λ bytes. file ≡ bytes) → Belongs order name file status text
+      → IsSomeTextToBytes order name told before now text
+
+-- a front of such a text was written
+pub record WritesFrontToBytes (order : Order) (name : List ℕ) (told : List ℕ → Option (List ℕ)) (before now : List ℕ → ℕ) (old new : Option (List ℕ)) : Type 0 where
+  pub text : List ℕ
+  pub is : IsSomeTextToBytes order name told before now text
+  pub written : AppendsFront old new text

@@ -8,16 +8,17 @@ ghost use Rattle.aj_explain_commands.specs.Answers.{Explains};
 ghost use Rattle.aj_explain_commands.specs.Explained.{AreTexts, AreWithin, aliases_at, page_of};
 ghost use Rattle.aj_explain_text.specs.Blocks.{IsBlock};
 ghost use Rattle.aj_rules.specs.Near.{rel_of};
+ghost use Rattle.aj_rules.specs.Search.{row_at};
 ghost use Rattle.aj_syntax.specs.Views.{member_of};
 
 use crate::told::Told;
 use aj_core::CoreProgram;
 use aj_effect_at::Assigned;
-use aj_explain::{Alias, Explained, Walk, aliases, explanations, only_locks};
+use aj_explain::{Alias, Explained, Walk, aliases, explanations};
 use aj_explain_text::{Page, write_block};
-use aj_paths::{MethodId, Path};
+use aj_paths::MethodId;
 use aj_places::{method_places, slot_names};
-use aj_rules::overriders;
+use aj_rules::{OverridingMethods, overriders};
 use std::alloc::{AllocError as NoMemory, Global};
 
 /// The final locals of a method's body that have paths; none of a method that isn't there.
@@ -38,7 +39,7 @@ fn aliases_of(
 fn add_block<A: Assigned>(
     told: &Told<'_, '_, '_>,
     walk: &Walk<'_, A>,
-    locks: &[Option<Path>],
+    over: &OverridingMethods,
     x: &Explained<'_>,
     text: &mut String,
 ) -> Result<(), NoMemory>
@@ -46,7 +47,7 @@ fn add_block<A: Assigned>(
     ensures { OnOk result ((lines : List ℕ) × (string_bytes text.new ≡ string_bytes text.old ++ lines)
         × IsBlock (program_of walk.now.program.now) (rel_of walk.now.sets.now) (A.Assigned.assigned walk.now.assigned.now)
         (page_of told.now.file.now told.now.index.now (table_data told.now.source.now.table) (map (λ m. member_of m.now) told.now.methods.now.items) x.now.method)
-        locks.now (aliases_at (program_of walk.now.program.now) (slice_get (program_of walk.now.program.now).methods x.now.method)) (explained_data x.now) lines) }
+        (row_at over.now) (aliases_at (program_of walk.now.program.now) (slice_get (program_of walk.now.program.now).methods x.now.method)) (explained_data x.now) lines) }
 {
     let member = told.methods[x.method.0 as usize];
     let offsets = method_places(walk.alloc, member)?;
@@ -59,28 +60,24 @@ fn add_block<A: Assigned>(
         slots: &slots,
         offsets: offsets.as_slice(),
     };
-    write_block(text, &page, walk, locks, known.as_slice(), x)
+    write_block(text, &page, walk, over, known.as_slice(), x)
 }
 
 /// The lines of these methods, one after the other.
 fn lines_of<A: Assigned>(
     told: &Told<'_, '_, '_>,
     walk: &Walk<'_, A>,
+    over: &OverridingMethods,
     all: &[Explained<'_>],
 ) -> Result<String, NoMemory>
     requires { AreWithin (length told.now.methods.now.items) (map explained_data all.now) }
     ensures { IfOk result (λ text. AreTexts (program_of walk.now.program.now) (rel_of walk.now.sets.now) (A.Assigned.assigned walk.now.assigned.now)
         (page_of told.now.file.now told.now.index.now (table_data told.now.source.now.table) (map (λ m. member_of m.now) told.now.methods.now.items))
-        (map explained_data all.now) (string_bytes text)) }
+        (row_at over.now) (map explained_data all.now) (string_bytes text)) }
 {
     let mut text = String::new(walk.alloc);
-    if all.is_empty() {
-        return Ok(text);
-    }
-    let found = only_locks(walk)?;
-    let locks = found.as_slice();
     for x in all {
-        add_block(told, walk, locks, x, &mut text)?;
+        add_block(told, walk, over, x, &mut text)?;
     }
     Ok(text)
 }
@@ -97,5 +94,5 @@ pub(crate) fn explained<A: Assigned>(
 {
     let over = overriders(walk.alloc, walk.program)?;
     let all = explanations(walk, &over)?;
-    lines_of(told, walk, all.as_slice())
+    lines_of(told, walk, &over, all.as_slice())
 }

@@ -1,6 +1,6 @@
 //! The top call of the program.
 
-ghost use Rattle.std.specs.Prelude.{◌≡◌, ◌⊎◌, ℕ, List, map, IfOk, string_bytes};
+ghost use Rattle.std.specs.Prelude.{◌≡◌, ◌⊎◌, ◌≤◌, ◌+◌, ℕ, List, map, IfOk, string_bytes};
 ghost use Rattle.std.specs.Io.KnownBytes.{Appends, Keeps};
 ghost use Rattle.aj_edge.specs.Faults.{Rose};
 ghost use Rattle.aj_outcomes.specs.Calls.{call_of};
@@ -11,7 +11,7 @@ ghost use Rattle.aj_explain_commands.specs.Outcomes.{IsOutcome};
 ghost use Rattle.aj_explain_commands.specs.Reading.{IsQuiet, IsUnread, IsOver};
 ghost use Rattle.aj_explain_commands.specs.Sentence.{ExplainsBroken};
 ghost use Rattle.aj_explain_commands.specs.Words.{IsRow, IsNoRow, usage_line};
-ghost use Rattle.aj_explain_commands.specs.Written.{IsAsked, IsExact, WritesAnswer, WritesAnswerToBytes, WritesFront};
+ghost use Rattle.aj_explain_commands.specs.Written.{IsAsked, IsExact, WritesAnswer, WritesAnswerToBytes, WritesFront, WritesFrontToBytes};
 
 use crate::answering::explain;
 use crate::lines::USAGE;
@@ -37,7 +37,8 @@ fn perform<F: Folder>(
     order: Order,
     name: &str,
 ) -> Result<Outcome, NoMemory>
-    ensures { IfOk result (λ o. IsOutcome order name.now (F.told folder.old) (F.faults folder.old) (F.faults folder.new) o.status (string_bytes o.text)) }
+    ensures outcome { IfOk result (λ o. IsOutcome order name.now (F.told folder.old) (F.faults folder.old) (F.faults folder.new) o.status (string_bytes o.text)) }
+    ensures opened { F.opened folder.new ≤ F.opened folder.old + 1 }
 {
     match read_file(alloc, folder, name, LARGEST_SOURCE) {
         Ok(bytes) => {
@@ -83,6 +84,13 @@ pub fn run<F: Folder, K: Sink>(alloc: Global, words: &[String], folder: &mut F, 
     // Whether or not the folder tells the file: it has bytes to which status and text are the answer.
     ensures bytes { (order : OrderData) (name : List ℕ) → IsRow (map string_bytes words.now) order name →
         Yields result ⊎ WritesAnswerToBytes order name (F.told folder.old) result (K.written sink.old) (K.written sink.new) }
+
+    // Where the sink failed, a front of such a text was written, or of the line of a file that can't be read.
+    ensures cut_short { (order : OrderData) (name : List ℕ) → IsRow (map string_bytes words.now) order name → result ≡ 7 →
+        WritesFrontToBytes order name (F.told folder.old) (F.faults folder.old) (F.faults folder.new) (K.written sink.old) (K.written sink.new) }
+
+    // The file is opened once, so the answer speaks of one file.
+    ensures opened { F.opened folder.new ≤ F.opened folder.old + 1 }
 
     // The file is told: each status comes exactly where its fact holds, and the text is the one that belongs to it.
     ensures exact { (order : OrderData) (name file : List ℕ) → IsAsked (map string_bytes words.now) (F.told folder.old) order name file → IsExact file result }

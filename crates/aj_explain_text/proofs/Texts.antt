@@ -1,5 +1,5 @@
 -- Texts that are written one behind the other.
-use Rattle.std.proofs.Common.{◌≡◌, ℕ, List, ◌++◌, ◌∙◌, ap, sym, append_assoc, codes, Result, Ok, Err, OnOk}
+use Rattle.std.proofs.Common.{◌≡◌, ℕ, List, ◌++◌, ◌∙◌, ap, sym, append_assoc, Result, Ok, Err, OnOk}
 use Rattle.std.specs.Bool.{if◌then◌else◌}
 use Rattle.std.specs.Result.{is_ok}
 
@@ -33,9 +33,9 @@ pub pushed : {T E : Type 0} (r : Result T E) (done left : List ℕ) {new : List 
 pushed (Ok x) done left is = is
 pushed (Err x) done left is = tt
 
--- a line feed that stands in the words is the one behind them
-pub noted : (old front words text : List ℕ) {new : List ℕ} → words ≡ text ++ codes "\n" → new ≡ old ++ (front ++ words) → new ≡ old ++ (front ++ text ++ codes "\n")
-noted old front words text ends_so is = is ∙ ap (λ bytes. old ++ bytes) (ap (λ bytes. front ++ bytes) ends_so ∙ sym (append_assoc front text (codes "\n")))
+-- the end of a line that stands in the words is the one behind them
+pub noted : (old front words text end : List ℕ) {new : List ℕ} → words ≡ text ++ end → new ≡ old ++ (front ++ words) → new ≡ old ++ (front ++ text ++ end)
+noted old front words text end ends_so is = is ∙ ap (λ bytes. old ++ bytes) (ap (λ bytes. front ++ bytes) ends_so ∙ sym (append_assoc front text end))
 
 -- pieces behind a start, one by one
 pub begun : (start gap kind : List ℕ) → start ++ (gap ++ kind ++ gap) ≡ start ++ gap ++ kind ++ gap

@@ -6,8 +6,6 @@ use Rattle.aj_explain.specs.declared.deeds.Deed.{Deed}
 use Rattle.aj_explain.specs.declared.deeds.Deed.TheVariants as deed
 use Rattle.aj_explain.specs.declared.deeds.Help.{Help}
 use Rattle.aj_explain.specs.declared.deeds.Help.TheVariants as helps
-use Rattle.aj_explain.specs.declared.deeds.Takes.{Takes}
-use Rattle.aj_explain.specs.declared.deeds.Takes.TheVariants as takes
 use Rattle.aj_paths.specs.Paths.{PathData}
 use Rattle.aj_report.specs.Verdicts.{title_text}
 use Rattle.aj_rules.specs.declared.guard.Guard.{Guard}
@@ -24,17 +22,16 @@ guard_text page guard.Unnamed = []
 guard_text page (guard.WriteNamed p) = codes ", which is guarded for writing only by " ++ path_in page p
 guard_text page guard.WriteUnnamed = codes ", which is guarded for writing only"
 
--- what a called method does, as far as it is known: it takes a lock, or it is this
-abbrev pub takes_text : PageData → Basic → Takes → List ℕ
-takes_text page b takes.Unknown = codes ", which is " ++ name_of b
-takes_text page b (takes.Named p) = codes ", which takes the lock of " ++ path_in page p ++ codes " and gives it back"
-takes_text page b takes.Unnamed = codes ", which takes a lock and gives it back"
+-- what a call does: it takes a lock, if it does nothing else; or else the callee is this
+abbrev pub takes_text : PageData → Basic → Option PathData → List ℕ
+takes_text page b None = codes ", which is " ++ name_of b
+takes_text page b (Some p) = codes ", which takes the lock of " ++ path_in page p ++ codes " and gives it back"
 
 -- what a step does
 abbrev pub deed_text : PageData → Deed → List ℕ
 deed_text page (deed.Reads receiver f guard) = codes "reads " ++ access_text page receiver f ++ guard_text page guard
 deed_text page (deed.Writes receiver f guard) = codes "writes " ++ access_text page receiver f ++ guard_text page guard
-deed_text page (deed.Calls m b takes) = codes "calls " ++ title_text page.table m ++ takes_text page b takes
+deed_text page (deed.Calls m b taken) = codes "calls " ++ title_text page.table m ++ takes_text page b taken
 deed_text page (deed.Locks p) = codes "takes the lock of " ++ path_in page p ++ codes " and gives it back"
 deed_text page deed.Prints = codes "prints"
 deed_text page deed.Starts = codes "starts a thread"

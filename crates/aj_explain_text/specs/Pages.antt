@@ -2,6 +2,7 @@
 use Rattle.std.specs.Prelude.{ℕ, List, ◌++◌, codes, slice_get, unwrap_or}
 use Rattle.aj_classes.specs.Table.{TableData}
 use Rattle.aj_lexer.specs.Places.{line_of, column_of, place_text}
+use Rattle.aj_explain_text.specs.Codes.{ending}
 
 -- the name of the file and its text, the class table, and of the method that is told the names of its slots and the offsets of its nodes
 pub record PageData : Type 0 where
@@ -31,6 +32,6 @@ front page at kind = place_front page at ++ kind ++ codes ": "
 abbrev pub note_front : PageData → ℕ → List ℕ
 note_front page node = front page (offset_of page node) (codes "note")
 
--- `FILE:LINE:COLUMN: note: TEXT`
-abbrev pub note_line : PageData → ℕ → List ℕ → List ℕ
-note_line page at text = front page at (codes "note") ++ text ++ codes "\n"
+-- `FILE:LINE:COLUMN: note: TEXT [CODE]`
+abbrev pub note_line : PageData → ℕ → (text code : List ℕ) → List ℕ
+note_line page at text code = front page at (codes "note") ++ text ++ ending code

@@ -8,7 +8,7 @@ ghost use Rattle.aj_explain_text.specs.Views.{page_data};
 use crate::page::Page;
 use crate::words::{write_access, write_lack, write_path};
 use aj_algebra::Basic;
-use aj_explain::{Deed, Help, Takes};
+use aj_explain::{Deed, Help};
 use aj_paths::Path;
 use aj_report::write_title;
 use aj_rules::Guard;
@@ -42,23 +42,22 @@ fn which_is(own: Basic) -> &'static str
     }
 }
 
-/// Writes what a called method does, as far as it is known.
+/// Writes what a call does: it takes a lock, if it does nothing else; or else the callee is this.
 fn write_takes(
     out: &mut String,
     page: &Page<'_, '_>,
     own: Basic,
-    takes: &Takes,
+    taken: &Option<Path>,
 ) -> Result<(), NoMemory>
-    ensures { OnOk result (string_bytes out.new ≡ string_bytes out.old ++ takes_text (page_data page.now) own takes.now) }
+    ensures { OnOk result (string_bytes out.new ≡ string_bytes out.old ++ takes_text (page_data page.now) own taken.now) }
 {
-    match takes {
-        Takes::Named(path) => {
+    match taken {
+        Some(path) => {
             out.push_str(", which takes the lock of ")?;
             write_path(out, page, path)?;
             out.push_str(" and gives it back")
         }
-        Takes::Unnamed => out.push_str(", which takes a lock and gives it back"),
-        Takes::Unknown => out.push_str(which_is(own)),
+        None => out.push_str(which_is(own)),
     }
 }
 
@@ -77,10 +76,10 @@ pub(crate) fn write_deed(out: &mut String, page: &Page<'_, '_>, deed: &Deed) -> 
             write_access(out, page, receiver, *field)?;
             write_guard(out, page, guard)
         }
-        Deed::Calls(callee, own, takes) => {
+        Deed::Calls(callee, own, taken) => {
             out.push_str("calls ")?;
             write_title(out, page.table, *callee)?;
-            write_takes(out, page, *own, takes)
+            write_takes(out, page, *own, taken)
         }
         Deed::Locks(path) => {
             out.push_str("takes the lock of ")?;

@@ -3,9 +3,11 @@
 
 mod blocks;
 mod causes;
+mod codes;
 mod deeds;
 mod listing;
 mod page;
+mod steps;
 mod words;
 
 pub use blocks::write_block;

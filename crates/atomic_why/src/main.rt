@@ -8,18 +8,22 @@ use aj_edge::{FileFolder, OutSink};
 pub use aj_explain_commands::run;
 use std::alloc::AllocError as NoMemory;
 use std::env;
+use std::io::ErrorKind;
 use std::process::ExitCode;
 
-/// The words of the command line, without the program's name.
+/// The words of the command line, without the program's name. Where one of them isn't UTF-8 there are none: it stands in no row.
 fn words_of(rt: &HostRuntime) -> Result<Vec<String>, NoMemory> {
     let mut words = Vec::new(rt.alloc());
-    let Ok(arguments) = env::args(rt) else {
-        return Err(NoMemory);
-    };
-    for word in arguments.skip(1) {
-        words.push(word)?;
+    match env::args(rt) {
+        Ok(arguments) => {
+            for word in arguments.skip(1) {
+                words.push(word)?;
+            }
+            Ok(words)
+        }
+        Err(error) if error.kind() == ErrorKind::InvalidData => Ok(words),
+        Err(_) => Err(NoMemory),
     }
-    Ok(words)
 }
 
 fn main(rt: HostRuntime) -> ExitCode {

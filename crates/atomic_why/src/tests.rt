@@ -14,32 +14,43 @@ const LOCKED: &str =
 const USAGE: &str = "usage: atomic_why FILE | --all FILE\n";
 
 /// Sources, each with its status and text: an error, two steps, a loop, a compound step with the method that it calls, an overriding
-/// method, a source that is refused as it stands, one that is accepted.
-static EXPLAINED: [(&str, u8, &str); 7] = [
+/// method, a lock that would help around all of it, a callee whose lock is held but which an overriding method makes a step, a source
+/// that is refused as it stands, one that is accepted.
+static EXPLAINED: [(&str, u8, &str); 9] = [
     (
         "class Main { int v guarded_by this; void main() { this.v = 7; } }",
         2,
-        "a:1:42: error: Main.main is declared cmpd, found error\na:1:51: note: this.v is guarded by this, which isn't held here; held: nothing\n",
+        "a:1:42: error: Main.main is declared cmpd, found error [lock-error]\na:1:51: note: this.v is guarded by this, which isn't held here; held: nothing [guard-not-held]\n",
     ),
     (
         "class Main { int u; atomic void main() { this.u = 1; this.u = 2; } }",
         2,
-        "a:1:33: error: Main.main is declared atomic, found cmpd\na:1:42: note: atomic step: writes this.u, which nothing guards\na:1:54: note: a second one: writes this.u, which nothing guards\na:1:54: note: between the two another thread may come in\na:1:42: note: no lock helps this step: nothing guards the field\na:1:54: note: no lock helps this step: nothing guards the field\n",
+        "a:1:33: error: Main.main is declared atomic, found cmpd [two-steps]\na:1:42: note: atomic step: writes this.u, which nothing guards [first-step]\na:1:54: note: a second one: writes this.u, which nothing guards [second-step]\na:1:54: note: between the two another thread may come in [gap-between]\na:1:42: note: no lock helps this step: nothing guards the field [help-unguarded]\na:1:54: note: no lock helps this step: nothing guards the field [help-unguarded]\n",
     ),
     (
         "class Main { int u; atomic void main() { while (true) { this.u = 1; } } }",
         2,
-        "a:1:33: error: Main.main is declared atomic, found cmpd\na:1:57: note: atomic step: writes this.u, which nothing guards\na:1:42: note: this loop makes it each time round, and between two times another thread may come in\na:1:57: note: no lock helps this step: nothing guards the field\n",
+        "a:1:33: error: Main.main is declared atomic, found cmpd [step-in-a-loop]\na:1:57: note: atomic step: writes this.u, which nothing guards [repeated-step]\na:1:42: note: this loop makes it each time round, and between two times another thread may come in [gap-loop]\na:1:57: note: no lock helps this step: nothing guards the field [help-unguarded]\n",
     ),
     (
         "class Main { int u; void main() { this.u = 1; this.u = 2; } atomic void f() { this.main(); } }",
         2,
-        "a:1:73: error: Main.f is declared atomic, found cmpd\na:1:84: note: compound step: calls Main.main, which is cmpd\na:1:84: note: inside it another thread may come in\na:1:84: note: no one lock that has a name here helps this step\na:1:26: note: Main.main is cmpd\na:1:35: note: atomic step: writes this.u, which nothing guards\na:1:47: note: a second one: writes this.u, which nothing guards\na:1:47: note: between the two another thread may come in\na:1:35: note: no lock helps this step: nothing guards the field\na:1:47: note: no lock helps this step: nothing guards the field\n",
+        "a:1:73: error: Main.f is declared atomic, found cmpd [compound-call]\na:1:84: note: compound step: calls Main.main, which is cmpd [compound-step]\na:1:84: note: inside it another thread may come in [gap-inside]\na:1:84: note: no one lock that has a name here helps this step [help-none-named]\na:1:26: note: Main.main is cmpd [two-steps]\na:1:35: note: atomic step: writes this.u, which nothing guards [first-step]\na:1:47: note: a second one: writes this.u, which nothing guards [second-step]\na:1:47: note: between the two another thread may come in [gap-between]\na:1:35: note: no lock helps this step: nothing guards the field [help-unguarded]\na:1:47: note: no lock helps this step: nothing guards the field [help-unguarded]\n",
     ),
     (
         "class A { int u; atomic void f() { } } class B extends A { atomic void f() { this.u = 1; this.u = 2; } } class Main { void main() { } }",
         2,
-        "a:1:30: error: A.f is declared atomic, found cmpd\na:1:72: note: B.f overrides it, and is cmpd\na:1:72: error: B.f is declared atomic, found cmpd\na:1:78: note: atomic step: writes this.u, which nothing guards\na:1:90: note: a second one: writes this.u, which nothing guards\na:1:90: note: between the two another thread may come in\na:1:78: note: no lock helps this step: nothing guards the field\na:1:90: note: no lock helps this step: nothing guards the field\n",
+        "a:1:30: error: A.f is declared atomic, found cmpd [overriding-method]\na:1:72: note: B.f overrides it, and is cmpd [overridden-by]\na:1:72: error: B.f is declared atomic, found cmpd [two-steps]\na:1:78: note: atomic step: writes this.u, which nothing guards [first-step]\na:1:90: note: a second one: writes this.u, which nothing guards [second-step]\na:1:90: note: between the two another thread may come in [gap-between]\na:1:78: note: no lock helps this step: nothing guards the field [help-unguarded]\na:1:90: note: no lock helps this step: nothing guards the field [help-unguarded]\n",
+    ),
+    (
+        "class Main { int v guarded_by this; void set() { synchronized (this) { this.v = 7; } } atomic void main() { this.set(); this.set(); } }",
+        2,
+        "a:1:100: error: Main.main is declared atomic, found cmpd [two-steps]\na:1:114: note: atomic step: calls Main.set, which takes the lock of this and gives it back [first-step]\na:1:126: note: a second one: calls Main.set, which takes the lock of this and gives it back [second-step]\na:1:126: note: between the two another thread may come in [gap-between]\na:1:100: note: with the lock of this held around all of it, Main.main is atomic [help-around]\n",
+    ),
+    (
+        "class A { int v guarded_by this; void m() { synchronized (this) { this.v = 1; } } } class B extends A { void m() { System.out.println(1); } } class Main { atomic void f(final A a) { synchronized (a) { a.m(); a.m(); } } void main() { } }",
+        2,
+        "a:1:168: error: Main.f is declared atomic, found cmpd [two-steps]\na:1:204: note: atomic step: calls A.m, which is atomic [first-step]\na:1:211: note: a second one: calls A.m, which is atomic [second-step]\na:1:211: note: between the two another thread may come in [gap-between]\na:1:204: note: no one lock that has a name here helps this step [help-none-named]\na:1:211: note: no one lock that has a name here helps this step [help-none-named]\n",
     ),
     ("class Main { }", 1, "a:1:1: error: no main\n"),
     (LOCKED, 0, ""),

@@ -17,8 +17,8 @@ pub walk_expr-returns : goal.walk_expr-returns
 walk_expr-returns g t c =
     let P = program_of c.args.walk.now.program.now in let rel = rel_of c.args.walk.now.sets.now in let A = g.A.Assigned.assigned c.args.walk.now.assigned.now in
     entered_expr P rel A (expr_of c.args.e.now) (has_path c.args.held.now) c.args.looped c.args.found.now c.enter.new.self c.inside_expr.new.found c.leave.new.self c.in_ok-effect.effect c.leave.result c.in_ok-place.place
-    c.in_ok-place.ensures.place c.in_ok-place.ensures.basics c.enter.ensures.steps c.enter.ensures.errors c.in_ok-effect.ensures
-    c.leave.ensures.effect c.leave.ensures.basics c.leave.ensures.steps c.leave.ensures.errors
+    c.in_ok-place.ensures.place c.in_ok-place.ensures.basics c.enter.ensures.steps c.enter.ensures.heavy c.in_ok-effect.ensures
+    c.leave.ensures.effect c.leave.ensures.basics c.leave.ensures.steps c.leave.ensures.heavy
 
 pub inside_expr-returns-in_ok-second-in-Binary : goal.inside_expr-returns-in_ok-second-in-Binary
 inside_expr-returns-in_ok-second-in-Binary g t c =
@@ -61,7 +61,7 @@ inside_expr-returns-in_ok-note-in-Call g t c =
     let own : c.in_ok-own-in-Call.own ≡ call_of P rel A c.in-Call.callee (path_of P e) (paths_of P es) H =
     c.in_ok-own-in-Call.ensures ∙ (λ i. call_of P rel A c.in-Call.callee (path_of P (expr_of (c.deref-in-Call-2.ensures i))) (paths_of P (exprs_from (c.as_slice-in-Call.ensures.value i))) H) in
     call_known P rel A (expr_of c.args.e.now) e c.in-Call.callee es H c.args.looped c.args.place c.note-in-Call.new.self c.in_ok-own-in-Call.own c.seq-in-Call.result c.seq-in-Call-2.result is c.requires one other own
-    c.note-in-Call.ensures.basics c.in_ok-note-in-Call.ensures.steps c.in_ok-note-in-Call.ensures.errors c.seq-in-Call.ensures c.seq-in-Call-2.ensures
+    c.note-in-Call.ensures.basics c.in_ok-note-in-Call.ensures.steps c.in_ok-note-in-Call.ensures.heavy c.seq-in-Call.ensures c.seq-in-Call-2.ensures
 
 pub inside_expr-returns-in_ok-passed-in-New : goal.inside_expr-returns-in_ok-passed-in-New
 inside_expr-returns-in_ok-passed-in-New g t c =

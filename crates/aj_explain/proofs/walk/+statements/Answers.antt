@@ -18,8 +18,8 @@ pub walk_stmt-returns : goal.walk_stmt-returns
 walk_stmt-returns g t c =
     let P = program_of c.args.walk.now.program.now in let rel = rel_of c.args.walk.now.sets.now in let A = g.A.Assigned.assigned c.args.walk.now.assigned.now in
     entered_stmt P rel A (stmt_of c.args.s.now) (has_path c.args.held.now) c.args.looped c.args.found.now c.enter.new.self c.inside_stmt.new.found c.leave.new.self c.in_ok-effect.effect c.leave.result c.in_ok-place.place
-    c.in_ok-place.ensures.place c.in_ok-place.ensures.basics c.enter.ensures.steps c.enter.ensures.errors c.in_ok-effect.ensures
-    c.leave.ensures.effect c.leave.ensures.basics c.leave.ensures.steps c.leave.ensures.errors
+    c.in_ok-place.ensures.place c.in_ok-place.ensures.basics c.enter.ensures.steps c.enter.ensures.heavy c.in_ok-effect.ensures
+    c.leave.ensures.effect c.leave.ensures.basics c.leave.ensures.steps c.leave.ensures.heavy
 
 pub walk_block-loop-s-init : goal.walk_block-loop-s-init
 walk_block-loop-s-init g t c =
@@ -73,7 +73,7 @@ inside_stmt-returns-in_ok-note-in-SetField g t c =
     let own : c.access-own.result ≡ access_of P true c.in-SetField.field (path_of P e) H =
     c.access-own.ensures ∙ ap (λ z. access_of P true c.in-SetField.field (path_of P (expr_of z)) H) c.deref-in-SetField-2.ensures in
     set_field_known P rel A (stmt_of c.args.s.now) e c.in-SetField.field f H loop c.args.place c.note.new.self c.access-own.result c.seq.result c.seq-in-SetField.result (ap stmt_of c.in-SetField.is) c.requires one other own
-    c.note.ensures.basics c.in_ok-note-in-SetField.ensures.steps c.in_ok-note-in-SetField.ensures.errors c.seq.ensures c.seq-in-SetField.ensures
+    c.note.ensures.basics c.in_ok-note-in-SetField.ensures.steps c.in_ok-note-in-SetField.ensures.heavy c.seq.ensures c.seq-in-SetField.ensures
 
 pub inside_stmt-returns-in_ok-either-in-If : goal.inside_stmt-returns-in_ok-either-in-If
 inside_stmt-returns-in_ok-either-in-If g t c =
@@ -108,7 +108,7 @@ inside_stmt-returns-in_ok-note_lock-in-Sync g t c =
     let w = subst (λ ps. WalkedStmt P rel A s (has_path ps) loop old c.in_ok-taken-in-Sync.taken mid) (c.as_slice-in-Sync.ensures.value ∙ c.in_ok-more-in-Sync.ensures)
     (subst (λ z. WalkedStmt P rel A (stmt_of z) (has_path c.as_slice-in-Sync.result.now) loop old c.in_ok-taken-in-Sync.taken mid) c.deref-in-Sync.ensures c.in_ok-taken-in-Sync.ensures) in
     taken_known P rel A (stmt_of c.args.s.now) c.in-Sync.path s H loop c.args.place c.note_lock.new.found c.lift.result (ap stmt_of c.in-Sync.is) (sym c.has.ensures ∙ c.if-has.false) c.requires w
-    c.note_lock.ensures.basics c.in_ok-note_lock-in-Sync.ensures.steps c.in_ok-note_lock-in-Sync.ensures.errors c.lift.ensures
+    c.note_lock.ensures.basics c.in_ok-note_lock-in-Sync.ensures.steps c.in_ok-note_lock-in-Sync.ensures.heavy c.lift.ensures
 
 pub walk_branches-returns : goal.walk_branches-returns
 walk_branches-returns g t c =
@@ -116,9 +116,9 @@ walk_branches-returns g t c =
     let H = has_path c.args.held.now in let loop = c.args.looped in let old = c.args.found.now in
     branches_walked P rel A (stmt_of c.args.a.now) (stmt_of c.args.b.now) H loop old c.set_aside-before.new.self c.walk_stmt.new.found c.set_aside-steps.new.self c.walk_stmt-2.new.found c.choose.new.self c.put_before.new.self
     c.in_ok-first.first c.in_ok-second.second c.join.result
-    c.set_aside-before.ensures.basics c.set_aside-before.ensures.steps c.set_aside-before.ensures.errors c.in_ok-first.ensures
-    c.set_aside-steps.ensures.basics c.set_aside-steps.ensures.steps c.set_aside-steps.ensures.errors c.in_ok-second.ensures
+    c.set_aside-before.ensures.basics c.set_aside-before.ensures.steps c.set_aside-before.ensures.heavy c.in_ok-first.ensures
+    c.set_aside-steps.ensures.basics c.set_aside-steps.ensures.steps c.set_aside-steps.ensures.heavy c.in_ok-second.ensures
     c.below.result c.below.ensures
-    c.choose.ensures.basics (c.choose.ensures.steps ∙ ap (λ z. if c.below.result then z.items else c.walk_stmt-2.new.found.steps.items) c.set_aside-steps.ensures.result) c.choose.ensures.errors
-    c.put_before.ensures.basics (c.in_ok-put_before.ensures.steps ∙ ap (λ z. z.items ++ c.choose.new.self.steps.items) c.set_aside-before.ensures.result) c.put_before.ensures.errors
+    c.choose.ensures.basics (c.choose.ensures.steps ∙ ap (λ z. if c.below.result then z.items else c.walk_stmt-2.new.found.steps.items) c.set_aside-steps.ensures.result) c.choose.ensures.heavy
+    c.put_before.ensures.basics (c.in_ok-put_before.ensures.steps ∙ ap (λ z. z.items ++ c.choose.new.self.steps.items) c.set_aside-before.ensures.result) c.put_before.ensures.heavy
     c.join.ensures

@@ -30,6 +30,6 @@ returns c =
     let trees = c.in_ok-judged.judged.trees.items in
     let methods = c.in_ok-methods.methods.items in
     judged_text c.args.order c.args.file.now (tree_of c.args.tree.now) c.args.index.now source (map cond_of trees) c.in_ok-judged.judged.ending (string_bytes c.in_ok-text.text)
-    (table_data source.table) (map (λ m. member_of m.now) methods) c.in_ok-judged.ensures c.requires.table c.in_ok-methods.ensures
+    (table_data source.table) (map (λ m. member_of m.now) methods) c.requires.typed c.in_ok-judged.ensures c.requires.table c.in_ok-methods.ensures
     (subst (λ ts. IsText c.args.order (program_of source.program) (rel_of source.sets) (shown (map cond_of ts))
     (page_of c.args.file.now c.args.index.now (table_data source.table) (map (λ m. member_of m.now) methods)) (string_bytes c.in_ok-text.text)) c.as_slice.ensures.value c.in_ok-text.ensures)

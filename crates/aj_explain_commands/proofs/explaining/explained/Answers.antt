@@ -30,10 +30,10 @@ returns g c =
     let A = g.A.Assigned.assigned walk.assigned.now in
     let pages = page_of told.file.now told.index.now (table_data told.source.now.table) (map (λ m. member_of m.now) told.methods.now.items) in
     let found = seen_in c.as_slice.result.now c.in_ok-all.all.items _ c.as_slice.ensures.value c.in_ok-all.ensures in
-    IfOk-weaker c.lines_of.result (λ text. AreTexts P rel A pages (map explained_data c.as_slice.result.now) (string_bytes text)) (λ text. Explains P rel A pages (string_bytes text))
+    IfOk-weaker c.lines_of.result (λ text. AreTexts P rel A pages (row_at c.in_ok-over.over) (map explained_data c.as_slice.result.now) (string_bytes text)) (λ text. Explains P rel A pages (string_bytes text))
     (λ text are. record {
       overs = c.in_ok-over.over;
       are_overs = c.in_ok-over.ensures;
-      texts = subst (λ xs. AreTexts P rel A pages xs (string_bytes text)) found are;
+      texts = subst (λ xs. AreTexts P rel A pages (row_at c.in_ok-over.over) xs (string_bytes text)) found are;
     })
     c.lines_of.ensures

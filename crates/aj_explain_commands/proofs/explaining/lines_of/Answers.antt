@@ -1,27 +1,20 @@
 -- The lines of one method more.
-use Rattle.std.proofs.Common.{length, map, string_bytes, sym, ◌∙◌, eqb-true}
+use Rattle.std.proofs.Common.{length, map, string_bytes}
 use Rattle.aj_classes.specs.Views.{table_data}
 use Rattle.aj_core.specs.Views.{program_of}
 use Rattle.aj_explain_commands.specs.Explained.{page_of}
-use Rattle.aj_explain_commands.proofs.Writing.{all_so_far, more_so_far, no_lines, none_so_far, within_at}
+use Rattle.aj_explain_commands.proofs.Writing.{all_so_far, more_so_far, none_so_far, within_at}
 use Rattle.aj_rules.specs.Near.{rel_of}
+use Rattle.aj_rules.specs.Search.{row_at}
 use Rattle.aj_syntax.specs.Views.{member_of}
 use Rattle.aj_explain_commands.proofs.explaining.lines_of.Goals as goal
-
-pub returns-then-is_empty : goal.returns-then-is_empty
-returns-then-is_empty g c =
-    let told = c.args.told.now in
-    let walk = c.args.walk.now in
-    no_lines (program_of walk.program.now) (rel_of walk.sets.now) (g.A.Assigned.assigned walk.assigned.now)
-    (page_of told.file.now told.index.now (table_data told.source.now.table) (map (λ m. member_of m.now) told.methods.now.items))
-    c.args.all.now (string_bytes c.new-text.result) (eqb-true _ _ (sym c.is_empty.ensures ∙ c.if-is_empty.true)) c.new-text.ensures.bytes
 
 pub loop-x-init : goal.loop-x-init
 loop-x-init g c =
     let told = c.args.told.now in
     let walk = c.args.walk.now in
     none_so_far (program_of walk.program.now) (rel_of walk.sets.now) (g.A.Assigned.assigned walk.assigned.now)
-    (page_of told.file.now told.index.now (table_data told.source.now.table) (map (λ m. member_of m.now) told.methods.now.items))
+    (page_of told.file.now told.index.now (table_data told.source.now.table) (map (λ m. member_of m.now) told.methods.now.items)) (row_at c.args.over.now)
     c.args.all.now (string_bytes c.new-text.result) c.new-text.ensures.bytes
 
 pub add_block-requires : goal.add_block-requires
@@ -33,14 +26,13 @@ loop-x-preserved g c =
     let walk = c.args.walk.now in
     let added = c.in_ok-add_block.ensures in
     more_so_far (program_of walk.program.now) (rel_of walk.sets.now) (g.A.Assigned.assigned walk.assigned.now)
-    (page_of told.file.now told.index.now (table_data told.source.now.table) (map (λ m. member_of m.now) told.methods.now.items))
-    c.args.all.now c.loop-x.x-index c.x-item.result c.as_slice-locks.result.now c.in_ok-found.found.items (string_bytes c.loop-x.text) (string_bytes c.add_block.new.text) added.0 c.loop-x-test.true c.x-item.is
-    c.as_slice-locks.ensures.value c.in_ok-found.ensures added.1 added.2 c.loop-x.invariant
+    (page_of told.file.now told.index.now (table_data told.source.now.table) (map (λ m. member_of m.now) told.methods.now.items)) (row_at c.args.over.now)
+    c.args.all.now c.loop-x.x-index c.x-item.result (string_bytes c.loop-x.text) (string_bytes c.add_block.new.text) added.0 c.loop-x-test.true c.x-item.is added.1 added.2 c.loop-x.invariant
 
 pub returns : goal.returns
 returns g c =
     let told = c.args.told.now in
     let walk = c.args.walk.now in
     all_so_far (program_of walk.program.now) (rel_of walk.sets.now) (g.A.Assigned.assigned walk.assigned.now)
-    (page_of told.file.now told.index.now (table_data told.source.now.table) (map (λ m. member_of m.now) told.methods.now.items))
+    (page_of told.file.now told.index.now (table_data told.source.now.table) (map (λ m. member_of m.now) told.methods.now.items)) (row_at c.args.over.now)
     c.args.all.now c.loop-x.x-index (string_bytes c.loop-x.text) c.loop-x-test.false c.loop-x.invariant

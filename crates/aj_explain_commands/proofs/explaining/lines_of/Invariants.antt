@@ -4,6 +4,7 @@ use Rattle.aj_core.specs.Views.{program_of}
 use Rattle.aj_explain_commands.specs.Explained.{page_of}
 use Rattle.aj_explain_commands.proofs.Writing.{AreSoFar}
 use Rattle.aj_rules.specs.Near.{rel_of}
+use Rattle.aj_rules.specs.Search.{row_at}
 use Rattle.aj_syntax.specs.Views.{member_of}
 use Rattle.aj_explain_commands.proofs.explaining.lines_of.Given as goal
 
@@ -11,5 +12,5 @@ use Rattle.aj_explain_commands.proofs.explaining.lines_of.Given as goal
 abbrev pub invariant-loop-x : goal.invariant-loop-x
 invariant-loop-x g l =
     AreSoFar (program_of l.walk.program.now) (rel_of l.walk.sets.now) (g.A.Assigned.assigned l.walk.assigned.now)
-    (page_of l.told.file.now l.told.index.now (table_data l.told.source.now.table) (map (λ m. member_of m.now) l.told.methods.now.items))
+    (page_of l.told.file.now l.told.index.now (table_data l.told.source.now.table) (map (λ m. member_of m.now) l.told.methods.now.items)) (row_at l.over)
     l.all l.x-index (string_bytes l.text)

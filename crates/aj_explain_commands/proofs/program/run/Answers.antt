@@ -2,7 +2,7 @@
 use Rattle.std.proofs.Common.{map, string_bytes, subst, refl, inl}
 use Rattle.aj_outcomes.specs.Said.{Says}
 use Rattle.aj_explain_commands.specs.declared.words.Order.TheVariants.{Why}
-use Rattle.aj_explain_commands.proofs.Runs.{IsDone, exact, answered, front, unreadable, over_limit, quiet, to_bytes, complete}
+use Rattle.aj_explain_commands.proofs.Runs.{IsDone, exact, answered, front, unreadable, over_limit, quiet, to_bytes, cut_short, complete}
 use Rattle.aj_explain_commands.proofs.Telling.{sentence_of, calm_file}
 use Rattle.aj_explain_commands.proofs.program.run.Given.{Over}
 use Rattle.aj_explain_commands.proofs.program.run.Goals as goal
@@ -15,7 +15,7 @@ the_row g c = record {
   is_row = c.in-Some.ensures;
   status = c.in-Ok.outcome.status;
   text = string_bytes c.in-Ok.outcome.text;
-  outcome = c.in-Ok.ensures;
+  outcome = c.in-Ok.ensures.outcome;
   said = subst (λ text. Says c.say-in-Ok.result c.in-Ok.outcome.status text (g.K.Sink.written c.args.sink.now) (g.K.Sink.written c.say-in-Ok.new.sink) (g.K.Sink.faults c.args.sink.now) (g.K.Sink.faults c.say-in-Ok.new.sink))
       c.as_bytes.ensures.value c.say-in-Ok.ensures;
 }
@@ -58,3 +58,6 @@ returns-in-Err-clause-sentence g c = sentence_of _ (λ name file asked calm. inl
 
 pub returns-in_default-clause-sentence : goal.returns-in_default-clause-sentence
 returns-in_default-clause-sentence g c = sentence_of _ (λ name file asked calm. absurd (c.in_default.ensures Why name asked.is_row))
+
+pub returns-in-Ok-clause-cut_short : goal.returns-in-Ok-clause-cut_short
+returns-in-Ok-clause-cut_short g c = λ order name is seven. cut_short _ _ _ _ _ _ _ _ _ (the_row g c) order name is seven

@@ -5,8 +5,7 @@ use Rattle.aj_core.specs.Views.{program_of}
 use Rattle.aj_rules.specs.Near.{rel_of}
 use Rattle.aj_explain.specs.Causes.{ArePaths, cause_of}
 use Rattle.aj_explain.specs.Views.{part_of}
-use Rattle.aj_explain_text.specs.CauseTexts.{cause_text}
-use Rattle.aj_explain_text.specs.Pages.{note_line, offset_of}
+use Rattle.aj_explain_text.specs.Blocks.{cause_line}
 use Rattle.aj_explain_text.specs.Views.{page_data}
 use Rattle.aj_explain_text.proofs.blocks.write_wrong.Goals as goal
 
@@ -23,4 +22,4 @@ returns g c =
     subst (λ h. c.in_ok-cause.cause ≡ cause_of (program_of walk.program.now) (rel_of walk.sets.now) c.args.aliases.now (has_path h) (part_of c.args.error.now.part)) c.as_slice-here.ensures.value
     c.in_ok-cause.ensures in
     on_ok_weaker c.write_error.result
-    (λ is. (_, is, record { held = told; are_held = ascends; text_is = ap (λ x. note_line page (offset_of page c.args.error.now.node) (cause_text page told x)) why })) c.write_error.ensures
+    (λ is. (_, is, record { held = told; are_held = ascends; text_is = ap (cause_line page c.args.error.now.node told) why })) c.write_error.ensures

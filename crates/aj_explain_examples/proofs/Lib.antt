@@ -1,0 +1,1 @@
+-- None of its own: the check computes each clause.

@@ -1,0 +1,10 @@
+//! Examples of explanations, which the check computes.
+#![tactic(auto)]
+
+pub mod basics;
+pub mod causes;
+pub mod deeds;
+pub mod names;
+pub mod reasons;
+pub mod takings;
+pub mod walks;

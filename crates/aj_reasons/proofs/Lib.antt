@@ -1,0 +1,5 @@
+-- Lemmas.
+pub mod LeastRuns
+pub mod Causing
+pub mod Helpless
+pub mod ToldAbove

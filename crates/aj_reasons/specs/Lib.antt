@@ -1,0 +1,3 @@
+-- What lines of explanations mean: what is wrong with an error (Causing), and that no lock helps where none is told (Helpless).
+pub mod Causing
+pub mod Helpless
