@@ -166,7 +166,8 @@ class ToolsChecker:
         lines = self.run(command)[1].splitlines()
         taken = [found.groups() for found in map(GCC.match, lines) if found]
         errors = [fact for fact in facts("\n".join(lines)) if fact.word == "error"]
-        wanted = [(fact.file, str(fact.line), str(fact.column), fact.word, fact.text) for fact in errors]
+        coded = [(fact, f"{fact.text} [{fact.code}]") for fact in errors]
+        wanted = [(fact.file, str(fact.line), str(fact.column), "error", text) for fact, text in coded]
         self.expect("docs/editors.md: what $gcc takes", wanted, taken)
 
     def hook(self) -> None:

@@ -26,10 +26,13 @@ from random_source import Generator
 
 EXAMPLES = os.path.join(os.path.dirname(os.path.abspath(__file__)), "..", "examples")
 TOKEN = re.compile(r"//[^\n]*|/\*.*?\*/|[A-Za-z_]\w*|\d+|\S", re.S)
-LINE = re.compile(r"(.*?):(\d+):(\d+): (error|note): (.*)")
+LINE = re.compile(r"(.*?):(\d+):(\d+): (?:error|note): (.*) \[([a-z-]+)\]")
 # a second step that is cmpd is a call of the method itself, and hands on to nothing
 HANDS_ON = re.compile(r"(?:atomic step: |compound step: )?calls ([\w.]+), which is (?:an error itself|cmpd)")
-NAMES_A_PLACE = re.compile(r"atomic step|compound step|a second one|calls |.* is guarded ")
+# the codes of the lines that begin an explanation, and of those that name a place
+HEADS = {"lock-error", "two-steps", "step-in-a-loop", "compound-call", "overriding-method"}
+PLACES = {"first-step", "second-step", "repeated-step", "compound-step"}
+PLACES |= {"guard-not-held", "guard-unnamed", "required-not-held", "required-unnamed", "calls-an-error"}
 KINDS = ["lock", "split", "requires", "guard"]
 LARGER, TOGETHER = 10, 10
 
@@ -115,13 +118,13 @@ def errors_of(text):
 
 
 def blocks_of(lines):
-    """The explanations: of each the method, and its notes."""
+    """The explanations: of each the method, and its notes that name a place."""
     blocks = []
     for line in lines:
-        _, row, column, kind, text = LINE.fullmatch(line).groups()
-        if kind == "error" or re.fullmatch(r"[\w.]+ is cmpd", text):
+        _, row, column, text, code = LINE.fullmatch(line).groups()
+        if code in HEADS:
             blocks.append((text.split()[0], []))
-        else:
+        elif code in PLACES:
             blocks[-1][1].append((int(row), int(column), text))
     return blocks
 
@@ -133,8 +136,7 @@ def named(text, lines):
         starts.append(starts[-1] + len(line) + 1)
     blocks = blocks_of(lines)
     explained = {method for method, _ in blocks}
-    for _, notes in blocks:
-        own = [note for note in notes if NAMES_A_PLACE.match(note[2])]
+    for _, own in blocks:
         hands = [HANDS_ON.match(note[2]) for note in own]
         if own and not any(found and found[1] in explained for found in hands):
             return [starts[row - 1] + column - 1 for row, column, _ in own], [words for _, _, words in own]

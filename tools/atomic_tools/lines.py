@@ -1,4 +1,5 @@
-"""The lines of `atomic_why`: `FILE:LINE:COLUMN: WORD: TEXT`, as compilers write them; ` [CODE]` may stand at the end.
+"""The lines of `atomic_why`: `FILE:LINE:COLUMN: WORD: TEXT [CODE]`, as compilers write them. What a line says is read
+by its code (docs/why.md, "Codes"); lines of sources that are no program, and those of `--all`, have none.
 
     facts(text)            each such line as a Fact
     explained(facts)       the facts by methods: the line that names a method, and the notes on it
@@ -13,7 +14,10 @@ from typing import Optional
 
 # a place has at most nine digits: a source has at most 262,144 bytes
 LINE = re.compile(r"(.*):([0-9]{1,9}):([0-9]{1,9}): (\w+): (.*?)(?: \[([a-z-]+)\])?", re.ASCII | re.DOTALL)
-COMPOUND = re.compile(r"\w+\.\w+ is (const|mover|atomic|cmpd|error)")
+# the codes of the lines that begin an explanation
+HEADS = frozenset(["lock-error", "two-steps", "step-in-a-loop", "compound-call", "overriding-method"])
+# the codes of notes on accesses and calls that lack a lock
+ERRORS = frozenset(["guard-not-held", "guard-unnamed", "required-not-held", "required-unnamed", "calls-an-error"])
 
 
 @dataclass(frozen=True, eq=False)
@@ -30,6 +34,15 @@ class Fact:
     def shown(self) -> str:
         """The line without the file's name."""
         return f"{self.line}:{self.column}: {self.word}: {self.text}"
+
+    @property
+    def is_step(self) -> bool:
+        return self.code.endswith("-step")
+
+    @property
+    def is_gap(self) -> bool:
+        """Whether it tells where another thread may come in."""
+        return self.code.startswith("gap-")
 
 
 def fact_of(line: str, name: Optional[str]) -> Optional[Fact]:
@@ -57,7 +70,7 @@ def explained(given: Iterable[Fact]) -> list[list[Fact]]:
     """The facts by methods: the line that names the method, and the notes on it."""
     groups: list[list[Fact]] = []
     for fact in given:
-        if fact.word == "error" or COMPOUND.fullmatch(fact.text) or not groups:
+        if fact.word == "error" or fact.code in HEADS or not groups:
             groups.append([])
         groups[-1].append(fact)
     return groups

@@ -7,7 +7,7 @@ from collections.abc import Hashable
 from typing import NamedTuple, Optional, Union
 
 from .markup import samp, tag, text
-from .marks import GAP, Marks, Note, badge
+from .marks import Marks, Note, badge
 from .parts import Method, Part
 from .said import said_of
 from .source import Source
@@ -236,7 +236,7 @@ class Listing:
 
 def note_of(note: Note) -> str:
     fact = note.fact
-    classes = f"why {fact.word}" + (" gap" if GAP.match(fact.text) else "") + (" between" if note.joined else "")
+    classes = f"why {fact.word}" + (" gap" if fact.is_gap else "") + (" between" if note.joined else "")
     # a warning is the script's
     words = text(fact.text) if fact.word == "warning" else samp(fact.text)
     return tag("p", tag("span", badge(note.number) + words), class_=classes)

@@ -2,20 +2,13 @@
 and the lines from one step to the other."""
 from __future__ import annotations
 
-import re
 from collections.abc import Iterable
 from typing import NamedTuple, Optional, Union
 
-from .lines import Fact
+from .lines import ERRORS, Fact
 from .markup import tag
 from .parts import Part
 from .source import Source
-
-# the note that tells of another thread
-GAP = re.compile("between the two |this loop makes it |inside it ")
-# the notes that name a step
-STEP = re.compile("(atomic|compound) step: |a second one: ")
-OVERRIDES = re.compile(r"\S+ (overrides it, and )?is \w+$")
 
 # the number of a step, `!` for an error
 Number = Optional[Union[int, str]]
@@ -40,11 +33,11 @@ class Marks:
             self.add(group)
 
     def add(self, group: list[Fact]) -> None:
-        steps = [note for note in group[1:] if STEP.match(note.text)]
+        steps = [note for note in group[1:] if note.is_step]
         lines = sorted(note.line for note in steps)
         for fact in group:
             number = self.number(fact, steps)
-            apart = bool(GAP.match(fact.text)) and len(set(lines)) > 1
+            apart = fact.is_gap and len(set(lines)) > 1
             joined = apart or bool(lines) and lines[0] <= fact.line < lines[-1]
             (self.before if apart else self.behind).setdefault(fact.line, []).append(Note(number, fact, joined))
         if lines and lines[0] < lines[-1]:
@@ -53,13 +46,13 @@ class Marks:
     def number(self, fact: Fact, steps: list[Fact]) -> Number:
         """The number of the step that a note is about, counted from 1, or a `!` where it names an error; the text
         gets it, too."""
-        is_wrong = fact.word == "note" and not steps and not OVERRIDES.match(fact.text)
+        is_wrong = fact.code in ERRORS
         if fact in steps or is_wrong:
             number: Number = "!" if is_wrong else 1 + steps.index(fact)
             self.numbers.setdefault(self.source.part_at(self.source.offset(fact.line, fact.column)), number)
             return number
         places = [(note.line, note.column) for note in steps]
-        about = fact.word == "note" and not GAP.match(fact.text) and (fact.line, fact.column) in places
+        about = fact.word == "note" and not fact.is_gap and (fact.line, fact.column) in places
         return 1 + places.index((fact.line, fact.column)) if about else None
 
 

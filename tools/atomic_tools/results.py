@@ -16,10 +16,9 @@ from .programs import explanations
 
 
 class Rule(NamedTuple):
-    """Why a method is refused: how the first note of such an explanation begins, what it says, and what helps."""
+    """Why a method is refused: the code of its explanation, what it says, and what helps."""
 
     name: str
-    pattern: Optional[str]
     says: str
     help: str
     level: str = "error"
@@ -28,53 +27,61 @@ class Rule(NamedTuple):
 RULES = [
     Rule(
         "guard-not-held",
-        r".* is guarded (for writing )?by |calls \S+, which requires ",
-        "an access or a call without a lock that it needs",
+        "an access without the lock that guards its field",
         "Take the lock around the access with `synchronized`, or say `requires` behind the method's parameters, so "
         "that each caller takes it. A lock counts under the name that the guard has: a second name of "
         "the same object is a second lock here.",
     ),
     Rule(
+        "guard-unnamed",
+        "an access whose guard has no name there",
+        "Name the object by a final variable that is declared where the lock is held, or take the lock by that name.",
+    ),
+    Rule(
+        "required-not-held",
+        "a call without a lock that the called method requires",
+        "Take the lock around the call with `synchronized`, or say `requires` behind the method's parameters, so that "
+        "each caller takes it.",
+    ),
+    Rule(
+        "required-unnamed",
+        "a call whose called method requires a lock that has no name there",
+        "Put the object into a final variable first, and take its lock by that name.",
+    ),
+    Rule(
         "calls-an-error",
-        r"calls \S+, which is an error itself",
         "a call of a method that touches a field without its guard",
         "The called method has its own result, which says what it touches. Mend that one first.",
     ),
     Rule(
         "two-steps",
-        r"atomic step: .*",
         "two steps that can't be moved, between which another thread may come in",
         "Hold the lock that the notes name around both steps. Where no lock helps, give the field a guard, or take "
         "`atomic` away.",
     ),
     Rule(
         "step-in-a-loop",
-        None,
         "a step that can't be moved, made each time round",
         "Hold a lock around the loop that makes the step a mover, as the notes say. Or make the step once.",
     ),
     Rule(
         "compound-call",
-        r"compound step: ",
         "a call of a method that is compound itself",
         "The called method promises nothing: others may come in while it runs. Hold its locks around the call, or make "
         "it atomic.",
     ),
     Rule(
         "overriding-method",
-        r"\S+ overrides it, and is ",
         "a method that overrides this one is more",
         "A call of this method may run the overriding one. Mend that one, or promise less here.",
     ),
     Rule(
         "not-well-formed",
-        None,
         "the source is no well-formed program",
         "Only the first fault of a source is told. Mend it, and check again: docs/repairs.md has a row for each.",
     ),
     Rule(
         "unicode-escape",
-        None,
         "a unicode escape, which Java reads within comments, too",
         "Write the character itself, or put a second backslash before the first. In a comment, `\\u002a/` ends the "
         "comment in Java.",
@@ -82,8 +89,6 @@ RULES = [
     ),
 ]
 IDS = [rule.name for rule in RULES]
-# codes of lines that belong to a rule of another name
-CODES = {"guard-unnamed": "guard-not-held", "required-not-held": "guard-not-held", "required-unnamed": "guard-not-held"}
 # readers hold a line's number in 32 bits
 MOST_LINES = 2**31 - 1
 
@@ -181,16 +186,9 @@ def result_of(group: list[Fact], texts: Texts) -> Result:
 
 
 def rule_of(head: Fact, notes: list[Fact]) -> str:
-    """The rule of an explanation: by its codes where the lines have some, else by how they begin."""
+    """The rule of an explanation: the code of its first line, or of what lacks a lock; without one it is no program."""
     code = notes[0].code if head.code == "lock-error" and notes else head.code
-    if code:
-        return CODES.get(code, code) if CODES.get(code, code) in IDS else "not-well-formed"
-    if not notes:
-        return "not-well-formed"
-    if any(note.text.startswith("this loop makes it") for note in notes):
-        return "step-in-a-loop"
-    found = (rule.name for rule in RULES if rule.pattern and re.match(rule.pattern, notes[0].text))
-    return next(found, "not-well-formed")
+    return code if code in IDS else "not-well-formed"
 
 
 # Where results come from.

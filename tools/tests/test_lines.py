@@ -5,9 +5,9 @@ import unittest
 
 from atomic_tools.lines import by_parts, explained, facts
 
-TEXT = """f.java:4:17: error: A.b is declared atomic, found cmpd
-f.java:5:9: note: atomic step: writes this.low, which nothing guards
-f.java:9:3: error: A.c is declared cmpd, found error
+TEXT = """f.java:4:17: error: A.b is declared atomic, found cmpd [two-steps]
+f.java:5:9: note: atomic step: writes this.low, which nothing guards [first-step]
+f.java:9:3: note: A.c is cmpd [two-steps]
 """
 
 

@@ -10,9 +10,9 @@ from urllib.parse import unquote
 from .sarif_rules import faults
 from .support import ACCEPTED, EVIL, EXAMPLES, REFUSED, InFolder, run
 
-LINES = b"""f.java:0:0: error: A.b is declared atomic, found cmpd
-f.java:0:7: note: atomic step: writes this.low, which nothing guards
-f.java:99999999:5: note: a second one: x
+LINES = b"""f.java:0:0: error: A.b is declared atomic, found cmpd [two-steps]
+f.java:0:7: note: atomic step: writes this.low, which nothing guards [first-step]
+f.java:99999999:5: note: a second one: x [second-step]
 """
 
 
@@ -50,7 +50,7 @@ class Reports(InFolder):
         )
 
     def test_a_code_names_the_rule(self) -> None:
-        rows = {"two-steps": "two-steps", "lock-error": "guard-not-held", "overriding-method": "overriding-method"}
+        rows = {"two-steps": "two-steps", "lock-error": "required-unnamed", "overriding-method": "overriding-method"}
         for code, rule in rows.items():
             given = f"f.java:1:2: error: x [{code}]\nf.java:1:2: note: y [required-unnamed]\n".encode()
             result = results(self.run_tool("atomic-sarif", "-", given=given).text)[0]

@@ -7,7 +7,7 @@ import java.util.regex.Pattern;
 
 /** Brings the lines of {@code atomic_why} back to the places and names of the Java sources. */
 public final class Answer {
-    private static final Pattern LINE = Pattern.compile("(\\d+):(\\d+): (error|note): (.*)");
+    private static final Pattern LINE = Pattern.compile("(\\d+):(\\d+): (error|note): (.*?)(?: \\[[a-z-]+\\])?");
     private static final Pattern CHAIN = Pattern.compile("[A-Za-z_][A-Za-z0-9_]*(\\.[A-Za-z_][A-Za-z0-9_]*)*");
     private static final Pattern HEAD = Pattern.compile("\\S+ is (const|mover|atomic|cmpd|error)|.* is declared .*");
 
