@@ -86,9 +86,9 @@ def tables(text: str) -> Parts:
 
 
 def uses_cell(name: str, crates: Crates, order: dict[str, int]) -> str:
-    """The crates of the repository that a crate uses, in the order of the tables, without the `aj_` of their names."""
+    """The crates of the repository that a crate uses, in the order of the tables."""
     uses = [use for use in crates[name][2] if use in crates]
-    return ", ".join(use.removeprefix("aj_") for use in sorted(uses, key=lambda use: order.get(use, 0)))
+    return ", ".join(sorted(uses, key=lambda use: order.get(use, 0)))
 
 
 def files(name: str) -> Iterator[str]:
@@ -178,7 +178,7 @@ def differences(parts: Parts, crates: Crates) -> Iterator[str]:
             yield f"{name}: has a folder, and no line in crates.txt"
     documents = [name for name in sorted(os.listdir(path("docs"))) if not name.endswith(".png")]
     for names in [("README.md",), *(("docs", name) for name in documents)]:
-        gone = sorted({name for name in re.findall(r"`(aj_\w+)", read(*names)) if name not in crates and name != "aj_"})
+        gone = sorted({name for name in re.findall(r"`crates/(\w+)", read(*names)) if name not in crates})
         if gone:
             yield f"{os.path.join(*names)}: names what is no crate: {' '.join(gone)}"
 

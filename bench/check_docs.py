@@ -64,7 +64,7 @@ def in_body(lines: str, number: int) -> str:
 
 EXAMPLES = os.path.join(TOP, "examples")
 # a file of a crate, as documents name it
-CITED = r"`(?:crates/)?((?:aj_\w+|atomic_\w+)/(?:src|specs|proofs)/[\w/]+\.\w+)`"
+CITED = r"`(?:crates/)?(?!java/)(\w+/(?:src|specs|proofs)/[\w/]+\.\w+)`"
 
 
 class Checker:

@@ -32,11 +32,11 @@ CODE = [
 FIELD = re.compile(r"^ +pub (\w+) :", re.MULTILINE)
 EXPORTED = re.compile(r"^pub use ([^;]*);", re.MULTILINE)
 LONGEST_CELL = 70
-# A crate's own name is its prefix and a word.
-CRATE = re.compile(r"`((?:aj_|atomic_)\w+)(?:::(\w+))?`")
+# A crate's name, and maybe a name of it.
+CRATE = re.compile(r"`(\w+)(?:::(\w+))?`")
 WORD = re.compile(r"`([^`]+)`")
 # The parts of the documents that speak of one crate's call as a whole.
-TOP_CALLS = {"The call that `main` makes": "aj_commands", "The call that `atomic_why` makes": "aj_explain_commands"}
+TOP_CALLS = {"The call that `main` makes": "commands", "The call that `atomic_why` makes": "explain_commands"}
 # Words of the language, and of command lines.
 COMMANDS = "check print run serialise serialise-open replay derive verify blame verify-blame levels generate"
 KEYWORDS = {"extends", "main", "this", "synchronized", "atomic", *COMMANDS.split()}

@@ -323,7 +323,7 @@ def either(first: Value, second: Callable[[], Value]) -> bool:
 
 
 def bind(read: Value, following: Value) -> Value:
-    """What is read, and then the next part: `◌>>=◌` of aj_books, which isn't read as a definition."""
+    """What is read, and then the next part: `◌>>=◌` of books, which isn't read as a definition."""
     if read[0] == "Ok":
         return apply(following, read[1][1], read[1][2])
     if read[0] == "Err":

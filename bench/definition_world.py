@@ -61,7 +61,7 @@ class World:
             return ("constructor", name)
         if module.endswith(".TheConstants"):
             return ("value", self.constant(module, name))
-        if module.startswith(("Rattle.std", "Rattle.core", "lib.", "Prim")):
+        if module.startswith(("Rattle.std.", "Rattle.core.", "lib.", "Prim")):
             return self.std(name)
         file = self.file(module)
         if file is None:

@@ -53,7 +53,7 @@ LAW = re.compile(r"((?:^///[^\n]*\n)+)(?:^#\[[^\n]*\n)*^pub fn (\w+)(?:<[^>]*>)?
 def laws() -> Iterator[Law]:
     """All laws, crate by crate; examples aside."""
     for crate in crates():
-        if crate.endswith("_examples") or crate == "aj_examples":
+        if crate.endswith("_examples") or crate == "core_examples":
             continue
         for path in sorted((TOP / "crates" / crate / "src").rglob("*.rt")):
             text = path.read_text(encoding="utf-8")

@@ -24,48 +24,48 @@ SUBJECTS: list[tuple[str, str, list[str]]] = [
         "Rules",
         "What a program is once its types are known, and what the checker asks of it. This is what a person has to "
         "believe, together with the machine.",
-        ["aj_ancestors", "aj_paths", "aj_core", "aj_algebra", "aj_rules"],
+        ["base", "paths", "core_program", "algebra", "rules"],
     ),
     (
         "Machine",
         "What a state is, what one step of one thread does, and what a run of a schedule is.",
-        ["aj_state", "aj_steps"],
+        ["state", "semantics"],
     ),
     (
         "From bytes to programs",
         "Tokens, grammar, classes and types: which bytes are a well-formed source, and of which program.",
-        ["aj_lexer", "aj_syntax", "aj_class_rules", "aj_classes", "aj_type_rules", "aj_elaborate", "aj_printer"],
+        ["lexer", "syntax", "classes", "typing", "printer"],
     ),
     (
         "Verdicts, books, certificates",
         "The least assignment and the bound that it breaks; verdicts that others can check.",
         [
-            "aj_fix",
-            "aj_effects",
-            "aj_callers",
-            "aj_infer",
-            "aj_cond",
-            "aj_books",
-            "aj_book_rules",
-            "aj_book_check",
-            "aj_derive",
-            "aj_blame",
-            "aj_blame_text",
+            "fixpoint",
+            "effects",
+            "rules",
+            "infer",
+            "conditions",
+            "books",
+            "book_check",
+            "book_check",
+            "derive",
+            "refutation",
+            "refutation",
         ],
     ),
     (
         "Above the machine",
         "Orders of open calls, circles of waiting threads, plain evaluation, explanations.",
         [
-            "aj_open",
-            "aj_levels",
-            "aj_level_text",
-            "aj_replay",
-            "aj_book_rules",
-            "aj_why",
-            "aj_explain",
-            "aj_effect_at",
-            "aj_places",
+            "serialise",
+            "levels",
+            "level_check",
+            "replay",
+            "book_check",
+            "explain",
+            "explain",
+            "effects",
+            "places",
         ],
     ),
     ("Texts and calls", "Which bytes are read and written, and what a call of the program is.", []),
@@ -73,16 +73,16 @@ SUBJECTS: list[tuple[str, str, list[str]]] = [
 
 # The clauses, in the order of their rows: name of the clause, its file, what it is for.
 CLAUSES: list[tuple[str, str, str]] = [
-    ("open_calls", "aj_commands/OpenCalls", "every schedule that runs has an order that leaves open calls whole"),
-    ("books", "aj_commands/Books", "a book that is verified is of an accepted source"),
+    ("open_calls", "commands/OpenCalls", "every schedule that runs has an order that leaves open calls whole"),
+    ("books", "commands/Books", "a book that is verified is of an accepted source"),
     (
         "refutations",
-        "aj_commands/Refutations",
+        "commands/Refutations",
         "a certificate that is verified is of a source without an admissible assignment",
     ),
-    ("no_circles", "aj_commands/NoCircles", "an ordered program reaches no circle of waiting threads"),
-    ("replayed_calls", "aj_commands/ReplayedCalls", "completed atomic calls agree with plain evaluation"),
-    ("sentence", "aj_explain_commands/Sentence", "`atomic_why` tells exactly the methods that break their bound"),
+    ("no_circles", "commands/NoCircles", "an ordered program reaches no circle of waiting threads"),
+    ("replayed_calls", "commands/ReplayedCalls", "completed atomic calls agree with plain evaluation"),
+    ("sentence", "explain_commands/Sentence", "`atomic_why` tells exactly the methods that break their bound"),
 ]
 
 Item = tuple[Path, str]
@@ -313,7 +313,7 @@ folder of the same crate.
 def reading_list() -> str:
     """The whole of docs/READING.md."""
     world = definitions.World()
-    items = cited(world, "aj_commands/Headline")
+    items = cited(world, "commands/Headline")
     pages = pages_of(items)
     lines = [joined(INTRODUCTION), *headline_lines(pages), *clause_lines(world, items)]
     lines += ["## Words of the standard library", "", quoted(std_names(pages)) + ".", ""]

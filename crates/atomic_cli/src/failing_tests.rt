@@ -2,8 +2,8 @@
 
 use crate::schedule_tests::expect_inputs;
 use crate::tests::{add_file, words_of};
-use aj_commands::run;
-use aj_edge::{MemFolder, MemSink, NeverFailsFolder, NeverFailsSink};
+use commands::run;
+use edge::{MemFolder, MemSink, NeverFailsFolder, NeverFailsSink};
 use std::alloc::Global;
 use std::test::Fail;
 

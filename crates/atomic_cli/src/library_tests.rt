@@ -2,14 +2,13 @@
 //! program, and copies of a machine's parts.
 
 use crate::machine_tests::{BOOK, COUNTER, checked_of, schedule_of, source_of};
-use aj_book_check::{Checked, Refused, Wrong, accept};
-use aj_books::{BookCursor, BookFault, DerivBook, Word, read_book, read_table, write_book};
-use aj_compile::compile;
-use aj_cond::Tree;
-use aj_noted::RunEnd;
-use aj_open::serialise_open;
-use aj_serialise::{SerialEnd, serialise};
-use aj_sources::Source;
+use book_check::{Checked, Refused, Wrong, accept};
+use books::{BookCursor, BookFault, DerivBook, Word, read_book, read_table, write_book};
+use compile::compile;
+use conditions::Tree;
+use library::{serialise, serialise_open};
+use serialise::{RunEnd, SerialEnd};
+use sources::Source;
 use std::alloc::Global;
 use std::process::Abort;
 use std::test::Fail;

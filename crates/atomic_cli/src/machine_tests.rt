@@ -1,22 +1,19 @@
 //! The exchange of neighbours and watched machines, which no row of the program reaches.
 
 ghost use Rattle.std.specs.Prelude.{◌≤◌, ℕ, List, length, IfOk};
-ghost use Rattle.aj_core.specs.Typed.{IsTyped};
-ghost use Rattle.aj_core.specs.Views.{program_of};
-ghost use Rattle.aj_compile.specs.IsCode.{IsCodeOf};
-ghost use Rattle.aj_steps.specs.Run.{Runs};
-ghost use Rattle.aj_sources.specs.Checking.{IsSourceOf};
+ghost use Rattle.core_program.specs.Typed.{IsTyped};
+ghost use Rattle.core_program.specs.Views.{program_of};
+ghost use Rattle.compile.specs.IsCode.{IsCodeOf};
+ghost use Rattle.semantics.specs.Run.{Runs};
+ghost use Rattle.sources.specs.Checking.{IsSourceOf};
 
-use aj_book_check::{Checked, accept_text};
-use aj_compile::{CodeTable, compile};
-use aj_core::CoreProgram;
-use aj_deeds::StepEnd;
-use aj_held::Watched;
-use aj_machine::Machine;
-use aj_sources::{Source, read_source};
-use aj_state::{Heap, Locks, StepKind};
-use aj_swap::{SwapEnd, swap_at};
-use aj_threads::ThreadCell;
+use book_check::{Checked, accept_text};
+use compile::{CodeTable, compile};
+use core_program::CoreProgram;
+use library::{SwapEnd, Watched, swap_at};
+use machine::{Machine, StepEnd};
+use sources::{Source, read_source};
+use state::{Heap, Locks, StepKind, ThreadCell};
 use std::alloc::Global;
 use std::process::Abort;
 use std::test::Fail;

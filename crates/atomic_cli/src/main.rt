@@ -1,6 +1,40 @@
 //! The program `atomic`: the words of the command line, real files and standard output, and the exit status.
 #![tactic(auto)]
 
+use commands::Status;
+use edge::{FileFolder, OutSink};
+use std::alloc::AllocError as NoMemory;
+use std::env;
+use std::io::ErrorKind;
+use std::process::ExitCode;
+
+/// The words of the command line, without the program's name. Where one of them isn't UTF-8 there are none: it stands in no row.
+fn words_of(rt: &HostRuntime) -> Result<Vec<String>, NoMemory> {
+    let mut words = Vec::new(rt.alloc());
+    match env::args(rt) {
+        Ok(arguments) => {
+            for word in arguments.skip(1) {
+                words.push(word)?;
+            }
+            Ok(words)
+        }
+        Err(error) if error.kind() == ErrorKind::InvalidData => Ok(words),
+        Err(_) => Err(NoMemory),
+    }
+}
+
+fn main(rt: HostRuntime) -> ExitCode {
+    let Ok(words) = words_of(&rt) else {
+        return ExitCode::from(Status::NoMemory.code());
+    };
+    let mut folder = FileFolder::new(&rt);
+    let mut sink = OutSink::new(&rt);
+    let status = run(rt.alloc(), words.as_slice(), &mut folder, &mut sink);
+    ExitCode::from(status)
+}
+
+pub use commands::run;
+
 #[cfg(test)]
 mod blame_tests;
 #[cfg(test)]
@@ -41,36 +75,3 @@ mod schedule_text_tests;
 mod source_tests;
 #[cfg(test)]
 mod tests;
-
-use aj_commands::Status;
-pub use aj_commands::run;
-use aj_edge::{FileFolder, OutSink};
-use std::alloc::AllocError as NoMemory;
-use std::env;
-use std::io::ErrorKind;
-use std::process::ExitCode;
-
-/// The words of the command line, without the program's name. Where one of them isn't UTF-8 there are none: it stands in no row.
-fn words_of(rt: &HostRuntime) -> Result<Vec<String>, NoMemory> {
-    let mut words = Vec::new(rt.alloc());
-    match env::args(rt) {
-        Ok(arguments) => {
-            for word in arguments.skip(1) {
-                words.push(word)?;
-            }
-            Ok(words)
-        }
-        Err(error) if error.kind() == ErrorKind::InvalidData => Ok(words),
-        Err(_) => Err(NoMemory),
-    }
-}
-
-fn main(rt: HostRuntime) -> ExitCode {
-    let Ok(words) = words_of(&rt) else {
-        return ExitCode::from(Status::NoMemory.code());
-    };
-    let mut folder = FileFolder::new(&rt);
-    let mut sink = OutSink::new(&rt);
-    let status = run(rt.alloc(), words.as_slice(), &mut folder, &mut sink);
-    ExitCode::from(status)
-}

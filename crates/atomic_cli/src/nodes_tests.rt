@@ -1,11 +1,11 @@
 //! Equal conditional atomicities have equal numbers.
 
 ghost use Rattle.std.specs.Prelude.{IfOk};
-ghost use Rattle.aj_algebra.specs.Values.{Keeps};
+ghost use Rattle.algebra.specs.Values.{Keeps};
 
-use aj_algebra::{Algebra, Basic};
-use aj_nodes::NodeTable;
-use aj_paths::Path;
+use algebra::{Algebra, Basic};
+use conditions::NodeTable;
+use paths::Path;
 use std::alloc::{AllocError as NoMemory, Global};
 use std::process::Abort;
 use std::test::Fail;

@@ -2,12 +2,11 @@
 
 use crate::schedule_tests::expect_inputs;
 use crate::tests::{add_file, answer_over};
-use aj_algebra::{Algebra, Basic};
-use aj_cond::{Tree, Trees, tree_text};
-use aj_lexer::lex;
-use aj_paths::{MethodId, Path, under_call};
-use aj_state::{Address, Value};
-use aj_threads::{Entered, ThreadCell};
+use algebra::{Algebra, Basic};
+use conditions::{Tree, Trees, tree_text};
+use lexer::lex;
+use paths::{MethodId, Path, under_call};
+use state::{Address, Entered, ThreadCell, Value};
 use std::alloc::Global;
 use std::test::Fail;
 

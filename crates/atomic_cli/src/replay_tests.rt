@@ -3,12 +3,12 @@
 use crate::machine_tests::{COUNTER, core_of, machine_after, schedule_of};
 use crate::schedule_tests::{expect, expect_inputs};
 use crate::tests::LOCKED;
-use aj_compile::compile;
-use aj_core::CoreProgram;
-use aj_machine::Machine;
-use aj_paths::MethodId;
-use aj_replay::{EvalEnd, Plain, PlainCall, evaluate};
-use aj_state::{Address, Fault, Value};
+use compile::compile;
+use core_program::CoreProgram;
+use machine::Machine;
+use paths::MethodId;
+use replay::{EvalEnd, Plain, PlainCall, evaluate};
+use state::{Address, Fault, Value};
 use std::alloc::Global;
 use std::test::Fail;
 

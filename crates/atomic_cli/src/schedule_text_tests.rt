@@ -1,6 +1,6 @@
 //! Texts with their schedules or faults, and schedules with their texts.
 
-use aj_schedule::{SchedFault, read_schedule, write_schedule};
+use schedule::{SchedFault, read_schedule, write_schedule};
 use std::alloc::Global;
 use std::process::Abort;
 use std::test::Fail;

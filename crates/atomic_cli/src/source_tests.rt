@@ -2,11 +2,11 @@
 //! the trees of sources hold.
 
 use crate::tests::{answer, expect, expect_texts, written};
-use aj_lexer::{Token, lex};
-use aj_parser::parse;
-use aj_syntax::{Member, Program, Stmt};
+use lexer::{Token, lex};
+use parser::parse;
 use std::alloc::Global;
 use std::test::Fail;
+use syntax::{Member, Program, Stmt};
 
 /// Sources with a fault of their tokens or their grammar, each with its line. Columns count bytes.
 static UNREADABLE: [(&str, &str); 19] = [

@@ -1,8 +1,8 @@
 //! What the program answers, over a folder and a sink in memory.
 
 use crate::examples::{ACCEPTED, REFUSED};
-use aj_commands::run;
-use aj_edge::{MemFolder, MemSink};
+use commands::run;
+use edge::{MemFolder, MemSink};
 use itoa::Buffer;
 use std::alloc::Global;
 use std::process::Abort;

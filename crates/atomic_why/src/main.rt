@@ -1,11 +1,7 @@
 //! The program `atomic_why`: the words of the command line, real files and standard output, and the exit status.
 #![tactic(auto)]
 
-#[cfg(test)]
-mod tests;
-
-use aj_edge::{FileFolder, OutSink};
-pub use aj_explain_commands::run;
+use edge::{FileFolder, OutSink};
 use std::alloc::AllocError as NoMemory;
 use std::env;
 use std::io::ErrorKind;
@@ -35,3 +31,8 @@ fn main(rt: HostRuntime) -> ExitCode {
     let status = run(rt.alloc(), words.as_slice(), &mut folder, &mut sink);
     ExitCode::from(status)
 }
+
+pub use explain_commands::run;
+
+#[cfg(test)]
+mod tests;

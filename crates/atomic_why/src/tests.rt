@@ -1,7 +1,7 @@
 //! What the program answers, over a folder and a sink in memory.
 
-use aj_edge::{MemFolder, MemSink};
-use aj_explain_commands::run;
+use edge::{MemFolder, MemSink};
+use explain_commands::run;
 use std::alloc::Global;
 use std::process::Abort;
 use std::test::Fail;

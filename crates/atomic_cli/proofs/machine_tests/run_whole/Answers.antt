@@ -1,8 +1,8 @@
 use Rattle.std.proofs.Common.{sym, ap, ◌∙◌}
 use Rattle.std.specs.Prelude.{is_some}
-use Rattle.aj_core.specs.Views.{program_of}
-use Rattle.aj_state.specs.States.{initial}
-use Rattle.aj_steps.specs.Run.{run_from}
+use Rattle.core_program.specs.Views.{program_of}
+use Rattle.state.specs.States.{initial}
+use Rattle.semantics.specs.Run.{run_from}
 use Rattle.atomic_cli.proofs.machine_tests.run_whole.Goals as goal
 
 pub returns-in-Ok : goal.returns-in-Ok

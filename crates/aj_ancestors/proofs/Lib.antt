@@ -1,2 +1,0 @@
--- Lemmas on going up.
-pub mod Going

@@ -1,2 +1,0 @@
--- Ancestors, over any function that gives what stands above a number.
-pub mod Ancestors

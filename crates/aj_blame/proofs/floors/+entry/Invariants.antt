@@ -1,5 +1,0 @@
-use Rattle.std.proofs.Common.{length}
-use Rattle.aj_blame.proofs.floors.+entry.Given as goal
-
-abbrev pub decreases-entry : goal.decreases-entry
-decreases-entry l = length l.rel.now

@@ -1,5 +1,0 @@
-use Rattle.std.proofs.Common.{length}
-use Rattle.aj_blame.proofs.parts.+all_parts.Given as goal
-
-abbrev pub decreases-all_parts : goal.decreases-all_parts
-decreases-all_parts l = length l.paths.now

@@ -1,7 +1,0 @@
-use Rattle.std.proofs.Common.{◌≡◌, ◌++◌, drop}
-use Rattle.aj_blame.specs.Passes.{with_and_without}
-use Rattle.aj_blame.proofs.parts.with_and_without.Given as goal
-
--- the sets so far and those of the rest are those of all
-abbrev pub invariant-loop-set : goal.invariant-loop-set
-invariant-loop-set l = l.doubled.items ++ with_and_without l.path (drop l.set-index l.sets) ≡ with_and_without l.path l.sets

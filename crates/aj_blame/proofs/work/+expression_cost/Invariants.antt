@@ -1,9 +1,0 @@
-use Rattle.aj_core.specs.Views.{expr_of, exprs_from}
-use Rattle.aj_callers.proofs.Weights.{weight_of, weights_of}
-use Rattle.aj_blame.proofs.work.+expression_cost.Given as goal
-
-abbrev pub decreases-expression_cost : goal.decreases-expression_cost
-decreases-expression_cost l = weight_of (expr_of l.e.now)
-
-abbrev pub decreases-arguments_cost : goal.decreases-arguments_cost
-decreases-arguments_cost l = weights_of (exprs_from l.es.now)

@@ -1,7 +1,0 @@
-use Rattle.std.proofs.Common.{◌≡◌, ◌++◌, drop, string_bytes}
-use Rattle.aj_blame_text.specs.Texts.{lines_text}
-use Rattle.aj_blame_text.proofs.writer.write_lines.Given as goal
-
--- what is written, and then the text of the rest, is all
-abbrev pub invariant-loop-line : goal.invariant-loop-line
-invariant-loop-line l = string_bytes l.text ++ lines_text (drop l.line-index l.lines) ≡ string_bytes l.fn.text ++ lines_text l.lines

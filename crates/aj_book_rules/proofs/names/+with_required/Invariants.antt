@@ -1,5 +1,0 @@
-use Rattle.std.proofs.Common.{length}
-use Rattle.aj_book_rules.proofs.names.+with_required.Given as goal
-
-abbrev pub decreases-with_required : goal.decreases-with_required
-decreases-with_required l = length l.required.now

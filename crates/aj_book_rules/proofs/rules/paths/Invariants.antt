@@ -1,8 +1,0 @@
-use Rattle.std.proofs.Common.{◌≡◌, ◌++◌, drop}
-use Rattle.aj_core.specs.Views.{program_of, exprs_from}
-use Rattle.aj_rules.specs.Mentions.{paths_of}
-use Rattle.aj_book_rules.proofs.rules.paths.Given as goal
-
--- the paths so far and those of the rest are those of all
-abbrev pub invariant-loop-arg : goal.invariant-loop-arg
-invariant-loop-arg l = l.paths.items ++ paths_of (program_of l.program) (exprs_from (drop l.arg-index l.args)) ≡ paths_of (program_of l.program) (exprs_from l.args)

@@ -1,5 +1,0 @@
-use Rattle.std.proofs.Common.{length}
-use Rattle.aj_book_steps.proofs.chain.+has_required.Given as goal
-
-abbrev pub decreases-has_required : goal.decreases-has_required
-decreases-has_required l = length l.required.now

@@ -1,4 +1,0 @@
-use Rattle.aj_book_steps.proofs.pairs.+pair_below.Given as goal
-
-abbrev pub decreases-pair_below : goal.decreases-pair_below
-decreases-pair_below l = l.depth

@@ -1,5 +1,0 @@
-use Rattle.std.proofs.Common.{length}
-use Rattle.aj_books.proofs.names.+one_basic.Given as goal
-
-abbrev pub decreases-one_basic : goal.decreases-one_basic
-decreases-one_basic l = length l.basics.now

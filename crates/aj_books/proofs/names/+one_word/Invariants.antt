@@ -1,5 +1,0 @@
-use Rattle.std.proofs.Common.{length}
-use Rattle.aj_books.proofs.names.+one_word.Given as goal
-
-abbrev pub decreases-one_word : goal.decreases-one_word
-decreases-one_word l = length l.words.now

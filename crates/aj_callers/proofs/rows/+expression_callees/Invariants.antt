@@ -1,9 +1,0 @@
-use Rattle.aj_core.specs.Views.{expr_of, exprs_from}
-use Rattle.aj_callers.proofs.Weights.{weight_of, weights_of}
-use Rattle.aj_callers.proofs.rows.+expression_callees.Given as goal
-
-abbrev pub decreases-put_expr : goal.decreases-put_expr
-decreases-put_expr l = weight_of (expr_of l.e.now)
-
-abbrev pub decreases-put_exprs : goal.decreases-put_exprs
-decreases-put_exprs l = weights_of (exprs_from l.es.now)

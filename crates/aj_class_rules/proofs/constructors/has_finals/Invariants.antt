@@ -1,9 +1,0 @@
-use Rattle.aj_class_rules.specs.Families.{members_along}
-use Rattle.aj_class_rules.specs.Members.{finals_of, is_empty}
-use Rattle.aj_syntax.specs.Views.{class_of}
-use Rattle.std.proofs.Common.{drop, map, ◌≡◌}
-use Rattle.aj_class_rules.proofs.constructors.has_finals.Given as goal
-
-abbrev pub invariant-loop-number : goal.invariant-loop-number
-invariant-loop-number l =
-    is_empty (finals_of (members_along (map class_of l.classes) (drop l.number-index l.order))) ≡ is_empty (finals_of (members_along (map class_of l.classes) l.order))

@@ -1,8 +1,0 @@
-use Rattle.std.proofs.Common.{◌≡◌, drop, map}
-use Rattle.aj_class_rules.specs.Members.{are_sets_of}
-use Rattle.aj_class_rules.specs.Finals.{final_of}
-use Rattle.aj_class_rules.proofs.constructors.match_sets.Given as goal
-
-abbrev pub invariant-loop-field : goal.invariant-loop-field
-invariant-loop-field l =
-    are_sets_of (map final_of (drop l.field-index l.finals)) l.rest ≡ are_sets_of (map final_of l.finals) l.sets

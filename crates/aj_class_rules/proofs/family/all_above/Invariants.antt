@@ -1,9 +1,0 @@
-use Rattle.aj_class_rules.specs.Families.{all_above}
-use Rattle.aj_class_rules.specs.Lines.{above_in}
-use Rattle.aj_syntax.specs.Views.{class_of}
-use Rattle.std.proofs.Common.{Some, drop, map, ◌++◌, ◌≡◌}
-use Rattle.aj_class_rules.proofs.family.all_above.Given as goal
-
-abbrev pub invariant-loop-class : goal.invariant-loop-class
-invariant-loop-class l =
-    l.above.items ++ map (λ c. above_in (map class_of l.classes) (Some c)) (map class_of (drop l.class-index l.classes)) ≡ all_above (map class_of l.classes)

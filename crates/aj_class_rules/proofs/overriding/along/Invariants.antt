@@ -1,8 +1,0 @@
-use Rattle.aj_class_rules.specs.Families.{place_data, tree_of}
-use Rattle.aj_class_rules.specs.Overriding.{along, reach_from}
-use Rattle.std.proofs.Common.{drop, map, ◌≡◌}
-use Rattle.aj_class_rules.proofs.overriding.along.Given as goal
-
-abbrev pub invariant-loop-name : goal.invariant-loop-name
-invariant-loop-name l =
-    along (tree_of l.family) (record { slot = l.slot; fields = map place_data l.fields.items; class = l.place }) (drop l.name-index l.names) ≡ along (tree_of l.family) (reach_from l.slot l.class) l.names

@@ -1,9 +1,0 @@
-use Rattle.aj_class_rules.specs.Families.{heading_data}
-use Rattle.aj_class_rules.specs.Overriding.{clashes}
-use Rattle.std.proofs.Common.{drop, map, ◌≡◌}
-use Rattle.std.specs.List.{list_any}
-use Rattle.aj_class_rules.proofs.overriding.clashes_with_any.Given as goal
-
-abbrev pub invariant-loop-other : goal.invariant-loop-other
-invariant-loop-other l =
-    list_any (clashes (heading_data l.one)) (map heading_data (drop l.other-index l.others)) ≡ list_any (clashes (heading_data l.one)) (map heading_data l.others)

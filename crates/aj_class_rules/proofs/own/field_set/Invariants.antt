@@ -1,9 +1,0 @@
-use Rattle.std.proofs.Common.{◌≡◌, drop, map}
-use Rattle.aj_syntax.specs.Views.{member_of}
-use Rattle.aj_class_rules.specs.Names.{distinct, distinct_after}
-use Rattle.aj_class_rules.specs.Members.{field_names}
-use Rattle.aj_class_rules.proofs.own.field_set.Given as goal
-
-abbrev pub invariant-loop-member : goal.invariant-loop-member
-invariant-loop-member l =
-    distinct_after l.names (field_names (map member_of (drop l.member-index l.members))) ≡ distinct (field_names (map member_of l.members))

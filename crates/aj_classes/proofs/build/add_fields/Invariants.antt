@@ -1,9 +1,0 @@
-use Rattle.std.proofs.Common.{◌≡◌, ◌++◌, drop, map}
-use Rattle.aj_syntax.specs.Views.{member_of}
-use Rattle.aj_classes.specs.Table.{fields_of}
-use Rattle.aj_classes.proofs.build.add_fields.Given as goal
-
-abbrev pub invariant-loop-member : goal.invariant-loop-member
-invariant-loop-member l =
-    l.fields.items ++ fields_of l.names l.class (map member_of (drop l.member-index l.members))
-    ≡ l.fn.fields.items ++ fields_of l.names l.class (map member_of l.members)

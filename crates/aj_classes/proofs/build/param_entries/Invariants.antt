@@ -1,7 +1,0 @@
-use Rattle.std.proofs.Common.{◌≡◌, ◌++◌, drop, map}
-use Rattle.aj_classes.specs.Table.{param_of}
-use Rattle.aj_classes.proofs.build.param_entries.Given as goal
-
-abbrev pub invariant-loop-param : goal.invariant-loop-param
-invariant-loop-param l =
-    l.entries.items ++ map (param_of l.names) (drop l.param-index l.params) ≡ map (param_of l.names) l.params

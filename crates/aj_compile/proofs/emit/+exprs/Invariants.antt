@@ -1,9 +1,0 @@
-use Rattle.aj_core.specs.Views.{expr_of, exprs_from}
-use Rattle.aj_compile.proofs.Measures.{expr_measure, exprs_measure}
-use Rattle.aj_compile.proofs.emit.+exprs.Given as goal
-
-abbrev pub decreases-emit_expr : goal.decreases-emit_expr
-decreases-emit_expr l = expr_measure (expr_of l.e.now)
-
-abbrev pub decreases-emit_args : goal.decreases-emit_args
-decreases-emit_args l = exprs_measure (exprs_from l.args.now)

@@ -1,5 +1,0 @@
-use Rattle.std.proofs.Common.{length}
-use Rattle.aj_cond.proofs.operations.+hold_partners_in.Given as goal
-
-abbrev pub decreases-hold_partners_in : goal.decreases-hold_partners_in
-decreases-hold_partners_in l = length l.pairs.now

@@ -1,6 +1,0 @@
-use Rattle.std.proofs.Common.{◌≡◌, ◌++◌, string_bytes, drop}
-use Rattle.aj_cond.specs.Texts.{dotted}
-use Rattle.aj_cond.proofs.text.write_fields.Given as goal
-
-abbrev pub invariant-loop-field : goal.invariant-loop-field
-invariant-loop-field l = string_bytes l.text ++ dotted (drop l.field-index l.fields) ≡ string_bytes l.fn.text ++ dotted l.fields

@@ -1,6 +1,0 @@
--- Trees that show the least closed assignment keep its rules.
-use Rattle.aj_derive.proofs.Shown.{keeps_rules}
-use Rattle.aj_derive.proofs.laws.shown_trees_law.Goals as goal
-
-pub returns : goal.returns
-returns c = keeps_rules

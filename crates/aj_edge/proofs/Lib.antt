@@ -1,4 +1,0 @@
--- The lemmas that several proofs share.
-mod PieceLemmas
-mod FileLemmas
-mod ReadingLemmas

@@ -1,6 +1,0 @@
--- The definitions that the contracts of reading and writing cite, in this order: counts of faults (Faults), what a read gives and a
--- write leaves (Pieces), a folder and a sink in memory (InMemory), and real files (RealFiles).
-pub mod Faults
-pub mod Pieces
-pub mod InMemory
-pub mod RealFiles

@@ -1,6 +1,0 @@
-use Rattle.std.proofs.Common.{◌≡◌, ◌∷◌, take}
-use Rattle.aj_effect_at.proofs.lists.with_path.Given as goal
-
--- the path, and copies of the paths so far
-abbrev pub invariant-loop-other : goal.invariant-loop-other
-invariant-loop-other l = l.more.items ≡ l.path ∷ take l.other-index l.held

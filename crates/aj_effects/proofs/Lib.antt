@@ -1,6 +1,0 @@
--- Lemmas on the rules: blocks from a place on (Blocks), values of a list (Values), a part's effect by its rule (Effects), and the
--- sizes of parts (Sizes).
-pub mod Blocks
-pub mod Values
-pub mod Effects
-pub mod Sizes

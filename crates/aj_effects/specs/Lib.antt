@@ -1,6 +1,0 @@
--- What the rule of a part cites. To read its contract: Parts, Bodies, Rules; Accesses is about fields, Effects about whole parts.
-pub mod Parts
-pub mod Bodies
-pub mod Rules
-pub mod Accesses
-pub mod Effects

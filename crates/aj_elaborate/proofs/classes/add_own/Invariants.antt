@@ -1,9 +1,0 @@
-use Rattle.std.proofs.Common.{◌≡◌, ◌++◌, ◌-◌, length}
-use Rattle.std.specs.List.{range_with_len}
-use Rattle.aj_classes.specs.Views.{class_data}
-use Rattle.aj_elaborate.proofs.classes.add_own.Given as goal
-
-abbrev pub invariant-loop : goal.invariant-loop
-invariant-loop l =
-    l.fields.items ++ range_with_len l.next (length (class_data l.class).field_names - l.counter)
-    ≡ l.fn.fields.items ++ range_with_len (class_data l.class).first_field (length (class_data l.class).field_names)

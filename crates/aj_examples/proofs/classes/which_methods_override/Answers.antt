@@ -1,5 +1,0 @@
-use Rattle.std.proofs.Common.{refl, arith}
-use Rattle.aj_examples.proofs.classes.which_methods_override.Goals as goal
-
-pub returns-clause-overrides : goal.returns-clause-overrides
-returns-clause-overrides c = record { differs = λ e. omega (arith, e); method = _; is = refl; runs = refl }

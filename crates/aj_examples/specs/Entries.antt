@@ -1,8 +1,0 @@
--- Entries of runs.
-use Rattle.std.specs.Prelude.{ℕ, Bool}
-use Rattle.aj_state.specs.declared.value.StepKind.{StepKind}
-use Rattle.aj_steps.specs.Units.{Entry}
-
--- the entry at a place, of a thread, with a step of this kind; and whether the thread stands inside an atomic call after it
-abbrev pub entry : (place thread : ℕ) → StepKind → Bool → Entry
-entry place thread kind inside = record { place = place; thread = thread; kind = kind; inside = inside }

@@ -1,1 +1,0 @@
--- None of its own: the check computes each clause.

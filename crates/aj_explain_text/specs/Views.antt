@@ -1,8 +1,0 @@
--- What the lines are written with, as plain data.
-use Rattle.aj_classes.specs.Views.{table_data}
-use Rattle.aj_explain_text.specs.declared.page.Page.{Page}
-use Rattle.aj_explain_text.specs.Pages.{PageData}
-
--- what the lines of a file are written with, as plain data: its name, its text, its class table, the names of slots and the offsets of nodes
-abbrev pub page_data : Page → PageData
-page_data p = record { file = p.file.now; text = p.index.now; table = table_data p.table.now; slots = p.slots.now; offsets = p.offsets.now }

@@ -1,9 +1,0 @@
-pub mod Fields
-pub mod Complete
-pub mod Expressions
-pub mod LoopLaw
-pub mod Lists
-pub mod Loops
-pub mod Parts
-pub mod Ranks
-pub mod Right

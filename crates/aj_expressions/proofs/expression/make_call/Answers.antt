@@ -1,5 +1,0 @@
-use Rattle.aj_syntax.proofs.Bridge.{view_call}
-use Rattle.aj_expressions.proofs.expression.make_call.Goals as goal
-
-pub returns : goal.returns
-returns c = view_call c.args.receiver c.args.method c.args.arguments

@@ -1,5 +1,0 @@
-use Rattle.aj_syntax.proofs.Bridge.{view_new}
-use Rattle.aj_expressions.proofs.expression.make_new.Goals as goal
-
-pub returns : goal.returns
-returns c = view_new c.args.class c.args.arguments c.args.at

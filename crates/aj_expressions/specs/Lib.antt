@@ -1,8 +1,0 @@
--- For a reader of the parser, in this order: reading from the front of a list (Combine), names and types (Words), expressions
--- (Expressions), plain statements (Statements), what the functions answer (Answer). Lexemes serves the code.
-pub mod Statements
-pub mod Answer
-pub mod Lexemes
-pub mod Combine
-pub mod Words
-pub mod Expressions

@@ -1,6 +1,0 @@
--- Lists that loops make longer; when workers rest, what two of them do side by side, and the rounds as they are made.
-pub mod Growing
-pub mod Counted
-pub mod Resting
-pub mod Pairs
-pub mod Several

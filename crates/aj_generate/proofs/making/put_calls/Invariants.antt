@@ -1,6 +1,0 @@
-use Rattle.std.proofs.Common.{◌≡◌, ◌+◌, ◌-◌, ◌++◌}
-use Rattle.aj_generate.specs.Made.{called}
-use Rattle.aj_generate.proofs.making.put_calls.Given as goal
-
-abbrev pub invariant-loop-call : goal.invariant-loop-call
-invariant-loop-call l = l.schedule.items ++ called (7 - l._call) l.n ≡ l.fn.schedule.items ++ called 7 l.n

@@ -1,6 +1,0 @@
-use Rattle.std.proofs.Common.{◌≡◌, ◌+◌, ◌-◌, ◌++◌}
-use Rattle.aj_generate.specs.Made.{each_once}
-use Rattle.aj_generate.proofs.making.put_each.Given as goal
-
-abbrev pub invariant-loop-worker : goal.invariant-loop-worker
-invariant-loop-worker l = l.schedule.items ++ each_once l.worker ((l.n + 1) - l.worker) ≡ l.fn.schedule.items ++ each_once 1 l.n

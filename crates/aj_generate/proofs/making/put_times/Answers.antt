@@ -1,9 +1,0 @@
-use Rattle.std.proofs.Common.{◌+◌, ◌-◌, ◌∷◌, [], ◌++◌, replicate, refl, arith}
-use Rattle.aj_generate.proofs.Growing.{one_less}
-use Rattle.aj_generate.proofs.making.put_times.Goals as goal
-
-pub loop-entry-preserved : goal.loop-entry-preserved
-loop-entry-preserved c =
-    let t = c.args.thread in
-    one_less (λ m. replicate m t) (t ∷ []) (λ m. refl) (c.args.schedule.now.items ++ replicate c.args.count t) c.loop-entry.schedule.items c.push.new.self.items c.args.count c.loop-entry._entry
-    (omega (arith, c.loop-entry-test.true)) c.loop-entry.invariant c.in_ok-push.ensures.items

@@ -1,5 +1,0 @@
-use Rattle.std.proofs.Common.{◌≡◌, ◌+◌, ◌-◌, ◌++◌, replicate}
-use Rattle.aj_generate.proofs.making.put_times.Given as goal
-
-abbrev pub invariant-loop-entry : goal.invariant-loop-entry
-invariant-loop-entry l = l.schedule.items ++ replicate (l.count - l._entry) l.thread ≡ l.fn.schedule.items ++ replicate l.count l.thread

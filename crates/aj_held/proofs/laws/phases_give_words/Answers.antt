@@ -1,6 +1,0 @@
-use Rattle.std.proofs.Common.{false}
-use Rattle.aj_movers.proofs.Phases.{phases_words}
-use Rattle.aj_held.proofs.laws.phases_give_words.Goals as goal
-
-pub returns : goal.returns
-returns c es fits n u is call = phases_words es (λ t. false) fits n u is

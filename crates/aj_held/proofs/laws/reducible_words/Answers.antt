@@ -1,8 +1,0 @@
-use Rattle.aj_held.proofs.Theorem.{words}
-use Rattle.aj_held.proofs.laws.reducible_words.Goals as goal
-
-pub returns-clause-calls : goal.returns-clause-calls
-returns-clause-calls c P typed accepted s n u is call = words P typed accepted s n u is
-
-pub returns-clause-units : goal.returns-clause-units
-returns-clause-units c = words

@@ -1,8 +1,0 @@
-use Rattle.aj_held.proofs.Theorem.{starts_safe, stays_safe}
-use Rattle.aj_held.proofs.laws.safe_states.Goals as goal
-
-pub returns-clause-initial : goal.returns-clause-initial
-returns-clause-initial c = starts_safe
-
-pub returns-clause-step : goal.returns-clause-step
-returns-clause-step c = stays_safe

@@ -1,8 +1,0 @@
-use Rattle.std.proofs.Common.{◌≡◌, ◌++◌, drop}
-use Rattle.std.specs.Option.{option_copied}
-use Rattle.aj_infer.specs.Names.{local_names}
-use Rattle.aj_infer.proofs.local.add_names.Given as goal
-
--- the names so far and those of the rest are those of all
-abbrev pub invariant-loop-path : goal.invariant-loop-path
-invariant-loop-path l = l.pairs.items ++ local_names l.slot (option_copied l.value) (drop l.path-index l.paths) ≡ l.fn.pairs.items ++ local_names l.slot (option_copied l.value) l.paths

@@ -1,2 +1,0 @@
--- What is said of texts that grow.
-pub mod Texts

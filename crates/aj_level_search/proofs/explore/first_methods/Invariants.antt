@@ -1,8 +1,0 @@
-use Rattle.std.proofs.Common.{◌≡◌, ◌++◌, ◌∷◌, drop, map}
-use Rattle.aj_core.specs.Views.{program_of, class_of}
-use Rattle.aj_level_search.specs.Cells.{runs_of}
-use Rattle.aj_level_search.proofs.explore.first_methods.Given as goal
-
--- the methods so far, and then those of the classes that are left, are all
-abbrev pub invariant-loop-class : goal.invariant-loop-class
-invariant-loop-class l = l.methods.items ++ runs_of (map class_of (drop l.class-index l.class-items)) ≡ (program_of l.program).main ∷ runs_of (map class_of l.class-items)

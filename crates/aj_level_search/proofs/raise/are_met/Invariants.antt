@@ -1,7 +1,0 @@
-use Rattle.std.proofs.Common.{◌≡◌, drop}
-use Rattle.aj_level_search.specs.Rises.{are_met}
-use Rattle.aj_level_search.proofs.raise.are_met.Given as goal
-
--- the answer for the rest is that for all
-abbrev pub invariant-loop-link : goal.invariant-loop-link
-invariant-loop-link l = are_met l.levels l.from (drop l.link-index l.links) ≡ are_met l.levels l.from l.links

@@ -1,8 +1,0 @@
-use Rattle.std.proofs.Common.{◌≡◌, ◌++◌, drop}
-use Rattle.aj_core.specs.Views.{stmts_from}
-use Rattle.aj_levels.specs.SlotTypes.{local_types_each}
-use Rattle.aj_level_search.proofs.slots.+locals.Given as goal
-
--- the types so far and those of the rest are those of all
-abbrev pub invariant-add_each-loop-s : goal.invariant-add_each-loop-s
-invariant-add_each-loop-s l = l.types.items ++ local_types_each (stmts_from (drop l.s-index l.body)) ≡ l.fn.types.items ++ local_types_each (stmts_from l.body)

@@ -1,6 +1,0 @@
--- A name is text.
-use Rattle.aj_level_text.proofs.Parts.{word_text}
-use Rattle.aj_level_text.proofs.names.class_of.Goals as goal
-
-pub unreachable-requires : goal.unreachable-requires
-unreachable-requires c = (c.in_default.ensures {u = tt}).cases.0 (word_text c.args.name.now c.requires)

@@ -1,5 +1,0 @@
-use Rattle.aj_levels.proofs.NoCircles.{no_circles}
-use Rattle.aj_levels.proofs.laws.level_laws.Goals as goal
-
-pub returns : goal.returns
-returns c = no_circles

@@ -1,8 +1,0 @@
-use Rattle.aj_lexer.proofs.Written.{written_token, written_gap}
-use Rattle.aj_lexer.proofs.laws.writing_laws.Goals as goal
-
-pub returns-clause-token : goal.returns-clause-token
-returns-clause-token c = written_token
-
-pub returns-clause-blanks : goal.returns-clause-blanks
-returns-clause-blanks c = written_gap

@@ -1,5 +1,0 @@
-mod Putting
-mod Noted
-mod Noting
-mod Turned
-mod Closed

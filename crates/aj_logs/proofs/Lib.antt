@@ -1,7 +1,0 @@
--- Public lemma, for the crates above: the system of logs has movers (Moves).
-pub mod Cells
-pub mod Sorts
-pub mod Apart
-pub mod Moves
-pub mod Judged
-pub mod Lines

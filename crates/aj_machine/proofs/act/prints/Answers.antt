@@ -1,7 +1,0 @@
-use Rattle.std.specs.Prelude.{None}
-use Rattle.aj_threads.specs.Frames.{settled}
-use Rattle.aj_machine.proofs.RoomLemmas.{top_roomy, settled_widens}
-use Rattle.aj_machine.proofs.act.prints.Goals as goal
-
-pub returns-clause-roomy : goal.returns-clause-roomy
-returns-clause-roomy c rooms = top_roomy rooms (settled 1 None c.args.place) (settled_widens rooms 1 None c.args.place) c.args.cell.now c.drop_to.new.self c.drop_to.ensures

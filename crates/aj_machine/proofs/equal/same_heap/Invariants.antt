@@ -1,6 +1,0 @@
-use Rattle.std.specs.FinMap.{entries}
-use Rattle.aj_machine.proofs.EqualMaps.{SameBelow}
-use Rattle.aj_machine.proofs.equal.same_heap.Given as goal
-
-abbrev pub invariant-loop-place : goal.invariant-loop-place
-invariant-loop-place l = SameBelow (entries l.one) (entries l.other) l.place

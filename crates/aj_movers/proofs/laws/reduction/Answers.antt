@@ -1,5 +1,0 @@
-use Rattle.aj_movers.proofs.Whole.{written}
-use Rattle.aj_movers.proofs.laws.reduction.Goals as goal
-
-pub returns : goal.returns
-returns c at M sound start end laws first s ran closed words = written laws s start end first ran closed words

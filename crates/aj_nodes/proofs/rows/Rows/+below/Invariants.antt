@@ -1,5 +1,0 @@
-use Rattle.std.proofs.Common.{◌+◌}
-use Rattle.aj_nodes.proofs.rows.Rows.+below.Given as goal
-
-abbrev pub decreases-below : goal.decreases-below
-decreases-below l = l.m + l.n

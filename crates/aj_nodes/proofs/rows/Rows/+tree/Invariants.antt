@@ -1,4 +1,0 @@
-use Rattle.aj_nodes.proofs.rows.Rows.+tree.Given as goal
-
-abbrev pub decreases-tree : goal.decreases-tree
-decreases-tree l = l.n

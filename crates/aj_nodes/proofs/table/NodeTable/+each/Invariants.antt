@@ -1,4 +1,0 @@
-use Rattle.aj_nodes.proofs.table.NodeTable.+each.Given as goal
-
-abbrev pub decreases-each : goal.decreases-each
-decreases-each l = l.n

@@ -1,5 +1,0 @@
-use Rattle.std.proofs.Common.{◌+◌}
-use Rattle.aj_nodes.proofs.table.NodeTable.+hold.Given as goal
-
-abbrev pub decreases-hold : goal.decreases-hold
-decreases-hold l = l.m + l.n

@@ -1,4 +1,0 @@
-use Rattle.aj_nodes.proofs.table.NodeTable.+sync_at.Given as goal
-
-abbrev pub decreases-sync_at : goal.decreases-sync_at
-decreases-sync_at l = l.n

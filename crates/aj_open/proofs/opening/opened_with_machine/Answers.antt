@@ -1,6 +1,0 @@
-use Rattle.aj_core.specs.Views.{program_of}
-use Rattle.aj_open.proofs.Results.{opening}
-use Rattle.aj_open.proofs.opening.opened_with_machine.Goals as goal
-
-pub returns-clause-order : goal.returns-clause-order
-returns-clause-order c = opening (program_of c.args.program.now) c.args.schedule.now (λ r. r.order.items) c.run_in_order.result c.run_in_order.ensures.opened c.run_in_order.ensures.refused

@@ -1,3 +1,0 @@
--- Lemmas on runs that interrupt nobody, and on sets that these don't leave.
-pub mod WalkLemmas
-pub mod ClosedSets

@@ -1,2 +1,0 @@
--- Lemmas on statuses.
-pub mod Statuses

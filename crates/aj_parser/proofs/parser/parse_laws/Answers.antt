@@ -1,5 +1,0 @@
-use Rattle.aj_parser.proofs.Whole.{one_place, one_tree}
-use Rattle.aj_parser.proofs.parser.parse_laws.Goals as goal
-
-pub returns : goal.returns
-returns c = record { one_tree = one_tree; one_place = one_place }

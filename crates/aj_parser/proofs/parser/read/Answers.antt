@@ -1,7 +1,0 @@
-use Rattle.std.proofs.Common.{map}
-use Rattle.aj_syntax.specs.Views.{class_of}
-use Rattle.aj_parser.proofs.Whole.{named_right}
-use Rattle.aj_parser.proofs.parser.read.Goals as goal
-
-pub returns-in-Ok-clause-names : goal.returns-in-Ok-clause-names
-returns-in-Ok-clause-names c = named_right c.args.tokens.now (map class_of c.in-Ok.classes.items) _ c.in-Ok.ensures

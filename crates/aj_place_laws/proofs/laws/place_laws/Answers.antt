@@ -1,8 +1,0 @@
-use Rattle.aj_place_laws.proofs.InPrograms.{method_made, visited_told}
-use Rattle.aj_place_laws.proofs.laws.place_laws.Goals as goal
-
-pub returns-clause-methods : goal.returns-clause-methods
-returns-clause-methods c = method_made
-
-pub returns-clause-visited : goal.returns-clause-visited
-returns-clause-visited c = visited_told

@@ -1,3 +1,0 @@
--- Lemmas on line feeds and on places.
-pub mod LineFeeds
-pub mod Putting

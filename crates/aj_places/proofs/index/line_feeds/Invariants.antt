@@ -1,7 +1,0 @@
-use Rattle.std.proofs.Common.{◌≡◌, ◌++◌, drop}
-use Rattle.aj_places.specs.Feeds.{feeds_from}
-use Rattle.aj_places.proofs.index.line_feeds.Given as goal
-
--- the offsets so far, and then those of the rest, are all
-abbrev pub invariant-loop-at : goal.invariant-loop-at
-invariant-loop-at l = l.feeds.items ++ feeds_from l.at (drop l.at l.byte-items) ≡ feeds_from 0 l.byte-items

@@ -1,5 +1,0 @@
--- Where the nodes of a method stand in its source: what of the tree each node was made of, and that thing's offset (Sources), and
--- the names of a method's slots (Slots). Feeds has the line feeds of a text.
-pub mod Sources
-pub mod Slots
-pub mod Feeds

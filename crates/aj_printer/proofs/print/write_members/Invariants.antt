@@ -1,8 +1,0 @@
-use Rattle.std.proofs.Common.{◌≡◌, map, drop}
-use Rattle.aj_printer.specs.Layout.{writes}
-use Rattle.aj_printer.specs.Printing.{all_lexemes, member_lexemes}
-use Rattle.aj_syntax.specs.Views.{member_of}
-use Rattle.aj_printer.proofs.print.write_members.Given as goal
-
-abbrev pub invariant-loop-member : goal.invariant-loop-member
-invariant-loop-member l = writes l.to (all_lexemes member_lexemes (map member_of (drop l.member-index l.members))) ≡ writes l.fn.to (all_lexemes member_lexemes (map member_of l.members))

@@ -1,6 +1,0 @@
-use Rattle.aj_core.specs.Views.{program_of}
-use Rattle.aj_replay.proofs.Arguments.{values_in_order}
-use Rattle.aj_replay.proofs.effects.values_of.Goals as goal
-
-pub returns : goal.returns
-returns c = values_in_order c.object_values.result (program_of c.args.program.now) c.args.class c.args.arguments.now c.object_values.ensures

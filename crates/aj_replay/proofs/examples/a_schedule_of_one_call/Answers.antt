@@ -1,5 +1,0 @@
-use Rattle.aj_replay.proofs.Instance.{one_call}
-use Rattle.aj_replay.proofs.examples.a_schedule_of_one_call.Goals as goal
-
-pub returns : goal.returns
-returns c = one_call

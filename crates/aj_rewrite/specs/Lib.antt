@@ -1,3 +1,0 @@
--- Serial is for a reader of the laws; Machine serves the proofs.
-pub mod Serial
-pub mod Machine

@@ -1,5 +1,0 @@
-use Rattle.aj_rules.proofs.AcceptedExample.{counter_accepted}
-use Rattle.aj_rules.proofs.examples.counter_is_accepted.Goals as goal
-
-pub returns : goal.returns
-returns c = counter_accepted

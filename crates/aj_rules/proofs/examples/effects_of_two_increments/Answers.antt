@@ -1,9 +1,0 @@
-use Rattle.aj_core.specs.Examples.{this_path}
-use Rattle.aj_rules.proofs.EffectExamples.{twice_at, synchronized_at}
-use Rattle.aj_rules.proofs.examples.effects_of_two_increments.Goals as goal
-
-pub returns-clause-twice : goal.returns-clause-twice
-returns-clause-twice c H = twice_at (H this_path)
-
-pub returns-clause-synchronized : goal.returns-clause-synchronized
-returns-clause-synchronized c H = synchronized_at (H this_path)

@@ -1,8 +1,0 @@
-use Rattle.aj_rules.proofs.EffectRises.{expr_rises, stmt_rises}
-use Rattle.aj_rules.proofs.laws.greater_assignments_rise.Goals as goal
-
-pub returns-clause-expression : goal.returns-clause-expression
-returns-clause-expression c = expr_rises
-
-pub returns-clause-statement : goal.returns-clause-statement
-returns-clause-statement c = stmt_rises

@@ -1,6 +1,0 @@
-use Rattle.aj_rules.specs.Search.{rows_of}
-use Rattle.aj_rules.proofs.SearchLemmas.{links_next}
-use Rattle.aj_rules.proofs.search.links_of.Goals as goal
-
-pub loop-clause-preserved : goal.loop-clause-preserved
-loop-clause-preserved c = links_next c.args.clauses.now (rows_of c.loop-clause.links.items) (rows_of c.add_link.new.links.items) c.loop-clause.clause-index c.clause-item.result c.loop-clause-test.true c.clause-item.is c.loop-clause.invariant c.in_ok-add_link.ensures

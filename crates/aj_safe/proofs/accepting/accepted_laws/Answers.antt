@@ -1,8 +1,0 @@
-use Rattle.aj_safe.proofs.Admissible.{accepted, main_free}
-use Rattle.aj_safe.proofs.accepting.accepted_laws.Goals as goal
-
-pub returns-clause-accepted : goal.returns-clause-accepted
-returns-clause-accepted c = accepted
-
-pub returns-clause-main : goal.returns-clause-main
-returns-clause-main c = main_free

@@ -1,9 +1,0 @@
-use Rattle.aj_safe.proofs.FrameLemmas.{held_counts}
-use Rattle.aj_safe.proofs.ThreadTurn.{turn_fine}
-use Rattle.aj_safe.proofs.turns.turn_laws.Goals as goal
-
-pub returns-clause-counts : goal.returns-clause-counts
-returns-clause-counts c = held_counts
-
-pub returns-clause-turn : goal.returns-clause-turn
-returns-clause-turn c = turn_fine

@@ -1,2 +1,0 @@
--- Lemmas on rewriting.
-mod Results

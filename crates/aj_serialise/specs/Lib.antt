@@ -1,2 +1,0 @@
--- What the contracts of rewriting cite.
-pub mod Rewritten

@@ -1,2 +1,0 @@
--- Refusals and answers of the commands on a source.
-pub mod SourceRows

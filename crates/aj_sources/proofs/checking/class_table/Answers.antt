@@ -1,6 +1,0 @@
-use Rattle.aj_syntax.specs.Views.{program_of as tree_of}
-use Rattle.aj_sources.proofs.Refusing.{class_refusal}
-use Rattle.aj_sources.proofs.checking.class_table.Goals as goal
-
-pub returns-in-Err : goal.returns-in-Err
-returns-in-Err c = class_refusal c.args.text.now (tree_of c.args.tree.now) c.in-Err.fault c.refuse.result c.requires.program c.refuse.ensures.told c.in-Err.ensures.exact c.refuse.ensures.line

@@ -1,7 +1,0 @@
-use Rattle.std.proofs.Common.{ap, ◌∙◌}
-use Rattle.aj_state.specs.Slots.{grid_map}
-use Rattle.aj_state.proofs.GridMaps.{empty_grid}
-use Rattle.aj_state.proofs.grid.Grid.new.Goals as goal
-
-pub returns : goal.returns
-returns g c = ap grid_map c.new.ensures.items ∙ empty_grid

@@ -1,5 +1,0 @@
-use Rattle.aj_state.proofs.MemoryLemmas.{length-taken}
-use Rattle.aj_state.proofs.laws.operand_laws.Goals as goal
-
-pub returns : goal.returns
-returns c = record { length = length-taken }

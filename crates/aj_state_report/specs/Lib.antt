@@ -1,5 +1,0 @@
--- For a reader of the contracts, in this order: the text of a state (States), and the lines for schedules that are no schedules, that
--- stop, or that end inside an atomic call (Schedules). Entries serves the code.
-pub mod States
-pub mod Schedules
-pub mod Entries

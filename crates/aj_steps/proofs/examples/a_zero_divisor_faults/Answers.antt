@@ -1,7 +1,0 @@
-use Rattle.aj_core.specs.Examples.{divides_by_zero}
-use Rattle.aj_steps.proofs.PlainRuns.{run_is}
-use Rattle.std.specs.Prelude.{replicate}
-use Rattle.aj_steps.proofs.examples.a_zero_divisor_faults.Goals as goal
-
-pub returns-clause-four : goal.returns-clause-four
-returns-clause-four c = run_is divides_by_zero (replicate 4 0)

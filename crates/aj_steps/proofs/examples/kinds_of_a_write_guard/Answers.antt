@@ -1,8 +1,0 @@
-use Rattle.std.proofs.Common.{ap, map}
-use Rattle.std.specs.Prelude.{replicate}
-use Rattle.aj_core.specs.Examples.{reads_unlocked}
-use Rattle.aj_steps.proofs.PlainRuns.{entries_is}
-use Rattle.aj_steps.proofs.examples.kinds_of_a_write_guard.Goals as goal
-
-pub returns : goal.returns
-returns c = ap (λ es. map (λ e. e.kind) es) (entries_is reads_unlocked (replicate 14 0))

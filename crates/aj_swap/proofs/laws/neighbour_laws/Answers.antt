@@ -1,5 +1,0 @@
-use Rattle.aj_swap.proofs.Neighbours.{there}
-use Rattle.aj_swap.proofs.laws.neighbour_laws.Goals as goal
-
-pub returns : goal.returns
-returns c = record { there = λ P s place runs some. there P s place runs some }

@@ -1,7 +1,0 @@
-use Rattle.std.proofs.Common.{◌≡◌, take}
-use Rattle.std.specs.Prelude.{map}
-use Rattle.aj_threads.specs.Frames.{code_frame}
-use Rattle.aj_threads.proofs.copies.same_frames.Given as goal
-
-abbrev pub invariant-loop-place : goal.invariant-loop-place
-invariant-loop-place l = map code_frame (take l.place l.some) ≡ map code_frame (take l.place l.others)

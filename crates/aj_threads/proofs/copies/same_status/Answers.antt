@@ -1,6 +1,0 @@
-use Rattle.std.proofs.Common.{sym, ◌∙◌}
-use Rattle.aj_threads.proofs.EqualFrames.{status_is}
-use Rattle.aj_threads.proofs.copies.same_status.Goals as goal
-
-pub returns : goal.returns
-returns c told = status_is c.args.one c.args.other (sym c.eq.ensures ∙ told)

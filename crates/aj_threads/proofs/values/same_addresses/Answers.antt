@@ -1,6 +1,0 @@
-use Rattle.std.proofs.lemmas.Slice.Eq.{slice_eq-Decides}
-use Rattle.aj_threads.proofs.EqualFrames.{addresses_decide}
-use Rattle.aj_threads.proofs.values.same_addresses.Goals as goal
-
-pub returns : goal.returns
-returns c = (slice_eq-Decides addresses_decide c.args.some.now c.args.others.now c.eq.result c.eq.ensures).0

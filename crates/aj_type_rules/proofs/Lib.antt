@@ -1,4 +1,0 @@
-mod Steps
-mod Fitting
-mod Plain
-pub mod Noting

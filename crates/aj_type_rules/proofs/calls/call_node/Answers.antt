@@ -1,5 +1,0 @@
-use Rattle.aj_core.proofs.ViewLemmas.{expr_of-Call}
-use Rattle.aj_type_rules.proofs.calls.call_node.Goals as goal
-
-pub returns : goal.returns
-returns c = expr_of-Call c.args.receiver c.args.method c.args.args

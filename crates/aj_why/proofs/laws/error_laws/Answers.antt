@@ -1,9 +1,0 @@
-use Rattle.aj_why.specs.Visits.{part_visits}
-use Rattle.aj_why.proofs.Errors.{error_reads, first_reads}
-use Rattle.aj_why.proofs.laws.error_laws.Goals as goal
-
-pub returns-clause-error : goal.returns-clause-error
-returns-clause-error c = error_reads
-
-pub returns-clause-first : goal.returns-clause-first
-returns-clause-first c = λ P rel A x n H v e. first_reads P rel A (part_visits P x n H) v e

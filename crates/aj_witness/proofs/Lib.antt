@@ -1,2 +1,0 @@
--- An accepted program has no witness.
-pub mod Theorem

@@ -1,0 +1,22 @@
+-- The lemmas that several proofs share.
+pub mod NameLemmas
+pub mod BlockLemmas
+pub mod PremiseLemmas
+-- The lemmas that several proofs share.
+mod PairLemmas
+mod BranchLemmas
+mod ChainLemmas
+mod UnmovedLemmas
+mod StepLemmas
+-- The lemmas that several proofs share.
+pub mod Lists
+pub mod Above
+mod Admissible
+mod WalkLemmas
+mod AskedLemmas
+mod LineLemmas
+mod VerdictLemmas
+mod PassLemmas
+pub mod CanonicalLemmas
+mod OneVerdict
+mod TextVerdict

@@ -1,0 +1,248 @@
+//! Whether the text of a book is good for a program.
+ghost use Rattle.std.specs.Prelude.{◌≡◌, ◌≢◌, ◌≤◌, ◌⊎◌, ℕ, List, length, map, Some, IfOk, IfErr, MatchResult};
+ghost use Rattle.core_program.specs.Typed.{IsTyped};
+ghost use Rattle.core_program.specs.Views.{program_of};
+ghost use Rattle.conditions.specs.Conditions.{cond_of};
+ghost use Rattle.books.specs.Books.{Book, AreTrees};
+ghost use Rattle.books.specs.Memory.{book_of};
+ghost use Rattle.books.specs.Views.{IsCursorAt};
+ghost use Rattle.rules.specs.Near.{AreRelevant, loc_of, rel_of};
+ghost use Rattle.rules.specs.Rules.{IsAdmissible};
+ghost use Rattle.books.specs.Faults.{first_book_fault};
+ghost use Rattle.books.specs.Texts.{IsBookText};
+ghost use Rattle.books.specs.declared.stop.BookFault.{BookFault};
+ghost use Rattle.book_check.specs.Checks.{HasAdmissible, IsJudgedText, IsTextUnjudged};
+ghost use Rattle.book_check.specs.Faults.{IsUnjudged, IsWrongBook};
+ghost use Rattle.book_check.specs.NearBooks.{IsNearBook};
+ghost use Rattle.book_check.specs.Good.{book_assignment, IsGoodBook};
+ghost use Rattle.book_check.specs.declared.wrong.TextWrong.{TextWrong};
+ghost use Rattle.book_check.specs.declared.wrong.Wrong.{Wrong};
+ghost use Rattle.book_check.specs.Passes.{IsBookVerdict};
+
+use crate::checked::Checked;
+use crate::judge::Judge;
+use crate::passes::{lines, shapes};
+use crate::wrong::{TextWrong, Wrong};
+use books::{BookCursor, BookFault, DerivBook, Lines, LinesInMemory, read_book};
+use conditions::Tree;
+use core_program::CoreProgram;
+use rules::{RelevantSets, overriders};
+use std::alloc::Global;
+use std::mem::forget;
+
+/// A program whose book was refused, with its relevant sets and the reason.
+#[derive(Drop)]
+pub struct RefusedText {
+    pub program: CoreProgram,
+    pub sets: RelevantSets,
+    pub why: TextWrong,
+}
+
+/// A program whose book was refused, with its relevant sets and the reason.
+#[derive(Drop)]
+pub struct Refused {
+    pub program: CoreProgram,
+    pub sets: RelevantSets,
+    pub why: Wrong,
+}
+
+/// The judgement of a book for a program, by its table and its method lines.
+fn judged_book<L: Lines>(
+    alloc: Global,
+    program: &CoreProgram,
+    sets: &RelevantSets,
+    table: &[Tree],
+    from: L,
+) -> Result<(), Wrong>
+    requires kept { L.AreLinesKept from }
+    requires trees { AreTrees (map cond_of table.now) }
+    ensures verdict { IsBookVerdict (program_of program.now) (rel_of sets.now) (record { table = map cond_of table.now; lines = L.lines from }) result }
+    ensures near { IsNearBook (rel_of sets.now) (loc_of sets.now) (record { table = map cond_of table.now; lines = L.lines from }) → IfErr result (λ why. why ≢ Wrong.Work) }
+{
+    let numbers = match shapes(alloc, program, from) {
+        Ok(numbers) => numbers,
+        Err(wrong) => return Err(wrong),
+    };
+    let judge = Judge {
+        program,
+        sets,
+        table,
+        lines: numbers.as_slice(),
+    };
+    let over = overriders(alloc, program)?;
+    lines(alloc, &judge, &over, from)
+}
+
+/// The judgement of a book in memory.
+fn judged_memory(
+    alloc: Global,
+    program: &CoreProgram,
+    sets: &RelevantSets,
+    book: &DerivBook,
+) -> Result<(), Wrong>
+    ensures verdict { IsBookVerdict (program_of program.now) (rel_of sets.now) (book_of book.now) result }
+    ensures near { IsNearBook (rel_of sets.now) (loc_of sets.now) (book_of book.now) → IfErr result (λ why. why ≢ Wrong.Work) }
+{
+    let lines = LinesInMemory {
+        lines: book.methods.as_slice(),
+    };
+    judged_book(alloc, program, sets, book.table.as_slice(), lines)
+}
+
+/// How many bytes of text are judged in memory at most. A derivation takes up to 21 times the bytes of its text there, so that a
+/// longer text is judged in place, which takes memory for its table alone.
+const MOST_IN_MEMORY: usize = 4_000_000;
+
+/// The judgement of a book whose memory is given back when the program ends: to give it back node by node takes as long as a fifth
+/// of all that is judged.
+fn judged_and_kept(
+    alloc: Global,
+    program: &CoreProgram,
+    sets: &RelevantSets,
+    book: DerivBook,
+) -> Result<(), TextWrong>
+    ensures judged { (bytes : List ℕ) → IsBookText bytes (book_of book) → IsJudgedText (program_of program.now) (rel_of sets.now) bytes result }
+    ensures near { IsNearBook (rel_of sets.now) (loc_of sets.now) (book_of book) → IfErr result (λ why. why ≢ TextWrong.Wrong Wrong.Work) }
+{
+    let verdict = judged_memory(alloc, program, sets, &book);
+    forget(book);
+    match verdict {
+        Ok(()) => Ok(()),
+        Err(wrong) => Err(TextWrong::Wrong(wrong)),
+    }
+}
+
+/// The judgement of the book at which a cursor stands, with no derivation in memory.
+fn judged_at(
+    alloc: Global,
+    program: &CoreProgram,
+    sets: &RelevantSets,
+    cursor: BookCursor<'_>,
+) -> Result<(), Wrong>
+    requires { (book : Book) × IsCursorAt cursor book }
+    ensures verdict { (book : Book) → IsCursorAt cursor.entry book → IsBookVerdict (program_of program.now) (rel_of sets.now) book result }
+    ensures near { (book : Book) → IsCursorAt cursor.entry book → IsNearBook (rel_of sets.now) (loc_of sets.now) book → IfErr result (λ why. why ≢ Wrong.Work) }
+{
+    let table = match cursor.table(alloc) {
+        Ok(table) => table,
+        Err(_) => return Err(Wrong::Memory),
+    };
+    judged_book(alloc, program, sets, table.as_slice(), cursor)
+}
+
+/// The judgement of a text for a program, with no derivation in memory.
+fn judged_in_place(
+    alloc: Global,
+    program: &CoreProgram,
+    sets: &RelevantSets,
+    bytes: &[u8],
+) -> Result<(), TextWrong>
+    requires { length bytes.now ≤ 16777216 }
+    ensures judged { IsJudgedText (program_of program.now) (rel_of sets.now) bytes.now result }
+    ensures near { (book : Book) → IsBookText bytes.now book → IsNearBook (rel_of sets.now) (loc_of sets.now) book → IfErr result (λ why. why ≢ TextWrong.Wrong Wrong.Work) }
+{
+    let cursor = match BookCursor::open(bytes) {
+        Ok(cursor) => cursor,
+        Err(fault) => return Err(TextWrong::Book(fault)),
+    };
+    match judged_at(alloc, program, sets, cursor) {
+        Ok(()) => Ok(()),
+        Err(wrong) => Err(TextWrong::Wrong(wrong)),
+    }
+}
+
+/// The judgement of a text for a program. A short text is read into memory, where there is enough: there a node's premises are passed
+/// over at once.
+fn judged(
+    alloc: Global,
+    program: &CoreProgram,
+    sets: &RelevantSets,
+    bytes: &[u8],
+) -> Result<(), TextWrong>
+    requires { length bytes.now ≤ 16777216 }
+    ensures judged { IsJudgedText (program_of program.now) (rel_of sets.now) bytes.now result }
+    ensures near { (book : Book) → IsBookText bytes.now book → IsNearBook (rel_of sets.now) (loc_of sets.now) book → IfErr result (λ why. why ≢ TextWrong.Wrong Wrong.Work) }
+{
+    if bytes.len() > MOST_IN_MEMORY {
+        return judged_in_place(alloc, program, sets, bytes);
+    }
+    match read_book(alloc, bytes) {
+        Ok(book) => judged_and_kept(alloc, program, sets, book),
+        Err(BookFault::NoMemory) => judged_in_place(alloc, program, sets, bytes),
+        Err(fault) => Err(TextWrong::Book(fault)),
+    }
+}
+
+/// Checks a program by the text of a book, which has at most 16,777,216 bytes and may be anyone's. Hands program and sets back
+/// where it refuses.
+pub fn accept_text(
+    alloc: Global,
+    program: CoreProgram,
+    sets: RelevantSets,
+    bytes: &[u8],
+) -> Result<Checked, RefusedText>
+    requires short { length bytes.now ≤ 16777216 }
+    requires typed { IsTyped (program_of program) }
+    requires relevant { AreRelevant (program_of program) sets }
+
+    // The program is checked, or the refusal hands it back with its cause.
+    ensures checked { IfOk result (λ checked. checked ≡ (program, sets)) }
+    ensures accepted { IfOk result (λ _. IsJudgedText (program_of program) (rel_of sets) bytes.now (Ok (tt {0}))) }
+    ensures admissible { IfOk result (λ _. HasAdmissible (program_of program) (rel_of sets) bytes.now) }
+    ensures program_back { IfErr result (λ refused. refused.program ≡ program) }
+    ensures sets_back { IfErr result (λ refused. refused.sets ≡ sets) }
+    ensures refused { IfErr result (λ refused. IsJudgedText (program_of program) (rel_of sets) bytes.now (Err refused.why)) }
+
+    // Each fault is told, and a good book is taken, unless the book isn't judged.
+    ensures only_fault { (fault : BookFault) → first_book_fault bytes.now ≡ Some fault →
+        MatchResult result (λ _. ⊥) (λ refused. refused.why ≡ TextWrong.Book fault) }
+    ensures only_wrong { (book : Book) (fault : Wrong) → IsBookText bytes.now book → (IsUnjudged fault → ⊥) → IsWrongBook (program_of program) (rel_of sets) book fault →
+        MatchResult result (λ _. ⊥) (λ refused. (refused.why ≡ TextWrong.Wrong fault) ⊎ IsTextUnjudged refused.why) }
+    ensures only_good { (book : Book) → IsBookText bytes.now book → IsGoodBook (program_of program) (rel_of sets) book →
+        IfErr result (λ refused. IsTextUnjudged refused.why) }
+
+    // A book each of whose trees tests only paths near its method meets no bound of work.
+    ensures near { (book : Book) → IsBookText bytes.now book → IsNearBook (rel_of sets) (loc_of sets) book →
+        IfErr result (λ refused. refused.why ≢ TextWrong.Wrong Wrong.Work) }
+{
+    // Only the proof needs this: no method has too many paths.
+    sets.few();
+    match judged(alloc, &program, &sets, bytes) {
+        Ok(()) => Ok(Checked { program, sets }),
+        Err(why) => Err(RefusedText { program, sets, why }),
+    }
+}
+
+/// Checks a program by a book in memory, which may be anyone's. Hands program and sets back where it refuses.
+pub fn accept(
+    alloc: Global,
+    program: CoreProgram,
+    sets: RelevantSets,
+    book: &DerivBook,
+) -> Result<Checked, Refused>
+    requires typed { IsTyped (program_of program) }
+    requires relevant { AreRelevant (program_of program) sets }
+
+    // The program is checked, or the refusal hands it back with its cause.
+    ensures checked { IfOk result (λ checked. checked ≡ (program, sets)) }
+    ensures accepted { IfOk result (λ _. IsGoodBook (program_of program) (rel_of sets) (book_of book.now)) }
+    ensures admissible { IfOk result (λ _. IsAdmissible (program_of program) (rel_of sets) (book_assignment (book_of book.now))) }
+    ensures program_back { IfErr result (λ refused. refused.program ≡ program) }
+    ensures sets_back { IfErr result (λ refused. refused.sets ≡ sets) }
+    ensures refused { IfErr result (λ refused. IsWrongBook (program_of program) (rel_of sets) (book_of book.now) refused.why) }
+
+    // What is wrong first is told, and a good book is taken, unless the book isn't judged.
+    ensures only_wrong { (fault : Wrong) → (IsUnjudged fault → ⊥) → IsWrongBook (program_of program) (rel_of sets) (book_of book.now) fault →
+        MatchResult result (λ _. ⊥) (λ refused. (refused.why ≡ fault) ⊎ IsUnjudged refused.why) }
+    ensures only_good { IsGoodBook (program_of program) (rel_of sets) (book_of book.now) → IfErr result (λ refused. IsUnjudged refused.why) }
+
+    // A book each of whose trees tests only paths near its method meets no bound of work.
+    ensures near { IsNearBook (rel_of sets) (loc_of sets) (book_of book.now) → IfErr result (λ refused. refused.why ≢ Wrong.Work) }
+{
+    // Only the proof needs this: no method has too many paths.
+    sets.few();
+    match judged_memory(alloc, &program, &sets, book) {
+        Ok(()) => Ok(Checked { program, sets }),
+        Err(why) => Err(Refused { program, sets, why }),
+    }
+}

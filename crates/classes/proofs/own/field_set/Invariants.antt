@@ -1,0 +1,9 @@
+use Rattle.std.proofs.Common.{◌≡◌, drop, map}
+use Rattle.syntax.specs.Views.{member_of}
+use Rattle.classes.specs.Names.{distinct, distinct_after}
+use Rattle.classes.specs.Members.{field_names}
+use Rattle.classes.proofs.own.field_set.Given as goal
+
+abbrev pub invariant-loop-member : goal.invariant-loop-member
+invariant-loop-member l =
+    distinct_after l.names (field_names (map member_of (drop l.member-index l.members))) ≡ distinct (field_names (map member_of l.members))

@@ -1,0 +1,6 @@
+-- The lemmas that several proofs share.
+mod PieceLemmas
+mod FileLemmas
+mod ReadingLemmas
+-- Lemmas on statuses.
+pub mod Statuses

@@ -1,0 +1,23 @@
+-- Lemmas on steps, errors, places and locks that would help.
+pub mod Weights
+pub mod Totals
+pub mod Heavy
+pub mod Readings
+pub mod WhyErrors
+pub mod Visited
+pub mod Numbering
+pub mod Helping
+pub mod BookNumbers
+-- Lemmas on walks, on names, on which methods are told, and on reasons.
+pub mod Walking
+pub mod Measures
+pub mod NameLemmas
+pub mod Telling
+pub mod CauseLemmas
+pub mod Following
+pub mod Stepping
+pub mod WalkedStatements
+pub mod Reasons
+pub mod Taken
+pub mod TakenLaws
+pub mod Meant

@@ -1,0 +1,14 @@
+use Rattle.std.proofs.Common.{◌≡◌, ◌++◌, drop}
+use Rattle.std.specs.Prelude.{map}
+use Rattle.core_program.specs.Views.{method_of, program_of}
+use Rattle.rules.specs.Near.{rel_of}
+use Rattle.rules.specs.Search.{row_at}
+use Rattle.explain.specs.Programs.{explanations, explanations_from}
+use Rattle.explain.specs.Views.{explained_data}
+use Rattle.explain.proofs.program.explanations.Given as goal
+
+-- the explanations so far and those of the rest are all
+abbrev pub invariant-loop-m : goal.invariant-loop-m
+invariant-loop-m g l =
+    let P = program_of l.walk.program.now in let rel = rel_of l.walk.sets.now in let A = g.A.Assigned.assigned l.walk.assigned.now in let overs = row_at l.over in
+    map explained_data l.all.items ++ explanations_from P rel A overs l.told.items l.m (map method_of (drop l.m l.methods)) ≡ explanations P rel A overs

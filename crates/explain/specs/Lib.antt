@@ -1,0 +1,26 @@
+-- Why a method is refused, in this order: the parts of a body and what each does by itself (PartEffects), the walk that comes to them with
+-- their numbers and held paths (Visits), the steps that can't be moved (Steps), what a list of visits says of the part that it was made
+-- of (StepReadings), and which lock would help (Helping).
+pub mod PartEffects
+pub mod Visits
+pub mod Steps
+pub mod StepReadings
+pub mod Helping
+-- Explanations of refusals, in this order: the assignment that trees show (Shown), the basic of each part of a body (Basics),
+-- explanations as plain data (Whys), why a method is more than it may be (Explaining) and
+-- what that means (Meanings), names of locks (Names), which lock a call takes
+-- (Takings), what a step does and which lock would help (Deeds), which lock would help around a whole method (Around), what is wrong
+-- with an error (Causes), and what a whole program's explanations are (Programs). Views and Walked have what the walk in code finds.
+pub mod Shown
+pub mod Basics
+pub mod Whys
+pub mod Views
+pub mod Walked
+pub mod Explaining
+pub mod Meanings
+pub mod Names
+pub mod Takings
+pub mod Deeds
+pub mod Around
+pub mod Causes
+pub mod Programs

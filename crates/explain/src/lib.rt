@@ -1,0 +1,32 @@
+//! Why a method is refused: the steps that can't be moved past those of other threads (after Lipton 1975), the first
+//! part that is an error by itself, and the lock that would help. Laws say what these are; code finds them in one walk
+//! through a body, with the basic of each part, and says what the steps do and what is wrong with an error.
+#![tactic(auto)]
+
+mod assigned;
+mod causes;
+mod deeds;
+mod errors;
+mod explaining;
+mod found;
+mod laws_of_explanations;
+mod names;
+mod program;
+mod step_and_place_laws;
+mod takings;
+mod walk;
+mod wrapping;
+
+pub use assigned::Shown;
+pub use causes::{Cause, cause_of};
+pub use deeds::{Deed, Help, deed_of, help_of};
+pub use explaining::{Why, basics};
+pub use found::{CorePart, Visited};
+pub use laws_of_explanations::{
+    around_laws, cause_laws, explanation_laws, hold_laws, reason_laws, taking_laws,
+};
+pub use names::{Alias, Lack, aliases, ascending};
+pub use program::{Explained, explanations};
+pub use step_and_place_laws::{error_laws, help_laws, place_laws, step_laws};
+pub use walk::Walk;
+pub use wrapping::around;

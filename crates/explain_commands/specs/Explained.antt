@@ -1,0 +1,55 @@
+-- The lines of explanations.
+use Rattle.std.specs.Prelude.{ℕ, ◌<◌, List, [], ◌∷◌, ◌++◌, Option, Some, None, slice_get}
+use Rattle.classes.specs.Table.{TableData}
+use Rattle.core_program.specs.Core.{Program, Method}
+use Rattle.explain.specs.declared.names.Alias.{Alias}
+use Rattle.explain.specs.Names.{aliases_after}
+use Rattle.explain.specs.Whys.{ExplainedData}
+use Rattle.explain_text.specs.Blocks.{IsBlock}
+use Rattle.explain_text.specs.Pages.{PageData}
+use Rattle.paths.specs.Paths.{PathData}
+use Rattle.places.specs.Slots.{member_slots}
+use Rattle.places.specs.Sources.{member_places}
+use Rattle.rules.specs.Effect.{Assignment}
+use Rattle.syntax.specs.Trees.{MemberTree}
+
+-- the names of a method's slots, and the offsets of its nodes; none of a method that isn't there
+abbrev pub slots_at : Option MemberTree → List (List ℕ)
+slots_at None = []
+slots_at (Some m) = member_slots m
+
+-- the offsets of a method's nodes, where the method is there
+abbrev pub places_at : Option MemberTree → List ℕ
+places_at None = []
+places_at (Some m) = member_places m
+
+-- what the lines of the method with this number are written with: the name of the file and its text, the class table, and of the method of
+-- the tree with this number, which is among these, the names of its slots and the offsets of its nodes
+abbrev pub page_of : (name text : List ℕ) → TableData → List MemberTree → ℕ → PageData
+page_of name text table methods m = record {
+  file = name;
+  text = text;
+  table = table;
+  slots = slots_at (slice_get methods m);
+  offsets = places_at (slice_get methods m);
+}
+
+-- each of the explained methods is one of the first so many
+abbrev pub AreWithin : ℕ → List ExplainedData → Type 0
+AreWithin n [] = Unit {0}
+AreWithin n (x ∷ xs) = (x.method < n) × AreWithin n xs
+
+-- the final locals of a method's body that have paths; none of a method that isn't there
+abbrev pub aliases_at : Program → Option Method → List Alias
+aliases_at P None = []
+aliases_at P (Some method) = aliases_after P [] method.body
+
+module _ (P : Program) (rel : ℕ → List PathData) (A : Assignment) (pages : ℕ → PageData) (overs : ℕ → List ℕ) where
+  -- the lines of one method
+  abbrev pub IsMethodText : ExplainedData → List ℕ → Type 0
+  IsMethodText x text = IsBlock P rel A (pages x.method) overs (aliases_at P (slice_get P.methods x.method)) x text
+
+  -- the lines of one method after the other
+  pub data AreTexts : List ExplainedData → List ℕ → Type 0 where
+    none : AreTexts [] []
+    more : (x : ExplainedData) (xs : List ExplainedData) (text rest : List ℕ) → IsMethodText x text → AreTexts xs rest → AreTexts (x ∷ xs) (text ++ rest)

@@ -1,0 +1,154 @@
+//! What is answered to the bytes of a source.
+
+ghost use Rattle.std.specs.Prelude.{◌≤◌, ◌^◌, length, map, IfOk, MatchResult, string_bytes};
+ghost use Rattle.conditions.specs.Conditions.{cond_of};
+ghost use Rattle.core_program.specs.Views.{program_of};
+ghost use Rattle.explain.specs.Shown.{shown as shown_by};
+ghost use Rattle.explain_commands.specs.Answers.{ExplainAnswer, IsJudgedProgram, IsText, pages_of};
+ghost use Rattle.explain_commands.specs.Explained.{page_of};
+ghost use Rattle.classes.specs.Views.{table_data};
+ghost use Rattle.lexer.specs.Limits.{longest_source};
+ghost use Rattle.rules.specs.Near.{rel_of};
+ghost use Rattle.sources.specs.Checking.{IsSource, NoSource};
+ghost use Rattle.sources.specs.Programs.{IsProgram};
+ghost use Rattle.sources.specs.Refusals.{IsRight};
+ghost use Rattle.syntax.specs.Views.{member_of, program_tree as tree_of};
+
+use crate::explaining::explained;
+use crate::judging::judge;
+use crate::lines::in_form;
+use crate::listing::listed;
+use crate::told::Told;
+use crate::words::Order;
+use effects::Assigned;
+use explain::{Shown, Walk};
+use places::{LineIndex, methods_in};
+use sources::{Ending, Refusal, Source, text_of, tree_of, well_formed};
+use std::alloc::{AllocError as NoMemory, Global};
+use std::mem::forget;
+use syntax::{Member, Program};
+
+/// How it ended, and the text that is written.
+#[derive(Drop)]
+pub struct Said {
+    pub ending: Ending,
+    pub text: String,
+}
+
+/// The text that is asked for.
+fn text_for<A: Assigned>(
+    order: Order,
+    told: &Told<'_, '_, '_>,
+    walk: &Walk<'_, A>,
+) -> Result<String, NoMemory>
+    requires there { length (program_of walk.now.program.now).methods ≤ length told.now.methods.now.items }
+    requires few { length (program_of walk.now.program.now).methods ≤ 2 ^ 32 }
+    ensures { IfOk result (λ text. IsText order (program_of walk.now.program.now) (rel_of walk.now.sets.now) (A.Assigned.assigned walk.now.assigned.now)
+        (page_of told.now.file.now told.now.index.now (table_data told.now.source.now.table) (map (λ m. member_of m.now) told.now.methods.now.items)) (string_bytes text)) }
+{
+    match order {
+        Order::Why => explained(told, walk),
+        Order::All => listed(told, walk),
+    }
+}
+
+/// The text that is asked for, where these are the trees of a source's least closed assignment and its methods in the tree.
+fn text_of_source<'t, 'p, 'a>(
+    alloc: Global,
+    order: Order,
+    file: &'t str,
+    index: &'t LineIndex<'a>,
+    source: &'t Source<'a>,
+    shown: &'t Shown<'t>,
+    methods: &'t Vec<&'p Member<'a>>,
+) -> Result<String, NoMemory>
+    requires there { length (program_of source.now.program).methods ≤ length methods.now.items }
+    requires few { length (program_of source.now.program).methods ≤ 2 ^ 32 }
+    ensures { IfOk result (λ text. IsText order (program_of source.now.program) (rel_of source.now.sets) (shown_by (map cond_of shown.now.trees.now))
+        (page_of file.now index.now (table_data source.now.table) (map (λ m. member_of m.now) methods.now.items)) (string_bytes text)) }
+{
+    let walk = Walk {
+        alloc,
+        program: &source.program,
+        sets: &source.sets,
+        assigned: shown,
+    };
+    let told = Told {
+        file,
+        index,
+        source,
+        methods,
+    };
+    text_for(order, &told, &walk)
+}
+
+/// What is said of a well-formed source.
+fn judged<'t, 'p, 'a>(
+    alloc: Global,
+    order: Order,
+    file: &'t str,
+    index: &'t LineIndex<'a>,
+    tree: &'p Program<'a>,
+    source: &'t Source<'a>,
+) -> Result<Said, NoMemory>
+    requires { IsSource index.now (tree_of tree.now) source.now }
+    ensures { IfOk result (λ said. IsJudgedProgram order (program_of source.now.program) (pages_of file.now index.now (tree_of tree.now)) said.ending (string_bytes said.text)) }
+{
+    let judged = judge(alloc, source)?;
+    let shown = Shown {
+        trees: judged.trees.as_slice(),
+    };
+    let methods = methods_in(alloc, tree)?;
+    let text = text_of_source(alloc, order, &*file, &*index, &*source, &shown, &methods)?;
+    Ok(Said {
+        ending: judged.ending,
+        text,
+    })
+}
+
+/// What is said of a text that has this tree, or the refusal of one that is no well-formed source.
+fn answered_tree<'a>(
+    alloc: Global,
+    order: Order,
+    file: &str,
+    text: &'a str,
+    tree: &Program<'a>,
+) -> Result<Said, Refusal>
+    requires small { length text.now ≤ longest_source }
+    requires program { IsProgram text.now (tree_of tree.now) }
+    ensures { MatchResult result (λ said. ExplainAnswer order file.now text.now said.ending (string_bytes said.text)) (IsRight (NoSource text.now)) }
+{
+    let index = LineIndex::new(alloc, text)?;
+    let source = well_formed(alloc, text, tree)?;
+    let said = judged(alloc, order, file, &index, tree, &source);
+    forget(source);
+    Ok(said?)
+}
+
+/// What is said of bytes, or the refusal of those that are no well-formed source.
+#[tactic(auto, using(sources::proofs::Told::refused_source))]
+fn answered(alloc: Global, order: Order, file: &str, bytes: &[u8]) -> Result<Said, Refusal>
+    requires { length bytes.now ≤ longest_source }
+    ensures { MatchResult result (λ said. ExplainAnswer order file.now bytes.now said.ending (string_bytes said.text)) (IsRight (NoSource bytes.now)) }
+{
+    let text = text_of(alloc, bytes)?;
+    let tree = tree_of(alloc, text)?;
+    let said = answered_tree(alloc, order, file, text, &tree);
+    forget(tree);
+    said
+}
+
+/// How it ends, and the text that is written, for the bytes of a file of this name.
+pub fn explain(alloc: Global, order: Order, file: &str, bytes: &[u8]) -> Result<Said, NoMemory>
+    requires { length bytes.now ≤ longest_source }
+    ensures { IfOk result (λ said. ExplainAnswer order file.now bytes.now said.ending (string_bytes said.text)) }
+{
+    match answered(alloc, order, file, bytes) {
+        Ok(said) => Ok(said),
+        Err(Refusal::Line(ending, line)) => Ok(Said {
+            ending,
+            text: in_form(alloc, file, line.as_str())?,
+        }),
+        Err(Refusal::NoMemory) => Err(NoMemory),
+    }
+}

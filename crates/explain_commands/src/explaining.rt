@@ -1,0 +1,98 @@
+//! The lines of explanations.
+
+ghost use Rattle.std.specs.Prelude.{◌≡◌, ◌++◌, ◌<◌, ◌≤◌, ◌^◌, ℕ, List, IfOk, OnOk, length, map, slice_get, string_bytes};
+ghost use Rattle.classes.specs.Views.{table_data};
+ghost use Rattle.core_program.specs.Views.{program_of};
+ghost use Rattle.explain.specs.Views.{explained_data};
+ghost use Rattle.explain_commands.specs.Answers.{Explains};
+ghost use Rattle.explain_commands.specs.Explained.{AreTexts, AreWithin, aliases_at, page_of};
+ghost use Rattle.explain_text.specs.Blocks.{IsBlock};
+ghost use Rattle.rules.specs.Near.{rel_of};
+ghost use Rattle.rules.specs.Search.{row_at};
+ghost use Rattle.syntax.specs.Views.{member_of};
+
+use crate::told::Told;
+use core_program::CoreProgram;
+use effects::Assigned;
+use explain::{Alias, Explained, Walk, aliases, explanations};
+use explain_text::{Page, write_block};
+use paths::MethodId;
+use places::{method_places, slot_names};
+use rules::{OverridingMethods, overriders};
+use std::alloc::{AllocError as NoMemory, Global};
+
+/// The final locals of a method's body that have paths; none of a method that isn't there.
+fn aliases_of(
+    alloc: Global,
+    program: &CoreProgram,
+    method: MethodId,
+) -> Result<Vec<Alias>, NoMemory>
+    ensures { IfOk result (λ known. known.items ≡ aliases_at (program_of program.now) (slice_get (program_of program.now).methods method)) }
+{
+    match program.methods().get(method.0 as usize) {
+        Some(method) => aliases(alloc, program, &method.body),
+        None => Ok(Vec::new(alloc)),
+    }
+}
+
+/// Adds the lines of a method.
+fn add_block<A: Assigned>(
+    told: &Told<'_, '_, '_>,
+    walk: &Walk<'_, A>,
+    over: &OverridingMethods,
+    x: &Explained<'_>,
+    text: &mut String,
+) -> Result<(), NoMemory>
+    requires { x.now.method < length told.now.methods.now.items }
+    ensures { OnOk result ((lines : List ℕ) × (string_bytes text.new ≡ string_bytes text.old ++ lines)
+        × IsBlock (program_of walk.now.program.now) (rel_of walk.now.sets.now) (A.Assigned.assigned walk.now.assigned.now)
+        (page_of told.now.file.now told.now.index.now (table_data told.now.source.now.table) (map (λ m. member_of m.now) told.now.methods.now.items) x.now.method)
+        (row_at over.now) (aliases_at (program_of walk.now.program.now) (slice_get (program_of walk.now.program.now).methods x.now.method)) (explained_data x.now) lines) }
+{
+    let member = told.methods[x.method.0 as usize];
+    let offsets = method_places(walk.alloc, member)?;
+    let slots = slot_names(walk.alloc, member)?;
+    let known = aliases_of(walk.alloc, walk.program, x.method)?;
+    let page = Page {
+        file: told.file,
+        index: told.index,
+        table: &told.source.table,
+        slots: &slots,
+        offsets: offsets.as_slice(),
+    };
+    write_block(text, &page, walk, over, known.as_slice(), x)
+}
+
+/// The lines of these methods, one after the other.
+fn lines_of<A: Assigned>(
+    told: &Told<'_, '_, '_>,
+    walk: &Walk<'_, A>,
+    over: &OverridingMethods,
+    all: &[Explained<'_>],
+) -> Result<String, NoMemory>
+    requires { AreWithin (length told.now.methods.now.items) (map explained_data all.now) }
+    ensures { IfOk result (λ text. AreTexts (program_of walk.now.program.now) (rel_of walk.now.sets.now) (A.Assigned.assigned walk.now.assigned.now)
+        (page_of told.now.file.now told.now.index.now (table_data told.now.source.now.table) (map (λ m. member_of m.now) told.now.methods.now.items))
+        (row_at over.now) (map explained_data all.now) (string_bytes text)) }
+{
+    let mut text = String::new(walk.alloc);
+    for x in all {
+        add_block(told, walk, over, x, &mut text)?;
+    }
+    Ok(text)
+}
+
+/// The explanations of the methods that break their bounds.
+pub(crate) fn explained<A: Assigned>(
+    told: &Told<'_, '_, '_>,
+    walk: &Walk<'_, A>,
+) -> Result<String, NoMemory>
+    requires there { length (program_of walk.now.program.now).methods ≤ length told.now.methods.now.items }
+    requires few { length (program_of walk.now.program.now).methods ≤ 2 ^ 32 }
+    ensures { IfOk result (λ text. Explains (program_of walk.now.program.now) (rel_of walk.now.sets.now) (A.Assigned.assigned walk.now.assigned.now)
+        (page_of told.now.file.now told.now.index.now (table_data told.now.source.now.table) (map (λ m. member_of m.now) told.now.methods.now.items)) (string_bytes text)) }
+{
+    let over = overriders(walk.alloc, walk.program)?;
+    let all = explanations(walk, &over)?;
+    lines_of(told, walk, &over, all.as_slice())
+}

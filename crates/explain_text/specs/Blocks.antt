@@ -1,0 +1,120 @@
+-- The lines of one method.
+use Rattle.std.specs.Prelude.{◌≡◌, ℕ, Bool, true, false, List, [], ◌++◌, Option, Some, None, codes, slice_get}
+use Rattle.algebra.specs.declared.basic.Basic.{Basic}
+use Rattle.algebra.specs.Basics.{name_of}
+use Rattle.core_program.specs.Core.{Program, Method}
+use Rattle.explain.specs.declared.names.Alias.{Alias}
+use Rattle.explain.specs.declared.causes.Cause.{Cause}
+use Rattle.explain.specs.declared.deeds.Help.{Help}
+use Rattle.explain.specs.Around.{around}
+use Rattle.explain.specs.Causes.{ArePaths, cause_of}
+use Rattle.explain.specs.Deeds.{deed_of, help_of}
+use Rattle.explain.specs.Whys.{WhyData, Wrong, Looped, Compound, Two, Overridden, Nothing, ExplainedData}
+use Rattle.paths.specs.Paths.{PathData}
+use Rattle.report.specs.Verdicts.{title_text}
+use Rattle.rules.specs.Effect.{Assignment}
+use Rattle.explain.specs.Visits.{Visit}
+use Rattle.explain_text.specs.Pages.{PageData, node_offset, words_before_kind, note_line}
+use Rattle.explain_text.specs.declared.codes.StepKind.{StepKind}
+use Rattle.explain_text.specs.declared.codes.StepKind.TheVariants as kind
+use Rattle.explain_text.specs.Codes.{cause_code, ending, help_code, step_code, step_lead, why_code}
+use Rattle.explain_text.specs.CauseTexts.{cause_text}
+use Rattle.explain_text.specs.DeedTexts.{deed_text, help_text}
+use Rattle.explain_text.specs.Words.{path_in}
+
+-- the offset of a method's name; 0 where there is no such method
+abbrev pub method_name_offset : Option Method → ℕ
+method_name_offset None = 0
+method_name_offset (Some method) = method.place_at
+
+-- the words between a method and what it is: those of one that breaks its bound, or of one that keeps it
+abbrev pub is_words : (is_refused : Bool) → Basic → List ℕ
+is_words true limit = codes " is declared " ++ name_of limit ++ codes ", found "
+is_words false limit = codes " is "
+
+-- the word by which a line says how grave it is: `error` where the method is refused for it, else `note`
+abbrev pub kind_word : (is_refused : Bool) → List ℕ
+kind_word true = codes "error"
+kind_word false = codes "note"
+
+-- `.. error: C.m is declared D, found F [CODE]`, or `.. note: C.m is F [CODE]`
+abbrev pub head_line : Program → PageData → ExplainedData → List ℕ
+head_line P page x =
+    words_before_kind page (method_name_offset (slice_get P.methods x.method)) (kind_word x.is_refused)
+    ++ title_text page.table x.method ++ is_words x.is_refused x.limit ++ name_of x.found ++ ending (why_code x.why)
+
+-- a method that overrides another and is this
+abbrev pub over_text : PageData → ℕ → Basic → List ℕ
+over_text page m b = title_text page.table m ++ codes " overrides it, and is " ++ name_of b
+
+-- its line, at its name
+abbrev pub over_line : Program → PageData → ℕ → Basic → List ℕ
+over_line P page m b = note_line page (method_name_offset (slice_get P.methods m)) (over_text page m b) (codes "overridden-by")
+
+-- a lock with which, held around all of it, a method is what it may be
+abbrev pub around_text : PageData → ℕ → (limit : Basic) → PathData → List ℕ
+around_text page m limit p = codes "with the lock of " ++ path_in page p ++ codes " held around all of it, " ++ title_text page.table m ++ codes " is " ++ name_of limit
+
+-- its line, at the method's name
+abbrev pub around_line : Program → PageData → ℕ → (limit : Basic) → PathData → List ℕ
+around_line P page m limit p = note_line page (method_name_offset (slice_get P.methods m)) (around_text page m limit p) (codes "help-around")
+
+-- the line of an error at a node, where these paths are held and this is wrong
+abbrev pub cause_line : PageData → ℕ → List PathData → Cause → List ℕ
+cause_line page node held cause = note_line page (node_offset page node) (cause_text page held cause) (cause_code cause)
+
+module _ (P : Program) (rel : ℕ → List PathData) (A : Assignment) (page : PageData) where
+  -- what a step does, where these methods override each
+  abbrev pub step_line : (overs : ℕ → List ℕ) → StepKind → Visit → List ℕ
+  step_line overs kind v = note_line page (node_offset page v.node) (step_lead kind ++ deed_text page (deed_of P rel A overs v.part v.held)) (step_code kind)
+
+  -- a help, as the line of a step
+  abbrev pub help_note : ℕ → Help → List ℕ
+  help_note node help = note_line page (node_offset page node) (help_text page help) (help_code help)
+
+  -- which lock would help it
+  abbrev pub help_line : List Alias → Visit → List ℕ
+  help_line aliases v = help_note v.node (help_of P rel A aliases v.part v.held)
+
+  -- the line of this lock, if there is one, around the method that is told; else these lines
+  abbrev pub around_or : ℕ → (limit : Basic) → Option PathData → List ℕ → List ℕ
+  around_or m limit None lines = lines
+  around_or m limit (Some p) lines = around_line P page m limit p
+
+  -- what would help a method that may be at most this: a lock around all of it; where there is none, these lines
+  abbrev pub helps : ℕ → (limit : Basic) → List ℕ → List ℕ
+  helps m limit lines = around_or m limit (around P rel A m limit) lines
+
+  -- the lines of steps, and of an overriding method, of a method that may be at most this
+  abbrev pub steps_lines : (overs : ℕ → List ℕ) → List Alias → ℕ → (limit : Basic) → WhyData → List ℕ
+  steps_lines overs aliases m limit (Wrong v) = []
+  steps_lines overs aliases m limit (Looped v n) =
+      step_line overs kind.Repeated v
+      ++ note_line page (node_offset page n) (codes "this loop makes it each time round, and between two times another thread may come in") (codes "gap-loop")
+      ++ helps m limit (help_line aliases v)
+  steps_lines overs aliases m limit (Compound v) =
+      step_line overs kind.Compound v ++ note_line page (node_offset page v.node) (codes "inside it another thread may come in") (codes "gap-inside")
+      ++ helps m limit (help_line aliases v)
+  steps_lines overs aliases m limit (Two v w) =
+      step_line overs kind.First v ++ step_line overs kind.Second w
+      ++ note_line page (node_offset page w.node) (codes "between the two another thread may come in") (codes "gap-between")
+      ++ helps m limit (help_line aliases v ++ help_line aliases w)
+  steps_lines overs aliases m limit (Overridden k b) = over_line P page k b
+  steps_lines overs aliases m limit Nothing = []
+
+-- the line of an error, which tells the held paths in ascending order
+pub record IsErrorLine (P : Program) (rel : ℕ → List PathData) (page : PageData) (aliases : List Alias) (v : Visit) (text : List ℕ) : Type 0 where
+  pub held : List PathData
+  pub are_held : ArePaths v.held held
+  pub text_is : text ≡ cause_line page v.node held (cause_of P rel aliases v.held v.part)
+
+-- the lines that say why a method that may be at most this is more
+abbrev pub IsWhyText : Program → (ℕ → List PathData) → Assignment → PageData → (ℕ → List ℕ) → List Alias → ℕ → (limit : Basic) → WhyData → List ℕ → Type 0
+IsWhyText P rel A page overs aliases m limit (Wrong v) text = IsErrorLine P rel page aliases v text
+IsWhyText P rel A page overs aliases m limit why text = text ≡ steps_lines P rel A page overs aliases m limit why
+
+-- the lines of a method: what it is, and why
+pub record IsBlock (P : Program) (rel : ℕ → List PathData) (A : Assignment) (page : PageData) (overs : ℕ → List ℕ) (aliases : List Alias) (x : ExplainedData) (text : List ℕ) : Type 0 where
+  pub more : List ℕ
+  pub text_is : text ≡ head_line P page x ++ more
+  pub why : IsWhyText P rel A page overs aliases x.method x.limit x.why more

@@ -1,0 +1,16 @@
+-- What the contracts of greatest levels cite: Greatest for a reader; Rises serves the private functions.
+pub mod Greatest
+pub mod Rises
+-- What the contracts of the walk in code cite: what a walk has seen, with each method that may run at a call.
+pub mod Told
+-- What the search for the first bad `synchronized` cites, in this order: what walks tell (Bodies), the cells that are reached over
+-- calls (Cells), and which bad one comes first (Bad).
+pub mod Bodies
+pub mod Cells
+pub mod Bad
+-- The text of levels, in this order: how it is written (Texts), how the parts of a line are read (Reading), what its first fault is and
+-- which levels it gives (Faults). Kept serves the code.
+pub mod Texts
+pub mod Reading
+pub mod Faults
+pub mod Kept

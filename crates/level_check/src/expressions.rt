@@ -1,0 +1,153 @@
+//! The walk through expressions.
+ghost use Rattle.std.specs.Prelude.{◌≡◌, ◌∷◌, [], ◌++◌, map, OnOk};
+ghost use Rattle.algebra.specs.HeldPaths.{has_path};
+ghost use Rattle.core_program.specs.Locks.{path_of};
+ghost use Rattle.core_program.specs.Views.{program_of, expr_of, exprs_from};
+ghost use Rattle.levels.specs.Walks.{Comes};
+ghost use Rattle.rules.specs.Effect.{held_under};
+ghost use Rattle.rules.specs.Mentions.{paths_of};
+ghost use Rattle.rules.specs.Near.{rel_of};
+ghost use Rattle.rules.specs.Search.{row_at};
+ghost use Rattle.level_check.specs.Told.{Calls, told_at, told_level_of, expr_told, exprs_told};
+
+use crate::told::Seen;
+use crate::walk::{Carried, Walk};
+use core_program::CoreExpr;
+use effects::held_under;
+use paths::MethodId;
+use std::alloc::{AllocError as NoMemory, Global};
+
+/// Adds a method that may run at a call on this receiver with these arguments.
+fn add_run(
+    alloc: Global,
+    walk: &Walk<'_>,
+    receiver: &CoreExpr,
+    method: MethodId,
+    args: &[CoreExpr],
+    carried: &Carried<'_>,
+    seen: &mut Vec<Seen>,
+) -> Result<(), NoMemory>
+    ensures { OnOk result (let P = program_of walk.now.program.now in
+        map told_level_of seen.new.items ≡ map told_level_of seen.old.items
+        ++ Calls method (held_under (rel_of walk.now.sets.now method) (path_of P (expr_of receiver.now)) (paths_of P (exprs_from args.now)) (has_path carried.now.held.now)) carried.now.under ∷ []) }
+{
+    let held = held_under(
+        alloc,
+        walk.program,
+        walk.sets,
+        receiver,
+        method,
+        args,
+        carried.held,
+    )?;
+    seen.push(Seen::Comes {
+        method,
+        held,
+        under: carried.under,
+    })?;
+    Ok(())
+}
+
+/// Adds the methods that may run at a call: the callee, and those that override it.
+fn add_call(
+    alloc: Global,
+    walk: &Walk<'_>,
+    receiver: &CoreExpr,
+    callee: MethodId,
+    args: &[CoreExpr],
+    carried: &Carried<'_>,
+    seen: &mut Vec<Seen>,
+) -> Result<(), NoMemory>
+    ensures { OnOk result (let P = program_of walk.now.program.now in
+        map told_level_of seen.new.items ≡ map told_level_of seen.old.items
+        ++ told_at (row_at walk.now.over.now) (Comes callee (λ k. held_under (rel_of walk.now.sets.now k) (path_of P (expr_of receiver.now)) (paths_of P (exprs_from args.now)) (has_path carried.now.held.now)) carried.now.under)) }
+{
+    add_run(alloc, walk, receiver, callee, args, carried, seen)?;
+    for over in walk.over.of(callee) {
+        add_run(alloc, walk, receiver, *over, args, carried, seen)?;
+    }
+    Ok(())
+}
+
+/// Walks through an expression.
+#[cycle(expressions)]
+#[tactic(auto, using(crate::proofs::ToldLemmas::told_append))]
+pub(crate) fn walk_expr(
+    alloc: Global,
+    walk: &Walk<'_>,
+    e: &CoreExpr,
+    carried: &Carried<'_>,
+    seen: &mut Vec<Seen>,
+) -> Result<(), NoMemory>
+    ensures { OnOk result (map told_level_of seen.new.items ≡ map told_level_of seen.old.items ++ expr_told walk.now (expr_of e.now) (has_path carried.now.held.now) carried.now.under) }
+{
+    match e {
+        CoreExpr::Not(a) | CoreExpr::Neg(a) | CoreExpr::Get(a, _) => {
+            walk_expr(alloc, walk, a, carried, seen)
+        }
+        CoreExpr::Binary(_, a, b) => {
+            walk_expr(alloc, walk, a, carried, seen)?;
+            walk_expr(alloc, walk, b, carried, seen)
+        }
+        CoreExpr::And(a, b) => {
+            walk_expr(alloc, walk, a, carried, seen)?;
+            walk_expr(alloc, walk, b, carried, seen)
+        }
+        CoreExpr::Or(a, b) => {
+            walk_expr(alloc, walk, a, carried, seen)?;
+            walk_expr(alloc, walk, b, carried, seen)
+        }
+        CoreExpr::Call(receiver, callee, args) => {
+            walk_expr(alloc, walk, receiver, carried, seen)?;
+            walk_exprs(alloc, walk, args.as_slice(), carried, seen)?;
+            add_call(
+                alloc,
+                walk,
+                receiver,
+                *callee,
+                args.as_slice(),
+                carried,
+                seen,
+            )
+        }
+        CoreExpr::New(_, args) => walk_exprs(alloc, walk, args.as_slice(), carried, seen),
+        CoreExpr::Int(_)
+        | CoreExpr::Truth(_)
+        | CoreExpr::Null
+        | CoreExpr::This
+        | CoreExpr::Var { .. } => Ok(()),
+    }
+}
+
+/// Walks through two expressions, one after the other.
+pub(crate) fn walk_two(
+    alloc: Global,
+    walk: &Walk<'_>,
+    a: &CoreExpr,
+    b: &CoreExpr,
+    carried: &Carried<'_>,
+    seen: &mut Vec<Seen>,
+) -> Result<(), NoMemory>
+    ensures { OnOk result (map told_level_of seen.new.items ≡ map told_level_of seen.old.items
+        ++ (expr_told walk.now (expr_of a.now) (has_path carried.now.held.now) carried.now.under ++ expr_told walk.now (expr_of b.now) (has_path carried.now.held.now) carried.now.under)) }
+{
+    walk_expr(alloc, walk, a, carried, seen)?;
+    walk_expr(alloc, walk, b, carried, seen)
+}
+
+/// Walks through arguments.
+#[cycle(expressions)]
+fn walk_exprs(
+    alloc: Global,
+    walk: &Walk<'_>,
+    es: &[CoreExpr],
+    carried: &Carried<'_>,
+    seen: &mut Vec<Seen>,
+) -> Result<(), NoMemory>
+    ensures { OnOk result (map told_level_of seen.new.items ≡ map told_level_of seen.old.items ++ exprs_told walk.now (exprs_from es.now) (has_path carried.now.held.now) carried.now.under) }
+{
+    for e in es {
+        walk_expr(alloc, walk, e, carried, seen)?;
+    }
+    Ok(())
+}

@@ -1,0 +1,3 @@
+-- Lemmas on safe states, runs and words.
+mod WatchedSteps
+mod Neighbours

@@ -1,0 +1,41 @@
+//! Laws of logs.
+
+ghost use Rattle.std.specs.Prelude.{◌≡◌, ℕ, List, [], Some, None, slice_get};
+ghost use Rattle.reduction.specs.Movers.{HasMovers};
+ghost use Rattle.reduction.specs.Serial.{NobodyInside, IsSerialOrder};
+ghost use Rattle.reduction.specs.Systems.{run_from, entries_from, written_from};
+ghost use Rattle.logs.specs.Examples.{stop_of, counter_guard, counter, twice, stale};
+ghost use Rattle.logs.specs.Events.{LogLine, order_of};
+ghost use Rattle.logs.specs.Judging.{Known, Impossible, Cut, Goes, nothing_known, judged, memory_before};
+ghost use Rattle.logs.specs.Logs.{Guard, logs};
+ghost use Rattle.logs.specs.Memory.{Memory};
+ghost use Rattle.logs.specs.Serial.{IsSerialLog};
+ghost use Rattle.semantics.specs.Units.{Entry, units, word_of};
+ghost use Rattle.semantics.specs.Words.{IsReducible};
+
+/// Whatever is guessed of the guards, the kinds of a log's events mean what they say; so where a log can have happened, ends
+/// with nobody inside a block, and has reducible words, its written order is serial: each thread does what it did, each read
+/// sees the value that it saw, the end is the same, and no block is interrupted.
+pub fn logs_serialise()
+    ensures movers { (guard : ℕ → Guard) → HasMovers (logs guard) (λ q. Unit {0}) }
+    ensures serial { (guard : ℕ → Guard) (start end : Memory) (s : List ℕ) → run_from (logs guard) start s ≡ Some end → NobodyInside (logs guard) end →
+        ((n : ℕ) (u : List Entry) → slice_get (units (entries_from (logs guard) start 0 s)) n ≡ Some u → IsReducible (word_of u)) →
+        IsSerialOrder (logs guard) start s (written_from (logs guard) start s) end }
+{}
+
+/// A log that is judged to its end, with no thread inside a block, is serial, whatever is guessed of the guards: its lines can
+/// stand in an order in which each can happen, each thread's in their own order, the end is the same, and no block is
+/// interrupted. That order is the written order of the log's run.
+pub fn judged_logs_are_serial()
+    ensures serial { (guard : ℕ → Guard) (lines : List LogLine) (k : Known) → judged guard nothing_known lines ≡ Goes k → ((t : ℕ) → k.depth t ≡ 0) → IsSerialLog lines }
+    ensures written { (guard : ℕ → Guard) (lines : List LogLine) (k : Known) → judged guard nothing_known lines ≡ Goes k → ((t : ℕ) → k.depth t ≡ 0) →
+        IsSerialOrder (logs guard) (memory_before nothing_known lines) (order_of lines) (written_from (logs guard) (memory_before nothing_known lines) (order_of lines)) (memory_before k []) }
+{}
+
+/// Two threads count under a lock: the log is judged to its end. A block that takes the lock twice can be cut; and no read sees
+/// a value that isn't there.
+pub fn examples_of_logs()
+    ensures counter { stop_of (judged counter_guard nothing_known counter) ≡ None }
+    ensures twice { stop_of (judged counter_guard nothing_known twice) ≡ Some Cut }
+    ensures stale { stop_of (judged counter_guard nothing_known stale) ≡ Some Impossible }
+{}

@@ -1,0 +1,23 @@
+use Rattle.std.proofs.Common.{reverse, refl, ap, ◌∙◌}
+use Rattle.std.proofs.lemmas.List.{reverse-reverse}
+use Rattle.core_program.specs.Views.{method_of}
+use Rattle.state.specs.declared.value.Value.TheVariants as value
+use Rattle.state.specs.States.{new_slots}
+use Rattle.state.specs.Frames.{operands_of, top_frame}
+use Rattle.machine.specs.Listed.{listed}
+use Rattle.std.specs.Prelude.{◌+◌, []}
+use Rattle.machine.proofs.RoomLemmas.{called_roomy}
+use Rattle.machine.proofs.Threads.{entered_ok}
+use Rattle.machine.proofs.perform.enters_found.Goals as goal
+
+pub returns-clause-ok : goal.returns-clause-ok
+returns-clause-ok c =
+    let method = method_of c.args.found.now in
+    let this = value.Ref c.args.address in
+    entered_ok c.call.result c.args.entered.method method this c.args.arguments c.args.place c.args.entered.entry c.args.entered.room c.in_ok-slots.slots.items c.args.cell.now c.call.new.self c.call.ensures.ok
+    (c.in_ok-slots.ensures method refl ∙ ap (λ ops. new_slots method this (listed c.args.arguments ops)) (ap reverse c.operands.ensures ∙ reverse-reverse (operands_of (top_frame c.args.cell.now))))
+
+pub returns-clause-roomy : goal.returns-clause-roomy
+returns-clause-roomy c rooms wants =
+    called_roomy rooms c.call.result (record { method = c.args.entered.method; slots = c.in_ok-slots.slots.items; operands = []; place = c.args.entered.entry; taken = []; room = c.args.entered.room }) (c.args.arguments + 1) c.args.place
+    c.args.cell.now c.call.new.self wants refl c.call.ensures.ok c.call.ensures.err

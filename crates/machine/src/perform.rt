@@ -1,0 +1,181 @@
+//! A deed is done.
+ghost use Rattle.std.specs.Prelude.{◌≡◌, ◌<◌, ℕ, List, IsOk, ◌+◌, Option, Some, None, true, IsSome, OnOk, OnErr, slice_get};
+ghost use Rattle.core_program.specs.Views.{program_of, method_of};
+ghost use Rattle.state.specs.declared.value.Value.TheVariants as value;
+ghost use Rattle.state.specs.States.{Faulted};
+ghost use Rattle.state.specs.Frames.{CellFrame, rest_of, frames_in, code_thread, top_frame, is_running, slots_of, on_top, popped, HasSpare};
+ghost use Rattle.machine.specs.Counts.{IsCounted};
+ghost use Rattle.machine.specs.Rooms.{StaysRoomy, HasRoomOf, FitsIn};
+ghost use Rattle.machine.specs.Deeds.{Can, called_thread, given_on, deed_thread, deed_heap, deed_locks, deed_output, seen_of, operands_in};
+
+use crate::act::{NewObject, drops, gives, goes, makes_next, prints, stores, takes, writes};
+use crate::deed::Deed;
+use crate::make::slots_of;
+use crate::shared::SharedState;
+use core_program::{CoreMethod, CoreProgram};
+use state::{Address, Entered, Fault, ThreadCell, Value};
+use std::alloc::{AllocError as NoMemory, Global};
+
+/// A method that is there is entered on an object.
+fn enters_found(
+    alloc: Global,
+    found: &CoreMethod,
+    cell: &mut ThreadCell,
+    entered: Entered,
+    arguments: usize,
+    address: Address,
+    place: u32,
+) -> Result<(), NoMemory>
+    requires { is_running cell.old ≡ true }
+    ensures ok { OnOk result (code_thread cell.new ≡ called_thread entered.method (Some (method_of found.now)) (value.Ref address) arguments place entered.entry (code_thread cell.old)) }
+    ensures err { OnErr result (cell.new ≡ cell.old) }
+    ensures roomy { (rooms : List ℕ) → slice_get rooms entered.method ≡ Some entered.room → StaysRoomy rooms cell.old cell.new }
+{
+    // No list of parameters is so long.
+    if arguments == usize::MAX {
+        return Err(NoMemory);
+    }
+    let slots = slots_of(
+        alloc,
+        found.slots,
+        Value::Ref(address),
+        cell.operands(),
+        arguments,
+    )?;
+    cell.call(alloc, arguments + 1, place, entered, slots)
+}
+
+/// A method is entered on an object, where the method is there.
+fn enters(
+    alloc: Global,
+    program: &CoreProgram,
+    cell: &mut ThreadCell,
+    entered: Entered,
+    arguments: usize,
+    address: Address,
+    place: u32,
+) -> Result<(), NoMemory>
+    requires { is_running cell.old ≡ true }
+    ensures ok { OnOk result (code_thread cell.new ≡ called_thread entered.method (slice_get (program_of program.now).methods entered.method) (value.Ref address) arguments place entered.entry (code_thread cell.old)) }
+    ensures err { OnErr result (cell.new ≡ cell.old) }
+    ensures roomy { (rooms : List ℕ) → slice_get rooms entered.method ≡ Some entered.room → StaysRoomy rooms cell.old cell.new }
+{
+    let method = entered.method;
+    match program.methods.get(method.0 as usize) {
+        Some(found) => enters_found(alloc, found, cell, entered, arguments, address, place),
+        None => Ok(()),
+    }
+}
+
+/// A running thread faults.
+fn faults(cell: &mut ThreadCell, kind: Fault)
+    requires { is_running cell.old ≡ true }
+    ensures thread { code_thread cell.new ≡ Faulted kind (frames_in (code_thread cell.old)) }
+    ensures roomy { (rooms : List ℕ) → StaysRoomy rooms cell.old cell.new }
+{
+    cell.fault(kind);
+}
+
+/// A running thread returns from its top frame with a result or without.
+fn returns(cell: &mut ThreadCell, gives: Option<Value>) -> Result<(), NoMemory>
+    requires { is_running cell.old ≡ true }
+    ensures ok { OnOk result (code_thread cell.new ≡ on_top (given_on gives) (popped (code_thread cell.old))) }
+    ensures err { OnErr result (cell.new ≡ cell.old) }
+    ensures roomy { (rooms : List ℕ) → StaysRoomy rooms cell.old cell.new }
+    ensures lean { HasSpare gives (rest_of (frames_in cell.old)) → IsOk result }
+{
+    cell.give_result(gives)
+}
+
+/// A deed of a running thread is done, but for the start of another thread. Nothing is done where the thread waits.
+pub(crate) fn perform(
+    alloc: Global,
+    program: &CoreProgram,
+    shared: &mut SharedState,
+    cell: &mut ThreadCell,
+    thread: u32,
+    deed: Deed,
+) -> Result<(), NoMemory>
+    requires top { IsSome (top_frame cell.old) }
+    requires running { is_running cell.old ≡ true }
+    requires can { Can (program_of program.now) (seen_of thread shared.old.heap shared.old.locks) thread (slots_of (top_frame cell.old)) deed }
+    requires counted { (n : ℕ) × (n < 4294967295) × IsCounted n shared.old.heap shared.old.locks }
+    ensures cell { OnOk result (code_thread cell.new ≡ deed_thread (program_of program.now) (seen_of thread shared.old.heap shared.old.locks) thread deed (code_thread cell.old)) }
+    ensures heap { OnOk result (shared.new.heap ≡ deed_heap (program_of program.now) (seen_of thread shared.old.heap shared.old.locks) thread (operands_in (code_thread cell.old)) deed shared.old.heap) }
+    ensures locks { OnOk result (shared.new.locks ≡ deed_locks (seen_of thread shared.old.heap shared.old.locks) thread deed shared.old.locks) }
+    ensures output { OnOk result (shared.new.output.items ≡ deed_output deed shared.old.output.items) }
+    ensures cell_kept { OnErr result (code_thread cell.new ≡ code_thread cell.old) }
+    ensures heap_kept { OnErr result (shared.new.heap ≡ shared.old.heap) }
+    ensures locks_kept { OnErr result (shared.new.locks ≡ shared.old.locks) }
+    ensures output_kept { OnErr result (shared.new.output.items ≡ shared.old.output.items) }
+    ensures roomy { (rooms : List ℕ) → HasRoomOf rooms deed → StaysRoomy rooms cell.old cell.new }
+    ensures lean { (f : CellFrame) → top_frame cell.old ≡ Some f → FitsIn f (rest_of (frames_in cell.old)) deed → IsOk result }
+{
+    match deed {
+        Deed::Fails(kind) => {
+            faults(cell, kind);
+            Ok(())
+        }
+        Deed::Goes {
+            drops,
+            gives,
+            place,
+        } => goes(cell, drops, gives, place),
+        Deed::Stores { slot, value, place } => {
+            stores(cell, slot, value, place);
+            Ok(())
+        }
+        Deed::Reads { value, place, .. } => goes(cell, 1, Some(value), place),
+        Deed::Writes {
+            address,
+            index,
+            value,
+            place,
+            ..
+        } => {
+            writes(&mut shared.heap, cell, address, index, value, place);
+            Ok(())
+        }
+        Deed::Makes {
+            class,
+            arguments,
+            place,
+        } => {
+            let object = NewObject {
+                class,
+                arguments,
+                place,
+            };
+            makes_next(alloc, program, &mut shared.heap, cell, thread, object)
+        }
+        Deed::Enters {
+            method,
+            arguments,
+            address,
+            place,
+            entry,
+            room,
+        } => {
+            let entered = Entered {
+                method,
+                entry,
+                room,
+            };
+            enters(alloc, program, cell, entered, arguments, address, place)
+        }
+        Deed::Takes { address, place, .. } => {
+            takes(alloc, &mut shared.locks, cell, thread, address, place)
+        }
+        Deed::Waits { .. } => Ok(()),
+        Deed::Gives { address, place, .. } => {
+            gives(&mut shared.locks, cell, address, place);
+            Ok(())
+        }
+        Deed::Returns { gives } => returns(cell, gives),
+        Deed::Prints { number, place } => prints(&mut shared.output, cell, number, place),
+        Deed::Starts { place, .. } => {
+            drops(cell, 1, place);
+            Ok(())
+        }
+    }
+}

@@ -1,0 +1,16 @@
+pub mod Fields
+pub mod Complete
+pub mod Expressions
+pub mod LoopLaw
+pub mod Lists
+pub mod Loops
+pub mod Parts
+pub mod Ranks
+pub mod Right
+pub mod Statements
+pub mod StatementLoops
+pub mod CompleteStatements
+pub mod CompleteMembers
+pub mod MemberLoops
+pub mod Members
+pub mod Whole

@@ -1,0 +1,550 @@
+//! Expressions. `high` is the height that is still allowed, and bounds the depth of the recursion.
+
+ghost use Rattle.std.specs.Prelude.{◌≡◌, ◌+◌, ◌-◌, ◌<◌, ◌≤◌, map, length, IfOk};
+ghost use Rattle.syntax.specs.Heights.{height as height_of, heights};
+ghost use Rattle.syntax.specs.Limits.{most_height};
+ghost use Rattle.syntax.specs.Trees.{BinaryE, CallE, NewE};
+ghost use Rattle.syntax.specs.Views.{expr_tree, exprs_from};
+ghost use Rattle.parser.specs.Answer.{Gives};
+ghost use Rattle.parser.specs.Combine.{comma_step, loop};
+ghost use Rattle.parser.specs.Words.{is_op, field_name as field_name_at};
+ghost use Rattle.parser.specs.Expressions.{arguments as arguments_at, below, call_arguments, chain_at, chain_with, dots as dots_at, leaf as leaf_at, member_rest as member_rest_at, member_step as member_step_at, negated as negated_at, new_rest as new_rest_at, op_step, parenthesised as parenthesised_at, postfix as postfix_at, primary as primary_at, unary as unary_at};
+
+use crate::lexeme::Lexeme;
+use crate::stop::{Stop, SyntaxFault};
+use crate::tokens::{
+    accept, begins, begins_any_operator, begins_expression, begins_least, begins_number,
+    begins_operator, least, name, number, operator, take,
+};
+use std::alloc::Global;
+use syntax::{Expr, Name, Op, Terminal};
+
+/// The levels of binary operators.
+pub const LEVELS: u32 = 6;
+
+/// An expression, its height, and the tokens behind it.
+#[derive(Drop)]
+pub struct Parsed<'t, 'a> {
+    pub tree: Expr<'a>,
+    pub height: u32,
+    pub rest: &'t [Lexeme<'a>],
+}
+
+/// Arguments, the height of the highest, and the tokens behind them.
+#[derive(Drop)]
+pub struct Arguments<'t, 'a> {
+    pub items: Vec<Expr<'a>>,
+    pub height: u32,
+    pub rest: &'t [Lexeme<'a>],
+}
+
+fn leaf_of<'t, 'a>(tree: Expr<'a>, rest: &'t [Lexeme<'a>]) -> Parsed<'t, 'a>
+    ensures tree { expr_tree result.tree ≡ expr_tree tree.entry }
+    ensures height { result.height ≡ 1 }
+    ensures rest { result.rest.now ≡ rest.now }
+{
+    Parsed {
+        tree,
+        height: 1,
+        rest,
+    }
+}
+
+/// A number, a truth value, `null`, `this` or a name.
+#[tactic(auto, unfolding(crate::specs::Expressions::leaf))]
+pub fn leaf<'t, 'a>(tokens: &'t [Lexeme<'a>]) -> Result<Parsed<'t, 'a>, Stop<'t, 'a>>
+    ensures tree { Gives (λ x. (expr_tree x.tree, x.rest.now)) result (leaf_at tokens.now) }
+    ensures height { IfOk result (λ x. x.height ≡ height_of (expr_tree x.tree)) }
+    ensures limit { IfOk result (λ x. x.height ≡ 1) }
+{
+    if begins_number(tokens) {
+        let ((value, at), rest) = number(tokens)?;
+        return Ok(leaf_of(Expr::Number(value, at), rest));
+    }
+    if let Some((at, rest)) = accept(tokens, Terminal::True) {
+        return Ok(leaf_of(Expr::Truth(true, at), rest));
+    }
+    if let Some((at, rest)) = accept(tokens, Terminal::False) {
+        return Ok(leaf_of(Expr::Truth(false, at), rest));
+    }
+    if let Some((at, rest)) = accept(tokens, Terminal::Null) {
+        return Ok(leaf_of(Expr::Null(at), rest));
+    }
+    if let Some((at, rest)) = accept(tokens, Terminal::This) {
+        return Ok(leaf_of(Expr::This(at), rest));
+    }
+    let (variable, rest) = name(tokens)?;
+    Ok(leaf_of(Expr::Var(variable), rest))
+}
+
+/// A dot and a name.
+#[tactic(auto, unfolding(crate::specs::Words::field_name))]
+pub fn field_name<'t, 'a>(
+    tokens: &'t [Lexeme<'a>],
+) -> Result<(Name<'a>, &'t [Lexeme<'a>]), Stop<'t, 'a>>
+    ensures { Gives (λ x. (x.0, x.1.now)) result (field_name_at tokens.now) }
+{
+    let (_, rest) = take(tokens, Terminal::Dot)?;
+    name(rest)
+}
+
+fn make_call<'a>(receiver: Box<Expr<'a>>, method: Name<'a>, arguments: Vec<Expr<'a>>) -> Expr<'a>
+    ensures { expr_tree result ≡ CallE (expr_tree receiver.entry.value) method.entry (exprs_from (map expr_tree arguments.entry.items)) }
+{
+    Expr::Call(receiver, method, arguments)
+}
+
+fn make_binary<'a>(op: Op, left: Box<Expr<'a>>, right: Box<Expr<'a>>, at: u32) -> Expr<'a>
+    ensures { expr_tree result ≡ BinaryE op (expr_tree left.entry.value) (expr_tree right.entry.value) at }
+{
+    Expr::Binary(op, left, right, at)
+}
+
+fn make_new<'a>(class: Name<'a>, arguments: Vec<Expr<'a>>, at: u32) -> Expr<'a>
+    ensures { expr_tree result ≡ NewE class.entry (exprs_from (map expr_tree arguments.entry.items)) at }
+{
+    Expr::New(class, arguments, at)
+}
+
+/// One argument more, behind its comma.
+#[cycle(expression)]
+#[tactic(auto, using(crate::proofs::Loops::take_shorter, crate::proofs::Loops::chain_shorter, crate::proofs::Loops::heights_pushed))]
+fn next_argument<'t, 'a>(
+    alloc: Global,
+    so_far: Arguments<'t, 'a>,
+    high: u32,
+) -> Result<Arguments<'t, 'a>, Stop<'t, 'a>>
+    requires high { high ≤ most_height }
+    requires positive { 0 < high }
+    requires height { so_far.height ≡ heights (exprs_from (map expr_tree so_far.items.items)) }
+    requires limit { so_far.height < high }
+    ensures tree { Gives (λ x. (map expr_tree x.items.items, x.rest.now)) result (comma_step (below high 6) (map expr_tree so_far.entry.items.items) so_far.entry.rest.now) }
+    ensures height { IfOk result (λ x. x.height ≡ heights (exprs_from (map expr_tree x.items.items))) }
+    ensures limit { IfOk result (λ x. x.height < high) }
+    ensures shorter { IfOk result (λ x. length x.rest.now < length so_far.entry.rest.now) }
+{
+    let Arguments {
+        mut items,
+        height,
+        rest,
+    } = so_far;
+    let (_, rest) = take(rest, Terminal::Comma)?;
+    let argument = chain(alloc, rest, high - 1, LEVELS)?;
+    items.push(argument.tree)?;
+    Ok(Arguments {
+        items,
+        height: height.max(argument.height),
+        rest: argument.rest,
+    })
+}
+
+/// Arguments up to the closing parenthesis.
+#[cycle(expression)]
+#[tactic(auto, unfolding(crate::specs::Expressions::arguments), using(crate::proofs::Loops::argument_more, crate::proofs::Loops::argument_done))]
+fn argument_list<'t, 'a>(
+    alloc: Global,
+    tokens: &'t [Lexeme<'a>],
+    high: u32,
+) -> Result<Arguments<'t, 'a>, Stop<'t, 'a>>
+    requires high { high ≤ most_height }
+    requires positive { 0 < high }
+    ensures tree { Gives (λ x. (map expr_tree x.items.items, x.rest.now)) result (arguments_at high (below high) tokens.now) }
+    ensures height { IfOk result (λ x. x.height ≡ heights (exprs_from (map expr_tree x.items.items))) }
+    ensures limit { IfOk result (λ x. x.height < high) }
+{
+    let mut list = Arguments {
+        items: Vec::new(alloc),
+        height: 0,
+        rest: tokens,
+    };
+    if begins(tokens, Terminal::CloseParen) {
+        return Ok(list);
+    }
+    let argument = chain(alloc, tokens, high - 1, LEVELS)?;
+    list.items.push(argument.tree)?;
+    list.height = argument.height;
+    list.rest = argument.rest;
+    while begins(list.rest, Terminal::Comma) {
+        list = next_argument(alloc, list, high)?;
+    }
+    Ok(list)
+}
+
+/// Arguments in parentheses.
+#[cycle(expression)]
+#[tactic(auto, unfolding(crate::specs::Expressions::call_arguments))]
+fn arguments_in_parentheses<'t, 'a>(
+    alloc: Global,
+    tokens: &'t [Lexeme<'a>],
+    high: u32,
+) -> Result<Arguments<'t, 'a>, Stop<'t, 'a>>
+    requires high { high ≤ most_height }
+    requires positive { 0 < high }
+    ensures tree { Gives (λ x. (map expr_tree x.items.items, x.rest.now)) result (call_arguments high (below high) tokens.now) }
+    ensures height { IfOk result (λ x. x.height ≡ heights (exprs_from (map expr_tree x.items.items))) }
+    ensures limit { IfOk result (λ x. x.height < high) }
+{
+    let (_, rest) = take(tokens, Terminal::OpenParen)?;
+    let list = argument_list(alloc, rest, high)?;
+    let Arguments {
+        items,
+        height,
+        rest,
+    } = list;
+    let (_, rest) = take(rest, Terminal::CloseParen)?;
+    Ok(Arguments {
+        items,
+        height,
+        rest,
+    })
+}
+
+/// What stands behind `new`, which is at the offset `at`.
+#[cycle(expression)]
+#[tactic(auto, unfolding(crate::specs::Expressions::new_rest))]
+pub fn new_rest<'t, 'a>(
+    alloc: Global,
+    tokens: &'t [Lexeme<'a>],
+    high: u32,
+    at: u32,
+) -> Result<Parsed<'t, 'a>, Stop<'t, 'a>>
+    requires high { high ≤ most_height }
+    requires positive { 0 < high }
+    ensures tree { Gives (λ x. (expr_tree x.tree, x.rest.now)) result (new_rest_at high (below high) at tokens.now) }
+    ensures height { IfOk result (λ x. x.height ≡ height_of (expr_tree x.tree)) }
+    ensures limit { IfOk result (λ x. x.height ≤ high) }
+{
+    let (class, rest) = name(tokens)?;
+    let Arguments {
+        items,
+        height,
+        rest,
+    } = arguments_in_parentheses(alloc, rest, high)?;
+    Ok(Parsed {
+        tree: make_new(class, items, at),
+        height: height + 1,
+        rest,
+    })
+}
+
+/// An expression in parentheses.
+#[cycle(expression)]
+#[tactic(auto, unfolding(crate::specs::Expressions::parenthesised))]
+fn parenthesised<'t, 'a>(
+    alloc: Global,
+    tokens: &'t [Lexeme<'a>],
+    high: u32,
+) -> Result<Parsed<'t, 'a>, Stop<'t, 'a>>
+    requires high { high ≤ most_height }
+    requires positive { 0 < high }
+    ensures tree { Gives (λ x. (expr_tree x.tree, x.rest.now)) result (parenthesised_at high (below high) tokens.now) }
+    ensures height { IfOk result (λ x. x.height ≡ height_of (expr_tree x.tree)) }
+    ensures limit { IfOk result (λ x. x.height ≤ high) }
+{
+    let (at, rest) = take(tokens, Terminal::OpenParen)?;
+    let Parsed { tree, height, rest } = chain(alloc, rest, high - 1, LEVELS)?;
+    let inside = Box::new(alloc, tree)?;
+    let (_, rest) = take(rest, Terminal::CloseParen)?;
+    Ok(Parsed {
+        tree: Expr::Paren(inside, at),
+        height: height + 1,
+        rest,
+    })
+}
+
+/// Reads an expression in parentheses, a `new`, or an expression without parts, of at most this height.
+#[cycle(expression)]
+#[tactic(auto, unfolding(crate::specs::Expressions::primary))]
+pub fn primary<'t, 'a>(
+    alloc: Global,
+    tokens: &'t [Lexeme<'a>],
+    high: u32,
+) -> Result<Parsed<'t, 'a>, Stop<'t, 'a>>
+    requires high { high ≤ most_height }
+    requires positive { 0 < high }
+    ensures tree { Gives (λ x. (expr_tree x.tree, x.rest.now)) result (primary_at high (below high) tokens.now) }
+    ensures height { IfOk result (λ x. x.height ≡ height_of (expr_tree x.tree)) }
+    ensures limit { IfOk result (λ x. x.height ≤ high) }
+{
+    if begins(tokens, Terminal::OpenParen) {
+        return parenthesised(alloc, tokens, high);
+    }
+    if let Some((at, rest)) = accept(tokens, Terminal::New) {
+        return new_rest(alloc, rest, high, at);
+    }
+    leaf(tokens)
+}
+
+/// What stands behind a dot and a name: arguments, or nothing.
+#[cycle(expression)]
+#[tactic(auto, unfolding(crate::specs::Expressions::member_rest))]
+fn member_rest<'t, 'a>(
+    alloc: Global,
+    receiver: Box<Expr<'a>>,
+    height: u32,
+    member: Name<'a>,
+    tokens: &'t [Lexeme<'a>],
+    high: u32,
+) -> Result<Parsed<'t, 'a>, Stop<'t, 'a>>
+    requires high { high ≤ most_height }
+    requires positive { 0 < high }
+    requires height { height ≡ height_of (expr_tree receiver.value) }
+    requires limit { height < high }
+    ensures tree { Gives (λ x. (expr_tree x.tree, x.rest.now)) result (member_rest_at high (below high) (expr_tree receiver.entry.value) member.entry tokens.now) }
+    ensures height { IfOk result (λ x. x.height ≡ height_of (expr_tree x.tree)) }
+    ensures limit { IfOk result (λ x. x.height ≤ high) }
+    ensures grows { IfOk result (λ x. height < x.height) }
+{
+    if begins(tokens, Terminal::OpenParen) {
+        let list = arguments_in_parentheses(alloc, tokens, high)?;
+        let Arguments {
+            items,
+            height: highest,
+            rest,
+        } = list;
+        return Ok(Parsed {
+            tree: make_call(receiver, member, items),
+            height: height.max(highest) + 1,
+            rest,
+        });
+    }
+    Ok(Parsed {
+        tree: Expr::Get(receiver, member),
+        height: height + 1,
+        rest: tokens,
+    })
+}
+
+/// A field or a call behind a receiver.
+#[cycle(expression)]
+#[tactic(auto, unfolding(crate::specs::Expressions::member_step))]
+fn member<'t, 'a>(
+    alloc: Global,
+    receiver: Parsed<'t, 'a>,
+    high: u32,
+) -> Result<Parsed<'t, 'a>, Stop<'t, 'a>>
+    requires high { high ≤ most_height }
+    requires positive { 0 < high }
+    requires height { receiver.height ≡ height_of (expr_tree receiver.tree) }
+    ensures tree { Gives (λ x. (expr_tree x.tree, x.rest.now)) result (member_step_at high (below high) (expr_tree receiver.entry.tree) receiver.entry.rest.now) }
+    ensures height { IfOk result (λ x. x.height ≡ height_of (expr_tree x.tree)) }
+    ensures limit { IfOk result (λ x. x.height ≤ high) }
+    ensures grows { IfOk result (λ x. receiver.entry.height < x.height) }
+{
+    let Parsed { tree, height, rest } = receiver;
+    let whole = Box::new(alloc, tree)?;
+    if high <= height {
+        return Err(Stop::Fault(SyntaxFault::TooDeep, rest));
+    }
+    let (member, rest) = field_name(rest)?;
+    member_rest(alloc, whole, height, member, rest, high)
+}
+
+/// The fields and calls behind an expression.
+#[cycle(expression)]
+#[tactic(auto, unfolding(crate::specs::Expressions::dots), using(crate::proofs::Loops::member_more, crate::proofs::Loops::member_done))]
+pub fn dots<'t, 'a>(
+    alloc: Global,
+    front: Parsed<'t, 'a>,
+    high: u32,
+) -> Result<Parsed<'t, 'a>, Stop<'t, 'a>>
+    requires high { high ≤ most_height }
+    requires positive { 0 < high }
+    requires height { front.height ≡ height_of (expr_tree front.tree) }
+    requires limit { front.height ≤ high }
+    ensures tree { Gives (λ x. (expr_tree x.tree, x.rest.now)) result (dots_at high (below high) (expr_tree front.entry.tree) front.entry.rest.now) }
+    ensures height { IfOk result (λ x. x.height ≡ height_of (expr_tree x.tree)) }
+    ensures limit { IfOk result (λ x. x.height ≤ high) }
+{
+    let mut whole = front;
+    while begins(whole.rest, Terminal::Dot) {
+        whole = member(alloc, whole, high)?;
+    }
+    Ok(whole)
+}
+
+#[cycle(expression)]
+#[tactic(auto, unfolding(crate::specs::Expressions::postfix))]
+fn postfix<'t, 'a>(
+    alloc: Global,
+    tokens: &'t [Lexeme<'a>],
+    high: u32,
+) -> Result<Parsed<'t, 'a>, Stop<'t, 'a>>
+    requires high { high ≤ most_height }
+    requires positive { 0 < high }
+    ensures tree { Gives (λ x. (expr_tree x.tree, x.rest.now)) result (postfix_at high (below high) tokens.now) }
+    ensures height { IfOk result (λ x. x.height ≡ height_of (expr_tree x.tree)) }
+    ensures limit { IfOk result (λ x. x.height ≤ high) }
+{
+    let front = primary(alloc, tokens, high)?;
+    dots(alloc, front, high)
+}
+
+/// What stands behind a `-` at the offset `at`.
+#[cycle(expression)]
+#[tactic(auto, unfolding(crate::specs::Expressions::negated))]
+fn negated<'t, 'a>(
+    alloc: Global,
+    tokens: &'t [Lexeme<'a>],
+    high: u32,
+    at: u32,
+) -> Result<Parsed<'t, 'a>, Stop<'t, 'a>>
+    requires high { high ≤ most_height }
+    requires positive { 0 < high }
+    ensures tree { Gives (λ x. (expr_tree x.tree, x.rest.now)) result (negated_at high (below high) at tokens.now) }
+    ensures height { IfOk result (λ x. x.height ≡ height_of (expr_tree x.tree)) }
+    ensures limit { IfOk result (λ x. x.height ≤ high) }
+{
+    if begins_least(tokens) {
+        let (_, rest) = least(tokens)?;
+        return Ok(leaf_of(Expr::Least(at), rest));
+    }
+    let Parsed { tree, height, rest } = chain(alloc, tokens, high - 1, 0)?;
+    Ok(Parsed {
+        tree: Expr::Neg(Box::new(alloc, tree)?, at),
+        height: height + 1,
+        rest,
+    })
+}
+
+#[cycle(expression)]
+#[tactic(auto, unfolding(crate::specs::Expressions::unary))]
+fn unary<'t, 'a>(
+    alloc: Global,
+    tokens: &'t [Lexeme<'a>],
+    high: u32,
+) -> Result<Parsed<'t, 'a>, Stop<'t, 'a>>
+    requires high { high ≤ most_height }
+    requires positive { 0 < high }
+    ensures tree { Gives (λ x. (expr_tree x.tree, x.rest.now)) result (unary_at high (below high) tokens.now) }
+    ensures height { IfOk result (λ x. x.height ≡ height_of (expr_tree x.tree)) }
+    ensures limit { IfOk result (λ x. x.height ≤ high) }
+{
+    if let Some((at, rest)) = accept(tokens, Terminal::Bang) {
+        let Parsed { tree, height, rest } = chain(alloc, rest, high - 1, 0)?;
+        return Ok(Parsed {
+            tree: Expr::Not(Box::new(alloc, tree)?, at),
+            height: height + 1,
+            rest,
+        });
+    }
+    if let Some((at, rest)) = accept(tokens, Terminal::Minus) {
+        return negated(alloc, rest, high, at);
+    }
+    postfix(alloc, tokens, high)
+}
+
+/// An operator and its right operand, behind the left one.
+#[cycle(expression)]
+#[tactic(auto, unfolding(crate::specs::Expressions::op_step))]
+fn operation<'t, 'a>(
+    alloc: Global,
+    left: Parsed<'t, 'a>,
+    high: u32,
+    levels: u32,
+) -> Result<Parsed<'t, 'a>, Stop<'t, 'a>>
+    requires high { high ≤ most_height }
+    requires positive { 0 < high }
+    requires levels { levels < 6 }
+    requires height { left.height ≡ height_of (expr_tree left.tree) }
+    ensures tree { Gives (λ x. (expr_tree x.tree, x.rest.now)) result (op_step high (below high) levels (expr_tree left.entry.tree) left.entry.rest.now) }
+    ensures height { IfOk result (λ x. x.height ≡ height_of (expr_tree x.tree)) }
+    ensures limit { IfOk result (λ x. x.height ≤ high) }
+    ensures grows { IfOk result (λ x. left.entry.height < x.height) }
+{
+    let Parsed { tree, height, rest } = left;
+    let operand = Box::new(alloc, tree)?;
+    if high <= height {
+        return Err(Stop::Fault(SyntaxFault::TooDeep, rest));
+    }
+    let ((op, at), rest) = operator(rest, levels + 1)?;
+    let right = chain(alloc, rest, high - 1, levels)?;
+    let Parsed {
+        tree,
+        height: other,
+        rest,
+    } = right;
+    Ok(Parsed {
+        tree: make_binary(op, operand, Box::new(alloc, tree)?, at),
+        height: height.max(other) + 1,
+        rest,
+    })
+}
+
+/// Operators of one level and their right operands, behind an operand of the levels before it.
+#[cycle(expression)]
+#[tactic(auto, using(crate::proofs::Loops::operation_more, crate::proofs::Loops::operation_done))]
+fn operators<'t, 'a>(
+    alloc: Global,
+    front: Parsed<'t, 'a>,
+    high: u32,
+    levels: u32,
+) -> Result<Parsed<'t, 'a>, Stop<'t, 'a>>
+    requires high { high ≤ most_height }
+    requires positive { 0 < high }
+    requires first { 0 < levels }
+    requires levels { levels ≤ 6 }
+    requires height { front.height ≡ height_of (expr_tree front.tree) }
+    requires limit { front.height ≤ high }
+    ensures tree { Gives (λ x. (expr_tree x.tree, x.rest.now)) result (loop (is_op levels) (op_step high (below high) (levels - 1)) (expr_tree front.entry.tree) front.entry.rest.now) }
+    ensures height { IfOk result (λ x. x.height ≡ height_of (expr_tree x.tree)) }
+    ensures limit { IfOk result (λ x. x.height ≤ high) }
+{
+    let mut whole = front;
+    while begins_operator(whole.rest, levels) {
+        whole = operation(alloc, whole, high, levels - 1)?;
+    }
+    Ok(whole)
+}
+
+/// Operands with operators of the first levels between them. Where no operator stands, no level is asked.
+#[cycle(expression)]
+#[tactic(auto, using(crate::proofs::Loops::chain_levels, crate::proofs::Loops::levels_more, crate::proofs::Loops::levels_done, crate::proofs::Loops::levels_quiet))]
+fn operations<'t, 'a>(
+    alloc: Global,
+    tokens: &'t [Lexeme<'a>],
+    high: u32,
+    levels: u32,
+) -> Result<Parsed<'t, 'a>, Stop<'t, 'a>>
+    requires high { high ≤ most_height }
+    requires positive { 0 < high }
+    requires levels { levels ≤ 6 }
+    ensures tree { Gives (λ x. (expr_tree x.tree, x.rest.now)) result (chain_with high (below high) levels tokens.now) }
+    ensures height { IfOk result (λ x. x.height ≡ height_of (expr_tree x.tree)) }
+    ensures limit { IfOk result (λ x. x.height ≤ high) }
+{
+    let mut whole = unary(alloc, tokens, high)?;
+    let mut done = 0;
+    while done < levels {
+        if !begins_any_operator(whole.rest) {
+            return Ok(whole);
+        }
+        whole = operators(alloc, whole, high, done + 1)?;
+        done += 1;
+    }
+    Ok(whole)
+}
+
+/// An expression at most `high` nodes high, whose operators are of the first levels.
+#[cycle(expression)]
+#[tactic(auto, using(crate::proofs::Loops::chain_zero, crate::proofs::Loops::chain_positive))]
+pub fn chain<'t, 'a>(
+    alloc: Global,
+    tokens: &'t [Lexeme<'a>],
+    high: u32,
+    levels: u32,
+) -> Result<Parsed<'t, 'a>, Stop<'t, 'a>>
+    requires high { high ≤ most_height }
+    requires levels { levels ≤ 6 }
+    ensures tree { Gives (λ x. (expr_tree x.tree, x.rest.now)) result (chain_at high levels tokens.now) }
+    ensures height { IfOk result (λ x. x.height ≡ height_of (expr_tree x.tree)) }
+    ensures limit { IfOk result (λ x. x.height ≤ high) }
+{
+    if high == 0 {
+        if begins_expression(tokens) {
+            return Err(Stop::Fault(SyntaxFault::TooDeep, tokens));
+        }
+        return Err(Stop::Fault(SyntaxFault::Unexpected, tokens));
+    }
+    operations(alloc, tokens, high, levels)
+}

@@ -1,0 +1,8 @@
+-- Lemmas on line feeds and on places.
+pub mod LineFeeds
+pub mod Putting
+-- Nodes in step with what they were made of.
+pub mod InStep
+pub mod InStepStmts
+pub mod AtNumbers
+pub mod InPrograms

@@ -1,0 +1,22 @@
+-- Lemmas on certificates: sets that cover others and joins (Sets), overriding methods (Over), lines and closed assignments (Below),
+-- floors (FloorLaws), the cells of a program (Cells) and passes (PassLaws); of the calls, rows of overriding methods (RowLemmas), tables
+-- (TableLemmas), methods that needn't be asked again (WaitLemmas), and those that wait within
+-- a range (Ranges), the maker (MakerLemmas), lines that are said already (Known) and the
+-- checker (CheckLemmas).
+pub mod Sets
+pub mod Over
+pub mod Below
+pub mod FloorLaws
+pub mod Cells
+pub mod PassLaws
+pub mod RowLemmas
+pub mod TableLemmas
+pub mod WaitLemmas
+pub mod Ranges
+pub mod MakerLemmas
+pub mod Known
+pub mod CheckLemmas
+-- Lemmas on texts of certificates: held paths (Held), lines (Lines), and whole texts (TextLaws).
+pub mod Held
+pub mod Lines
+pub mod TextLaws

@@ -1,0 +1,251 @@
+-- Methods that needn't be asked again: what is to be said of a method changes only where one that it calls, or that overrides it, is
+-- raised; and to ask where nothing new is to be said adds no line.
+use Rattle.std.proofs.Common.{◌≡◌, ℕ, zero, suc, ◌+◌, ◌-◌, ◌<◌, ◌≤◌, Bool, true, false, ◌||◌, ◌&&◌, ◌==◌, List, [], ◌∷◌, ◌++◌, length, take, drop, get_or, slice_get, Some, None, refl, sym, ap, subst, ◌∙◌, arith, append_assoc, append-nil}
+use Rattle.std.specs.Prelude.{Option, filter, map, if◌then◌else◌}
+use Rattle.std.specs.List.{list_all, AllByRecursion}
+use Rattle.std.proofs.Common.{length-append}
+use Rattle.std.proofs.lemmas.Bool.{eqb-true, eqb-false, ne_eqb, false_from_ne_true, both_ways}
+use Rattle.std.proofs.lemmas.Grind.{common_steps}
+use Rattle.std.proofs.lemmas.List.{take_more, length-drop}
+use Rattle.paths.specs.Paths.{PathData}
+use Rattle.algebra.specs.declared.basic.Basic.TheVariants.{Const}
+use Rattle.algebra.specs.Basics.{below_of, join_of}
+use Rattle.algebra.specs.HeldPaths.{Held, has_path}
+use Rattle.core_program.specs.Core.{Program, Method}
+use Rattle.core_program.specs.Dispatch.{Overrides}
+use Rattle.rules.specs.Search.{row_at as overs_at}
+use Rattle.rules.specs.Overriding.{AreOverriders}
+use Rattle.rules.specs.Effect.{Assignment}
+use Rattle.rules.specs.Rules.{AtMost, held_in}
+use Rattle.rules.proofs.BasicLemmas.{below_chain, both_below}
+use Rattle.rules.specs.Called.{stmt_calls, has_method, method_calls, counts_as_caller, callers_of_method, AreCallers}
+use Rattle.rules.proofs.CallsSame.{first_false, second_false, stmt_same}
+use Rattle.rules.proofs.CalleeLemmas.{contained}
+use Rattle.refutation.specs.Lines.{LineData, covers, floor, overriding, joined_over, body_effect, certified_effect}
+use Rattle.refutation.specs.Certificates.{keeps_bound}
+use Rattle.refutation.specs.Passes.{MethodAtSet, cells_in, cells_from, subsets_of, LinesWritten, by_tests, floor_at, up_at, line_for, pass}
+use Rattle.refutation.specs.Ends.{IsPass}
+use Rattle.refutation.specs.Waiting.{Adds, AreSaid, cells_with, AreSettled, AreWoken, IsAsleep}
+use Rattle.refutation.proofs.Sets.{join_const}
+use Rattle.refutation.proofs.Over.{over_least, over_above}
+use Rattle.refutation.proofs.FloorLaws.{floor_more}
+use Rattle.refutation.proofs.TableLemmas.{lines_is}
+
+-- Lines that are added.
+
+pub adds_none : (m : ℕ) (ls : List LineData) → Adds m ls ls
+adds_none m ls = record { more = []; are = sym (append-nil ls); its = tt }
+
+pub adds_one : (m : ℕ) (ls : List LineData) (l : LineData) (new : List LineData) → new ≡ ls ++ l ∷ [] → l.method ≡ m → Adds m ls new
+adds_one m ls l new is its = record { more = l ∷ []; are = is; its = (its, tt) }
+
+pub adds_both : (m : ℕ) (a b c : List LineData) → Adds m a b → Adds m b c → Adds m a c
+adds_both m a b c one two = record {
+  more = one.more ++ two.more;
+  are = two.are ∙ ap (λ ls. ls ++ two.more) one.are ∙ append_assoc a one.more two.more;
+  its = both one.more one.its;
+}
+  where
+    both : (xs : List LineData) → AllByRecursion (λ l. l.method ≡ m) xs → AllByRecursion (λ l. l.method ≡ m) (xs ++ two.more)
+    both [] all = two.its
+    both (x ∷ xs) all = (all.0, both xs all.1)
+
+-- no line more
+pub adds_nothing : (m : ℕ) (old new : List LineData) → Adds m old new → length new ≡ length old → new ≡ old
+adds_nothing m old new adds same = by adds.more adds.are
+  where
+    by : (more : List LineData) → new ≡ old ++ more → new ≡ old
+    by [] is = is ∙ append-nil old
+    by (x ∷ xs) is = let l = length-append old (x ∷ xs) in let long = ap length is in absurd (omega (arith, l, long, same))
+
+drop_both : {A : Type 0} (xs : List A) (n k : ℕ) → drop k (drop n xs) ≡ drop (n + k) xs
+drop_both xs n k = grind (arith, common_steps)
+
+module _ (P : Program) (rel : ℕ → List PathData) where
+  -- to ask where nothing new is to be said adds no line
+  pub said_asked : (cells : List MethodAtSet) (ls : List LineData) → AreSaid P rel cells ls → IsPass P rel cells ls ls false
+  said_asked [] ls said cs = refl
+  said_asked (c ∷ cells) ls said cs =
+      ap (λ t. by_tests t (keeps_bound P c.method (up_at P rel ls c)) (pass P rel (cells ++ cs) ls) (pass P rel (cells ++ cs) (ls ++ line_for P rel ls c ∷ [])) (record { all = ls ++ line_for P rel ls c ∷ []; broken = true })) said.0
+      ∙ said_asked cells ls said.1 cs
+
+  pass_longer : (cs : List MethodAtSet) (ls : List LineData) → length ls ≤ length (pass P rel cs ls).all
+  pass_longer [] ls = omega arith
+  pass_longer (c ∷ cs) ls =
+      let more = ls ++ line_for P rel ls c ∷ [] in
+      let one = length-append ls (line_for P rel ls c ∷ []) in
+      by (below_of (up_at P rel ls c) (floor_at P rel ls c)) (keeps_bound P c.method (up_at P rel ls c)) (pass_longer cs ls) (omega (arith, one, pass_longer cs more)) (omega (arith, one))
+    where
+      by : (known keeps : Bool) → length ls ≤ length (pass P rel cs ls).all → length ls ≤ length (pass P rel cs (ls ++ line_for P rel ls c ∷ [])).all → length ls ≤ length (ls ++ line_for P rel ls c ∷ [])
+          → length ls ≤ length (by_tests known keeps (pass P rel cs ls) (pass P rel cs (ls ++ line_for P rel ls c ∷ [])) (record { all = ls ++ line_for P rel ls c ∷ []; broken = true })).all
+      by true keeps one two three = one
+      by false true one two three = two
+      by false false one two three = three
+
+  -- where a pass adds no line, nothing new is to be said at its cells
+  passed_said : (cs : List MethodAtSet) (ls : List LineData) → pass P rel cs ls ≡ record { all = ls; broken = false } → AreSaid P rel cs ls
+  passed_said [] ls is = tt
+  passed_said (c ∷ cs) ls is =
+      by (below_of (up_at P rel ls c) (floor_at P rel ls c)) (keeps_bound P c.method (up_at P rel ls c)) refl is (λ e. passed_said cs ls e)
+    where
+      by : (known keeps : Bool) → below_of (up_at P rel ls c) (floor_at P rel ls c) ≡ known
+          → by_tests known keeps (pass P rel cs ls) (pass P rel cs (ls ++ line_for P rel ls c ∷ [])) (record { all = ls ++ line_for P rel ls c ∷ []; broken = true }) ≡ record { all = ls; broken = false }
+          → (pass P rel cs ls ≡ record { all = ls; broken = false } → AreSaid P rel cs ls) → AreSaid P rel (c ∷ cs) ls
+      by true keeps is e rest = (is, rest e)
+      by false true is e rest =
+          let one = length-append ls (line_for P rel ls c ∷ []) in
+          let long = pass_longer cs (ls ++ line_for P rel ls c ∷ []) in
+          let short = ap (λ (w : LinesWritten). length w.all) e in
+          absurd (omega (arith, one, long, short))
+      by false false is e rest = absurd (let f : true ≡ false = ap (λ (w : LinesWritten). w.broken) e in cc)
+
+  pub asked_said : (cells : List MethodAtSet) (ls : List LineData) → IsPass P rel cells ls ls false → AreSaid P rel cells ls
+  asked_said cells ls asked = passed_said cells ls (ap (λ cs. pass P rel cs ls) (sym (append-nil cells)) ∙ asked [])
+
+  -- What one line more changes.
+
+  floor_other : (ls : List LineData) (l : LineData) (m : ℕ) → (m == l.method) ≡ false → (H : Held) → floor rel ls m H ≡ floor rel (ls ++ l ∷ []) m H
+  floor_other ls l m other H = sym (lines_is rel ls l m H ∙ ap (λ b. join_of (floor rel ls m H) (if b && covers l.held (rel m) H then l.found else Const)) turned ∙ join_const (floor rel ls m H))
+    where
+      turned : (l.method == m) ≡ false
+      turned = ne_eqb l.method m (λ e. eqb-false m l.method other (sym e))
+
+  module _ (rows : List (List ℕ)) (overriders : AreOverriders P rows) where
+    over_part : (A B : Assignment) (n m : ℕ) (H : Held) → ((k : ℕ) → (k == m) ≡ false → (K : Held) → A k K ≡ B k K) → (Overrides P m n → ⊥) → AtMost (joined_over rel A (overriding P n) H) (joined_over rel B (overriding P n) H)
+    over_part A B n m H same none = over_least P rel A n H _ (λ k over.
+        subst (λ b. AtMost b (joined_over rel B (overriding P n) H)) (sym (same k (ne_eqb k m (λ e. none (subst (λ x. Overrides P x n) e over))) (held_in (rel k) H))) (over_above P rel B n H k over))
+
+    body_same : (A B : Assignment) (n m : ℕ) (o : Option Method) (H : Held) → ((k : ℕ) → (k == m) ≡ false → (K : Held) → A k K ≡ B k K) → (overs : List ℕ) → method_calls o overs m ≡ false → body_effect P rel A o H ≡ body_effect P rel B o H
+    body_same A B n m None H same overs quiet = refl
+    body_same A B n m (Some method) H same overs quiet = stmt_same P rel A B (λ k. k == m) same method.body H (first_false (stmt_calls (λ k. k == m) method.body) (has_method overs m) quiet)
+
+    -- what a call of a method that is there comes to by assignments that differ at one method alone, which it doesn't look at
+    run_same : (A B : Assignment) (n m : ℕ) (method : Method) (H : Held) → slice_get P.methods n ≡ Some method → ((k : ℕ) → (k == m) ≡ false → (K : Held) → A k K ≡ B k K) → counts_as_caller P (overs_at rows) n m ≡ false
+        → certified_effect P rel A n H ≡ certified_effect P rel B n H
+    run_same A B n m method H is same quiet =
+        let none : Overrides P m n → ⊥ = λ over. both_ways (has_method (overs_at rows n) m)
+        (second_false (stmt_calls (λ k. k == m) method.body) (has_method (overs_at rows n) m) (ap (λ o. method_calls o (overs_at rows n) m) (sym is) ∙ quiet))
+        (contained (overs_at rows n) m ((overriders n m).1 over)) in
+        let body = body_same A B n m (slice_get P.methods n) H same (overs_at rows n) quiet in
+        let over = both_below _ _ (over_part A B n m H same none) (over_part B A n m H (λ k e K. sym (same k e K)) none) in
+        λ i. join_of (body i) (over i)
+
+    -- where nothing new was to be said of a method, nothing is after a line of one that it doesn't look at
+    said_stays : (n : ℕ) (method : Method) (ls : List LineData) (l : LineData) → slice_get P.methods n ≡ Some method → counts_as_caller P (overs_at rows) n l.method ≡ false
+        → (cells : List MethodAtSet) → AllByRecursion (λ c. c.method ≡ n) cells → AreSaid P rel cells ls → AreSaid P rel cells (ls ++ l ∷ [])
+    said_stays n method ls l is quiet [] its said = tt
+    said_stays n method ls l is quiet (c ∷ cells) its said = (here, said_stays n method ls l is quiet cells its.1 said.1)
+      where
+        same : up_at P rel ls c ≡ up_at P rel (ls ++ l ∷ []) c
+        same = subst (λ k. certified_effect P rel (floor rel ls) k (has_path c.held) ≡ certified_effect P rel (floor rel (ls ++ l ∷ [])) k (has_path c.held)) (sym its.0)
+            (run_same (floor rel ls) (floor rel (ls ++ l ∷ [])) n l.method method (has_path c.held) is (λ k e K. floor_other ls l k e K) quiet)
+
+        here : AtMost (up_at P rel (ls ++ l ∷ []) c) (floor_at P rel (ls ++ l ∷ []) c)
+        here = subst (λ b. AtMost b (floor_at P rel (ls ++ l ∷ []) c)) same (below_chain _ _ _ said.0 (floor_more rel ls l c.method (has_path c.held)))
+
+    all_stay : (n m : ℕ) (method : Method) → slice_get P.methods n ≡ Some method → counts_as_caller P (overs_at rows) n m ≡ false → (cells : List MethodAtSet) → AllByRecursion (λ c. c.method ≡ n) cells
+        → (more ls : List LineData) → AllByRecursion (λ l. l.method ≡ m) more → AreSaid P rel cells ls → AreSaid P rel cells (ls ++ more)
+    all_stay n m method is quiet cells its [] ls all said = subst (AreSaid P rel cells) (sym (append-nil ls)) said
+    all_stay n m method is quiet cells its (l ∷ more) ls all said =
+        subst (AreSaid P rel cells) (append_assoc ls (l ∷ []) more)
+        (all_stay n m method is quiet cells its more (ls ++ l ∷ []) all.1
+        (said_stays n method ls l is (ap (counts_as_caller P (overs_at rows) n) all.0 ∙ quiet) cells its said))
+
+    its_cells : (n : ℕ) (required : List PathData) (sets : List (List PathData)) → AllByRecursion (λ c. c.method ≡ n) (cells_in n required sets)
+    its_cells n required sets = mapped (filter (λ held. list_all (has_path held) required) sets)
+      where
+        mapped : (xs : List (List PathData)) → AllByRecursion (λ (c : MethodAtSet). c.method ≡ n) (map (λ held. record { method = n; held = held }) xs)
+        mapped [] = tt
+        mapped (x ∷ xs) = (refl, mapped xs)
+
+    stays_at : (n m : ℕ) (o : Option Method) → slice_get P.methods n ≡ o → counts_as_caller P (overs_at rows) n m ≡ false → (old new : List LineData) → Adds m old new → AreSaid P rel (cells_with rel n o) old → AreSaid P rel (cells_with rel n o) new
+    stays_at n m None is quiet old new adds said = tt
+    stays_at n m (Some method) is quiet old new adds said = subst (AreSaid P rel (cells_with rel n (Some method))) (sym adds.are)
+        (all_stay n m method is quiet (cells_with rel n (Some method)) (its_cells n method.requires_ (subsets_of (rel n))) adds.more old adds.its said)
+
+    -- after lines of a method, where all that look at it wait
+    pub settled_woken : (callers : List (List ℕ)) (m : ℕ) (old new : List LineData) (waits now : List Bool) (woken : List ℕ) → AreCallers P (overs_at rows) callers → m < length callers → woken ≡ callers_of_method callers m → AreSettled P rel old waits → Adds m old new → AreWoken waits now woken
+        → AreSettled P rel new now
+    settled_woken callers m old new waits now woken are below row settled adds wakes n asleep =
+        let kept = wakes n asleep in
+        let quiet = false_from_ne_true (counts_as_caller P (overs_at rows) n m) (λ c. both_ways (has_method woken n) kept.1 (ap (λ r. has_method r n) row ∙ are m n below c)) in
+        stays_at n m (slice_get P.methods n) refl quiet old new adds (settled n kept.0)
+
+  -- after a method of which nothing new was to be said
+  pub settled_asleep : (m : ℕ) (method : Method) (ls now : List LineData) (waits next : List Bool) → slice_get P.methods m ≡ Some method → now ≡ ls → AreSettled P rel ls waits → IsPass P rel (cells_in m method.requires_ (subsets_of (rel m))) ls now false
+      → IsAsleep waits next m → AreSettled P rel now next
+  settled_asleep m method ls now waits next is same settled asked sleeps n asleep = subst (AreSaid P rel (cells_with rel n (slice_get P.methods n))) (sym same) (by (n == m) refl)
+    where
+      said : AreSaid P rel (cells_in m method.requires_ (subsets_of (rel m))) ls
+      said = asked_said (cells_in m method.requires_ (subsets_of (rel m))) ls (subst (λ xs. IsPass P rel (cells_in m method.requires_ (subsets_of (rel m))) ls xs false) same asked)
+
+      by : (b : Bool) → (n == m) ≡ b → AreSaid P rel (cells_with rel n (slice_get P.methods n)) ls
+      by true e = subst (λ k. AreSaid P rel (cells_with rel k (slice_get P.methods k)) ls) (sym (eqb-true n m e)) (subst (λ o. AreSaid P rel (cells_with rel m o) ls) (sym is) said)
+      by false e = settled n (sleeps n asleep (eqb-false n m e))
+
+  -- methods that don't wait are passed over
+  skip_in : (ms : List Method) (n k : ℕ) (ls : List LineData) → ((j : ℕ) (x : Method) → j < k → slice_get ms j ≡ Some x → AreSaid P rel (cells_in (n + j) x.requires_ (subsets_of (rel (n + j)))) ls) → k ≤ length ms
+      → pass P rel (cells_from rel n ms) ls ≡ pass P rel (cells_from rel (n + k) (drop k ms)) ls
+  skip_in ms n zero ls said le = ap (λ x. pass P rel (cells_from rel x ms) ls) (let e : n ≡ n + 0 = omega arith in e)
+  skip_in [] n (suc k) ls said le = absurd (omega (arith, le))
+  skip_in (x ∷ ms) n (suc k) ls said le =
+      let first : AreSaid P rel (cells_in n x.requires_ (subsets_of (rel n))) ls =
+      subst (λ i. AreSaid P rel (cells_in i x.requires_ (subsets_of (rel i))) ls) (let e : n + 0 ≡ n = omega arith in e) (said 0 x (omega arith) refl) in
+      said_asked (cells_in n x.requires_ (subsets_of (rel n))) ls first (cells_from rel (n + 1) ms)
+      ∙ skip_in ms (n + 1) k ls
+      (λ j y less e. subst (λ i. AreSaid P rel (cells_in i y.requires_ (subsets_of (rel i))) ls) (let f : n + suc j ≡ n + 1 + j = omega arith in f) (said (suc j) y (omega (arith, less)) e))
+      (omega (arith, le))
+      ∙ ap (λ i. pass P rel (cells_from rel i (drop k ms)) ls) (let f : n + 1 + k ≡ n + suc k = omega arith in f)
+
+  get_drop : (xs : List Method) (n j m : ℕ) → m ≡ n + j → slice_get (drop n xs) j ≡ slice_get xs m
+  get_drop xs zero j m e = ap (slice_get xs) (let f : j ≡ m = omega (arith, e) in f)
+  get_drop [] (suc n) j m e = refl
+  get_drop (x ∷ xs) (suc n) j zero e = absurd (omega (arith, e))
+  get_drop (x ∷ xs) (suc n) j (suc m) e = get_drop xs n j m (omega (arith, e))
+
+  pub skip_settled : (ls : List LineData) (waits : List Bool) (from to : ℕ) → AreSettled P rel ls waits → from ≤ to → to ≤ length P.methods → ((m : ℕ) → from ≤ m → m < to → slice_get waits m ≡ Some false)
+      → pass P rel (cells_from rel from (drop from P.methods)) ls ≡ pass P rel (cells_from rel to (drop to P.methods)) ls
+  skip_settled ls waits from to settled le within asleep =
+      let k = to - from in
+      let at_end : from + k ≡ to = omega (arith, le) in
+      let l = length-drop from P.methods in
+      skip_in (drop from P.methods) from k ls
+      (λ j x less e. subst (λ o. AreSaid P rel (cells_with rel (from + j) o) ls) (sym (get_drop P.methods from j (from + j) refl) ∙ e)
+      (settled (from + j) (asleep (from + j) (omega arith) (omega (arith, less, le)))))
+      (omega (arith, l, le, within))
+      ∙ ap (λ ms. pass P rel (cells_from rel (from + k) ms) ls) (drop_both P.methods from k)
+      ∙ ap (λ i. pass P rel (cells_from rel i (drop i P.methods)) ls) at_end
+
+-- Marks.
+
+pub none_settled : (P : Program) (rel : ℕ → List PathData) (ls : List LineData) (waits : List Bool) → ((m : ℕ) → slice_get waits m ≡ Some false → ⊥) → AreSettled P rel ls waits
+none_settled P rel ls waits all m asleep = absurd (all m asleep)
+
+pub woken_none : (waits : List Bool) → AreWoken waits waits []
+woken_none waits m e = (e, refl)
+
+-- what stands at a place, whatever would stand past the end
+pub get_or_any : (xs : List ℕ) (k d e : ℕ) → k < length xs → get_or xs k d ≡ get_or xs k e
+get_or_any [] k d e below = absurd (omega (arith, below))
+get_or_any (x ∷ xs) zero d e below = refl
+get_or_any (x ∷ xs) (suc k) d e below = get_or_any xs k d e (omega (arith, below))
+
+-- one method more of a list
+pub woken_more : (waits between now : List Bool) (methods : List ℕ) (k method : ℕ) → k < length methods → method ≡ get_or methods k method → AreWoken waits between (take k methods) → AreWoken between now (method ∷ []) → AreWoken waits now (take (k + 1) methods)
+woken_more waits between now methods k method below is before one m e =
+    let mid = one m e in
+    let old = before m mid.0 in
+    (old.0, ap (λ xs. has_method xs m) (take_more methods k method below ∙ ap (λ x. take k methods ++ x ∷ []) (sym is)) ∙ both (take k methods) old.1 mid.1)
+  where
+    both : (xs : List ℕ) → has_method xs m ≡ false → has_method (method ∷ []) m ≡ false → has_method (xs ++ method ∷ []) m ≡ false
+    both [] none last = last
+    both (x ∷ xs) none last = ap (λ b. b || has_method (xs ++ method ∷ []) m) (first_false (x == m) (has_method xs m) none) ∙ both xs (second_false (x == m) (has_method xs m) none) last
+
+pub woken_all : (waits now : List Bool) (methods : List ℕ) (k : ℕ) → length methods ≤ k → AreWoken waits now (take k methods) → AreWoken waits now methods
+woken_all waits now methods k past woken = subst (AreWoken waits now) (whole methods k past) woken
+  where
+    whole : (xs : List ℕ) (k : ℕ) → length xs ≤ k → take k xs ≡ xs
+    whole [] zero h = refl
+    whole [] (suc k) h = refl
+    whole (x ∷ xs) zero h = absurd (omega (arith, h))
+    whole (x ∷ xs) (suc k) h = ap (λ ys. x ∷ ys) (whole xs k (omega (arith, h)))

@@ -1,0 +1,10 @@
+-- The parts of the relevant paths ascend.
+use Rattle.std.proofs.Common.{◌∙◌}
+use Rattle.core_program.specs.Views.{program_of}
+use Rattle.refutation.proofs.MakerLemmas.{asked_ascend}
+use Rattle.refutation.proofs.ask.ask_method.Goals as goal
+
+pub ask_sets-requires-clause-ascend : goal.ask_sets-requires-clause-ascend
+ask_sets-requires-clause-ascend c =
+    asked_ascend (program_of c.args.judged.now.program.now) c.args.judged.now.sets.now c.args.id c.rel.result.now c.as_slice.result.now c.as_slice-2.result.now c.requires.relevant c.rel.ensures
+    (c.as_slice-2.ensures.value ∙ c.in_ok-parts.ensures)

@@ -1,0 +1,55 @@
+-- One line more, and the first that doesn't follow.
+use Rattle.std.proofs.Common.{◌≡◌, true, false, rules, sym, ◌∙◌, arith}
+use Rattle.core_program.specs.Views.{program_of, method_of}
+use Rattle.rules.specs.Near.{rel_of}
+use Rattle.refutation.specs.Wrongs.{justified_at}
+use Rattle.refutation.proofs.CheckLemmas.{pass_none, pass_more, pass_all, first_failing, placed_within, placed_line, says_next}
+use Rattle.refutation.proofs.Known.{lines_before}
+use Rattle.refutation.proofs.RowLemmas.{same_count}
+use Rattle.refutation.proofs.check.unjustified.Goals as goal
+
+pub loop-at-init : goal.loop-at-init
+loop-at-init c =
+    let P = program_of c.args.program.now in
+    record {
+      same = c.in_ok-floors.ensures.sets;
+      size = c.in_ok-floors.ensures.size ∙ same_count method_of c.methods.result.now P.methods c.methods.ensures;
+      says = c.in_ok-floors.ensures.says;
+      before = pass_none (justified_at P (rel_of c.args.sets.now) c.args.lines.now) c.args.lines.now;
+    }
+
+pub follows-requires-clause-there : goal.follows-requires-clause-there
+follows-requires-clause-there c =
+    let within = placed_within (program_of c.args.program.now) (rel_of c.args.sets.now) c.args.lines.now c.loop-at.at c.index-lines-at.result c.requires c.loop-at-test.true c.index-lines-at.is in
+    omega (arith, within, c.loop-at.invariant.size)
+
+pub returns-then-not-branch-clause-first : goal.returns-then-not-branch-clause-first
+returns-then-not-branch-clause-first c =
+    let P = program_of c.args.program.now in
+    let rel = rel_of c.args.sets.now in
+    let lines = c.args.lines.now in
+    let before = c.loop-at.invariant in
+    let l = c.index-lines-at.result in
+    let fails : c.in_ok-follows.field-0 ≡ false = search rules in
+    let told = c.in_ok-follows.ensures.follows _ before.same before.says (lines_before P rel lines c.loop-at.at c.requires before.before) (placed_line P rel lines c.loop-at.at l c.requires c.loop-at-test.true c.index-lines-at.is) in
+    first_failing (justified_at P rel lines) lines c.loop-at.at l c.loop-at-test.true c.index-lines-at.is (sym told.0 ∙ fails) before.before
+
+pub loop-at-preserved : goal.loop-at-preserved
+loop-at-preserved c =
+    let P = program_of c.args.program.now in
+    let rel = rel_of c.args.sets.now in
+    let lines = c.args.lines.now in
+    let before = c.loop-at.invariant in
+    let l = c.index-lines-at.result in
+    let passes : c.in_ok-follows.field-0 ≡ true = search rules in
+    let told = c.in_ok-follows.ensures.follows _ before.same before.says (lines_before P rel lines c.loop-at.at c.requires before.before) (placed_line P rel lines c.loop-at.at l c.requires c.loop-at-test.true c.index-lines-at.is) in
+    record {
+      same = c.follows.ensures.sets ∙ before.same;
+      size = c.follows.ensures.size ∙ before.size;
+      says = says_next rel c.follows.new.floors.tables.items lines c.loop-at.at l c.loop-at-test.true c.index-lines-at.is (told.1 passes);
+      before = pass_more (justified_at P rel lines) lines c.loop-at.at l c.loop-at-test.true c.index-lines-at.is (sym told.0 ∙ passes) before.before;
+    }
+
+pub returns-clause-first : goal.returns-clause-first
+returns-clause-first c =
+    pass_all (justified_at (program_of c.args.program.now) (rel_of c.args.sets.now) c.args.lines.now) c.args.lines.now c.loop-at.at (omega (arith, c.loop-at-test.false)) c.loop-at.invariant.before

@@ -1,0 +1,15 @@
+use Rattle.std.proofs.Common.{◌≡◌, length, take}
+use Rattle.core_program.specs.Views.{program_of}
+use Rattle.rules.specs.Near.{rel_of}
+use Rattle.refutation.specs.Tables.{TablesSay}
+use Rattle.refutation.specs.Wrongs.{PassBefore, justified_at}
+use Rattle.refutation.proofs.check.unjustified.Given as goal
+
+-- the tables say what the lines so far say, which follow from those before them
+abbrev pub invariant-loop-at : goal.invariant-loop-at
+invariant-loop-at l = record {
+  same : l.floors.sets.now ≡ l.sets;
+  size : length l.floors.tables.items ≡ length (program_of l.program).methods;
+  says : TablesSay (rel_of l.sets) l.floors.tables.items (take l.at l.lines);
+  before : PassBefore (justified_at (program_of l.program) (rel_of l.sets) l.lines) l.lines l.at;
+}

@@ -1,0 +1,5 @@
+use Rattle.std.proofs.Common.{length}
+use Rattle.refutation.proofs.parts.+all_parts.Given as goal
+
+abbrev pub decreases-all_parts : goal.decreases-all_parts
+decreases-all_parts l = length l.paths.now

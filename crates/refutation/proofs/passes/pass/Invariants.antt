@@ -1,0 +1,22 @@
+use Rattle.std.proofs.Common.{◌≡◌, ◌≤◌, ◌-◌, drop, length}
+use Rattle.core_program.specs.Views.{program_of}
+use Rattle.rules.specs.Near.{rel_of}
+use Rattle.refutation.specs.Passes.{cells_from, cells_of, pass}
+use Rattle.refutation.specs.Ends.{KeptAgrees}
+use Rattle.refutation.specs.Waiting.{AreSettled}
+use Rattle.refutation.proofs.passes.pass.Given as goal
+
+-- the rest of the pass goes as the whole from the start
+abbrev pub invariant-loop-place : goal.invariant-loop-place
+invariant-loop-place l =
+    let P = program_of l.judged.program.now in let rel = rel_of l.judged.sets.now in
+    record {
+      agrees : KeptAgrees P l.judged.sets.now l.said.floors.sets.now l.said.floors.tables.items l.said.lines.items;
+      size : length l.waits ≡ length l.fn.waits;
+      settled : AreSettled P rel l.said.lines.items l.waits;
+      within : l.place ≤ length P.methods;
+      passed : pass P rel (cells_of P rel) l.fn.said.lines.items ≡ pass P rel (cells_from rel l.place (drop l.place P.methods)) l.said.lines.items;
+    }
+
+abbrev pub decreases-loop-place : goal.decreases-loop-place
+decreases-loop-place l = length (program_of l.judged.program.now).methods - l.place

@@ -1,0 +1,23 @@
+use Rattle.std.proofs.Common.{◌≡◌, length}
+use Rattle.core_program.specs.Views.{program_of}
+use Rattle.rules.specs.Near.{rel_of}
+use Rattle.refutation.specs.Passes.{cells_of}
+use Rattle.refutation.specs.Ends.{KeptAgrees, IsGoing}
+use Rattle.refutation.specs.Waiting.{AreSettled}
+use Rattle.refutation.proofs.PassLaws.{room}
+use Rattle.refutation.proofs.passes.passes.Given as goal
+
+-- the passes from here end as those from no lines
+abbrev pub invariant-rounds : goal.invariant-rounds
+invariant-rounds l =
+    let P = program_of l.judged.program.now in
+    record {
+      agrees : KeptAgrees P l.judged.sets.now l.said.floors.sets.now l.said.floors.tables.items l.said.lines.items;
+      size : length l.waits ≡ length P.methods;
+      settled : AreSettled P (rel_of l.judged.sets.now) l.said.lines.items l.waits;
+      going : IsGoing P (rel_of l.judged.sets.now) l.said.lines.items;
+    }
+
+-- how often the floor can still rise
+abbrev pub decreases-rounds : goal.decreases-rounds
+decreases-rounds l = let P = program_of l.judged.program.now in room P (rel_of l.judged.sets.now) (cells_of P (rel_of l.judged.sets.now)) l.said.lines.items

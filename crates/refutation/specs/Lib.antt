@@ -1,0 +1,16 @@
+-- What the contracts of certificates cite, in this order: lines and their floor (Lines), certificates (Certificates), why lines are no
+-- certificate (Wrongs), the passes that write one (Passes), and why there is none (Ends). Tables, Waiting and ShortPaths serve the
+-- private functions.
+pub mod Lines
+pub mod Certificates
+pub mod Passes
+pub mod Tables
+pub mod Wrongs
+pub mod Ends
+pub mod Waiting
+pub mod ShortPaths
+-- The text of a certificate of refusal, in this order: how it is written (Texts), and how a text is read and where its first fault
+-- stands (Reading). Passing serves the reader that takes no memory.
+pub mod Texts
+pub mod Reading
+pub mod Passing

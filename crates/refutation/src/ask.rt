@@ -1,0 +1,100 @@
+//! What is still to be said of one method.
+ghost use Rattle.std.specs.Prelude.{◌∷◌, ◌<◌, [], length, IfOk, OnOk};
+ghost use Rattle.std.specs.List.{AllByRecursion};
+ghost use Rattle.std.specs.List.Sorted.{IsStrictlySortedBy};
+ghost use Rattle.paths.specs.Paths.{path_order};
+ghost use Rattle.core_program.specs.Views.{program_of, method_of};
+ghost use Rattle.rules.specs.Near.{AreRelevant, rel_of};
+ghost use Rattle.rules.specs.Overriding.{AreOverriders};
+ghost use Rattle.refutation.specs.Passes.{cells_in, subsets_of};
+ghost use Rattle.refutation.specs.Ends.{KeptAgrees, IsPass, cells_at};
+ghost use Rattle.refutation.specs.Waiting.{Adds};
+
+use crate::check::keeps_bound;
+use crate::judged::Judged;
+use crate::line::Line;
+use crate::parts::{HeldSet, parts_with};
+use crate::said::Said;
+use crate::short_path::packed;
+use crate::up::run_effect;
+use core_program::CoreMethod;
+use effects::Assigned;
+use paths::{MethodId, Path};
+use std::alloc::{AllocError as NoMemory, Global};
+
+/// Asks what a call of a method comes to where these paths are held, and adds the line that says so where that is new: whether it is
+/// above the bound of the method.
+fn ask(
+    alloc: Global,
+    judged: &Judged<'_>,
+    said: &mut Said<'_>,
+    method: MethodId,
+    held: &[Path],
+) -> Result<bool, NoMemory>
+    requires there { method < length (program_of judged.now.program.now).methods }
+    requires over { AreOverriders (program_of judged.now.program.now) judged.now.over.now }
+    requires agrees { KeptAgrees (program_of judged.now.program.now) judged.now.sets.now said.old.floors.sets.now said.old.floors.tables.items said.old.lines.items }
+    requires ascends { IsStrictlySortedBy path_order held.now }
+    ensures agrees { OnOk result (KeptAgrees (program_of judged.now.program.now) judged.now.sets.now said.new.floors.sets.now said.new.floors.tables.items said.new.lines.items) }
+    ensures adds { OnOk result (Adds method said.old.lines.items said.new.lines.items) }
+    ensures asked { IfOk result (λ broken. IsPass (program_of judged.now.program.now) (rel_of judged.now.sets.now) (record { method = method; held = held.now } ∷ []) said.old.lines.items said.new.lines.items broken) }
+{
+    let found = run_effect(alloc, judged, &said.floors, method, held)?;
+    if found.below(said.floors.at(method, held)) {
+        return Ok(false);
+    }
+    let short = packed(alloc, held)?;
+    said.floors.add(method, held, found);
+    said.lines.push(Line {
+        method,
+        found,
+        held: short,
+    })?;
+    Ok(!keeps_bound(judged.program, method, found))
+}
+
+/// Asks of a method at each of these sets, up to the first line that is above its bound.
+fn ask_sets(
+    alloc: Global,
+    judged: &Judged<'_>,
+    said: &mut Said<'_>,
+    method: MethodId,
+    parts: &[HeldSet],
+) -> Result<bool, NoMemory>
+    requires there { method < length (program_of judged.now.program.now).methods }
+    requires over { AreOverriders (program_of judged.now.program.now) judged.now.over.now }
+    requires agrees { KeptAgrees (program_of judged.now.program.now) judged.now.sets.now said.old.floors.sets.now said.old.floors.tables.items said.old.lines.items }
+    requires ascend { AllByRecursion (IsStrictlySortedBy path_order) parts.now }
+    ensures agrees { OnOk result (KeptAgrees (program_of judged.now.program.now) judged.now.sets.now said.new.floors.sets.now said.new.floors.tables.items said.new.lines.items) }
+    ensures adds { OnOk result (Adds method said.old.lines.items said.new.lines.items) }
+    ensures asked { IfOk result (λ broken. IsPass (program_of judged.now.program.now) (rel_of judged.now.sets.now) (cells_at method parts.now) said.old.lines.items said.new.lines.items broken) }
+{
+    for part in parts {
+        let held = part.paths.as_slice();
+        if ask(alloc, judged, said, method, held)? {
+            return Ok(true);
+        }
+    }
+    Ok(false)
+}
+
+/// Asks of a method at each part of its relevant paths that has its required ones, up to the first line that is above its bound.
+pub(crate) fn ask_method(
+    alloc: Global,
+    judged: &Judged<'_>,
+    said: &mut Said<'_>,
+    id: MethodId,
+    method: &CoreMethod,
+) -> Result<bool, NoMemory>
+    requires there { id < length (program_of judged.now.program.now).methods }
+    requires over { AreOverriders (program_of judged.now.program.now) judged.now.over.now }
+    requires relevant { AreRelevant (program_of judged.now.program.now) judged.now.sets.now }
+    requires agrees { KeptAgrees (program_of judged.now.program.now) judged.now.sets.now said.old.floors.sets.now said.old.floors.tables.items said.old.lines.items }
+    ensures agrees { OnOk result (KeptAgrees (program_of judged.now.program.now) judged.now.sets.now said.new.floors.sets.now said.new.floors.tables.items said.new.lines.items) }
+    ensures adds { OnOk result (Adds id said.old.lines.items said.new.lines.items) }
+    ensures asked { IfOk result (λ broken. let rel = rel_of judged.now.sets.now in
+        IsPass (program_of judged.now.program.now) rel (cells_in id (method_of method.now).requires_ (subsets_of (rel id))) said.old.lines.items said.new.lines.items broken) }
+{
+    let parts = parts_with(alloc, judged.sets.rel(id), method.requires_.as_slice())?;
+    ask_sets(alloc, judged, said, id, parts.as_slice())
+}

@@ -1,0 +1,102 @@
+//! Which methods wait to be asked.
+ghost use Rattle.std.specs.Prelude.{◌≡◌, ◌<◌, ◌≤◌, ◌∷◌, [], ℕ, length, Some, IfOk, false, slice_get};
+ghost use Rattle.refutation.specs.Waiting.{AreWoken, IsAsleep};
+
+use std::alloc::{AllocError as NoMemory, Global};
+use std::marker::Model;
+
+/// Which methods wait to be asked. Those that do stand from `first` on and before `end`, and a pass looks at these places alone.
+#[derive(Drop)]
+pub(crate) struct Waits {
+    flags: Vec<bool>,
+    first: usize,
+    end: usize,
+}
+
+impl Model for Waits {
+    ghost use Rattle.std.specs.Prelude.{List, Bool};
+    ghost use Rattle.refutation.specs.Waiting.{WaitWithin};
+
+    ghost Value = { List Bool };
+
+    ghost view = { λ w. w.flags.items };
+
+    ghost invariant = { λ w. WaitWithin w.flags.items w.first w.end };
+}
+
+/// The end of the places before this one, without those at the end that don't wait.
+fn end_of(flags: &[bool], from: usize) -> usize
+    requires { from ≤ length flags.now }
+    ensures within { result ≤ from }
+    ensures asleep { (m : ℕ) → result ≤ m → m < from → slice_get flags.now m ≡ Some false }
+{
+    let mut end = from;
+    while end > 0 && !flags[end - 1] {
+        end -= 1;
+    }
+    end
+}
+
+impl Waits {
+    /// So many methods that all wait.
+    pub(crate) fn all(alloc: Global, count: usize) -> Result<Waits, NoMemory>
+        ensures size { IfOk result (λ waits. length waits ≡ count) }
+        ensures wait { IfOk result (λ waits. (m : ℕ) → slice_get waits m ≡ Some false → ⊥) }
+    {
+        let mut flags = Vec::with_capacity(alloc, count)?;
+        for _ in 0..count {
+            flags.push(true)?;
+        }
+        Ok(Waits {
+            flags,
+            first: 0,
+            end: count,
+        })
+    }
+
+    /// The first method from a place on that waits, or the number of methods where none does.
+    pub(crate) fn next(&self, from: usize) -> usize
+        requires { from ≤ length self.now }
+        ensures within { result ≤ length self.now }
+        ensures after { from ≤ result }
+        ensures asleep { (m : ℕ) → from ≤ m → m < result → slice_get self.now m ≡ Some false }
+    {
+        let mut at = from.max(self.first);
+        while at < self.end {
+            if self.flags[at] {
+                return at;
+            }
+            at += 1;
+        }
+        self.flags.len()
+    }
+
+    /// Passes over the methods at both ends that don't wait.
+    pub(crate) fn narrow(&mut self)
+        ensures { self.new ≡ self.old }
+    {
+        self.first = self.next(0);
+        self.end = end_of(self.flags.as_slice(), self.end);
+    }
+
+    /// Lets a method wait, if it is there.
+    pub(crate) fn wake(&mut self, method: usize)
+        ensures size { length self.new ≡ length self.old }
+        ensures woken { AreWoken self.old self.new (method ∷ []) }
+    {
+        if method < self.flags.len() {
+            self.flags[method] = true;
+            self.first = self.first.min(method);
+            self.end = self.end.max(method + 1);
+        }
+    }
+
+    /// Lets a method, which is there, wait no longer.
+    pub(crate) fn sleep(&mut self, method: usize)
+        requires { method < length self.old }
+        ensures size { length self.new ≡ length self.old }
+        ensures asleep { IsAsleep self.old self.new method }
+    {
+        self.flags[method] = false;
+    }
+}

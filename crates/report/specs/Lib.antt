@@ -1,0 +1,9 @@
+-- What the contracts of the lines cite: those of faults of a source (SourceFaults) and those of verdicts (Verdicts), which stand
+-- apart.
+pub mod SourceFaults
+pub mod Verdicts
+-- For a reader of the contracts, in this order: the text of a state (States), and the lines for schedules that are no schedules, that
+-- stop, or that end inside an atomic call (Schedules). Entries serves the code.
+pub mod States
+pub mod Schedules
+pub mod Entries

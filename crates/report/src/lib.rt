@@ -1,0 +1,17 @@
+//! The lines that the program writes of refusals and answers. The lines that the program writes of schedules, and the
+//! text of the state that one runs to.
+#![tactic(auto)]
+
+mod numbers;
+mod schedules;
+mod source_fault;
+mod states;
+mod values;
+mod verdict;
+
+pub use numbers::write_number;
+pub use schedules::{open_text, schedule_fault_text, stopped_text};
+pub use source_fault::{SourceFault, source_fault_text};
+pub use states::state_text;
+pub use values::{write_address, write_value};
+pub use verdict::{atomicity_text, broken_text, write_fields, write_path, write_title};

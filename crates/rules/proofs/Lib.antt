@@ -1,0 +1,27 @@
+-- Lemmas on the rules.
+pub mod BasicLemmas
+pub mod SetLemmas
+pub mod Falling
+pub mod EffectRises
+pub mod NearOnly
+pub mod EffectExamples
+pub mod AcceptedExample
+pub mod ClauseLemmas
+pub mod Reaching
+pub mod PathLists
+pub mod SearchLemmas
+pub mod OverridingLemmas
+mod Ascending
+pub mod LimitLemmas
+pub mod UniqueSets
+pub mod Required
+-- Lemmas on the rows of nearest methods: pairs that are found where they stand (Found), and that the rows lead to all that override (Leading).
+pub mod Found
+pub mod Leading
+-- Lemmas on callers: measures of bodies (Weights, Blocks), methods in memory (CallerLookups), rows of callers (CalleeLemmas), and what the effect
+-- of a body depends on (CallsSame).
+pub mod Weights
+pub mod Blocks
+pub mod CallerLookups
+pub mod CalleeLemmas
+pub mod CallsSame

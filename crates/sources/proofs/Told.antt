@@ -1,0 +1,41 @@
+-- Refusals that are right.
+use Rattle.std.proofs.Common.{◌≡◌, List, ℕ, Result, Err, MatchResult, refl, sym, subst, string_bytes}
+use Rattle.lexer.specs.declared.faults.LexFault.{LexFault}
+use Rattle.lexer.specs.declared.faults.LexFault.TheVariants as fault
+use Rattle.lexer.specs.Tokens.{FirstFault}
+use Rattle.lexer.proofs.Laying.{no_memory_fault}
+use Rattle.report.specs.declared.source_fault.SourceFault.TheVariants as source
+use Rattle.report.specs.SourceFaults.{IsToldFault}
+use Rattle.sources.specs.declared.refusal.Ending.{Ending}
+use Rattle.sources.specs.declared.refusal.Refusal.{Refusal}
+use Rattle.sources.specs.declared.refusal.Refusal.TheVariants.{Line, NoMemory}
+use Rattle.sources.specs.Refusals.{IsRight, Tells}
+use Rattle.sources.specs.Programs.{NoProgram}
+use Rattle.sources.specs.Checking.{NoSource, no_program}
+
+-- the first fault of the tokens isn't want of memory
+pub lex_told : (text : List ℕ) (its : LexFault) → FirstFault text its → IsToldFault (source.Lex its)
+lex_told text (fault.BadCharacter at) f = tt
+lex_told text (fault.OpenComment at) f = tt
+lex_told text (fault.LiteralTooLarge at) f = tt
+lex_told text (fault.NameTooLong at) f = tt
+lex_told text fault.NoMemory f = no_memory_fault f refl
+
+-- a refusal that tells a right line is right
+pub right_refusal : (R : Ending → List ℕ → Type 0) (ending : Ending) (line : List ℕ) (r : Refusal) → R ending line → Tells ending line r → IsRight R r
+right_refusal R ending line (Line its text) is tells = subst (λ e. R e (string_bytes text)) (sym tells.0) (subst (R ending) (sym tells.1) is)
+right_refusal R ending line NoMemory is tells = tt
+
+-- what is right of some lines is right of more
+pub right_of_more : (R S : Ending → List ℕ → Type 0) → ((ending : Ending) (line : List ℕ) → R ending line → S ending line) → (r : Refusal) → IsRight R r → IsRight S r
+right_of_more R S more (Line ending line) is = more ending (string_bytes line) is
+right_of_more R S more NoMemory is = tt
+
+-- the exit of a refusal, where what is right of it is right of more
+pub more_refused : {T : Type 0} (R S : Ending → List ℕ → Type 0) (Q : T → Type 0) (r : Result T Refusal) (e its : Refusal) → r ≡ Err e → e ≡ its
+    → ((ended : Ending) (line : List ℕ) → R ended line → S ended line) → IsRight R its → MatchResult r Q (IsRight S)
+more_refused R S Q r e its is same more right = subst (λ x. MatchResult x Q (IsRight S)) (sym is) (right_of_more R S more e (subst (IsRight R) (sym same) right))
+
+-- what refuses a program of the grammar refuses a well-formed source
+pub refused_source : (file : List ℕ) (r : Refusal) → IsRight (NoProgram file) r → IsRight (NoSource file) r
+refused_source file r is = right_of_more (NoProgram file) (NoSource file) (λ ending line i. no_program i) r is

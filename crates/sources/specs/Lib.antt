@@ -1,0 +1,13 @@
+-- For a reader of the contracts, in this order: how commands end and how a refusal is right (Refusals), what a program of the
+-- grammar is (Programs), what a well-formed source is (Checking), the least closed assignment and the verdict (Verdicts), and
+-- the facts that exit statuses stand for (Facts). Offsets and Judged serve the proofs.
+pub mod Refusals
+pub mod Programs
+pub mod Checking
+pub mod Offsets
+pub mod Verdicts
+pub mod Facts
+pub mod Judged
+-- What each command on a source alone answers, and when it ends how: Check and Print stand apart.
+pub mod Check
+pub mod Print

@@ -1,0 +1,101 @@
+//! Reads the text and the tree of a source, or tells its first fault.
+
+ghost use Rattle.std.specs.Prelude.{◌≡◌, ◌≤◌, ◌⊎◌, length, MatchResult};
+ghost use Rattle.std.specs.Str.{IsValidUpTo};
+ghost use Rattle.lexer.specs.Limits.{longest_source};
+ghost use Rattle.lexer.specs.Tokens.{Tokens, FirstFault};
+ghost use Rattle.syntax.specs.Faults.{IsUnexpected, IsTooDeep};
+ghost use Rattle.syntax.specs.Views.{program_tree};
+ghost use Rattle.sources.specs.Refusals.{IsRight};
+ghost use Rattle.sources.specs.Programs.{IsProgram, NoProgram, token_offset};
+
+use crate::refusal::{Refusal, refuse};
+use lexer::{LexFault, NotText, Token, lex, utf8_text};
+use parser::{ParseFault, parse};
+use report::SourceFault;
+use std::alloc::Global;
+use syntax::Program;
+
+fn not_text(alloc: Global, bytes: &[u8], fault: NotText) -> Refusal
+    requires small { length bytes.now ≤ longest_source }
+    requires front { IsValidUpTo bytes.now fault.at }
+    ensures { IsRight (NoProgram bytes.now) result }
+{
+    let Ok(front) = utf8_text(&bytes[..fault.at as usize]) else {
+        unreachable!()
+    };
+    refuse(alloc, front, &SourceFault::Text(fault))
+}
+
+/// The text that the bytes of a source are. Takes memory for a refusal alone.
+pub fn text_of(alloc: Global, bytes: &[u8]) -> Result<&str, Refusal>
+    requires { length bytes.now ≤ longest_source }
+    ensures { MatchResult result (λ text. text.now ≡ bytes.now) (IsRight (NoProgram bytes.now)) }
+{
+    match utf8_text(bytes) {
+        Ok(text) => Ok(text),
+        Err(fault) => Err(not_text(alloc, bytes, fault)),
+    }
+}
+
+fn no_tokens(alloc: Global, text: &str, fault: LexFault) -> Refusal
+    requires small { length text.now ≤ longest_source }
+    requires first { FirstFault text.now fault }
+    ensures { IsRight (NoProgram text.now) result }
+{
+    refuse(alloc, text, &SourceFault::Lex(fault))
+}
+
+/// The tokens of a text.
+fn tokens_of<'a>(alloc: Global, text: &'a str) -> Result<Vec<Token<'a>>, Refusal>
+    requires { length text.now ≤ longest_source }
+    ensures { MatchResult result (λ tokens. Tokens text.now tokens.items) (IsRight (NoProgram text.now)) }
+{
+    match lex(alloc, text) {
+        Ok(tokens) => Ok(tokens),
+        Err(LexFault::NoMemory) => Err(Refusal::NoMemory),
+        Err(fault) => Err(no_tokens(alloc, text, fault)),
+    }
+}
+
+/// The offset of a token, or the length of the text for its end.
+fn offset_of(text: &str, tokens: &[Token], place: u32) -> u32
+    requires { length text.now ≤ longest_source }
+    ensures { result ≡ token_offset text.now tokens.now place }
+{
+    match tokens.get(place as usize) {
+        Some(token) => token.at,
+        None => text.len() as u32,
+    }
+}
+
+/// The refusal of a text for a fault at one of its tokens.
+fn no_tree(alloc: Global, text: &str, tokens: &[Token], fault: ParseFault, place: u32) -> Refusal
+    requires small { length text.now ≤ longest_source }
+    requires cut { Tokens text.now tokens.now }
+    requires stands { ((fault ≡ ParseFault.Unexpected place) × IsUnexpected tokens.now place) ⊎ ((fault ≡ ParseFault.TooDeep place) × IsTooDeep tokens.now place) }
+    ensures { IsRight (NoProgram text.now) result }
+{
+    let at = offset_of(text, tokens, place);
+    refuse(alloc, text, &SourceFault::Parse { fault, at })
+}
+
+/// The tree that the grammar relates to the tokens of a text.
+pub fn tree_of<'a>(alloc: Global, text: &'a str) -> Result<Program<'a>, Refusal>
+    requires { length text.now ≤ longest_source }
+    ensures { MatchResult result (λ tree. IsProgram text.now (program_tree tree)) (IsRight (NoProgram text.now)) }
+{
+    let tokens = tokens_of(alloc, text)?;
+    match parse(alloc, tokens.as_slice()) {
+        Ok(tree) => Ok(tree),
+        Err(ParseFault::NoMemory) => Err(Refusal::NoMemory),
+        Err(ParseFault::Unexpected(place)) => {
+            let fault = ParseFault::Unexpected(place);
+            Err(no_tree(alloc, text, tokens.as_slice(), fault, place))
+        }
+        Err(ParseFault::TooDeep(place)) => {
+            let fault = ParseFault::TooDeep(place);
+            Err(no_tree(alloc, text, tokens.as_slice(), fault, place))
+        }
+    }
+}

@@ -1,0 +1,90 @@
+-- What the top call tells of a program.
+use Rattle.std.proofs.Common.{◌≡◌, ◌⊎◌, inl, inr, List, Option, Some, None, Result, Ok, Err, option_map, ap, sym, ◌∙◌, refl}
+use Rattle.std.specs.Prelude.{MatchResult, IsSome}
+use Rattle.core_program.specs.Core.{Program, Field, Method}
+use Rattle.syntax.specs.Trees.{ProgramTree}
+use Rattle.classes.specs.Table.{TableData, table_of}
+use Rattle.typing.specs.declared.fault.TypeFault.{TypeFault}
+use Rattle.typing.specs.declared.fault.TypeFault.TheVariants.{NoMemory as OutOfMemory}
+use Rattle.typing.specs.Noted.{type_noted}
+use Rattle.typing.specs.Programs.{IsFirstTypeFault, IsCoreOf, type_faults, type_faults_from, program_node, all_there, all_core_fields, all_methods}
+use Rattle.typing.specs.Rulings.{both}
+use Rattle.typing.proofs.Complete.{one_core, program_there}
+use Rattle.typing.proofs.FirstFaults.{first_is, none_is, no_first, one_first}
+
+-- what was found in a program whose classes these are, with this table
+pub record Found (tree : ProgramTree) (found : Option TypeFault) (fields : Option (List Field)) (methods : Option (List Method)) : Type 0 where
+  pub first : found ≡ type_noted None (type_faults tree)
+  pub fields_are : fields ≡ all_there (all_core_fields (table_of tree) 0 tree)
+  pub methods_are : methods ≡ all_there (all_methods (table_of tree) 0 tree)
+
+pub found_in : (tree classes : ProgramTree) (t : TableData) (found : Option TypeFault) (fields : Option (List Field)) (methods : Option (List Method))
+    → classes ≡ tree → t ≡ table_of tree
+    → found ≡ type_noted None (type_faults_from t 0 classes)
+    → fields ≡ all_there (all_core_fields t 0 classes)
+    → methods ≡ all_there (all_methods t 0 classes)
+    → Found tree found fields methods
+found_in tree classes t found fields methods whole table one two three = record {
+  first = one ∙ ap (λ z. type_noted None (type_faults_from z 0 classes)) table ∙ ap (λ z. type_noted None (type_faults_from (table_of tree) 0 z)) whole;
+  fields_are = two ∙ ap (λ z. all_there (all_core_fields z 0 classes)) table ∙ ap (λ z. all_there (all_core_fields (table_of tree) 0 z)) whole;
+  methods_are = three ∙ ap (λ z. all_there (all_methods z 0 classes)) table ∙ ap (λ z. all_there (all_methods (table_of tree) 0 z)) whole;
+}
+
+pub told : (tree : ProgramTree) (f : TypeFault) (fields : Option (List Field)) (methods : Option (List Method)) → Found tree (Some f) fields methods → IsFirstTypeFault tree f
+told tree f fields methods h = first_is tree f (sym h.first)
+
+pub made : (tree classes : ProgramTree) (t : TableData) (fields : Option (List Field)) (methods : Option (List Method)) (P : Program)
+    → classes ≡ tree → t ≡ table_of tree → Found tree None fields methods
+    → Some P ≡ option_map (program_node t) (both fields methods)
+    → IsCoreOf tree P
+made tree classes t fields methods P whole table h node = record {
+  faultless = none_is tree (sym h.first);
+  core = sym (
+      node
+      ∙ ap (λ z. option_map (program_node z) (both fields methods)) table
+      ∙ ap (λ f. option_map (program_node (table_of tree)) (both f methods)) h.fields_are
+      ∙ ap (λ m. option_map (program_node (table_of tree)) (both (all_there (all_core_fields (table_of tree) 0 tree)) m)) h.methods_are);
+}
+
+-- ---- from an exact answer to what it is for a given core program or fault
+
+pub core_told : {A : Type 0} (view : A → Program) (result : Result A TypeFault) (tree : ProgramTree)
+    → MatchResult result (λ p. IsCoreOf tree (view p)) (λ e. (e ≡ OutOfMemory) ⊎ IsFirstTypeFault tree e)
+    → (P : Program) → IsCoreOf tree P → MatchResult result (λ p. view p ≡ P) (λ e. e ≡ OutOfMemory)
+core_told view (Ok p) tree exact P core = one_core tree (view p) P exact core
+core_told view (Err e) tree (inl memory) P core = memory
+core_told view (Err e) tree (inr first) P core = absurd (no_first tree e core.faultless first)
+
+pub fault_told : {A : Type 0} (view : A → Program) (result : Result A TypeFault) (tree : ProgramTree)
+    → MatchResult result (λ p. IsCoreOf tree (view p)) (λ e. (e ≡ OutOfMemory) ⊎ IsFirstTypeFault tree e)
+    → (f : TypeFault) → IsFirstTypeFault tree f → MatchResult result (λ _. ⊥) (λ e. (e ≡ f) ⊎ (e ≡ OutOfMemory))
+fault_told view (Ok p) tree exact f first = no_first tree f exact.faultless first
+fault_told view (Err e) tree (inl memory) f first = inr memory
+fault_told view (Err e) tree (inr told) f first = inl (one_first tree e f told first)
+
+-- ---- no part is missing
+
+pub first_there : {A B C : Type 0} (f : A × B → C) (a : Option A) (b : Option B) (c : C) → option_map f (both a b) ≡ Some c → IsSome a
+first_there f None b c h = absurd cc
+first_there f (Some a) b c h = refl
+
+pub second_there : {A B C : Type 0} (f : A × B → C) (a : Option A) (b : Option B) (c : C) → option_map f (both a b) ≡ Some c → IsSome b
+second_there f None b c h = absurd cc
+second_there f (Some a) None c h = absurd cc
+second_there f (Some a) (Some b) c h = refl
+
+pub mapped_there : {A B : Type 0} (f : A → B) (o : Option A) → IsSome (option_map f o) → IsSome o
+mapped_there f None h = h
+mapped_there f (Some a) h = refl
+
+pub all_are_there : (tree classes : ProgramTree) (t : TableData) (fields : Option (List Field)) (methods : Option (List Method))
+    → classes ≡ tree → t ≡ table_of tree → Found tree None fields methods
+    → (P : Program) × (option_map (program_node t) (both fields methods) ≡ Some P)
+all_are_there tree classes t fields methods whole table h =
+    let there = program_there tree (none_is tree (sym h.first)) in (
+      there.0,
+      ap (λ z. option_map (program_node z) (both fields methods)) table
+          ∙ ap (λ f. option_map (program_node (table_of tree)) (both f methods)) h.fields_are
+          ∙ ap (λ m. option_map (program_node (table_of tree)) (both (all_there (all_core_fields (table_of tree) 0 tree)) m)) h.methods_are
+          ∙ there.1,
+    )
