@@ -35,7 +35,7 @@ impl From<AllocError> for ReadEnd {
 }
 
 /// How many bytes a read asks for.
-const CHUNK: usize = 4096;
+const CHUNK: usize = 32_768;
 
 /// Reads the file `name` whole, where it has at most `limit` bytes.
 pub fn read_file<F: Folder>(
