@@ -4,7 +4,7 @@ pub mod Totals
 pub mod Heavy
 pub mod Readings
 pub mod WhyErrors
-pub mod Visited
+pub mod AllVisits
 pub mod Numbering
 pub mod Helping
 pub mod BookNumbers
@@ -13,7 +13,7 @@ pub mod Walking
 pub mod Measures
 pub mod NameLemmas
 pub mod Telling
-pub mod CauseLemmas
+pub mod HoldLemmas
 pub mod Following
 pub mod Stepping
 pub mod WalkedStatements

@@ -2,7 +2,7 @@
 use Rattle.std.proofs.Common.{◌≡◌, ◌≢◌, ◌⊎◌, ℕ, Bool, true, false, not, ◌&&◌, ◌||◌, List, [], ◌∷◌, ◌++◌, Option, Some, None, IsSome, is_some, if◌then◌else◌, refl, sym, ap, subst, ◌∙◌, arith, inl, inr}
 use Rattle.std.specs.Prelude.{Contains, filter}
 use Rattle.std.specs.List.{AllByRecursion, list_all}
-use Rattle.std.proofs.lemmas.Bool.{and_parts, false≢true, true≢false}
+use Rattle.std.proofs.lemmas.Bool.{and_parts, false≢true}
 use Rattle.std.proofs.lemmas.Option.{none-some, same_Some}
 use Rattle.base.proofs.Lists.{contains_cases, contains_later}
 use Rattle.paths.specs.Paths.{PathData}
@@ -14,17 +14,17 @@ use Rattle.core_program.specs.Core.{Program, Method}
 use Rattle.effects.specs.Parts.{StmtP}
 use Rattle.rules.specs.Effect.{Assignment, effect}
 use Rattle.rules.specs.Rules.{AtMost, held_in}
-use Rattle.explain.specs.StepReadings.{are_many, are_looped, first_error, first_where, is_cmpd, is_error, own_at}
+use Rattle.explain.specs.StepReadings.{are_many, first_where, is_cmpd, is_error, own_at}
 use Rattle.explain.specs.Steps.{stmt_steps}
 use Rattle.explain.specs.Visits.{Visit, stmt_visits}
 use Rattle.explain.proofs.WhyErrors.{error_reads}
 use Rattle.explain.proofs.Heavy.{part_heavy}
 use Rattle.explain.proofs.Readings.{cmpd_reads}
-use Rattle.explain.proofs.Visited.{part_among}
-use Rattle.explain.specs.Explaining.{body_why, is_call_of_method, compound_or, compound_why, first_wrong, is_own, looped_or, over_of, steps_of, steps_why, why_of, with_first, wrong_of, wrong_or}
-use Rattle.explain.specs.Meanings.{are_within, AreTwo, IsBefore, IsOf, IsOver, IsReasonOf, Means}
+use Rattle.explain.proofs.AllVisits.{part_among}
+use Rattle.explain.specs.Explaining.{body_why, is_call_of_method, compound_or, compound_why, is_own, looped_or, over_of, steps_of, steps_why, why_of, with_first, wrong_of, wrong_or}
+use Rattle.explain.specs.Meanings.{are_within, IsBefore, IsAmong, IsAboveLimit, IsReasonOf, Means}
 use Rattle.explain.specs.Views.{errors_in}
-use Rattle.explain.specs.Whys.{WhyData, Wrong, Looped, Compound, Two, Overridden, Nothing}
+use Rattle.explain.specs.Whys.{WhyData, Two, Overridden}
 
 -- ---- basics
 
@@ -159,10 +159,10 @@ module _ (P : Program) (rel : ℕ → List PathData) (A : Assignment) where
   module _ (vs : List Visit) where
     -- an atomic step, and a compound one
     abbrev Atom : Visit → Type 0
-    Atom v = IsOf P rel A vs Atomic v
+    Atom v = IsAmong P rel A vs Atomic v
 
     abbrev Comp : Visit → Type 0
-    Comp v = IsOf P rel A vs Cmpd v
+    Comp v = IsAmong P rel A vs Cmpd v
 
     module _ (visits : List Visit) (overs : List ℕ) (H : Held) (limit : Basic) where
       abbrev Meant : WhyData → Type 0
@@ -215,16 +215,16 @@ module _ (P : Program) (rel : ℕ → List PathData) (A : Assignment) where
       not_true true e = absurd cc
       not_true false e = refl
 
-  own_atoms : (vs : List Visit) (ws : List Visit) → AllByRecursion (λ v. Solid vs v × (not (compound v) ≡ true)) ws → AllByRecursion (IsOf P rel A vs Atomic) ws
-  own_atoms vs ws all = all_mapped (λ v. Solid vs v × (not (compound v) ≡ true)) (IsOf P rel A vs Atomic) ws
+  own_atoms : (vs : List Visit) (ws : List Visit) → AllByRecursion (λ v. Solid vs v × (not (compound v) ≡ true)) ws → AllByRecursion (IsAmong P rel A vs Atomic) ws
+  own_atoms vs ws all = all_mapped (λ v. Solid vs v × (not (compound v) ≡ true)) (IsAmong P rel A vs Atomic) ws
       (λ v h. record { there = h.0.0; own = atomic_else (own_at P rel A v) h.0.1 h.0.2 (not_is _ h.1) }) all
     where
       not_is : (b : Bool) → not b ≡ true → b ≡ false
       not_is true e = absurd cc
       not_is false e = refl
 
-  own_comps : (vs : List Visit) (ws : List Visit) → AllByRecursion (λ v. Solid vs v × (compound v ≡ true)) ws → AllByRecursion (IsOf P rel A vs Cmpd) ws
-  own_comps vs ws all = all_mapped (λ v. Solid vs v × (compound v ≡ true)) (IsOf P rel A vs Cmpd) ws
+  own_comps : (vs : List Visit) (ws : List Visit) → AllByRecursion (λ v. Solid vs v × (compound v ≡ true)) ws → AllByRecursion (IsAmong P rel A vs Cmpd) ws
+  own_comps vs ws all = all_mapped (λ v. Solid vs v × (compound v ≡ true)) (IsAmong P rel A vs Cmpd) ws
       (λ v h. record { there = h.0.0; own = is_compound (own_at P rel A v) h.1 }) all
 
   -- a list in which some visit passes a test has a first one that does
@@ -251,7 +251,7 @@ module _ (P : Program) (rel : ℕ → List PathData) (A : Assignment) where
     method : ℕ
     basic : Basic
     found : over_of rel A limit ms H ≡ Overridden method basic
-    over : IsOver rel A ms H limit method basic
+    over : IsAboveLimit rel A ms H limit method basic
 
   over_found : (ms : List ℕ) (H : Held) (limit : Basic) → list_all (λ m. below_of (A m (held_in (rel m) H)) limit) ms ≡ false → IsOverFound ms H limit
   over_found [] H limit e = absurd cc
@@ -290,17 +290,17 @@ module _ (P : Program) (rel : ℕ → List PathData) (A : Assignment) where
     abbrev body : Basic
     body = effect P rel A method.body begun
 
-    wrong_errors : AllByRecursion (IsOf P rel A all_visits Error) (errors_in P rel A all_visits)
-    wrong_errors = all_mapped (λ v. Contains all_visits v × (is_error (own_at P rel A v) ≡ true)) (IsOf P rel A all_visits Error) (errors_in P rel A all_visits)
+    wrong_errors : AllByRecursion (IsAmong P rel A all_visits Error) (errors_in P rel A all_visits)
+    wrong_errors = all_mapped (λ v. Contains all_visits v × (is_error (own_at P rel A v) ≡ true)) (IsAmong P rel A all_visits Error) (errors_in P rel A all_visits)
         (λ v h. record { there = h.0; own = is_wrong (own_at P rel A v) h.1 })
         (all_filtered (Contains all_visits) (λ v. is_error (own_at P rel A v)) all_visits (each_there all_visits))
 
-    wrong_meant : (errors : List Visit) → AllByRecursion (IsOf P rel A all_visits Error) errors → (errors ≡ [] → ⊥) → IsReasonOf P rel A overs method limit (wrong_of P rel errors)
+    wrong_meant : (errors : List Visit) → AllByRecursion (IsAmong P rel A all_visits Error) errors → (errors ≡ [] → ⊥) → IsReasonOf P rel A overs method limit (wrong_of P rel errors)
     wrong_meant errors all some = by (first_where (λ v. is_own P rel v.part v.held) errors) refl errors all some
       where
-        by : (found : Option Visit) → first_where (λ v. is_own P rel v.part v.held) errors ≡ found → (vs : List Visit) → AllByRecursion (IsOf P rel A all_visits Error) vs → (vs ≡ [] → ⊥)
+        by : (found : Option Visit) → first_where (λ v. is_own P rel v.part v.held) errors ≡ found → (vs : List Visit) → AllByRecursion (IsAmong P rel A all_visits Error) vs → (vs ≡ [] → ⊥)
             → IsReasonOf P rel A overs method limit (wrong_or found vs)
-        by (Some v) is vs every there = all_first (IsOf P rel A all_visits Error) (λ w. is_own P rel w.part w.held) errors v all is
+        by (Some v) is vs every there = all_first (IsAmong P rel A all_visits Error) (λ w. is_own P rel w.part w.held) errors v all is
         by None is [] every there = absurd (there refl)
         by None is (v ∷ vs) every there = every.0
 

@@ -1,6 +1,6 @@
 -- From what a walk found to an explanation.
 use Rattle.std.proofs.Common.{◌≡◌, ℕ, zero, suc, ◌+◌, ◌<◌, ◌≤◌, Bool, true, false, List, [], ◌∷◌, ◌++◌, Option, Some, None, IsSome, length, drop, get_or, refl, sym, ap, not, ◌∙◌, subst, if◌then◌else◌}
-use Rattle.std.specs.Prelude.{filter, map, slice_get, option_map}
+use Rattle.std.specs.Prelude.{filter, slice_get, option_map}
 use Rattle.std.proofs.Math.ListN.{drop_of_length-le}
 use Rattle.std.proofs.lemmas.List.{drop-map}
 use Rattle.std.proofs.lemmas.Option.{slice_get-map, slice_get_read}

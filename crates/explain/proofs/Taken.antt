@@ -1,6 +1,6 @@
 -- The lock that a call takes: from a walk through the callee, and the search for it.
 use Rattle.std.proofs.Common.{◌≡◌, ℕ, ◌+◌, ◌<◌, ◌≤◌, Bool, true, false, ◌&&◌, ◌||◌, List, [], ◌∷◌, length, get_or, drop, map, refl, sym, ap, ◌∙◌}
-use Rattle.std.specs.Prelude.{not, Option, Some, None, slice_get, if◌then◌else◌}
+use Rattle.std.specs.Prelude.{not, Option, Some, None, if◌then◌else◌}
 use Rattle.std.specs.List.{list_all}
 use Rattle.std.proofs.lemmas.List.{drop_all}
 use Rattle.paths.specs.Paths.{PathData}

@@ -15,7 +15,7 @@ use Rattle.core_program.specs.Core.{Program, Method}
 use Rattle.rules.specs.Effect.{Assignment, call_of, held_under}
 use Rattle.explain.specs.Helping.{first_path}
 use Rattle.explain.specs.Around.{around, lock_around, wrapped}
-use Rattle.explain.specs.Takings.{first_taken, if_atomic, is_freed, taken_by, takes_only, IsTaken}
+use Rattle.explain.specs.Takings.{first_taken, if_atomic, is_freed, taken_lock, takes_only, IsLockTaken}
 
 -- ---- a path that is held already changes nothing
 
@@ -62,7 +62,7 @@ module _ (P : Program) (rel : ℕ → List PathData) (A : Assignment) (overs : L
   not_held p true has freed own =
       absurd (false≢true (ap (λ (b : Basic). below_of b Mover) (sym own) ∙ ap (λ (K : Held). below_of (call_of P rel A m receiver args K) Mover) (sym (held_already H p has)) ∙ freed))
 
-  pub call_takes : (p : PathData) → taken_by P rel A overs m receiver args H ≡ Some p → IsTaken P rel A overs m receiver args H p
+  pub call_takes : (p : PathData) → taken_lock P rel A overs m receiver args H ≡ Some p → IsLockTaken P rel A overs m receiver args H p
   call_takes p e =
       let both = only_atomic (call_of P rel A m receiver args H) (first_taken P rel A overs m receiver args H (rel m)) p e in
       let found = first_found (rel m) p both.1 in

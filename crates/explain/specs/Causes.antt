@@ -1,6 +1,5 @@
 -- What is wrong with a part that is an error by itself.
 use Rattle.std.specs.Prelude.{◌≡◌, ℕ, true, false, not, List, Option, Some, None, find, slice_get}
-use Rattle.std.specs.List.{list_all}
 use Rattle.std.specs.List.Sorted.{IsStrictlySortedBy}
 use Rattle.paths.specs.Paths.{PathData, path_order}
 use Rattle.paths.specs.Renamings.{under_call}
@@ -11,8 +10,7 @@ use Rattle.effects.specs.Parts.{Part, ExprP, StmtP}
 use Rattle.rules.specs.declared.guard.Guard.{Guard}
 use Rattle.rules.specs.declared.guard.Guard.TheVariants as guard
 use Rattle.rules.specs.Guards.{guard_of}
-use Rattle.algebra.specs.declared.basic.Basic.TheVariants.{Error}
-use Rattle.rules.specs.Effect.{Assignment, held_under, required_paths}
+use Rattle.rules.specs.Effect.{held_under, required_paths}
 use Rattle.rules.specs.Mentions.{paths_of}
 use Rattle.explain.specs.declared.causes.Cause.{Cause}
 use Rattle.explain.specs.declared.causes.Cause.TheVariants as cause
@@ -61,13 +59,3 @@ cause_of P rel aliases H (ExprP (GetE e f)) = access_cause P aliases H e f (guar
 cause_of P rel aliases H (ExprP (CallE e m args)) = call_cause P aliases H e m args (first_lacking P rel H e m args)
 cause_of P rel aliases H (StmtP (SetFieldS e f g)) = access_cause P aliases H e f (guard_of P f (path_of P e))
 cause_of P rel aliases H part = cause.Other
-
--- why a part is an error where these paths are held: a guard that isn't held or has no name here; a path that a callee requires, whose
--- name isn't held or which has none; or a callee that is an error at a set that has what it requires
-abbrev pub IsReason : Program → Assignment → Held → Cause → Type 0
-IsReason P A H (cause.Bare receiver f writes_only p second) = H p ≡ false
-IsReason P A H (cause.Nameless f writes_only lack) = Unit {0}
-IsReason P A H (cause.Lacking m q p second) = (has_path (required_paths (slice_get P.methods m)) q ≡ true) × (H p ≡ false)
-IsReason P A H (cause.LackingName m q lack) = has_path (required_paths (slice_get P.methods m)) q ≡ true
-IsReason P A H (cause.Refused m) = (K : Held) × (list_all K (required_paths (slice_get P.methods m)) ≡ true) × (A m K ≡ Error)
-IsReason P A H cause.Other = ⊥

@@ -17,7 +17,7 @@ use Rattle.explain.specs.declared.deeds.Help.{Help}
 use Rattle.explain.specs.declared.deeds.Help.TheVariants as helps
 use Rattle.explain.specs.declared.names.Alias.{Alias}
 use Rattle.explain.specs.Names.{lack_of, second_name}
-use Rattle.explain.specs.Takings.{taken_by}
+use Rattle.explain.specs.Takings.{taken_lock}
 
 -- why no lock helps an access, by how its field is guarded; where a lock helps, this isn't asked
 abbrev pub no_access_help : Program → Expr → Guard → Help
@@ -49,7 +49,7 @@ module _ (P : Program) (rel : ℕ → List PathData) (A : Assignment) where
   -- what a part does by itself, where these methods override each
   abbrev pub deed_of : (overs : ℕ → List ℕ) → Part → Held → Deed
   deed_of overs (ExprP (GetE e f)) H = deed.Reads (path_of P e) f (guard_of P f (path_of P e))
-  deed_of overs (ExprP (CallE e m args)) H = deed.Calls m (call_of P rel A m (path_of P e) (paths_of P args) H) (taken_by P rel A (overs m) m (path_of P e) (paths_of P args) H)
+  deed_of overs (ExprP (CallE e m args)) H = deed.Calls m (call_of P rel A m (path_of P e) (paths_of P args) H) (taken_lock P rel A (overs m) m (path_of P e) (paths_of P args) H)
   deed_of overs (StmtP (SetFieldS e f g)) H = deed.Writes (path_of P e) f (guard_of P f (path_of P e))
   deed_of overs (StmtP (SyncS p s)) H = deed.Locks p
   deed_of overs (StmtP (PrintS e)) H = deed.Prints

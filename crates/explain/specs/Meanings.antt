@@ -22,28 +22,28 @@ pub record IsBefore (vs : List Visit) (v w : Visit) : Type 0 where
   pub whole : vs ≡ before ++ (v ∷ (between ++ (w ∷ after)))
 
 -- a method that overrides one is this where these paths are held, and that is more than the limit
-pub record IsOver (rel : ℕ → List PathData) (A : Assignment) (overs : List ℕ) (H : Held) (limit : Basic) (m : ℕ) (b : Basic) : Type 0 where
+pub record IsAboveLimit (rel : ℕ → List PathData) (A : Assignment) (overs : List ℕ) (H : Held) (limit : Basic) (m : ℕ) (b : Basic) : Type 0 where
   pub there : Contains overs m
   pub is : b ≡ A m (held_in (rel m) H)
   pub above : below_of b limit ≡ false
 
 module _ (P : Program) (rel : ℕ → List PathData) (A : Assignment) where
   -- one of these visits is this by itself
-  pub record IsOf (vs : List Visit) (b : Basic) (v : Visit) : Type 0 where
+  pub record IsAmong (vs : List Visit) (b : Basic) (v : Visit) : Type 0 where
     pub there : Contains vs v
     pub own : own_at P rel A v ≡ b
 
   -- two steps: the first is atomic, and the second is one behind it, or a call that is compound by itself
   abbrev pub AreTwo : List Visit → Visit → Visit → Type 0
-  AreTwo vs v w = IsOf vs Atomic v × ((IsOf vs Atomic w × IsBefore vs v w) ⊎ IsOf vs Cmpd w)
+  AreTwo vs v w = IsAmong vs Atomic v × ((IsAmong vs Atomic w × IsBefore vs v w) ⊎ IsAmong vs Cmpd w)
 
   -- what a reason says of a body with these visits and steps, which these methods override and begin with these paths. Nothing is no reason
   abbrev pub Means : (visits steps : List Visit) → (overs : List ℕ) → Held → (limit : Basic) → WhyData → Type 0
-  Means visits steps overs H limit (Wrong v) = IsOf visits Error v
-  Means visits steps overs H limit (Looped v n) = IsOf steps Atomic v × (v.loop ≡ Some n)
-  Means visits steps overs H limit (Compound v) = IsOf steps Cmpd v
+  Means visits steps overs H limit (Wrong v) = IsAmong visits Error v
+  Means visits steps overs H limit (Looped v n) = IsAmong steps Atomic v × (v.loop ≡ Some n)
+  Means visits steps overs H limit (Compound v) = IsAmong steps Cmpd v
   Means visits steps overs H limit (Two v w) = AreTwo steps v w
-  Means visits steps overs H limit (Overridden m b) = IsOver rel A overs H limit m b
+  Means visits steps overs H limit (Overridden m b) = IsAboveLimit rel A overs H limit m b
   Means visits steps overs H limit Nothing = ⊥
 
   -- of a method with its required paths

@@ -56,12 +56,12 @@ module _ (P : Program) (rel : ℕ → List PathData) (A : Assignment) where
         if is_freed m receiver args H (under_call receiver args q) && takes_only overs q m (held_under (rel m) receiver args H) then under_call receiver args q else first_taken qs
 
     -- the lock that an atomic call takes and gives back, where it does nothing else
-    abbrev pub taken_by : Option PathData
-    taken_by = if_atomic (call_of P rel A m receiver args H) (first_taken (rel m))
+    abbrev pub taken_lock : Option PathData
+    taken_lock = if_atomic (call_of P rel A m receiver args H) (first_taken (rel m))
 
     -- the call takes this lock and gives it back: it is the name here of a path of the callee, and isn't held; whichever body runs does nothing
     -- else that others can see; and the call can't be moved, but could be with the lock held
-    pub record IsTaken (p : PathData) : Type 0 where
+    pub record IsLockTaken (p : PathData) : Type 0 where
       pub path : PathData
       pub name : under_call receiver args path ≡ Some p
       pub free : H p ≡ false

@@ -20,7 +20,7 @@ ghost use Rattle.explain.specs.Views.{part_of};
 
 use crate::found::CorePart;
 use crate::names::{Alias, Lack, lack_of, second_name};
-use crate::takings::taken_by;
+use crate::takings::taken_lock;
 use crate::walk::Walk;
 use algebra::Basic;
 use core_program::{CoreExpr, CoreProgram, CoreStmt, path_of};
@@ -90,7 +90,7 @@ fn call_deed<A: Assigned>(
         &call,
         held,
     )?;
-    let taken = taken_by(walk, over, &call, own, held)?;
+    let taken = taken_lock(walk, over, &call, own, held)?;
     Ok(Deed::Calls(callee, own, taken))
 }
 

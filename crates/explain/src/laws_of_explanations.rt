@@ -2,19 +2,18 @@
 
 ghost use Rattle.std.specs.Prelude.{◌≡◌, ◌==◌, ℕ, List, Contains, Option, None, Some, false, true, filter, slice_get};
 ghost use Rattle.std.specs.List.{IsDistinct};
-ghost use Rattle.algebra.specs.HeldPaths.{Held, has_path, with_path};
+ghost use Rattle.algebra.specs.HeldPaths.{Held, with_path};
 ghost use Rattle.algebra.specs.Basics.{below_of};
 ghost use Rattle.algebra.specs.declared.basic.Basic.{Basic};
-ghost use Rattle.algebra.specs.declared.basic.Basic.TheVariants.{Atomic, Error, Mover};
+ghost use Rattle.algebra.specs.declared.basic.Basic.TheVariants.{Atomic, Mover};
 ghost use Rattle.effects.specs.Parts.{Part};
 ghost use Rattle.paths.specs.Paths.{PathData};
 ghost use Rattle.core_program.specs.Core.{Method, Program};
-ghost use Rattle.rules.specs.Effect.{Assignment, required_paths};
-ghost use Rattle.rules.specs.Rules.{AtMost, IsSubset};
+ghost use Rattle.rules.specs.Effect.{Assignment};
+ghost use Rattle.rules.specs.Rules.{AtMost};
 ghost use Rattle.explain.specs.Helping.{help};
 ghost use Rattle.explain.specs.PartEffects.{own_of};
 ghost use Rattle.explain.specs.Around.{around, wrapped};
-ghost use Rattle.explain.specs.Causes.{cause_of, IsReason};
 ghost use Rattle.explain.specs.declared.deeds.Help.TheVariants.{Hold};
 ghost use Rattle.explain.specs.declared.names.Alias.{Alias};
 ghost use Rattle.explain.specs.Deeds.{help_of};
@@ -22,7 +21,7 @@ ghost use Rattle.explain.specs.Explaining.{why_of};
 ghost use Rattle.explain.specs.Meanings.{are_within, IsReasonOf};
 ghost use Rattle.explain.specs.Names.{second_name};
 ghost use Rattle.explain.specs.Programs.{compound, explanations, keeps, led_to, explained_methods, refused_from, IsExplained};
-ghost use Rattle.explain.specs.Takings.{taken_by, IsTaken};
+ghost use Rattle.explain.specs.Takings.{taken_lock, IsLockTaken};
 ghost use Rattle.explain.specs.Whys.{ExplainedData};
 
 /// The refused methods are told in source order, exactly those that break their bounds. No method is told twice, and none is left out
@@ -38,13 +37,6 @@ pub fn explanation_laws()
         Contains (explanations P rel A overs) (compound P rel A overs m method) }
 {}
 
-/// A part that is an error by itself is told a reason, and that is so, wherever what a method requires is relevant to it.
-pub fn cause_laws()
-    ensures { (P : Program) (rel : ℕ → List PathData) (A : Assignment) (aliases : List Alias) (H : Held) (x : Part) →
-        ((m : ℕ) → IsSubset (has_path (required_paths (slice_get P.methods m))) (has_path (rel m))) →
-        own_of P rel A x H ≡ Error → IsReason P A H (cause_of P rel aliases H x) }
-{}
-
 /// With the lock that is told held, the step can be moved. A lock is told wherever one helps, and another name that is told is held.
 pub fn hold_laws()
     ensures moves { (P : Program) (rel : ℕ → List PathData) (A : Assignment) (aliases : List Alias) (x : Part) (H : Held) (p : PathData) (second : Option PathData) →
@@ -58,7 +50,7 @@ pub fn hold_laws()
 /// of what overrides the callee, beyond that these are the methods.
 pub fn taking_laws()
     ensures { (P : Program) (rel : ℕ → List PathData) (A : Assignment) (overs : List ℕ) (m : ℕ) (receiver : Option PathData) (args : List (Option PathData)) (H : Held) (p : PathData) →
-        taken_by P rel A overs m receiver args H ≡ Some p → IsTaken P rel A overs m receiver args H p }
+        taken_lock P rel A overs m receiver args H ≡ Some p → IsLockTaken P rel A overs m receiver args H p }
 {}
 
 /// With the lock that is told held around all of it, a method's body is at most what is asked for, and that lock is relevant to the method.

@@ -23,7 +23,7 @@ pub use deeds::{Deed, Help, deed_of, help_of};
 pub use explaining::{Why, basics};
 pub use found::{CorePart, Visited};
 pub use laws_of_explanations::{
-    around_laws, cause_laws, explanation_laws, hold_laws, reason_laws, taking_laws,
+    around_laws, explanation_laws, hold_laws, reason_laws, taking_laws,
 };
 pub use names::{Alias, Lack, aliases, ascending};
 pub use program::{Explained, explanations};

@@ -187,7 +187,7 @@ fn first_taken<A: Assigned>(
 }
 
 /// The lock that a call which is this takes and gives back, where it is atomic and does nothing else.
-pub(crate) fn taken_by<A: Assigned>(
+pub(crate) fn taken_lock<A: Assigned>(
     walk: &Walk<'_, A>,
     over: &OverridingMethods,
     call: &Called<'_>,

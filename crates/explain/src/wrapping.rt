@@ -1,6 +1,6 @@
 //! A lock around the whole body of a method.
 
-ghost use Rattle.std.specs.Prelude.{◌≡◌, slice_get, IfOk};
+ghost use Rattle.std.specs.Prelude.{◌≡◌, IfOk};
 ghost use Rattle.algebra.specs.Basics.{below_of};
 ghost use Rattle.algebra.specs.HeldPaths.{has_path};
 ghost use Rattle.core_program.specs.Views.{method_of, program_of, stmt_of};

@@ -1,10 +1,12 @@
-//! Examples of explanations, which the check computes.
+//! Examples of explanations and of their lines, which the check computes.
 #![tactic(auto)]
 
 pub mod basics;
 pub mod causes;
 pub mod deeds;
+pub mod lines;
 pub mod names;
 pub mod reasons;
 pub mod takings;
 pub mod walks;
+pub mod words;

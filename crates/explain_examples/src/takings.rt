@@ -6,7 +6,7 @@ ghost use Rattle.core_program.specs.Examples.{this_path};
 ghost use Rattle.effects.specs.Parts.{ExprP, StmtP};
 ghost use Rattle.explain.specs.Around.{around, lock_around, wrapped};
 ghost use Rattle.explain.specs.Meanings.{are_within};
-ghost use Rattle.explain.specs.Takings.{first_taken, if_atomic, is_freed, is_taking, locks, taken_by, takes_in, takes_only};
+ghost use Rattle.explain.specs.Takings.{first_taken, if_atomic, is_freed, is_taking, locks, taken_lock, takes_in, takes_only};
 ghost use Rattle.core_examples.specs.Bodies.{this_held, nothing_held};
 ghost use Rattle.core_examples.specs.Fields.{path};
 ghost use Rattle.core_examples.specs.Small.{one};
@@ -26,9 +26,9 @@ pub fn which_locks_calls_take()
     ensures freed { map (is_freed shelf shelf_paths shelf_levels 0 (Some this_path) [] nothing_held) (Some this_path ∷ Some (path 2 []) ∷ None ∷ []) ≡ true ∷ false ∷ false ∷ [] }
     ensures first { first_taken shelf shelf_paths shelf_levels [] 0 (Some this_path) [] nothing_held (path 0 (3 ∷ []) ∷ this_path ∷ []) ≡ Some this_path }
     ensures none { first_taken shelf shelf_paths shelf_levels (16 ∷ []) 0 (Some this_path) [] nothing_held (this_path ∷ []) ≡ None }
-    ensures call { taken_by shelf shelf_paths shelf_levels [] 0 (Some (path 2 [])) [] nothing_held ≡ Some (path 2 []) }
-    ensures printed { taken_by shelf shelf_paths shelf_levels (16 ∷ []) 1 (Some this_path) [] nothing_held ≡ None }
-    ensures held { taken_by shelf shelf_paths shelf_levels [] 0 (Some this_path) [] this_held ≡ None }
+    ensures call { taken_lock shelf shelf_paths shelf_levels [] 0 (Some (path 2 [])) [] nothing_held ≡ Some (path 2 []) }
+    ensures printed { taken_lock shelf shelf_paths shelf_levels (16 ∷ []) 1 (Some this_path) [] nothing_held ≡ None }
+    ensures held { taken_lock shelf shelf_paths shelf_levels [] 0 (Some this_path) [] this_held ≡ None }
 {}
 
 /// A lock around the whole method.

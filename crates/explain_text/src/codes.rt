@@ -8,7 +8,7 @@ use explain::{Cause, Help, Why};
 
 /// Which step of an explanation a line tells.
 #[derive(Clone, Copy)]
-pub(crate) enum StepKind {
+pub enum StepKind {
     /// The first of two.
     First,
     /// The second of two.

@@ -11,5 +11,6 @@ mod steps;
 mod words;
 
 pub use blocks::write_block;
+pub use codes::StepKind;
 pub use listing::write_listing;
 pub use page::Page;

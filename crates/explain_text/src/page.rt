@@ -89,7 +89,7 @@ pub(crate) fn note_front(
     page: &Page<'_, '_>,
     node: usize,
 ) -> Result<String, NoMemory>
-    ensures { IfOk result (λ words_before_kind. string_bytes words_before_kind ≡ note_front (page_data page.now) node) }
+    ensures { IfOk result (λ front. string_bytes front ≡ note_front (page_data page.now) node) }
 {
     let mut front = String::with_capacity(alloc, FRONT_ROOM)?;
     begin_note(&mut front, page, node)?;
@@ -98,7 +98,7 @@ pub(crate) fn note_front(
 
 /// Writes a note of fixed words, with the line feed, behind what it begins with.
 pub(crate) fn write_note(out: &mut String, front: &str, words: &str) -> Result<(), NoMemory>
-    ensures { OnOk result (string_bytes out.new ≡ string_bytes out.old ++ (words_before_kind.now ++ words.now)) }
+    ensures { OnOk result (string_bytes out.new ≡ string_bytes out.old ++ (front.now ++ words.now)) }
 {
     out.push_str(front)?;
     out.push_str(words)

@@ -28,7 +28,7 @@ use Rattle.explain.specs.Visits.{Visit}
 use Rattle.explain.specs.Explaining.{why_of}
 use Rattle.explain.specs.declared.names.Alias.{Alias}
 use Rattle.explain.specs.Causes.{cause_of}
-use Rattle.explain.specs.Meanings.{are_within, IsOver, IsReasonOf}
+use Rattle.explain.specs.Meanings.{are_within, IsAboveLimit, IsReasonOf}
 use Rattle.explain.specs.Programs.{called_by, compound, explanations, explanations_from, found_of, if_untold, keeps, led, led_to, refused}
 use Rattle.explain.specs.Whys.{ExplainedData, WhyData, Wrong, Looped, Compound, Two, Overridden, Nothing}
 use Rattle.explain.proofs.Meant.{meant}
@@ -103,7 +103,7 @@ module _ (P : Program) (sets : List MethodPaths) (A : Assignment) (rows : List (
 
   -- an overriding method that is more than the limit where the paths are held that the overridden one requires
   over_above : (m : ℕ) (method : Method) → slice_get P.methods m ≡ Some method → (limit : Basic) → AtMost Atomic limit → (k : ℕ) (other : Method) → slice_get P.methods k ≡ Some other
-      → (b : Basic) → IsOver rel A (overs m) (has_path method.requires_) limit k b → below_of (found_of A k other) Atomic ≡ false
+      → (b : Basic) → IsAboveLimit rel A (overs m) (has_path method.requires_) limit k b → below_of (found_of A k other) Atomic ≡ false
   over_above m method there limit atomic k other at b over =
       let H = has_path method.requires_ in
       let alike = typed.overriding k m other method ((are m k).0 over.there) at there in
@@ -119,7 +119,7 @@ module _ (P : Program) (sets : List MethodPaths) (A : Assignment) (rows : List (
   led_above_by m method there limit atomic (Compound v) means k other e at = part_above k other at v.part v.held means.own e
   led_above_by m method there limit atomic (Two v w) means k other e at = absurd (none-some k e)
   led_above_by m method there limit atomic (Overridden n b) means k other e at =
-      over_above m method there limit atomic k other at b (subst (λ j. IsOver rel A (overs m) (has_path method.requires_) limit j b) (same_Some n k e) means)
+      over_above m method there limit atomic k other at b (subst (λ j. IsAboveLimit rel A (overs m) (has_path method.requires_) limit j b) (same_Some n k e) means)
   led_above_by m method there limit atomic Nothing means k other e at = absurd means
 
   -- ---- all that are told

@@ -1,4 +1,4 @@
-use Rattle.explain.proofs.CauseLemmas.{hold_moves, hold_told, second_held}
+use Rattle.explain.proofs.HoldLemmas.{hold_moves, hold_told, second_held}
 use Rattle.explain.proofs.laws_of_explanations.hold_laws.Goals as goal
 
 pub returns : goal.returns

@@ -1,4 +1,4 @@
-use Rattle.explain.proofs.Visited.{part_among}
+use Rattle.explain.proofs.AllVisits.{part_among}
 use Rattle.explain.proofs.Numbering.{part_numbered}
 use Rattle.explain.proofs.BookNumbers.{same_parts}
 use Rattle.explain.proofs.step_and_place_laws.place_laws.Goals as goal
