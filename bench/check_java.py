@@ -1,10 +1,10 @@
 #!/usr/bin/env python3
-"""Runs what docs/java.md shows: its commands on its sources, and its tables, whose rows have a construct, the lines that come, what is
-made of it, and the smallest source.
+"""Runs what docs/java.md shows: its commands on its sources, and its tables, whose rows have a construct, the lines
+that come, what is made of it, and the smallest source.
 
-Each error of a source has to stand in its row, each note of an assumption, an approximation or a data race too, and each line of the
-row has to come. The notes that explain an error may be left out, and what is assumed of code outside the files, which is said of most
-sources. All sources are judged in one run, each in a package of its own.
+Each error of a source has to stand in its row, each note of an assumption, an approximation or a data race too, and
+each line of the row has to come. The notes that explain an error may be left out, and what is assumed of code outside
+the files, which is said of most sources. All sources are judged in one run, each in a package of its own.
 """
 import argparse
 import re
@@ -59,7 +59,9 @@ def commands_of(program: Path, *place: str) -> tuple[int, int]:
             for name in re.findall(r"^public (?:final )?class (\w+)", text, re.MULTILINE)[:1]:
                 Path(folder, name + ".java").write_text(text, encoding="utf-8")
         for command, text in re.findall(r"^```\n\$ atomic-java (.*)\n((?:.*\n)*?)```$", read(*place), re.MULTILINE):
-            done = subprocess.run([str(program.resolve()), *command.split()], capture_output=True, check=False, cwd=folder)
+            done = subprocess.run(
+                [str(program.resolve()), *command.split()], capture_output=True, check=False, cwd=folder
+            )
             count += 1
             if done.stdout.decode() != text:
                 wrong += 1
@@ -68,7 +70,8 @@ def commands_of(program: Path, *place: str) -> tuple[int, int]:
 
 
 def checked(program: Path = PROGRAM) -> tuple[int, int] | None:
-    """How many rows and commands there are and how many are wrong, each of which is told; none where there is no program."""
+    """How many rows and commands there are and how many are wrong, each of which is told; none where there is no
+    program."""
     if not program.exists():
         return None
     table, wrong = rows(), 0
@@ -81,7 +84,9 @@ def checked(program: Path = PROGRAM) -> tuple[int, int] | None:
         given = [line for line in answer.lines if line.file == str(file)]
         wanted = [text for _, text in TEXT.findall(row[1])]
         asked = [shown(line) for line in given if line.kind == "error" or TOLD.match(line.text)]
-        lacking = [text for text in wanted if text not in map(shown, given)] + [text for text in asked if text not in wanted]
+        lacking = [text for text in wanted if text not in map(shown, given)] + [
+            text for text in asked if text not in wanted
+        ]
         if lacking:
             wrong += 1
             print(f"docs/java.md: {row[0]}: wanted {wanted}, given {asked}")
@@ -92,7 +97,9 @@ def checked(program: Path = PROGRAM) -> tuple[int, int] | None:
 def main() -> None:
     """The rows of the document as it stands."""
     parser = argparse.ArgumentParser(description=__doc__, formatter_class=argparse.RawDescriptionHelpFormatter)
-    parser.add_argument("program", type=Path, nargs="?", default=PROGRAM, help="the launcher (default: java/out/atomic-java)")
+    parser.add_argument(
+        "program", type=Path, nargs="?", default=PROGRAM, help="the launcher (default: java/out/atomic-java)"
+    )
     found = checked(parser.parse_args().program)
     if found is None:
         sys.exit("there is no atomic-java: bench/java.sh builds it")

@@ -1,7 +1,8 @@
 """Logs of runs of logged copies: the kinds of their steps, and whether each atomic method's steps are a reducible word.
 
-A line of a log is a thread, an action and its words, and behind a tab the place in the source (java/src/atomic/trace/Log.java). The
-guard of a place is a lock that is held at each access of it in this run; what one thread alone touches wants none.
+A line of a log is a thread, an action and its words, and behind a tab the place in the source
+(java/src/atomic/trace/Log.java). The guard of a place is a lock that is held at each access of it in this run; what one
+thread alone touches wants none.
 """
 import re
 from collections import defaultdict
@@ -69,7 +70,8 @@ def with_held(events: list[Event]) -> Iterator[tuple[Event, dict[str, int]]]:
 
 
 def guards_of(events: list[Event], told: set[int]) -> dict[str, set[str]]:
-    """For each place the locks that are held at every access of it; what stands in these lines, which are told as errors, is left out."""
+    """For each place the locks that are held at every access of it; what stands in these lines, which are told as
+    errors, is left out."""
     guards: dict[str, set[str]] = {}
     for event, held in with_held(events):
         if event.action in ACCESSES and event.line not in told:
@@ -105,9 +107,10 @@ def blocks_of(events: list[Event], atomic: set[str]) -> list[Block]:
                 block.events.append(event)
         if event.action in ("begin", "enter"):
             outermost = event.target in atomic and not any(stack)
-            stack.append(Block(event.target, event.thread, []) if outermost else None)
-            if outermost:
-                found.append(stack[-1])
+            begun = Block(event.target, event.thread, []) if outermost else None
+            stack.append(begun)
+            if begun:
+                found.append(begun)
         elif event.action in ("end", "leave") and stack:
             last = stack.pop()
             if last:
@@ -133,7 +136,8 @@ def is_reducible(kinds: list[str]) -> bool:
 
 
 def as_log(events: list[Event], texts: list[str], atomic: set[str]) -> str:
-    """The log in the format of docs/traces.md: blocks are ended calls of atomic methods, behind their waits, and places are left out."""
+    """The log in the format of docs/traces.md: blocks are ended calls of atomic methods, behind their waits, and places
+    are left out."""
     blocks = [block for block in blocks_of(events, atomic) if block.ended and behind_waits(block)]
     begins = {behind_waits(block)[0].line: block.name for block in blocks}
     ends = {block.events[-1].line for block in blocks}

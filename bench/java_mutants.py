@@ -1,4 +1,5 @@
-"""Changes of a Java source that each take out one thing that makes it right: a lock, a guard, what a method wants held."""
+"""Changes of a Java source that each take out one thing that makes it right: a lock, a guard, what a method wants
+held."""
 import re
 from collections.abc import Iterator
 from dataclasses import dataclass

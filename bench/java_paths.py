@@ -1,9 +1,11 @@
 """Whether what a method did in a run is a path of its skeleton.
 
-A skeleton is read as java/src/atomic/java/trace/SkeletonText.java writes it. Each step that the log has must stand in the skeleton, in
-this order; steps of the skeleton may be missing in the log, since a step that nobody else can see isn't always logged.
+A skeleton is read as java/src/atomic/java/trace/SkeletonText.java writes it. Each step that the log has must stand in
+the skeleton, in this order; steps of the skeleton may be missing in the log, since a step that nobody else can see
+isn't always logged.
 """
 import re
+from collections.abc import Callable
 from dataclasses import dataclass
 from pathlib import Path
 
@@ -72,7 +74,7 @@ class Walk:
 
     def behind(self, part: Part, starts: set[int]) -> set[int]:
         """The places among the events that a part may end at, if it begins at one of these."""
-        ends = getattr(self, "behind_" + part.word)(part, starts)
+        ends: set[int] = getattr(self, "behind_" + part.word)(part, starts)
         self.furthest = max(self.furthest, *ends, 0)
         return ends
 
@@ -112,7 +114,8 @@ class Walk:
         return self.taken_while(starts, lambda event: event.action in LOCKS)
 
     def behind_call(self, part: Part, starts: set[int]) -> set[int]:
-        """A call: of a method whose events are marked, of a function that stands in this one, or of a library's method."""
+        """A call: of a method whose events are marked, of a function that stands in this one, or of a library's
+        method."""
         place, target = part.words[0], self.methods[int(part.words[1])]
         ends = self.taken_while(starts, lambda event: event.place == place)
         for start in sorted(ends):
@@ -134,14 +137,23 @@ class Walk:
                 break
         place = self.events[start].target.rpartition("@")[2]
         bodies = self.by_place.get(place, [])
-        return {last + 1} if any(self.covers(each, start + 1, last) for each in bodies) or not bodies and last == start + 1 else set()
+        return (
+            {last + 1}
+            if any(self.covers(each, start + 1, last) for each in bodies) or not bodies and last == start + 1
+            else set()
+        )
 
     def stepped(self, starts: set[int], action: str, place: str) -> set[int]:
         """The starts, and the places behind the events there that are this step."""
-        return starts | {start + 1 for start in starts if start < len(self.events) and self.events[start].action == action
-                         and (not place or self.events[start].place == place)}
+        return starts | {
+            start + 1
+            for start in starts
+            if start < len(self.events)
+            and self.events[start].action == action
+            and (not place or self.events[start].place == place)
+        }
 
-    def taken_while(self, starts: set[int], test) -> set[int]:
+    def taken_while(self, starts: set[int], test: Callable[[Event], bool]) -> set[int]:
         """The starts, and all places behind them that are reached by such events."""
         ends = set(starts)
         for start in starts:

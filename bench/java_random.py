@@ -1,12 +1,14 @@
 #!/usr/bin/env python3
 """Random sources of the language, printed as Java and judged by atomic-java: each verdict is the same or worse.
 
-What `atomic_why` refuses in the source, atomic-java has to refuse in the Java text. What it refuses besides is counted. Sources
-that aren't well-typed are drawn again; so are those in which something is refused for a lock under a second name, that of a local, since
-atomic-java puts the first name in its place. Many sources are judged in one run, each in a package of its own.
+What `atomic_why` refuses in the source, atomic-java has to refuse in the Java text. What it refuses besides is counted.
+Sources that aren't well-typed are drawn again; so are those in which something is refused for a lock under a second
+name, that of a local, since atomic-java puts the first name in its place. Many sources are judged in one run, each in a
+package of its own.
 
-Printed as Java, an annotation stands where the language has a word; a constructor calls the one above; each method is public, since
-`run` has to be; a class Touching writes each field, since one that nobody writes makes no step in Java; what isn't final is assigned once more, so that it isn't effectively final either; and the condition of a loop isn't
+Printed as Java, an annotation stands where the language has a word; a constructor calls the one above; each method is
+public, since `run` has to be; a class Touching writes each field, since one that nobody writes makes no step in Java;
+what isn't final is assigned once more, so that it isn't effectively final either; and the condition of a loop isn't
 constant, which javac would take as unreachable code.
 """
 import argparse
@@ -111,7 +113,8 @@ def drawn(first: int, count: int, folder: Path, why: Path) -> list[Drawn]:
 
 
 def compare(batch: list[Drawn], folder: Path, program: Path) -> tuple[int, int]:
-    """Judges the Java texts in one run, and tells each that is found better than its source: how many, and how many are worse."""
+    """Judges the Java texts in one run, and tells each that is found better than its source: how many, and how many are
+    worse."""
     files = [write_into_package(one.java, f"random{one.seed}", folder, "Main.java") for one in batch]
     answer = run([], files, program)
     if answer.status not in (0, 2):
@@ -134,7 +137,9 @@ def main() -> None:
     parser.add_argument("--seed", type=int, default=1, help="the first seed (default: 1)")
     parser.add_argument("--batch", type=int, default=25, help="how many in one run (default: 25)")
     parser.add_argument("--program", type=Path, default=PROGRAM, help="the launcher (default: java/out/atomic-java)")
-    parser.add_argument("--why", type=Path, default=WHY, help="atomic_why (default: $ATOMIC_WHY, else the one in crates/)")
+    parser.add_argument(
+        "--why", type=Path, default=WHY, help="atomic_why (default: $ATOMIC_WHY, else the one in crates/)"
+    )
     parser.add_argument("--show", action="store_true", help="print the Java texts, and judge nothing")
     given = parser.parse_args()
     with tempfile.TemporaryDirectory() as name:
@@ -147,7 +152,8 @@ def main() -> None:
         for batch in batches(found, given.batch):
             counts = compare(batch, folder, given.program)
             better, worse = better + counts[0], worse + counts[1]
-    print(f"random: {given.count} sources, {better} found better in Java, {worse} worse, {given.count - better - worse} the same")
+    same = given.count - better - worse
+    print(f"random: {given.count} sources, {better} found better in Java, {worse} worse, {same} the same")
     sys.exit(1 if better else 0)
 
 

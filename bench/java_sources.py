@@ -1,21 +1,24 @@
-"""Java sources of the tests: how several stand in one run, what is expected of them, and the lines that atomic-java writes.
+"""Java sources of the tests: how several stand in one run, what is expected of them, and the lines that atomic-java
+writes.
 
-A run of atomic-java costs the start of a JVM, so that tests are judged many at a time. Each source is copied into a package of its
-own, whose clause goes in front of its first line: the places stay as they are.
+A run of atomic-java costs the start of a JVM, so that tests are judged many at a time. Each source is copied into a
+package of its own, whose clause goes in front of its first line: the places stay as they are.
 
-What is expected stands in the source. A comment `// refused` at the end of a line means that an error is told at this line, and
-`// accepted` that none is.
+What is expected stands in the source. A comment `// refused` at the end of a line means that an error is told at this
+line, and `// accepted` that none is.
 """
 import os
 import re
 import subprocess
 from dataclasses import dataclass, field
 from pathlib import Path
+from typing import TypeVar
 
 TOP = Path(__file__).resolve().parent.parent
 PROGRAM = TOP / "java" / "out" / "atomic-java"
 LINE = re.compile(r"(.*?):(\d+):(\d+): (error|note): (.*)")
 MARK = re.compile(r"// (refused|accepted)\b(?:: (.*))?$")
+Item = TypeVar("Item")
 PACKAGE = re.compile(r"^package [\w.]+;\s*", re.MULTILINE)
 
 
@@ -70,6 +73,6 @@ def write_into_package(text: str, package: str, folder: Path, name: str) -> Path
     return path
 
 
-def batches(items: list, size: int) -> list[list]:
+def batches(items: list[Item], size: int) -> list[list[Item]]:
     """The items in lists of at most so many."""
     return [items[first : first + size] for first in range(0, len(items), size)]

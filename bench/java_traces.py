@@ -1,10 +1,11 @@
 #!/usr/bin/env python3
-"""Runs logged copies of Java sources under random schedules, and holds the logs against the verdicts and the skeletons of atomic-java.
+"""Runs logged copies of Java sources under random schedules, and holds the logs against the verdicts and the skeletons
+of atomic-java.
 
-A field that is touched without its guard is told as an error, and those touches don't count against the others. Of each method that is
-found atomic, each call's steps have to be a reducible word (right movers and both, at most one other step, left
-movers and both), and each logged step has to stand on a path of the method's skeleton. The sources are those of java/tests/larger and
-java/tests/users. With --logs FOLDER the logs stay there, in the format of docs/traces.md.
+A field that is touched without its guard is told as an error, and those touches don't count against the others. Of each
+method that is found atomic, each call's steps have to be a reducible word (right movers and both, at most one other
+step, left movers and both), and each logged step has to stand on a path of the method's skeleton. The sources are those
+of java/tests/larger and java/tests/users. With --logs FOLDER the logs stay there, in the format of docs/traces.md.
 """
 import argparse
 import re
@@ -67,8 +68,11 @@ def judge(path: Path, folder: Path, program: Path) -> Judged | None:
 def compiled(folder: Path, archive: Path) -> bool:
     """Whether javac takes the copies in a folder."""
     copies = [str(each) for each in folder.rglob("*.java")]
-    done = subprocess.run(["javac", "-nowarn", "-proc:none", "-cp", str(archive), "-d", str(folder), *copies],
-                          capture_output=True, check=False)
+    done = subprocess.run(
+        ["javac", "-nowarn", "-proc:none", "-cp", str(archive), "-d", str(folder), *copies],
+        capture_output=True,
+        check=False,
+    )
     if done.returncode:
         print(done.stderr.decode())
     return not done.returncode
@@ -79,8 +83,11 @@ def look(source: Judged, log: Path, counts: Counts) -> str:
     events = events_of(log)
     promised = {event.target for event in events if event.action == "begin"}
     atomic = {name for name in promised if int(name.rpartition("@")[2].split(":")[0]) not in source.refused}
-    unguarded = {event.target for event in events if event.action in ("begin", "enter")
-                 and int(event.target.rpartition("@")[2].split(":")[0]) in source.unguarded}
+    unguarded = {
+        event.target
+        for event in events
+        if event.action in ("begin", "enter") and int(event.target.rpartition("@")[2].split(":")[0]) in source.unguarded
+    }
     told = {event.line for block in blocks_of(events, unguarded) for event in block.events}
     kinds, shared = kinds_of(events, told), shared_objects(events)
     counts.runs += 1
@@ -98,7 +105,10 @@ def look(source: Judged, log: Path, counts: Counts) -> str:
             counts.wrong.append(f"{log.name}: {block.name} in line {block.events[0].line} isn't reducible")
         missing = unseen(source.skeleton, behind_waits(block), shared, block.name.rpartition("@")[2])
         if missing:
-            counts.wrong.append(f"{log.name}:{missing.line}: {block.name}: the skeleton lacks {missing.action} {missing.target} at {missing.place}")
+            counts.wrong.append(
+                f"{log.name}:{missing.line}: {block.name}: the skeleton lacks {missing.action} {missing.target} "
+                f"at {missing.place}"
+            )
     return as_log(events, log.read_text(encoding="utf-8").splitlines(), atomic)
 
 
@@ -106,7 +116,17 @@ def trace(source: Judged, folder: Path, archive: Path, runs: int, counts: Counts
     """Makes the runs of one source, and looks at their logs."""
     target = folder / "logs"
     target.mkdir()
-    command = ["java", *FAST, "-cp", f"{archive}:{folder}", "atomic.trace.Runner", source.name, "1", str(runs), str(target)]
+    command = [
+        "java",
+        *FAST,
+        "-cp",
+        f"{archive}:{folder}",
+        "atomic.trace.Runner",
+        source.name,
+        "1",
+        str(runs),
+        str(target),
+    ]
     done = subprocess.run(command, capture_output=True, check=False)
     if done.returncode:
         counts.wrong.append(f"{source.path.name}: status {done.returncode}: {done.stderr.decode()[:300]}")
@@ -121,8 +141,11 @@ def conclusion(counts: Counts) -> int:
     for text in counts.wrong[:20]:
         print(text)
     seen = sum(1 for count in counts.broken.values() if count)
-    print(f"traces: {counts.runs} runs, {counts.calls} calls of methods that are found atomic with {counts.steps} steps, {len(counts.wrong)} wrong; "
-          f"{counts.others} calls of {len(counts.broken)} refused methods, of which {seen} were seen to be cut")
+    print(
+        f"traces: {counts.runs} runs, {counts.calls} calls of methods that are found atomic with {counts.steps} steps, "
+        f"{len(counts.wrong)} wrong; "
+        f"{counts.others} calls of {len(counts.broken)} refused methods, of which {seen} were seen to be cut"
+    )
     return 1 if counts.wrong or not counts.runs else 0
 
 

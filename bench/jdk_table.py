@@ -1,11 +1,11 @@
 #!/usr/bin/env python3
 """Judges classes of the JDK by atomic-java and writes the table of docs/jdk.md; jdk.sh calls it.
 
-Each class is judged together with the classes above it that hold its state, and nothing else of the JDK. Its methods are counted
-without constructors: those whose skeleton is exact, that rest on an assumption, and that are approximated; of the
-public ones those that are found atomic, those that are refused for certain, and those that are perhaps wrong alarms.
-Behind the table stand the reasons of the certain refusals and of the approximations, and how often each came. With
---sample, so many of the certain refusals are drawn, to be read by hand.
+Each class is judged together with the classes above it that hold its state, and nothing else of the JDK. Its methods
+are counted without constructors: those whose skeleton is exact, that rest on an assumption, and that are approximated;
+of the public ones those that are found atomic, those that are refused for certain, and those that are perhaps wrong
+alarms. Behind the table stand the reasons of the certain refusals and of the approximations, and how often each came.
+With --sample, so many of the certain refusals are drawn, to be read by hand.
 """
 import argparse
 import random
@@ -18,19 +18,41 @@ from collections import Counter
 from dataclasses import dataclass
 from pathlib import Path
 
-CLASSES = {
+CLASSES: dict[str, list[str]] = {
     "java/lang/StringBuffer": ["java/lang/AbstractStringBuilder"],
-    "java/util/Vector": [], "java/util/Stack": ["java/util/Vector"], "java/util/Hashtable": [], "java/util/Timer": ["java/util/TimerTask"],
-    "java/util/Observable": [], "java/util/Random": [], "java/util/Collections": [],
-    "java/util/zip/Inflater": [], "java/util/zip/Deflater": [],
-    "java/io/PrintWriter": [], "java/io/BufferedWriter": [], "java/io/BufferedReader": [], "java/io/LineNumberReader": ["java/io/BufferedReader"],
-    "java/io/ByteArrayOutputStream": [], "java/io/ByteArrayInputStream": [], "java/io/BufferedInputStream": ["java/io/FilterInputStream"],
-    "java/io/BufferedOutputStream": ["java/io/FilterOutputStream"], "java/io/PipedInputStream": [], "java/io/PipedReader": [],
-    "java/io/CharArrayWriter": [], "java/io/CharArrayReader": [], "java/io/StringReader": [], "java/io/StringWriter": [],
+    "java/util/Vector": [],
+    "java/util/Stack": ["java/util/Vector"],
+    "java/util/Hashtable": [],
+    "java/util/Timer": ["java/util/TimerTask"],
+    "java/util/Observable": [],
+    "java/util/Random": [],
+    "java/util/Collections": [],
+    "java/util/zip/Inflater": [],
+    "java/util/zip/Deflater": [],
+    "java/io/PrintWriter": [],
+    "java/io/BufferedWriter": [],
+    "java/io/BufferedReader": [],
+    "java/io/LineNumberReader": ["java/io/BufferedReader"],
+    "java/io/ByteArrayOutputStream": [],
+    "java/io/ByteArrayInputStream": [],
+    "java/io/BufferedInputStream": ["java/io/FilterInputStream"],
+    "java/io/BufferedOutputStream": ["java/io/FilterOutputStream"],
+    "java/io/PipedInputStream": [],
+    "java/io/PipedReader": [],
+    "java/io/CharArrayWriter": [],
+    "java/io/CharArrayReader": [],
+    "java/io/StringReader": [],
+    "java/io/StringWriter": [],
     "java/io/PrintStream": ["java/io/FilterOutputStream"],
-    "java/net/URL": [], "java/net/InMemoryCookieStore": [], "java/net/DatagramPacket": [],
-    "java/util/concurrent/ArrayBlockingQueue": [], "java/util/concurrent/LinkedBlockingQueue": [], "java/util/concurrent/LinkedBlockingDeque": [],
-    "java/util/concurrent/PriorityBlockingQueue": [], "java/util/concurrent/DelayQueue": [], "java/util/concurrent/CyclicBarrier": [],
+    "java/net/URL": [],
+    "java/net/InMemoryCookieStore": [],
+    "java/net/DatagramPacket": [],
+    "java/util/concurrent/ArrayBlockingQueue": [],
+    "java/util/concurrent/LinkedBlockingQueue": [],
+    "java/util/concurrent/LinkedBlockingDeque": [],
+    "java/util/concurrent/PriorityBlockingQueue": [],
+    "java/util/concurrent/DelayQueue": [],
+    "java/util/concurrent/CyclicBarrier": [],
     "java/util/concurrent/CopyOnWriteArrayList": [],
 }
 SEED = 52
@@ -57,8 +79,10 @@ class Row:
     def text(self) -> str:
         """The row of the table."""
         methods, exact, assumed, approximated, promised, atomic, refused, perhaps = self.figures
-        return (f"| `{self.name.replace('/', '.')}` | {self.lines} | {methods} | {exact} | {assumed} | {approximated} | {promised} | "
-                f"{atomic} | {refused} | {perhaps} | {self.seconds:.1f} |")
+        return (
+            f"| `{self.name.replace('/', '.')}` | {self.lines} | {methods} | {exact} | {assumed} | {approximated} "
+            f"| {promised} | {atomic} | {refused} | {perhaps} | {self.seconds:.1f} |"
+        )
 
 
 def reason(block: str, told: dict[str, str]) -> str:
@@ -109,18 +133,21 @@ def judged(name: str, archive: zipfile.ZipFile, folder: Path, program: Path) -> 
     lines = sum(Path(source).read_text(encoding="utf-8").count("\n") for source in sources)
     refused, certain = set(REFUSED.findall(answer)), certain_of(answer)
     sure = len({place.split(": ")[0] for place in certain})
-    figures = (*(int(number) for number in found.groups()), int(found[5]) - len(refused), sure, len(refused) - sure)
-    return Row(name, lines, figures, seconds, reasons, certain, answer)
+    figures = [int(number) for number in found.groups()]
+    figures += [int(found[5]) - len(refused), sure, len(refused) - sure]
+    return Row(name, lines, tuple(figures), seconds, reasons, certain, answer)
 
 
 def told(rows: list[Row]) -> None:
     """Prints the table and what stands behind it."""
-    print("| class | lines | methods | exact | assumed | approximated | public | found atomic "
-          "| refused for certain | perhaps | seconds |")
+    print(
+        "| class | lines | methods | exact | assumed | approximated | public | found atomic "
+        "| refused for certain | perhaps | seconds |"
+    )
     print("|---|---|---|---|---|---|---|---|---|---|---|")
     for row in rows:
         print(row.text())
-    sums = tuple(map(sum, zip(*(row.figures for row in rows))))
+    sums = tuple(sum(row.figures[place] for row in rows) for place in range(len(rows[0].figures)))
     reasons = sum((row.reasons for row in rows), Counter[str]())
     lines, seconds = sum(row.lines for row in rows), sum(row.seconds for row in rows)
     whole = Row(f"{len(rows)} classes", lines, sums, seconds, reasons, {}, "")

@@ -1,7 +1,8 @@
 #!/usr/bin/env python3
 """Tests of atomic-java on sources whose verdicts are known.
 
-adversaries  methods that look atomic and aren't (java/tests/adversaries): each is refused, and each right twin is accepted
+adversaries  methods that look atomic and aren't (java/tests/adversaries): each is refused, and each right twin is
+             accepted
 users        classes as people bring them (java/tests/users): the verdicts that an expert wrote down before
 larger       accepted sources of ordinary style (java/tests/larger)
 mutants      these, each time without one lock, guard or @Holding: each is told, or its line says why that is harmless
@@ -44,7 +45,10 @@ class Tester:
         """A run that must end with an answer about the sources."""
         answer = run(options, files, self.program)
         if answer.status not in (0, 2):
-            self.tell(f"status {answer.status} of {len(files)} sources from {files[0]} on: {answer.rest[:3]} {answer.lines[:3]}")
+            self.tell(
+                f"status {answer.status} of {len(files)} sources from {files[0]} on: "
+                f"{answer.rest[:3]} {answer.lines[:3]}"
+            )
         return answer
 
     def marked(self, shown: str, text: str, file: Path, answer: Answer, whole: bool) -> None:
@@ -63,8 +67,10 @@ class Tester:
         """Each adversary in a package of its own, many in one run."""
         for batch in batches(sorted((TESTS / "adversaries").glob("*.java")), 25):
             texts = {path: path.read_text(encoding="utf-8") for path in batch}
-            copies = {path: write_into_package(text, "adversary." + path.stem.lower(), self.folder, path.name)
-                      for path, text in texts.items()}
+            copies = {
+                path: write_into_package(text, "adversary." + path.stem.lower(), self.folder, path.name)
+                for path, text in texts.items()
+            }
             answer = self.judged([], list(copies.values()))
             for path, text in texts.items():
                 self.marked(path.name, text, copies[path], answer, whole=False)
@@ -103,11 +109,16 @@ class Tester:
         """Each mutant in a package of its own, many in one run."""
         answer = self.judged([], sorted((TESTS / "larger").glob("*.java")))
         self.races = {(Path(line.file).name, line.line, line.text) for line in answer.lines if RACE in line.text}
-        made = [(path, mutant) for path in sorted((TESTS / "larger").glob("*.java"))
-                for mutant in mutants(path.read_text(encoding="utf-8"))]
+        made = [
+            (path, mutant)
+            for path in sorted((TESTS / "larger").glob("*.java"))
+            for mutant in mutants(path.read_text(encoding="utf-8"))
+        ]
         for number, batch in enumerate(batches(made, 20)):
-            copies = [write_into_package(mutant.text, f"mutant{number}_{place}", self.folder, path.name)
-                      for place, (path, mutant) in enumerate(batch)]
+            copies = [
+                write_into_package(mutant.text, f"mutant{number}_{place}", self.folder, path.name)
+                for place, (path, mutant) in enumerate(batch)
+            ]
             answer = self.judged([], copies)
             for (path, mutant), copy in zip(batch, copies):
                 self.mutant(path, mutant, copy, answer)
@@ -115,7 +126,11 @@ class Tester:
     def mutant(self, path: Path, mutant: Mutant, copy: Path, answer: Answer) -> None:
         """A mutant is told by an error, or a race that the source hasn't."""
         self.count += 1
-        told = [line for line in answer.lines if line.file == str(copy) and (line.kind == "error" or self.is_new(path, line))]
+        told = [
+            line
+            for line in answer.lines
+            if line.file == str(copy) and (line.kind == "error" or self.is_new(path, line))
+        ]
         shown = f"{path.name}:{mutant.line}: without {mutant.taken!r}"
         if mutant.harmless:
             self.harmless.append(f"{shown} ({mutant.harmless})")
