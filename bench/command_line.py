@@ -13,7 +13,7 @@ import os
 import sys
 from collections.abc import Sequence
 from types import TracebackType
-from typing import Any, Optional
+from typing import Any, NoReturn, Optional
 
 HERE = os.path.dirname(os.path.abspath(__file__))
 TOP = os.path.dirname(HERE)
@@ -36,10 +36,17 @@ sys.excepthook = end_of
 
 
 class Words(argparse.ArgumentParser):
-    """A parser that takes options between other words, too."""
+    """A parser that takes options between other words, too, and ends with a status that the script may choose where
+    words are wrong."""
+
+    wrong = 2
 
     def parse_args(self, args: Optional[Sequence[str]] = None, namespace: Any = None) -> Any:
         return self.parse_intermixed_args(args, namespace)
+
+    def error(self, message: str) -> NoReturn:
+        self.print_usage(sys.stderr)
+        self.exit(self.wrong, f"{self.prog}: error: {message}\n")
 
 
 def words_of(text: Optional[str]) -> Words:

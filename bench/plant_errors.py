@@ -1,19 +1,22 @@
 #!/usr/bin/env python3
-"""plant_errors.py WHY [COUNT] [--show]: plants one error in accepted sources, and counts how often the place that `atomic_why` names is
-the planted one.
+"""plant_errors.py WHY [COUNT] [--show]: plants one error in accepted sources, and counts how often the place that
+`atomic_why` names is the planted one.
 
-WHY is the built `atomic_why`. The sources are the accepted examples and random programs, COUNT in all (200 unless said); then ten larger
-ones, each of them ten such sources together. In each of the former each possible error of four kinds is planted by itself, in each of the
-larger ones one that is drawn: a `synchronized` loses its lock, a method loses its `requires`, a field loses its guard, a `synchronized`
-block is split in two between two of its statements. What is still accepted, or no longer well-formed, doesn't count.
+The sources are the accepted examples and random programs, COUNT in all; then ten larger ones, each of them ten such
+sources together. In each of the former each possible error of four kinds is planted by itself, in each of the larger
+ones one that is drawn: a `synchronized` loses its lock, a method loses its `requires`, a field loses its guard, a
+`synchronized` block is split in two between two of its statements. What is still accepted, or no longer well-formed,
+doesn't count.
 
 Named is the place of the first explanation that doesn't hand on to that of another method. It is right where it lies
   lock      in the block that lost its lock
   requires  in the method that lost its `requires`
   guard     at an access to the field that lost its guard
   split     in one of the two blocks, and the second of two steps in the second
-With --show each wrong one is written. The exit status is 0 where nine in ten are right, of the former and of the larger ones.
+The exit status is 0 where nine in ten are right, of the former and of the larger ones.
 """
+from __future__ import annotations
+
 import collections
 import os
 import random
@@ -21,10 +24,14 @@ import re
 import subprocess
 import sys
 import tempfile
+from collections.abc import Callable, Iterator
+from dataclasses import dataclass
+from typing import Optional
 
+from command_line import TOP, WHY, count_of, program_of, words_of
 from random_source import Generator
 
-EXAMPLES = os.path.join(os.path.dirname(os.path.abspath(__file__)), "..", "examples")
+EXAMPLES = os.path.join(TOP, "examples")
 TOKEN = re.compile(r"//[^\n]*|/\*.*?\*/|[A-Za-z_]\w*|\d+|\S", re.S)
 LINE = re.compile(r"(.*?):(\d+):(\d+): (?:error|note): (.*) \[([a-z-]+)\]")
 # a second step that is cmpd is a call of the method itself, and hands on to nothing
@@ -36,52 +43,63 @@ PLACES |= {"guard-not-held", "guard-unnamed", "required-not-held", "required-unn
 KINDS = ["lock", "split", "requires", "guard"]
 LARGER, TOGETHER = 10, 10
 
-# An error: its kind, the source that has it, and whether the places and texts that are named are right.
-Planted = collections.namedtuple("Planted", "kind text is_right")
+# A note that names a place: its row, its column, and its text.
+Note = tuple[int, int, str]
+
+
+@dataclass(frozen=True)
+class Planted:
+    """An error: its kind, the source that has it, and whether the places and texts that are named are right."""
+
+    kind: str
+    text: str
+    is_right: Callable[[list[int], list[str]], bool]
 
 
 class Tokens:
     """The words of a text and where each begins."""
 
-    def __init__(self, text):
+    def __init__(self, text: str) -> None:
         found = [match for match in TOKEN.finditer(text) if not match.group().startswith(("//", "/*"))]
-        self.text, self.words, self.places = text, [m.group() for m in found], [m.start() for m in found]
+        self.text, self.words = text, [match.group() for match in found]
+        self.places = [match.start() for match in found]
 
-    def partner(self, k):
-        """The number of the bracket that closes the one with number k."""
-        opens, depth = self.words[k], 0
+    def partner(self, number: int) -> int:
+        """The number of the bracket that closes the one with this number."""
+        opens, depth = self.words[number], 0
         closes = {"(": ")", "{": "}"}[opens]
-        for j in range(k, len(self.words)):
-            depth += (self.words[j] == opens) - (self.words[j] == closes)
+        for other in range(number, len(self.words)):
+            depth += (self.words[other] == opens) - (self.words[other] == closes)
             if depth == 0:
-                return j
+                return other
         raise ValueError(f"{opens} isn't closed")
 
-    def ends_of(self, first, last):
+    def ends_of(self, first: int, last: int) -> list[int]:
         """The last tokens of the statements of a block, between its braces, but for the last statement."""
-        ends, k = [], first + 1
-        while k < last:
-            end = self.partner(k) if self.words[k] in "({" else k
+        ends, number = [], first + 1
+        while number < last:
+            end = self.partner(number) if self.words[number] in "({" else number
             if self.words[end] in ";}" and end + 1 < last and self.words[end + 1] != "else":
                 ends.append(end)
-            k = end + 1
+            number = end + 1
         return ends
 
 
-def blanked(text, first, last):
+def blanked(text: str, first: int, last: int) -> str:
     """The text with blanks from one offset up to another, on the same lines."""
     return text[:first] + re.sub(r"[^\n]", " ", text[first:last]) + text[last:]
 
 
-def within(first, last):
+def within(first: int, last: int) -> Callable[[list[int], list[str]], bool]:
+    """Whether a place that is named lies between two offsets."""
     return lambda places, told: any(first <= place <= last for place in places)
 
 
-def block_errors(tokens, k):
-    """The errors of the `synchronized` with number k: without its lock, and split behind each of its statements."""
-    opening = tokens.partner(k + 1) + 1
+def block_errors(tokens: Tokens, number: int) -> Iterator[Planted]:
+    """The errors of the `synchronized` with this number: without its lock, and split behind each of its statements."""
+    opening = tokens.partner(number + 1) + 1
     closing = tokens.partner(opening)
-    at, first, last = (tokens.places[j] for j in (k, opening, closing))
+    at, first, last = (tokens.places[one] for one in (number, opening, closing))
     yield Planted("lock", blanked(tokens.text, at, first), within(first, last))
     more = "} " + tokens.text[at:first] + "{"
     for end in tokens.ends_of(opening, closing):
@@ -89,39 +107,46 @@ def block_errors(tokens, k):
         yield Planted("split", tokens.text[:cut] + more + tokens.text[cut:], in_both(at, cut, last + len(more)))
 
 
-def in_both(first, cut, last):
+def in_both(first: int, cut: int, last: int) -> Callable[[list[int], list[str]], bool]:
+    """Whether the first place that is named lies in front of the cut, and the second one behind it."""
     return lambda places, told: first <= places[0] <= cut and (len(places) < 2 or cut < places[1] <= last)
 
 
-def requires_error(tokens, k):
-    opening = tokens.words.index("{", k)
+def requires_error(tokens: Tokens, number: int) -> Planted:
+    """The error of the `requires` with this number: its method lacks it."""
+    opening = tokens.words.index("{", number)
     first, last = tokens.places[opening], tokens.places[tokens.partner(opening)]
-    return Planted("requires", blanked(tokens.text, tokens.places[k], first), within(first, last))
+    return Planted("requires", blanked(tokens.text, tokens.places[number], first), within(first, last))
 
 
-def guard_error(tokens, k):
-    name, end = tokens.words[k - 1], tokens.places[tokens.words.index(";", k)]
+def guard_error(tokens: Tokens, number: int) -> Planted:
+    """The error of the guard with this number: its field lacks it."""
+    name, end = tokens.words[number - 1], tokens.places[tokens.words.index(";", number)]
     access = re.compile(rf"(reads|writes) \S*\b{name},")
-    return Planted("guard", blanked(tokens.text, tokens.places[k], end), lambda places, told: any(access.search(text) for text in told))
+    text = blanked(tokens.text, tokens.places[number], end)
+    return Planted("guard", text, lambda places, told: any(access.search(each) for each in told))
 
 
-def errors_of(text):
+def errors_of(text: str) -> Iterator[Planted]:
     """Every error that can be planted in a text."""
     tokens = Tokens(text)
-    for k, word in enumerate(tokens.words):
+    for number, word in enumerate(tokens.words):
         if word == "synchronized":
-            yield from block_errors(tokens, k)
+            yield from block_errors(tokens, number)
         elif word == "requires":
-            yield requires_error(tokens, k)
+            yield requires_error(tokens, number)
         elif word in ("guarded_by", "write_guarded_by"):
-            yield guard_error(tokens, k)
+            yield guard_error(tokens, number)
 
 
-def blocks_of(lines):
+def blocks_of(lines: list[str]) -> list[tuple[str, list[Note]]]:
     """The explanations: of each the method, and its notes that name a place."""
-    blocks = []
+    blocks: list[tuple[str, list[Note]]] = []
     for line in lines:
-        _, row, column, text, code = LINE.fullmatch(line).groups()
+        found = LINE.fullmatch(line)
+        if found is None:
+            raise ValueError(f"{line} is no line of an explanation")
+        _, row, column, text, code = found.groups()
         if code in HEADS:
             blocks.append((text.split()[0], []))
         elif code in PLACES:
@@ -129,7 +154,7 @@ def blocks_of(lines):
     return blocks
 
 
-def named(text, lines):
+def named(text: str, lines: list[str]) -> Optional[tuple[list[int], list[str]]]:
     """The places and texts that the first explanation names which doesn't hand on to that of another method."""
     starts = [0]
     for line in text.split("\n"):
@@ -144,21 +169,25 @@ def named(text, lines):
 
 
 class Trial:
-    def __init__(self, program, folder, show):
-        self.program, self.folder, self.show = program, folder, show
-        self.right, self.all = collections.Counter(), collections.Counter()
+    """Asks the program about sources, and counts where it names the planted place."""
 
-    def told(self, text):
+    def __init__(self, program: str, folder: str, show: bool) -> None:
+        self.program, self.folder, self.show = program, folder, show
+        self.right: collections.Counter[str] = collections.Counter()
+        self.all: collections.Counter[str] = collections.Counter()
+
+    def told(self, text: str) -> tuple[int, list[str]]:
+        """The status and the lines of the program for a source."""
         path = os.path.join(self.folder, "planted.java")
         with open(path, "w", encoding="ascii") as file:
             file.write(text)
         done = subprocess.run([self.program, path], capture_output=True)
         return done.returncode, done.stdout.decode().splitlines()
 
-    def is_accepted(self, text):
+    def is_accepted(self, text: str) -> bool:
         return self.told(text)[0] == 0
 
-    def looks(self, planted, group):
+    def looks(self, planted: Planted, group: str) -> bool:
         """Whether a planted error is refused, and so counts."""
         status, lines = self.told(planted.text)
         if status != 2:
@@ -171,7 +200,7 @@ class Trial:
             print(f"---- {group}\n{planted.text}\n" + "\n".join(lines))
         return True
 
-    def tell(self, groups):
+    def tell(self, groups: list[str]) -> bool:
         """The figures of these groups and of all of them together; whether nine in ten are right."""
         for group in groups:
             print(f"{group}: {self.right[group]} of {self.all[group]}")
@@ -180,7 +209,7 @@ class Trial:
         return right * 10 >= every * 9
 
 
-def accepted_sources(trial, count):
+def accepted_sources(trial: Trial, count: int) -> list[str]:
     """The accepted examples, and accepted random programs, so many in all."""
     found = []
     for name in sorted(os.listdir(EXAMPLES)):
@@ -196,16 +225,16 @@ def accepted_sources(trial, count):
     return found
 
 
-def together(texts):
+def together(texts: list[str]) -> str:
     """One source of several: each with class names of its own, and a `Main` that does nothing."""
     out = []
     for number, text in enumerate(texts):
         names = re.findall(r"\bclass (\w+)", text)
-        out.append(re.sub(rf"\b({'|'.join(names)})\b", lambda match, number=number: f"{match[1]}{number}", text))
+        out.append(re.sub(rf"\b({'|'.join(names)})\b", rf"\g<1>{number}", text))
     return "\n".join(out) + "\nclass Main { void main() { } }\n"
 
 
-def try_larger(trial, sources):
+def try_larger(trial: Trial, sources: list[str]) -> None:
     """One error in each of some larger sources, the kinds by turns."""
     chooser = random.Random(7)
     for number in range(LARGER):
@@ -217,13 +246,17 @@ def try_larger(trial, sources):
         print(f"{text.count(chr(10))} lines, {len(errors)} possible errors, planted: {kind}")
 
 
-def main():
-    words = [word for word in sys.argv[1:] if word != "--show"]
-    if len(words) not in (1, 2) or words[0].startswith("-"):
-        sys.exit(__doc__.strip())
+def main() -> None:
+    parser = words_of(__doc__)
+    parser.add_argument("why", metavar="WHY", type=program_of, help=WHY)
+    parser.add_argument(
+        "count", metavar="COUNT", type=count_of, nargs="?", default=200, help="how many sources (default: 200)"
+    )
+    parser.add_argument("--show", action="store_true", help="write each error whose place isn't named")
+    words = parser.parse_args()
     with tempfile.TemporaryDirectory() as folder:
-        trial = Trial(os.path.abspath(words[0]), folder, "--show" in sys.argv)
-        sources = accepted_sources(trial, int((words + ["200"])[1]))
+        trial = Trial(words.why, folder, words.show)
+        sources = accepted_sources(trial, words.count)
         for text in sources:
             for error in errors_of(text):
                 trial.looks(error, error.kind)
@@ -232,4 +265,5 @@ def main():
         sys.exit(0 if trial.tell(["larger"]) and is_good else 1)
 
 
-main()
+if __name__ == "__main__":
+    main()

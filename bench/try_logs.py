@@ -1,70 +1,89 @@
 #!/usr/bin/env python3
 """try_logs.py [-n NUMBER] [-s SEED]: random logs, judged by judge_log.py, and each answer looked at.
 
-Threads with random scripts run under a random scheduler, which writes a log; a part of the logs is damaged then: lines are
-swapped, dropped, repeated or changed. A log that is judged serial must have a serial order, and that is made here, from the
-commit places of its blocks, and run again: each thread's lines in their own order, each possible where it stands, the same
-end, no block interrupted. A log that stops at a line must be possible up to there.
+Threads with random scripts run under a random scheduler, which writes a log; a part of the logs is damaged then: lines
+are swapped, dropped, repeated or changed. A log that is judged serial must have a serial order, and that is made here,
+from the commit places of its blocks, and run again: each thread's lines in their own order, each possible where it
+stands, the same end, no block interrupted. A log that stops at a line must be possible up to there.
 """
-import argparse
+from __future__ import annotations
+
 import random
 import sys
+from collections.abc import Iterable, Mapping
+from dataclasses import dataclass, field
+from typing import Optional
 
-from judge_log import Guess, Judge, Refused, judge
+from command_line import count_of, words_of
+from judge_log import Guess, Judge, judge
+
+# The words of a line, and those of a line whose value the run gives.
+Line = list[str]
+Open = list[Optional[str]]
 
 KINDS_LEFT = ("left", "other")
 
 
-def script(random, thread, others):
+def access(chance: random.Random, places: str) -> Open:
+    """A line that touches one of the places."""
+    place = chance.choice(places)
+    lines: list[Open] = [
+        ["read", place, None],
+        ["write", place, str(chance.randrange(3))],
+        ["change", place, None, str(chance.randrange(3))],
+    ]
+    return chance.choice(lines)
+
+
+def guarded(chance: random.Random) -> list[Open]:
+    """Some lines under a lock that most often guards what they touch."""
+    lock = chance.choice("lm")
+    own = "x" if lock == "l" else "y"
+    inside = [access(chance, own if chance.random() < 0.95 else "xyz") for _ in range(chance.randrange(3))]
+    if chance.random() < 0.2:
+        inside = [["take", lock], *inside, ["give", lock]]
+    return [["take", lock], *inside, ["give", lock]]
+
+
+def script(chance: random.Random, thread: str, others: list[str]) -> list[Open]:
     """What a thread does: lines of words, in blocks or not."""
-    lines = []
-
-    def access(places="xyz"):
-        place = random.choice(places)
-        return [random.choice([["read", place, None], ["write", place, str(random.randrange(3))], ["change", place, None, str(random.randrange(3))]])]
-
-    def guarded():
-        lock = random.choice("lm")
-        own = "x" if lock == "l" else "y"
-        inside = [access(own if random.random() < 0.95 else "xyz")[0] for _ in range(random.randrange(3))]
-        if random.random() < 0.2:
-            inside = [["take", lock]] + inside + [["give", lock]]
-        return [["take", lock]] + inside + [["give", lock]]
-
-    for _ in range(random.randrange(1, 4)):
-        body = []
-        for _ in range(random.choice([1, 1, 1, 2])):
-            body += guarded() if random.random() < 0.9 else access("z")
-        if random.random() < 0.6:
-            name = random.choice(["A", "B"])
-            body = [["begin", name]] + body + [["end"]]
+    lines: list[Open] = []
+    for _ in range(chance.randrange(1, 4)):
+        body: list[Open] = []
+        for _ in range(chance.choice([1, 1, 1, 2])):
+            body += guarded(chance) if chance.random() < 0.9 else [access(chance, "z")]
+        if chance.random() < 0.6:
+            name = chance.choice(["A", "B"])
+            body = [["begin", name], *body, ["end"]]
         lines += body
     for other in others:
-        lines.insert(random.randrange(len(lines) + 1), ["start", other])
-        if random.random() < 0.5:
+        lines.insert(chance.randrange(len(lines) + 1), ["start", other])
+        if chance.random() < 0.5:
             lines.append(["join", other])
-    if random.random() < 0.7 or others == []:
+    if chance.random() < 0.7 or others == []:
         lines.append(["stop"])
-    return [[thread] + line for line in lines]
+    return [[thread, *line] for line in lines]
 
 
 class World:
     """Locks, places and threads as they are; a line is possible or not."""
 
-    def __init__(self, places=None, absent=()):
-        self.locks, self.places, self.absent, self.ended = {}, dict(places or {}), set(absent), set()
-        self.depth = {}
+    def __init__(self, places: Mapping[str, str], absent: Iterable[str]) -> None:
+        self.locks: dict[str, tuple[str, int]] = {}
+        self.places, self.absent = dict(places), set(absent)
+        self.ended: set[str] = set()
+        self.depth: dict[str, int] = {}
 
-    def possible(self, line):
-        thread, deed = line[0], line[1]
+    def possible(self, line: Open) -> bool:
+        thread, deed = str(line[0]), line[1]
         if thread in self.absent or thread in self.ended:
             return False
         if deed == "take":
-            return self.locks.get(line[2], (thread, 0))[0] == thread
+            return self.locks.get(str(line[2]), (thread, 0))[0] == thread
         if deed == "give":
-            return self.locks.get(line[2], (None, 0))[0] == thread
+            return str(line[2]) in self.locks and self.locks[str(line[2])][0] == thread
         if deed in ("read", "change"):
-            return line[3] is None or self.places.get(line[2], "0") == line[3]
+            return line[3] is None or self.places.get(str(line[2]), "0") == line[3]
         if deed == "start":
             return line[2] in self.absent
         if deed == "join":
@@ -73,7 +92,7 @@ class World:
             return self.depth.get(thread, 0) > 0
         return True
 
-    def do(self, line):
+    def do(self, line: Line) -> None:
         thread, deed = line[0], line[1]
         if deed == "take":
             self.locks[line[2]] = (thread, self.locks.get(line[2], (thread, 0))[1] + 1)
@@ -94,52 +113,58 @@ class World:
         elif deed == "end":
             self.depth[thread] -= 1
 
-    def state(self):
+    def state(self) -> tuple[dict[str, tuple[str, int]], dict[str, str], set[str], set[str]]:
         return self.locks, {p: v for p, v in self.places.items() if v != "0"}, self.absent, self.ended
 
 
-def run(random, crowd):
+def run(chance: random.Random, crowd: int) -> list[Line]:
     """A log of a run: scripts under a random scheduler, until none can go on."""
-    names = [f"t{i}" for i in range(random.randrange(2, 5))]
-    scripts = {name: script(random, name, names[1:] if name == "t0" and random.random() < 0.5 else []) for name in names}
-    started = {line[2] for lines in scripts.values() for line in lines if line[1] == "start"}
-    world, log = World(absent=started), []
+    names = [f"t{number}" for number in range(chance.randrange(2, 5))]
+    scripts = {
+        name: script(chance, name, names[1:] if name == "t0" and chance.random() < 0.5 else []) for name in names
+    }
+    started = {str(line[2]) for lines in scripts.values() for line in lines if line[1] == "start"}
+    world = World({}, started)
+    log: list[Line] = []
     while True:
-        ready = [n for n in names if scripts[n] and world.possible(scripts[n][0])]
+        ready = [name for name in names if scripts[name] and world.possible(scripts[name][0])]
         if not ready:
             return log
-        name = random.choice(ready)
-        for _ in range(random.choice([1, 1, 3, crowd])):
+        name = chance.choice(ready)
+        for _ in range(chance.choice([1, 1, 3, crowd])):
             if scripts[name] and world.possible(scripts[name][0]):
                 wanted = scripts[name].pop(0)
-                line = [world.places.get(wanted[2], "0") if w is None else w for w in wanted]
+                line = [world.places.get(str(wanted[2]), "0") if word is None else word for word in wanted]
                 world.do(line)
                 log.append(line)
 
 
-def damaged(random, log):
+def damaged(chance: random.Random, log: list[Line]) -> list[Line]:
+    """A log in which some lines were swapped, dropped, repeated or changed."""
     log = [list(line) for line in log]
-    for _ in range(random.randrange(1, 3)):
+    for _ in range(chance.randrange(1, 3)):
         if len(log) < 2:
             return log
-        i, how = random.randrange(len(log)), random.randrange(4)
+        at, how = chance.randrange(len(log)), chance.randrange(4)
         if how == 0:
-            j = random.randrange(len(log))
-            log[i], log[j] = log[j], log[i]
+            other = chance.randrange(len(log))
+            log[at], log[other] = log[other], log[at]
         elif how == 1:
-            del log[i]
+            del log[at]
         elif how == 2:
-            log.insert(random.randrange(len(log)), list(log[i]))
+            log.insert(chance.randrange(len(log)), list(log[at]))
         else:
-            line = log[i]
-            k = random.randrange(len(line))
-            line[k] = random.choice(["t0", "t1", "l", "m", "x", "0", "1", "read", "take", "stop"])
+            line = log[at]
+            word = chance.randrange(len(line))
+            line[word] = chance.choice(["t0", "t1", "l", "m", "x", "0", "1", "read", "take", "stop"])
     return log
 
 
-def first_world(log):
+def first_world(log: list[Line]) -> World:
     """What held before: each place what was seen first, each thread that is started wasn't there."""
-    places, absent, seen = {}, set(), set()
+    places: dict[str, str] = {}
+    absent: set[str] = set()
+    seen: set[str] = set()
     for line in log:
         seen.add(line[0])
         if line[1] in ("read", "change"):
@@ -153,74 +178,96 @@ def first_world(log):
     return World(places, absent)
 
 
-def replay(log):
+def replay(log: list[Line]) -> tuple[Optional[int], World]:
+    """The first line that isn't possible where it stands, and the world there."""
     world = first_world(log)
     for number, line in enumerate(log, 1):
-        if not world.possible(line):
+        if not world.possible([*line]):
             return number, world
         world.do(line)
     return None, world
 
 
-def kinds_of(log):
+def kinds_of(log: list[Line]) -> list[str]:
+    """The kind of each line."""
     guess = Guess()
-    lines = [[w.encode() for w in line] for line in log]
+    lines = [[word.encode() for word in line] for line in log]
     for words in lines:
         guess.note(words)
     run_of = Judge("log", guess.guards())
     return [run_of.turn(number, words) for number, words in enumerate(lines, 1)]
 
 
-def serial_order(log):
+@dataclass
+class Unit:
+    """Lines of one thread that nothing may stand between: a block, or a line outside of all blocks."""
+
+    lines: list[Line] = field(default_factory=list)
+    commit: Optional[int] = None
+    last: int = 0
+
+    def place(self) -> int:
+        """Where the unit takes effect."""
+        return self.last if self.commit is None else self.commit
+
+
+def serial_order(log: list[Line]) -> list[Line]:
     """The units of a log in order of their commit places."""
-    units, open_units, depth = [], {}, {}
+    units: list[Unit] = []
+    open_units: dict[str, Unit] = {}
+    depth: dict[str, int] = {}
     for place, (line, kind) in enumerate(zip(log, kinds_of(log))):
         thread = line[0]
         depth[thread] = depth.get(thread, 0) + (line[1] == "begin") - (line[1] == "end")
-        unit = open_units.setdefault(thread, {"lines": [], "commit": None})
-        unit["lines"].append(line)
-        unit["last"] = place
-        if kind in KINDS_LEFT and unit["commit"] is None:
-            unit["commit"] = place
+        unit = open_units.setdefault(thread, Unit())
+        unit.lines.append(line)
+        unit.last = place
+        if kind in KINDS_LEFT and unit.commit is None:
+            unit.commit = place
         if depth[thread] == 0:
             units.append(unit)
             del open_units[thread]
     assert not open_units
-    units.sort(key=lambda u: u["last"] if u["commit"] is None else u["commit"])
-    return [line for unit in units for line in unit["lines"]]
+    units.sort(key=Unit.place)
+    return [line for unit in units for line in unit.lines]
 
 
-def look(log, status):
+def wrong_order(log: list[Line], world: World) -> Optional[str]:
+    """What is wrong with the serial order of a log that ends in this world; none where nothing is."""
+    order = serial_order(log)
+    again = first_world(log)
+    for line in order:
+        if not again.possible([*line]):
+            return f"the serial order can't be: {line}"
+        again.do(line)
+    if again.state() != world.state():
+        return "the serial order ends otherwise"
+    depth: dict[str, int] = {}
+    for one, two in zip(order, order[1:]):
+        depth[one[0]] = depth.get(one[0], 0) + (one[1] == "begin") - (one[1] == "end")
+        if depth[one[0]] and two[0] != one[0]:
+            return "the serial order interrupts a block"
+    return None
+
+
+def wrong_answer(log: list[Line], status: int, lines: list[str]) -> Optional[str]:
     """What is wrong with an answer; none where nothing is."""
     if status == 1:
         return None
     stop, world = replay(log)
+    if status == 3 and (stop is None or not lines[0].startswith(f"log:{stop}:")):
+        return f"stops at another line than {stop}"
     if status == 0:
-        if stop is not None:
-            return "judged serial, but a line isn't possible"
-        order = serial_order(log)
-        again = first_world(log)
-        for line in order:
-            if not again.possible(line):
-                return f"the serial order can't be: {line}"
-            again.do(line)
-        if again.state() != world.state():
-            return "the serial order ends otherwise"
-        depth = {}
-        for one, two in zip(order, order[1:]):
-            depth[one[0]] = depth.get(one[0], 0) + (one[1] == "begin") - (one[1] == "end")
-            if depth[one[0]] and two[0] != one[0]:
-                return "the serial order interrupts a block"
-        return None
+        return "judged serial, but a line isn't possible" if stop is not None else wrong_order(log, world)
     return None if status in (2, 3, 4) else f"status {status}"
 
 
-def main():
-    parser = argparse.ArgumentParser(description=__doc__.split("\n")[0])
-    parser.add_argument("-n", type=int, default=10000, help="how many logs")
-    parser.add_argument("-s", type=int, default=1, help="the seed")
+def main() -> None:
+    parser = words_of(__doc__)
+    parser.add_argument("-n", metavar="NUMBER", type=count_of, default=10000, help="how many logs (default: 10000)")
+    parser.add_argument("-s", metavar="SEED", type=count_of, default=1, help="the first seed (default: 1)")
     words = parser.parse_args()
-    counts = {}
+    counts: dict[int, int] = {}
     for seed in range(words.s, words.s + words.n):
         chance = random.Random(seed)
         log = run(chance, 9)
@@ -228,10 +275,7 @@ def main():
             log = damaged(chance, log)
         text = "".join(" ".join(line) + "\n" for line in log).encode()
         status, lines = judge("log", text)
-        stop, _ = (None, None) if status == 1 else replay(log)
-        if status == 3 and (stop is None or not lines[0].startswith(f"log:{stop}:")):
-            sys.exit(f"seed {seed}: stops at another line than {stop}: {lines}\n{text.decode()}")
-        wrong = look(log, status)
+        wrong = wrong_answer(log, status, lines)
         if wrong:
             sys.exit(f"seed {seed}: {wrong}\n{text.decode()}{lines}")
         counts[status] = counts.get(status, 0) + 1
