@@ -100,7 +100,8 @@ class ToolsChecker:
 
     def commands(self, *names: str) -> None:
         """The blocks that begin with a command line."""
-        for command, text in re.findall(r"^```\n\$ (atomic(?:_|-(?!java)).*)\n((?:.*\n)*?)```$", read(*names), re.MULTILINE):
+        block = r"^```\n\$ (atomic(?:_|-(?!java)).*)\n((?:.*\n)*?)```$"
+        for command, text in re.findall(block, read(*names), re.MULTILINE):
             self.expect(f"{os.path.join(*names)}: {command}", text, self.run(command)[1])
 
     def manuals(self) -> None:

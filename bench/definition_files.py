@@ -49,8 +49,8 @@ class File:
         self.aliases: dict[str, str] = {}
         self.definitions: dict[str, Definition] = {}
         self.constructors: dict[str, list[str]] = {}
-        # the whole text of each item: of a definition its signature and clauses, of a record or a data type its fields or
-        # constructors
+        # the whole text of each item: of a definition its signature and clauses, of a record or a data type its fields
+        # or constructors
         self.items: dict[str, str] = {}
 
     def use(self, line: str) -> None:

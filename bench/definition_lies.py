@@ -1,4 +1,5 @@
-"""Small lies in definitions: what a slip of the pen would write, and which of them only exchange what may be exchanged."""
+"""Small lies in definitions: what a slip of the pen would write, and which of them only exchange what may be
+exchanged."""
 from __future__ import annotations
 
 import re
@@ -32,8 +33,8 @@ FAMILIES = [
 # functions for which the order of two arguments makes no difference, with how many stand before these
 COMMUTE = {"int_wrapping_add": 1, "int_wrapping_mul": 1, "pointwise": 1, "binary_type": 2}
 for _name in (
-    "seq_of join_of max min path_eq address_eq value_eq int_eq nat_eq bytes_eq is_same_type cond_eq same_mark are_alike "
-    "is_same_result is_same_signature same_where_known are_same_places same_kind"
+    "seq_of join_of max min path_eq address_eq value_eq int_eq nat_eq bytes_eq is_same_type cond_eq same_mark "
+    "are_alike is_same_result is_same_signature same_where_known are_same_places same_kind"
 ).split():
     COMMUTE[_name] = 0
 # lists of faults, of which the first by offset and rank is told, wherever it stands

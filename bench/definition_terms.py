@@ -20,7 +20,8 @@ class Unreadable(Exception):
 # ---- terms
 
 TOKEN = re.compile(
-    r"""\s+|(?P<string>"(?:[^"\\]|\\.)*")|(?P<number>\d+)|(?P<dot>\.(?=[\w◌]))|(?P<name>[^\W\d][\w']*(?:-[\w']+)*)|(?P<hole>◌\S*◌)"""
+    r"""\s+|(?P<string>"(?:[^"\\]|\\.)*")|(?P<number>\d+)|(?P<dot>\.(?=[\w◌]))|(?P<name>[^\W\d][\w']*(?:-[\w']+)*)"""
+    r"""|(?P<hole>◌\S*◌)"""
     r"""|(?P<op>>>=|\+\+|&&|\|\||==|[()\[\]{},;=λ.∷+\-*^≡≢≤<→×⊎¬:⊥?])"""
 )
 # how tightly operators bind, and on which side they associate

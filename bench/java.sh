@@ -1,8 +1,8 @@
 #!/bin/sh
 # usage: java.sh [OUT]
-# Builds `atomic-java`, which judges Java sources, with javac alone: OUT (java/out) gets atomic-java.jar and the launcher
-# atomic-java. The launcher wants `atomic_why`: named by ATOMIC_WHY, or beside it, or in the path; a checkout's own is
-# found too. Where there is none, `bench/quick.sh why` builds one.
+# Builds `atomic-java`, which judges Java sources, with javac alone: OUT (java/out) gets atomic-java.jar and the
+# launcher atomic-java. The launcher wants `atomic_why`: named by ATOMIC_WHY, or beside it, or in the path; a checkout's
+# own is found too. Where there is none, `bench/quick.sh why` builds one.
 set -eu
 top=$(cd "$(dirname "$0")/.." && pwd)
 case ${1-} in -*) sed -n '2,5s/^# \{0,1\}//p' "$0"; exit 2 ;; esac

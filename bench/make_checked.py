@@ -19,8 +19,8 @@ pairs       3,162 empty classes that inherit as many methods each: ten million p
 sets        a method with eight relevant paths that is called at each of their 256 parts, for `levels`
 sets_calls  500 of these that call each other
 sets_rise   as many as fit, called under more and more levels, of which each comes to them later than the one before
-floors      a chain of methods with eight relevant paths whose effect rises three times at each of their 256 parts, round by round; with
-            `refused` the longest certificate that was found
+floors      a chain of methods with eight relevant paths whose effect rises three times at each of their 256 parts,
+            round by round; with `refused` the longest certificate that was found
 """
 from __future__ import annotations
 
@@ -71,11 +71,11 @@ def filled(head: str, part: Callable[[int], str], tail: str) -> str:
 
 
 def classes() -> str:
-    return filled(
-        MAIN,
-        lambda k: f"class C{k} {{ int v guarded_by this; atomic void f() {{ synchronized (this) {{ this.v = {k}; }} }} }}\n",
-        "",
-    )
+    def one(k: int) -> str:
+        body = f"synchronized (this) {{ this.v = {k}; }}"
+        return f"class C{k} {{ int v guarded_by this; atomic void f() {{ {body} }} }}\n"
+
+    return filled(MAIN, one, "")
 
 
 def methods() -> str:

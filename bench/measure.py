@@ -51,9 +51,8 @@ class Measured(NamedTuple):
 def rows() -> list[Row]:
     """Each kind of each command, from the smallest size to the whole."""
     named: list[tuple[str, tuple[str, ...]]] = [("print", ("full",)), *(("check", (kind,)) for kind in KINDS)]
-    named += [
-        (command, (kind, f"{kind}.schedule")) for kind in SCHEDULES for command in ("run", "serialise", "serialise-open")
-    ]
+    for kind in SCHEDULES:
+        named += [(command, (kind, f"{kind}.schedule")) for command in ("run", "serialise", "serialise-open")]
     hostile = [Row("check", (kind,), 1) for kind in HOSTILE]
     return [Row(command, files, share) for command, files in named for share in SHARES] + hostile
 

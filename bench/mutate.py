@@ -17,9 +17,9 @@ One line for each lie that stands, with the place, the old text and the new one,
   never     no example computes the clause
   STANDS    examples compute it, and notice nothing: an example is missing, or both read the same
 Lies that only exchange what may be exchanged, as the arguments of `seq_of` or `max`, are counted and not printed.
-`--cited commands/Headline` takes only definitions that this file cites, directly or through others, and with no crates named all of them.
-`--list` only prints the lies; `--every N` tries each N-th. What is about types (a definition whose value is a type, a field of a record)
-isn't tried: it computes nothing. The exit status is 0 where all were noticed."""
+`--cited commands/Headline` takes only definitions that this file cites, directly or through others, and with no crates
+named all of them. `--list` only prints the lies; `--every N` tries each N-th. What is about types (a definition whose
+value is a type, a field of a record) isn't tried: it computes nothing. The exit status is 0 where all were noticed."""
 from __future__ import annotations
 
 import shutil

@@ -1,9 +1,9 @@
 #!/bin/sh
 # usage: package.sh [--unproved] FOLDER
 # Makes FOLDER/atomic_VERSION_amd64.deb of the proved programs crates/atomic_cli/out/atomic_cli and
-# crates/atomic_why/out/atomic_why: the programs, the commands of tools/, manual pages, completion for bash, examples and
-# documents. It then installs the package into an empty root and runs it there. docs/formats.md says how the version is
-# made.
+# crates/atomic_why/out/atomic_why: the programs, the commands of tools/, manual pages, completion for bash, examples
+# and documents. It then installs the package into an empty root and runs it there. docs/formats.md says how the version
+# is made.
 #
 # With --unproved it takes what quick.sh builds, or what ATOMIC and ATOMIC_WHY name; the version says so. A proved
 # program that is older than a file of the crates is refused. The package gets its name when it is whole and was tried.

@@ -66,7 +66,8 @@ def keep_digest(path: str, digest: str) -> None:
 
 
 def clip_of(name: str, page: Page) -> Clip:
-    """The area of the picture: of the listing its head and the refused method with its neighbours; else the schedule."""
+    """The area of the picture: of the listing its head and the refused method with its neighbours; else the
+    schedule."""
     if name == "witness.png":
         page.run(FOLD)
         left, top, width, height = page.run(AREA % "#schedule")

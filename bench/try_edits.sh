@@ -1,8 +1,8 @@
 #!/bin/sh
 # usage: try_edits.sh [NAME..]
-# Tries the edits in crates/NAME/edits, which the gate leaves out; without a name, those of every crate that has some.
-# A copy of the files as they stand, outside this checkout, gets them where the tool looks (must-fail/), and `rt must-fail NAME`
-# tries them there, over what checks on this machine have proved. One line for each edit: NAME/EDIT and
+# Tries the edits in crates/NAME/edits, which the gate leaves out; without a name, those of every crate that has some. A
+# copy of the files as they stand, outside this checkout, gets them where the tool looks (must-fail/), and there
+# `rt must-fail` tries them, over what checks on this machine have proved. One line for each edit: NAME/EDIT and
 #   refused     the edited crate isn't proved, as it should be
 #   PROVES      the edited crate is proved: no contract says that the edit is wrong
 #   BAD EDIT    it can't be applied or compiled, so nothing was tried
@@ -19,7 +19,8 @@ done
 copy=$(mktemp -d) || exit 2
 trap 'rm -rf "$copy"' EXIT
 trap 'exit 130' HUP INT TERM
-git ls-files -z --cached --others --exclude-standard | tar -c --null --ignore-failed-read -T - 2>/dev/null | tar -x -C "$copy"
+git ls-files -z --cached --others --exclude-standard | tar -c --null --ignore-failed-read -T - 2>/dev/null \
+    | tar -x -C "$copy"
 cd "$copy" || exit 2
 for name do
     rm -rf "crates/$name/must-fail"
@@ -40,5 +41,6 @@ for name do
     grep -qF "must-fail $name/" said || cat said
     rm -rf "crates/$name/must-fail"
 done
-sort words | uniq -c | sort -rn | awk '{ n = $1; $1 = ""; printf "%s%d%s", (NR > 1 ? ", " : ""), n, $0 } END { print "" }'
+sort words | uniq -c | sort -rn \
+    | awk '{ n = $1; $1 = ""; printf "%s%d%s", (NR > 1 ? ", " : ""), n, $0 } END { print "" }'
 ! grep -qv '^refused$' words

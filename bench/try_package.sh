@@ -1,8 +1,8 @@
 #!/bin/sh
 # usage: try_package.sh PACKAGE.deb
 # Installs the package into an empty root in which there is nothing but the C library, runs it there, and takes it away
-# again. Nothing outside of that root is changed. The commands of tools/ need Python, which the root hasn't: they run from
-# there with this machine's.
+# again. Nothing outside of that root is changed. The commands of tools/ need Python, which the root hasn't: they run
+# from there with this machine's.
 set -eu
 usage() { sed -n '2,/^set /{/^# /s/^# //p}' "$0"; exit "$1"; }
 case ${1-} in --help | -h) usage 0 ;; esac
@@ -19,13 +19,26 @@ alone='s/^Multi-Arch:.*/Multi-Arch: no/; /^Conffiles:/,/^[A-Z]/{/^Conffiles:/d; 
 dpkg-query --status libc6 | sed "$alone" > "$root/var/lib/dpkg/status"
 echo >> "$root/var/lib/dpkg/status"
 # A JDK is said to be there: atomic-java runs with this machine's.
-printf 'Package: java17-sdk-headless\nStatus: install ok installed\nMaintainer: nobody <nobody@localhost>\nArchitecture: all\nVersion: 17\nDescription: none\n\n' >> "$root/var/lib/dpkg/status"
+cat >> "$root/var/lib/dpkg/status" << 'END'
+Package: java17-sdk-headless
+Status: install ok installed
+Maintainer: nobody <nobody@localhost>
+Architecture: all
+Version: 17
+Description: none
+
+END
 ldd /bin/true | grep -o '/[^ ]*' | while read -r library; do
     mkdir -p "$root$(dirname "$library")"
     cp -L "$library" "$root$library"
 done
 find "$root" -path "$root/var" -prune -o -type f -print | sort > "$root.before"
-dpkg --root="$root" --log=/dev/null --install "$1" > "$root.said" 2>&1 || { cat "$root.said" >&2; wrong "dpkg doesn't install it"; }
+packages() {
+    dpkg --root="$root" --log=/dev/null "$@" > "$root.said" 2>&1 && return
+    cat "$root.said" >&2
+    wrong "dpkg $1 ends with an error"
+}
+packages --install "$1"
 
 # The programs, in the root.
 examples=/usr/share/doc/atomic/examples
@@ -34,19 +47,24 @@ said=$(chroot "$root" /usr/bin/atomic check $examples/repaired.java) || wrong "a
 status=0
 said=$(chroot "$root" /usr/bin/atomic_why $examples/unguarded.java) || status=$?
 [ $status = 2 ] || wrong "atomic_why ended with $status"
-case $said in "$examples/unguarded.java:4:17: error: Main.main is declared atomic, found cmpd"*) ;; *) wrong "atomic_why says $said" ;; esac
+case $said in
+"$examples/unguarded.java:4:17: error: Main.main is declared atomic, found cmpd"*) ;;
+*) wrong "atomic_why says $said" ;;
+esac
 
 # The scripts, the manual page, the completion: from the root, with this machine's programs.
 ATOMIC=$root/usr/bin/atomic ATOMIC_WHY=$root/usr/bin/atomic_why
 export ATOMIC ATOMIC_WHY
 "$root/usr/bin/atomic-page" "$root$examples/account.java" | grep -q '</html>' || wrong "atomic-page writes no page"
-[ "$("$root/usr/bin/atomic-witness" "$root$examples/tickets_race.java" | tail -n 1)" = "0*10 1*7 2*15 1*8" ] || wrong "atomic-witness"
+said=$("$root/usr/bin/atomic-witness" "$root$examples/tickets_race.java" | tail -n 1)
+[ "$said" = "0*10 1*7 2*15 1*8" ] || wrong "atomic-witness says $said"
 "$root/usr/bin/atomic-sarif" "$root$examples/account.java" | grep -q '"ruleId": "two-steps"' || wrong "atomic-sarif"
 status=0
 said=$("$root/usr/bin/atomic-java" "$root$examples/account_java.java" 2> "$root.said") || status=$?
 [ $status = 0 ] || wrong "atomic-java ended with $status: $said"
 gzip -dc "$root/usr/share/man/man1/atomic.1.gz" | grep -q '^.TH ATOMIC 1' || wrong "the manual page"
-gzip -dc "$root/usr/share/man/man1/atomic-witness.1.gz" | grep -q '^.TH ATOMIC-PAGE 1' || wrong "the manual page of the scripts"
+gzip -dc "$root/usr/share/man/man1/atomic-witness.1.gz" | grep -q '^.TH ATOMIC-PAGE 1' \
+    || wrong "the manual page of the scripts"
 bash -c '. "$1"; COMP_WORDS=(atomic se); COMP_CWORD=1; _atomic; [ "${COMPREPLY[*]}" = "serialise serialise-open" ]' - \
     "$root/usr/share/bash-completion/completions/atomic" || wrong "the completion"
 version=$(dpkg-deb --field "$1" Version)
@@ -58,5 +76,5 @@ sh -c "$(sed "s|/usr/share|$root/usr/share|g" "$root/var/lib/dpkg/info/atomic.pr
 rm "$root/var/lib/dpkg/info/atomic.prerm"
 
 # Nothing stays.
-dpkg --root="$root" --log=/dev/null --purge atomic > "$root.said" 2>&1 || { cat "$root.said" >&2; wrong "dpkg doesn't take it away"; }
+packages --purge atomic
 find "$root" -path "$root/var" -prune -o -type f -print | sort | cmp -s "$root.before" - || wrong "files stay behind"

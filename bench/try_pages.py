@@ -101,11 +101,9 @@ class Trial:
         path = self.page([name], self.folder)
         page = self.browser.open(path)
         work = page.work["TaskDuration"]
-        size = os.path.getsize(path)
-        print(
-            f"{kind}: {len(source)} bytes, page of {size}, {work:.0f} ms of its thread, {page.milliseconds:.0f} ms from begin to end",
-            flush=True,
-        )
+        size, whole = os.path.getsize(path), page.milliseconds
+        said = f"{len(source)} bytes, page of {size}, {work:.0f} ms of its thread, {whole:.0f} ms from begin to end"
+        print(f"{kind}: {said}", flush=True)
         self.expect(kind, work <= LIMIT, f"{work:.0f} ms")
         self.expect(kind, page.run(TOUCH) and not page.logged, page.logged)
 

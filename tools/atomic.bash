@@ -2,7 +2,7 @@
 # /usr/share/bash-completion/completions, it completes `atomic se<Tab>` and `atomic run counter.java <Tab>`.
 
 _atomic_words() {
-    mapfile -t COMPREPLY < <(compgen -W "$1" -- "$word")
+    mapfile -t COMPREPLY < <(compgen -W "$*" -- "$word")
 }
 
 _atomic_files() {
@@ -68,7 +68,8 @@ _atomic_tool() {
 _atomic_java() {
     local word=${COMP_WORDS[COMP_CWORD]}
     if [[ $word == -* ]]; then
-        _atomic_words "--public --infer --majority --strict --quiet --classpath --patch-module --library --emit --explain --log"
+        _atomic_words "--public --infer --majority --strict --quiet --classpath --patch-module --library --emit" \
+            "--explain --log"
     else
         _atomic_files java
     fi

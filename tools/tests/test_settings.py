@@ -128,8 +128,8 @@ class JavaHook(InPath):
 
     def setUp(self) -> None:
         super().setUp()
-        start = "git init -q . && git config user.name n && git config user.email e@localhost && git config atomic.java true"
-        self.shell(start, {})
+        named = "git config user.name n && git config user.email e@localhost"
+        self.shell(f"git init -q . && {named} && git config atomic.java true", {})
         shutil.copy(os.path.join(TOOLS, "pre-commit"), self.path("work/.git/hooks/pre-commit"))
         self.write("work/a b.java", b"class A { }\n")
 
