@@ -320,11 +320,20 @@ def main() -> int:
 
 
 def with_deep_stack(run: Callable[[], int]) -> int:
-    """Runs with room for deep recursion."""
+    """Runs with room for deep recursion, and gives the status that it ends with."""
     sys.setrecursionlimit(1_000_000)
     threading.stack_size(512 << 20)
     found: list[int] = []
-    thread = threading.Thread(target=lambda: found.append(run()))
+
+    def inside() -> None:
+        try:
+            found.append(run())
+        except SystemExit as end:
+            if isinstance(end.code, str):
+                print(end.code, file=sys.stderr)
+            found.append(end.code if isinstance(end.code, int) else 0 if end.code is None else 1)
+
+    thread = threading.Thread(target=inside)
     thread.start()
     thread.join()
     return found[0] if found else 1

@@ -18,7 +18,8 @@ from law_index import clean, crates, joined, quoted, theorem_index
 
 TOP = Path(__file__).resolve().parent.parent
 
-# The subjects, in the order in which a person reads them, each with its crates.
+# The subjects, in the order in which a person reads them, each with its crates. No crate has two; the last subject has
+# all crates that stand in no other.
 SUBJECTS: list[tuple[str, str, list[str]]] = [
     (
         "Rules",
@@ -39,34 +40,12 @@ SUBJECTS: list[tuple[str, str, list[str]]] = [
     (
         "Verdicts, books, certificates",
         "The least assignment and the bound that it breaks; verdicts that others can check.",
-        [
-            "fixpoint",
-            "effects",
-            "rules",
-            "infer",
-            "conditions",
-            "books",
-            "book_check",
-            "book_check",
-            "derive",
-            "refutation",
-            "refutation",
-        ],
+        ["fixpoint", "effects", "infer", "conditions", "books", "book_check", "derive", "refutation"],
     ),
     (
         "Above the machine",
         "Orders of open calls, circles of waiting threads, plain evaluation, explanations.",
-        [
-            "serialise",
-            "levels",
-            "level_check",
-            "replay",
-            "book_check",
-            "explain",
-            "explain",
-            "effects",
-            "places",
-        ],
+        ["serialise", "levels", "level_check", "replay", "explain", "places"],
     ),
     ("Texts and calls", "Which bytes are read and written, and what a call of the program is.", []),
 ]
@@ -226,6 +205,16 @@ def std_names(pages: list[Page]) -> list[str]:
     return sorted(found, key=str.lower)
 
 
+def misplaced() -> Iterator[str]:
+    """What is wrong with the subjects: crates that aren't there, or have two."""
+    placed = [name for _, _, names in SUBJECTS for name in names]
+    for name in sorted(set(placed)):
+        if name not in crates():
+            yield f"bench/reading.py: there is no crate {name}"
+        if placed.count(name) > 1:
+            yield f"bench/reading.py: {name} has {placed.count(name)} subjects"
+
+
 def subject_of(crate: str) -> str:
     for title, _, names in SUBJECTS:
         if crate in names:
@@ -325,6 +314,9 @@ def main() -> int:
     parser.add_argument("--write", action="store_true", help="write both pages")
     arguments = parser.parse_args()
     wrong = 0
+    for line in misplaced():
+        print(line)
+        wrong = 1
     for name, text in (("READING.md", reading_list()), ("theorems.md", theorem_index())):
         path = TOP / "docs" / name
         if arguments.write:
