@@ -1,16 +1,22 @@
 package atomic.java.driver;
 
+import atomic.java.skeleton.Place;
 import java.util.ArrayList;
+import java.util.Comparator;
 import java.util.LinkedHashMap;
 import java.util.List;
 import java.util.Map;
+import java.util.regex.Matcher;
+import java.util.regex.Pattern;
 
 /**
  * The errors of a run beside those that are left where what may be no step is left out. One that is there too is
  * certain, and explained by steps that are surely there; any other may be a wrong alarm, and that is told.
  */
 final class Certainty {
-    private static final String ERROR = ": error: ";
+    /** What stands between a place and an error there. */
+    static final String ERROR = ": error: ";
+    private static final Pattern PLACED = Pattern.compile("(.*?):(\\d+):(\\d+): error: .*");
     private static final String FOUND = ", found ";
 
     private final List<String> lines;
@@ -38,6 +44,19 @@ final class Certainty {
             }
         });
         return all;
+    }
+
+    /** The errors in the order of their places, each once and with the lines behind it. */
+    static List<String> inOrder(List<String> lines) {
+        List<Map.Entry<String, List<String>>> all = new ArrayList<>(blocks(lines).entrySet());
+        all.sort(Comparator.comparing(each -> place(each.getKey())));
+        return all.stream().flatMap(each -> each.getValue().stream()).toList();
+    }
+
+    private static Place place(String error) {
+        Matcher parts = PLACED.matcher(error);
+        return parts.matches() ? new Place(parts.group(1), Integer.parseInt(parts.group(2)),
+            Integer.parseInt(parts.group(3))) : new Place("", 0, 0);
     }
 
     /** Each error with the lines behind it, by what it says without what was found. */

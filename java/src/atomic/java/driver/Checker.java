@@ -21,31 +21,19 @@ public final class Checker {
 
     private final Path program = find();
 
-    /** The explanations of what is refused. */
-    public Answer explain(byte[] text) {
-        return run(text, List.of());
-    }
+    /** The explanations of what is refused, and what each part of each method is, where that was asked. */
+    public record Answers(Answer explained, Answer listed) { }
 
-    /** What each part of each method is. */
-    public Answer list(byte[] text) {
-        return run(text, List.of("--all"));
-    }
-
-    private Answer run(byte[] text, List<String> options) {
+    /** Judges a text. Its parts are listed at the same time, by a process of its own. */
+    public Answers judge(byte[] text, boolean listed) {
         Path file = null;
         try {
             file = Files.createTempFile("atomic-java-", ".skeleton");
             Files.write(file, text);
-            List<String> words = new ArrayList<>(List.of(program.toString()));
-            words.addAll(options);
-            words.add(file.toString());
-            Process process = new ProcessBuilder(words).redirectError(ProcessBuilder.Redirect.INHERIT).start();
-            process.getOutputStream().close();
-            String told = new String(process.getInputStream().readAllBytes(), StandardCharsets.UTF_8);
-            String front = file + ":";
-            List<String> lines = told.lines()
-                .map(line -> line.startsWith(front) ? line.substring(front.length()) : line).toList();
-            return new Answer(process.waitFor(), lines);
+            Process explaining = start(program.toString(), file.toString());
+            Process listing = listed ? start(program.toString(), "--all", file.toString()) : null;
+            Answer explained = answer(explaining, file + ":");
+            return new Answers(explained, listed ? answer(listing, file + ":") : new Answer(0, List.of()));
         } catch (IOException fault) {
             throw new Refusal(Options.NO_CHECKER, "cannot run " + program + ": " + fault.getMessage());
         } catch (InterruptedException fault) {
@@ -53,6 +41,19 @@ public final class Checker {
         } finally {
             remove(file);
         }
+    }
+
+    private static Process start(String... words) throws IOException {
+        Process process = new ProcessBuilder(words).redirectError(ProcessBuilder.Redirect.INHERIT).start();
+        process.getOutputStream().close();
+        return process;
+    }
+
+    private static Answer answer(Process process, String front) throws IOException, InterruptedException {
+        String told = new String(process.getInputStream().readAllBytes(), StandardCharsets.UTF_8);
+        List<String> lines = told.lines().map(line -> line.startsWith(front) ? line.substring(front.length()) : line)
+            .toList();
+        return new Answer(process.waitFor(), lines);
     }
 
     private static void remove(Path file) {

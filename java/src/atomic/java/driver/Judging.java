@@ -21,6 +21,7 @@ import java.util.Map;
 import java.util.Set;
 import java.util.regex.Matcher;
 import java.util.regex.Pattern;
+import java.util.stream.Collectors;
 
 /**
  * Has the skeleton judged. One that is larger than the checker reads is judged in pieces, each with all that its methods
@@ -39,6 +40,7 @@ final class Judging {
     private final List<String> lines = new ArrayList<>();
     private final List<Text> texts = new ArrayList<>();
     private final Map<String, String> found = new HashMap<>();
+    private final Pieces pieces;
     private int status;
 
     Judging(Program program, Methods methods) {
@@ -47,22 +49,25 @@ final class Judging {
         List<Method> all = new ArrayList<>();
         program.shapes().forEach(shape -> all.addAll(shape.methods()));
         callees = new Callees(all);
+        pieces = new Pieces(program, callees);
     }
 
     /** Judges all methods. */
     void run() {
-        Set<Method> piece = new LinkedHashSet<>();
-        for (Method root : roots()) {
-            Set<Method> more = new LinkedHashSet<>(piece);
-            reach(root, more);
-            if (!piece.isEmpty() && size(more) > Checker.MOST_BYTES) {
-                judge(piece);
-                more = new LinkedHashSet<>();
-                reach(root, more);
-            }
-            piece = more;
+        judge(roots(), true);
+    }
+
+    /** Judges the methods at which these errors were told, and tells of errors alone. */
+    void run(List<String> errors) {
+        Set<String> places = errors.stream().filter(line -> line.contains(Certainty.ERROR))
+            .map(line -> line.substring(0, line.indexOf(Certainty.ERROR))).collect(Collectors.toSet());
+        judge(roots().stream().filter(each -> places.contains(String.valueOf(each.place()))).toList(), false);
+    }
+
+    private void judge(List<Method> all, boolean listed) {
+        for (Set<Method> piece : List.copyOf(pieces.of(all))) {
+            judge(piece, listed);
         }
-        judge(piece);
     }
 
     private List<Method> roots() {
@@ -74,40 +79,14 @@ final class Judging {
         return roots;
     }
 
-    /** All methods that one calls or overrides, and those that override these. */
-    private void reach(Method method, Set<Method> reached) {
-        if (reached.add(method)) {
-            calls(method.body(), reached);
-            method.overridden().forEach(above -> reach(above, reached));
-            callees.of(method).forEach(each -> reach(each, reached));
-        }
-    }
-
-    private void calls(Part part, Set<Method> reached) {
-        if (part instanceof Part.Call call) {
-            reach(call.target(), reached);
-        }
-        part.parts().forEach(each -> calls(each, reached));
-    }
-
-    private int size(Set<Method> wanted) {
-        return program.shapes().stream().mapToInt(shape -> shape.methods().stream().anyMatch(wanted::contains) ? 100 : 40)
-            .sum() + wanted.stream().mapToInt(this::size).sum();
-    }
-
-    private final Map<Method, Integer> sizes = new HashMap<>();
-
-    private int size(Method method) {
-        return sizes.computeIfAbsent(method, each -> new Writer(program.names(), program.helpers()).write(each).length());
-    }
-
-    private void judge(Set<Method> wanted) {
+    private void judge(Set<Method> wanted, boolean listed) {
         for (int k = 0; k < MOST_REPAIRS; k++) {
             Writer writer = new Writer(program.names(), program.helpers());
             Text text = writer.write(program.shapes(), wanted);
-            Checker.Answer told = checker.explain(text.bytes());
+            Checker.Answers answers = checker.judge(text.bytes(), listed);
+            Checker.Answer told = answers.explained();
             if (told.status() != Options.NOT_JAVA && told.status() != Options.TOO_LARGE) {
-                accept(text, told);
+                accept(text, answers);
                 return;
             }
             repair(writer, told, wanted);
@@ -115,13 +94,13 @@ final class Judging {
         throw new Refusal(Options.TOO_LARGE, "the sources break too many limits of the checker");
     }
 
-    private void accept(Text text, Checker.Answer told) {
-        status = Math.max(status, told.status());
+    private void accept(Text text, Checker.Answers told) {
+        status = Math.max(status, told.explained().status());
         texts.add(text);
-        lines.addAll(new Answer(text, program.names()).lines(told.lines()));
-        for (String line : checker.list(text.bytes()).lines()) {
-            Matcher parts = LISTED.matcher(line);
-            if (parts.matches()) {
+        lines.addAll(new Answer(text, program.names()).lines(told.explained().lines()));
+        for (String line : told.listed().lines()) {
+            Matcher parts = line.endsWith(" 0") ? LISTED.matcher(line) : null;
+            if (parts != null && parts.matches()) {
                 found.put(parts.group(2), parts.group(1));
             }
         }
@@ -137,7 +116,7 @@ final class Judging {
             kind = parts.group(3);
         } else {
             method = wanted.stream().filter(each -> !reduced.contains(each)).max(
-                java.util.Comparator.comparingInt(this::size)).orElse(null);
+                java.util.Comparator.comparingInt(pieces::bytes)).orElse(null);
         }
         if (method == null || !reduced.add(method)) {
             throw new Refusal(Options.NO_CHECKER, "atomic_why can't read the skeleton: " + String.join("; ", told.lines())
@@ -155,7 +134,7 @@ final class Judging {
         if (program.sure()) {
             method.loose().clear();
             method.body(Part.NOTHING);
-            sizes.remove(method);
+            pieces.forget(method);
             return;
         }
         Part.Call unknown = methods.several("what is past a limit of the checker", method.place());
@@ -166,7 +145,7 @@ final class Judging {
         Marking.run(List.of(unknown.target()));
         method.loose().clear();
         method.body(unknown);
-        sizes.remove(method);
+        pieces.forget(method);
     }
 
     /** Methods that override each other and don't agree require nothing, and all promise what one of them promises. */
@@ -192,8 +171,9 @@ final class Judging {
         return status;
     }
 
+    /** What was told: of several texts the errors in the order of the sources, each once. */
     List<String> lines() {
-        return lines;
+        return texts.size() <= 1 ? lines : Certainty.inOrder(lines);
     }
 
     List<Text> texts() {

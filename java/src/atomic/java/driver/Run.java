@@ -75,7 +75,7 @@ public final class Run {
         }
         Program rest = new Program(attribution, options, true);
         Judging certain = new Judging(rest, skeleton(rest));
-        certain.run();
+        certain.run(judging.lines());
         return new Certainty(judging.lines(), certain.lines()).lines();
     }
 

@@ -41,12 +41,13 @@ public final class Nodes {
     private final Attribution attribution;
     private final Ownership ownership;
     private final Map<JavaClass, Boolean> known = new HashMap<>();
-    private final Map<JavaMethod, Boolean> calls = new HashMap<>();
+    private final Mentions mentions;
 
     public Nodes(Program program, Ownership ownership) {
         this.program = program;
         this.ownership = ownership;
         attribution = program.attribution();
+        mentions = new Mentions(program);
     }
 
     /** The container of a class of nodes, or null. */
@@ -68,7 +69,7 @@ public final class Nodes {
         }
         boolean linked = mentionedByFields(each, outer);
         Test test = new Test(each, outer);
-        attribution.units().forEach(unit -> test.scan(unit, null));
+        mentions.units(each.symbol(), outer.symbol()).forEach(unit -> test.scan(unit, null));
         if (linked && test.holds && !each.symbol().getModifiers().contains(Modifier.PRIVATE)) {
             program.notes().tell(Notes.Kind.ASSUMED, null, attribution.name(each.tree()), "no code outside these files"
                 + " reaches these nodes, which count as parts of " + outer.symbol().getSimpleName());
@@ -252,17 +253,7 @@ public final class Nodes {
 
         /** A method that gives a node, and that nobody here calls, is there for others. */
         private boolean isCalled(JavaMethod method) {
-            return calls.computeIfAbsent(method, each -> {
-                boolean[] found = new boolean[1];
-                attribution.units().forEach(unit -> new TreeScanner<Void, Void>() {
-                    @Override
-                    public Void visitMethodInvocation(MethodInvocationTree call, Void nothing) {
-                        found[0] |= each.symbol().equals(attribution.element(call));
-                        return super.visitMethodInvocation(call, nothing);
-                    }
-                }.scan(unit, null));
-                return found[0];
-            });
+            return !ownership.sites().of(method.symbol()).isEmpty();
         }
 
         @Override

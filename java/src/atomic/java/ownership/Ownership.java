@@ -59,6 +59,10 @@ public final class Ownership {
         return uses;
     }
 
+    Sites sites() {
+        return sites;
+    }
+
     public Escape escape() {
         return escape;
     }

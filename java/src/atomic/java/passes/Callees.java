@@ -10,6 +10,7 @@ import java.util.Map;
 /** The methods that a call may run: the one that it names, and those that override it. */
 public final class Callees {
     private final Map<Method, List<Method>> below = new HashMap<>();
+    private final Map<Method, List<Method>> known = new HashMap<>();
 
     public Callees(Collection<Method> methods) {
         for (Method method : methods) {
@@ -21,8 +22,12 @@ public final class Callees {
 
     /** The method and all that override it. */
     public List<Method> of(Method method) {
-        List<Method> all = new ArrayList<>();
-        collect(method, all);
+        List<Method> all = known.get(method);
+        if (all == null) {
+            all = new ArrayList<>();
+            collect(method, all);
+            known.put(method, all);
+        }
         return all;
     }
 

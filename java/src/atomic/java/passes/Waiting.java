@@ -9,6 +9,7 @@ import atomic.java.skeleton.Shape;
 import java.util.Collection;
 import java.util.HashMap;
 import java.util.HashSet;
+import java.util.LinkedHashSet;
 import java.util.List;
 import java.util.Map;
 import java.util.Set;
@@ -89,32 +90,31 @@ public final class Waiting {
             method.required().forEach(path -> all.add(path.type()));
             held.put(method, all);
         });
-        boolean changed = true;
-        while (changed) {
-            changed = false;
-            for (Method method : methods) {
-                changed |= spread(method.body(), held.get(method));
-            }
+        Set<Method> next = new LinkedHashSet<>(methods);
+        while (!next.isEmpty()) {
+            Method method = next.iterator().next();
+            next.remove(method);
+            spread(method.body(), held.get(method), next);
         }
     }
 
-    private boolean spread(Part part, Set<Shape> locks) {
-        boolean changed = false;
+    /** Gives what is held to the methods that are called; those that get more have to give it on. */
+    private void spread(Part part, Set<Shape> locks, Set<Method> more) {
         if (part instanceof Part.Call call) {
             for (Method callee : callees.of(call.target())) {
-                changed |= held.get(callee) != null && held.get(callee).addAll(locks);
+                if (held.get(callee) != null && held.get(callee).addAll(locks)) {
+                    more.add(callee);
+                }
             }
         } else if (part instanceof Part.Region region) {
-            Set<Shape> more = new HashSet<>(locks);
+            Set<Shape> inside = new HashSet<>(locks);
             if (region.lock() != null) {
-                more.add(region.lock().type());
+                inside.add(region.lock().type());
             }
-            return spread(region.body(), more);
+            spread(region.body(), inside, more);
+            return;
         }
-        for (Part each : part.parts()) {
-            changed |= spread(each, locks);
-        }
-        return changed;
+        part.parts().forEach(each -> spread(each, locks, more));
     }
 
     /** What came before a place of a region. */

@@ -47,6 +47,19 @@ public final class Writer {
         return text.toString();
     }
 
+    /** How many bytes a method takes within its class. */
+    public int size(Method method) {
+        text.deeper();
+        method(method);
+        return text.length();
+    }
+
+    /** The lines of the class of helpers that give objects without a name. */
+    public List<String> somes() {
+        return somes.entrySet().stream().map(each -> each.getValue().name() + " " + each.getKey()
+            + "() { return null; }").toList();
+    }
+
     /** A line of the text. */
     public String line(int number) {
         return text.toString().lines().skip(number - 1L).findFirst().orElse("").strip();
@@ -66,8 +79,7 @@ public final class Writer {
         constructor(shape);
         shape.methods().stream().filter(wanted::contains).forEach(this::method);
         if (shape == library) {
-            somes.forEach((name, type) ->
-                text.begin().line(type.name() + " " + name + "() { return null; }"));
+            somes().forEach(line -> text.begin().line(line));
         }
         text.close("");
     }

@@ -3,11 +3,13 @@ package atomic.java.program;
 import atomic.java.skeleton.Shape;
 import java.util.ArrayList;
 import java.util.HashMap;
+import java.util.HashSet;
 import java.util.LinkedHashMap;
 import java.util.List;
 import java.util.Map;
 import java.util.Set;
 import java.util.stream.Collectors;
+import javax.lang.model.element.Element;
 import javax.lang.model.element.Modifier;
 import javax.lang.model.element.TypeElement;
 import javax.lang.model.element.VariableElement;
@@ -31,9 +33,12 @@ public final class Families {
     private final Map<JavaMethod, JavaMethod> roots = new HashMap<>();
     private final Map<String, String> spellings = new HashMap<>();
     private final Map<String, Integer> numbers = new HashMap<>();
+    private final Map<JavaClass, Set<JavaClass>> aboves = new HashMap<>();
+    private final Set<JavaClass> extended = new HashSet<>();
 
     public Families(Program program) {
         this.program = program;
+        program.classes().forEach(each -> extended.add(above(each)));
     }
 
     /** The method furthest up among the classes that this one overrides; it itself where it overrides none. */
@@ -120,22 +125,32 @@ public final class Families {
 
     /** Whether a class is another one or below it. */
     public boolean isBelow(JavaClass one, JavaClass other) {
-        var types = program.attribution().types();
-        return types.isSubtype(types.erasure(one.symbol().asType()), types.erasure(other.symbol().asType()));
+        return aboves.computeIfAbsent(one, each -> {
+            Set<JavaClass> found = new HashSet<>();
+            collect(each.symbol().asType(), found, new HashSet<>());
+            return found;
+        }).contains(other);
+    }
+
+    /** The classes of the sources that a type is or extends, through those of libraries too. */
+    private void collect(TypeMirror type, Set<JavaClass> found, Set<Element> seen) {
+        if (type instanceof DeclaredType declared && seen.add(declared.asElement())) {
+            JavaClass known = program.find(declared.asElement());
+            if (known != null) {
+                found.add(known);
+            }
+            program.attribution().types().directSupertypes(type).forEach(each -> collect(each, found, seen));
+        }
     }
 
     /** How a skeleton spells the name of a method. */
     public String name(JavaMethod method) {
         JavaMethod root = root(method);
         String java = method.symbol().getSimpleName().toString();
-        boolean apart = method.isPrivate() && (above(method.owner()) != null || hasBelow(method.owner()));
+        boolean apart = method.isPrivate() && (above(method.owner()) != null || extended.contains(method.owner()));
         String key = java + erased(root) + (apart ? method.owner().shape().name() : "");
         return spellings.computeIfAbsent(key, word -> numbers.merge(java, 1, Integer::sum) == 1
             ? program.names().plain(java) : program.names().invent(java + "_" + numbers.get(java), java));
-    }
-
-    private boolean hasBelow(JavaClass self) {
-        return program.classes().stream().anyMatch(each -> above(each) == self);
     }
 
     private String erased(JavaMethod method) {
@@ -174,7 +189,7 @@ public final class Families {
     }
 
     /** Whether a static member belongs to the class alone. */
-    public static boolean isStatic(javax.lang.model.element.Element symbol) {
+    public static boolean isStatic(Element symbol) {
         return symbol.getModifiers().contains(Modifier.STATIC);
     }
 }

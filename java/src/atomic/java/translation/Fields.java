@@ -17,8 +17,10 @@ import com.sun.source.tree.MethodTree;
 import com.sun.source.tree.Tree;
 import com.sun.source.tree.VariableTree;
 import java.util.HashMap;
+import java.util.HashSet;
 import java.util.List;
 import java.util.Map;
+import java.util.Set;
 import javax.lang.model.element.ElementKind;
 import javax.lang.model.element.Modifier;
 import javax.lang.model.element.VariableElement;
@@ -44,6 +46,7 @@ public final class Fields {
     private final Map<VariableElement, Boolean> settled = new HashMap<>();
     private final Map<JavaClass, Field> statics = new HashMap<>();
     private final Map<Shape, Field> outers = new HashMap<>();
+    private final Map<String, Set<JavaClass>> declaring = new HashMap<>();
 
     Fields(Program program, Families families, Uses uses, Ownership ownership, Nodes nodes) {
         this.program = program;
@@ -52,6 +55,10 @@ public final class Fields {
         this.ownership = ownership;
         this.nodes = nodes;
         guards = new Guards(program, this);
+        for (JavaClass each : program.classes()) {
+            each.symbol().getEnclosedElements().stream().filter(member -> member.getKind().isField()).forEach(member ->
+                declaring.computeIfAbsent(member.getSimpleName().toString(), key -> new HashSet<>()).add(each));
+        }
     }
 
     public Guards guards() {
@@ -146,10 +153,8 @@ public final class Fields {
 
     /** Whether a class above or below has a field of this name, which in a skeleton it may not. */
     private boolean isInherited(VariableElement java, JavaClass owner) {
-        return program.classes().stream().anyMatch(each -> each != owner
-            && (families.isBelow(each, owner) || families.isBelow(owner, each))
-            && each.symbol().getEnclosedElements().stream().anyMatch(other -> other.getKind().isField()
-                && other.getSimpleName().equals(java.getSimpleName())));
+        return declaring.getOrDefault(java.getSimpleName().toString(), Set.of()).stream().anyMatch(each -> each != owner
+            && (families.isBelow(each, owner) || families.isBelow(owner, each)));
     }
 
     /** The field that stands for one of a library's class, in the class furthest up that has it; with a type it is final. */

@@ -3,10 +3,12 @@ package atomic.java.translation;
 import atomic.java.attribution.WrittenAnnotations;
 import atomic.java.program.Families;
 import atomic.java.program.JavaClass;
+import atomic.java.program.JavaMethod;
 import atomic.java.program.Program;
 import atomic.java.places.Notes;
 import atomic.java.skeleton.Field;
 import atomic.java.skeleton.Shape;
+import com.sun.source.tree.Tree;
 import java.util.ArrayList;
 import java.util.HashMap;
 import java.util.List;
@@ -33,7 +35,7 @@ public final class Guards {
     }
 
     /** What a name means. */
-    Element element(com.sun.source.tree.Tree tree) {
+    Element element(Tree tree) {
         return program.attribution().element(tree);
     }
 
@@ -79,7 +81,12 @@ public final class Guards {
 
     private List<String> words(Element element, List<String> names) {
         List<String> words = known(element, names);
-        return words.isEmpty() ? WrittenAnnotations.words(program.attribution().trees().getTree(element), names) : words;
+        return words.isEmpty() ? WrittenAnnotations.words(declaration(element), names) : words;
+    }
+
+    private Tree declaration(Element element) {
+        JavaMethod method = program.method(element);
+        return method != null ? method.tree() : fields.uses().declaration(element);
     }
 
     /** As javac knows them, which also finds the values of constants. */

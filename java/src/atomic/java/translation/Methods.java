@@ -35,6 +35,7 @@ public final class Methods {
 
     private final Services services;
     private final Families families;
+    private final Promises promises;
     private final Map<Key, Method> known = new LinkedHashMap<>();
     private final Map<Method, JavaMethod> judged = new LinkedHashMap<>();
     private final Map<Method, Object> origins = new LinkedHashMap<>();
@@ -46,6 +47,7 @@ public final class Methods {
     public Methods(Program program) {
         services = new Services(program, this);
         families = services.families();
+        promises = new Promises(program);
     }
 
     /** Writes the whole skeleton. */
@@ -79,7 +81,7 @@ public final class Methods {
 
     /** Whether a Java method says that it is atomic. */
     public boolean promises(JavaMethod method) {
-        return method != null && new Promises(services.program()).isAtomic(method, families);
+        return method != null && promises.isAtomic(method, families);
     }
 
     /** Whether some field says which lock guards it. */
@@ -208,7 +210,6 @@ public final class Methods {
         Body body = new Body(services, target, new Body.Owner(key.self(), me, method), freshUntil);
         require(method, body);
         write(key, target, body);
-        Promises promises = new Promises(services.program());
         if (promises.isAtomic(method, families)) {
             promise(target, promises.isAtomic(families.root(method), families));
         }

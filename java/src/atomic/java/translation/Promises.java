@@ -6,11 +6,14 @@ import atomic.java.program.Families;
 import atomic.java.program.JavaMethod;
 import atomic.java.program.Program;
 import com.sun.source.tree.MethodTree;
+import java.util.HashMap;
+import java.util.Map;
 import javax.lang.model.element.Modifier;
 
 /** Which methods promise to be atomic: by {@code @Atomic}, by a comment before them, or each public one if so asked. */
 final class Promises {
     private final Program program;
+    private final Map<JavaMethod, Boolean> known = new HashMap<>();
 
     Promises(Program program) {
         this.program = program;
@@ -18,7 +21,7 @@ final class Promises {
 
     /** Whether a method promises it, or the one that it overrides does: a promise holds for whatever runs in its place. */
     boolean isAtomic(JavaMethod method, Families families) {
-        return promises(method) || families.overridden(method).stream().anyMatch(each -> isAtomic(each, families));
+        return known.computeIfAbsent(method, this::promises) || families.overridden(method).stream().anyMatch(each -> isAtomic(each, families));
     }
 
     private boolean promises(JavaMethod method) {
