@@ -167,11 +167,14 @@ def python_function(name: str, node: Union[ast.FunctionDef, ast.AsyncFunctionDef
 
 
 def without_help(names: Iterable[str]) -> Iterator[Finding]:
-    """Scripts that are run and have no parser of words."""
+    """Scripts that have no parser of words, or don't run by their name."""
     for name in names:
         text = "\n".join(lines_of(name))
-        if os.access(os.path.join(TOP, name), os.X_OK) and "words_of(" not in text and "argparse" not in text:
+        is_script = text.startswith("#!") or '__name__ == "__main__"' in text
+        if is_script and "words_of(__doc__)" not in text and "argparse.ArgumentParser(" not in text:
             yield Finding("Python: scripts without --help", name, 1)
+        if is_script and not (text.startswith("#!") and os.access(os.path.join(TOP, name), os.X_OK)):
+            yield Finding("Python: scripts that can't be run by their name", name, 1)
 
 
 # The report.

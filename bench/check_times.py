@@ -1,3 +1,4 @@
+#!/usr/bin/env python3
 """Where the time of the last `rt check` of a crate went. The check leaves a file for each module that it made
 (`out/incremental`), and the times at which these were written tell how long each took: by the kind of module, by
 function, by module. Wall seconds, so run the check alone and with `--jobs 1`. What an earlier check had kept isn't

@@ -22,6 +22,7 @@ from collections.abc import Callable, Iterable, Iterator, Sequence
 from dataclasses import dataclass
 from typing import Optional, Union
 
+import row_parts
 import rows
 from command_line import HERE, count_of, program_of, words_of
 from random_shapes import Crowd, damaged, deep, workers
@@ -67,7 +68,7 @@ class Tried:
 Judge = Union[Program, Tried]
 
 
-def write(folder: str, name: str, data: rows.Text) -> None:
+def write(folder: str, name: str, data: row_parts.Text) -> None:
     with open(os.path.join(folder, name), "wb") as file:
         file.write(data if isinstance(data, bytes) else data.encode())
 
@@ -117,7 +118,7 @@ def first_line(text: bytes) -> str:
 
 Answer = Callable[[list[int]], tuple[int, str]]
 # a status and a text that are wanted; any text where it is None
-Wanted = tuple[int, Optional[rows.Text]]
+Wanted = tuple[int, Optional[row_parts.Text]]
 
 
 @dataclass(frozen=True)

@@ -194,4 +194,5 @@ def main() -> None:
     sys.exit(0 if len(rows) == len(given.classes or CLASSES) else 1)
 
 
-main()
+if __name__ == "__main__":
+    main()

@@ -14,7 +14,7 @@ from collections.abc import Callable, Iterator
 from dataclasses import dataclass, field
 from typing import NoReturn, Optional
 
-from command_line import words_of as parser_of
+import command_line
 
 # The words of a line, as they stand.
 Words = list[bytes]
@@ -272,7 +272,7 @@ def guards_of(name: str, data: bytes) -> Guards:
 
 
 def main() -> int:
-    parser = parser_of(__doc__)
+    parser = command_line.words_of(__doc__)
     parser.wrong = 9
     parser.add_argument("log", metavar="LOG", help="the log of a run")
     parser.add_argument("--guards", metavar="FILE", help="what guards each place, in place of a guess from the log")

@@ -1,3 +1,4 @@
+#!/usr/bin/env python3
 """A line for each command, kind of source and size, of the folders that run.sh makes, with what both programs take and
 their ratios: milliseconds of processor time (the least of seven runs), millions of instructions as callgrind counts
 them, page faults, and peak memory in KiB. Load changes the milliseconds alone."""

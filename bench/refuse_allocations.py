@@ -18,6 +18,7 @@ import tempfile
 from collections.abc import Iterable, Iterator
 from typing import Optional
 
+import row_parts
 import rows
 from command_line import HERE, count_of, program_of, words_of
 from documents import source_of, table_rows
@@ -50,7 +51,7 @@ def fixed_rows() -> list[Row]:
     return given
 
 
-def bytes_of(text: rows.Text) -> bytes:
+def bytes_of(text: row_parts.Text) -> bytes:
     return text if isinstance(text, bytes) else text.encode()
 
 

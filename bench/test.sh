@@ -4,9 +4,9 @@
 # not; else it builds them by quick.sh. Each NAME is one of the tests below; without one all of them run, one after the
 # other, and what fails doesn't keep the others from running. The exit status is 0 where all of them hold.
 #
+#     types       tools/, bench/ and examples/ by mypy --strict (tools/pyproject.toml, bench/mypy.ini); needs no program
+#     house       what check_house.py measures; needs no program
 #     unittest    the commands of tools/ (tools/tests)
-#     types       tools/, bench/ and examples/ by mypy --strict (tools/pyproject.toml, bench/mypy.ini)
-#     house       what check_house.py measures
 #     documents   every source and command that the documents and examples show (check_docs.py)
 #     jvm         random programs beside a real JVM (jvm.py), where that script is there
 #     java        atomic-java on sources whose verdicts are known (test_java.py), where that script is there; a sample
@@ -18,7 +18,7 @@ set -u
 usage() { sed -n '2,/^set /{/^# /s/^# //p; /^#$/s/^#//p}' "$0"; exit "$1"; }
 top=$(cd "$(dirname "$0")/.." && pwd) && cd "$top" || exit 2
 case ${1-} in --help | -h) usage 0 ;; -*) usage 2 >&2 ;; esac
-[ $# -gt 0 ] || set -- unittest types house documents jvm java
+[ $# -gt 0 ] || set -- types house unittest documents jvm java
 
 # needs COMMAND PACKAGE ..: installs what is missing; 1 where something still is.
 needs() {
@@ -91,13 +91,19 @@ run_java() {
     bench/java.sh && python3 bench/test_java.py && python3 bench/java_random.py --count 40 --batch 20
 }
 
+asks=''
 for name do
     case $name in
-    unittest | types | house | documents | jvm | java) ;;
+    types | house) ;;
+    unittest | documents | jvm | java) asks=1 ;;
     *) echo "test.sh: there is no test $name" >&2; exit 2 ;;
     esac
 done
-needs python3 python3 && programs || { echo "test.sh: there are no programs to test" >&2; exit 1; }
+needs python3 python3 || exit 1
+if [ -n "$asks" ] && ! programs; then
+    echo "test.sh: there are no programs to test" >&2
+    exit 1
+fi
 failed='' said=''
 for name do
     begun=$(date +%s)

@@ -162,4 +162,5 @@ def main() -> None:
     sys.exit(1 if all_wrong else 0)
 
 
-main()
+if __name__ == "__main__":
+    main()
