@@ -63,30 +63,31 @@ verified_text file bytes out source lines is text certificate e =
     (record { sets = source.sets; relevant = is.1.relevant; lines = lines; text = text; certificate = certificate }))
 
 -- lines with which something is wrong are no certificate
-not_certificate : (P : Program) (sets : List MethodPaths) (lines : List LineData) (fault : BlameWrong) → IsWrongCertificate P (rel_of sets) lines fault → fault ≢ wrong.NoMemory → IsCertificate P (rel_of sets) lines → ⊥
-not_certificate P sets lines (wrong.Place n) is told c = both_ways (is_placed P (rel_of sets) is.2.line) is.2.fails (c.each.placed is.0 is.2.line is.2.is)
-not_certificate P sets lines (wrong.Step n) is told c = both_ways (is_justified P (rel_of sets) (take is.0 lines) is.3.line) is.3.fails (c.each.steps is.0 is.3.line is.3.is)
-not_certificate P sets lines wrong.NoBound is told c = both_ways (breaks P (slice_get lines (length lines - 1))) is.2 c.broken
-not_certificate P sets lines wrong.NoMemory is told c = told refl
+not_certificate : (P : Program) (sets : List MethodPaths) (lines : List LineData) (fault : BlameWrong) → IsWrongCertificate P (rel_of sets) lines fault → fault ≢ wrong.NoMemory → fault ≢ wrong.Work → IsCertificate P (rel_of sets) lines → ⊥
+not_certificate P sets lines (wrong.Place n) is told idle c = both_ways (is_placed P (rel_of sets) is.2.line) is.2.fails (c.each.placed is.0 is.2.line is.2.is)
+not_certificate P sets lines (wrong.Step n) is told idle c = both_ways (is_justified P (rel_of sets) (take is.0 lines) is.3.line) is.3.fails (c.each.steps is.0 is.3.line is.3.is)
+not_certificate P sets lines wrong.NoBound is told idle c = both_ways (breaks P (slice_get lines (length lines - 1))) is.2 c.broken
+not_certificate P sets lines wrong.NoMemory is told idle c = told refl
+not_certificate P sets lines wrong.Work is told idle c = idle refl
 
 -- so a text of such lines is no certificate's
-no_certificate_text : (P : Program) (sets : List MethodPaths) (bytes : List ℕ) (lines : List LineData) (fault : BlameWrong) → AreRelevant P sets → IsCertificateText bytes lines → IsWrongCertificate P (rel_of sets) lines fault → fault ≢ wrong.NoMemory
+no_certificate_text : (P : Program) (sets : List MethodPaths) (bytes : List ℕ) (lines : List LineData) (fault : BlameWrong) → AreRelevant P sets → IsCertificateText bytes lines → IsWrongCertificate P (rel_of sets) lines fault → fault ≢ wrong.NoMemory → fault ≢ wrong.Work
     → HasCertificate P bytes → ⊥
-no_certificate_text P sets bytes lines fault relevant text is told has =
-    not_certificate P sets lines fault is told
+no_certificate_text P sets bytes lines fault relevant text is told idle has =
+    not_certificate P sets lines fault is told idle
     (subst (λ ls. IsCertificate P (rel_of sets) ls) (one_blame bytes has.lines lines has.text text)
     (subst (λ s. IsCertificate P (rel_of s) has.lines) (unique_sets P has.sets sets has.relevant relevant) has.certificate))
 
 -- the refusal of lines with which something is wrong
 pub wrong_right : {E : Type 0} (file bytes : List ℕ) (source : Source) (lines : List LineData) (fault : BlameWrong) (line : Result (String Global) E) (r : Refusal) → IsSourceOf file source → IsCertificateText bytes lines
-    → IsWrongCertificate (program_of source.program) (rel_of source.sets) lines fault → IfOk line (λ l. (fault ≢ wrong.NoMemory) × (string_bytes l ≡ wrong_certificate_line fault))
+    → IsWrongCertificate (program_of source.program) (rel_of source.sets) lines fault → IfOk line (λ l. (fault ≢ wrong.NoMemory) × (fault ≢ wrong.Work) × (string_bytes l ≡ wrong_certificate_line fault))
     → MatchResult line (λ l. Tells ending.BlameRefused (string_bytes l) r) (λ e. r ≡ NoMemory) → IsRight (VerifyBlameAnswer file bytes) r
 wrong_right file bytes source lines fault (Err e) r is text fails told same = subst (IsRight (VerifyBlameAnswer file bytes)) (sym same) tt
 wrong_right file bytes source lines fault (Ok l) r is text fails told tells =
     let P = program_of source.program in
     right_refusal (VerifyBlameAnswer file bytes) ending.BlameRefused (string_bytes l) r
-    (no_certificate is.0 P (well_formed_source file is.0 source is.1) (no_certificate_text P source.sets bytes lines fault is.1.relevant text fails told.0)
-    (subst (NoCertificate P bytes) (sym told.1) (wrong_first source.sets lines fault is.1.relevant text fails told.0)))
+    (no_certificate is.0 P (well_formed_source file is.0 source is.1) (no_certificate_text P source.sets bytes lines fault is.1.relevant text fails told.0 told.1)
+    (subst (NoCertificate P bytes) (sym told.2) (wrong_first source.sets lines fault is.1.relevant text fails told.0 told.1)))
     tells
 
 -- the refusal of a text that no lines have

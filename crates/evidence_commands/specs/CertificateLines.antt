@@ -19,9 +19,10 @@ certificate_form_line place = codes "blame refused at byte " ++ decimal place ++
 abbrev pub line_line : ℕ → List ℕ → List ℕ
 line_line line kind = codes "blame refused: line " ++ decimal line ++ codes ": " ++ kind ++ codes "\n"
 
--- what is wrong with the lines first; none for want of memory
+-- what is wrong with the lines first; none for want of memory, or for too much work
 abbrev pub wrong_certificate_line : BlameWrong → List ℕ
 wrong_certificate_line (wrong.Place line) = line_line line (codes "place")
 wrong_certificate_line (wrong.Step line) = line_line line (codes "step")
 wrong_certificate_line wrong.NoBound = codes "blame refused: no bound broken\n"
 wrong_certificate_line wrong.NoMemory = codes ""
+wrong_certificate_line wrong.Work = codes ""

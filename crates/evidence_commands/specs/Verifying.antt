@@ -29,7 +29,7 @@ pub record HasCertificate (P : Program) (bytes : List ℕ) : Type 0 where
 pub data NoCertificate (P : Program) (bytes : List ℕ) : List ℕ → Type 0 where
   form : (place : ℕ) → first_certificate_fault bytes ≡ Some place → NoCertificate P bytes (certificate_form_line place)
   wrong_first : (sets : List MethodPaths) (lines : List LineData) (fault : BlameWrong) → AreRelevant P sets → IsCertificateText bytes lines
-      → IsWrongCertificate P (rel_of sets) lines fault → fault ≢ wrong.NoMemory → NoCertificate P bytes (wrong_certificate_line fault)
+      → IsWrongCertificate P (rel_of sets) lines fault → fault ≢ wrong.NoMemory → fault ≢ wrong.Work → NoCertificate P bytes (wrong_certificate_line fault)
 
 -- the line that refuses the source, else the certificate; or what is written where it is one, and so no assignment is admissible
 pub data VerifyBlameAnswer (file bytes : List ℕ) : Ending → List ℕ → Type 0 where

@@ -31,12 +31,12 @@ fn line_text(alloc: Global, number: u32, kind: &str) -> Result<String, NoMemory>
 
 /// The line for what is wrong with a certificate first.
 pub(crate) fn wrong_text(alloc: Global, wrong: BlameWrong) -> Result<String, NoMemory>
-    ensures { IfOk result (λ line. (wrong ≢ wrongs.NoMemory) × (string_bytes line ≡ wrong_certificate_line wrong)) }
+    ensures { IfOk result (λ line. (wrong ≢ wrongs.NoMemory) × (wrong ≢ wrongs.Work) × (string_bytes line ≡ wrong_certificate_line wrong)) }
 {
     match wrong {
         BlameWrong::Place { line } => line_text(alloc, line, "place"),
         BlameWrong::Step { line } => line_text(alloc, line, "step"),
         BlameWrong::NoBound => String::from_str(alloc, "blame refused: no bound broken\n"),
-        BlameWrong::NoMemory => Err(NoMemory),
+        BlameWrong::NoMemory | BlameWrong::Work => Err(NoMemory),
     }
 }

@@ -172,11 +172,11 @@ held_started (Err e) = refl
 
 -- their text is read
 
-stopping : (fs : List ℕ) (more : List ℕ) → stops more ≡ true → stops (dotted fs ++ more) ≡ true
+pub stopping : (fs : List ℕ) (more : List ℕ) → stops more ≡ true → stops (dotted fs ++ more) ≡ true
 stopping [] more e = e
 stopping (f ∷ fs) more e = refl
 
-complete_path : (p : PathData) (more : List ℕ) → IsPath p → stops more ≡ true → begins 46 more ≡ false → path_at (path_text p ++ more) ≡ Ok (p, more)
+pub complete_path : (p : PathData) (more : List ℕ) → IsPath p → stops more ≡ true → begins 46 more ≡ false → path_at (path_text p ++ more) ≡ Ok (p, more)
 unfolding path_at
 complete_path p more is stop next =
     let group : path_text p ++ more ≡ decimal p.root ++ (dotted p.fields ++ more) = append_assoc (decimal p.root) (dotted p.fields) more in
@@ -184,7 +184,7 @@ complete_path p more is stop next =
     ap (number_at (2 ^ 16)) group ∙ complete_number (2 ^ 16) p.root (dotted p.fields ++ more) is.root (omega arith) (stopping p.fields more stop) in
     rw (number, complete_fields p.fields more is.fields stop next 2 is.few) refl
 
-complete_later : (before : Option PathData) (p : PathData) (more : List ℕ) → IsPath p → comes_after before p ≡ true → stops more ≡ true → begins 46 more ≡ false → later_path before (path_text p ++ more) ≡ Ok (p, more)
+pub complete_later : (before : Option PathData) (p : PathData) (more : List ℕ) → IsPath p → comes_after before p ≡ true → stops more ≡ true → begins 46 more ≡ false → later_path before (path_text p ++ more) ≡ Ok (p, more)
 unfolding later_path
 complete_later before p more is later stop next = rw (complete_path p more is stop next, later) refl
 
@@ -193,7 +193,7 @@ pub held_stops : (ps : List PathData) (more : List ℕ) → stops more ≡ true 
 held_stops [] more e = e
 held_stops (p ∷ ps) more e = refl
 
-held_ends : (ps : List PathData) (more : List ℕ) → begins 46 more ≡ false → begins 46 (held_text ps ++ more) ≡ false
+pub held_ends : (ps : List PathData) (more : List ℕ) → begins 46 more ≡ false → begins 46 (held_text ps ++ more) ≡ false
 held_ends [] more e = e
 held_ends (p ∷ ps) more e = refl
 

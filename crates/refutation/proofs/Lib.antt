@@ -16,7 +16,16 @@ pub mod Ranges
 pub mod MakerLemmas
 pub mod Known
 pub mod CheckLemmas
+mod Rooms
+mod Cheap
 -- Lemmas on texts of certificates: held paths (Held), lines (Lines), and whole texts (TextLaws).
 pub mod Held
 pub mod Lines
 pub mod TextLaws
+-- The first fault of a text: how a part is judged, and parts together (Stops), numbers, paths and names (StopParts), lines and whole
+-- texts (StopLines), where a rule is broken (BrokenRules), and the laws (FaultLaws).
+mod Stops
+mod StopParts
+mod StopLines
+mod BrokenRules
+mod FaultLaws

@@ -4,6 +4,7 @@ use Rattle.paths.specs.Paths.{PathData}
 use Rattle.core_program.specs.Core.{Program}
 use Rattle.refutation.specs.Lines.{LineData}
 use Rattle.refutation.specs.Certificates.{is_placed, is_justified, breaks}
+use Rattle.refutation.specs.Works.{IsOverWork}
 use Rattle.refutation.specs.declared.check.BlameWrong.{BlameWrong}
 use Rattle.refutation.specs.declared.check.BlameWrong.TheVariants as wrong
 
@@ -30,9 +31,11 @@ pub record IsFirstFailing (test : ℕ → LineData → Bool) (lines : List LineD
   pub fails : test k line ≡ false
   pub before : PassBefore test lines k
 
--- the first cause in this order: a line without its place, one that doesn't follow, no broken bound. Lines count from 1.
+-- the first cause in this order: a line without its place, one that doesn't follow, no broken bound; or what lines of the program can
+-- take is above the bound of work. Lines count from 1.
 abbrev pub IsWrongCertificate : Program → (rel : ℕ → List PathData) → List LineData → BlameWrong → Type 0
 IsWrongCertificate P rel lines (wrong.Place n) = (k : ℕ) × (n ≡ suc k) × IsFirstFailing (placed_at P rel) lines k
 IsWrongCertificate P rel lines (wrong.Step n) = (k : ℕ) × (n ≡ suc k) × AllPass (placed_at P rel) lines × IsFirstFailing (justified_at P rel lines) lines k
 IsWrongCertificate P rel lines wrong.NoBound = AllPass (placed_at P rel) lines × AllPass (justified_at P rel lines) lines × (breaks P (slice_get lines (length lines - 1)) ≡ false)
 IsWrongCertificate P rel lines wrong.NoMemory = Unit {0}
+IsWrongCertificate P rel lines wrong.Work = AllPass (placed_at P rel) lines × IsOverWork P rel

@@ -1,11 +1,12 @@
 //! The checker of certificates.
-ghost use Rattle.std.specs.Prelude.{◌≡◌, ◌<◌, ◌-◌, ◌^◌, ◌∷◌, ◌++◌, List, [], true, length, slice_get, IfOk, IfSome, MatchOption, MatchResult};
+ghost use Rattle.std.specs.Prelude.{◌≡◌, ◌⊎◌, ◌<◌, ◌≤◌, ◌+◌, ◌-◌, ◌^◌, ◌∷◌, ◌++◌, List, [], true, length, slice_get, IfOk, IfErr, IfSome, MatchOption, MatchResult};
 ghost use Rattle.core_program.specs.Views.{program_of};
 ghost use Rattle.rules.specs.Near.{rel_of};
 ghost use Rattle.rules.specs.Overriding.{AreOverriders};
 ghost use Rattle.refutation.specs.Lines.{LineData};
 ghost use Rattle.refutation.specs.Tables.{TablesSay};
 ghost use Rattle.refutation.specs.Certificates.{AreCertificateLines, IsCertificate, bound_of, breaks, is_justified, is_placed, keeps_bound};
+ghost use Rattle.refutation.specs.Works.{IsOverWork, look_work, work_left};
 ghost use Rattle.refutation.specs.Wrongs.{AllPass, IsFirstFailing, IsWrongCertificate, justified_at, placed_at};
 
 use crate::floors::Floors;
@@ -13,7 +14,7 @@ use crate::judged::Judged;
 use crate::line::{Blame, Line};
 use crate::short_path::{are_among, are_held, unpacked};
 use crate::up::run_effect;
-use crate::work::Work;
+use crate::work::{MOST_WORK, spend};
 use algebra::Basic;
 use core_program::CoreProgram;
 use effects::Assigned;
@@ -32,6 +33,8 @@ pub enum BlameWrong {
     NoBound,
     /// There was no memory for the check.
     NoMemory,
+    /// The work on the lines would pass its bound.
+    Work,
 }
 
 impl From<AllocError> for BlameWrong {
@@ -101,35 +104,41 @@ fn unplaced(program: &CoreProgram, sets: &RelevantSets, lines: &[Line]) -> Optio
     None
 }
 
-/// Whether a line, which has its place, follows from what is said so far; and then says it too. A line that is said already follows,
-/// and takes no look at its method's body.
+/// Whether a line, which has its place, follows from what is said so far; and then says it too. None where a look at its method would
+/// take more work than is left. A line that is said already follows, and takes no look.
 fn follows(
     alloc: Global,
     judged: &Judged<'_>,
-    work: &mut Work,
+    left: &mut u64,
     floors: &mut Floors<'_>,
     line: &Line,
-) -> Result<bool, NoMemory>
+) -> Result<Option<bool>, NoMemory>
     requires there { line.now.method < length floors.old.tables.items }
     requires over { AreOverriders (program_of judged.now.program.now) judged.now.over.now }
     ensures sets { floors.new.sets.now ≡ floors.old.sets.now }
     ensures size { length floors.new.tables.items ≡ length floors.old.tables.items }
+    ensures work { let looks = look_work (program_of judged.now.program.now) in let all = length floors.old.tables.items in
+        (before : List LineData) → TablesSay (rel_of floors.old.sets.now) floors.old.tables.items before →
+        IfOk result (λ told. MatchOption told (left.old < work_left looks floors.old.tables.items all)
+        (λ b. b ≡ true → left.old + work_left looks floors.new.tables.items all ≤ left.new + work_left looks floors.old.tables.items all)) }
     ensures follows { let P = program_of judged.now.program.now in let rel = rel_of judged.now.sets.now in
         (before : List LineData) → floors.old.sets.now ≡ judged.now.sets.now → TablesSay rel floors.old.tables.items before → AreCertificateLines P rel before → is_placed P rel line.now ≡ true →
-        IfOk result (λ b. (b ≡ is_justified P rel before line.now) × (b ≡ true → TablesSay rel floors.new.tables.items (before ++ line.now ∷ []))) }
+        IfOk result (λ told. IfSome told (λ b. (b ≡ is_justified P rel before line.now) × (b ≡ true → TablesSay rel floors.new.tables.items (before ++ line.now ∷ [])))) }
 {
     let paths = unpacked(alloc, line.held.as_slice())?;
     let held = paths.as_slice();
     if line.found.below(floors.at(line.method, held)) {
-        return Ok(true);
+        return Ok(Some(true));
     }
-    work.spend(line.method)?;
+    if !spend(judged, left, line.method) {
+        return Ok(None);
+    }
     let found = run_effect(alloc, judged, floors, line.method, held)?;
     if !line.found.below(found) {
-        return Ok(false);
+        return Ok(Some(false));
     }
     floors.add(line.method, held, line.found);
-    Ok(true)
+    Ok(Some(true))
 }
 
 /// The first line that doesn't follow from those before it; each has its place.
@@ -138,11 +147,12 @@ fn unjustified(
     program: &CoreProgram,
     sets: &RelevantSets,
     lines: &[Line],
-) -> Result<Option<usize>, NoMemory>
+) -> Result<Option<usize>, BlameWrong>
     requires { AllPass (placed_at (program_of program.now) (rel_of sets.now)) lines.now }
     ensures first { let P = program_of program.now in let rel = rel_of sets.now in
         IfOk result (λ found. MatchOption found (AllPass (justified_at P rel lines.now) lines.now) (λ k. IsFirstFailing (justified_at P rel lines.now) lines.now k)) }
     ensures within { IfOk result (λ found. IfSome found (λ k. k < length lines.now)) }
+    ensures over { IfErr result (λ e. (e ≡ BlameWrong.NoMemory) ⊎ ((e ≡ BlameWrong.Work) × IsOverWork (program_of program.now) (rel_of sets.now))) }
 {
     let over = overriders(alloc, program)?;
     let judged = Judged {
@@ -150,10 +160,13 @@ fn unjustified(
         sets,
         over: &over,
     };
-    let mut work = Work::new(alloc, program)?;
+    let mut left = MOST_WORK;
     let mut floors = Floors::new(alloc, sets, program.methods().len())?;
     for at in 0..lines.len() {
-        if !follows(alloc, &judged, &mut work, &mut floors, &lines[at])? {
+        let Some(passes) = follows(alloc, &judged, &mut left, &mut floors, &lines[at])? else {
+            return Err(BlameWrong::Work);
+        };
+        if !passes {
             return Ok(Some(at));
         }
     }
@@ -161,8 +174,8 @@ fn unjustified(
 }
 
 /// Whether lines are a certificate of refusal of a program with these relevant sets: then no assignment is admissible. A line that
-/// is said already costs a look at its paths, and any other the size of its method's body, up to a stated amount of work, past which
-/// there is no memory for more.
+/// is said already costs a look at its paths, and any other the size of its method's body and the number of methods that override it, up
+/// to a stated amount of work.
 pub fn check_blame(
     alloc: Global,
     program: &CoreProgram,
@@ -180,7 +193,11 @@ pub fn check_blame(
             line: at as u32 + 1,
         });
     }
-    if let Some(at) = unjustified(alloc, program, sets, lines)? {
+    let found = match unjustified(alloc, program, sets, lines) {
+        Ok(found) => found,
+        Err(wrong) => return Err(wrong),
+    };
+    if let Some(at) = found {
         return Err(BlameWrong::Step {
             line: at as u32 + 1,
         });

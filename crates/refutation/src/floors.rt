@@ -164,6 +164,7 @@ impl<'a> Floors<'a> {
         ensures size { length self.new.tables.items ≡ length self.old.tables.items }
         ensures says { (lines : List LineData) → TablesSay (rel_of self.old.sets.now) self.old.tables.items lines →
             TablesSay (rel_of self.new.sets.now) self.new.tables.items (lines ++ record { method = method; found = found; held = held.now } ∷ []) }
+        ensures raised { IsRaised (rel_of self.old.sets.now method) self.old.tables.items self.new.tables.items (record { method = method; found = found; held = held.now }) }
     {
         let rel = self.sets.rel(method);
         raise_table(rel, self.tables.as_mut_slice(), method, held, found);

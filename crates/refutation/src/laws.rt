@@ -1,15 +1,17 @@
 //! What a certificate of refusal shows.
-ghost use Rattle.std.specs.Prelude.{◌≡◌, ◌↔◌, ℕ, true, false, List, [], Some, slice_get};
+ghost use Rattle.std.specs.Prelude.{◌≡◌, ◌↔◌, ◌≤◌, ◌^◌, ℕ, true, false, List, [], length, Some, slice_get};
 ghost use Rattle.paths.specs.Paths.{PathData};
 ghost use Rattle.algebra.specs.HeldPaths.{has_path};
 ghost use Rattle.core_program.specs.Core.{Program};
 ghost use Rattle.core_program.specs.Dispatch.{Overrides};
+ghost use Rattle.core_program.specs.Typed.{IsTyped};
 ghost use Rattle.rules.specs.Effect.{Assignment};
 ghost use Rattle.rules.specs.Near.{MethodPaths, AreRelevant, AreFew, rel_of};
 ghost use Rattle.rules.specs.Rules.{AtMost, IsAntitone, IsClosed, IsAdmissible, IsAccepted};
 ghost use Rattle.refutation.specs.Lines.{LineData, overrides};
 ghost use Rattle.refutation.specs.Certificates.{AreCertificateLines, IsCertificate};
 ghost use Rattle.refutation.specs.Passes.{LinesWritten, Passes};
+ghost use Rattle.refutation.specs.Works.{IsOverWork, nodes_and_pairs};
 
 /// Each line of a certificate is at most what any closed assignment says of its method at its paths. So a program with a
 /// certificate has no admissible assignment, and is not accepted.
@@ -40,4 +42,11 @@ pub fn passes_decide()
 /// The program's overriding methods are those that the passes ask.
 pub fn overriding_is_exact()
     ensures { (P : Program) (over m : ℕ) → (overrides P over m ≡ true) ↔ Overrides P over m }
+{}
+
+/// No lines meet the bound of work where the program has at most 262,144 nodes and pairs of overriding methods together. So no lines of
+/// a typed program in which no method overrides another do.
+pub fn work_is_bounded()
+    ensures small { (P : Program) (sets : List MethodPaths) → AreFew sets → nodes_and_pairs P (length P.methods) ≤ 2 ^ 18 → IsOverWork P (rel_of sets) → ⊥ }
+    ensures alone { (P : Program) (sets : List MethodPaths) → IsTyped P → AreFew sets → ((over m : ℕ) → Overrides P over m → ⊥) → IsOverWork P (rel_of sets) → ⊥ }
 {}

@@ -5,6 +5,7 @@
 
 mod ask;
 mod check;
+mod faults;
 mod floors;
 mod judged;
 mod laws;
@@ -23,7 +24,8 @@ mod waits;
 mod work;
 
 pub use check::{BlameWrong, check_blame};
-pub use laws::{certificates_refute, overriding_is_exact, passes_decide};
+pub use faults::first_faults;
+pub use laws::{certificates_refute, overriding_is_exact, passes_decide, work_is_bounded};
 pub use line::{Blame, Line};
 pub use passes::{BlameEnd, blame};
 pub use short_path::ShortPath;

@@ -1,53 +1,67 @@
 //! The work that judging a certificate may take.
+ghost use Rattle.std.specs.Prelude.{◌≡◌, ◌≤◌, ◌<◌, ◌+◌, ◌*◌, true, false, slice_get};
+ghost use Rattle.core_program.specs.Sizes.{nodes_of, nodes_of_each, stmt_nodes, stmt_nodes_each};
+ghost use Rattle.core_program.specs.Views.{program_of, expr_of, exprs_from, stmt_of, stmts_from};
+ghost use Rattle.rules.specs.Overriding.{AreOverriders};
+ghost use Rattle.refutation.specs.Works.{body_work, look_work, rising};
+
+use crate::judged::Judged;
 use core_program::{CoreExpr, CoreProgram, CoreStmt};
 use paths::MethodId;
-use std::alloc::{AllocError as NoMemory, Global};
 
-/// The most work: parts of bodies that are looked at. A certificate that `blame` writes has at most four lines for each of at most 256
-/// sets of a method, and bodies of a source of 262,144 bytes have fewer parts than it has bytes.
-const MOST_WORK: u64 = 1 << 28;
+/// The most work: parts of bodies, and overriding methods, that are looked at. A line that is looked at says something new at one set of
+/// paths, and what is said there rises at most four times. So the program bounds the work, whoever wrote the lines.
+pub(crate) const MOST_WORK: u64 = 1 << 31;
 
-/// The work of a call beside that of its parts: the paths that its callee begins with.
+/// The work of a call beside that of its parts: the paths that its callee begins with; and that of an overriding method.
 const WORK_OF_CALL: u64 = 8;
 
-/// What the body of each method costs, and what is left of the work.
-#[derive(Drop)]
-pub(crate) struct Work {
-    costs: Vec<u64>,
-    left: u64,
+/// The work of a look at a method's body, where it is there.
+fn body_cost(program: &CoreProgram, method: MethodId) -> u64
+    ensures { result ≤ body_work (slice_get (program_of program.now).methods method) }
+{
+    match program.methods().get(method.0 as usize) {
+        Some(method) => statement_cost(&method.body),
+        None => 0,
+    }
 }
 
-impl Work {
-    /// All the work that judging the lines of this program may take.
-    pub(crate) fn new(alloc: Global, program: &CoreProgram) -> Result<Self, NoMemory> {
-        let methods = program.methods();
-        let mut costs = Vec::with_capacity(alloc, methods.len())?;
-        for method in methods {
-            costs.push(statement_cost(&method.body))?;
+/// The work of looks at overriding methods, each counted once: their numbers ascend.
+fn overriding_cost(methods: &[MethodId]) -> u64
+    ensures { result ≤ 8 * rising 0 methods.now }
+{
+    let mut count = 0u64;
+    let mut least = 0u64;
+    for method in methods {
+        let number = u64::from(method.0);
+        if least <= number {
+            count = count.saturating_add(1);
+            least = number + 1;
         }
-        Ok(Work {
-            costs,
-            left: MOST_WORK,
-        })
     }
+    count.saturating_mul(WORK_OF_CALL)
+}
 
-    /// Takes the work of a look at a method's body, if so much is left.
-    pub(crate) fn spend(&mut self, method: MethodId) -> Result<(), NoMemory> {
-        let cost = match self.costs.get(method.0 as usize) {
-            Some(cost) => *cost,
-            None => 0,
-        };
-        if cost > self.left {
-            return Err(NoMemory);
-        }
-        self.left -= cost;
-        Ok(())
+/// Takes the work of a look at a method from what is left, and says whether so much was left.
+pub(crate) fn spend(judged: &Judged<'_>, left: &mut u64, method: MethodId) -> bool
+    requires { AreOverriders (program_of judged.now.program.now) judged.now.over.now }
+    ensures spent { result ≡ true → left.old ≤ left.new + look_work (program_of judged.now.program.now) method }
+    ensures over { result ≡ false → left.old < look_work (program_of judged.now.program.now) method }
+{
+    let body = body_cost(judged.program, method);
+    let cost = body.saturating_add(overriding_cost(judged.over.of(method)));
+    if cost > *left {
+        return false;
     }
+    *left -= cost;
+    true
 }
 
 /// The parts of an expression.
 #[cycle(expression_cost)]
-fn expression_cost(e: &CoreExpr) -> u64 {
+fn expression_cost(e: &CoreExpr) -> u64
+    ensures { result ≤ 8 * nodes_of (expr_of e.now) }
+{
     match e {
         CoreExpr::Int(_)
         | CoreExpr::Truth(_)
@@ -69,7 +83,9 @@ fn expression_cost(e: &CoreExpr) -> u64 {
 
 /// The parts of arguments.
 #[cycle(expression_cost)]
-fn arguments_cost(es: &[CoreExpr]) -> u64 {
+fn arguments_cost(es: &[CoreExpr]) -> u64
+    ensures { result ≤ 8 * nodes_of_each (exprs_from es.now) }
+{
     match es.split_first() {
         Some((e, rest)) => expression_cost(e).saturating_add(arguments_cost(rest)),
         None => 0,
@@ -78,7 +94,9 @@ fn arguments_cost(es: &[CoreExpr]) -> u64 {
 
 /// The parts of a statement.
 #[cycle(statement_cost)]
-fn statement_cost(s: &CoreStmt) -> u64 {
+fn statement_cost(s: &CoreStmt) -> u64
+    ensures { result ≤ 8 * stmt_nodes (stmt_of s.now) }
+{
     match s {
         CoreStmt::Empty | CoreStmt::Return(None) => 1,
         CoreStmt::Block(body) => block_cost(body.as_slice()).saturating_add(1),
@@ -104,7 +122,9 @@ fn statement_cost(s: &CoreStmt) -> u64 {
 
 /// The parts of statements.
 #[cycle(statement_cost)]
-fn block_cost(statements: &[CoreStmt]) -> u64 {
+fn block_cost(statements: &[CoreStmt]) -> u64
+    ensures { result ≤ 8 * stmt_nodes_each (stmts_from statements.now) }
+{
     let mut cost = 0u64;
     for s in statements {
         cost = cost.saturating_add(statement_cost(s));

@@ -12,7 +12,7 @@ returns-then-not-breaks c =
     let same = c.lines-lines.ensures in
     let none : c.breaks.result ≡ false = search rules in (
       placed_all P rel c.unplaced.result c.lines-lines.result.now c.args.blame.now same c.in_default.is c.unplaced.ensures.first,
-      steps_all P rel c.in_ok-at.field-0 c.lines-lines.result.now c.args.blame.now same c.in_default-2.is c.in_ok-at.ensures.first,
+      steps_all P rel c.in-Ok.found c.lines-lines.result.now c.args.blame.now same c.in_default-found.is c.in-Ok.ensures.first,
       breaks_is P c.lines-lines.result.now c.args.blame.now c.breaks.result false same c.breaks.ensures none,
     )
 
@@ -24,5 +24,5 @@ returns c =
     let broken : c.breaks.result ≡ true = search rules in
     is_certificate P rel c.args.blame.now
     (placed_all P rel c.unplaced.result c.lines-lines.result.now c.args.blame.now same c.in_default.is c.unplaced.ensures.first)
-    (steps_all P rel c.in_ok-at.field-0 c.lines-lines.result.now c.args.blame.now same c.in_default-2.is c.in_ok-at.ensures.first)
+    (steps_all P rel c.in-Ok.found c.lines-lines.result.now c.args.blame.now same c.in_default-found.is c.in-Ok.ensures.first)
     (breaks_is P c.lines-lines.result.now c.args.blame.now c.breaks.result true same c.breaks.ensures broken)
