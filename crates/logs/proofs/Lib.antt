@@ -14,3 +14,6 @@ mod Noted
 mod Noting
 mod Turned
 mod Closed
+pub mod Walking
+pub mod Serials
+mod Rows

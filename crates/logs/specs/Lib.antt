@@ -20,3 +20,7 @@ pub mod LogJudgeEvents
 pub mod Views
 pub mod State
 pub mod Noting
+-- Walks says how a judge goes through the bytes of a log, Spelling what the text of a log is; Stops says where the code's walk stands and how it ends.
+pub mod Walks
+pub mod Stops
+pub mod Spelling

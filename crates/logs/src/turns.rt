@@ -1,5 +1,6 @@
 //! What each event asks of its cell, and what it leaves there.
 ghost use Rattle.std.specs.Prelude.{◌≡◌, Some, None, IfOk, option_map};
+ghost use Rattle.std.specs.Str.{bytes_eq};
 ghost use Rattle.logs.specs.Said.{deed_data};
 ghost use Rattle.logs.specs.LogJudgeEvents.{event_of};
 ghost use Rattle.logs.specs.Views.{cell_data, content_data, turn_data};
@@ -19,6 +20,13 @@ use std::alloc::{AllocError as NoMemory, Global};
 pub struct Turn {
     pub kind: StepKind,
     pub content: Content,
+}
+
+/// This kind, and this left in the cell.
+fn made(kind: StepKind, content: Content) -> Option<Turn>
+    ensures { option_map turn_data result ≡ Some (record { kind = kind; content = content_data content }) }
+{
+    Some(Turn { kind, content })
 }
 
 /// The cell of an event.
@@ -99,10 +107,7 @@ fn give_turn(alloc: Global, thread: &[u8], found: &Content) -> Result<Option<Tur
             }
             match more.checked_sub(1) {
                 Some(more) => held(alloc, StepKind::Both, thread, more),
-                None => Ok(Some(Turn {
-                    kind: StepKind::Left,
-                    content: Content::Free,
-                })),
+                None => Ok(made(StepKind::Left, Content::Free)),
             }
         }
         _ => Ok(None),
@@ -117,6 +122,13 @@ fn left_in(alloc: Global, kind: StepKind, value: &[u8]) -> Result<Option<Turn>, 
     Ok(Some(Turn { kind, content }))
 }
 
+/// Whether what was seen is what is there.
+fn sees(seen: &[u8], value: &[u8]) -> bool
+    ensures { result ≡ bytes_eq seen.now value.now }
+{
+    seen == value
+}
+
 /// Sees what a place holds.
 fn read_turn(
     alloc: Global,
@@ -128,7 +140,7 @@ fn read_turn(
 {
     match found {
         Content::Value(value) => {
-            if seen != value.as_slice() {
+            if !sees(seen, value.as_slice()) {
                 return Ok(None);
             }
             left_in(alloc, kind, value.as_slice())
@@ -164,7 +176,7 @@ fn change_turn(
 {
     match found {
         Content::Value(value) => {
-            if seen != value.as_slice() {
+            if !sees(seen, value.as_slice()) {
                 return Ok(None);
             }
             left_in(alloc, kind, left)
@@ -178,10 +190,7 @@ fn start_turn(found: &Content) -> Option<Turn>
     ensures { option_map turn_data result ≡ logs.start_turn (content_data found.now) }
 {
     match found {
-        Content::Absent => Some(Turn {
-            kind: StepKind::Left,
-            content: Content::Present,
-        }),
+        Content::Absent => made(StepKind::Left, Content::Present),
         _ => None,
     }
 }
@@ -191,10 +200,7 @@ fn join_turn(found: &Content) -> Option<Turn>
     ensures { option_map turn_data result ≡ logs.join_turn (content_data found.now) }
 {
     match found {
-        Content::Ended => Some(Turn {
-            kind: StepKind::Right,
-            content: Content::Ended,
-        }),
+        Content::Ended => made(StepKind::Right, Content::Ended),
         _ => None,
     }
 }
