@@ -3,8 +3,9 @@
 
 Told are: a crate without a folder, a row or a heading, or at another place than in the tables; a crate that uses one
 that stands below it; a use in crates.txt that no file of the crate cites (src/, specs/ and proofs/, comments left
-out); a row whose uses aren't those of crates.txt; a name in README.md or docs/ that is no crate's. The exit status is
-0 where there is none. The last line has the longest chain of crates.
+out); a row whose uses aren't those of crates.txt; a name in README.md or docs/ that is no crate's, and a file of a
+crate that is named there and isn't there. The exit status is 0 where there is none. The last line has the longest chain
+of crates.
 
 --write makes the tables and crates.txt agree first. The tables say in which order and under which heading crates
 stand, what each does and what is used of it; crates.txt says what each uses. A row whose crate crates.txt doesn't
@@ -178,9 +179,17 @@ def differences(parts: Parts, crates: Crates) -> Iterator[str]:
             yield f"{name}: has a folder, and no line in crates.txt"
     documents = [name for name in sorted(os.listdir(path("docs"))) if not name.endswith(".png")]
     for names in [("README.md",), *(("docs", name) for name in documents)]:
-        gone = sorted({name for name in re.findall(r"`crates/(\w+)", read(*names)) if name not in crates})
-        if gone:
-            yield f"{os.path.join(*names)}: names what is no crate: {' '.join(gone)}"
+        yield from differences_of_document(crates, *names)
+
+
+def differences_of_document(crates: Crates, *names: str) -> Iterator[str]:
+    text = read(*names)
+    gone = sorted({name for name in re.findall(r"`crates/(\w+)", text) if name not in crates})
+    if gone:
+        yield f"{os.path.join(*names)}: names what is no crate: {' '.join(gone)}"
+    for file in sorted(set(re.findall(r"`(?:crates/)?(\w+/(?:src|specs|proofs)/[\w/]+\.(?:rt|antt))`", text))):
+        if file.split("/")[0] in crates and not os.path.exists(path("crates", file)):
+            yield f"{os.path.join(*names)}: names what is no file: {file}"
 
 
 def differences_of_crates(crates: Crates, order: dict[str, int], table_of: dict[str, Table]) -> Iterator[str]:
