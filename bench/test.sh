@@ -10,7 +10,7 @@
 #     documents   every source and command that the documents and examples show (check_docs.py)
 #     jvm         random programs beside a real JVM (jvm.py), where that script is there
 #     java        atomic-java on sources whose verdicts are known (test_java.py), where that script is there; a sample
-#                 of random sources (java_random.py)
+#                 of random sources (java_random.py), and of logged runs (java_traces.py)
 #
 # What a test needs and isn't there is installed from the distribution, where this runs as root and apt-get reaches its
 # packages. Else that test fails, and a line says what is missing.
@@ -88,7 +88,9 @@ run_jvm() {
 run_java() {
     [ -e bench/test_java.py ] || return 0
     needs python3 python3 javac openjdk-17-jdk-headless || return 1
-    bench/java.sh && python3 bench/test_java.py && python3 bench/java_random.py --count 40 --batch 20
+    bench/java.sh && python3 bench/test_java.py && python3 bench/java_random.py --count 40 --batch 20 \
+        && python3 bench/java_traces.py --runs 4 java/tests/larger/RingBuffer.java java/tests/larger/TicketOffice.java \
+            java/tests/users/Bank.java
 }
 
 asks=''

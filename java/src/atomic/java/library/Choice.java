@@ -7,9 +7,10 @@ package atomic.java.library;
  * @param calls whether it calls the functions among its arguments before it returns
  * @param fills whether it writes into the objects among its arguments
  * @param keeps whether it keeps what it is given, so that others may reach it from then on
+ * @param elsewhere whether the functions that it is given run in another thread, which is told
  * @param makes the class of the new object that it gives, or null
  */
-public record Choice(Kind kind, boolean calls, boolean fills, boolean keeps, String makes) {
+public record Choice(Kind kind, boolean calls, boolean fills, boolean keeps, boolean elsewhere, String makes) {
 
     /** The steps of a call. */
     public enum Kind {
@@ -41,7 +42,7 @@ public record Choice(Kind kind, boolean calls, boolean fills, boolean keeps, Str
     }
 
     /** A method that no row speaks of. */
-    public static final Choice UNKNOWN = new Choice(Kind.UNKNOWN, false, false, true, null);
+    public static final Choice UNKNOWN = new Choice(Kind.UNKNOWN, false, false, true, false, null);
 
     /** The choice that a word of the table spells: a kind, and flags behind plus signs. */
     static Choice of(String word) {
@@ -49,12 +50,14 @@ public record Choice(Kind kind, boolean calls, boolean fills, boolean keeps, Str
         boolean calls = false;
         boolean fills = false;
         boolean keeps = false;
+        boolean elsewhere = false;
         String makes = null;
         for (int k = 1; k < words.length; k++) {
             switch (words[k]) {
                 case "calls" -> calls = true;
                 case "fills" -> fills = true;
                 case "keeps" -> keeps = true;
+                case "elsewhere" -> elsewhere = true;
                 default -> {
                     if (!words[k].startsWith("makes=")) {
                         throw new IllegalArgumentException(words[k]);
@@ -63,6 +66,6 @@ public record Choice(Kind kind, boolean calls, boolean fills, boolean keeps, Str
                 }
             }
         }
-        return new Choice(Kind.valueOf(words[0].toUpperCase(java.util.Locale.ROOT)), calls, fills, keeps, makes);
+        return new Choice(Kind.valueOf(words[0].toUpperCase(java.util.Locale.ROOT)), calls, fills, keeps, elsewhere, makes);
     }
 }

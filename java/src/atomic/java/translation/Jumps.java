@@ -57,6 +57,11 @@ final class Jumps {
             || has(each, Tree.Kind.CONTINUE) || has(each, Tree.Kind.THROW) || has(each, Tree.Kind.YIELD));
     }
 
+    /** Whether a statement has a jump to the next turn of some loop. */
+    static boolean goesOn(StatementTree statement) {
+        return has(statement, Tree.Kind.CONTINUE);
+    }
+
     private static boolean has(Tree tree, Tree.Kind kind) {
         return count(tree, kind) > 0;
     }

@@ -128,7 +128,7 @@ final class LibraryCalls {
                     assume(called);
                 }
             }
-            case STEP -> body.emit(services.step(called.shown(), false, called.at()));
+            case STEP -> step(called);
             case COMPOUND -> body.emit(services.doubt(Method.Doubt.OPEN, called.shown(), true, body, called.at(),
                 "compound library call: " + called.shown() + " counts as several steps"));
             case READS, WRITES, RUN -> new Contents(services, body).call(called.object(),
@@ -138,6 +138,27 @@ final class LibraryCalls {
         if (choice.runsFunctions()) {
             services.functions().callAll(called.arguments(), body, called.at());
         }
+    }
+
+    /** One step; a task that is handed over with it runs in another thread, unless a class at hand may run it here. */
+    private void step(Called called) {
+        if (!called.choice().elsewhere()) {
+            body.emit(services.step(called.shown(), false, called.at()));
+        } else if (services.program().options().strict() || isAtHand(called)) {
+            unknown(called);
+        } else {
+            services.tell(Notes.Kind.ASSUMED, body, called.at(), "the task that " + called.shown()
+                + " is given runs in another thread");
+            body.emit(services.step(called.shown(), false, called.at()));
+        }
+    }
+
+    /** Whether a class of the sources is one of those whose method is called. */
+    private boolean isAtHand(Called called) {
+        Element symbol = services.attribution().element(called.at());
+        var types = services.attribution().types();
+        return symbol != null && services.program().classes().stream().anyMatch(each -> types.isSubtype(
+            types.erasure(each.symbol().asType()), types.erasure(symbol.getEnclosingElement().asType())));
     }
 
     private void unknown(Called called) {

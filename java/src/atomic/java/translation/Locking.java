@@ -2,15 +2,20 @@ package atomic.java.translation;
 
 import atomic.java.ownership.Uses;
 import atomic.java.program.JavaClass;
+import atomic.java.program.JavaMethod;
 import atomic.java.skeleton.Part;
 import atomic.java.skeleton.Path;
 import atomic.java.skeleton.Value;
 import com.sun.source.tree.ExpressionStatementTree;
 import com.sun.source.tree.ExpressionTree;
+import com.sun.source.tree.IdentifierTree;
 import com.sun.source.tree.MemberSelectTree;
 import com.sun.source.tree.MethodInvocationTree;
 import com.sun.source.tree.StatementTree;
+import java.util.ArrayList;
+import java.util.List;
 import javax.lang.model.element.Element;
+import javax.lang.model.element.Modifier;
 import javax.lang.model.element.TypeElement;
 import javax.lang.model.element.VariableElement;
 import javax.lang.model.type.TypeMirror;
@@ -74,11 +79,59 @@ final class Locking {
     ExpressionTree operand(ExpressionTree written, String... names) {
         if (Uses.bare(written) instanceof MethodInvocationTree call
                 && call.getMethodSelect() instanceof MemberSelectTree select
-                && java.util.List.of(names).contains(select.getIdentifier().toString())
+                && List.of(names).contains(select.getIdentifier().toString())
                 && isA(select.getExpression(), "java.util.concurrent.locks.Lock")) {
             return select.getExpression();
         }
         return null;
+    }
+
+    /** The locks that a statement takes, or gives back: itself, or by a method of its own object that does nothing else. */
+    List<ExpressionTree> operands(StatementTree statement, String... names) {
+        ExpressionTree one = operand(statement, names);
+        JavaMethod helper = one == null ? helper(statement) : null;
+        if (helper == null) {
+            return one == null ? List.of() : List.of(one);
+        }
+        List<ExpressionTree> all = new ArrayList<>();
+        for (StatementTree each : helper.tree().getBody().getStatements()) {
+            ExpressionTree lock = operand(each, names);
+            if (lock == null || !isOwn(lock, helper.owner())) {
+                return List.of();
+            }
+            all.add(lock);
+        }
+        return all;
+    }
+
+    /** The method of its own object that a statement calls, where no other one may run in its place. */
+    private JavaMethod helper(StatementTree statement) {
+        if (!(statement instanceof ExpressionStatementTree expression)
+                || !(expression.getExpression() instanceof MethodInvocationTree call)
+                || !isOnOwnObject(call.getMethodSelect())) {
+            return null;
+        }
+        JavaMethod method = services.program().method(services.attribution().element(call));
+        boolean plain = method != null && !method.isStatic() && method.tree().getBody() != null
+            && method.symbol().getParameters().isEmpty()
+            && !method.symbol().getModifiers().contains(Modifier.SYNCHRONIZED);
+        boolean fixed = plain && (method.isPrivate() || method.symbol().getModifiers().contains(Modifier.FINAL)
+            || method.owner().symbol().getModifiers().contains(Modifier.FINAL)
+            || !services.program().options().strict());
+        boolean alone = fixed && services.program().named(method.symbol().getSimpleName()).stream().noneMatch(each ->
+            each != method && each.isVirtual() && services.families().overrides(each, method, each.owner()));
+        return alone ? method : null;
+    }
+
+    private static boolean isOnOwnObject(ExpressionTree tree) {
+        return tree instanceof IdentifierTree
+            || tree instanceof MemberSelectTree select && select.getExpression().toString().equals("this");
+    }
+
+    /** Whether an expression names a field of this class, on its own object, that keeps its value. */
+    private boolean isOwn(ExpressionTree tree, JavaClass home) {
+        return isOnOwnObject(tree) && services.attribution().element(tree) instanceof VariableElement field
+            && field.getEnclosingElement().equals(home.symbol()) && services.fields().isSettled(field);
     }
 
     /** Whether an expression's type is a library's type, or below it. */
@@ -100,5 +153,4 @@ final class Locking {
         body.collect(() -> locks[1] = lock(other));
         return locks[0].path() != null && locks[0].equals(locks[1]);
     }
-
 }

@@ -14,8 +14,9 @@ import com.sun.source.tree.VariableTree;
 import java.util.List;
 
 /**
- * Regions of locks with methods: {@code lock.lock(); try { .. } finally { lock.unlock(); }} and forms like it. Any other use
- * of such a lock is a step that guards nothing.
+ * Regions of locks with methods: {@code lock.lock(); try { .. } finally { lock.unlock(); }} and forms like it. A method of
+ * the same object that only takes locks, or only gives them back, may stand for these. Any other use of such a lock is a
+ * step that guards nothing.
  */
 final class Regions {
     private static final String[] TAKES = {"lock", "lockInterruptibly"};
@@ -34,33 +35,42 @@ final class Regions {
 
     /** Writes the region that a statement begins, and says how many of the statements behind it belong to it. */
     int region(StatementTree statement, List<? extends StatementTree> rest) {
-        ExpressionTree lock = locking.operand(statement, TAKES);
-        if (lock == null) {
+        List<ExpressionTree> locks = locking.operands(statement, TAKES);
+        if (locks.isEmpty()) {
             return 0;
         }
-        int length = length(lock, rest);
+        int length = length(locks, rest);
         if (length == 0) {
-            services.tell(Notes.Kind.APPROXIMATED, body, lock, "lock and unlock stand in no form that is known here, so"
-                + " the lock counts as never held");
-            return services.program().sure() ? open(statement, lock, rest) : 0;
+            services.tell(Notes.Kind.APPROXIMATED, body, locks.get(0), "lock and unlock stand in no form that is known here,"
+                + " so the lock counts as never held");
+            return services.program().sure() ? open(statement, locks, rest) : 0;
         }
-        Locking.Lock taken = locking.lock(lock);
-        Part inside = body.collect(() -> inside(lock, rest.subList(0, length)));
-        body.emit(new Part.Region(taken.path(), taken.mode(), inside, services.attribution().place(statement)));
-        behind(lock, rest.get(length - 1));
+        held(taken(locks), statement, () -> inside(locks, rest.subList(0, length)));
+        behind(locks, rest.get(length - 1));
         return length;
     }
 
+    private List<Locking.Lock> taken(List<ExpressionTree> locks) {
+        return locks.stream().map(locking::lock).toList();
+    }
+
+    /** Writes what is done while the locks are held, which are taken one after the other. */
+    private void held(List<Locking.Lock> taken, Tree at, Runnable inside) {
+        Part part = body.collect(inside);
+        for (int k = taken.size() - 1; k >= 0; k--) {
+            part = new Part.Region(taken.get(k).path(), taken.get(k).mode(), part, services.attribution().place(at));
+        }
+        body.emit(part);
+    }
+
     /** A region that may end anywhere is one to the end, where only what is certain counts. */
-    private int open(StatementTree statement, ExpressionTree lock, List<? extends StatementTree> rest) {
-        Locking.Lock taken = locking.lock(lock);
-        Part inside = body.collect(() -> statements.all(rest));
-        body.emit(new Part.Region(taken.path(), taken.mode(), inside, services.attribution().place(statement)));
+    private int open(StatementTree statement, List<ExpressionTree> locks, List<? extends StatementTree> rest) {
+        held(taken(locks), statement, () -> statements.all(rest));
         return Math.max(1, rest.size());
     }
 
-    /** How many statements behind the taking of a lock lead up to where it is given back; 0 where that isn't known. */
-    private int length(ExpressionTree lock, List<? extends StatementTree> rest) {
+    /** How many statements behind the taking of locks lead up to where they are given back; 0 where that isn't known. */
+    private int length(List<ExpressionTree> lock, List<? extends StatementTree> rest) {
         for (int k = 0; k < rest.size(); k++) {
             StatementTree each = rest.get(k);
             boolean simple = !Jumps.mayLeave(rest.subList(0, k));
@@ -79,13 +89,14 @@ final class Regions {
             || statement.getKind() == Tree.Kind.EMPTY_STATEMENT || statement.getKind() == Tree.Kind.ASSERT;
     }
 
-    private boolean isRelease(StatementTree statement, ExpressionTree lock) {
-        ExpressionTree given = locking.operand(statement, "unlock");
-        return given != null && locking.areSame(lock, given);
+    private boolean isRelease(StatementTree statement, List<ExpressionTree> locks) {
+        List<ExpressionTree> given = locking.operands(statement, "unlock");
+        return given.size() == locks.size() && locks.stream().allMatch(lock -> given.stream().anyMatch(each ->
+            locking.areSame(lock, each)));
     }
 
     /** The place among the statements of a {@code finally} where the lock is given back, or -1. */
-    private int release(ExpressionTree lock, TryTree tried) {
+    private int release(List<ExpressionTree> lock, TryTree tried) {
         List<? extends StatementTree> last = tried.getFinallyBlock() == null ? List.of()
             : tried.getFinallyBlock().getStatements();
         for (int k = 0; k < last.size(); k++) {
@@ -97,14 +108,14 @@ final class Regions {
     }
 
     /** The statements while the lock is held; the last one gives it back. */
-    private void inside(ExpressionTree lock, List<? extends StatementTree> held) {
+    private void inside(List<ExpressionTree> lock, List<? extends StatementTree> held) {
         statements.all(held.subList(0, held.size() - 1));
         if (held.get(held.size() - 1) instanceof TryTree tried) {
             inside(lock, tried);
         }
     }
 
-    private void inside(ExpressionTree lock, TryTree tried) {
+    private void inside(List<ExpressionTree> lock, TryTree tried) {
         tried.getResources().stream().filter(StatementTree.class::isInstance)
             .forEach(each -> statements.one((StatementTree) each));
         statements.all(tried.getBlock().getStatements());
@@ -114,23 +125,21 @@ final class Regions {
     }
 
     /** What a {@code finally} does when the lock is given back. */
-    private void behind(ExpressionTree lock, StatementTree last) {
+    private void behind(List<ExpressionTree> lock, StatementTree last) {
         if (last instanceof TryTree tried && release(lock, tried) >= 0) {
             List<? extends StatementTree> all = tried.getFinallyBlock().getStatements();
             statements.all(all.subList(release(lock, tried) + 1, all.size()));
         }
     }
 
-    /** A {@code try} that begins with taking the lock that its {@code finally} gives back; whether it is one. */
+    /** A {@code try} that begins with taking the lock that its {@code finally} gives back, which does nothing else. */
     boolean lockedWithin(TryTree tree) {
         List<? extends StatementTree> all = tree.getBlock().getStatements();
-        ExpressionTree lock = all.isEmpty() ? null : locking.operand(all.get(0), TAKES);
-        if (lock == null || release(lock, tree) != 0 || tree.getFinallyBlock().getStatements().size() != 1) {
+        List<ExpressionTree> lock = all.isEmpty() ? List.of() : locking.operands(all.get(0), TAKES);
+        if (lock.isEmpty() || release(lock, tree) != 0 || tree.getFinallyBlock().getStatements().size() != 1) {
             return false;
         }
-        Locking.Lock taken = locking.lock(lock);
-        Part inside = body.collect(() -> statements.all(all.subList(1, all.size())));
-        body.emit(new Part.Region(taken.path(), taken.mode(), inside, services.attribution().place(all.get(0))));
+        held(taken(lock), all.get(0), () -> statements.all(all.subList(1, all.size())));
         return true;
     }
 
@@ -144,7 +153,8 @@ final class Regions {
     }
 
     /** An {@code if (lock.tryLock())}: the region where it is taken, a step where it isn't. Whether it was written. */
-    boolean attempt(IfTree tree, ExpressionTree lock, List<? extends StatementTree> rest) {
+    boolean attempt(IfTree tree, ExpressionTree tried, List<? extends StatementTree> rest) {
+        List<ExpressionTree> lock = List.of(tried);
         boolean negated = Uses.bare(tree.getCondition()) instanceof UnaryTree;
         boolean refusedEnds = negated && Jumps.ends(tree.getThenStatement());
         List<? extends StatementTree> taken = negated ? rest : statements(tree.getThenStatement());
@@ -152,15 +162,14 @@ final class Regions {
         if (length == 0 || negated && (!refusedEnds || tree.getElseStatement() != null)) {
             return false;
         }
-        Locking.Lock held = locking.lock(lock);
+        List<Locking.Lock> held = taken(lock);
         Part got = body.collect(() -> {
-            Part inside = body.collect(() -> inside(lock, taken.subList(0, length)));
-            body.emit(new Part.Region(held.path(), held.mode(), inside, services.attribution().place(tree)));
+            held(held, tree, () -> inside(lock, taken.subList(0, length)));
             behind(lock, taken.get(length - 1));
             statements.all(taken.subList(length, taken.size()));
         });
         Part missed = body.collect(() -> {
-            body.emit(services.step("Lock.tryLock", false, lock));
+            body.emit(services.step("Lock.tryLock", false, tried));
             statements.one(negated ? tree.getThenStatement() : tree.getElseStatement());
         });
         body.emit(new Part.Either(got, missed));

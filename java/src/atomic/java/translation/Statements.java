@@ -164,30 +164,36 @@ final class Statements extends SimpleTreeVisitor<Void, Void> {
 
     @Override
     public Void visitWhileLoop(WhileLoopTree tree, Void nothing) {
-        repeat(tree, body.collect(() -> {
-            expressions.value(tree.getCondition());
-            one(tree.getStatement());
-        }));
+        if (!new Retries(services, body, this).write(tree)) {
+            repeat(tree, body.collect(() -> {
+                expressions.value(tree.getCondition());
+                one(tree.getStatement());
+            }));
+        }
         return null;
     }
 
     @Override
     public Void visitDoWhileLoop(DoWhileLoopTree tree, Void nothing) {
-        repeat(tree, body.collect(() -> {
-            one(tree.getStatement());
-            expressions.value(tree.getCondition());
-        }));
+        if (!new Retries(services, body, this).write(tree)) {
+            repeat(tree, body.collect(() -> {
+                one(tree.getStatement());
+                expressions.value(tree.getCondition());
+            }));
+        }
         return null;
     }
 
     @Override
     public Void visitForLoop(ForLoopTree tree, Void nothing) {
         all(tree.getInitializer());
-        repeat(tree, body.collect(() -> {
-            expressions.value(tree.getCondition());
-            one(tree.getStatement());
-            all(tree.getUpdate());
-        }));
+        if (!new Retries(services, body, this).write(tree)) {
+            repeat(tree, body.collect(() -> {
+                expressions.value(tree.getCondition());
+                one(tree.getStatement());
+                all(tree.getUpdate());
+            }));
+        }
         return null;
     }
 
@@ -232,12 +238,15 @@ final class Statements extends SimpleTreeVisitor<Void, Void> {
     @Override
     public Void visitTry(TryTree tree, Void nothing) {
         tree.getResources().forEach(this::resource);
-        if (!regions.lockedWithin(tree)) {
+        boolean locked = regions.lockedWithin(tree);
+        if (!locked) {
             all(tree.getBlock().getStatements());
         }
         tree.getResources().forEach(each -> new Iteration(services, body).close(each));
         catches(tree);
-        one(tree.getFinallyBlock());
+        if (!locked) {
+            one(tree.getFinallyBlock());
+        }
         return null;
     }
 

@@ -1,0 +1,220 @@
+package atomic.java.translation;
+
+import atomic.java.ownership.Uses;
+import atomic.java.program.JavaMethod;
+import com.sun.source.tree.AssignmentTree;
+import com.sun.source.tree.BlockTree;
+import com.sun.source.tree.ClassTree;
+import com.sun.source.tree.CompoundAssignmentTree;
+import com.sun.source.tree.ExpressionStatementTree;
+import com.sun.source.tree.ExpressionTree;
+import com.sun.source.tree.IdentifierTree;
+import com.sun.source.tree.LiteralTree;
+import com.sun.source.tree.MemberSelectTree;
+import com.sun.source.tree.MethodInvocationTree;
+import com.sun.source.tree.NewClassTree;
+import com.sun.source.tree.StatementTree;
+import com.sun.source.tree.Tree;
+import com.sun.source.tree.UnaryTree;
+import com.sun.source.tree.VariableTree;
+import com.sun.source.util.TreeScanner;
+import java.util.HashSet;
+import java.util.List;
+import java.util.Set;
+import javax.lang.model.element.Element;
+import javax.lang.model.element.ElementKind;
+import javax.lang.model.element.ExecutableElement;
+import javax.lang.model.element.VariableElement;
+import javax.lang.model.type.TypeMirror;
+
+/**
+ * A look at a variable, and the attempt to change it from what was looked at. A turn around them keeps nothing for the
+ * next one where it only computes: each local from outside the turn is assigned before it is read, and nothing else is
+ * changed, no code of others runs, and no jump goes on with the next turn from the middle.
+ *
+ * @param look the call that looks
+ * @param change the attempt
+ * @param old the local that keeps what was looked at
+ */
+record Attempt(MethodInvocationTree look, MethodInvocationTree change, VariableElement old, Services services) {
+    private static final Set<String> CLASSES = Set.of("java.util.concurrent.atomic.AtomicInteger",
+        "java.util.concurrent.atomic.AtomicLong", "java.util.concurrent.atomic.AtomicBoolean",
+        "java.util.concurrent.atomic.AtomicReference");
+    private static final Set<String> CHANGES = Set.of("compareAndSet", "weakCompareAndSetVolatile");
+    private static final Set<Tree.Kind> REFUSED = Set.of(Tree.Kind.CONTINUE, Tree.Kind.LAMBDA_EXPRESSION,
+        Tree.Kind.MEMBER_REFERENCE, Tree.Kind.SYNCHRONIZED, Tree.Kind.TRY, Tree.Kind.LABELED_STATEMENT,
+        Tree.Kind.WHILE_LOOP, Tree.Kind.DO_WHILE_LOOP, Tree.Kind.FOR_LOOP, Tree.Kind.ENHANCED_FOR_LOOP);
+
+    /** Whether a call has the name of an attempt. */
+    static boolean isNamed(MethodInvocationTree call) {
+        return call.getMethodSelect() instanceof MemberSelectTree select
+            && CHANGES.contains(select.getIdentifier().toString()) && call.getArguments().size() == 2;
+    }
+
+    /** The attempt of a turn, whose look is among the statements before it; null where it isn't one. */
+    static Attempt of(ExpressionTree tree, List<StatementTree> before, Services services) {
+        if (!(tree instanceof MethodInvocationTree change) || !isNamed(change) || variable(change, services) == null
+                || !(services.attribution().element(Uses.bare(change.getArguments().get(0))) instanceof VariableElement old)
+                || old.getKind() != ElementKind.LOCAL_VARIABLE) {
+            return null;
+        }
+        for (StatementTree each : before) {
+            if (assigned(each, services) == old && value(each) instanceof MethodInvocationTree look
+                    && look.getMethodSelect() instanceof MemberSelectTree select && look.getArguments().isEmpty()
+                    && select.getIdentifier().contentEquals("get")
+                    && variable(change, services) == variable(look, services)) {
+                return new Attempt(look, change, old, services);
+            }
+        }
+        return null;
+    }
+
+    /** The variable of a library's class that a call is made on, where its name means the same object each time. */
+    private static Element variable(MethodInvocationTree call, Services services) {
+        ExpressionTree object = ((MemberSelectTree) call.getMethodSelect()).getExpression();
+        Element symbol = services.attribution().element(object);
+        boolean own = object instanceof IdentifierTree
+            || object instanceof MemberSelectTree select && select.getExpression().toString().equals("this");
+        TypeMirror type = services.attribution().type(object);
+        if (!own || type == null || !CLASSES.contains(services.attribution().types().erasure(type).toString())
+                || !(symbol instanceof VariableElement variable)) {
+            return null;
+        }
+        boolean kept = variable.getKind().isField() ? services.program().find(variable.getEnclosingElement()) != null
+            && services.fields().isSettled(variable) : services.uses().isSettled(variable);
+        return kept ? variable : null;
+    }
+
+    /** The local that a statement gives a value, or null. */
+    private static Element assigned(StatementTree statement, Services services) {
+        return statement instanceof VariableTree declared ? services.attribution().element(declared)
+            : statement instanceof ExpressionStatementTree expression
+                && expression.getExpression() instanceof AssignmentTree assignment
+            ? services.attribution().element(Uses.bare(assignment.getVariable())) : null;
+    }
+
+    private static ExpressionTree value(StatementTree statement) {
+        ExpressionTree value = statement instanceof VariableTree declared ? declared.getInitializer()
+            : ((AssignmentTree) ((ExpressionStatementTree) statement).getExpression()).getExpression();
+        return value == null ? null : Uses.bare(value);
+    }
+
+    /** Whether a turn keeps nothing for the next one, so that one that fails is as if it hadn't been. */
+    boolean forgets(List<StatementTree> before, List<StatementTree> after) {
+        Turn turn = new Turn();
+        for (StatementTree each : before) {
+            Element given = assigned(each, services);
+            if (given != null && given.getKind() == ElementKind.LOCAL_VARIABLE && value(each) != null) {
+                turn.scan(value(each), null);
+                turn.begin(given);
+            } else {
+                turn.scan(each, null);
+            }
+        }
+        turn.scan(change, null);
+        turn.scan(after, null);
+        return turn.holds && services.uses().assignments(old).stream().filter(each -> turn.seen.contains(each.tree())
+            || before.contains(each.tree()) || before.stream().anyMatch(one -> one
+                instanceof ExpressionStatementTree expression && expression.getExpression() == each.tree())).count() == 1;
+    }
+
+    /** Looks through what a turn does. */
+    private final class Turn extends TreeScanner<Void, Void> {
+        private final Set<Element> known = new HashSet<>();
+        private final Set<Element> read = new HashSet<>();
+        private final Set<Tree> seen = new HashSet<>();
+        private boolean holds = true;
+
+        @Override
+        public Void scan(Tree tree, Void nothing) {
+            if (tree != null) {
+                seen.add(tree);
+                holds &= !REFUSED.contains(tree.getKind()) && !(tree instanceof ClassTree);
+            }
+            return super.scan(tree, nothing);
+        }
+
+        /** From here on a local has a value of this turn: what it had before must not have been read. */
+        void begin(Element local) {
+            holds &= !read.contains(local);
+            known.add(local);
+        }
+
+        @Override
+        public Void visitIdentifier(IdentifierTree tree, Void nothing) {
+            Element symbol = services.attribution().element(tree);
+            if (!known.contains(symbol)) {
+                read.add(symbol);
+            }
+            return null;
+        }
+
+        @Override
+        public Void visitVariable(VariableTree tree, Void nothing) {
+            known.add(services.attribution().element(tree));
+            return super.visitVariable(tree, nothing);
+        }
+
+        /** What a turn assigns has to be its own. */
+        @Override
+        public Void visitAssignment(AssignmentTree tree, Void nothing) {
+            change(tree.getVariable());
+            return super.visitAssignment(tree, nothing);
+        }
+
+        @Override
+        public Void visitCompoundAssignment(CompoundAssignmentTree tree, Void nothing) {
+            change(tree.getVariable());
+            return super.visitCompoundAssignment(tree, nothing);
+        }
+
+        @Override
+        public Void visitUnary(UnaryTree tree, Void nothing) {
+            switch (tree.getKind()) {
+                case PREFIX_INCREMENT, PREFIX_DECREMENT, POSTFIX_INCREMENT, POSTFIX_DECREMENT ->
+                    change(tree.getExpression());
+                default -> { }
+            }
+            return super.visitUnary(tree, nothing);
+        }
+
+        private void change(ExpressionTree target) {
+            holds &= Uses.bare(target) instanceof IdentifierTree name
+                && known.contains(services.attribution().element(name));
+        }
+
+        @Override
+        public Void visitMethodInvocation(MethodInvocationTree tree, Void nothing) {
+            boolean own = tree == look || tree == change;
+            holds &= own || services.attribution().element(tree) instanceof ExecutableElement symbol
+                && services.program().method(symbol) == null && Retries.onlyComputes(
+                    services.ownership().escape().choose(tree.getMethodSelect(), symbol));
+            return super.visitMethodInvocation(tree, nothing);
+        }
+
+        @Override
+        public Void visitNewClass(NewClassTree tree, Void nothing) {
+            JavaMethod constructor = services.program().method(services.attribution().element(tree));
+            holds &= tree.getClassBody() == null && (constructor != null ? keepsOnly(constructor)
+                : services.program().find(services.attribution().type(tree)) == null && Retries.onlyComputes(
+                    services.program().library().choose(services.attribution().type(tree), "new")));
+            return super.visitNewClass(tree, nothing);
+        }
+
+        /** Whether a constructor does nothing but keep what it is given in fields of the new object. */
+        private boolean keepsOnly(JavaMethod constructor) {
+            boolean plain = constructor.owner().symbol().getSuperclass().toString().equals("java.lang.Object")
+                && constructor.owner().tree().getMembers().stream().noneMatch(each -> each instanceof BlockTree
+                || each instanceof VariableTree field && field.getInitializer() != null);
+            return plain && constructor.tree().getBody().getStatements().stream().allMatch(each ->
+                each instanceof ExpressionStatementTree statement && (statement.getExpression().toString().equals("super()")
+                || statement.getExpression() instanceof AssignmentTree assignment && isValue(assignment.getExpression())
+                && services.attribution().element(assignment.getVariable()) instanceof VariableElement field
+                && field.getEnclosingElement() == constructor.owner().symbol()));
+        }
+
+        private boolean isValue(ExpressionTree tree) {
+            return tree instanceof IdentifierTree || tree instanceof LiteralTree;
+        }
+    }
+}

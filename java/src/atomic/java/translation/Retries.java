@@ -1,0 +1,125 @@
+package atomic.java.translation;
+
+import atomic.java.library.Choice;
+import atomic.java.ownership.Uses;
+import atomic.java.program.JavaMethod;
+import atomic.java.skeleton.Part;
+import com.sun.source.tree.BlockTree;
+import com.sun.source.tree.DoWhileLoopTree;
+import com.sun.source.tree.ExpressionTree;
+import com.sun.source.tree.ForLoopTree;
+import com.sun.source.tree.IfTree;
+import com.sun.source.tree.LiteralTree;
+import com.sun.source.tree.MethodInvocationTree;
+import com.sun.source.tree.StatementTree;
+import com.sun.source.tree.Tree;
+import com.sun.source.tree.UnaryTree;
+import com.sun.source.tree.WhileLoopTree;
+import java.util.ArrayList;
+import java.util.List;
+
+/**
+ * Loops that try again until nobody else has changed a variable in between, such as
+ * {@code do { old = v.get(); next = old + 1; } while (!v.compareAndSet(old, next));}. A turn that fails only looked, nothing
+ * of it is kept (see {@link Attempt}), and another one follows. In the turn that succeeds the variable still has the value
+ * that was looked at, so the look may as well have been in the same moment: the whole loop is one step.
+ */
+final class Retries {
+
+    /** A loop's parts: what each turn does, the attempt at its end, and what follows where that succeeds. */
+    private record Turn(List<StatementTree> before, ExpressionTree attempt, StatementTree success,
+        List<StatementTree> after) { }
+
+    private final Services services;
+    private final Body body;
+    private final Statements statements;
+
+    Retries(Services services, Body body, Statements statements) {
+        this.services = services;
+        this.body = body;
+        this.statements = statements;
+    }
+
+    /** Writes the loop as one step, where it is such a one; whether it was written. */
+    boolean write(StatementTree loop) {
+        Turn turn = turn(loop);
+        Attempt attempt = turn == null ? null : Attempt.of(turn.attempt(), turn.before(), services);
+        if (attempt == null || Jumps.mayLeave(turn.after()) || !attempt.forgets(turn.before(), turn.after())) {
+            return false;
+        }
+        List<Part> steps = new ArrayList<>();
+        leaves(body.collect(() -> {
+            statements.all(turn.before());
+            new Expressions(services, body).value(turn.attempt());
+            statements.all(turn.after());
+        }), steps);
+        if (steps.size() != 2 || !isAt(steps.get(0), attempt.look()) || !isAt(steps.get(1), attempt.change())) {
+            return false;
+        }
+        body.emit(steps.get(1));
+        if (turn.success() != null) {
+            body.emit(new Part.Either(body.collect(() -> statements.one(turn.success())), Part.NOTHING));
+        }
+        return true;
+    }
+
+    private Turn turn(StatementTree loop) {
+        if (loop instanceof DoWhileLoopTree tried) {
+            ExpressionTree condition = Uses.bare(tried.getCondition());
+            return condition.getKind() == Tree.Kind.LOGICAL_COMPLEMENT ? new Turn(statements(tried.getStatement()),
+                Uses.bare(((UnaryTree) condition).getExpression()), null, List.of()) : null;
+        } else if (loop instanceof WhileLoopTree endless && isTrue(endless.getCondition())) {
+            return turn(statements(endless.getStatement()));
+        }
+        return loop instanceof ForLoopTree endless && isTrue(endless.getCondition()) && endless.getUpdate().isEmpty()
+            ? turn(statements(endless.getStatement())) : null;
+    }
+
+    /** An endless loop whose turn has the attempt as the condition of an {@code if} that leaves it. */
+    private static Turn turn(List<StatementTree> all) {
+        for (int k = 0; k < all.size(); k++) {
+            if (all.get(k) instanceof IfTree branch && Uses.bare(branch.getCondition()) instanceof MethodInvocationTree call
+                    && Attempt.isNamed(call) && Jumps.ends(branch.getThenStatement())
+                    && !Jumps.goesOn(branch.getThenStatement())) {
+                List<StatementTree> after = new ArrayList<>(all.subList(k + 1, all.size()));
+                if (branch.getElseStatement() != null) {
+                    after.add(0, branch.getElseStatement());
+                }
+                return new Turn(all.subList(0, k), call, branch.getThenStatement(), after);
+            }
+        }
+        return null;
+    }
+
+    private static List<StatementTree> statements(StatementTree statement) {
+        return statement instanceof BlockTree block ? new ArrayList<>(block.getStatements()) : List.of(statement);
+    }
+
+    private static boolean isTrue(ExpressionTree condition) {
+        return condition == null || Uses.bare(condition) instanceof LiteralTree literal
+            && Boolean.TRUE.equals(literal.getValue());
+    }
+
+    private boolean isAt(Part step, MethodInvocationTree call) {
+        return step instanceof Part.Call made && services.attribution().name(call).equals(made.place());
+    }
+
+    /** What others can see of a part: neither a second name for an object, nor a new one that only keeps values. */
+    private void leaves(Part part, List<Part> found) {
+        boolean idle = part instanceof Part.Local || part instanceof Part.Call call && isMaking(call);
+        if (part.parts().isEmpty() && !part.isNothing() && !idle || part instanceof Part.Region) {
+            found.add(part);
+        }
+        part.parts().forEach(each -> leaves(each, found));
+    }
+
+    private boolean isMaking(Part.Call call) {
+        JavaMethod method = services.methods().judged().get(call.target());
+        return method != null && method.isConstructor();
+    }
+
+    /** Whether a library's call, or making, only computes a value. */
+    static boolean onlyComputes(Choice choice) {
+        return choice.kind() == Choice.Kind.PURE && !choice.calls() && !choice.fills();
+    }
+}
