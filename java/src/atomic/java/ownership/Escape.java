@@ -110,7 +110,7 @@ public final class Escape {
         Choice choice = choose(select, symbol);
         return switch (choice.kind()) {
             case VIEW, PIPE -> from(call);
-            case UNKNOWN -> attribution.start(call);
+            case UNKNOWN -> unknown(call);
             default -> NEVER;
         };
     }
@@ -136,8 +136,19 @@ public final class Escape {
         return switch (choice.kind()) {
             case VIEW -> from(call);
             case PURE, ASSUMED, READS, RUN -> choice.keeps() ? attribution.start(call) : NEVER;
+            case UNKNOWN -> unknown(call);
             default -> attribution.start(call);
         };
+    }
+
+    /** A call of which nothing is known may keep an object, and may not where only what is certain counts. */
+    private long unknown(Tree call) {
+        return program.sure() ? NEVER : attribution.start(call);
+    }
+
+    /** Whether a library's method that an object is given to, or called on, keeps it for others. */
+    boolean mayKeep(Choice choice) {
+        return choice.keeps() && !(program.sure() && choice.kind() == Choice.Kind.UNKNOWN);
     }
 
     /** Whether a method of the sources, and each that overrides it, only uses a parameter, and neither keeps nor gives it. */
@@ -164,7 +175,8 @@ public final class Escape {
             return false;
         }
         Choice choice = program.library().choose(type, "new");
-        return choice.kind() == Choice.Kind.PURE && !choice.keeps();
+        return choice.kind() == Choice.Kind.PURE && !choice.keeps()
+            || choice.kind() == Choice.Kind.UNKNOWN && !mayKeep(choice);
     }
 
     private long into(ExpressionTree target, AssignmentTree assignment) {

@@ -128,7 +128,7 @@ public final class Selves {
                 if (method != null && leaks(method)) {
                     leak(tree);
                 } else if (method == null && symbol.getKind() == ElementKind.METHOD
-                        && escape.choose(tree.getMethodSelect(), (ExecutableElement) symbol).keeps()) {
+                        && escape.mayKeep(escape.choose(tree.getMethodSelect(), (ExecutableElement) symbol))) {
                     leak(tree);
                 }
             }
