@@ -1,0 +1,2 @@
+-- What was read of a file.
+pub mod Reading
