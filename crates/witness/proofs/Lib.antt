@@ -3,3 +3,9 @@ pub mod WalkLemmas
 pub mod ClosedSets
 -- An accepted program has no witness.
 pub mod Theorem
+-- Lemmas on tables of counts, on ends, on nodes, on the search, and on verdicts.
+pub mod GoalLemmas
+pub mod NodeLemmas
+pub mod SearchLemmas
+pub mod TableLemmas
+pub mod VerdictLemmas

@@ -3,8 +3,18 @@
 #![tactic(auto)]
 
 pub mod examples;
+mod goal;
+mod judge;
 mod laws;
+mod node;
 mod order_laws;
+mod places;
+mod search;
+mod table;
+mod verdict;
 
+pub use goal::{Compared, Goal};
+pub use judge::{Judged, judge_orders, judge_ways};
 pub use laws::witness_laws;
 pub use order_laws::{closed_laws, comparison_laws, walk_laws};
+pub use verdict::{Case, NoVerdict, Sense, Verdict, judge_schedule};

@@ -1,0 +1,80 @@
+-- The search: what it knows of its nodes, and what it finds.
+use Rattle.std.specs.Prelude.{◌≡◌, ℕ, ◌+◌, ◌≤◌, Bool, true, false, List, ◌++◌, Option, Some, None, slice_get}
+use Rattle.core_program.specs.Core.{Program}
+use Rattle.core_program.specs.Views.{program_of}
+use Rattle.state.specs.States.{State, initial}
+use Rattle.semantics.specs.Step.{step}
+use Rattle.machine.specs.Standing.{StandsFor}
+use Rattle.witness.specs.Tables.{count_at}
+use Rattle.witness.specs.Walks.{walk, may_step, must_step_next, entry_counts, less, allows, none_left}
+use Rattle.witness.specs.Witness.{IsKeptAs, IsReachedAs}
+use Rattle.witness.specs.declared.node.Node.{Node}
+use Rattle.witness.specs.declared.search.Search.{Search}
+use Rattle.witness.specs.declared.judge.Judged.{Judged}
+use Rattle.witness.specs.declared.judge.Judged.TheVariants as answer
+use Rattle.witness.specs.Judging.{AreLike}
+use Rattle.witness.specs.Nodes.{left_at, Covers}
+
+-- the program whose schedules are searched
+abbrev pub searched : Search → Program
+searched s = program_of s.program.now
+
+-- the entries that are left at the start
+abbrev pub start_left : Search → ℕ → ℕ
+start_left s = count_at s.left.now
+
+-- What holds of each node: its machine runs the program, its schedule walks to a state that the machine stands for, and what
+-- was left at the start is what the schedule has and what is left.
+pub record IsNode (s : Search) (n : Node) : Type 0 where
+  pub runs : n.machine.program ≡ s.program.now
+  pub coded : n.machine.code ≡ s.code.now
+  pub last : State
+  pub stands : StandsFor n.machine last
+  pub came : (more : List ℕ) → walk (searched s) (initial (searched s)) None (n.path.items ++ more) ≡ walk (searched s) last n.busy more
+  pub total : s.counted ≡ true → (t : ℕ) → entry_counts n.path.items t + left_at n t ≡ start_left s t
+
+-- each is such a node, and no machine made more steps than nodes stand before its own
+pub record AreNodes (s : Search) (nodes : List Node) : Type 0 where
+  pub each : (k : ℕ) (n : Node) → slice_get nodes k ≡ Some n → IsNode s n
+  pub few : (k : ℕ) (n : Node) → slice_get nodes k ≡ Some n → n.machine.made ≤ k
+
+-- some node is the one for this
+abbrev pub InSet : List Node → State → Option ℕ → (ℕ → ℕ) → Type 0
+InSet nodes q busy left = (k : ℕ) × (n : Node) × (slice_get nodes k ≡ Some n) × Covers n q busy left
+
+-- the nodes that were there still are
+abbrev pub Extends : List Node → List Node → Type 0
+Extends old new = (k : ℕ) (n : Node) → slice_get old k ≡ Some n → slice_get new k ≡ Some n
+
+-- a step of this thread that interrupts nobody leads from a node into the set
+abbrev pub LeadsIn : Search → List Node → Node → ℕ → Type 0
+LeadsIn s nodes n t = (q : State) (busy : Option ℕ) (left : ℕ → ℕ) (next : State) → Covers n q busy left → allows s.counted left t ≡ true → may_step busy t ≡ true
+    → step (searched s) q t ≡ Some next → InSet nodes next (must_step_next (searched s) next t) (less left t)
+
+-- a node was added, where it wasn't there already; without room nothing was
+pub record IsAdded (s : Search) (old new : List Node) (n : Node) (room : Bool) : Type 0 where
+  pub nodes : AreNodes s new
+  pub extends : Extends old new
+  pub within : room ≡ true → (q : State) (busy : Option ℕ) (left : ℕ → ℕ) → Covers n q busy left → InSet new q busy left
+
+-- each step of a thread behind a node leads into the set, where there was room
+pub record IsFollowed (s : Search) (old new : List Node) (place t : ℕ) (room : Bool) : Type 0 where
+  pub nodes : AreNodes s new
+  pub extends : Extends old new
+  pub leads : room ≡ true → (n : Node) → slice_get old place ≡ Some n → LeadsIn s new n t
+
+-- and so of every thread
+pub record IsExpanded (s : Search) (old new : List Node) (place : ℕ) (room : Bool) : Type 0 where
+  pub nodes : AreNodes s new
+  pub extends : Extends old new
+  pub leads : room ≡ true → (n : Node) → slice_get old place ≡ Some n → (t : ℕ) → LeadsIn s new n t
+
+-- What is found for an end: a schedule that walks to one like it, of the entries that were left at the start where they are
+-- counted; or that there is none; or neither, where as many states were seen as may be.
+abbrev pub IsFound : Search → State → Judged → Type 0
+IsFound s q (answer.Kept r) = (e : State) × (walk (searched s) (initial (searched s)) None r.items ≡ Some e) × AreLike s.goal.by q e
+    × (s.counted ≡ true → (t : ℕ) → entry_counts r.items t ≡ start_left s t)
+IsFound s q answer.Broken =
+    (s.counted ≡ true → (r : List ℕ) → entry_counts r ≡ start_left s → IsKeptAs (searched s) (AreLike s.goal.by) r q → ⊥)
+    × (s.counted ≡ false → start_left s ≡ none_left → IsReachedAs (searched s) (AreLike s.goal.by) q → ⊥)
+IsFound s q (answer.Undecided seen) = seen ≡ s.most
