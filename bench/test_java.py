@@ -7,6 +7,7 @@ users        classes as people bring them (java/tests/users): the verdicts that 
 larger       accepted sources of ordinary style (java/tests/larger)
 mutants      these, each time without one lock, guard or @Holding: each is told, or its line says why that is harmless
 summaries    sources whose first line has the line of figures that comes (java/tests/summaries)
+pieces       a source whose skeleton is too long for one text
 
 The exit status is 0 where all hold. Without a name all are tried.
 """
@@ -101,6 +102,21 @@ class Tester:
             if wanted not in rest:
                 self.tell(f"{path.name}: wanted {wanted}, given {rest}")
 
+    def pieces(self) -> None:
+        """Each refused method of a long source is told once, in the order of the source, and no method is cut."""
+        fields = " ".join(f"private int v{k};" for k in range(9))
+        steps = " ".join(f"v{k % 9}++;" for k in range(60))
+        classes = [f"class Part{k} {{ {fields}\n/* atomic */ synchronized void kept() {{ {steps} }}\n/* atomic */ void twice() {{ kept(); kept(); }} }}"
+                   for k in range(200)]
+        path = write_into_package("\n".join(classes) + "\n", "pieces", self.folder, "Part0.java")
+        answer = self.judged(["--infer"], [path])
+        told = [line.line for line in answer.lines if line.kind == "error"]
+        wanted = [line for line, text in enumerate(path.read_text(encoding="utf-8").splitlines(), 1) if "twice()" in text]
+        cut = [line.text for line in answer.lines if "limit:" in line.text]
+        self.count += len(wanted)
+        if told != wanted or cut:
+            self.tell(f"{path.name}: {len(wanted)} errors wanted, {len(told)} told, {len(cut)} methods cut: {(told + cut)[:3]}")
+
     def is_new(self, path: Path, line: Line) -> bool:
         """Whether a line is a data race that the source itself hasn't."""
         return RACE in line.text and (path.name, line.line, line.text) not in self.races
@@ -140,7 +156,7 @@ class Tester:
 
 def main() -> None:
     """Tries the tests that are named."""
-    names = ["adversaries", "users", "larger", "summaries", "mutants"]
+    names = ["adversaries", "users", "larger", "summaries", "pieces", "mutants"]
     parser = argparse.ArgumentParser(description=__doc__, formatter_class=argparse.RawDescriptionHelpFormatter)
     parser.add_argument("tests", nargs="*", metavar="TEST", help=f"what is tried: {', '.join(names)}")
     parser.add_argument("--program", type=Path, default=PROGRAM, help="the launcher (default: java/out/atomic-java)")

@@ -14,6 +14,7 @@ import atomic.java.skeleton.Part;
 import atomic.java.skeleton.Shape;
 import atomic.java.translation.Methods;
 import java.util.ArrayList;
+import java.util.Comparator;
 import java.util.HashMap;
 import java.util.LinkedHashSet;
 import java.util.List;
@@ -65,9 +66,10 @@ final class Judging {
     }
 
     private void judge(List<Method> all, boolean listed) {
-        for (Set<Method> piece : List.copyOf(pieces.of(all))) {
-            judge(piece, listed);
-        }
+        pieces.begin(all);
+        do {
+            judge(pieces.next(this::cut), listed);
+        } while (pieces.hasNext());
     }
 
     private List<Method> roots() {
@@ -81,7 +83,7 @@ final class Judging {
 
     private void judge(Set<Method> wanted, boolean listed) {
         for (int k = 0; k < MOST_REPAIRS; k++) {
-            Writer writer = new Writer(program.names(), program.helpers());
+            Writer writer = pieces.writer();
             Text text = writer.write(program.shapes(), wanted);
             Checker.Answers answers = checker.judge(text.bytes(), listed);
             Checker.Answer told = answers.explained();
@@ -109,19 +111,31 @@ final class Judging {
     /** Makes the method compound that the checker can't read. */
     private void repair(Writer writer, Checker.Answer told, Set<Method> wanted) {
         Matcher parts = REFUSED.matcher(told.lines().isEmpty() ? "" : told.lines().get(0));
-        Method method = null;
-        String kind = "too large";
-        if (parts.matches()) {
-            method = writer.method(Integer.parseInt(parts.group(1)));
-            kind = parts.group(3);
-        } else {
-            method = wanted.stream().filter(each -> !reduced.contains(each)).max(
-                java.util.Comparator.comparingInt(pieces::bytes)).orElse(null);
-        }
+        Method method = parts.matches() ? writer.method(Integer.parseInt(parts.group(1))) : largest(wanted);
+        String kind = parts.matches() ? parts.group(3) : "too large";
         if (method == null || !reduced.add(method)) {
             throw new Refusal(Options.NO_CHECKER, "atomic_why can't read the skeleton: " + String.join("; ", told.lines())
                 + (parts.matches() ? ": " + writer.line(Integer.parseInt(parts.group(1))) : ""));
         }
+        reduce(method, kind, wanted);
+    }
+
+    private Method largest(Set<Method> wanted) {
+        return wanted.stream().filter(each -> !reduced.contains(each)).max(Comparator.comparingInt(pieces::bytes))
+            .orElse(null);
+    }
+
+    /** Makes the largest method compound, where the methods that one calls don't fit into one text. */
+    private boolean cut(Set<Method> wanted) {
+        Method method = largest(wanted);
+        if (method != null && reduced.add(method)) {
+            reduce(method, "too large", new LinkedHashSet<>());
+            return true;
+        }
+        return false;
+    }
+
+    private void reduce(Method method, String kind, Set<Method> wanted) {
         if (method.place() != null) {
             program.notes().tell(Notes.Kind.APPROXIMATED, methods.origin(method), method.place(), "limit: the checker says "
                 + kind + (kind.equals("bad override") ? ", so no caller is taken to hold a lock for it"

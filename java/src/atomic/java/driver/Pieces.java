@@ -5,14 +5,17 @@ import atomic.java.places.Writer;
 import atomic.java.program.Program;
 import atomic.java.skeleton.Method;
 import atomic.java.skeleton.Part;
+import java.util.ArrayDeque;
 import java.util.ArrayList;
 import java.util.Comparator;
+import java.util.Deque;
 import java.util.HashMap;
 import java.util.HashSet;
 import java.util.LinkedHashSet;
 import java.util.List;
 import java.util.Map;
 import java.util.Set;
+import java.util.function.Predicate;
 
 /**
  * Which methods are judged in one text: as many as the checker reads, each with all that it calls or overrides. Methods
@@ -33,41 +36,57 @@ final class Pieces {
     private final Callees callees;
     private final Map<Method, Measure> measures = new HashMap<>();
     private final Map<Method, List<Method>> nexts = new HashMap<>();
-    private final List<Set<Method>> found = new ArrayList<>();
-    private Piece current;
+    private final Deque<Method> waiting = new ArrayDeque<>();
+    private int frame;
+    private boolean flat;
 
     Pieces(Program program, Callees callees) {
         this.program = program;
         this.callees = callees;
     }
 
-    /** The pieces that have all these methods. */
-    List<Set<Method>> of(List<Method> roots) {
-        int frame = new Writer(program.names(), program.helpers()).write(program.shapes(), Set.of()).length();
-        found.clear();
-        begin(frame);
+    /** Begins with the pieces of these methods. What doesn't fit into one text is written without indentation. */
+    void begin(List<Method> roots) {
+        waiting.clear();
+        waiting.addAll(roots);
+        frame = writer().write(program.shapes(), Set.of()).length();
         Set<Method> whole = new LinkedHashSet<>();
         roots.forEach(root -> reach(root, Set.of(), whole));
-        if (current.hasRoom(whole)) {
-            current.methods.addAll(whole);
-            return found;
+        if (!flat && !new Piece().hasRoom(whole)) {
+            flat = true;
+            measures.clear();
+            frame = writer().write(program.shapes(), Set.of()).length();
+            waiting.clear();
+            waiting.addAll(largestFirst(roots));
         }
-        for (Method root : largestFirst(roots)) {
-            Set<Method> more = new LinkedHashSet<>();
-            reach(root, current.methods, more);
-            if (!current.methods.isEmpty() && !current.hasRoom(more)) {
-                begin(frame);
-                more.clear();
-                reach(root, current.methods, more);
-            }
-            current.add(more);
-        }
-        return found;
     }
 
-    private void begin(int frame) {
-        current = new Piece(frame);
-        found.add(current.methods);
+    boolean hasNext() {
+        return !waiting.isEmpty();
+    }
+
+    /** The next piece. Where a method calls too much for one text, {@code cut} makes something smaller, if it can. */
+    Set<Method> next(Predicate<Set<Method>> cut) {
+        Piece piece = new Piece();
+        while (!waiting.isEmpty()) {
+            Set<Method> more = new LinkedHashSet<>();
+            reach(waiting.peek(), piece.methods, more);
+            if (!piece.hasRoom(more)) {
+                if (!piece.methods.isEmpty()) {
+                    break;
+                } else if (cut.test(more)) {
+                    continue;
+                }
+            }
+            piece.add(more);
+            waiting.remove();
+        }
+        return piece.methods;
+    }
+
+    /** A writer for texts as long as these. */
+    Writer writer() {
+        return new Writer(program.names(), program.helpers()).flat(flat);
     }
 
     private List<Method> largestFirst(List<Method> roots) {
@@ -82,11 +101,11 @@ final class Pieces {
 
     /** A method and all that it calls or overrides, and what overrides these, without those that are known before. */
     private void reach(Method method, Set<Method> known, Set<Method> reached) {
-        List<Method> waiting = new ArrayList<>(List.of(method));
-        while (!waiting.isEmpty()) {
-            Method each = waiting.remove(waiting.size() - 1);
+        List<Method> further = new ArrayList<>(List.of(method));
+        while (!further.isEmpty()) {
+            Method each = further.remove(further.size() - 1);
             if (!known.contains(each) && reached.add(each)) {
-                waiting.addAll(next(each));
+                further.addAll(next(each));
             }
         }
     }
@@ -120,7 +139,7 @@ final class Pieces {
 
     private Measure measure(Method method) {
         return measures.computeIfAbsent(method, each -> {
-            Writer writer = new Writer(program.names(), program.helpers());
+            Writer writer = writer();
             return new Measure(writer.size(each), writer.somes());
         });
     }
@@ -129,11 +148,7 @@ final class Pieces {
     private final class Piece {
         private final Set<Method> methods = new LinkedHashSet<>();
         private final Set<String> somes = new HashSet<>();
-        private int size;
-
-        Piece(int frame) {
-            size = frame + SPARE_BYTES;
-        }
+        private int size = frame + SPARE_BYTES;
 
         boolean hasRoom(Set<Method> more) {
             Set<String> lines = new HashSet<>(somes);

@@ -12,6 +12,7 @@ public final class Text {
     private final List<TreeMap<Integer, Place>> marks = new ArrayList<>(List.of(new TreeMap<>()));
     private int lineStart;
     private int depth;
+    private boolean flat;
 
     /** What is written from here on comes from this place. */
     public Text mark(Place place) {
@@ -19,6 +20,11 @@ public final class Text {
             marks.get(marks.size() - 1).put(text.length() - lineStart + 1, place);
         }
         return this;
+    }
+
+    /** Whether lines begin without blanks. */
+    void flat(boolean without) {
+        flat = without;
     }
 
     public Text put(String words) {
@@ -36,7 +42,7 @@ public final class Text {
 
     /** Begins a line. */
     public Text begin() {
-        text.append("  ".repeat(Math.min(depth, 20)));
+        text.append("  ".repeat(flat ? 0 : Math.min(depth, 20)));
         return this;
     }
 

@@ -29,6 +29,12 @@ public final class Writer {
         this.library = library;
     }
 
+    /** Without indentation, if so asked, in which a long text has a quarter of its bytes. */
+    public Writer flat(boolean flat) {
+        text.flat(flat);
+        return this;
+    }
+
     /** The whole text of the classes, with the methods {@code wanted}. */
     public Text write(List<Shape> shapes, Set<Method> wanted) {
         text.begin().line("class Main { void main() { } }");
