@@ -106,16 +106,19 @@ class Tester:
         """Each refused method of a long source is told once, in the order of the source, and no method is cut."""
         fields = " ".join(f"private int v{k};" for k in range(9))
         steps = " ".join(f"v{k % 9}++;" for k in range(60))
-        classes = [f"class Part{k} {{ {fields}\n/* atomic */ synchronized void kept() {{ {steps} }}\n/* atomic */ void twice() {{ kept(); kept(); }} }}"
-                   for k in range(200)]
+        kept = f"/* atomic */ synchronized void kept() {{ {steps} }}"
+        twice = "/* atomic */ void twice() { kept(); kept(); }"
+        classes = [f"class Part{k} {{ {fields}\n{kept}\n{twice} }}" for k in range(200)]
         path = write_into_package("\n".join(classes) + "\n", "pieces", self.folder, "Part0.java")
         answer = self.judged(["--infer"], [path])
         told = [line.line for line in answer.lines if line.kind == "error"]
-        wanted = [line for line, text in enumerate(path.read_text(encoding="utf-8").splitlines(), 1) if "twice()" in text]
+        source = path.read_text(encoding="utf-8").splitlines()
+        wanted = [line for line, text in enumerate(source, 1) if "twice()" in text]
         cut = [line.text for line in answer.lines if "limit:" in line.text]
         self.count += len(wanted)
         if told != wanted or cut:
-            self.tell(f"{path.name}: {len(wanted)} errors wanted, {len(told)} told, {len(cut)} methods cut: {(told + cut)[:3]}")
+            found = f"{len(told)} told, {len(cut)} methods cut: {(told + cut)[:3]}"
+            self.tell(f"{path.name}: {len(wanted)} errors wanted, {found}")
 
     def is_new(self, path: Path, line: Line) -> bool:
         """Whether a line is a data race that the source itself hasn't."""
