@@ -51,6 +51,10 @@ case $said in
 "$examples/unguarded.java:4:17: error: Main.main is declared atomic, found cmpd"*) ;;
 *) wrong "atomic_why says $said" ;;
 esac
+status=0
+said=$(chroot "$root" /usr/bin/atomic_witness $examples/tickets_race.java $examples/tickets_race.witness) || status=$?
+[ $status = 2 ] || wrong "atomic_witness ended with $status"
+[ "$said" = "broken: no schedule that interrupts no atomic call prints this" ] || wrong "atomic_witness says $said"
 
 # The scripts, the manual page, the completion: from the root, with this machine's programs.
 ATOMIC=$root/usr/bin/atomic ATOMIC_WHY=$root/usr/bin/atomic_why

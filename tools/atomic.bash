@@ -44,6 +44,13 @@ _atomic_why() {
     fi
 }
 
+_atomic_witness() {
+    case $COMP_CWORD in
+    1) _atomic_files java ;;
+    2) _atomic_files schedule witness ;;
+    esac
+}
+
 _atomic_tool() {
     local word=${COMP_WORDS[COMP_CWORD]} tool=${COMP_WORDS[0]##*/} options="--help --version --output"
     local number before=- count=0
@@ -77,5 +84,6 @@ _atomic_java() {
 
 complete -o filenames -F _atomic atomic
 complete -o filenames -F _atomic_why atomic_why
+complete -o filenames -F _atomic_witness atomic_witness
 complete -o filenames -F _atomic_java atomic-java
 complete -o filenames -F _atomic_tool atomic-page atomic-witness atomic-sarif

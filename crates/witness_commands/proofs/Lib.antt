@@ -1,0 +1,5 @@
+-- Reading both files, when it ends how, what the clauses of the top call say, and the sentence.
+pub mod ReadingLemmas
+pub mod Endings
+pub mod Runs
+pub mod Stages

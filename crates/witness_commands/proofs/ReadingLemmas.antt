@@ -1,0 +1,60 @@
+-- What is known of the files, from how the two readings ended.
+use Rattle.std.proofs.Common.{◌≡◌, ◌≢◌, ◌<◌, ◌≤◌, ℕ, List, Option, Some, None, IfSome, IsSome, length, refl, sym, subst, ◌∙◌}
+use Rattle.edge.specs.declared.transfer.ReadEnd.{ReadEnd}
+use Rattle.edge.specs.declared.transfer.ReadEnd.TheVariants.{Fault, TooLarge, NoMemory}
+use Rattle.edge.specs.Faults.{Rose}
+use Rattle.witness_commands.specs.Outcomes.{IsOutcome, IsUnreadLine, unread, over}
+use Rattle.witness_commands.specs.Reading.{longest_source, longest_schedule, AreBytesOf, AreRead, IsSourceWithin, IsQuiet, IsUnread, IsOver, IsFirstUnread, IsFirstOver, source_unread, schedule_unread, source_over, schedule_over}
+
+-- What the reading of a file of this name says at its end.
+pub record Ends (told : List ℕ → Option (List ℕ)) (before now : List ℕ → ℕ) (limit : ℕ) (name : List ℕ) (end : ReadEnd) : Type 0 where
+  pub fault : end ≡ Fault → Rose (before name) (now name)
+  pub others : (other : List ℕ) → other ≢ name → IsSome (told other) → now other ≡ before other
+  pub large : end ≡ TooLarge → IfSome (told name) (λ file. limit < length file)
+  pub calm : end ≢ Fault → IsQuiet before now
+
+-- the same, where the counts were these before, and nothing failed in between
+pub earlier : (told after : List ℕ → Option (List ℕ)) (before mid now : List ℕ → ℕ) (limit : ℕ) (name : List ℕ) (end : ReadEnd) → ((other : List ℕ) → after other ≡ told other) → IsQuiet before mid
+    → Ends after mid now limit name end → Ends told before now limit name end
+earlier told after before mid now limit name end same calm e = record {
+  fault = λ is. subst (λ n. Rose n (now name)) (calm name) (e.fault is);
+  others = λ other differs known. e.others other differs (subst IsSome (sym (same other)) known) ∙ calm other;
+  large = λ is. subst (λ o. IfSome o (λ file. limit < length file)) (same name) (e.large is);
+  calm = λ is other. e.calm is other ∙ calm other;
+}
+
+module _ (told : List ℕ → Option (List ℕ)) (before now : List ℕ → ℕ) (source schedule : List ℕ) where
+  line_of : (limit : ℕ) (name : List ℕ) (end : ReadEnd) (status : ℕ) (line : List ℕ) → Ends told before now limit name end
+      → (IsUnread told before now name → IsFirstUnread told before now source schedule name) → (IsOver told before now limit name → IsFirstOver told before now source schedule name)
+      → IsUnreadLine name end status line → IsOutcome source schedule told before now status line
+  line_of limit name Fault status line e first large says =
+      subst (λ n. IsOutcome source schedule told before now n line) (sym says.0) (subst (IsOutcome source schedule told before now 6) (sym says.1)
+      (unread name (first (record { rose = e.fault refl; others = e.others }))))
+  line_of limit name TooLarge status line e first large says =
+      subst (λ n. IsOutcome source schedule told before now n line) (sym says.0) (subst (IsOutcome source schedule told before now 10) (sym says.1)
+      (over name (large (record { over = e.large refl; quiet = e.calm (λ is. let both : TooLarge ≡ Fault = is in cc) }))))
+  line_of limit name NoMemory status line e first large says = absurd says
+
+  -- the source wasn't read
+  pub source_ends : (end : ReadEnd) (status : ℕ) (line : List ℕ) → Ends told before now longest_source source end → IsUnreadLine source end status line → IsOutcome source schedule told before now status line
+  source_ends end status line e says = line_of longest_source source end status line e (λ is. source_unread is) (λ is. source_over is) says
+
+  -- the source was read, and the schedule wasn't
+  pub schedule_ends : IsSourceWithin told source → (end : ReadEnd) (status : ℕ) (line : List ℕ) → Ends told before now longest_schedule schedule end → IsUnreadLine schedule end status line
+      → IsOutcome source schedule told before now status line
+  schedule_ends within end status line e says = line_of longest_schedule schedule end status line e (λ is. schedule_unread within is) (λ is. schedule_over within is) says
+
+-- what is told of a file that was read is within the limit
+pub told_within : (o : Option (List ℕ)) (bytes : List ℕ) (limit : ℕ) → IfSome o (λ file. bytes ≡ file) → length bytes ≤ limit → IfSome o (λ file. length file ≤ limit)
+told_within None bytes limit is within = tt
+told_within (Some file) bytes limit is within = subst (λ b. length b ≤ limit) is within
+
+-- both files were read
+pub both_read : (told after : List ℕ → Option (List ℕ)) (before mid now : List ℕ → ℕ) (source schedule file text : List ℕ) → ((other : List ℕ) → after other ≡ told other) → IsQuiet before mid → IsQuiet mid now
+    → AreBytesOf told source file → AreBytesOf after schedule text → length file ≤ longest_source → length text ≤ longest_schedule → AreRead told before now source schedule file text
+both_read told after before mid now source schedule file text same first second one other small short = record {
+  source_is = one;
+  schedule_is = subst (λ o. IfSome o (λ bytes. text ≡ bytes)) (same schedule) other;
+  within = (small, short);
+  quiet = λ name. second name ∙ first name;
+}

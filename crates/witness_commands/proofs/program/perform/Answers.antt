@@ -1,0 +1,55 @@
+-- What was found, from how the readings ended.
+use Rattle.std.proofs.Common.{ap, subst, string_bytes, Err}
+use Rattle.std.proofs.lemmas.Result.{IfOk-weaker}
+use Rattle.witness_commands.specs.Answers.{WitnessAnswer}
+use Rattle.witness_commands.specs.Outcomes.{IsOutcome, IsUnreadLine, read}
+use Rattle.witness_commands.proofs.ReadingLemmas.{earlier, source_ends, schedule_ends, told_within, both_read}
+use Rattle.witness_commands.proofs.program.perform.Goals as goal
+
+pub returns-in-Err : goal.returns-in-Err
+returns-in-Err g c =
+    let told = g.F.Folder.told c.args.folder.now in
+    let before = g.F.Folder.faults c.args.folder.now in
+    let now = g.F.Folder.faults c.read_file.new.folder in
+    let source = c.args.source.now in
+    let schedule = c.args.schedule.now in
+    let ended = c.in-Err.ensures in
+    IfOk-weaker c.unread.result (λ o. IsUnreadLine source c.in-Err.end o.status (string_bytes o.text)) (λ o. IsOutcome source schedule told before now o.status (string_bytes o.text))
+    (λ o says. source_ends told before now source schedule c.in-Err.end o.status (string_bytes o.text)
+    (record { fault = λ is. ended.fault (ap Err is); others = ended.others; large = λ is. ended.too_large (ap Err is); calm = ended.calm_end }) says)
+    c.unread.ensures
+
+pub returns-in-Err-read_file : goal.returns-in-Err-read_file
+returns-in-Err-read_file g c =
+    let told = g.F.Folder.told c.args.folder.now in
+    let after = g.F.Folder.told c.read_file.new.folder in
+    let before = g.F.Folder.faults c.args.folder.now in
+    let mid = g.F.Folder.faults c.read_file.new.folder in
+    let now = g.F.Folder.faults c.read_file-2.new.folder in
+    let source = c.args.source.now in
+    let schedule = c.args.schedule.now in
+    let first = c.in-Ok.ensures in
+    let ended = c.in-Err-read_file.ensures in
+    IfOk-weaker c.unread-in-Err-read_file.result (λ o. IsUnreadLine schedule c.in-Err-read_file.end o.status (string_bytes o.text)) (λ o. IsOutcome source schedule told before now o.status (string_bytes o.text))
+    (λ o says. schedule_ends told before now source schedule (told_within (told source) c.in-Ok.bytes.items 262144 first.whole first.within) c.in-Err-read_file.end o.status (string_bytes o.text)
+    (earlier told after before mid now 16777216 schedule c.in-Err-read_file.end first.told first.calm
+    (record { fault = λ is. ended.fault (ap Err is); others = ended.others; large = λ is. ended.too_large (ap Err is); calm = ended.calm_end })) says)
+    c.unread-in-Err-read_file.ensures
+
+pub returns : goal.returns
+returns g c =
+    let told = g.F.Folder.told c.args.folder.now in
+    let after = g.F.Folder.told c.read_file.new.folder in
+    let before = g.F.Folder.faults c.args.folder.now in
+    let mid = g.F.Folder.faults c.read_file.new.folder in
+    let now = g.F.Folder.faults c.read_file-2.new.folder in
+    let source = c.args.source.now in
+    let schedule = c.args.schedule.now in
+    let one = c.in-Ok.ensures in
+    let other = c.in-Ok-read_file.ensures in
+    let file = c.in-Ok.bytes.items in
+    let text = c.in-Ok-read_file.bytes.items in
+    IfOk-weaker c.judged.result (λ o. WitnessAnswer c.as_slice.result.now c.as_slice-2.result.now o.status (string_bytes o.text)) (λ o. IsOutcome source schedule told before now o.status (string_bytes o.text))
+    (λ o answer. read file text (both_read told after before mid now source schedule file text one.told one.calm other.calm one.whole other.whole one.within other.within)
+    (subst (λ f. WitnessAnswer f text o.status (string_bytes o.text)) c.as_slice.ensures.value (subst (λ t. WitnessAnswer c.as_slice.result.now t o.status (string_bytes o.text)) c.as_slice-2.ensures.value answer)))
+    c.judged.ensures

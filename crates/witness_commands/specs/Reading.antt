@@ -1,0 +1,55 @@
+-- What is known of the files that are read: the source first, and then the text of the schedule.
+use Rattle.std.specs.Prelude.{◌≡◌, ◌≢◌, ℕ, ◌<◌, ◌≤◌, List, Option, IfSome, IsSome, length}
+use Rattle.edge.specs.Faults.{Rose}
+
+-- how many bytes a source may have, and the text of a schedule
+abbrev pub longest_source : ℕ
+longest_source = 262144
+
+abbrev pub longest_schedule : ℕ
+longest_schedule = 16777216
+
+-- both files have at most as many bytes as they may have
+abbrev pub AreWithin : (file text : List ℕ) → Type 0
+AreWithin file text = (length file ≤ longest_source) × (length text ≤ longest_schedule)
+
+-- no file's count of faults changed
+abbrev pub IsQuiet : (before now : List ℕ → ℕ) → Type 0
+IsQuiet before now = (name : List ℕ) → now name ≡ before name
+
+module _ (told : List ℕ → Option (List ℕ)) where
+  -- where the folder tells the file of this name, these are its bytes
+  abbrev pub AreBytesOf : (name file : List ℕ) → Type 0
+  AreBytesOf name file = IfSome (told name) (λ bytes. file ≡ bytes)
+
+  -- where the folder tells the source, it has at most as many bytes as it may have
+  abbrev pub IsSourceWithin : (source : List ℕ) → Type 0
+  IsSourceWithin source = IfSome (told source) (λ file. length file ≤ longest_source)
+
+  module _ (before now : List ℕ → ℕ) where
+    -- the file couldn't be read: its count of faults rose or stands at its last value, and that of no other file that is told changed
+    pub record IsUnread (name : List ℕ) : Type 0 where
+      pub rose : Rose (before name) (now name)
+      pub others : (other : List ℕ) → other ≢ name → IsSome (told other) → now other ≡ before other
+
+    -- the file has more bytes than it may have
+    pub record IsOver (limit : ℕ) (name : List ℕ) : Type 0 where
+      pub over : IfSome (told name) (λ file. limit < length file)
+      pub quiet : IsQuiet before now
+
+    -- the first of the files that couldn't be read
+    pub data IsFirstUnread (source schedule : List ℕ) : List ℕ → Type 0 where
+      source_unread : IsUnread source → IsFirstUnread source schedule source
+      schedule_unread : IsSourceWithin source → IsUnread schedule → IsFirstUnread source schedule schedule
+
+    -- the first of the files that has more bytes than it may have
+    pub data IsFirstOver (source schedule : List ℕ) : List ℕ → Type 0 where
+      source_over : IsOver longest_source source → IsFirstOver source schedule source
+      schedule_over : IsSourceWithin source → IsOver longest_schedule schedule → IsFirstOver source schedule schedule
+
+    -- both files were read
+    pub record AreRead (source schedule file text : List ℕ) : Type 0 where
+      pub source_is : AreBytesOf source file
+      pub schedule_is : AreBytesOf schedule text
+      pub within : AreWithin file text
+      pub quiet : IsQuiet before now

@@ -1,0 +1,69 @@
+-- What is written, and with which status.
+use Rattle.std.specs.Prelude.{◌≡◌, ℕ, ◌<◌, ◌≤◌, List, Option, Some, length, ◌⊎◌}
+use Rattle.std.specs.Io.KnownBytes.{Appends}
+use Rattle.edge.specs.Pieces.{AppendsFront}
+use Rattle.edge.specs.Lines.{cannot_read_line, too_large_line}
+use Rattle.edge.specs.Said.{Exactly, IsTroubleStatus}
+use Rattle.sources.specs.Facts.{IsNotWellFormed}
+use Rattle.semantics.specs.Run.{Runs}
+use Rattle.schedule_commands.specs.Schedules.{HasInput, IsWellFormedText, IsNoSchedule, LeavesCallOpen, EndsOutside}
+use Rattle.witness_commands.specs.Answers.{WitnessAnswer, IsKeptEnd, IsWitnessOf}
+use Rattle.witness_commands.specs.Reading.{longest_source, longest_schedule, AreWithin, AreBytesOf, IsFirstUnread}
+use Rattle.witness_commands.specs.Words.{IsRow}
+
+-- the words are the names of a source and of a schedule, and the folder tells the bytes of both files
+pub record IsAsked (words : List (List ℕ)) (told : List ℕ → Option (List ℕ)) (source schedule file text : List ℕ) : Type 0 where
+  pub is_row : IsRow words source schedule
+  pub source_told : told source ≡ Some file
+  pub schedule_told : told schedule ≡ Some text
+
+-- the status and the text that belong to the bytes of the files
+pub data Belongs (source schedule file text : List ℕ) : ℕ → List ℕ → Type 0 where
+  source_large : longest_source < length file → Belongs source schedule file text 10 (too_large_line source)
+  schedule_large : length file ≤ longest_source → longest_schedule < length text → Belongs source schedule file text 10 (too_large_line schedule)
+  answered : {status : ℕ} {out : List ℕ} → AreWithin file text → WitnessAnswer file text status out → Belongs source schedule file text status out
+
+-- the status comes only where the fact holds; and where it does, the status comes, or as many states were seen as may be, or one of the
+-- answers that come before all others
+pub record Decides (result status : ℕ) (fact : Type 0) : Type 0 where
+  pub only : result ≡ status → fact
+  pub all : fact → (result ≡ status) ⊎ ((result ≡ 16) ⊎ IsTroubleStatus result)
+
+-- Which status comes for the bytes of the files: 10 exactly where one has too many; else 1 exactly where the first is no well-formed source,
+-- 3 where the second is the text of no schedule, 4 where the schedule stops, 5 where it ends with a thread inside an atomic call. Else 0
+-- where some order leaves the same, 2 where the schedule is a witness, and 16, in place of either, where as many states were seen as may be.
+pub record IsExact (file text : List ℕ) (result : ℕ) : Type 0 where
+  pub too_large : Exactly result 10 ((longest_source < length file) ⊎ (longest_schedule < length text))
+  pub refused : Exactly result 1 (AreWithin file text × IsNotWellFormed file)
+  pub no_schedule : Exactly result 3 (AreWithin file text × IsWellFormedText file × IsNoSchedule text)
+  pub stopped : Exactly result 4 (AreWithin file text × HasInput file text (λ P s. Runs P s → ⊥))
+  pub inside : Exactly result 5 (AreWithin file text × HasInput file text LeavesCallOpen)
+  pub kept : Decides result 0 (AreWithin file text × HasInput file text IsKeptEnd)
+  pub broken : Decides result 2 (AreWithin file text × HasInput file text IsWitnessOf)
+  pub undecided : result ≡ 16 → AreWithin file text × HasInput file text EndsOutside
+
+-- the text that belongs to the files and the status was written
+pub record WritesAnswer (source schedule file text : List ℕ) (status : ℕ) (old new : Option (List ℕ)) : Type 0 where
+  pub out : List ℕ
+  pub belongs : Belongs source schedule file text status out
+  pub written : Appends old new out
+
+-- the files have bytes, which are those that are told where the folder tells them, and the text that belongs to these and the status
+-- was written
+pub record WritesAnswerToBytes (source schedule : List ℕ) (told : List ℕ → Option (List ℕ)) (status : ℕ) (old new : Option (List ℕ)) : Type 0 where
+  pub file : List ℕ
+  pub text : List ℕ
+  pub source_is : AreBytesOf told source file
+  pub schedule_is : AreBytesOf told schedule text
+  pub answer : WritesAnswer source schedule file text status old new
+
+-- the text that belongs to some status, or the line of a file that couldn't be read
+pub data IsSomeText (source schedule file text : List ℕ) (told : List ℕ → Option (List ℕ)) (before now : List ℕ → ℕ) : List ℕ → Type 0 where
+  some_unread : (name : List ℕ) → IsFirstUnread told before now source schedule name → IsSomeText source schedule file text told before now (cannot_read_line name)
+  some_answer : (status : ℕ) (out : List ℕ) → Belongs source schedule file text status out → IsSomeText source schedule file text told before now out
+
+-- a front of such a text was written
+pub record WritesFront (source schedule file text : List ℕ) (told : List ℕ → Option (List ℕ)) (before now : List ℕ → ℕ) (old new : Option (List ℕ)) : Type 0 where
+  pub out : List ℕ
+  pub is : IsSomeText source schedule file text told before now out
+  pub written : AppendsFront old new out

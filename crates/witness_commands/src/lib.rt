@@ -1,0 +1,11 @@
+//! `atomic_witness` over the words of its command line, a folder and a sink: whether a schedule of a source shows that
+//! a promise is broken.
+#![tactic(auto)]
+
+mod answering;
+mod lines;
+mod program;
+mod words;
+
+pub use answering::{Said, judge_files};
+pub use program::run;

@@ -1,0 +1,25 @@
+//! The words of the command line.
+
+ghost use Rattle.std.specs.Prelude.{◌≡◌, ◌≢◌, ◌∷◌, [], ℕ, List, map, MatchOption, string_bytes};
+ghost use Rattle.witness_commands.specs.Words.{IsRow, IsNoRow};
+
+/// The only one of these words.
+fn only_word(words: &[String]) -> Option<&str>
+    ensures { MatchOption result ((name : List ℕ) → map string_bytes words.now ≢ name ∷ []) (λ name. map string_bytes words.now ≡ name.now ∷ []) }
+{
+    let (name, rest) = words.split_first()?;
+    if rest.is_empty() {
+        Some(name.as_str())
+    } else {
+        None
+    }
+}
+
+/// The names of a source and of a schedule, where the words are these.
+pub fn names_of(words: &[String]) -> Option<(&str, &str)>
+    ensures { MatchOption result (IsNoRow (map string_bytes words.now)) (λ names. IsRow (map string_bytes words.now) names.0.now names.1.now) }
+{
+    let (source, rest) = words.split_first()?;
+    let schedule = only_word(rest)?;
+    Some((source.as_str(), schedule))
+}
