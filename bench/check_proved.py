@@ -36,7 +36,11 @@ LONGEST_CELL = 70
 CRATE = re.compile(r"`(\w+)(?:::(\w+))?`")
 WORD = re.compile(r"`([^`]+)`")
 # The parts of the documents that speak of one crate's call as a whole.
-TOP_CALLS = {"The call that `main` makes": "commands", "The call that `atomic_why` makes": "explain_commands"}
+TOP_CALLS = {
+    "The call that `main` makes": "commands",
+    "The call that `atomic_why` makes": "explain_commands",
+    "The call that `atomic_witness` makes": "witness_commands",
+}
 # Words of the language, and of command lines.
 COMMANDS = "check print run serialise serialise-open replay derive verify blame verify-blame levels generate"
 KEYWORDS = {"extends", "main", "this", "synchronized", "atomic", *COMMANDS.split()}
