@@ -23,15 +23,16 @@ pub data Belongs (source schedule file text : List ℕ) : ℕ → List ℕ → T
   schedule_large : length file ≤ longest_source → longest_schedule < length text → Belongs source schedule file text 10 (too_large_line schedule)
   answered : {status : ℕ} {out : List ℕ} → AreWithin file text → WitnessAnswer file text status out → Belongs source schedule file text status out
 
--- the status comes only where the fact holds; and where it does, the status comes, or as many states were seen as may be, or one of the
--- answers that come before all others
+-- the status comes only where the fact holds; and where it does, the status comes, or 16 in its place, or one of the answers that come
+-- before all others
 pub record Decides (result status : ℕ) (fact : Type 0) : Type 0 where
   pub only : result ≡ status → fact
   pub all : fact → (result ≡ status) ⊎ ((result ≡ 16) ⊎ IsTroubleStatus result)
 
 -- Which status comes for the bytes of the files: 10 exactly where one has too many; else 1 exactly where the first is no well-formed source,
 -- 3 where the second is the text of no schedule, 4 where the schedule stops, 5 where it ends with a thread inside an atomic call. Else 0
--- where some order leaves the same, 2 where the schedule is a witness, and 16, in place of either, where as many states were seen as may be.
+-- only where some order leaves the same, 2 only where the schedule is a witness; 16 may stand in place of either. Nothing is said of how
+-- many states were seen by then.
 pub record IsExact (file text : List ℕ) (result : ℕ) : Type 0 where
   pub too_large : Exactly result 10 ((longest_source < length file) ⊎ (longest_schedule < length text))
   pub refused : Exactly result 1 (AreWithin file text × IsNotWellFormed file)
