@@ -1,4 +1,4 @@
--- Going steps_up either ends or comes back to a number where it was: of as many numbers as there are, no more than that many differ.
+-- Going up either ends or comes back to a number where it was: of as many numbers as there are, no more than that many differ.
 use Rattle.std.proofs.Common.{◌≡◌, ◌≤◌, ◌<◌, ◌+◌, ◌-◌, ◌↔◌, ◌⊎◌, inl, inr, ℕ, zero, suc, Bool, true, false, ◌||◌, List, [], ◌∷◌, length, Option, Some, None, refl, sym, ap, subst, ◌∙◌, arith}
 use Rattle.std.specs.Prelude.{nat_le, eqb}
 use Rattle.std.specs.Option.{option_and_then, is_some}
@@ -33,14 +33,14 @@ module _ (above : ℕ → Option ℕ) where
   up_after (suc a) b zero c e is at = absurd (omega (arith, is))
   up_after (suc a) b (suc k) c e is at = let f = first_of a c e at in up_first k c f.0 f.1 ∙ up_after a b k f.0 e (omega (arith, is)) f.2
 
-  -- ---- where going steps_up has been
+  -- ---- where going up has been
 
   abbrev trail : ℕ → Option ℕ → List ℕ
   trail n None = []
   trail zero (Some c) = c ∷ []
   trail (suc n) (Some c) = c ∷ trail n (above c)
 
-  -- two of the first places of going steps_up are the same number
+  -- two of the first places of going up are the same number
   record Repeats (n c : ℕ) : Type 0 where
     first : ℕ
     second : ℕ
@@ -72,7 +72,7 @@ module _ (above : ℕ → Option ℕ) where
   trail_length zero c e is = refl
   trail_length (suc n) c e is = let f = first_of n c e is in ap length (trail_first n c f.0 f.1) ∙ ap suc (trail_length n f.0 e f.2)
 
-  -- the places of going steps_up differ, or two of them are the same
+  -- the places of going up differ, or two of them are the same
   differ : (n c e : ℕ) → steps_up above n c ≡ Some e → IsDistinct eqb (trail n (Some c)) ⊎ Repeats n c
   unfolding IsDistinct
   differ zero c e is = inl (IsDistinct-cons eqb c [] tt tt)
@@ -102,7 +102,7 @@ module _ (above : ℕ → Option ℕ) where
       by_first d at rest apart false has = inl (subst (IsDistinct eqb) (sym (trail_first n c d at)) (IsDistinct-cons eqb c (trail n (Some d)) (none_equal (trail n (Some d)) has) apart))
 
   module _ (count : ℕ) (below : AreBelow above count) where
-    -- where going steps_up leads from below the count is below it
+    -- where going up leads from below the count is below it
     trail_below : (n c e q : ℕ) → c < count → steps_up above n c ≡ Some e → list_any (eqb q) (trail n (Some c)) ≡ true → q < count
     trail_below n c e q low is has = let k = on_trail n c e q is has in lands k.0 c q low k.2
       where

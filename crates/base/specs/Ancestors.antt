@@ -6,12 +6,12 @@ use Rattle.std.specs.Option.{option_and_then, is_some}
 abbrev pub AreBelow : (ℕ → Option ℕ) → ℕ → Type 0
 AreBelow above count = (c d : ℕ) → above c ≡ Some d → d < count
 
--- where so many steps steps_up from a number lead
+-- where so many steps up from a number lead
 abbrev pub steps_up : (ℕ → Option ℕ) → ℕ → ℕ → Option ℕ
 steps_up above zero c = Some c
 steps_up above (suc n) c = option_and_then (λ d. steps_up above n d) (above c)
 
--- one step steps_up or more lead from the first number to the second
+-- one step up or more lead from the first number to the second
 abbrev pub IsAncestor : (ℕ → Option ℕ) → ℕ → ℕ → Type 0
 IsAncestor above c d = (n : ℕ) × (steps_up above (suc n) c ≡ Some d)
 
@@ -23,7 +23,7 @@ IsCircular above c = (n : ℕ) × (d : ℕ) × (steps_up above n c ≡ Some d) �
 abbrev pub is_circular : (ℕ → Option ℕ) → ℕ → ℕ → Bool
 is_circular above count c = is_some (steps_up above count c)
 
--- whether at most so many steps steps_up from a number, if there is one, lead to another
+-- whether at most so many steps up from a number, if there is one, lead to another
 abbrev pub reaches : (ℕ → Option ℕ) → ℕ → Option ℕ → ℕ → Bool
 reaches above n None d = false
 reaches above zero (Some c) d = c == d

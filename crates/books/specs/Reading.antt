@@ -91,7 +91,7 @@ line_at count ts =
     number_at count ts >>= λ n ts. expect (newline ∷ []) ts >>= λ u ts. node_at count most_nesting ts >>= λ d ts.
     expect (newline ∷ []) ts >>= λ u ts. Ok (record { id = id; number = n; body = d }, ts)
 
--- nothing_behind stands behind the book
+-- nothing stands behind the book
 abbrev pub nothing_behind : List ℕ → Res (Unit {0})
 nothing_behind [] = Ok (tt, [])
 nothing_behind (b ∷ ts) = Err (Form, b ∷ ts)

@@ -175,7 +175,7 @@ line_is tree whole k = by_class (slice_get tree k) refl
     by_class None none = none_at_all (is_on_circle tree k) (no_class tree k none)
     by_class (Some c) at = ap (λ b. if b then [] else ancestors_of tree k) (whole.classes k c at).off_circle
 
--- where going steps_up ends within so many steps and one, as many are enough
+-- where going up ends within so many steps and one, as many are enough
 enough : (step : ℕ → Option ℕ) (n c : ℕ) → steps_up step (suc n) c ≡ None → ancestors step n (step c) ≡ ancestors step (suc n) (step c)
 enough step zero c ends = by_next (step c) ends
   where
@@ -262,7 +262,7 @@ few_fields tree k c h = few_names (field_names (all_members tree k)) most_class_
 
 -- ---- methods to begin with
 
--- a class that says_so as `implements Runnable` has a `run`
+-- a class that counts as `implements Runnable` has a `run`
 pub has_run : (tree : ProgramTree) (k : ℕ) (c : ClassTree) → IsSound tree k c → says_so tree k ≡ true → list_any (is_entry (codes "run")) (all_members tree k) ≡ true
 has_run tree k c h counting = either (says_so tree k) (list_any (is_entry (codes "run")) (all_members tree k)) counting (passes (not (says_so tree k) || list_any (is_entry (codes "run")) (all_members tree k)) _ h.run)
   where
@@ -357,7 +357,7 @@ nothing_inherited tree k none =
     by_test true = refl
     by_test false = ap (ancestors (above tree) (length tree)) none
 
--- a class says_so as `implements Runnable` where it says so itself, and it is on no circle
+-- a class counts as `implements Runnable` where it says so itself, and it is on no circle
 pub nothing_counts : (tree : ProgramTree) (k : ℕ) → above tree k ≡ None → (says_so tree k ≡ says_runnable tree k) × (k < length tree → is_on_circle tree k ≡ false)
 nothing_counts tree k none = (
   ap (λ o. says_runnable tree k || list_any (says_runnable tree) (ancestors (above tree) (length tree) o)) none ∙ or-false (says_runnable tree k),

@@ -64,7 +64,7 @@ pub noted_append : {F : Type 0} (place : F → FaultPlace) (first : Option F) (x
 noted_append place first [] ys = refl
 noted_append place first (x ∷ xs) ys = noted_append place (Some (earlier place first x)) xs ys
 
--- ---- the first of those first_noted
+-- ---- the first of those noted
 
 -- a fault is found before or is one of these, and none of them comes before it
 record IsLeast {F : Type 0} (place : F → FaultPlace) (found : Option F) (fs : List F) (f : F) : Type 0 where

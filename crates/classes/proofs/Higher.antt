@@ -34,7 +34,7 @@ rows_long tree texts k f m (c ∷ cs) = ap suc (rows_long tree texts (k + 1) (f 
 pub table_long : (tree : ProgramTree) → length (table_of tree).classes ≡ length tree
 table_long tree = rows_long tree texts_of 0 0 0 tree
 
--- a row says whether its class says_so as `implements Runnable`
+-- a row says whether its class counts as `implements Runnable`
 pub counts_row : (tree : ProgramTree) (k : ℕ) (d : ClassData) → slice_get (table_of tree).classes k ≡ Some d → d.runnable ≡ says_so tree k
 counts_row tree k d e = (row_at tree texts_of 0 0 0 tree k k d (omega arith) e).1
 

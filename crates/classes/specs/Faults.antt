@@ -78,7 +78,7 @@ abbrev pub missing_constructor : Name → List (TypeName × Name) → List Membe
 missing_constructor class finals ms =
     if has_none finals || list_any is_constructor ms then [] else BadConstructor class.at ∷ []
 
--- of a class of this name that says_so as `implements Runnable` and has no `run` to begin with among these members
+-- of a class of this name that counts as `implements Runnable` and has no `run` to begin with among these members
 abbrev pub missing_run : Name → Bool → List MemberTree → List ClassFault
 missing_run class says_so ms = if not says_so || list_any (is_entry (codes "run")) ms then [] else NoRun class.at ∷ []
 

@@ -64,6 +64,6 @@ says_in (Some c) = c.runnable
 abbrev pub says_runnable : ProgramTree → ℕ → Bool
 says_runnable tree k = says_in (slice_get tree k)
 
--- whether a class says_so as one that says so: it or an ancestor of it does
+-- whether a class counts as one that says so: it or an ancestor of it does
 abbrev pub says_so : ProgramTree → ℕ → Bool
 says_so tree k = list_any (says_runnable tree) (k ∷ ancestors_of tree k)

@@ -67,7 +67,7 @@ reach_on r f class = record { slot = r.slot; fields = r.fields ++ f.at ∷ []; c
 abbrev pub through : ProgramTree → LockMeaning → FoundField → Option LockMeaning
 through tree r f = if f.is_final then option_map (reach_on r f) (class_of_type tree f.ty) else None
 
--- reach_along the fields of a lock
+-- along the fields of a lock
 abbrev pub reach_along : ProgramTree → LockMeaning → List Name → Option LockMeaning
 reach_along tree r [] = Some r
 reach_along tree r (n ∷ ns) =

@@ -14,7 +14,7 @@ use Rattle.classes.specs.Members.{class_names, field_names, method_names}
 use Rattle.classes.specs.Lines.{ancestors, above, says_so}
 use Rattle.classes.specs.Seen.{FieldData, ParamData}
 
--- a class: the class that it extends, whether it says_so as `implements Runnable`, and of its own fields and methods the number of the first
+-- a class: the class that it extends, whether it counts as `implements Runnable`, and of its own fields and methods the number of the first
 -- and the names in order
 pub record ClassData : Type 0 where
   pub above : Option ℕ

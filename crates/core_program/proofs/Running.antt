@@ -1,4 +1,4 @@
--- What runs for a method and a class is the method itself, or overrides it: going steps_up the classes, which ends.
+-- What runs for a method and a class is the method itself, or overrides it: going up the classes, which ends.
 use Rattle.std.proofs.Common.{◌≡◌, ◌<◌, ◌⊎◌, inl, inr, ℕ, zero, suc, Bool, true, false, ◌==◌, length, Option, Some, None, refl, sym, ap, subst, ◌∙◌}
 use Rattle.std.specs.Prelude.{IfSome, slice_get}
 use Rattle.std.specs.Option.{option_and_then}
@@ -30,7 +30,7 @@ module _ (P : Program) (typed : IsTyped P) where
   above_is : (c : ℕ) (class : Class) → slice_get P.classes c ≡ Some class → above_of P c ≡ class.above
   above_is c class there = ap above_in there
 
-  -- of a class from which so many steps steps_up lead nowhere
+  -- of a class from which so many steps up lead nowhere
   over_in : (n c m k : ℕ) → steps_up (above_of P) n c ≡ None → target_of P c m ≡ Some k → (k ≡ m) ⊎ Overrides P k m
   over_in zero c m k ends runs = absurd (none-some c (sym ends))
   over_in (suc n) c m k ends runs = in_class (slice_get P.classes c) refl (λ d above goes. over_in n d m k (sym (ap (λ o. option_and_then (λ x. steps_up (above_of P) n x) o) above) ∙ ends) goes)

@@ -159,7 +159,7 @@ abbrev mutual
   can_complete (ReturnS e) = false
   can_complete _ = true
 
-  -- whether what stands after these statements can be reached, which is so where each of them can_complete
+  -- whether what stands after these statements can be reached, which is so where each of them completes
   pub completes_each : Stmts → Bool
   completes_each no_stmts = true
   completes_each (and_stmt s ss) = can_complete s && completes_each ss

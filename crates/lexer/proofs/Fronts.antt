@@ -1,4 +1,4 @@
--- The longest_piece that is found is the longest piece that begins the text.
+-- The front that is found is the longest piece that begins the text.
 use Rattle.std.proofs.Common.{◌≡◌, ℕ, suc, zero, ◌+◌, ◌<◌, ◌≤◌, ◌==◌, ◌&&◌, ◌||◌, nat_lt, Bool, true, false, cond, List, [], ◌∷◌, ◌++◌, inl, inr, length, take, drop, get_or, Some, None, Option, if◌then◌else◌, refl, ap, sym, ◌∙◌, subst, arith, eqb-true, one-add, length-append, eq-or-lt_of_le, IsUtf8, IsCharBoundary, take-append-drop}
 use Rattle.std.proofs.lemmas.Bool.{and_parts}
 use Rattle.std.proofs.lemmas.Bool.Decides.{nat_tests}
@@ -401,7 +401,7 @@ no_sign_found c (d ∷ cs) m e = none_two_by c d cs (is_sign (c ∷ d ∷ [])) m
 
 -- The whole, by the class of the first byte
 
--- what stands for a longest_piece, and for none
+-- what stands for a front, and for none
 abbrev Tells : ℕ → List ℕ → Option Front → Type 0
 Tells c cs None = NoPiece (c ∷ cs)
 Tells c cs (Some f) = Found (c ∷ cs) f.kind f.len

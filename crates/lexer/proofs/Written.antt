@@ -72,7 +72,7 @@ both_front : (a b two one : Bool) → two ≡ false → b ≡ true → one ≡ t
 both_front true b two one i j k = rw (i, j, k) refl
 both_front false b two one i j k = rw (j, k) refl
 
--- the longest_piece of a text that begins with a sign
+-- the front of a text that begins with a sign
 sign_front_is : (c : ℕ) (o cs : List ℕ) → is_sign (c ∷ o) ≡ true → (c == 47) ≡ false → longest_piece (c ∷ cs) ≡ sign_front (c ∷ cs)
 sign_front_is c o cs h s =
     let f = sign_facts c o h in

@@ -18,22 +18,22 @@ abbrev pub close_end : List ℕ → Option ℕ
 close_end [] = None
 close_end (c ∷ cs) = if starts_close (c ∷ cs) then Some 2 else option_map (λ n. 1 + n) (close_end cs)
 
--- the longest_piece of a text that begins with `/*`, by where the first `*/` after it ends
+-- the front of a text that begins with `/*`, by where the first `*/` after it ends
 abbrev pub block_by : ℕ → Option ℕ → Front
 block_by rest None = front_of OpenComment (2 + rest)
 block_by rest (Some n) = front_of Comment (2 + n)
 
--- the longest_piece of a text that begins with `/*`, by the bytes behind that
+-- the front of a text that begins with `/*`, by the bytes behind that
 abbrev pub block_front : List ℕ → Front
 block_front cs = block_by (length cs) (close_end cs)
 
--- the longest_piece of a text that begins with `/`
+-- the front of a text that begins with `/`
 abbrev pub slash_front : List ℕ → Front
 slash_front [] = front_of Sign 1
 slash_front (c ∷ cs) =
     if c == 47 then front_of Comment (2 + prefix_len is_in_line cs) else (if c == 42 then block_front cs else front_of Sign 1)
 
--- the longest_piece of a text that begins with no letter, digit, blank or `/`
+-- the front of a text that begins with no letter, digit, blank or `/`
 abbrev pub sign_front : List ℕ → Option Front
 sign_front text =
     if nat_lt 1 (length text) && is_sign (take 2 text)

@@ -1,4 +1,4 @@
--- The methods that a body counts_as_caller are those of its list, and what rows of callers keep.
+-- The methods that a body calls are those of its list, and what rows of callers keep.
 use Rattle.std.proofs.Common.{◌≡◌, ℕ, zero, suc, ◌+◌, ◌<◌, ◌≤◌, ◌⊎◌, Bool, true, false, ◌||◌, ◌==◌, List, [], ◌∷◌, ◌++◌, length, map, take, get_or, slice_get, slice_set, Some, None, refl, sym, ap, subst, ◌∙◌, arith, inl, inr}
 use Rattle.std.specs.Prelude.{Option, Result, Ok, Err, OnOk, Contains}
 use Rattle.std.proofs.lemmas.Grind.{common_steps}

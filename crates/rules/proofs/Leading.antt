@@ -152,7 +152,7 @@ module _ (P : Program) (rows : List (List ℕ)) (are : (m : ℕ) → row_at rows
     above_is : (c : ℕ) (class : Class) → slice_get P.classes c ≡ Some class → above_of P c ≡ class.above
     above_is c class there = ap above_in there
 
-    -- of a class from which so many steps steps_up lead nowhere
+    -- of a class from which so many steps up lead nowhere
     lead_in : (n c m over : ℕ) → steps_up (above_of P) n c ≡ None → target_of P c m ≡ Some over → (over ≡ m) ⊎ LeadTo rows m over
     lead_in zero c m over ends runs = absurd (none-some c (sym ends))
     lead_in (suc n) c m over ends runs = in_class (slice_get P.classes c) refl (λ d t above goes. lead_in n d m t (sym (ap (λ o. option_and_then (λ x. steps_up (above_of P) n x) o) above) ∙ ends) goes)

@@ -1,4 +1,4 @@
--- Which methods a body counts_as_caller, by a test of them and as a list; and the callers of each method. A method counts as a caller of those that override it.
+-- Which methods a body calls, by a test of them and as a list; and the callers of each method. A method counts as a caller of those that override it.
 -- So a method's callers are the methods whose demands look at its table.
 use Rattle.std.specs.Prelude.{◌≡◌, ℕ, ◌<◌, ◌==◌, Bool, true, false, ◌||◌, List, [], ◌∷◌, ◌++◌, length, Contains, Option, Some, None, slice_get}
 use Rattle.core_program.specs.Core.{Program, Method, Expr, Exprs, NotE, NegE, BinaryE, AndE, OrE, GetE, CallE, NewE, no_exprs, and_expr}
@@ -6,7 +6,7 @@ use Rattle.core_program.specs.Core.{Stmt, Stmts, EmptyS, BlockS, LocalS, SetVarS
 
 module _ (test : ℕ → Bool) where
   abbrev mutual
-    -- whether an expression counts_as_caller a method that passes the test
+    -- whether an expression calls a method that passes the test
     pub expr_calls : Expr → Bool
     expr_calls (NotE e) = expr_calls e
     expr_calls (NegE e) = expr_calls e
@@ -47,7 +47,7 @@ module _ (test : ℕ → Bool) where
 
 -- The called methods of expressions and of lists of arguments; one that is called twice stands twice.
 abbrev mutual
-  -- the methods that an expression counts_as_caller
+  -- the methods that an expression calls
   pub expr_callees : Expr → List ℕ
   expr_callees (NotE e) = expr_callees e
   expr_callees (NegE e) = expr_callees e
@@ -59,14 +59,14 @@ abbrev mutual
   expr_callees (NewE c args) = exprs_callees args
   expr_callees _ = []
 
-  -- the methods that a list of arguments counts_as_caller
+  -- the methods that a list of arguments calls
   pub exprs_callees : Exprs → List ℕ
   exprs_callees no_exprs = []
   exprs_callees (and_expr e es) = expr_callees e ++ exprs_callees es
 
 -- The called methods of statements and of blocks.
 abbrev mutual
-  -- those that a statement counts_as_caller
+  -- those that a statement calls
   pub stmt_callees : Stmt → List ℕ
   stmt_callees EmptyS = []
   stmt_callees (BlockS ss) = block_callees ss
@@ -117,12 +117,12 @@ abbrev pub has_method : List ℕ → ℕ → Bool
 has_method [] m = false
 has_method (n ∷ row) m = n == m || has_method row m
 
--- whether a method's body counts_as_caller a method, or that is one of those that override it
+-- whether a method's body calls a method, or that is one of those that override it
 abbrev pub method_calls : Option Method → (overs : List ℕ) → ℕ → Bool
 method_calls None overs callee = false
 method_calls (Some method) overs callee = stmt_calls (λ m. m == callee) method.body || has_method overs callee
 
--- whether the first method counts as a caller of the second: it counts_as_caller it in its body, or is overridden by it
+-- whether the first method counts as a caller of the second: it calls it in its body, or is overridden by it
 abbrev pub counts_as_caller : Program → (overs : ℕ → List ℕ) → (caller callee : ℕ) → Bool
 counts_as_caller P overs caller callee = method_calls (slice_get P.methods caller) (overs caller) callee
 

@@ -110,7 +110,7 @@ abbrev pub holds : ℕ → Option Hold → Bool
 holds t None = false
 holds t (Some hold) = hold.holder == t
 
--- a hold that was popped once more
+-- a hold that was taken once more
 abbrev pub taken_again : Hold → Hold
 taken_again hold = record hold { count = hold.count + 1 }
 

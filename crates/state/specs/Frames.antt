@@ -110,7 +110,7 @@ abbrev pub frame_given : Option Value → List Value → List Value
 frame_given None operands = operands
 frame_given (Some v) operands = v ∷ operands
 
--- a frame that drops its topmost operands, is frame_given a value or none, and goes on at a place
+-- a frame that drops its topmost operands, is given a value or none, and goes on at a place
 abbrev pub settled_operands : ℕ → Option Value → CellFrame → List Value
 settled_operands drops gives f = frame_given gives (dropped drops f.operands)
 
@@ -122,12 +122,12 @@ settled drops gives place f = record f {
   room = length f.operands + f.room - length (settled_operands drops gives f);
 }
 
--- a frame that is frame_given a result or none
+-- a frame that is given a result or none
 abbrev pub with_given : Option Value → CellFrame → CellFrame
 with_given None f = f
 with_given (Some v) f = record f { operands = v ∷ f.operands; room = f.room - 1 }
 
--- the innermost of some frames can be frame_given a result or none without memory
+-- the innermost of some frames can be given a result or none without memory
 abbrev pub HasSpare : Option Value → List CellFrame → Type 0
 HasSpare (Some v) (f ∷ fs) = 0 < f.room
 HasSpare _ _ = Unit {0}
