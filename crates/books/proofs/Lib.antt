@@ -14,11 +14,11 @@ pub mod PassLemmas
 pub mod Complete
 -- What is read depends on nothing behind the next byte (Locals, Numbers, Words, Trees), so a fault is the same in each text that has the
 -- bytes up to it (There).
-mod Locals
-mod NumberFaults
+pub mod Locals
+pub mod NumberFaults
 mod WordFaults
 mod TreeFaults
-mod There
+pub mod There
 -- The lemmas that several proofs share.
 mod Built
 mod MemoryLemmas

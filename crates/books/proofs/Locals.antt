@@ -23,7 +23,7 @@ pub record Local {A : Type 0} (B : List ℕ → Type 0) (p : List ℕ → Res A)
 
 -- ---- where two readers are the same on the texts that are asked for
 
-along_ok : {A : Type 0} (p q : List ℕ → Res A) (front : List ℕ) (a : A) (rest : List ℕ) → ((b : ℕ) (r more : List ℕ) → rest ≡ b ∷ r → q (front ++ (b ∷ more)) ≡ p (front ++ (b ∷ more))) →
+pub along_ok : {A : Type 0} (p q : List ℕ → Res A) (front : List ℕ) (a : A) (rest : List ℕ) → ((b : ℕ) (r more : List ℕ) → rest ≡ b ∷ r → q (front ++ (b ∷ more)) ≡ p (front ++ (b ∷ more))) →
     AfterOk p front a rest → AfterOk q front a rest
 along_ok p q front a [] same s = tt
 along_ok p q front a (b ∷ r) same s = λ more. same b r more refl ∙ s more
@@ -48,14 +48,14 @@ no_more : (front rest : List ℕ) → [] ≡ front ++ rest → rest ≡ []
 no_more [] rest e = sym e
 no_more (x ∷ front) rest e = absurd (cc)
 
-goes_on : {A : Type 0} (p : List ℕ → Res A) (front : List ℕ) (a : A) (rest next : List ℕ) (c : ℕ) (l : List ℕ) → rest ≡ next ++ (c ∷ l) → AfterOk p front a rest →
+pub goes_on : {A : Type 0} (p : List ℕ → Res A) (front : List ℕ) (a : A) (rest next : List ℕ) (c : ℕ) (l : List ℕ) → rest ≡ next ++ (c ∷ l) → AfterOk p front a rest →
     (more : List ℕ) → p (front ++ (next ++ (c ∷ more))) ≡ Ok (a, next ++ (c ∷ more))
 goes_on p front a [] next c l e s more = absurd (let none = no_more next (c ∷ l) e in let no : c ∷ l ≡ [] = none in cc)
 goes_on p front a (b ∷ r) [] c l e s more = let same : b ≡ c = cc in subst (λ z. p (front ++ (z ∷ more)) ≡ Ok (a, z ∷ more)) same (s more)
 goes_on p front a (b ∷ r) (x ∷ next) c l e s more =
     let same : b ≡ x = cc in subst (λ z. p (front ++ (z ∷ (next ++ (c ∷ more)))) ≡ Ok (a, z ∷ (next ++ (c ∷ more)))) same (s (next ++ (c ∷ more)))
 
-both_ok : {A C : Type 0} (p : List ℕ → Res A) (f : A → List ℕ → Res C) (front : List ℕ) (a : A) (rest next : List ℕ) (c : C) (last : List ℕ) → rest ≡ next ++ last → AfterOk p front a rest →
+pub both_ok : {A C : Type 0} (p : List ℕ → Res A) (f : A → List ℕ → Res C) (front : List ℕ) (a : A) (rest next : List ℕ) (c : C) (last : List ℕ) → rest ≡ next ++ last → AfterOk p front a rest →
     AfterOk (f a) next c last → AfterOk (λ z. p z >>= f) (front ++ next) c last
 both_ok p f front a rest next c [] e s t = tt
 both_ok p f front a rest next c (b ∷ l) e s t = λ more.
@@ -142,7 +142,7 @@ local_expect B (w ∷ ws) (b ∷ ts) = expect_step B w b ws ts (b == w) refl (lo
 
 -- ---- a choice by the first byte
 
-same_first : (byte : ℕ) (front : List ℕ) (b : ℕ) (r more : List ℕ) → begins byte (front ++ (b ∷ more)) ≡ begins byte (front ++ (b ∷ r))
+pub same_first : (byte : ℕ) (front : List ℕ) (b : ℕ) (r more : List ℕ) → begins byte (front ++ (b ∷ more)) ≡ begins byte (front ++ (b ∷ r))
 same_first byte [] b r more = refl
 same_first byte (x ∷ front) b r more = refl
 

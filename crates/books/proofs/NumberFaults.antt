@@ -36,10 +36,10 @@ run_of [] = record { rest = []; whole = refl; stays = λ c r more is. absurd (le
 run_of (b ∷ ts) = subst (λ z. Run (b ∷ ts) z) (sym (take_while-cons is_ascii_digit b ts)) (run_step (is_ascii_digit b) b ts (take_while is_ascii_digit ts) refl (run_of ts))
 
 -- the same of the digits of a number
-record Digits (ts ds : List ℕ) : Type 0 where
-  rest : List ℕ
-  whole : ts ≡ ds ++ rest
-  stays : (c : ℕ) (r more : List ℕ) → rest ≡ c ∷ r → number_digits (ds ++ (c ∷ more)) ≡ ds
+pub record Digits (ts ds : List ℕ) : Type 0 where
+  pub rest : List ℕ
+  pub whole : ts ≡ ds ++ rest
+  pub stays : (c : ℕ) (r more : List ℕ) → rest ≡ c ∷ r → number_digits (ds ++ (c ∷ more)) ≡ ds
 
 -- a number that doesn't begin with 0 has all digits that stand there
 not_naught : (b : ℕ) (ts run : List ℕ) (c : ℕ) (r more : List ℕ) → (b == 48) ≡ false → b ∷ ts ≡ run ++ (c ∷ r) → number_digits (run ++ (c ∷ more)) ≡ take_while is_ascii_digit (run ++ (c ∷ more))
@@ -59,7 +59,7 @@ digits_step false b ts run e s = record {
   stays = λ c r more is. not_naught b ts run c r more e (s.whole ∙ ap (λ z. run ++ z) is) ∙ s.stays c r more is;
 }
 
-digits_of : (ts : List ℕ) → Digits ts (number_digits ts)
+pub digits_of : (ts : List ℕ) → Digits ts (number_digits ts)
 digits_of [] = record { rest = []; whole = refl; stays = λ c r more is. absurd (let no : [] ≡ c ∷ r = is in cc) }
 digits_of (b ∷ ts) = digits_step (b == 48) b ts (take_while is_ascii_digit (b ∷ ts)) refl (run_of (b ∷ ts))
 
@@ -71,7 +71,7 @@ with_digits-is : (end : ℕ) (ts : List ℕ) → number_at end ts ≡ with_digit
 unfolding number_at with_digits
 with_digits-is end ts = refl
 
-none_of : (ds : List ℕ) → is_at_end ds ≡ true → ds ≡ []
+pub none_of : (ds : List ℕ) → is_at_end ds ≡ true → ds ≡ []
 none_of [] e = refl
 none_of (d ∷ ds) e = absurd (let no : false ≡ true = e in cc)
 

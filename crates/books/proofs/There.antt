@@ -52,13 +52,13 @@ local_book bytes =
 
 -- ---- the place of a fault
 
-take_front : (front : List ℕ) (b : ℕ) (r : List ℕ) → take (length front + 1) (front ++ (b ∷ r)) ≡ front ++ (b ∷ [])
+pub take_front : (front : List ℕ) (b : ℕ) (r : List ℕ) → take (length front + 1) (front ++ (b ∷ r)) ≡ front ++ (b ∷ [])
 take_front [] b r = refl
 take_front (x ∷ front) b r =
     let more : suc (length front) + 1 ≡ suc (length front + 1) = omega arith in
     ap (λ n. take n (x ∷ (front ++ (b ∷ r)))) more ∙ ap (λ z. x ∷ z) (take_front front b r)
 
-drop_front : (front rest : List ℕ) → drop (length front) (front ++ rest) ≡ rest
+pub drop_front : (front rest : List ℕ) → drop (length front) (front ++ rest) ≡ rest
 drop_front [] rest = refl
 drop_front (x ∷ front) rest = drop_front front rest
 

@@ -1,5 +1,5 @@
 -- Where what is assigned to the nearest overriding methods is below what is assigned to the overridden one, so it is of all that override it.
-use Rattle.std.proofs.Common.{◌≡◌, ℕ, ◌&&◌, true, List, Some, subst, ◌∙◌}
+use Rattle.std.proofs.Common.{◌≡◌, ℕ, true, List, Some, subst, ◌∙◌}
 use Rattle.std.specs.Prelude.{Contains, slice_get}
 use Rattle.std.proofs.lemmas.Bool.{and_from}
 use Rattle.paths.specs.Paths.{PathData}

@@ -2,7 +2,6 @@
 ghost use Rattle.std.specs.Prelude.{◌≡◌, true, map, IfOk, slice_get};
 ghost use Rattle.algebra.specs.Values.{Keeps};
 ghost use Rattle.algebra.specs.HeldPaths.{Held};
-ghost use Rattle.algebra.specs.Tables.{first_entry, half_table};
 ghost use Rattle.rules.specs.Near.{rel_of};
 ghost use Rattle.infer.specs.Tables.{chosen, table_or_empty, table_assignment};
 ghost use Rattle.infer.specs.Names.{held_partners};

@@ -1,9 +1,8 @@
 -- Nobody is inside a block where no word's thread is.
-use Rattle.std.proofs.Common.{◌≡◌, ℕ, zero, suc, Bool, true, false, ◌==◌, List, [], ◌∷◌, slice_get, Option, Some, None, if◌then◌else◌, Vec, ap, sym, ◌∙◌, refl, subst, arith, ◌<◌, ◌+◌, length, option_map}
+use Rattle.std.proofs.Common.{◌≡◌, ℕ, suc, true, false, ◌==◌, List, [], ◌∷◌, slice_get, Some, None, if◌then◌else◌, Vec, ap, sym, ◌∙◌, refl, ◌<◌, length}
 use Rattle.std.specs.declared.alloc.Global.{Global}
-use Rattle.std.proofs.lemmas.Bool.{eqb-true, eqb-false}
-use Rattle.std.proofs.lemmas.Bool.Decides.{nat_tests}
-use Rattle.std.proofs.lemmas.Option.{none-some, same_Some, slice_get_within}
+use Rattle.std.proofs.lemmas.Bool.{eqb-true}
+use Rattle.std.proofs.lemmas.Option.{none-some, slice_get_within}
 use Rattle.logs.specs.declared.judge.Phase.{Phase}
 use Rattle.logs.specs.State.{depth_of}
 use Rattle.logs.specs.Numbers.{number_of}

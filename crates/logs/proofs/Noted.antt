@@ -1,8 +1,8 @@
 -- How a line is judged, in two steps.
-use Rattle.std.proofs.Common.{◌≡◌, ℕ, Bool, true, false, Option, Some, None, unwrap_or, ap, sym, ◌∙◌, refl, subst}
+use Rattle.std.proofs.Common.{◌≡◌, ℕ, true, false, Option, Some, None, unwrap_or, ap, sym, ◌∙◌, refl}
 use Rattle.logs.specs.Events.{Event, Take, Give, Access, Start, Join, Stop, Begin, End, LogLine}
 use Rattle.logs.specs.Judging as logs
-use Rattle.logs.specs.Judging.{Known, Note, Stops, line_noted, note_there, note_turn, event_turn, known_locks, with_stepper}
+use Rattle.logs.specs.Judging.{Known, Stops, line_noted, note_there, note_turn, event_turn, known_locks, with_stepper}
 use Rattle.logs.specs.Logs.{Guard, ByLock, ByThread, Unguarded, kind_at, access_kind}
 use Rattle.logs.specs.Memory.{Content, Lock, Value, Thread, Absent, Present, Ended, AtThread}
 use Rattle.logs.specs.Turns.{Turn, turn, blocks_after}

@@ -1,5 +1,5 @@
 -- What is walked through is a log that is judged.
-use Rattle.std.proofs.Common.{◌≡◌, ℕ, ◌+◌, Bool, true, false, ◌==◌, List, [], ◌∷◌, ◌++◌, Option, Some, None, if◌then◌else◌, ap, sym, ◌∙◌, refl, subst, append-nil, append_assoc}
+use Rattle.std.proofs.Common.{◌≡◌, ℕ, ◌+◌, true, false, ◌==◌, List, [], ◌∷◌, ◌++◌, Option, Some, None, if◌then◌else◌, ap, sym, ◌∙◌, refl, subst, append-nil, append_assoc}
 use Rattle.std.proofs.lemmas.Bool.{eqb-true}
 use Rattle.logs.specs.Events.{LogLine}
 use Rattle.logs.specs.Judging.{Known, Note, Goes, Stops, nothing_known, line_noted, note_then, judged}
@@ -8,7 +8,7 @@ use Rattle.logs.specs.Serial.{IsSerialLog}
 use Rattle.logs.specs.Said.{SaidData, said_of, spell, Spells}
 use Rattle.logs.specs.LogJudgeEvents.{line_of}
 use Rattle.logs.specs.Spelling.{spelled, AreLines, lines_of, IsLog}
-use Rattle.logs.specs.Walks.{Stand, front, Walked, Stands, NoLine, Refused, after_note, after_row, with_byte, walk_then, walked}
+use Rattle.logs.specs.Walks.{Stand, front, Stands, NoLine, Refused, after_note, after_row, with_byte, walk_then, walked}
 
 module _ (row_spelled : (row : List ℕ) (said : SaidData) → said_of row ≡ Some said → Spells said row) (guard : ℕ → Guard) where
   -- what was said on a way

@@ -1,5 +1,5 @@
 -- What a line says, as a line of the system of logs: each word stands for its number.
-use Rattle.std.specs.Prelude.{ℕ, List, Some, None, map}
+use Rattle.std.specs.Prelude.{Some, None}
 use Rattle.logs.specs.Events as logs
 use Rattle.logs.specs.Said.{DeedData, Take, Give, Read, Write, Change, Start, Join, Stop, Begin, End, SaidData}
 use Rattle.logs.specs.Numbers.{number_of}

@@ -1,5 +1,5 @@
 -- What a judge knows.
-use Rattle.std.specs.Prelude.{ℕ, Bool, false, not, ◌==◌, Option, Some, None}
+use Rattle.std.specs.Prelude.{ℕ, not, ◌==◌, Option, Some, None}
 use Rattle.logs.specs.Judging.{Known}
 use Rattle.logs.specs.declared.judge.Judge.{Judge}
 use Rattle.logs.specs.declared.judge.Phase.{Phase}

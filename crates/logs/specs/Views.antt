@@ -1,6 +1,5 @@
 -- What the code's values stand for.
-use Rattle.std.specs.Prelude.{ℕ, Option, Some, None, option_map, Vec}
-use Rattle.std.specs.declared.alloc.Global.{Global}
+use Rattle.std.specs.Prelude.{ℕ, Option, Some, None, option_map}
 use Rattle.logs.specs.Logs as logs
 use Rattle.logs.specs.Memory as memory
 use Rattle.logs.specs.Turns as turns

@@ -1,5 +1,5 @@
 -- How a judge goes through the bytes of a log.
-use Rattle.std.specs.Prelude.{◌≡◌, ℕ, ◌+◌, ◌==◌, List, [], ◌∷◌, ◌++◌, Option, Some, None, if◌then◌else◌}
+use Rattle.std.specs.Prelude.{ℕ, ◌+◌, ◌==◌, List, [], ◌∷◌, ◌++◌, Option, Some, None, if◌then◌else◌}
 use Rattle.logs.specs.Judging.{Known, Note, Goes, Stops, Refusal, nothing_known, line_noted}
 use Rattle.logs.specs.Logs.{Guard}
 use Rattle.logs.specs.Said.{SaidData, said_of}

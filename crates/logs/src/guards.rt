@@ -1,7 +1,7 @@
 //! What is said to guard places.
 ghost use Rattle.std.specs.Prelude.{◌≡◌, ℕ, if◌then◌else◌, unwrap_or, option_map, option_copied};
 ghost use Rattle.logs.specs.Logs.{holds_in_log, access_kind, Unguarded};
-ghost use Rattle.logs.specs.Memory.{AtLock, Lock};
+ghost use Rattle.logs.specs.Memory.{Lock};
 ghost use Rattle.logs.specs.Views.{known_cells, content_data, guards_data};
 ghost use Rattle.logs.specs.Noting.{locks_in};
 ghost use Rattle.logs.specs.Numbers.{number_of};

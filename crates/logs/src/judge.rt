@@ -1,5 +1,5 @@
 //! The judge.
-ghost use Rattle.std.specs.Prelude.{◌≡◌, ◌<◌, ◌≢◌, ◌⊎◌, ℕ, None, not, ◌==◌, ◌&&◌, ◌||◌, Some, IfOk, OnOk, MatchOption, MatchResult, option_map, unwrap_or, if◌then◌else◌};
+ghost use Rattle.std.specs.Prelude.{◌≡◌, ◌<◌, ◌≢◌, ◌⊎◌, ℕ, None, not, ◌==◌, ◌&&◌, ◌||◌, Some, IfOk, OnOk, MatchOption, MatchResult, option_map, unwrap_or};
 ghost use Rattle.logs.specs.LogJudgeEvents.{event_of, line_of};
 ghost use Rattle.logs.specs.Noting.{locks_in, turn_in, after_in, note_in, is_present, IsStop};
 ghost use Rattle.logs.specs.State.{known_of};

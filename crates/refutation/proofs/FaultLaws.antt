@@ -3,6 +3,7 @@ use Rattle.std.proofs.Common.{◌≡◌, ◌⊎◌, inl, inr, ℕ, zero, suc, �
 use Rattle.std.proofs.lemmas.Option.{same_Some}
 use Rattle.std.specs.List.{AllByRecursion}
 use Rattle.books.specs.Combine.{Res, ◌>>=◌, exactly}
+use Rattle.books.proofs.There.{take_front, drop_front}
 use Rattle.refutation.specs.Lines.{LineData}
 use Rattle.refutation.specs.Reading.{count_at, line_at, end_at, blame_at, stop_of, first_certificate_fault}
 use Rattle.refutation.specs.Texts.{blame_text, IsWritableLine, IsCertificateText}
@@ -12,19 +13,9 @@ use Rattle.refutation.proofs.Stops.{Fails, StopsOn, IsJudged}
 use Rattle.refutation.proofs.StopLines.{loose_blame, Anything, BlameFits, judged_blame}
 use Rattle.refutation.proofs.BrokenRules.{rule_stops, rule_there, complete_any}
 
-take_more : (front : List ℕ) (b : ℕ) (r : List ℕ) → take (length front + 1) (front ++ (b ∷ r)) ≡ front ++ (b ∷ [])
-take_more [] b r = refl
-take_more (x ∷ front) b r =
-    let more : suc (length front) + 1 ≡ suc (length front + 1) = omega arith in
-    ap (λ n. take n (x ∷ (front ++ (b ∷ r)))) more ∙ ap (λ z. x ∷ z) (take_more front b r)
-
 take_all : (front rest : List ℕ) → take (length front) (front ++ rest) ≡ front
 take_all [] rest = refl
 take_all (x ∷ front) rest = ap (λ z. x ∷ z) (take_all front rest)
-
-drop_all : (front rest : List ℕ) → drop (length front) (front ++ rest) ≡ rest
-drop_all [] rest = refl
-drop_all (x ∷ front) rest = drop_all front rest
 
 -- less of a front is one
 fewer_bytes : (bytes : List ℕ) (k n : ℕ) → k ≤ n → IsFront (take n bytes) → IsFront (take k bytes)
@@ -52,10 +43,10 @@ goes_on_not front b stuck f =
 
 why_seen : (bytes front rest : List ℕ) → bytes ≡ front ++ rest → StopsOn loose_blame front rest ⊎ BreaksRule front rest → length front < length bytes → (IsFront (take (length front + 1) bytes) → ⊥) ⊎ IsBrokenAt bytes (length front)
 why_seen bytes front [] is why within = absurd (omega (arith, within, ap length is ∙ length-append front []))
-why_seen bytes front (b ∷ r) is (inl s) within = inl (λ f. goes_on_not front b s (subst IsFront (ap (take (length front + 1)) is ∙ take_more front b r) f))
+why_seen bytes front (b ∷ r) is (inl s) within = inl (λ f. goes_on_not front b s (subst IsFront (ap (take (length front + 1)) is ∙ take_front front b r) f))
 why_seen bytes front (b ∷ r) is (inr s) within =
     inr (subst (λ z. BreaksRule (take (length front) z) (drop (length front) z)) (sym is)
-    (subst (λ z. BreaksRule z (drop (length front) (front ++ (b ∷ r)))) (sym (take_all front (b ∷ r))) (subst (BreaksRule front) (sym (drop_all front (b ∷ r))) s)))
+    (subst (λ z. BreaksRule z (drop (length front) (front ++ (b ∷ r)))) (sym (take_all front (b ∷ r))) (subst (BreaksRule front) (sym (drop_front front (b ∷ r))) s)))
 
 seen_by : (bytes : List ℕ) (x : Res (List LineData)) → IsJudged Anything BlameFits BreaksRule loose_blame bytes x → (place : ℕ) → stop_of (length bytes) x ≡ Some place → FaultSeen bytes place
 seen_by bytes (Ok y) s place e = absurd (let no : None ≡ Some place = e in cc)

@@ -280,7 +280,7 @@ rising_few P m row each =
     let test : ℕ → Bool = λ over. overrides P over m in
     let all : length P.methods - 0 ≡ length P.methods = omega arith in
     subst (λ n. rising 0 row ≤ hits test 0 n) all
-    (rising_hits test (length P.methods) row 0 (λ over has. (let o = each over has in (is_overrides P over m o, slice_get_within P.methods over o.method o.is))))
+    (rising_hits test (length P.methods) row 0 (λ over has. (let pair = each over has in (is_overrides P over m pair, slice_get_within P.methods over pair.method pair.is))))
 
 pub row_few : (P : Program) (rows : List (List ℕ)) (m : ℕ) (row : List ℕ) → AreOverriders P rows → row ≡ row_at rows m → rising 0 row ≤ length (overriding P m)
 row_few P rows m row overriders is = rising_few P m row (λ over has. (overriders m over).0 (subst (λ xs. Contains xs over) is has))

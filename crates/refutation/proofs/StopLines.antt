@@ -14,21 +14,19 @@ use Rattle.books.specs.Texts.{newline}
 use Rattle.books.proofs.Several.{several_done, several_fault, several_more}
 use Rattle.books.proofs.Sound.{Bytes, Spells, IsNumber}
 use Rattle.books.proofs.SoundTrees.{ReadsPath}
+use Rattle.books.proofs.Locals.{AfterOk, both_ok}
 use Rattle.refutation.specs.Lines.{LineData}
 use Rattle.refutation.specs.Reading.{later_path, held_item, held_most, held_at, line_at, count_at, end_at, blame_at}
 use Rattle.refutation.specs.Texts.{held_text, certificate_line_text, certificate_text, blame_text, IsWritableLine}
 use Rattle.refutation.specs.FirstFaults.{IsFittingLine, heading, open_line, last_of, BreaksPath, late, BreaksRule, count, method, path}
 use Rattle.refutation.proofs.Held.{Ascends, ascends_sorted, ReadsLater, ReadsItem, ReadsHeld, item_shorter}
 use Rattle.refutation.proofs.Lines.{ReadsLine}
-use Rattle.refutation.proofs.Stops.{ReadsOn, ReadOf, IsJudged, Judged, Never, both_read, why_first, judged_loose, judged_weaker, judged_seq, judged_done, judged_same, judged_if, judged_expect}
+use Rattle.refutation.proofs.Stops.{ReadOf, IsJudged, Judged, Never, why_first, judged_loose, judged_weaker, judged_seq, judged_done, judged_same, judged_if, judged_expect}
 use Rattle.refutation.proofs.StopParts.{PastAt, judged_number, judged_path, judged_leaf}
 
 -- ---- a held path
 
-loose_later : List ℕ → Res PathData
-loose_later ts = path_at ts >>= λ p rest. Ok (p, rest)
-
-ends_on : (p : PathData) (rest : List ℕ) → ReadsOn (λ z. Ok (p, z)) [] p rest
+ends_on : (p : PathData) (rest : List ℕ) → AfterOk (λ z. Ok (p, z)) [] p rest
 ends_on p [] = tt
 ends_on p (b ∷ r) = λ more. refl
 
@@ -39,7 +37,7 @@ later_if before ts p rest true e is s = record {
   whole = s.whole ∙ ap (λ z. z ++ rest) (sym (append-nil s.front));
   is = record { text = append-nil s.front ∙ s.is.0; path = s.is.1; later = e };
   fits = (append-nil s.front ∙ s.is.0, s.is.1);
-  on = both_read path_at (λ p rest. Ok (p, rest)) s.front p rest [] p rest refl s.on (ends_on p rest);
+  on = both_ok path_at (λ p rest. Ok (p, rest)) s.front p rest [] p rest refl s.on (ends_on p rest);
 }
 later_if before ts p rest false e is s = record { front = []; whole = refl; begun = record { more = s.front; value = p; is = s.is }; why = inr (late p rest refl is e) }
 
@@ -130,7 +128,7 @@ less_left n ts known r p short fits e =
     let some : 0 < length known = subst (λ z. 0 < length z) (sym fits.0) (omega arith) in
     omega (arith, short, some, e)
 
-nothing_on : (ts : List ℕ) → length ts ≤ 0 → ReadsOn (several 32 (held_item None)) [] [] ts
+nothing_on : (ts : List ℕ) → length ts ≤ 0 → AfterOk (several 32 (held_item None)) [] [] ts
 nothing_on [] short = tt
 nothing_on (b ∷ ts) short = absurd (omega (arith, short))
 

@@ -1,10 +1,8 @@
 -- Numbers, paths and names of basics, judged.
-use Rattle.std.proofs.Common.{◌≡◌, ◌⊎◌, inl, inr, ℕ, zero, suc, ◌==◌, ◌||◌, ◌-◌, ◌<◌, ◌≤◌, ◌^◌, Bool, true, false, not, cond, List, [], ◌∷◌, ◌++◌, length, length-append, drop, take, nat_le, nat_lt, decimal, codes, if◌then◌else◌, Ok, Err, refl, sym, ◌∙◌, ap, subst, arith, append_assoc, append-nil}
+use Rattle.std.proofs.Common.{◌≡◌, ◌⊎◌, inl, inr, ℕ, zero, suc, ◌||◌, ◌-◌, ◌<◌, ◌≤◌, ◌^◌, Bool, true, false, not, List, [], ◌∷◌, ◌++◌, length, length-append, drop, take, nat_le, nat_lt, decimal, codes, if◌then◌else◌, Ok, Err, refl, sym, ◌∙◌, ap, subst, arith, append_assoc, append-nil}
 use Rattle.std.proofs.lemmas.Bool.{ltb-false, leb-true, leb-false, lt-ltb, and_from}
 use Rattle.std.proofs.lemmas.Bool.Decides.{nat_tests}
-use Rattle.std.proofs.lemmas.List.Sums.{take_while-cons}
-use Rattle.std.specs.Char.{is_ascii_digit}
-use Rattle.std.specs.List.{list_all, take_while}
+use Rattle.std.specs.List.{list_all}
 use Rattle.std.specs.Str.Parse.{digits_value}
 use Rattle.std.proofs.Math.Seq.{drop-append_seam}
 use Rattle.algebra.specs.declared.basic.Basic.{Basic}
@@ -17,63 +15,15 @@ use Rattle.books.specs.Broken.{IsPast}
 use Rattle.books.specs.Combine.{Res, ◌>>=◌, begins, expect, further, one_of}
 use Rattle.books.specs.Reading.{number_digits, is_at_end, number_at, fields_at, path_at, basics, leaf_at}
 use Rattle.books.proofs.Complete.{complete_leaf}
+use Rattle.books.proofs.Locals.{AfterOk}
+use Rattle.books.proofs.NumberFaults.{Digits, digits_of, none_of}
 use Rattle.books.proofs.PassLemmas.{front_taken}
 use Rattle.books.proofs.Sound.{SoundAt, Bytes, Spells, IsNumber, sound_number}
 use Rattle.books.proofs.SoundTrees.{ReadsPath, sound_leaf}
 use Rattle.refutation.specs.FirstFaults.{BreaksPath, root, field}
-use Rattle.refutation.proofs.Stops.{ReadsOn, Fails, StopsOn, Begun, IsJudged, Judged, Never, judged_seq, judged_done, judged_if, judged_under, judged_expect}
+use Rattle.refutation.proofs.Stops.{Fails, StopsOn, Begun, IsJudged, Judged, Never, judged_seq, judged_done, judged_if, judged_under, judged_expect}
 
 -- ---- numbers
-
--- a run of digits at the front of a text: what stands behind it, and that it ends there whatever stands behind the next byte
-record Run (ts run : List ℕ) : Type 0 where
-  rest : List ℕ
-  whole : ts ≡ run ++ rest
-  stays : (c : ℕ) (r more : List ℕ) → rest ≡ c ∷ r → take_while is_ascii_digit (run ++ (c ∷ more)) ≡ run
-
-run_step : (t : Bool) (b : ℕ) (ts run : List ℕ) → is_ascii_digit b ≡ t → Run ts run → Run (b ∷ ts) (cond t (b ∷ run) [])
-run_step true b ts run e s = record {
-  rest = s.rest;
-  whole = ap (λ z. b ∷ z) s.whole;
-  stays = λ c r more is. take_while-cons is_ascii_digit b (run ++ (c ∷ more)) ∙ ap (λ t. cond t (b ∷ take_while is_ascii_digit (run ++ (c ∷ more))) []) e ∙ ap (λ z. b ∷ z) (s.stays c r more is);
-}
-run_step false b ts run e s = record {
-  rest = b ∷ ts;
-  whole = refl;
-  stays = λ c r more is. let same : b ≡ c = cc in take_while-cons is_ascii_digit c more ∙ ap (λ t. cond t (c ∷ take_while is_ascii_digit more) []) (ap is_ascii_digit (sym same) ∙ e);
-}
-
-run_of : (ts : List ℕ) → Run ts (take_while is_ascii_digit ts)
-run_of [] = record { rest = []; whole = refl; stays = λ c r more is. absurd (let no : [] ≡ c ∷ r = is in cc) }
-run_of (b ∷ ts) = subst (λ z. Run (b ∷ ts) z) (sym (take_while-cons is_ascii_digit b ts)) (run_step (is_ascii_digit b) b ts (take_while is_ascii_digit ts) refl (run_of ts))
-
--- the same of the digits of a number
-record Digits (ts ds : List ℕ) : Type 0 where
-  rest : List ℕ
-  whole : ts ≡ ds ++ rest
-  stays : (c : ℕ) (r more : List ℕ) → rest ≡ c ∷ r → number_digits (ds ++ (c ∷ more)) ≡ ds
-
--- a number that doesn't begin with 0 has all digits that stand there
-not_naught : (b : ℕ) (ts run : List ℕ) (c : ℕ) (r more : List ℕ) → (b == 48) ≡ false → b ∷ ts ≡ run ++ (c ∷ r) → number_digits (run ++ (c ∷ more)) ≡ take_while is_ascii_digit (run ++ (c ∷ more))
-not_naught b ts [] c r more e is = let same : b ≡ c = cc in ap (λ t. if t then c ∷ [] else take_while is_ascii_digit (c ∷ more)) (ap (λ z. z == 48) (sym same) ∙ e)
-not_naught b ts (x ∷ run) c r more e is =
-    let same : b ≡ x = cc in ap (λ t. if t then x ∷ [] else take_while is_ascii_digit (x ∷ (run ++ (c ∷ more)))) (ap (λ z. z == 48) (sym same) ∙ e)
-
-digits_step : (t : Bool) (b : ℕ) (ts run : List ℕ) → (b == 48) ≡ t → Run (b ∷ ts) run → Digits (b ∷ ts) (if t then b ∷ [] else run)
-digits_step true b ts run e s = record {
-  rest = ts;
-  whole = refl;
-  stays = λ c r more is. ap (λ t. if t then b ∷ [] else take_while is_ascii_digit (b ∷ (c ∷ more))) e;
-}
-digits_step false b ts run e s = record {
-  rest = s.rest;
-  whole = s.whole;
-  stays = λ c r more is. not_naught b ts run c r more e (s.whole ∙ ap (λ z. run ++ z) is) ∙ s.stays c r more is;
-}
-
-digits_of : (ts : List ℕ) → Digits ts (number_digits ts)
-digits_of [] = record { rest = []; whole = refl; stays = λ c r more is. absurd (let no : [] ≡ c ∷ r = is in cc) }
-digits_of (b ∷ ts) = digits_step (b == 48) b ts (take_while is_ascii_digit (b ∷ ts)) refl (run_of (b ∷ ts))
 
 -- the number with these digits
 with_digits : ℕ → List ℕ → List ℕ → Res ℕ
@@ -83,11 +33,7 @@ with_digits-is : (end : ℕ) (ts : List ℕ) → number_at end ts ≡ with_digit
 unfolding number_at with_digits
 with_digits-is end ts = refl
 
-none_of : (ds : List ℕ) → is_at_end ds ≡ true → ds ≡ []
-none_of [] e = refl
-none_of (d ∷ ds) e = absurd (let no : false ≡ true = e in cc)
-
-number_on : (end : ℕ) (ts ds rest : List ℕ) → Digits ts ds → is_at_end ds ≡ false → nat_lt (digits_value 10 ds) end ≡ true → drop (length ds) ts ≡ rest → ReadsOn (number_at end) ds (digits_value 10 ds) rest
+number_on : (end : ℕ) (ts ds rest : List ℕ) → Digits ts ds → is_at_end ds ≡ false → nat_lt (digits_value 10 ds) end ≡ true → drop (length ds) ts ≡ rest → AfterOk (number_at end) ds (digits_value 10 ds) rest
 unfolding with_digits
 number_on end ts ds [] d some small behind = tt
 number_on end ts ds (c ∷ r) d some small behind = λ more.
@@ -305,7 +251,7 @@ halted_one_of spell other (x ∷ xs) ts =
     let p : List ℕ → Res _ = λ z. expect (spell x) z >>= λ u r. Ok (x, r) in
     halted_further (Spells spell) p (one_of spell xs) ts (p ts) (one_of spell xs ts) (halted_of (Spells spell) p ts (p ts) (one_text spell x ts).at) (halted_one_of spell other xs ts)
 
-leaf_on : (front : List ℕ) (x : Basic) (rest : List ℕ) → front ≡ name_of x → ReadsOn leaf_at front x rest
+leaf_on : (front : List ℕ) (x : Basic) (rest : List ℕ) → front ≡ name_of x → AfterOk leaf_at front x rest
 leaf_on front x [] e = tt
 leaf_on front x (b ∷ r) e = λ more. ap (λ z. leaf_at (z ++ (b ∷ more))) e ∙ complete_leaf x (b ∷ more)
 

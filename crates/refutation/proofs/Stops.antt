@@ -3,12 +3,8 @@ use Rattle.std.proofs.Common.{◌≡◌, ◌⊎◌, inl, inr, ℕ, ◌==◌, ◌
 use Rattle.std.proofs.lemmas.Bool.Decides.{nat_tests}
 use Rattle.books.specs.declared.stop.Kind.TheVariants.{Form}
 use Rattle.books.specs.Combine.{Res, ◌>>=◌, begins, expect}
+use Rattle.books.proofs.Locals.{AfterOk, along_ok, goes_on, both_ok, same_first}
 use Rattle.books.proofs.Sound.{Bytes}
-
--- with this front and the same next byte, the same is read of any text
-abbrev pub ReadsOn : {A : Type 0} → (List ℕ → Res A) → (front : List ℕ) → A → (rest : List ℕ) → Type 0
-ReadsOn q front a [] = Unit {0}
-ReadsOn q front a (b ∷ r) = (more : List ℕ) → q (front ++ (b ∷ more)) ≡ Ok (a, b ∷ more)
 
 -- nothing is read
 abbrev pub Fails : {A : Type 0} → Res A → Type 0
@@ -32,7 +28,7 @@ pub record ReadOf {A : Type 0} (L M : List ℕ → A → Type 0) (q : List ℕ �
   pub whole : ts ≡ front ++ rest
   pub is : L front value
   pub fits : M front value
-  pub on : ReadsOn q front value rest
+  pub on : AfterOk q front value rest
 
 -- nothing was read: either nothing is read of any text that goes on alike, or B relates what stands before and behind the place
 pub record StoppedAt {A : Type 0} (M : List ℕ → A → Type 0) (B : List ℕ → List ℕ → Type 0) (q : List ℕ → Res A) (ts rest : List ℕ) : Type 0 where
@@ -59,27 +55,7 @@ some_by L M B q ts (Err e) s = record { more = s.front ++ s.begun.more; value = 
 
 -- ---- one part, and then another
 
-no_more : (front rest : List ℕ) → [] ≡ front ++ rest → rest ≡ []
-no_more [] rest e = sym e
-no_more (x ∷ front) rest e = absurd (cc)
-
-goes_on : {A : Type 0} (q : List ℕ → Res A) (front : List ℕ) (a : A) (rest next : List ℕ) (c : ℕ) (l : List ℕ) → rest ≡ next ++ (c ∷ l) → ReadsOn q front a rest →
-    (more : List ℕ) → q (front ++ (next ++ (c ∷ more))) ≡ Ok (a, next ++ (c ∷ more))
-goes_on q front a [] next c l e s more = absurd (let none = no_more next (c ∷ l) e in let some : c ∷ l ≡ [] = none in cc)
-goes_on q front a (b ∷ r) [] c l e s more = absurd_or e s more
-  where
-    absurd_or : b ∷ r ≡ c ∷ l → ((more : List ℕ) → q (front ++ (b ∷ more)) ≡ Ok (a, b ∷ more)) → (more : List ℕ) → q (front ++ (c ∷ more)) ≡ Ok (a, c ∷ more)
-    absurd_or e s more = let same : b ≡ c = cc in subst (λ z. q (front ++ (z ∷ more)) ≡ Ok (a, z ∷ more)) same (s more)
-goes_on q front a (b ∷ r) (x ∷ next) c l e s more =
-    let same : b ≡ x = cc in subst (λ z. q (front ++ (z ∷ (next ++ (c ∷ more)))) ≡ Ok (a, z ∷ (next ++ (c ∷ more)))) same (s (next ++ (c ∷ more)))
-
-pub both_read : {A C : Type 0} (q : List ℕ → Res A) (g : A → List ℕ → Res C) (front : List ℕ) (a : A) (rest next : List ℕ) (c : C) (last : List ℕ) → rest ≡ next ++ last → ReadsOn q front a rest →
-    ReadsOn (g a) next c last → ReadsOn (λ z. q z >>= g) (front ++ next) c last
-both_read q g front a rest next c [] e s t = tt
-both_read q g front a rest next c (b ∷ l) e s t = λ more.
-    ap (λ z. q z >>= g) (append_assoc front next (b ∷ more)) ∙ ap (λ z. z >>= g) (goes_on q front a rest next b l e s more) ∙ t more
-
-then_stops : {A C : Type 0} (q : List ℕ → Res A) (g : A → List ℕ → Res C) (front : List ℕ) (a : A) (rest next last : List ℕ) → rest ≡ next ++ last → ReadsOn q front a rest →
+then_stops : {A C : Type 0} (q : List ℕ → Res A) (g : A → List ℕ → Res C) (front : List ℕ) (a : A) (rest next last : List ℕ) → rest ≡ next ++ last → AfterOk q front a rest →
     StopsOn (g a) next last → StopsOn (λ z. q z >>= g) (front ++ next) last
 then_stops q g front a rest next [] e s t = tt
 then_stops q g front a rest next (b ∷ l) e s t = λ more.
@@ -98,19 +74,19 @@ pub why_first : {A C : Type 0} (D B : List ℕ → List ℕ → Type 0) (q : Lis
 why_first D B q g front rest up (inl s) = inl (first_stops q g front rest s)
 why_first D B q g front rest up (inr s) = inr (up front rest s)
 
-why_then : {A C : Type 0} (K : Type 0) (B : List ℕ → List ℕ → Type 0) (q : List ℕ → Res A) (g : A → List ℕ → Res C) (front : List ℕ) (a : A) (rest next last : List ℕ) → rest ≡ next ++ last → ReadsOn q front a rest → K →
+why_then : {A C : Type 0} (K : Type 0) (B : List ℕ → List ℕ → Type 0) (q : List ℕ → Res A) (g : A → List ℕ → Res C) (front : List ℕ) (a : A) (rest next last : List ℕ) → rest ≡ next ++ last → AfterOk q front a rest → K →
     StopsOn (g a) next last ⊎ (K → B (front ++ next) last) → StopsOn (λ z. q z >>= g) (front ++ next) last ⊎ B (front ++ next) last
 why_then K B q g front a rest next last e s k (inl t) = inl (then_stops q g front a rest next last e s t)
 why_then K B q g front a rest next last e s k (inr t) = inr (t k)
 
-behind : {A C : Type 0} (K : Type 0) (L M : List ℕ → C → Type 0) (B : List ℕ → List ℕ → Type 0) (q : List ℕ → Res A) (g : A → List ℕ → Res C) (ts front : List ℕ) (a : A) (rest : List ℕ) → ts ≡ front ++ rest → ReadsOn q front a rest → K →
+behind : {A C : Type 0} (K : Type 0) (L M : List ℕ → C → Type 0) (B : List ℕ → List ℕ → Type 0) (q : List ℕ → Res A) (g : A → List ℕ → Res C) (ts front : List ℕ) (a : A) (rest : List ℕ) → ts ≡ front ++ rest → AfterOk q front a rest → K →
     (x : Res C) → IsJudged (λ ys c. K → L (front ++ ys) c) (λ ys c. M (front ++ ys) c) (λ ys zs. K → B (front ++ ys) zs) (g a) rest x → IsJudged L M B (λ z. q z >>= g) ts x
 behind K L M B q g ts front a rest is s k (Ok y) t = record {
   front = front ++ t.front;
   whole = is ∙ ap (λ z. front ++ z) t.whole ∙ sym (append_assoc front t.front y.1);
   is = t.is k;
   fits = t.fits;
-  on = both_read q g front a rest t.front y.0 y.1 t.whole s t.on;
+  on = both_ok q g front a rest t.front y.0 y.1 t.whole s t.on;
 }
 behind K L M B q g ts front a rest is s k (Err d) t = record {
   front = front ++ t.front;
@@ -170,15 +146,11 @@ judged_seq K D L M B q g ts x f up s next = judged_loose K K D L M B q g ts x f 
 pub judged_done : {A : Type 0} (L M : List ℕ → A → Type 0) (B : List ℕ → List ℕ → Type 0) (a : A) (ts : List ℕ) → L [] a → M [] a → Judged L M B (λ z. Ok (a, z)) ts (Ok (a, ts))
 judged_done {A} L M B a ts is fits = record { at = record { front = []; whole = refl; is = is; fits = fits; on = done ts } }
   where
-    done : (ts : List ℕ) → ReadsOn (λ z. Ok (a, z)) [] a ts
+    done : (ts : List ℕ) → AfterOk (λ z. Ok (a, z)) [] a ts
     done [] = tt
     done (b ∷ ts) = λ more. refl
 
 -- ---- another reader that is the same on the texts that are asked for
-
-along_read : {A : Type 0} (p q : List ℕ → Res A) (front : List ℕ) (a : A) (rest : List ℕ) → ((b : ℕ) (r more : List ℕ) → rest ≡ b ∷ r → q (front ++ (b ∷ more)) ≡ p (front ++ (b ∷ more))) → ReadsOn p front a rest → ReadsOn q front a rest
-along_read p q front a [] same s = tt
-along_read p q front a (b ∷ r) same s = λ more. same b r more refl ∙ s more
 
 along_stop : {A : Type 0} (p q : List ℕ → Res A) (front rest : List ℕ) → ((b : ℕ) (r more : List ℕ) → rest ≡ b ∷ r → q (front ++ (b ∷ more)) ≡ p (front ++ (b ∷ more))) → StopsOn p front rest → StopsOn q front rest
 along_stop p q front [] same s = tt
@@ -192,7 +164,7 @@ along_why B p q front rest same (inr s) = inr s
 along : {A : Type 0} (L M : List ℕ → A → Type 0) (B : List ℕ → List ℕ → Type 0) (p q : List ℕ → Res A) (ts : List ℕ) → ((front : List ℕ) (b : ℕ) (r more : List ℕ) → ts ≡ front ++ (b ∷ r) → q (front ++ (b ∷ more)) ≡ p (front ++ (b ∷ more))) →
     (x : Res A) → IsJudged L M B p ts x → IsJudged L M B q ts x
 along L M B p q ts same (Ok y) s =
-    record { front = s.front; whole = s.whole; is = s.is; fits = s.fits; on = along_read p q s.front y.0 y.1 (λ b r more e. same s.front b r more (s.whole ∙ ap (λ z. s.front ++ z) e)) s.on }
+    record { front = s.front; whole = s.whole; is = s.is; fits = s.fits; on = along_ok p q s.front y.0 y.1 (λ b r more e. same s.front b r more (s.whole ∙ ap (λ z. s.front ++ z) e)) s.on }
 along L M B p q ts same (Err d) s =
     record { front = s.front; whole = s.whole; begun = s.begun; why = along_why B p q s.front d.1 (λ b r more e. same s.front b r more (s.whole ∙ ap (λ z. s.front ++ z) e)) s.why }
 
@@ -200,10 +172,6 @@ pub judged_same : {A : Type 0} (L M : List ℕ → A → Type 0) (B : List ℕ �
 judged_same L M B p q ts x same s = record { at = along L M B p q ts (λ front b r more e. same (front ++ (b ∷ more))) x s.at }
 
 -- ---- a choice by the first byte
-
-same_first : (byte : ℕ) (front : List ℕ) (b : ℕ) (r more : List ℕ) → begins byte (front ++ (b ∷ more)) ≡ begins byte (front ++ (b ∷ r))
-same_first byte [] b r more = refl
-same_first byte (x ∷ front) b r more = refl
 
 choice_by : {A : Type 0} (L M : List ℕ → A → Type 0) (B : List ℕ → List ℕ → Type 0) (byte : ℕ) (p q : List ℕ → Res A) (ts : List ℕ) (x y : Res A) (test : Bool) → begins byte ts ≡ test →
     (test ≡ true → Judged L M B p ts x) → (test ≡ false → Judged L M B q ts y) → IsJudged L M B (λ z. if begins byte z then p z else q z) ts (if test then x else y)
@@ -218,7 +186,7 @@ judged_if L M B byte p q ts x y first other = record { at = choice_by L M B byte
 
 -- ---- one byte first
 
-under_read : {A : Type 0} (p q : List ℕ → Res A) (b : ℕ) → ((z : List ℕ) → p (b ∷ z) ≡ q z) → (front : List ℕ) (a : A) (rest : List ℕ) → ReadsOn q front a rest → ReadsOn p (b ∷ front) a rest
+under_read : {A : Type 0} (p q : List ℕ → Res A) (b : ℕ) → ((z : List ℕ) → p (b ∷ z) ≡ q z) → (front : List ℕ) (a : A) (rest : List ℕ) → AfterOk q front a rest → AfterOk p (b ∷ front) a rest
 under_read p q b same front a [] s = tt
 under_read p q b same front a (c ∷ r) s = λ more. same (front ++ (c ∷ more)) ∙ s more
 

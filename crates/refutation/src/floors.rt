@@ -1,7 +1,6 @@
 //! What the lines so far say of each method.
 ghost use Rattle.std.specs.Prelude.{◌≡◌, ◌∷◌, ◌++◌, ◌<◌, ℕ, List, [], length, IfOk};
 ghost use Rattle.algebra.specs.HeldPaths.{has_path};
-ghost use Rattle.algebra.specs.Tables.{first_entry, half_table};
 ghost use Rattle.rules.specs.Near.{rel_of};
 ghost use Rattle.rules.specs.Search.{row_at};
 ghost use Rattle.refutation.specs.Lines.{LineData};

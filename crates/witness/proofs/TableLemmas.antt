@@ -2,8 +2,7 @@
 use Rattle.std.proofs.Common.{◌≡◌, ℕ, ◌+◌, ◌<◌, ◌≤◌, ◌==◌, Bool, true, false, List, length, take, get_or, refl, ap, ◌∙◌, arith}
 use Rattle.std.specs.Prelude.{nat_lt, unwrap_or, if◌then◌else◌}
 use Rattle.std.proofs.lemmas.Bool.{ltb-true, ltb-false}
-use Rattle.std.proofs.lemmas.List.{length-take-le}
-use Rattle.std.proofs.lemmas.List.Sums.{count_by_more_yes, count_by_more_no, count_by-le-length}
+use Rattle.std.proofs.lemmas.List.Sums.{count_by_more_yes, count_by_more_no}
 use Rattle.std.proofs.lemmas.Option.{slice_get-get_or, slice_get_past}
 use Rattle.witness.specs.Walks.{entry_counts}
 use Rattle.witness.specs.Tables.{count_at}
@@ -35,9 +34,3 @@ counts_more s i t less = by_test (get_or s i 0 == t) refl
     by_test : (b : Bool) → (get_or s i 0 == t) ≡ b → entry_counts (take (i + 1) s) t ≡ (if b then entry_counts (take i s) t + 1 else entry_counts (take i s) t)
     by_test true is = count_by_more_yes (λ u. u == t) s i 0 less is
     by_test false is = count_by_more_no (λ u. u == t) s i 0 less is
-
-pub counts_few : (s : List ℕ) (i t : ℕ) → i ≤ length s → entry_counts (take i s) t ≤ i
-counts_few s i t within =
-    let few = count_by-le-length (λ u. u == t) (take i s) in
-    let long = length-take-le i s within in
-    omega (arith, few, long)

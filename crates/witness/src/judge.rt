@@ -1,5 +1,5 @@
 //! The judge.
-ghost use Rattle.std.specs.Prelude.{◌≡◌, ◌≤◌, length, IfOk};
+ghost use Rattle.std.specs.Prelude.{◌≤◌, length, IfOk};
 ghost use Rattle.core_program.specs.Views.{program_of};
 ghost use Rattle.state.specs.States.{State};
 ghost use Rattle.compile.specs.IsCode.{IsCodeOf};

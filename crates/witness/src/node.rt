@@ -1,15 +1,13 @@
 //! Nodes of the search: a machine, who has to go on there, and the entries that are left.
-ghost use Rattle.std.specs.Prelude.{◌≡◌, ◌≢◌, ◌+◌, ◌++◌, ◌<◌, [], ◌∷◌, ℕ, List, Option, Some, None, true, IfOk, OnOk, IfSome, MatchOption};
+ghost use Rattle.std.specs.Prelude.{◌≡◌, ◌≢◌, ◌+◌, ◌<◌, Option, Some, None, true, IfOk, OnOk, IfSome};
 ghost use Rattle.core_program.specs.Views.{program_of};
-ghost use Rattle.state.specs.States.{State, initial};
+ghost use Rattle.state.specs.States.{State};
 ghost use Rattle.compile.specs.IsCode.{IsCodeOf};
 ghost use Rattle.semantics.specs.Run.{inside};
 ghost use Rattle.semantics.specs.Step.{step};
 ghost use Rattle.machine.specs.declared.deed.StepEnd.TheVariants as ends;
-ghost use Rattle.machine.specs.MachineValue.{code_state};
 ghost use Rattle.machine.specs.Standing.{program_run, StandsFor};
-ghost use Rattle.witness.specs.Tables.{count_at};
-ghost use Rattle.witness.specs.Walks.{may_step, must_step_next, less, allows};
+ghost use Rattle.witness.specs.Walks.{may_step, must_step_next, allows};
 ghost use Rattle.witness.specs.Nodes.{HasStepped, IsStart, IsTwin, IsBehind, IsChild};
 
 use crate::table::{allows, use_one};

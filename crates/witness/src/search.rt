@@ -1,5 +1,5 @@
 //! The search: nodes are expanded one after the other, and each state is looked at once.
-ghost use Rattle.std.specs.Prelude.{◌≡◌, ◌≤◌, ◌<◌, ℕ, Some, None, true, false, length, vec_len, slice_get, IfOk, IfSome};
+ghost use Rattle.std.specs.Prelude.{◌≡◌, ◌≤◌, ◌<◌, ℕ, Some, None, true, false, length, vec_len, slice_get, IfOk};
 ghost use Rattle.state.specs.States.{State, initial};
 ghost use Rattle.witness.specs.declared.node.Node.{Node};
 ghost use Rattle.witness.specs.Judging.{AreLike, IsGoal};

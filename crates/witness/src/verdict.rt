@@ -1,5 +1,5 @@
 //! What is told of a schedule as a whole: an order that keeps its promises, or the strongest sense in which they are broken.
-ghost use Rattle.std.specs.Prelude.{◌≡◌, ◌≢◌, ◌≤◌, ℕ, List, true, false, length, Some, IfOk, IfErr, MatchResult};
+ghost use Rattle.std.specs.Prelude.{◌≡◌, ◌≢◌, ◌≤◌, ℕ, List, true, false, length, Some, IfOk, MatchResult};
 ghost use Rattle.core_program.specs.Core.{Program};
 ghost use Rattle.state.specs.States.{State, initial};
 ghost use Rattle.machine.specs.declared.deed.StepEnd.TheVariants as ends;
@@ -7,8 +7,8 @@ ghost use Rattle.machine.specs.Standing.{program_run, StandsFor, IsStop, HasRun}
 ghost use Rattle.witness.specs.Witness.{IsWitnessAs, IsFullWitnessAs};
 ghost use Rattle.witness.specs.declared.goal.Compared.TheVariants as comparisons;
 ghost use Rattle.witness.specs.declared.judge.Judged.TheVariants as answers;
-ghost use Rattle.witness.specs.Judging.{AreLike, IsGoal, IsJudged, IsJudgedWhole};
-ghost use Rattle.witness.specs.Verdicts.{program_in, IsCase, EndsAt, IsEnd, IsVerdict, IsBrokenIn, IsNoVerdict};
+ghost use Rattle.witness.specs.Judging.{AreLike, IsGoal};
+ghost use Rattle.witness.specs.Verdicts.{program_in, IsCase, IsEnd, IsVerdict, IsBrokenIn, IsNoVerdict};
 
 use crate::goal::{Compared, Goal};
 use crate::judge::{Judged, judge_orders, judge_ways};

@@ -1,6 +1,6 @@
 //! What is answered to the bytes of a source and of a schedule.
 
-ghost use Rattle.std.specs.Prelude.{◌≡◌, ◌≢◌, ◌≤◌, ℕ, List, length, IfOk, MatchResult, string_bytes};
+ghost use Rattle.std.specs.Prelude.{◌≢◌, ◌≤◌, ℕ, List, length, IfOk, MatchResult, string_bytes};
 ghost use Rattle.core_program.specs.Core.{Program};
 ghost use Rattle.core_program.specs.Views.{program_of};
 ghost use Rattle.machine.specs.declared.deed.StepEnd.TheVariants as ends;
