@@ -18,8 +18,9 @@ use crate::family::{Family, reversed};
 use crate::fault::ClassFault;
 use crate::first::first_of;
 use crate::limits::MOST_FIELDS;
-use crate::members::{field_at, note_above, note_excess, note_fields, note_members, note_methods};
+use crate::members::{note_above, note_excess, note_fields, note_members, note_methods};
 use crate::names::NameSet;
+use crate::numbered_fields::field_at;
 use crate::overriding::{Heading, headings_where_inherited, note_overrides};
 use crate::own::OwnNames;
 use std::alloc::{AllocError as NoMemory, Global};
@@ -94,9 +95,11 @@ fn note_circle(class: &Name, is_on_circle: bool, first: Option<ClassFault>) -> O
     }
 }
 
-/// Which class extends which, and the headings of the methods of each class where one extends another.
+/// What the faults of a class are found by: memory, which class extends which, and the headings of the methods of each
+/// class where one extends another.
 #[derive(Clone, Copy)]
 struct Inheritance<'f, 'p, 'a> {
+    alloc: Global,
     family: &'f Family<'p, 'a>,
     headings: &'f [Vec<Heading<'p, 'a>>],
 }
@@ -105,7 +108,6 @@ struct Inheritance<'f, 'p, 'a> {
 /// of these classes in order.
 #[tactic(auto, using(crate::proofs::Noting::noted_append))]
 fn note_others(
-    alloc: Global,
     inheritance: &Inheritance,
     number: usize,
     class: &Class,
@@ -120,6 +122,7 @@ fn note_others(
     requires order { members_along (tree_of inheritance.now.family.now) order.now ≡ all_members (tree_of inheritance.now.family.now) number }
     ensures { IfOk result (λ f. f ≡ noted first (other_faults (tree_of inheritance.now.family.now) number (class_of class.now))) }
 {
+    let alloc = inheritance.alloc;
     let family = inheritance.family;
     let members = class.members.as_slice();
     let classes = family.classes;
@@ -136,7 +139,6 @@ fn note_others(
 
 /// The faults of a class that extends none.
 fn note_alone<'p, 'a>(
-    alloc: Global,
     inheritance: &Inheritance<'_, 'p, 'a>,
     number: usize,
     class: &Class<'a>,
@@ -149,13 +151,19 @@ fn note_alone<'p, 'a>(
     ensures { IfOk result (λ f. f ≡ noted first (class_faults (tree_of inheritance.now.family.now) number (class_of class.now))) }
 {
     let members = class.members.as_slice();
-    let found = note_fields(alloc, inheritance.family, number, &[], members, first)?;
-    note_others(alloc, inheritance, number, class, &[], &[number], found)
+    let found = note_fields(
+        inheritance.alloc,
+        inheritance.family,
+        number,
+        &[],
+        members,
+        first,
+    )?;
+    note_others(inheritance, number, class, &[], &[number], found)
 }
 
 /// The faults of a class.
 fn note_class<'p, 'a>(
-    alloc: Global,
     inheritance: &Inheritance<'_, 'p, 'a>,
     number: usize,
     class: &Class<'a>,
@@ -167,14 +175,13 @@ fn note_class<'p, 'a>(
     ensures { IfOk result (λ f. f ≡ noted first (class_faults (tree_of inheritance.now.family.now) number (class_of class.now))) }
 {
     match inheritance.family.above(number) {
-        Some(_) => note_heir(alloc, inheritance, number, class, first),
-        None => note_alone(alloc, inheritance, number, class, first),
+        Some(_) => note_heir(inheritance, number, class, first),
+        None => note_alone(inheritance, number, class, first),
     }
 }
 
 /// The faults of a class that may extend another.
 fn note_heir<'p, 'a>(
-    alloc: Global,
     inheritance: &Inheritance<'_, 'p, 'a>,
     number: usize,
     class: &Class<'a>,
@@ -186,10 +193,10 @@ fn note_heir<'p, 'a>(
     ensures { IfOk result (λ f. f ≡ noted first (class_faults (tree_of inheritance.now.family.now) number (class_of class.now))) }
 {
     let members = class.members.as_slice();
-    let line = inheritance.family.line(alloc, number)?;
-    let mut order = reversed(alloc, line.as_slice())?;
+    let line = inheritance.family.line(inheritance.alloc, number)?;
+    let mut order = reversed(inheritance.alloc, line.as_slice())?;
     let found = note_fields(
-        alloc,
+        inheritance.alloc,
         inheritance.family,
         number,
         order.as_slice(),
@@ -198,7 +205,6 @@ fn note_heir<'p, 'a>(
     )?;
     order.push(number)?;
     note_others(
-        alloc,
         inheritance,
         number,
         class,
@@ -209,7 +215,6 @@ fn note_heir<'p, 'a>(
 }
 
 fn note_classes(
-    alloc: Global,
     inheritance: &Inheritance,
     first: Option<ClassFault>,
 ) -> Result<Option<ClassFault>, NoMemory>
@@ -219,7 +224,7 @@ fn note_classes(
 {
     let mut found = first;
     for (number, class) in inheritance.family.classes.iter().enumerate() {
-        found = note_class(alloc, inheritance, number, class, found)?;
+        found = note_class(inheritance, number, class, found)?;
     }
     Ok(found)
 }
@@ -322,10 +327,11 @@ fn note_all<'p, 'a>(
     let family = Family::new(alloc, classes, names, own, firsts)?;
     let headings = headings_where_inherited(alloc, &family)?;
     let inheritance = Inheritance {
+        alloc,
         family: &family,
         headings: headings.as_slice(),
     };
-    let found = note_classes(alloc, &inheritance, first)?;
+    let found = note_classes(&inheritance, first)?;
     note_missing_main(alloc, &family, found)
 }
 

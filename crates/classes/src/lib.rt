@@ -16,6 +16,7 @@ mod lookup;
 mod make;
 mod members;
 mod names;
+mod numbered_fields;
 mod numbers;
 mod overriding;
 mod own;

@@ -3,7 +3,7 @@ use Rattle.syntax.specs.Views.{class_of}
 use Rattle.classes.specs.Members.{field_names}
 use Rattle.classes.specs.Families.{members_along}
 use Rattle.classes.proofs.Parted.{later_field, field_found}
-use Rattle.classes.proofs.members.field_at.Goals as goal
+use Rattle.classes.proofs.numbered_fields.field_at.Goals as goal
 
 pub returns-in-Some : goal.returns-in-Some
 returns-in-Some c =

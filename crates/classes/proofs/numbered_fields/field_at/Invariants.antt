@@ -2,7 +2,7 @@ use Rattle.classes.specs.Families.{members_along}
 use Rattle.classes.specs.Members.{field_names}
 use Rattle.syntax.specs.Views.{class_of}
 use Rattle.std.proofs.Common.{drop, map, slice_get, ◌≡◌}
-use Rattle.classes.proofs.members.field_at.Given as goal
+use Rattle.classes.proofs.numbered_fields.field_at.Given as goal
 
 abbrev pub invariant-loop-class : goal.invariant-loop-class
 invariant-loop-class l =

@@ -1,7 +1,7 @@
 use Rattle.classes.specs.Members.{field_names}
 use Rattle.syntax.specs.Views.{member_of}
 use Rattle.std.proofs.Common.{drop, map, slice_get, ◌≡◌}
-use Rattle.classes.proofs.members.field_in.Given as goal
+use Rattle.classes.proofs.numbered_fields.field_in.Given as goal
 
 abbrev pub invariant-loop-member : goal.invariant-loop-member
 invariant-loop-member l =
