@@ -4,7 +4,8 @@ ghost use Rattle.std.specs.FinMap as map;
 ghost use Rattle.state.specs.Memory.{with_lock};
 ghost use Rattle.state.specs.Stored.{found_lock, MayTake, taken_by, stored_given_back};
 
-use crate::grid::{Copied, Grid};
+use crate::grid::Grid;
+use crate::row::Copied;
 use crate::value::Address;
 use std::alloc::{AllocError as NoMemory, Global};
 use std::marker::Model;

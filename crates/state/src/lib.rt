@@ -9,6 +9,7 @@ mod grid;
 mod held;
 mod laws;
 mod objects;
+mod row;
 mod threads;
 mod value;
 mod values;

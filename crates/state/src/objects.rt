@@ -4,7 +4,8 @@ ghost use Rattle.std.specs.FinMap as map;
 ghost use Rattle.state.specs.Memory.{with_value, with_field, made_by};
 ghost use Rattle.state.specs.Stored.{found_object, HasField};
 
-use crate::grid::{Copied, Grid};
+use crate::grid::Grid;
+use crate::row::Copied;
 use crate::value::{Address, Value};
 use paths::ClassId;
 use std::alloc::{AllocError as NoMemory, Global};

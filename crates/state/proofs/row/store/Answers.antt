@@ -4,7 +4,7 @@ use Rattle.state.specs.Slots.{filled_in, SlotWritten}
 use Rattle.state.proofs.Addresses.{differ}
 use Rattle.state.proofs.Grids.{filled_more, filled_within, set_written, set_filled, push_written}
 use Rattle.std.proofs.Math.ListN.{set, length-set}
-use Rattle.state.proofs.grid.store.Goals as goal
+use Rattle.state.proofs.row.store.Goals as goal
 
 pub returns-in-Some-clause-ok : goal.returns-in-Some-clause-ok
 returns-in-Some-clause-ok g c =

@@ -1,7 +1,7 @@
 use Rattle.std.proofs.Common.{◌<◌, vec_len, sym, arith}
 use Rattle.state.proofs.Addresses.{differ}
 use Rattle.state.proofs.Grids.{some_below, some_filled, over_filled, set_written}
-use Rattle.state.proofs.grid.overwrite.Goals as goal
+use Rattle.state.proofs.row.overwrite.Goals as goal
 
 pub returns-in-Some-clause-written : goal.returns-in-Some-clause-written
 returns-in-Some-clause-written g c = set_written c.args.slots.now.items c.args.at c.args.value (some_below c.args.slots.now.items c.args.at c.requires)

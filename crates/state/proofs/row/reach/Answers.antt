@@ -2,7 +2,7 @@ use Rattle.std.proofs.Common.{ap, ◌∙◌, arith}
 use Rattle.std.specs.Prelude.{None}
 use Rattle.state.specs.Slots.{slot_at, filled_in}
 use Rattle.state.proofs.Grids.{slot_at_more, filled_more}
-use Rattle.state.proofs.grid.reach.Goals as goal
+use Rattle.state.proofs.row.reach.Goals as goal
 
 pub loop-slots-preserved : goal.loop-slots-preserved
 loop-slots-preserved g c =

@@ -1,7 +1,7 @@
 use Rattle.std.proofs.Common.{◌≡◌, ℕ, drop}
 use Rattle.std.specs.Prelude.{slice_get}
 use Rattle.state.specs.Slots.{slots_entries}
-use Rattle.state.proofs.grid.nth_filled.Given as goal
+use Rattle.state.proofs.row.nth_filled.Given as goal
 
 -- the entry is that of the slots from this count on
 abbrev pub invariant-loop-count : goal.invariant-loop-count

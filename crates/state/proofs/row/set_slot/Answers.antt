@@ -2,7 +2,7 @@ use Rattle.std.proofs.Common.{◌<◌, vec_len, sym, arith}
 use Rattle.state.specs.Memory.{with_value}
 use Rattle.state.proofs.Addresses.{differ}
 use Rattle.state.proofs.Grids.{some_below, kept_filled}
-use Rattle.state.proofs.grid.set_slot.Goals as goal
+use Rattle.state.proofs.row.set_slot.Goals as goal
 
 pub returns-in-Some-clause-filled : goal.returns-in-Some-clause-filled
 returns-in-Some-clause-filled c =

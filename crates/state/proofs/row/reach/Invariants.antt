@@ -1,7 +1,7 @@
 use Rattle.std.proofs.Common.{◌≡◌, ◌≤◌, ◌-◌, ℕ, vec_len}
 use Rattle.std.specs.Prelude.{max}
 use Rattle.state.specs.Slots.{slot_at, filled_in}
-use Rattle.state.proofs.grid.reach.Given as goal
+use Rattle.state.proofs.row.reach.Given as goal
 
 abbrev pub invariant-loop-slots : goal.invariant-loop-slots
 invariant-loop-slots g l =
