@@ -24,7 +24,8 @@ use Rattle.state.specs.Work.{Action, Item, Act, Next, unfolded}
 use Rattle.state.specs.States.{Frame, Thread, Ready, Running, Done, Faulted, State, initial}
 use Rattle.state.proofs.MemoryLemmas.{set_same}
 use Rattle.state.proofs.Numbering.{next_free}
-use Rattle.semantics.specs.Step.{Change, Prints, Shared, Move, Moves, holds, seen_by, act, act_next, enter_first, turn, outcome, moved}
+use Rattle.semantics.specs.Step.{Change, Prints, Shared, Move, Moves, seen_by, act, act_next, enter_first, turn, outcome, moved}
+use Rattle.semantics.specs.Locking.{holds}
 use Rattle.semantics.specs.Changes.{objects_after, locks_after}
 use Rattle.semantics.specs.Run.{run}
 use Rattle.semantics.specs.Waiting.{WaitsFor}

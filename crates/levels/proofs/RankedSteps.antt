@@ -27,7 +27,8 @@ use Rattle.state.specs.Memory.{Object, Hold, field_value}
 use Rattle.state.specs.Work as W
 use Rattle.state.specs.Work.{Item, Ex, St, Act, first_release}
 use Rattle.state.specs.States.{Frame, new_object}
-use Rattle.semantics.specs.Step.{Change, Nothing, FieldIs, ObjectIs, Starts, Shared, Move, Outcome, Moves, Absent, IsDone, HadFaulted, Waits, most_frames, has_result, with_result, unless_final, object_class, run_of, run_of_class, target_at, value_at, access_kind, taken_again, given_back, faults, goes_on, load, store, binary, and_then, or_else, choose, loop, get_value, get, put_value, put, new_address, new, enter, enter_some, dispatch, call_on, call, takes, take_held, take, acquire, release_held, release, return_to, start_run, start}
+use Rattle.semantics.specs.Step.{Change, Nothing, FieldIs, ObjectIs, Starts, Shared, Move, Outcome, Moves, Absent, IsDone, HadFaulted, Waits, most_frames, has_result, with_result, unless_final, object_class, run_of, run_of_class, target_at, value_at, access_kind, faults, goes_on, load, store, binary, and_then, or_else, choose, loop, get_value, get, put_value, put, new_address, new, enter, enter_some, dispatch, call_on, call, takes, take_held, take, acquire, release_held, release, return_to, start_run, start}
+use Rattle.semantics.specs.Locking.{taken_again, given_back}
 use Rattle.semantics.specs.Changes.{objects_after, locks_after}
 use Rattle.semantics.proofs.Changed.{same_address, address_itself}
 use Rattle.reduction.specs.Leads.{Env, env_of, Memory, machine_memory, next_value, lead_from, lead, Grows, Paths, LeadsTo, MayLeadTo, with_slot, top_path, under_path, taken_paths, dropped_paths}

@@ -342,7 +342,7 @@ module _ (P : Program) (mark : ℕ → ℕ) where
       takes_typed kind s a hold c = go kind (under f.operands) (St s ∷ Act (W.Release a) ∷ rest) (LockIs a (Some hold)) [] (alone c.0) (refl, c.1, c.2, c.3) heap (stays_itself see.object_at) tt
 
       take_held_typed : (s : Stmt) (a : Address) (hold : Hold) → SuitedAct P mark (slot_types method) method.result (W.Acquire s) G ts → (b : Bool) → OutcomeTyped (take_held P see t f below rest s a hold b)
-      take_held_typed s a hold c true = takes_typed Both s a (Rattle.semantics.specs.Step.taken_again hold) c
+      take_held_typed s a hold c true = takes_typed Both s a (Rattle.semantics.specs.Locking.taken_again hold) c
       take_held_typed s a hold c false = tt
 
       take_typed : (s : Stmt) (a : Address) → SuitedAct P mark (slot_types method) method.result (W.Acquire s) G ts → (o : Option Hold) → OutcomeTyped (take P see t f below rest s a o)
@@ -355,7 +355,7 @@ module _ (P : Program) (mark : ℕ → ℕ) where
 
       release_held_typed : (a : Address) (hold : Hold) → G ts → (b : Bool) → OutcomeTyped (release_held P see t f below rest a hold b)
       release_held_typed a hold g false = fault_typed fault.Null
-      release_held_typed a hold g true = go _ f.operands rest (LockIs a (Rattle.semantics.specs.Step.given_back hold)) ts known g heap (stays_itself see.object_at) tt
+      release_held_typed a hold g true = go _ f.operands rest (LockIs a (Rattle.semantics.specs.Locking.given_back hold)) ts known g heap (stays_itself see.object_at) tt
 
       release_typed : (a : Address) → G ts → (o : Option Hold) → OutcomeTyped (release P see t f below rest a o)
       release_typed a g None = fault_typed fault.Null

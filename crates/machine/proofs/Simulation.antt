@@ -22,7 +22,8 @@ use Rattle.compile.specs.Standing.{Agree, Stands}
 use Rattle.compile.specs.IsCode.{IsCodeOf}
 use Rattle.compile.proofs.Depth.{stands_once}
 use Rattle.semantics.specs.Step as D
-use Rattle.semantics.specs.Step.{Shared, Change, Nothing, FieldIs, LockIs, Prints, Starts, OutcomeOf, Outcome, Moves, Absent, IsDone, HadFaulted, Waits, value_at, access_kind, unless_final, index_of, object_class, target_at, run_of, has_result, most_frames, with_result, release_kind, act, act_next, turn}
+use Rattle.semantics.specs.Step.{Shared, Change, Nothing, FieldIs, LockIs, Prints, Starts, OutcomeOf, Outcome, Moves, Absent, IsDone, HadFaulted, Waits, value_at, access_kind, unless_final, index_of, object_class, target_at, run_of, has_result, most_frames, with_result, act, act_next, turn}
+use Rattle.semantics.specs.Locking.{release_kind}
 use Rattle.machine.specs.declared.deed.Deed.{Deed}
 use Rattle.machine.specs.declared.deed.Deed.TheVariants as deed
 use Rattle.machine.specs.CodeMachine as C

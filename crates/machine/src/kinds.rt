@@ -2,7 +2,8 @@
 ghost use Rattle.std.specs.Prelude.{◌≡◌, Some, slice_get};
 ghost use Rattle.std.specs.Option.{option_copied};
 ghost use Rattle.core_program.specs.Views.{field_of};
-ghost use Rattle.semantics.specs.Step.{next_at, followed, holds_object, some_address, guarded_kind, mutable_kind, access_kind};
+ghost use Rattle.semantics.specs.Step.{next_at, followed, holds_object, some_address, mutable_kind, access_kind};
+ghost use Rattle.semantics.specs.Locking.{guarded_kind};
 ghost use Rattle.machine.specs.CodeMachine.{deed_kind};
 ghost use Rattle.machine.specs.Turns.{kind_done, cell_kind, turn_kind};
 ghost use Rattle.machine.specs.Seen.{program_in, lines_in, entry_in, room_in, shared_in};

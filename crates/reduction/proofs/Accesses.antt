@@ -16,7 +16,8 @@ use Rattle.state.specs.declared.value.Value.{Value}
 use Rattle.state.specs.declared.value.Value.TheVariants as value
 use Rattle.state.specs.declared.value.StepKind.{StepKind}
 use Rattle.state.specs.declared.value.StepKind.TheVariants.{Both, Other}
-use Rattle.semantics.specs.Step.{Shared, guarded_kind, next_at, followed, holds, holds_object, some_address, mutable_kind, access_kind}
+use Rattle.semantics.specs.Step.{Shared, next_at, followed, holds_object, some_address, mutable_kind, access_kind}
+use Rattle.semantics.specs.Locking.{guarded_kind, holds}
 use Rattle.reduction.specs.Phases.{Phase, Passes, allowed, stepped, freed, IsDownClosed}
 use Rattle.reduction.specs.Leads.{Env, machine_memory, next_value, lead_from, lead, Sound, LeadsTo}
 use Rattle.reduction.proofs.PhaseLemmas.{const_stays, mover_stays, atomic_stays, no_error, both_allowed, atomic_allows, freed_rises}

@@ -26,7 +26,8 @@ use Rattle.state.specs.Memory.{Hold, field_value}
 use Rattle.state.specs.Work as W
 use Rattle.state.specs.Work.{Item, Ex, St}
 use Rattle.state.specs.States.{Frame}
-use Rattle.semantics.specs.Step.{Change, Nothing, FieldIs, ObjectIs, Prints, Starts, Shared, object_class, run_of, run_of_class, unless_final, holds, value_at, access_kind, faults, goes_on, load, store, binary, and_then, or_else, choose, loop, get, get_value, put, put_value, new, new_address, start, start_run}
+use Rattle.semantics.specs.Step.{Change, Nothing, FieldIs, ObjectIs, Prints, Starts, Shared, object_class, run_of, run_of_class, unless_final, value_at, access_kind, faults, goes_on, load, store, binary, and_then, or_else, choose, loop, get, get_value, put, put_value, new, new_address, start, start_run}
+use Rattle.semantics.specs.Locking.{holds}
 use Rattle.reduction.specs.Phases.{Phase, Passes, phase_of, allowed, stepped, IsDownClosed}
 use Rattle.reduction.specs.Leads.{Env, env_of, with_slot, machine_memory, Grows, next_value, lead, Paths, LeadsTo, MayLeadTo, top_path, under_path, dropped_paths}
 use Rattle.reduction.specs.Fits.{At, SlotsAgree, Fresh, TidyE, valued, stores, has_release, count_release, awaited, finals_of, FitsAct, FitsPhase}

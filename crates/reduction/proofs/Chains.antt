@@ -13,7 +13,8 @@ use Rattle.state.specs.declared.value.Value.TheVariants as value
 use Rattle.state.specs.Memory.{Object, Heap, address_cmp, is_field, lists, field_value, value_in, with_value, with_object, with_field}
 use Rattle.state.proofs.Addresses.{tied, alike}
 use Rattle.state.proofs.MemoryLemmas.{get-insert_same, listed_is, value_in-with_field_at, value_in-with_field_other}
-use Rattle.semantics.specs.Step.{Shared, next_at, followed, holds, holds_object, some_address, mutable_kind, access_kind, guarded_kind}
+use Rattle.semantics.specs.Step.{Shared, next_at, followed, holds_object, some_address, mutable_kind, access_kind}
+use Rattle.semantics.specs.Locking.{holds, guarded_kind}
 use Rattle.reduction.specs.Guards.{AreFinal, HasFinalGuards}
 
 no_field : (P : Program) (x : ℕ) (o : Option Object) → field_value P x o None ≡ None

@@ -14,7 +14,8 @@ use Rattle.state.specs.declared.value.StepKind.TheVariants.{Both, Right, Left, O
 use Rattle.state.specs.Memory.{Object, Hold, Heap, Locks, lists, field_value, value_in, with_field, with_lock, IsNumbered}
 use Rattle.state.proofs.Addresses.{alike}
 use Rattle.state.proofs.MemoryLemmas.{lists_is, value_in-with_field_same}
-use Rattle.semantics.specs.Step.{Change, FieldIs, LockIs, index_of, unless_final, holds, holds_object, some_address, next_at, followed, guarded_kind, mutable_kind, access_kind, taken_again, given_back, release_kind}
+use Rattle.semantics.specs.Step.{Change, FieldIs, LockIs, index_of, unless_final, holds_object, some_address, next_at, followed, mutable_kind, access_kind}
+use Rattle.semantics.specs.Locking.{holds, guarded_kind, taken_again, given_back, release_kind}
 use Rattle.semantics.specs.Asks.{Ask, Alone, Reads, Writes, Counts, Takes, Gives, Runs}
 use Rattle.reduction.specs.Changes.{IsApart, Did, quiet, was_read, was_written, was_made, was_taken, taken_more, was_given, was_started, was_printed}
 use Rattle.reduction.specs.Guards.{HasFinalGuards}

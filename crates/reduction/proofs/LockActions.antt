@@ -21,7 +21,8 @@ use Rattle.state.specs.Memory.{Hold}
 use Rattle.state.specs.Work as W
 use Rattle.state.specs.Work.{Item, St, Act}
 use Rattle.state.specs.States.{Frame}
-use Rattle.semantics.specs.Step.{LockIs, Shared, taken_again, release_kind, goes_on, acquire, take, take_held, release, release_held}
+use Rattle.semantics.specs.Step.{LockIs, Shared, goes_on, acquire, take, take_held, release, release_held}
+use Rattle.semantics.specs.Locking.{taken_again, release_kind}
 use Rattle.reduction.specs.Phases.{Phase, Passes, phase_of, allowed, stepped, freed, IsDownClosed}
 use Rattle.reduction.specs.Leads.{Env, env_of, machine_memory, lead, Sound, Paths, LeadsTo, top_path}
 use Rattle.reduction.specs.Fits.{Fresh, TidyS, stores, has_release, count_release, awaited, FitsAct, FitsPhase}

@@ -13,7 +13,8 @@ use Rattle.state.specs.Memory.{Object, Hold, Heap, Locks, address_cmp, made_by, 
 use Rattle.state.proofs.Addresses.{tied, apart}
 use Rattle.state.proofs.MemoryLemmas.{get-insert_other, value_in-insert_other}
 use Rattle.state.proofs.Numbering.{next_free, numbered_new, numbered_written}
-use Rattle.semantics.specs.Step.{Change, FieldIs, LockIs, index_of, holds, object_class, next_at, access_kind, taken_again, given_back}
+use Rattle.semantics.specs.Step.{Change, FieldIs, LockIs, index_of, object_class, next_at, access_kind}
+use Rattle.semantics.specs.Locking.{holds, taken_again, given_back}
 use Rattle.semantics.specs.Asks.{Ask, Alone, Reads, Writes, Counts, Takes, Gives, Runs, mine, LooksSame}
 use Rattle.reduction.specs.Changes.{IsApart, Did, quiet, was_read, was_written, was_made, was_taken, taken_more, was_given, was_started, was_printed}
 use Rattle.reduction.specs.Guards.{HasFinalGuards}

@@ -13,7 +13,8 @@ use Rattle.state.specs.declared.value.StepKind.TheVariants.{Other}
 use Rattle.state.specs.Memory.{Object, Hold, Heap, Locks, value_in, next_address, IsNumbered}
 use Rattle.state.specs.States.{Thread, Ready, State}
 use Rattle.state.proofs.Numbering.{next_free}
-use Rattle.semantics.specs.Step.{Change, Nothing, FieldIs, ObjectIs, LockIs, Prints, Starts, Move, Moves, Absent, outcome, moved, turn, seen_by, index_of, unless_final, access_kind, taken_again, given_back}
+use Rattle.semantics.specs.Step.{Change, Nothing, FieldIs, ObjectIs, LockIs, Prints, Starts, Move, Moves, Absent, outcome, moved, turn, seen_by, index_of, unless_final, access_kind}
+use Rattle.semantics.specs.Locking.{taken_again, given_back}
 use Rattle.semantics.specs.Asks.{Ask, Alone, Reads, Writes, Counts, Takes, Gives, Runs, asks}
 use Rattle.reduction.specs.Changes.{AreClear, IsApart, IsIdle, Did, quiet, was_read, was_written, was_made, was_taken, taken_more, was_given, was_started, was_printed}
 use Rattle.reduction.specs.Guards.{HasFinalGuards}

@@ -6,7 +6,8 @@ use Rattle.state.specs.declared.value.Value.{Value}
 use Rattle.state.specs.declared.value.StepKind.{StepKind}
 use Rattle.state.specs.declared.value.StepKind.TheVariants.{Both, Right, Other}
 use Rattle.state.specs.Memory.{Object, Hold, Heap, value_in}
-use Rattle.semantics.specs.Step.{Change, Nothing, FieldIs, ObjectIs, LockIs, Prints, Starts, index_of, unless_final, Shared, value_at, access_kind, taken_again, given_back, release_kind}
+use Rattle.semantics.specs.Step.{Change, Nothing, FieldIs, ObjectIs, LockIs, Prints, Starts, index_of, unless_final, Shared, value_at, access_kind}
+use Rattle.semantics.specs.Locking.{taken_again, given_back, release_kind}
 use Rattle.semantics.specs.Asks.{Ask, Alone, Reads, Writes, Counts, Takes, Gives, Runs}
 
 -- the two changes touch different things

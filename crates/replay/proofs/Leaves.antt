@@ -13,6 +13,7 @@ use Rattle.state.specs.Memory.{Hold, made_by}
 use Rattle.state.specs.Work as W
 use Rattle.state.specs.Work.{Action, Item, St, Act, unfolded, first_release, open_return}
 use Rattle.state.specs.States.{Frame, Running, Faulted, new_object}
+use Rattle.semantics.specs.Locking.{taken_again}
 use Rattle.semantics.specs.Step as S
 use Rattle.semantics.specs.Step.{Outcome, Moves, Absent, IsDone, HadFaulted, Waits, changed, seen_by, with_result, act, act_next}
 use Rattle.semantics.specs.Run.{frames_of}
@@ -224,7 +225,7 @@ module _ (P : Program) (t m0 : ℕ) (base : List Frame) (Goal : Local → Type 0
       take_leads v s a (Some hold) is k = by_mine (hold.holder == t) k
         where
           by_room : (b : Bool) → nat_lt most_number (hold.count + 1) ≡ b
-              → After ShortOk DeepOk (λ (_ : Unit {0}) q. Comes P t m0 base Goal n (at m below slots [] (St s ∷ Act (W.Release a) ∷ rest) q)) (unless_full b (Gives tt (changed (S.LockIs a (Some (S.taken_again hold))) p)))
+              → After ShortOk DeepOk (λ (_ : Unit {0}) q. Comes P t m0 base Goal n (at m below slots [] (St s ∷ Act (W.Release a) ∷ rest) q)) (unless_full b (Gives tt (changed (S.LockIs a (Some (taken_again hold))) p)))
               → Goal (at m below slots (v ∷ []) w p) ⊎ Leads n p (S.take_held P (seen_by t p) t (frame m slots (v ∷ []) w) below rest s a hold true)
           by_room true e k = inl (k (at m below slots (v ∷ []) w p) (locks a hold is (ltb-true most_number (hold.count + 1) e)))
           by_room false e k = inr k

@@ -13,7 +13,8 @@ use Rattle.state.specs.declared.value.Fault.TheVariants as fault
 use Rattle.state.specs.Values.{as_int, as_truth, address_of, unary_value, binary_value}
 use Rattle.state.specs.Memory.{Hold, made_by, next_address, value_in}
 use Rattle.state.specs.States.{new_slots, new_object}
-use Rattle.semantics.specs.Step.{FieldIs, ObjectIs, LockIs, Prints, Starts, changed, index_of, object_class, run_of, target_at, taken_again, given_back, unless_final}
+use Rattle.semantics.specs.Step.{FieldIs, ObjectIs, LockIs, Prints, Starts, changed, index_of, object_class, run_of, target_at, unless_final}
+use Rattle.semantics.specs.Locking.{taken_again, given_back}
 use Rattle.replay.specs.Plain.{Plain}
 use Rattle.replay.specs.Answers.{Answer, Gives, Fails, Blocked, Short, Deep, then_do, End, Returns, Ended, ended_value, completed_normally, in_turn}
 

@@ -12,7 +12,8 @@ use Rattle.state.specs.Memory.{Hold}
 use Rattle.state.specs.Work as W
 use Rattle.state.specs.Work.{Action, Item, Next, unfolded}
 use Rattle.state.specs.States.{Frame, Thread, Ready, Running, Done, Faulted, new_object}
-use Rattle.semantics.specs.Step.{Shared, Outcome, LockIs, ObjectIs, Nothing, FieldIs, index_of, class_finals, release_kind, given_back, unless_final, value_at, access_kind, faults, goes_on, get, get_value, put, put_value, new, acquire, take, release, release_held, run_of, target_at, dispatch, call_on, call, start, start_run, act, act_next, turn}
+use Rattle.semantics.specs.Step.{Shared, Outcome, LockIs, ObjectIs, Nothing, FieldIs, index_of, class_finals, unless_final, value_at, access_kind, faults, goes_on, get, get_value, put, put_value, new, acquire, take, release, release_held, run_of, target_at, dispatch, call_on, call, start, start_run, act, act_next, turn}
+use Rattle.semantics.specs.Locking.{release_kind, given_back}
 use Rattle.semantics.specs.Asks.{asks, call_asks, act_asks, next_asks, mine, LooksSame}
 
 module _ (P : Program) (t : ℕ) (see other : Shared) (f : Frame) (below : List Frame) (rest : List Item) where

@@ -1,5 +1,5 @@
 -- One step: the action of one thread, its kind, and what it changes.
-use Rattle.std.specs.Prelude.{ℕ, ◌+◌, ◌-◌, ℤ, Bool, true, false, ◌==◌, nat_lt, List, [], ◌∷◌, ◌++◌, length, Option, Some, None, is_some, option_and_then, slice_get, slice_set, if◌then◌else◌}
+use Rattle.std.specs.Prelude.{ℕ, ◌+◌, ℤ, Bool, true, false, ◌==◌, nat_lt, List, [], ◌∷◌, ◌++◌, length, Option, Some, None, is_some, option_and_then, slice_get, slice_set, if◌then◌else◌}
 use Rattle.std.specs.FinMap as map
 use Rattle.paths.specs.Paths.{PathData}
 use Rattle.core_program.specs.Core.{Program, Class, Field, Method, Expr, Stmt, WhileS}
@@ -10,12 +10,13 @@ use Rattle.state.specs.declared.value.Value.TheVariants as value
 use Rattle.state.specs.declared.value.Fault.{Fault}
 use Rattle.state.specs.declared.value.Fault.TheVariants as fault
 use Rattle.state.specs.declared.value.StepKind.{StepKind}
-use Rattle.state.specs.declared.value.StepKind.TheVariants.{Both, Right, Left, Other, Bare}
+use Rattle.state.specs.declared.value.StepKind.TheVariants.{Both, Right, Other}
 use Rattle.state.specs.Values.{top, under, popped, dropped, as_int, as_truth, address_of, unary_value, binary_value}
 use Rattle.state.specs.Memory.{Object, Hold, made_by, field_value, with_field, with_lock}
 use Rattle.state.specs.Work as W
 use Rattle.state.specs.Work.{Action, Item, Ex, St, Act, Next, unfolded}
 use Rattle.state.specs.States.{Frame, ThreadOf, Thread, Ready, Running, Done, Faulted, StateOf, State, new_frame, new_object}
+use Rattle.semantics.specs.Locking.{holds, taken_again, given_back, release_kind, guarded_kind}
 
 -- the most frames that a thread has
 abbrev pub most_frames : ℕ
@@ -104,31 +105,6 @@ target_at P m (Some c) = target_of P c m
 abbrev pub with_result : Bool → Value → List Value → List Value
 with_result true v operands = v ∷ operands
 with_result false v operands = operands
-
--- whether this thread holds a lock
-abbrev pub holds : ℕ → Option Hold → Bool
-holds t None = false
-holds t (Some hold) = hold.holder == t
-
--- a hold that was taken once more
-abbrev pub taken_again : Hold → Hold
-taken_again hold = record hold { count = hold.count + 1 }
-
--- a hold that was given back once, none where the lock is free then
-abbrev pub given_back : Hold → Option Hold
-given_back hold = if nat_lt 1 hold.count then Some (record hold { count = hold.count - 1 }) else None
-
--- of a release: Left where it frees the lock
-abbrev pub release_kind : Option Hold → StepKind
-release_kind None = Left
-release_kind (Some hold) = Both
-
--- of an access to a guarded field: Bare without the lock, but for a read where the guard guards writes only;
--- with the lock Both, but for such a guard's write, since others may read at the same time
-abbrev pub guarded_kind : (writes_only writes held : Bool) → StepKind
-guarded_kind false writes held = if held then Both else Bare
-guarded_kind true false held = if held then Both else Other
-guarded_kind true true held = if held then Other else Bare
 
 -- the old value of a field that may be written; none of a final one
 abbrev pub unless_final : Option Field → Option Value → Option Value
