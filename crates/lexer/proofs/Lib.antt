@@ -1,6 +1,7 @@
 pub mod Tables
 pub mod Closing
 pub mod Numbers
+pub mod Runs
 pub mod Fronts
 pub mod Lexing
 pub mod Sorts
