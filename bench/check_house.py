@@ -79,7 +79,7 @@ def lengths(kind: str, names: Iterable[str]) -> Iterator[Finding]:
 def signature_of(lines: list[str], at: int) -> str:
     """The parameters of the function that begins on this line."""
     text = "\n".join(lines[at : at + 60])
-    begin = text.index("(")
+    begin = text.index("(", text.index("fn "))
     depth = 0
     for place in range(begin, len(text)):
         depth += (text[place] in "([{") - (text[place] in ")]}")
