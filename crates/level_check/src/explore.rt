@@ -53,22 +53,16 @@ pub(crate) fn first_cells(alloc: Global, program: &CoreProgram) -> Result<Cells,
     cells_of(alloc, methods.as_slice())
 }
 
-/// Adds the cell of a call of this method at this level, where the caller is called under `from`. Adds the link to it.
+/// Adds this cell, for a call at this level, where the caller is called under `from`. Adds the link to it.
 fn add_call(
-    alloc: Global,
-    method: MethodId,
-    held: &[Path],
+    cell: Cell,
     under: u32,
     from: u32,
     cells: &mut Cells,
     links: &mut Vec<Link>,
 ) -> Result<(), NoMemory>
-    ensures { OnOk result (IsNoted (Calls method (has_path held.now) under) from (queue_of cells.old) (queue_of cells.new) links.old.items links.new.items) }
+    ensures { OnOk result (IsNoted (Calls cell.method (has_path cell.held.items) under) from (queue_of cells.old) (queue_of cells.new) links.old.items links.new.items) }
 {
-    let cell = Cell {
-        method,
-        held: copied(alloc, held)?,
-    };
     let to = cells.add(cell, from.max(under))?;
     links.push(Link { to, level: under })?;
     Ok(())
@@ -89,7 +83,13 @@ fn add_visit(
             method,
             held,
             under,
-        } => add_call(alloc, *method, held.as_slice(), *under, from, cells, links),
+        } => {
+            let cell = Cell {
+                method: *method,
+                held: copied(alloc, held.as_slice())?,
+            };
+            add_call(cell, *under, from, cells, links)
+        }
         Seen::Bad { .. } => Ok(()),
     }
 }

@@ -15,11 +15,10 @@ use crate::walk::{Carried, Walk};
 use core_program::CoreExpr;
 use effects::held_under;
 use paths::MethodId;
-use std::alloc::{AllocError as NoMemory, Global};
+use std::alloc::AllocError as NoMemory;
 
 /// Adds a method that may run at a call on this receiver with these arguments.
 fn add_run(
-    alloc: Global,
     walk: &Walk<'_>,
     receiver: &CoreExpr,
     method: MethodId,
@@ -32,7 +31,7 @@ fn add_run(
         ++ Calls method (held_under (rel_of walk.now.sets.now method) (path_of P (expr_of receiver.now)) (paths_of P (exprs_from args.now)) (has_path carried.now.held.now)) carried.now.under ∷ []) }
 {
     let held = held_under(
-        alloc,
+        walk.alloc,
         walk.program,
         walk.sets,
         receiver,
@@ -50,7 +49,6 @@ fn add_run(
 
 /// Adds the methods that may run at a call: the callee, and those that override it.
 fn add_call(
-    alloc: Global,
     walk: &Walk<'_>,
     receiver: &CoreExpr,
     callee: MethodId,
@@ -62,9 +60,9 @@ fn add_call(
         map told_level_of seen.new.items ≡ map told_level_of seen.old.items
         ++ told_at (row_at walk.now.over.now) (Comes callee (λ k. held_under (rel_of walk.now.sets.now k) (path_of P (expr_of receiver.now)) (paths_of P (exprs_from args.now)) (has_path carried.now.held.now)) carried.now.under)) }
 {
-    add_run(alloc, walk, receiver, callee, args, carried, seen)?;
+    add_run(walk, receiver, callee, args, carried, seen)?;
     for over in walk.over.of(callee) {
-        add_run(alloc, walk, receiver, *over, args, carried, seen)?;
+        add_run(walk, receiver, *over, args, carried, seen)?;
     }
     Ok(())
 }
@@ -73,7 +71,6 @@ fn add_call(
 #[cycle(expressions)]
 #[tactic(auto, using(crate::proofs::ToldLemmas::told_append))]
 pub(crate) fn walk_expr(
-    alloc: Global,
     walk: &Walk<'_>,
     e: &CoreExpr,
     carried: &Carried<'_>,
@@ -83,34 +80,26 @@ pub(crate) fn walk_expr(
 {
     match e {
         CoreExpr::Not(a) | CoreExpr::Neg(a) | CoreExpr::Get(a, _) => {
-            walk_expr(alloc, walk, a, carried, seen)
+            walk_expr(walk, a, carried, seen)
         }
         CoreExpr::Binary(_, a, b) => {
-            walk_expr(alloc, walk, a, carried, seen)?;
-            walk_expr(alloc, walk, b, carried, seen)
+            walk_expr(walk, a, carried, seen)?;
+            walk_expr(walk, b, carried, seen)
         }
         CoreExpr::And(a, b) => {
-            walk_expr(alloc, walk, a, carried, seen)?;
-            walk_expr(alloc, walk, b, carried, seen)
+            walk_expr(walk, a, carried, seen)?;
+            walk_expr(walk, b, carried, seen)
         }
         CoreExpr::Or(a, b) => {
-            walk_expr(alloc, walk, a, carried, seen)?;
-            walk_expr(alloc, walk, b, carried, seen)
+            walk_expr(walk, a, carried, seen)?;
+            walk_expr(walk, b, carried, seen)
         }
         CoreExpr::Call(receiver, callee, args) => {
-            walk_expr(alloc, walk, receiver, carried, seen)?;
-            walk_exprs(alloc, walk, args.as_slice(), carried, seen)?;
-            add_call(
-                alloc,
-                walk,
-                receiver,
-                *callee,
-                args.as_slice(),
-                carried,
-                seen,
-            )
+            walk_expr(walk, receiver, carried, seen)?;
+            walk_exprs(walk, args.as_slice(), carried, seen)?;
+            add_call(walk, receiver, *callee, args.as_slice(), carried, seen)
         }
-        CoreExpr::New(_, args) => walk_exprs(alloc, walk, args.as_slice(), carried, seen),
+        CoreExpr::New(_, args) => walk_exprs(walk, args.as_slice(), carried, seen),
         CoreExpr::Int(_)
         | CoreExpr::Truth(_)
         | CoreExpr::Null
@@ -121,7 +110,6 @@ pub(crate) fn walk_expr(
 
 /// Walks through two expressions, one after the other.
 pub(crate) fn walk_two(
-    alloc: Global,
     walk: &Walk<'_>,
     a: &CoreExpr,
     b: &CoreExpr,
@@ -131,14 +119,13 @@ pub(crate) fn walk_two(
     ensures { OnOk result (map told_level_of seen.new.items ≡ map told_level_of seen.old.items
         ++ (expr_told walk.now (expr_of a.now) (has_path carried.now.held.now) carried.now.under ++ expr_told walk.now (expr_of b.now) (has_path carried.now.held.now) carried.now.under)) }
 {
-    walk_expr(alloc, walk, a, carried, seen)?;
-    walk_expr(alloc, walk, b, carried, seen)
+    walk_expr(walk, a, carried, seen)?;
+    walk_expr(walk, b, carried, seen)
 }
 
 /// Walks through arguments.
 #[cycle(expressions)]
 fn walk_exprs(
-    alloc: Global,
     walk: &Walk<'_>,
     es: &[CoreExpr],
     carried: &Carried<'_>,
@@ -147,7 +134,7 @@ fn walk_exprs(
     ensures { OnOk result (map told_level_of seen.new.items ≡ map told_level_of seen.old.items ++ exprs_told walk.now (exprs_from es.now) (has_path carried.now.held.now) carried.now.under) }
 {
     for e in es {
-        walk_expr(alloc, walk, e, carried, seen)?;
+        walk_expr(walk, e, carried, seen)?;
     }
     Ok(())
 }

@@ -57,11 +57,12 @@ fn seen_by(
 {
     let slots = slot_types(alloc, method)?;
     let walk = Walk {
+        alloc,
         program: judged.program,
         sets: judged.sets,
         over: judged.over,
         levels: judged.levels,
         slots: slots.as_slice(),
     };
-    walk_body(alloc, &walk, &method.body, held, under)
+    walk_body(&walk, &method.body, held, under)
 }

@@ -13,11 +13,10 @@ use algebra::has;
 use core_program::CoreStmt;
 use effects::{after, copied, with_path};
 use paths::{ClassId, Path};
-use std::alloc::{AllocError as NoMemory, Global};
+use std::alloc::AllocError as NoMemory;
 
 /// Walks through a body: what it comes to.
 pub fn walk_body(
-    alloc: Global,
     walk: &Walk<'_>,
     body: &CoreStmt,
     held: &[Path],
@@ -27,9 +26,9 @@ pub fn walk_body(
     ensures { IfOk result (λ seen. map told_level_of seen.items ≡ stmt_told walk.now (stmt_of body.now) 0 (has_path held.now) under) }
 {
     let carried = Carried { held, under };
-    let mut seen = Vec::new(alloc);
+    let mut seen = Vec::new(walk.alloc);
     let mut place = 0;
-    walk_stmt(alloc, walk, body, &carried, &mut place, &mut seen)?;
+    walk_stmt(walk, body, &carried, &mut place, &mut seen)?;
     Ok(seen)
 }
 
@@ -37,7 +36,6 @@ pub fn walk_body(
 #[cycle(statements)]
 #[tactic(auto, using(crate::proofs::ToldLemmas::told_append))]
 fn walk_stmt(
-    alloc: Global,
     walk: &Walk<'_>,
     s: &CoreStmt,
     carried: &Carried<'_>,
@@ -50,31 +48,30 @@ fn walk_stmt(
 {
     match s {
         CoreStmt::Empty | CoreStmt::Return(None) => Ok(()),
-        CoreStmt::Block(body) => walk_block(alloc, walk, body.as_slice(), carried, place, seen),
-        CoreStmt::SetField(a, _, b) => walk_two(alloc, walk, a, b, carried, seen),
+        CoreStmt::Block(body) => walk_block(walk, body.as_slice(), carried, place, seen),
+        CoreStmt::SetField(a, _, b) => walk_two(walk, a, b, carried, seen),
         CoreStmt::If(c, a, b) => {
-            walk_expr(alloc, walk, c, carried, seen)?;
-            walk_stmt(alloc, walk, a, carried, place, seen)?;
-            walk_stmt(alloc, walk, b, carried, place, seen)
+            walk_expr(walk, c, carried, seen)?;
+            walk_stmt(walk, a, carried, place, seen)?;
+            walk_stmt(walk, b, carried, place, seen)
         }
         CoreStmt::While(c, a) => {
-            walk_expr(alloc, walk, c, carried, seen)?;
-            walk_stmt(alloc, walk, a, carried, place, seen)
+            walk_expr(walk, c, carried, seen)?;
+            walk_stmt(walk, a, carried, place, seen)
         }
-        CoreStmt::Sync(path, a) => walk_sync(alloc, walk, path, a, carried, place, seen),
+        CoreStmt::Sync(path, a) => walk_sync(walk, path, a, carried, place, seen),
         CoreStmt::Local { value: e, .. }
         | CoreStmt::SetVar(_, e)
         | CoreStmt::Do(e, _)
         | CoreStmt::Return(Some(e))
         | CoreStmt::Print(e)
-        | CoreStmt::Start(e) => walk_expr(alloc, walk, e, carried, seen),
+        | CoreStmt::Start(e) => walk_expr(walk, e, carried, seen),
     }
 }
 
 /// Walks through a `synchronized` on this path: at the same set where the path is held already, and else with it.
 #[cycle(statements)]
 fn walk_sync(
-    alloc: Global,
     walk: &Walk<'_>,
     path: &Path,
     s: &CoreStmt,
@@ -88,16 +85,15 @@ fn walk_sync(
 {
     if has(carried.held, path) {
         *place += 1;
-        walk_stmt(alloc, walk, s, carried, place, seen)
+        walk_stmt(walk, s, carried, place, seen)
     } else {
-        walk_taken(alloc, walk, path, s, carried, place, seen)
+        walk_taken(walk, path, s, carried, place, seen)
     }
 }
 
 /// Walks through a `synchronized` on a path that isn't held.
 #[cycle(statements)]
 fn walk_taken(
-    alloc: Global,
     walk: &Walk<'_>,
     path: &Path,
     s: &CoreStmt,
@@ -115,12 +111,12 @@ fn walk_taken(
     let level = level_of(walk.levels, class);
     note_bad(*place, class, carried.under, level, seen)?;
     *place += 1;
-    let more = with_path(alloc, path, carried.held)?;
+    let more = with_path(walk.alloc, path, carried.held)?;
     let taken = Carried {
         held: more.as_slice(),
         under: carried.under.max(level),
     };
-    walk_stmt(alloc, walk, s, &taken, place, seen)
+    walk_stmt(walk, s, &taken, place, seen)
 }
 
 /// Notes a bad `synchronized`, where the lock's level isn't above the walk's.
@@ -146,7 +142,6 @@ fn note_bad(
 /// Walks through the statements of a block, each at the set that those before it leave.
 #[cycle(statements)]
 fn walk_block(
-    alloc: Global,
     walk: &Walk<'_>,
     body: &[CoreStmt],
     carried: &Carried<'_>,
@@ -157,14 +152,14 @@ fn walk_block(
     ensures seen { OnOk result (map told_level_of seen.new.items ≡ map told_level_of seen.old.items ++ block_told walk.now (stmts_from body.now) place.old (has_path carried.now.held.now) carried.now.under) }
     ensures place { OnOk result (place.new ≡ place.old + syncs_in_each (stmts_from body.now)) }
 {
-    let mut now = copied(alloc, carried.held)?;
+    let mut now = copied(walk.alloc, carried.held)?;
     for s in body {
         let here = Carried {
             held: now.as_slice(),
             under: carried.under,
         };
-        walk_stmt(alloc, walk, s, &here, place, seen)?;
-        now = after(alloc, walk.program, s, now)?;
+        walk_stmt(walk, s, &here, place, seen)?;
+        now = after(walk.alloc, walk.program, s, now)?;
     }
     Ok(())
 }

@@ -8,10 +8,12 @@ ghost use Rattle.levels.specs.Walks.{level_in, class_of_slot, lock_class};
 use core_program::{CoreProgram, CoreType};
 use paths::{ClassId, FieldId, Path};
 use rules::{OverridingMethods, RelevantSets};
+use std::alloc::Global;
 
-/// What a walk through a body asks. `levels` has a level for each class, from 1 on.
+/// What a walk through a body asks, and where it takes memory. `levels` has a level for each class, from 1 on.
 #[derive(Clone, Copy)]
 pub struct Walk<'a> {
+    pub alloc: Global,
     pub program: &'a CoreProgram,
     pub sets: &'a RelevantSets,
     pub over: &'a OverridingMethods,
