@@ -2,6 +2,7 @@
 pub mod ClassMarks
 pub mod OpeningTypes
 pub mod Heaps
+pub mod TypedChanges
 pub mod TypedSteps
 pub mod Suiting
 pub mod TypedRuns
@@ -9,5 +10,7 @@ pub mod TypedRuns
 pub mod Ranked
 pub mod Opening
 pub mod RankedSteps
+pub mod RankedLocks
+pub mod RankedCalls
 pub mod NoCircles
 pub mod GreatestLevels

@@ -44,13 +44,15 @@ use Rattle.levels.specs.SlotTypes.{AreMarked, slot_types}
 use Rattle.levels.specs.TypedStates.{Stays, IsTypedHeap, AreTypedSlots, IsTypedFrame, IsTypedThread, IsTypedState}
 use Rattle.levels.proofs.Suiting.{suited_program}
 use Rattle.levels.proofs.TypedRuns.{runs_keep, stepping, step_is_typed, step_typed, initial_typed}
-use Rattle.levels.proofs.TypedSteps.{IsSuitedProgram}
+use Rattle.levels.proofs.TypedChanges.{IsSuitedProgram}
 use Rattle.levels.specs.Walks.{Visit, Bad, lock_class, sync_visits, visits}
 use Rattle.levels.specs.Contexts.{Context, at_main, at_call, IsOrdered}
 use Rattle.levels.specs.Circles.{IsChain, Circle}
 use Rattle.levels.proofs.Ranked.{IsUnder, Fine, RankedNext, RankedOpens, FramesRanked, RankedThread, AreCounted}
 use Rattle.levels.proofs.Opening.{unfolds, frames_grow}
-use Rattle.levels.proofs.RankedSteps.{IsOrderedProgram, lock_typed, RankedChange, StepRanked, OutcomeRanked, fault_ranked, go, go_with, load_ranked, store_ranked, binary_ranked, and_ranked, or_ranked, choose_ranked, loop_ranked, get_ranked, put_ranked, new_ranked, call_ranked, acquire_ranked, release_ranked, return_ranked, start_ranked, once}
+use Rattle.levels.proofs.RankedSteps.{IsOrderedProgram, RankedChange, StepRanked, OutcomeRanked, fault_ranked, go, go_with, load_ranked, store_ranked, binary_ranked, and_ranked, or_ranked, choose_ranked, loop_ranked, get_ranked, put_ranked, new_ranked, return_ranked, start_ranked, once}
+use Rattle.levels.proofs.RankedLocks.{lock_typed, acquire_ranked, release_ranked}
+use Rattle.levels.proofs.RankedCalls.{call_ranked}
 
 -- methods that run for another leave a result where it does
 abbrev AreAlikeResults : Program → Type 0

@@ -1,52 +1,41 @@
 -- A thread's turn leaves it walked, in the heap before the turn, and leaves to other threads what they rest on.
-use Rattle.std.proofs.Common.{◌≡◌, inl, inr, ◌≤◌, ◌<◌, ℕ, ◌+◌, ◌-◌, Bool, true, false, ◌||◌, ◌==◌, List, [], ◌∷◌, ◌++◌, Some, None, refl, sym, ap, subst, ◌∙◌, arith}
-use Rattle.std.specs.Prelude.{Option, Contains, slice_get, unwrap_or, option_and_then, nat_lt, max, length, is_some, if◌then◌else◌}
-use Rattle.std.proofs.lemmas.Bool.Decides.{nat_tests}
-use Rattle.std.proofs.lemmas.Bool.{eq-eqb, or_parts, and_parts, cond-true, cond-false}
+use Rattle.std.proofs.Common.{◌≡◌, inl, inr, ℕ, ◌+◌, ◌-◌, Bool, true, false, ◌||◌, ◌==◌, List, [], ◌∷◌, ◌++◌, Some, None, refl, sym, ap, subst, ◌∙◌, arith}
+use Rattle.std.specs.Prelude.{Option, slice_get, unwrap_or, option_and_then, length, if◌then◌else◌}
+use Rattle.std.proofs.lemmas.Bool.{or_parts}
 use Rattle.std.proofs.lemmas.Option.{none-some, same_Some}
-use Rattle.base.proofs.Options.{then_parts, if_taken}
-use Rattle.base.proofs.NumberLemmas.{eqb_turned}
-use Rattle.paths.specs.Paths.{PathData, path_eq, extended, extended_some}
-use Rattle.paths.proofs.PathOrder.{eq_is}
-use Rattle.algebra.specs.HeldPaths.{Held, with_path, has_path}
+use Rattle.paths.specs.Paths.{PathData, extended, extended_some}
+use Rattle.algebra.specs.HeldPaths.{Held, has_path}
 use Rattle.core_program.specs.declared.types.CoreType.{CoreType}
-use Rattle.core_program.specs.declared.types.CoreType.TheVariants as type
 use Rattle.core_program.specs.Core.{Program, Class, Field, Method, Expr, Stmt, WhileS}
 use Rattle.core_program.specs.Dispatch.{target_of}
 use Rattle.core_program.specs.Locks.{leads_on, get_path, path_of}
-use Rattle.core_program.specs.Types.{field_type}
 use Rattle.state.specs.declared.value.Address.{Address}
 use Rattle.state.specs.declared.value.Value.{Value}
 use Rattle.state.specs.declared.value.Value.TheVariants as value
 use Rattle.state.specs.declared.value.Fault.{Fault}
 use Rattle.state.specs.declared.value.Fault.TheVariants as fault
 use Rattle.state.specs.declared.value.StepKind.{StepKind}
-use Rattle.state.specs.declared.value.StepKind.TheVariants.{Both, Right, Other}
-use Rattle.state.specs.Values.{top, under, popped, dropped, address_of, address_eq}
-use Rattle.state.specs.Memory.{Object, Hold, field_value}
+use Rattle.state.specs.declared.value.StepKind.TheVariants.{Both, Other}
+use Rattle.state.specs.Values.{top, under, popped, dropped, address_of}
+use Rattle.state.specs.Memory.{field_value}
 use Rattle.state.specs.Work as W
-use Rattle.state.specs.Work.{Item, Ex, St, Act, first_release}
+use Rattle.state.specs.Work.{Item, Ex, St, first_release}
 use Rattle.state.specs.States.{Frame, new_object}
-use Rattle.semantics.specs.Step.{Change, Nothing, FieldIs, ObjectIs, Starts, Shared, Move, Outcome, Moves, Absent, IsDone, HadFaulted, Waits, most_frames, has_result, with_result, unless_final, object_class, run_of, run_of_class, target_at, value_at, access_kind, faults, goes_on, load, store, binary, and_then, or_else, choose, loop, get_value, get, put_value, put, new_address, new, enter, enter_some, dispatch, call_on, call, takes, take_held, take, acquire, release_held, release, return_to, start_run, start}
-use Rattle.semantics.specs.Locking.{taken_again, given_back}
+use Rattle.semantics.specs.Step.{Change, Nothing, FieldIs, ObjectIs, Starts, Shared, Move, Outcome, Moves, Absent, IsDone, HadFaulted, Waits, has_result, with_result, unless_final, object_class, run_of, run_of_class, value_at, access_kind, faults, goes_on, load, store, binary, and_then, or_else, choose, loop, get_value, get, put_value, put, new_address, new, return_to, start_run, start}
 use Rattle.semantics.specs.Changes.{objects_after, locks_after}
-use Rattle.semantics.proofs.Changed.{same_address, address_itself}
-use Rattle.reduction.specs.Leads.{Env, env_of, Memory, machine_memory, next_value, lead_from, lead, Grows, Paths, LeadsTo, MayLeadTo, with_slot, top_path, under_path, taken_paths, dropped_paths}
-use Rattle.reduction.specs.Fits.{Fresh, TidyE, TidyS, valued, stores, has_release, count_release, arity_of, finals_of, awaited}
+use Rattle.reduction.specs.Leads.{Env, env_of, Memory, machine_memory, next_value, lead, Grows, Paths, LeadsTo, MayLeadTo, with_slot, top_path, under_path, dropped_paths}
+use Rattle.reduction.specs.Fits.{Fresh, TidyE, TidyS, valued, stores, has_release, count_release, finals_of, awaited}
 use Rattle.reduction.specs.Safe.{LeadEach, Owns, releases_in_work, count_frames, held_count}
-use Rattle.reduction.proofs.LeadLemmas.{grows_itself, each_top, each_under, each_dropped, aligned_taken, leads_from}
+use Rattle.reduction.proofs.LeadLemmas.{grows_itself, each_top, each_under, each_dropped, leads_from}
 use Rattle.reduction.proofs.SetLemmas.{sound_kept, extended_is}
 use Rattle.reduction.proofs.FrameLemmas.{stored, put_grows, made_grows}
 use Rattle.reduction.proofs.Actions.{address_is}
-use Rattle.reduction.proofs.Calls.{entry_sound}
 use Rattle.reduction.proofs.Counting.{none_count}
 use Rattle.reduction.proofs.Unfolding.{on_pushed}
-use Rattle.reduction.proofs.LockActions.{not_both, one_of, one_more, one_less, none_left}
-use Rattle.levels.specs.SlotTypes.{SlotType, slot_types, IsMarked, Has}
-use Rattle.levels.specs.TypedStates.{IsTypedHeap, AreTypedSlots}
-use Rattle.levels.specs.Walks.{Visit, Comes, Bad, class_of_slot, last_type, lock_class, call_visits, expr_visits, sync_visits, visits, body_visits}
+use Rattle.levels.specs.SlotTypes.{slot_types}
+use Rattle.levels.specs.Walks.{Visit, Comes, Bad, expr_visits, visits, body_visits}
 use Rattle.levels.specs.Contexts.{MayRun, RunsFirst, Context, at_start}
-use Rattle.levels.proofs.Ranked.{IsUnder, Stands, At, Fine, RankedAct, Ranked, FramesRanked, RankedThread, AreCounted}
+use Rattle.levels.proofs.Ranked.{At, Fine, RankedAct, Ranked, FramesRanked, RankedThread, AreCounted}
 
 -- what the proof uses of an ordered program
 pub record IsOrderedProgram (P : Program) (rel : ℕ → List PathData) (level : ℕ → ℕ) : Type 0 where
@@ -57,55 +46,12 @@ pub record IsOrderedProgram (P : Program) (rel : ℕ → List PathData) (level :
 
 -- Numbers.
 
-still_held : (n : ℕ) → nat_lt 1 n ≡ true → 0 < n - 1
-still_held n less = grind (arith, nat_tests)
-
-held_once_more : (n : ℕ) → 0 < n + 1
-held_once_more n = omega arith
-
 no_more : (n k m : ℕ) → n ≡ k + m → 0 ≡ k → n ≡ m
 no_more n k m e none = omega (arith, e, none)
 
 with_lead : (P : Program) (h : Memory) (env : Env) (b : Bool) (v : Value) (paths : Paths) (operands : List Value) → LeadEach P h env paths operands → LeadEach P h env ((if b then None ∷ [] else []) ++ paths) (with_result b v operands)
 with_lead P h env true v paths operands known = (tt, known)
 with_lead P h env false v paths operands known = known
-
--- Locks by their types.
-
-module _ (P : Program) (level : ℕ → ℕ) (objects : Address → Option Object) (heap : IsTypedHeap P level objects) where
-  read_has : (a : Address) (x : ℕ) (v : Value) (field : Option Field) → slice_get P.fields x ≡ field → (o : Option Object) → objects a ≡ o → field_value P x o field ≡ Some v → Has level objects (field_type field) v
-  read_has a x v field at None none e = absurd (none-some v e)
-  read_has a x v None at (Some o) there e = absurd (none-some v e)
-  read_has a x v (Some field) at (Some o) there e = heap a x field v at (ap (λ z. field_value P x z (Some field)) there ∙ e)
-
-  next_has : (v : Value) (f : ℕ) (w : Value) → next_value P (machine_memory P objects) v f ≡ Some w → Has level objects (field_type (slice_get P.fields f)) w
-  next_has (value.Ref a) f w e = read_has a f w (slice_get P.fields f) refl (objects a) refl (if_taken (leads_on (slice_get P.fields f)) (machine_memory P objects a f) w e).1
-  next_has (value.Int n) f w e = absurd (none-some w e)
-  next_has (value.Truth b) f w e = absurd (none-some w e)
-  next_has value.Null f w e = absurd (none-some w e)
-
-  from_has : (fs : List ℕ) (t : SlotType) (v w : Value) → Has level objects t v → lead_from P (machine_memory P objects) v fs ≡ Some w → Has level objects (last_type P t fs) w
-  from_has [] t v w has e = subst (Has level objects t) (same_Some v w e) has
-  from_has (f ∷ fs) t v w has e =
-      let parts = then_parts (λ u. lead_from P (machine_memory P objects) u fs) (next_value P (machine_memory P objects) v f) w e in
-      from_has fs (field_type (slice_get P.fields f)) parts.0 w (next_has v f parts.0 parts.1) parts.2
-
-  slot_has : (types : List CoreType) (slots : List Value) (x : ℕ) → AreTypedSlots P level objects types slots → (o : Option Value) → slice_get slots x ≡ o → Has level objects (slice_get types x) (unwrap_or o value.Null)
-  slot_has types slots x typed None is = tt
-  slot_has types slots x typed (Some v) is = typed x v is
-
-  marked_is : (t : SlotType) (n : ℕ) → IsMarked level t n → n ≡ level (class_of_slot t)
-  marked_is None n m = absurd m
-  marked_is (Some type.Int) n m = absurd m
-  marked_is (Some type.Boolean) n m = absurd m
-  marked_is (Some (type.Class c)) n m = sym m
-
-  -- the object to which a lock's path leads has the level of the path's class
-  pub lock_typed : (types : List CoreType) (slots : List Value) (p : PathData) (a : Address) → AreTypedSlots P level objects types slots → lead P (machine_memory P objects) (env_of slots) p ≡ Some (value.Ref a)
-      → (o : Object) × (objects a ≡ Some o) × (level o.class ≡ level (lock_class P types p))
-  lock_typed types slots p a typed leads =
-      let has = from_has p.fields (slice_get types p.root) (env_of slots p.root) (value.Ref a) (slot_has types slots p.root typed (slice_get slots p.root) refl) leads in
-      (has.0, has.1, marked_is (last_type P (slice_get types p.root) p.fields) (level has.0.class) has.2)
 
 module _ (P : Program) (rel : ℕ → List PathData) (level : ℕ → ℕ) (see : Shared) (t : ℕ) where
   -- a new thread begins with a context
@@ -289,7 +235,7 @@ module _ (P : Program) (rel : ℕ → List PathData) (level : ℕ → ℕ) (see 
         get_value_ranked a x g leads (Some v) at = go (access_kind P see t false a (slice_get P.fields x)) (v ∷ under f.operands) rest (get_path P x (top_path os) ∷ under_path os)
             (read_leads a (top_path os) x v leads at (leads_on (slice_get P.fields x)) refl, once) g (λ b. refl)
 
-        leads_top : (a : Address) → address_of (top f.operands) ≡ Some a → LeadsTo P (machine_memory P see.object_at) (env_of f.slots) (top_path os) (value.Ref a)
+        pub leads_top : (a : Address) → address_of (top f.operands) ≡ Some a → LeadsTo P (machine_memory P see.object_at) (env_of f.slots) (top_path os) (value.Ref a)
         leads_top a at = subst (LeadsTo P (machine_memory P see.object_at) (env_of f.slots) (top_path os)) (address_is (top f.operands) a at) (each_top P (machine_memory P see.object_at) (env_of f.slots) os f.operands known)
 
         pub get_ranked : (x : ℕ) → Walked rest (env_of f.slots) (get_path P x (top_path os) ∷ under_path os) → (o : Option Address) → address_of (top f.operands) ≡ o → OutcomeRanked (get P see t f below rest x o)
@@ -323,242 +269,6 @@ module _ (P : Program) (rel : ℕ → List PathData) (level : ℕ → ℕ) (see 
             (subst (λ n. Walked rest (env_of f.slots) (None ∷ dropped_paths n os)) (ap finals_of at) g) (λ b. refl)
             (made_grows P see.object_at (new_address P see t f below rest) _ free) refl tt
 
-        -- Calls.
-
-        object_target : (m k : ℕ) (o : Option Object) → target_at P m (object_class o) ≡ Some k → (p : Object) × (target_of P p.class m ≡ Some k)
-        object_target m k None e = absurd (none-some k e)
-        object_target m k (Some p) e = (p, e)
-
-        first_visit : (v : Visit) → Contains (v ∷ []) v
-        first_visit v = (0, omega arith, refl)
-
-        same_awaited : (m k : ℕ) (called running : Method) → slice_get P.methods m ≡ Some called → slice_get P.methods k ≡ Some running → running.result ≡ called.result → awaited P k ≡ awaited P m
-        same_awaited m k called running there at same = ap (λ o. if has_result o then None ∷ [] else []) at ∙ ap (λ r. if is_some r then None ∷ [] else []) same ∙ sym (ap (λ o. if has_result o then None ∷ [] else []) there)
-
-        module _ (alike : (c m n : ℕ) (called running : Method) → target_of P c m ≡ Some n → slice_get P.methods m ≡ Some called → slice_get P.methods n ≡ Some running → running.result ≡ called.result) where
-          enter_ranked : (m : ℕ) (called : Method) → slice_get P.methods m ≡ Some called → RankedAct P rel level (slot_types method) see.object_at (releases_in_work below) (W.Call m) rest (Walked rest) (env_of f.slots) os
-              → (a : Address) → address_of (top (dropped (length called.params) f.operands)) ≡ Some a → (k : ℕ) (running : Method) → slice_get P.methods k ≡ Some running → target_at P m (object_class (see.object_at a)) ≡ Some k → (room : Bool)
-              → OutcomeRanked (enter P see t f below rest (length called.params) k running a room)
-          enter_ranked m called there r a receives k running at runs false = fault_ranked fault.Depth
-          enter_ranked m called there r a receives k running at runs true =
-              let n = length called.params in
-              let o = object_target m k (see.object_at a) runs in
-              let arity = ap arity_of there in
-              let receiver = top_path (dropped_paths (length called.params) os) in
-              let args = taken_paths (length called.params) [] os in
-              let below_known = each_dropped P (machine_memory P see.object_at) (env_of f.slots) (length called.params) os f.operands known in
-              let receiver_known = subst (LeadsTo P (machine_memory P see.object_at) (env_of f.slots) (top_path (dropped_paths (length called.params) os))) (address_is (top (dropped (length called.params) f.operands)) a receives)
-              (each_top P (machine_memory P see.object_at) (env_of f.slots) (dropped_paths (length called.params) os) (dropped (length called.params) f.operands) below_known) in
-              let fine : Fine P rel level (call_visits P rel m (top_path (dropped_paths (length called.params) os)) (taken_paths (length called.params) [] os) r.0.set r.0.under) =
-              subst (λ z. Fine P rel level (call_visits P rel m (top_path (dropped_paths z os)) (taken_paths z [] os) r.0.set r.0.under)) arity r.0.rest in
-              let set = Rattle.rules.specs.Effect.held_under (rel k) (top_path (dropped_paths (length called.params) os)) (taken_paths (length called.params) [] os) r.0.set in
-              let context = fine.comes m (λ j. Rattle.rules.specs.Effect.held_under (rel j) (top_path (dropped_paths (length called.params) os)) (taken_paths (length called.params) [] os) r.0.set) r.0.under (first_visit _) k (program.may_run (o.0).class m k o.1) in
-              record {
-                thread = (
-                  (
-                    record {
-                      method = running;
-                      is = at;
-                      paths = [];
-                      leads = tt;
-                      ranked = (
-                        record {
-                          set = set;
-                          under = r.0.under;
-                          stands = record {
-                            sound = entry_sound P (machine_memory P see.object_at) (env_of f.slots) running (value.Ref a) (top_path (dropped_paths (length called.params) os)) (taken_paths (length called.params) [] os) (popped (length called.params) [] f.operands) receiver_known
-                                (aligned_taken P (machine_memory P see.object_at) (env_of f.slots) (length called.params) os [] f.operands [] known tt) (rel k) r.0.set (λ b. has_release b rest || releases_in_work below b) r.0.stands.sound;
-                            high = r.0.stands.high;
-                          };
-                          rest = (record { at = λ q has. program.rooted k running at q (and_parts (has_path (rel k) q) _ has).0 }, program.tidy k running at, (0, program.fine k running set r.0.under at context));
-                        },
-                        λ later agrees. tt,
-                      );
-                    },
-                    (
-                      record {
-                        method = method;
-                        is = is;
-                        paths = under_path (dropped_paths (length called.params) os);
-                        leads = each_under P (machine_memory P see.object_at) (env_of f.slots) (dropped_paths (length called.params) os) (dropped (length called.params) f.operands) below_known;
-                        ranked = subst (λ w. Walked rest (env_of f.slots) (w ++ under_path (dropped_paths (length called.params) os))) (sym (same_awaited m k called running there at (alike (o.0).class m k called running o.1 there at)))
-                            (subst (λ z. Walked rest (env_of f.slots) (awaited P m ++ under_path (dropped_paths z os))) arity r.1);
-                      },
-                      further,
-                    ),
-                  ),
-                  λ b. own_rest b ∙ no_count (count_release b rest + count_frames b below),
-                );
-                others = λ u other b. refl;
-                grows = grows_itself P (machine_memory P see.object_at);
-                counted = counted;
-                started = tt;
-              }
-            where
-              no_count : (k : ℕ) → k ≡ 0 + k
-              no_count k = omega arith
-
-          enter_some_ranked : (m : ℕ) (called : Method) → slice_get P.methods m ≡ Some called → RankedAct P rel level (slot_types method) see.object_at (releases_in_work below) (W.Call m) rest (Walked rest) (env_of f.slots) os
-              → (a : Address) → address_of (top (dropped (length called.params) f.operands)) ≡ Some a → (k : ℕ) → target_at P m (object_class (see.object_at a)) ≡ Some k → (o : Option Method) → slice_get P.methods k ≡ o
-              → OutcomeRanked (enter_some P see t f below rest (length called.params) k o a)
-          enter_some_ranked m called there r a receives k runs None at = fault_ranked fault.Null
-          enter_some_ranked m called there r a receives k runs (Some running) at = enter_ranked m called there r a receives k running at runs (nat_lt (length (f ∷ below)) most_frames)
-
-          dispatch_ranked : (m : ℕ) (called : Method) → slice_get P.methods m ≡ Some called → RankedAct P rel level (slot_types method) see.object_at (releases_in_work below) (W.Call m) rest (Walked rest) (env_of f.slots) os
-              → (a : Address) → address_of (top (dropped (length called.params) f.operands)) ≡ Some a → (o : Option ℕ) → target_at P m (object_class (see.object_at a)) ≡ o → OutcomeRanked (dispatch P see t f below rest (length called.params) o a)
-          dispatch_ranked m called there r a receives None runs = fault_ranked fault.Null
-          dispatch_ranked m called there r a receives (Some k) runs = enter_some_ranked m called there r a receives k runs (slice_get P.methods k) refl
-
-          call_on_ranked : (m : ℕ) (called : Method) → slice_get P.methods m ≡ Some called → RankedAct P rel level (slot_types method) see.object_at (releases_in_work below) (W.Call m) rest (Walked rest) (env_of f.slots) os
-              → (o : Option Address) → address_of (top (dropped (length called.params) f.operands)) ≡ o → OutcomeRanked (call_on P see t f below rest (length called.params) m o)
-          call_on_ranked m called there r None receives = fault_ranked fault.Null
-          call_on_ranked m called there r (Some a) receives = dispatch_ranked m called there r a receives (target_at P m (object_class (see.object_at a))) refl
-
-          pub call_ranked : (m : ℕ) → RankedAct P rel level (slot_types method) see.object_at (releases_in_work below) (W.Call m) rest (Walked rest) (env_of f.slots) os → (o : Option Method) → slice_get P.methods m ≡ o → OutcomeRanked (call P see t f below rest m o)
-          call_ranked m r None there = fault_ranked fault.Null
-          call_ranked m r (Some called) there = call_on_ranked m called there r (address_of (top (dropped (length called.params) f.operands))) refl
-
-        -- Locks that are taken.
-
-        at_lock : (b a : Address) (hold : Option Hold) (u : ℕ) → held_count u hold ≡ held_count u (see.lock_at a) → (same : Bool) → address_eq b a ≡ same → held_count u (if same then hold else see.lock_at b) ≡ held_count u (see.lock_at b)
-        at_lock b a hold u e true at = e ∙ ap (λ c. held_count u (see.lock_at c)) (sym (same_address b a at))
-        at_lock b a hold u e false at = refl
-
-        count_at : (a : Address) (hold : Hold) → 0 < hold.count → (b : Address) (found : Hold) (same : Bool) → address_eq b a ≡ same → (if same then Some hold else see.lock_at b) ≡ Some found → 0 < found.count
-        count_at a hold some b found true at e = subst (λ (x : Hold). 0 < x.count) (same_Some hold found e) some
-        count_at a hold some b found false at e = counted b found e
-
-        module _ (s : Stmt) (a : Address) where
-          abbrev part : List Item
-          part = St s ∷ Act (W.Release a) ∷ rest
-
-          lock_with : (kind : StepKind) (hold : Hold) → 0 < hold.count → Walked part (env_of f.slots) [] → ((b : Address) → held_count t (if address_eq b a then Some hold else see.lock_at b) ≡ count_release b part + count_frames b below)
-              → ((u : ℕ) → (u == t) ≡ false → held_count u (Some hold) ≡ held_count u (see.lock_at a)) → OutcomeRanked (takes P see t f below rest kind s a hold)
-          lock_with kind hold some walked owns others = record {
-            thread = ((record { method = method; is = is; paths = []; leads = tt; ranked = walked }, further), owns);
-            others = λ u other b. at_lock b a (Some hold) u (others u other) (address_eq b a) refl;
-            grows = grows_itself P (machine_memory P see.object_at);
-            counted = λ b found e. count_at a hold some b found (address_eq b a) refl e;
-            started = tt;
-          }
-
-          free_counts : (b : Address) → see.lock_at a ≡ None → (same : Bool) → address_eq b a ≡ same
-              → held_count t (if same then Some (record { holder = t; count = 1 }) else see.lock_at b) ≡ (if same then 1 + count_release b rest else count_release b rest) + count_frames b below
-          free_counts b none true at = cond-true (t == t) 1 0 (eq-eqb t t refl) ∙ one_of (count_release b rest) (count_frames b below) (sym (ap (λ c. held_count t (see.lock_at c)) (same_address b a at) ∙ ap (held_count t) none) ∙ own_rest b)
-          free_counts b none false at = own_rest b
-
-          again_counts : (b : Address) (hold : Hold) → see.lock_at a ≡ Some hold → (hold.holder == t) ≡ true → (same : Bool) → address_eq b a ≡ same
-              → held_count t (if same then Some (taken_again hold) else see.lock_at b) ≡ (if same then 1 + count_release b rest else count_release b rest) + count_frames b below
-          again_counts b hold held mine true at =
-              cond-true (hold.holder == t) (hold.count + 1) 0 mine
-              ∙ one_more hold.count (count_release b rest) (count_frames b below) (sym (ap (λ c. held_count t (see.lock_at c)) (same_address b a at) ∙ ap (held_count t) held ∙ cond-true (hold.holder == t) hold.count 0 mine) ∙ own_rest b)
-          again_counts b hold held mine false at = own_rest b
-
-          take_held_ranked : Walked part (env_of f.slots) [] → (hold : Hold) → see.lock_at a ≡ Some hold → (mine : Bool) → (hold.holder == t) ≡ mine → OutcomeRanked (take_held P see t f below rest s a hold mine)
-          take_held_ranked walked hold held false at = tt
-          take_held_ranked walked hold held true at = lock_with Both (taken_again hold) (held_once_more hold.count) walked
-              (λ b. again_counts b hold held at (address_eq b a) refl)
-              (λ u other. cond-false (hold.holder == u) (hold.count + 1) 0 (not_both hold.holder t u at other) ∙ sym (ap (held_count u) held ∙ cond-false (hold.holder == u) hold.count 0 (not_both hold.holder t u at other)))
-
-          take_ranked : Walked part (env_of f.slots) [] → (hold : Option Hold) → see.lock_at a ≡ hold → OutcomeRanked (take P see t f below rest s a hold)
-          take_ranked walked None at = lock_with Right (record { holder = t; count = 1 }) (omega arith) walked
-              (λ b. free_counts b at (address_eq b a) refl)
-              (λ u other. cond-false (t == u) 1 0 (eqb_turned t u ∙ other) ∙ sym (ap (held_count u) at))
-          take_ranked walked (Some hold) at = take_held_ranked walked hold at (hold.holder == t) refl
-
-          module _ (heap : IsTypedHeap P level see.object_at) (typed : AreTypedSlots P level see.object_at (slot_types method) f.slots) (H : Held) (e : ℕ)
-              (stands : Stands P level see.object_at (env_of f.slots) H e (λ b. has_release b rest || releases_in_work below b)) (p : PathData) (fresh : Fresh H s) (apart : stores s p.root ≡ false) (tidy : TidyS P s)
-              (leads : lead P (machine_memory P see.object_at) (env_of f.slots) p ≡ Some (value.Ref a)) (after : (later : Env) → ((y : ℕ) → stores s y ≡ false → later y ≡ env_of f.slots y) → Walked rest later []) where
-            abbrev class : ℕ
-            class = lock_class P (slot_types method) p
-
-            held_more : (x y z : Bool) → (y || z) ≡ true → ((x || y) || z) ≡ true
-            held_more true y z e = refl
-            held_more false y z e = e
-
-            -- the path is in the set: the lock is held already, and stays so
-            held_part : H p ≡ true → (has_release a rest || releases_in_work below a) ≡ true
-            held_part has =
-                let at = stands.sound.at p has in
-                let same : value.Ref a ≡ value.Ref at.0 = same_Some _ _ (sym leads ∙ at.1) in
-                subst (λ b. (has_release b rest || releases_in_work below b) ≡ true) (sym (ref_same same)) at.2
-              where
-                ref_same : {x y : Address} → value.Ref x ≡ value.Ref y → x ≡ y
-                ref_same {x = x} {y = y} e = cc
-
-            -- what is held in the part, where the lock's object is under a level
-            part_high : (u : ℕ) → e ≤ u → IsUnder level see.object_at u a → (b : Address) (same : Bool) → address_eq b a ≡ same → ((same || has_release b rest) || releases_in_work below b) ≡ true → IsUnder level see.object_at u b
-            part_high u above here b true at has = subst (IsUnder level see.object_at u) (sym (same_address b a at)) here
-            part_high u above here b false at has = let low = stands.high b has in (low.0, low.1, chain (level low.0.class) e u low.2 above)
-              where
-                chain : (x y z : ℕ) → x ≤ y → y ≤ z → x ≤ z
-                chain x y z first second = omega (arith, first, second)
-
-            new_at : (q : PathData) (b : Bool) → path_eq p q ≡ b → (b || H q) ≡ true → (c : Address) × (lead P (machine_memory P see.object_at) (env_of f.slots) q ≡ Some (value.Ref c)) × (((address_eq c a || has_release c rest) || releases_in_work below c) ≡ true)
-            new_at q true at has = (a, ap (λ z. lead P (machine_memory P see.object_at) (env_of f.slots) z) (sym (eq_is p q at)) ∙ leads, ap (λ b. (b || has_release a rest) || releases_in_work below a) (address_itself a))
-            new_at q false at has = let found = stands.sound.at q has in (found.0, found.1, held_more (address_eq found.0 a) (has_release found.0 rest) (releases_in_work below found.0) found.2)
-
-            new_fresh : (q : PathData) (b : Bool) → path_eq p q ≡ b → (b || H q) ≡ true → stores s q.root ≡ false
-            new_fresh q true at has = ap (stores s) (ap (λ (z : PathData). z.root) (sym (eq_is p q at))) ∙ apart
-            new_fresh q false at has = fresh.at q has
-
-            max_first : (x y : ℕ) → x ≤ max x y
-            max_first x y = omega arith
-
-            max_second : (x y z : ℕ) → z ≡ y → z ≤ max x y
-            max_second x y z same = omega (arith, same)
-
-            itself : (x : ℕ) → x ≤ x
-            itself x = omega arith
-
-            walked_held : H p ≡ true → (n : ℕ) → Fine P rel level (visits P rel level (slot_types method) s n H e) → Walked part (env_of f.slots) []
-            walked_held has n fine = (
-              record {
-                set = H;
-                under = e;
-                stands = record {
-                  sound = record { at = λ q held. let found = stands.sound.at q held in (found.0, found.1, held_more (address_eq found.0 a) (has_release found.0 rest) (releases_in_work below found.0) found.2) };
-                  high = λ b held. part_high e (itself e) (stands.high a (held_part has)) b (address_eq b a) refl held;
-                };
-                rest = (fresh, tidy, (n, fine));
-              },
-              λ later agrees. after later (λ y other. agrees.kept y other),
-            )
-
-            walked_new : (n : ℕ) → Fine P rel level (visits P rel level (slot_types method) s n (with_path p H) (max e (level class))) → Walked part (env_of f.slots) []
-            walked_new n fine =
-                let o = lock_typed P level see.object_at heap (slot_types method) f.slots p a typed leads in (
-                  record {
-                    set = with_path p H;
-                    under = max e (level class);
-                    stands = record {
-                      sound = record { at = λ q held. new_at q (path_eq p q) refl held };
-                      high = λ b held. part_high (max e (level class)) (max_first e (level class)) (o.0, o.1, max_second e (level class) (level o.0.class) o.2) b (address_eq b a) refl held;
-                    };
-                    rest = (record { at = λ q held. new_fresh q (path_eq p q) refl held }, tidy, (n, fine));
-                  },
-                  λ later agrees. after later (λ y other. agrees.kept y other),
-                )
-
-            above_walk : (b : Bool) (n : ℕ) (vs : List Visit) → Fine P rel level (if b then vs else Bad n class e ∷ vs) → Fine P rel level vs
-            above_walk true n vs fine = fine
-            above_walk false n vs fine = absurd (fine.none_bad n class e (0, omega arith, refl))
-
-            walked_part : (b : Bool) → H p ≡ b → (n : ℕ) → Fine P rel level (sync_visits P rel level (slot_types method) b n class e (visits P rel level (slot_types method) s (n + 1) H e) (visits P rel level (slot_types method) s (n + 1) (with_path p H) (max e (level class))))
-                → Walked part (env_of f.slots) []
-            walked_part true has n fine = walked_held has (n + 1) fine
-            walked_part false has n fine = walked_new (n + 1) (above_walk (nat_lt e (level class)) n (visits P rel level (slot_types method) s (n + 1) (with_path p H) (max e (level class))) fine)
-
-        top_is : (o : Option PathData) (p : PathData) (v : Value) → o ≡ Some p → LeadsTo P (machine_memory P see.object_at) (env_of f.slots) o v → lead P (machine_memory P see.object_at) (env_of f.slots) p ≡ Some v
-        top_is o p v at l = subst (λ z. LeadsTo P (machine_memory P see.object_at) (env_of f.slots) z v) at l
-
-        pub acquire_ranked : IsTypedHeap P level see.object_at → AreTypedSlots P level see.object_at (slot_types method) f.slots → (s : Stmt) → RankedAct P rel level (slot_types method) see.object_at (releases_in_work below) (W.Acquire s) rest (Walked rest) (env_of f.slots) os
-            → (o : Option Address) → address_of (top f.operands) ≡ o → OutcomeRanked (acquire P see t f below rest s o)
-        acquire_ranked heap typed s r None at = fault_ranked fault.Null
-        acquire_ranked heap typed s r (Some a) at =
-            let leads = top_is (top_path os) r.0.rest.0 (value.Ref a) r.0.rest.1 (leads_top a at) in
-            take_ranked s a (walked_part s a heap typed r.0.set r.0.under r.0.stands r.0.rest.0 r.0.rest.2 r.0.rest.3 r.0.rest.4 leads r.1 (r.0.set r.0.rest.0) refl r.0.rest.5.0 r.0.rest.5.1) (see.lock_at a) refl
-
         -- Starts.
 
         class_runs : (c m : ℕ) (o : Option Class) → slice_get P.classes c ≡ o → run_of_class o ≡ Some m → RunsFirst P m
@@ -575,59 +285,6 @@ module _ (P : Program) (rel : ℕ → List PathData) (level : ℕ → ℕ) (see 
 
         pub start_ranked : Walked rest (env_of f.slots) (under_path os) → (o : Option Address) → OutcomeRanked (start P see t f below rest o)
         start_ranked g None = fault_ranked fault.Null
-        start_ranked g (Some a) = start_run_ranked a g (run_of P (object_class (see.object_at a))) refl
-
-    -- Locks that are given back.
-
-    module _ (a : Address) (own_next : (b : Address) → held_count t (see.lock_at b) ≡ count_release b (Act (W.Release a) ∷ rest) + count_frames b below) (g : Walked rest (env_of f.slots) []) where
-      own_here : (hold : Hold) → see.lock_at a ≡ Some hold → (hold.holder == t) ≡ true → hold.count ≡ 1 + count_release a rest + count_frames a below
-      own_here hold held mine =
-          sym (ap (held_count t) held ∙ cond-true (hold.holder == t) hold.count 0 mine) ∙ own_next a ∙ ap (λ b. (if b then 1 + count_release a rest else count_release a rest) + count_frames a below) (address_itself a)
-
-      back : Hold → Option Hold
-      back hold = given_back hold
-
-      back_count : (u : ℕ) (hold : Hold) (b : Bool) → nat_lt 1 hold.count ≡ b → held_count u (if b then Some (record hold { count = hold.count - 1 }) else None) ≡ (if b then (if hold.holder == u then hold.count - 1 else 0) else 0)
-      back_count u hold true e = refl
-      back_count u hold false e = refl
-
-      own_back : (hold : Hold) → see.lock_at a ≡ Some hold → (hold.holder == t) ≡ true → (more : Bool) → nat_lt 1 hold.count ≡ more → held_count t (if more then Some (record hold { count = hold.count - 1 }) else None) ≡ count_release a rest + count_frames a below
-      own_back hold held mine true e = cond-true (hold.holder == t) (hold.count - 1) 0 mine ∙ one_less hold.count (count_release a rest) (count_frames a below) (own_here hold held mine) e
-      own_back hold held mine false e = none_left hold.count (count_release a rest) (count_frames a below) (own_here hold held mine) e
-
-      other_back : (u : ℕ) (hold : Hold) → see.lock_at a ≡ Some hold → (hold.holder == u) ≡ false → (more : Bool) → held_count u (if more then Some (record hold { count = hold.count - 1 }) else None) ≡ held_count u (see.lock_at a)
-      other_back u hold held other true = cond-false (hold.holder == u) (hold.count - 1) 0 other ∙ sym (ap (held_count u) held ∙ cond-false (hold.holder == u) hold.count 0 other)
-      other_back u hold held other false = sym (ap (held_count u) held ∙ cond-false (hold.holder == u) hold.count 0 other)
-
-      back_at : (hold : Hold) → see.lock_at a ≡ Some hold → (hold.holder == t) ≡ true → (b : Address) (same : Bool) → address_eq b a ≡ same → held_count t (if same then given_back hold else see.lock_at b) ≡ count_release b rest + count_frames b below
-      back_at hold held mine b true at = own_back hold held mine (nat_lt 1 hold.count) refl ∙ ap (λ c. count_release c rest + count_frames c below) (sym (same_address b a at))
-      back_at hold held mine b false at = own_next b ∙ ap (λ x. (if x then 1 + count_release b rest else count_release b rest) + count_frames b below) at
-
-      others_at : (hold : Hold) → see.lock_at a ≡ Some hold → (hold.holder == t) ≡ true → (u : ℕ) → (u == t) ≡ false → (b : Address) (same : Bool) → address_eq b a ≡ same → held_count u (if same then given_back hold else see.lock_at b) ≡ held_count u (see.lock_at b)
-      others_at hold held mine u other b true at = other_back u hold held (not_both hold.holder t u mine other) (nat_lt 1 hold.count) ∙ ap (λ c. held_count u (see.lock_at c)) (sym (same_address b a at))
-      others_at hold held mine u other b false at = refl
-
-      back_counted : (hold : Hold) (more : Bool) → nat_lt 1 hold.count ≡ more → (found : Hold) → (if more then Some (record hold { count = hold.count - 1 }) else None) ≡ Some found → 0 < found.count
-      back_counted hold true e found is = subst (λ (x : Hold). 0 < x.count) (same_Some (record hold { count = hold.count - 1 }) found is) (still_held hold.count e)
-      back_counted hold false e found is = absurd (none-some found is)
-
-      counted_at : (hold : Hold) (b : Address) (found : Hold) (same : Bool) → address_eq b a ≡ same → (if same then given_back hold else see.lock_at b) ≡ Some found → 0 < found.count
-      counted_at hold b found true at e = back_counted hold (nat_lt 1 hold.count) refl found e
-      counted_at hold b found false at e = counted b found e
-
-      release_held_ranked : (hold : Hold) → see.lock_at a ≡ Some hold → (mine : Bool) → (hold.holder == t) ≡ mine → OutcomeRanked (release_held P see t f below rest a hold mine)
-      release_held_ranked hold held false mine = fault_ranked fault.Null
-      release_held_ranked hold held true mine = record {
-        thread = ((record { method = method; is = is; paths = []; leads = tt; ranked = g }, further), λ b. back_at hold held mine b (address_eq b a) refl);
-        others = λ u other b. others_at hold held mine u other b (address_eq b a) refl;
-        grows = grows_itself P (machine_memory P see.object_at);
-        counted = λ b found e. counted_at hold b found (address_eq b a) refl e;
-        started = tt;
-      }
-
-      pub release_ranked : (o : Option Hold) → see.lock_at a ≡ o → OutcomeRanked (release P see t f below rest a o)
-      release_ranked None held = fault_ranked fault.Null
-      release_ranked (Some hold) held = release_held_ranked hold held (hold.holder == t) refl
 
     -- Returns.
 

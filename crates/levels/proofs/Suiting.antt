@@ -17,7 +17,7 @@ use Rattle.reduction.proofs.Roots.{parameters_scope}
 use Rattle.levels.specs.SlotTypes.{SlotType, local_types, local_types_each, slot_types, method_result, taken_by_method, taken_by_new, expression_type, AreMarked, IsMarked, Suits}
 use Rattle.levels.specs.Suited.{SuitsResult, SuitedE, SuitedEach, SuitedS, SuitedBlock}
 use Rattle.levels.proofs.ClassMarks.{kind_marked, target_marked}
-use Rattle.levels.proofs.TypedSteps.{IsSuitedProgram}
+use Rattle.levels.proofs.TypedChanges.{IsSuitedProgram}
 
 -- Locals are declared as often as their types stand in the list.
 

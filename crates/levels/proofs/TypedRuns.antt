@@ -23,7 +23,8 @@ use Rattle.levels.specs.SlotTypes.{AreMarked, taken_by_new}
 use Rattle.levels.specs.TypedStates.{Stays, IsTypedHeap, IsTypedStart, IsTypedThread, IsTypedState}
 use Rattle.levels.proofs.ClassMarks.{kind_marked}
 use Rattle.levels.proofs.Heaps.{HasTypes, made_typed}
-use Rattle.levels.proofs.TypedSteps.{IsSuitedProgram, IsTypedChange, start_stays, thread_stays, StepTyped, OutcomeTyped, turn_typed}
+use Rattle.levels.proofs.TypedChanges.{IsSuitedProgram, IsTypedChange, start_stays, thread_stays}
+use Rattle.levels.proofs.TypedSteps.{StepTyped, OutcomeTyped, turn_typed}
 use Rattle.levels.proofs.Suiting.{suited_program}
 
 -- what each step keeps, each run keeps; objects are numbered all along

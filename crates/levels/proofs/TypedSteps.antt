@@ -1,17 +1,13 @@
 -- A thread's turn keeps the types of its values, and those of the heap.
 use Rattle.std.proofs.Common.{◌≡◌, ℕ, Bool, true, false, ◌==◌, List, [], ◌∷◌, ◌++◌, length, Some, None, refl, sym, ap, subst, ◌∙◌}
-use Rattle.std.specs.Prelude.{Option, slice_get, map, filter, nat_lt, if◌then◌else◌}
-use Rattle.std.proofs.lemmas.Option.{none-some, same_Some}
+use Rattle.std.specs.Prelude.{Option, slice_get, map, nat_lt, if◌then◌else◌}
+use Rattle.std.proofs.lemmas.Option.{none-some}
 use Rattle.core_program.specs.declared.types.CoreType.{CoreType}
 use Rattle.core_program.specs.declared.types.CoreType.TheVariants as type
 use Rattle.core_program.specs.declared.types.CoreOp.{CoreOp}
-use Rattle.core_program.specs.declared.types.CoreOp.TheVariants.{Eq, Ne, Lt, Le, Gt, Ge, Add, Sub, Mul, Div, Rem}
-use Rattle.core_program.specs.declared.types.UnaryOp.{UnaryOp}
-use Rattle.core_program.specs.declared.types.UnaryOp.TheVariants.{Not, Neg}
 use Rattle.core_program.specs.Core.{Program, Class, Field, Method, Expr, Stmt, WhileS}
 use Rattle.core_program.specs.Dispatch.{target_of}
 use Rattle.core_program.specs.Types.{field_type}
-use Rattle.core_program.specs.Typed.{is_final_at}
 use Rattle.state.specs.declared.value.Address.{Address}
 use Rattle.state.specs.declared.value.Value.{Value}
 use Rattle.state.specs.declared.value.Value.TheVariants as value
@@ -26,103 +22,22 @@ use Rattle.state.specs.Work.{Action, Item, Ex, St, Act, Next, unfolded}
 use Rattle.state.specs.States.{Frame, Thread, Ready, Running, Done, Faulted, new_object}
 use Rattle.semantics.specs.Step.{Change, Nothing, FieldIs, ObjectIs, LockIs, Prints, Starts, Shared, Move, Outcome, Moves, Absent, IsDone, HadFaulted, Waits, most_frames, has_result, with_result, unless_final, object_class, run_of, run_of_class, target_at, value_at, access_kind, faults, goes_on, load, store, binary, and_then, or_else, choose, loop, get_value, get, put_value, put, new_address, new, enter, enter_some, dispatch, call_on, call, takes, take_held, take, acquire, release_held, release, return_to, start_run, start, act, act_next, enter_first, turn}
 use Rattle.semantics.specs.Changes.{objects_after}
-use Rattle.reduction.specs.Fits.{arity_of, finals_of, TidyS}
+use Rattle.reduction.specs.Fits.{arity_of, finals_of}
 use Rattle.levels.specs.SlotTypes.{SlotType, slot_types, method_result, taken_by_method, taken_by_new, expression_type, Suits, SuitEach, Has, HasEach, top_type, under_types, taken_types, dropped_types}
-use Rattle.levels.specs.Suited.{IsPlain, brought, SuitsResult, SuitedS, SuitedAct, Suited, SuitedOpens}
+use Rattle.levels.specs.Suited.{brought, SuitsResult, SuitedAct, Suited, SuitedOpens}
 use Rattle.levels.specs.TypedStates.{Stays, IsTypedHeap, AreTypedSlots, IsTypedFrame, AreTypedFrames, IsTypedStart, IsTypedThread}
 use Rattle.levels.proofs.OpeningTypes.{unfolds, on_pushed}
 use Rattle.levels.proofs.Heaps.{stays_itself, suits_value, each_stays, slots_stay, top_has, under_has, dropped_has, taken_has, HasTypes, each_suits, new_slots_typed, stored_typed, written_stays, written_typed, made_stays, made_typed}
-
--- what the proof uses of a typed program
-pub record IsSuitedProgram (P : Program) (mark : ℕ → ℕ) : Type 0 where
-  pub tidy : (m : ℕ) (method : Method) → slice_get P.methods m ≡ Some method → TidyS P method.body
-  pub suited : (m : ℕ) (method : Method) → slice_get P.methods m ≡ Some method → SuitedS P mark (slot_types method) method.result method.body
-  pub params : (c m n : ℕ) (method running : Method) → target_of P c m ≡ Some n → slice_get P.methods m ≡ Some method → slice_get P.methods n ≡ Some running → running.params ≡ method.params
-  pub result : (c m n : ℕ) (method running : Method) → target_of P c m ≡ Some n → slice_get P.methods m ≡ Some method → slice_get P.methods n ≡ Some running → running.result ≡ method.result
-  pub of_class : (c m n : ℕ) (running : Method) → target_of P c m ≡ Some n → slice_get P.methods n ≡ Some running → mark running.class ≡ mark c
-  pub run_params : (c : ℕ) (class : Class) (m : ℕ) (method : Method) → slice_get P.classes c ≡ Some class → class.run ≡ Some m → slice_get P.methods m ≡ Some method → method.params ≡ []
-  pub run_class : (c : ℕ) (class : Class) (m : ℕ) (method : Method) → slice_get P.classes c ≡ Some class → class.run ≡ Some m → slice_get P.methods m ≡ Some method → mark method.class ≡ mark c
-  pub finals : (c : ℕ) (class : Class) → slice_get P.classes c ≡ Some class → class.finals ≡ filter (λ f. is_final_at (slice_get P.fields f)) class.fields
+use Rattle.levels.proofs.TypedChanges.{IsSuitedProgram, IsTypedChange, frames_stay, plain_has, unary_has, binary_has, no_result_suits}
 
 module _ (P : Program) (mark : ℕ → ℕ) where
-  -- a new thread is ready on an object of the right class
-  abbrev pub IsTypedChange : (Address → Option Object) → Change → Type 0
-  IsTypedChange objects (Starts a m) = IsTypedStart P mark objects a m
-  IsTypedChange objects _ = Unit {0}
-
-  -- frames and threads in a heap that has grown
-  module _ (old new : Address → Option Object) (stays : Stays old new) where
-    pub frames_stay : (fs : List Frame) (coming : List SlotType) → AreTypedFrames P mark old fs coming → AreTypedFrames P mark new fs coming
-    frames_stay [] coming f = tt
-    frames_stay (g ∷ fs) coming f = (
-      record {
-        method = f.0.method;
-        is = f.0.is;
-        slots = slots_stay mark old new stays P (slot_types f.0.method) g.slots f.0.slots;
-        types = f.0.types;
-        operands = each_stays mark old new stays f.0.types g.operands f.0.operands;
-        suited = f.0.suited;
-      },
-      frames_stay fs (brought (method_result (slice_get P.methods g.method))) f.1,
-    )
-
-    pub start_stays : (a : Address) (m : ℕ) → IsTypedStart P mark old a m → IsTypedStart P mark new a m
-    start_stays a m s = let later = stays a s.object s.there in record {
-      object = later.0;
-      there = later.1;
-      no_parameters = s.no_parameters;
-      of_class = λ method is. s.of_class method is ∙ sym (ap mark later.2);
-    }
-
-    pub thread_stays : (o : Option Thread) → IsTypedThread P mark old o → IsTypedThread P mark new o
-    thread_stays None t = tt
-    thread_stays (Some (Ready a m)) t = start_stays a m t
-    thread_stays (Some (Running fs)) t = frames_stay fs [] t
-    thread_stays (Some Done) t = tt
-    thread_stays (Some (Faulted why fs)) t = tt
-
-  module _ (objects : Address → Option Object) where
-    plain_has : (t : SlotType) (v : Value) → IsPlain v → Has mark objects t v
-    plain_has t (value.Ref a) plain = absurd plain
-    plain_has t (value.Int n) plain = tt
-    plain_has t (value.Truth b) plain = tt
-    plain_has t value.Null plain = tt
-
-    unary_has : (t : SlotType) (op : UnaryOp) (v : Value) → Has mark objects t (unary_value op v)
-    unary_has t Not v = tt
-    unary_has t Neg v = tt
-
-    same_has : (t : SlotType) (v w : Value) → Some v ≡ Some w → Has mark objects t v → Has mark objects t w
-    same_has t v w e has = subst (Has mark objects t) (same_Some v w e) has
-
-    zero_has : (t : SlotType) (b : Bool) (n : Rattle.std.specs.Prelude.ℤ) (w : Value) → (if b then None else Some (value.Int n)) ≡ Some w → Has mark objects t w
-    zero_has t true n w e = absurd (none-some w e)
-    zero_has t false n w e = same_has t (value.Int n) w e tt
-
-    binary_has : (t : SlotType) (op : CoreOp) (a b w : Value) → binary_value op a b ≡ Some w → Has mark objects t w
-    binary_has t Eq a b w e = same_has t _ w e tt
-    binary_has t Ne a b w e = same_has t _ w e tt
-    binary_has t Lt a b w e = same_has t _ w e tt
-    binary_has t Le a b w e = same_has t _ w e tt
-    binary_has t Gt a b w e = same_has t _ w e tt
-    binary_has t Ge a b w e = same_has t _ w e tt
-    binary_has t Add a b w e = same_has t _ w e tt
-    binary_has t Sub a b w e = same_has t _ w e tt
-    binary_has t Mul a b w e = same_has t _ w e tt
-    binary_has t Div a b w e = zero_has t _ _ w e
-    binary_has t Rem a b w e = zero_has t _ _ w e
-
-  no_result_suits : (r : Option CoreType) → SuitsResult mark r []
-  no_result_suits None = tt
-  no_result_suits (Some t) = λ n m. absurd m
-
   module _ (see : Shared) (t : ℕ) where
     -- a step: its thread and the heap after it are typed, and objects keep their classes
     pub record StepTyped (move : Move) : Type 0 where
       pub thread : IsTypedThread P mark (objects_after move.change see.object_at) (Some move.thread)
       pub heap : IsTypedHeap P mark (objects_after move.change see.object_at)
       pub stays : Stays see.object_at (objects_after move.change see.object_at)
-      pub started : IsTypedChange see.object_at move.change
+      pub started : IsTypedChange P mark see.object_at move.change
 
     abbrev pub OutcomeTyped : Outcome → Type 0
     OutcomeTyped (Moves move) = StepTyped move
@@ -141,7 +56,7 @@ module _ (P : Program) (mark : ℕ → ℕ) where
       fault_typed why = record { thread = tt; heap = heap; stays = stays_itself see.object_at; started = tt }
 
       go : (kind : StepKind) (operands : List Value) (work : List Item) (change : Change) (later : List SlotType) → HasEach mark (objects_after change see.object_at) later operands → Suited P mark (slot_types method) method.result work later
-          → IsTypedHeap P mark (objects_after change see.object_at) → Stays see.object_at (objects_after change see.object_at) → IsTypedChange see.object_at change → OutcomeTyped (goes_on P see t f below rest kind operands work change)
+          → IsTypedHeap P mark (objects_after change see.object_at) → Stays see.object_at (objects_after change see.object_at) → IsTypedChange P mark see.object_at change → OutcomeTyped (goes_on P see t f below rest kind operands work change)
       go kind operands work change later has suited heap2 stays started = record {
         thread = (
           record {
@@ -152,7 +67,7 @@ module _ (P : Program) (mark : ℕ → ℕ) where
             operands = has;
             suited = suited;
           },
-          frames_stay see.object_at (objects_after change see.object_at) stays below (brought (method_result (slice_get P.methods f.method))) further,
+          frames_stay P mark see.object_at (objects_after change see.object_at) stays below (brought (method_result (slice_get P.methods f.method))) further,
         );
         heap = heap2;
         stays = stays;
@@ -198,7 +113,7 @@ module _ (P : Program) (mark : ℕ → ℕ) where
 
       binary_typed : (op : CoreOp) → G (None ∷ under_types (under_types ts)) → (o : Option Value) → binary_value op (top (under f.operands)) (top f.operands) ≡ o → OutcomeTyped (binary P see t f below rest o)
       binary_typed op g None at = fault_typed fault.Zero
-      binary_typed op g (Some v) at = go_on Both (v ∷ under (under f.operands)) rest (None ∷ under_types (under_types ts)) (binary_has see.object_at None op (top (under f.operands)) (top f.operands) v at, twice) g
+      binary_typed op g (Some v) at = go_on Both (v ∷ under (under f.operands)) rest (None ∷ under_types (under_types ts)) (binary_has P mark see.object_at None op (top (under f.operands)) (top f.operands) v at, twice) g
 
       and_typed : (e : Expr) → SuitedAct P mark (slot_types method) method.result (W.AndThen e) G ts → (b : Bool) → OutcomeTyped (and_then P see t f below rest e b)
       and_typed e s true = go_on Both (under f.operands) (Ex e ∷ rest) (under_types ts) once (s.1, s.2, on_pushed P mark (slot_types method) G e (under_types ts) s.0 s.3)
@@ -298,7 +213,7 @@ module _ (P : Program) (mark : ℕ → ℕ) where
                     (subst (λ z. HasTypes mark see.object_at z (popped (length called.params) [] f.operands)) (ap taken_by_method there ∙ sym (ap (map (λ p. p.1)) params)) arguments);
                 types = [];
                 operands = tt;
-                suited = (refl, program.tidy k running at, program.suited k running at, no_result_suits running.result);
+                suited = (refl, program.tidy k running at, program.suited k running at, no_result_suits P mark running.result);
               },
               (
                 record {
@@ -413,11 +328,11 @@ module _ (P : Program) (mark : ℕ → ℕ) where
       }
 
       act_typed : (action : Action) → see.object_at (record { thread = t; count = see.made }) ≡ None → SuitedAct P mark (slot_types method) method.result action G ts → OutcomeTyped (act P see t f below rest action)
-      act_typed (W.Push v) free s = go_on Both (v ∷ f.operands) rest (None ∷ ts) (plain_has see.object_at None v s.0, known) s.1
+      act_typed (W.Push v) free s = go_on Both (v ∷ f.operands) rest (None ∷ ts) (plain_has P mark see.object_at None v s.0, known) s.1
       act_typed (W.Load x) free s = load_typed x s (slice_get f.slots x) refl
       act_typed (W.Store x) free s = store_typed x s.0 s.1 (slice_get f.slots x) refl
       act_typed W.Drop free s = go_on Both (under f.operands) rest (under_types ts) once s
-      act_typed (W.Unary op) free s = go_on Both (unary_value op (top f.operands) ∷ under f.operands) rest (None ∷ under_types ts) (unary_has see.object_at None op (top f.operands), once) s
+      act_typed (W.Unary op) free s = go_on Both (unary_value op (top f.operands) ∷ under f.operands) rest (None ∷ under_types ts) (unary_has P mark see.object_at None op (top f.operands), once) s
       act_typed (W.Binary op) free s = binary_typed op s (binary_value op (top (under f.operands)) (top f.operands)) refl
       act_typed (W.AndThen e) free s = and_typed e s (as_truth (top f.operands))
       act_typed (W.OrElse e) free s = or_typed e s (as_truth (top f.operands))
@@ -450,7 +365,7 @@ module _ (P : Program) (mark : ℕ → ℕ) where
                 (subst (λ z. HasTypes mark see.object_at (map (λ p. p.1) z) []) (sym (s.no_parameters method at)) refl);
             types = [];
             operands = tt;
-            suited = (refl, program.tidy m method at, program.suited m method at, no_result_suits method.result);
+            suited = (refl, program.tidy m method at, program.suited m method at, no_result_suits P mark method.result);
           },
           tt,
         );
