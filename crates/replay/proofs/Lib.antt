@@ -8,10 +8,12 @@ pub mod Statements
 pub mod Joined
 pub mod Opens
 pub mod Whole
+pub mod MadeObjects
 pub mod Runs
 pub mod Schedules
 pub mod Endings
 pub mod Scan
+pub mod ScanEnds
 pub mod Scanned
 pub mod Giving
 pub mod Instance

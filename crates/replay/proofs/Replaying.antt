@@ -20,7 +20,8 @@ use Rattle.serialise.proofs.Running.{no_calls}
 use Rattle.serialise.specs.declared.step.Step.{Step}
 use Rattle.serialise.specs.Tables.{value_at}
 use Rattle.replay.proofs.Schedules.{prefix_runs, entry_steps}
-use Rattle.replay.proofs.Scan.{first_outside, told_none, all_told, no_deep}
+use Rattle.replay.proofs.Scan.{first_outside, told_none}
+use Rattle.replay.proofs.ScanEnds.{all_told, no_deep}
 use Rattle.replay.proofs.Scanned.{Scanned, goes_right, deep_right}
 
 -- what holds in any case

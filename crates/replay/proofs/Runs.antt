@@ -3,7 +3,6 @@ use Rattle.std.proofs.Common.{◌≡◌, ℕ, zero, suc, ◌+◌, ◌-◌, ◌<�
 use Rattle.std.specs.Prelude.{Option, IfSome, length, is_some, nat_lt, option_and_then, slice_get, slice_set, if◌then◌else◌}
 use Rattle.std.specs.FinMap as M
 use Rattle.std.specs.FinMap.{get-empty}
-use Rattle.std.proofs.lemmas.Bool.Decides.{nat_tests}
 use Rattle.std.proofs.lemmas.Bool.{ltb-false}
 use Rattle.std.proofs.lemmas.List.{length-map, length-set, length-append}
 use Rattle.std.proofs.lemmas.Option.{none-some, same_Some}
@@ -12,66 +11,21 @@ use Rattle.core_program.specs.Typed.{IsEntry, IsTyped}
 use Rattle.state.specs.declared.value.Address.{Address}
 use Rattle.state.specs.declared.value.Value.{Value}
 use Rattle.state.specs.Values.{address_eq}
-use Rattle.state.specs.Memory.{Hold, Heap, Object, address_cmp, made_by, next_address, IsNumbered}
+use Rattle.state.specs.Memory.{Hold, Heap, address_cmp, made_by, IsNumbered}
 use Rattle.state.specs.Work as W
 use Rattle.state.specs.Work.{Action, Item, Next, unfolded}
 use Rattle.state.specs.States.{Frame, Thread, Ready, Running, Done, Faulted, State, initial}
 use Rattle.semantics.specs.Step.{Change, Nothing, FieldIs, ObjectIs, LockIs, Prints, Starts, Move, Outcome, Moves, Absent, IsDone, HadFaulted, Waits, changed, moved, outcome, step, state_after, run_of, run_of_class}
 use Rattle.semantics.specs.Step.{seen_by, object_class, load, store, binary, and_then, or_else, choose, loop, get, get_value, put, put_value, new, call, call_on, enter, enter_some, dispatch, acquire, take, take_held, release, release_held, return_to, start, start_run, act, act_next, enter_first, turn}
-use Rattle.semantics.specs.Changes.{object_with, objects_after, locks_after}
+use Rattle.semantics.specs.Changes.{locks_after}
 use Rattle.semantics.specs.Run.{run, run_from}
-use Rattle.semantics.proofs.Changed.{heap_after, locks_are, same_address}
+use Rattle.semantics.proofs.Changed.{locks_are}
 use Rattle.semantics.proofs.StepCases.{Case, moves, absent, done, faulted, waits, NewIsNext, outcome_case}
 use Rattle.semantics.proofs.RunLemmas.{step_numbered, initial_numbered}
 use Rattle.replay.specs.Plain.{plain_of, plain_thread}
 use Rattle.replay.specs.Evaluation.{most_number}
 use Rattle.replay.proofs.Comes.{IsFull, objects, threads, locks}
-
--- What a change does to numbers.
-
--- no object stands where a thread has made one more than so many
-two_beyond : (c : Change) (q : State) (t u : ℕ) → NewIsNext q t c → IsNumbered q.heap → M.get (changed c q).heap (record { thread = u; count = suc (made_by u q.heap) }) ≡ None
-two_beyond c q t u next numbered = ap (λ (get : Address → Option Object). get (record { thread = u; count = suc (made_by u q.heap) })) (heap_after c q) ∙ by_change c next
-  where
-    none_of : (o : Option Object) → is_some o ≡ false → o ≡ None
-    none_of None e = refl
-    none_of (Some o) e = absurd (let k : true ≡ false = e in cc)
-
-    not_below : (n : ℕ) → nat_lt (suc n) n ≡ false
-    not_below n = grind (arith, nat_tests)
-
-    was_none : M.get q.heap (record { thread = u; count = suc (made_by u q.heap) }) ≡ None
-    was_none = none_of _ (numbered u (suc (made_by u q.heap)) ∙ not_below (made_by u q.heap))
-
-    field_none : (a : Address) (index : ℕ) (v : Value) (b : Bool) → address_eq a (record { thread = u; count = suc (made_by u q.heap) }) ≡ b
-        → (if b then object_with index v (M.get q.heap a) else M.get q.heap (record { thread = u; count = suc (made_by u q.heap) })) ≡ None
-    field_none a index v true e = ap (object_with index v) (ap (M.get q.heap) (same_address a (record { thread = u; count = suc (made_by u q.heap) }) e) ∙ was_none)
-    field_none a index v false e = was_none
-
-    object_none : (a : Address) (o : Object) → a ≡ next_address t q.heap → (b : Bool) → address_eq a (record { thread = u; count = suc (made_by u q.heap) }) ≡ b
-        → (if b then Some o else M.get q.heap (record { thread = u; count = suc (made_by u q.heap) })) ≡ None
-    object_none a o is true e =
-        let same : next_address t q.heap ≡ record { thread = u; count = suc (made_by u q.heap) } = sym is ∙ same_address a (record { thread = u; count = suc (made_by u q.heap) }) e in
-        let thread : t ≡ u = ap (λ x. x.thread) same in
-        let count : made_by t q.heap ≡ suc (made_by u q.heap) = ap (λ x. x.count) same in
-        let alike : made_by t q.heap ≡ made_by u q.heap = ap (λ x. made_by x q.heap) thread in
-        absurd (omega (arith, count, alike))
-    object_none a o is false e = was_none
-
-    by_change : (c : Change) → NewIsNext q t c → objects_after c (M.get q.heap) (record { thread = u; count = suc (made_by u q.heap) }) ≡ None
-    by_change Nothing next = was_none
-    by_change (FieldIs a index v) next = field_none a index v (address_eq a (record { thread = u; count = suc (made_by u q.heap) })) refl
-    by_change (ObjectIs a o) next = object_none a o next (address_eq a (record { thread = u; count = suc (made_by u q.heap) })) refl
-    by_change (LockIs a hold) next = was_none
-    by_change (Prints n) next = was_none
-    by_change (Starts a m) next = was_none
-
--- so a thread has made at most one object more
-made_more : (c : Change) (q : State) (t u : ℕ) → NewIsNext q t c → IsNumbered q.heap → IsNumbered (changed c q).heap → made_by u (changed c q).heap ≤ suc (made_by u q.heap)
-made_more c q t u next numbered later = ltb_below (suc (made_by u q.heap)) (made_by u (changed c q).heap) (sym (later u (suc (made_by u q.heap))) ∙ ap is_some (two_beyond c q t u next numbered))
-  where
-    ltb_below : (n m : ℕ) → nat_lt n m ≡ false → m ≤ n
-    ltb_below n m e = ltb-false n m e
+use Rattle.replay.proofs.MadeObjects.{made_more}
 
 -- What holds of a state after n steps.
 pub record Bounds (P : Program) (n : ℕ) (q : State) : Type 0 where

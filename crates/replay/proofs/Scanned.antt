@@ -15,7 +15,8 @@ use Rattle.replay.specs.Records.{Told, IsTooDeep}
 use Rattle.replay.specs.Scanning.{Begun, NextScan, Goes, Deep, entered_in, begun_in, told_call, low_or_deep, next_by, next_of}
 use Rattle.replay.proofs.Opens.{opening, step_prints, more_prints}
 use Rattle.replay.proofs.Whole.{moved_entry}
-use Rattle.replay.proofs.Scan.{others_outside, IsOpen, IsLow, IsBehind, Told_to, told_on, outside_on, none_ends, opens, goes_on, stays, goes_none, ends_told, too_deep}
+use Rattle.replay.proofs.Scan.{others_outside, IsOpen, IsLow, IsBehind, Told_to, told_on, outside_on, none_ends, opens, goes_on, stays, goes_none, ends_told}
+use Rattle.replay.proofs.ScanEnds.{too_deep}
 
 module _ (P : Program) (s : List ℕ) (alone : IsUninterrupted P s) where
   -- nobody stands inside, or a call is open that has few frames so far

@@ -1,19 +1,20 @@
 //! Single effects on a plain state.
-ghost use Rattle.std.specs.Prelude.{◌≡◌, ◌<◌, Some, None, Option, MatchResult, IfOk, IfErr, IfSome, IsSome, OnOk, nat_lt, true, false, not, is_some, slice_get};
+ghost use Rattle.std.specs.Prelude.{◌≡◌, ◌<◌, ℕ, List, Some, None, Option, MatchOption, MatchResult, IfOk, IfErr, IfSome, IsSome, OnOk, nat_lt, true, false, not, is_some, slice_get};
 ghost use Rattle.std.specs.FinMap as map;
 ghost use Rattle.core_program.specs.Views.{program_of, method_of};
 ghost use Rattle.state.specs.Memory.{value_in, made_by};
 ghost use Rattle.state.specs.States.{new_slots, new_object};
 ghost use Rattle.state.specs.declared.value.Value.TheVariants as value;
+ghost use Rattle.state.specs.declared.value.Fault.TheVariants as fault;
 ghost use Rattle.replay.specs.declared.ends.EvalEnd.TheVariants as ends;
 ghost use Rattle.state.specs.Stored.{HasField};
 ghost use Rattle.semantics.specs.Step.{Prints, changed, index_of, unless_final, object_class, target_at, run_of};
 ghost use Rattle.replay.specs.Plain as plain;
-ghost use Rattle.replay.specs.Answers.{Gives};
-ghost use Rattle.replay.specs.Evaluation.{most_number, value_found, computed, read_field, followed_by, write_field, make, start_on, take_lock, give_lock};
-ghost use Rattle.replay.specs.Ends.{IsEvaluationEnd};
+ghost use Rattle.replay.specs.Answers.{Gives, Fails};
+ghost use Rattle.replay.specs.Evaluation.{Lower, stored, call, body_of, most_number, value_found, computed, read_field, followed_by, write_field, make, start_on, take_lock, give_lock};
+ghost use Rattle.replay.specs.Ends.{IsEvaluationEnd, ended};
 
-use crate::ends::EvalEnd;
+use crate::ends::{EvalEnd, Flow};
 use crate::plain::{Plain, PlainEntry};
 use core_program::{CoreMethod, CoreProgram};
 use machine::{address_of, listed_value, object_values, run_of_class, slots_of};
@@ -28,6 +29,20 @@ pub(crate) fn slot(slots: &[Value], x: u16) -> Result<Value, EvalEnd>
     match slots.get(x as usize) {
         Some(v) => Ok(*v),
         None => Err(EvalEnd::Faults(Fault::Null)),
+    }
+}
+
+/// Stores a value in a slot, where the slot is there.
+pub(crate) fn store(slots: &mut [Value], x: u16, v: Value) -> Result<Flow, EvalEnd>
+    ensures { MatchResult result
+        (λ f. (q : plain.Plain) → stored x v (slice_get slots.old x) slots.old q ≡ Gives (ended f slots.new) q)
+        (λ e. (q : plain.Plain) → IsEvaluationEnd e (stored x v (slice_get slots.old x) slots.old q)) }
+{
+    if (x as usize) < slots.len() {
+        slots[x as usize] = v;
+        Ok(Flow::GoesOn)
+    } else {
+        Err(EvalEnd::Faults(Fault::Null))
     }
 }
 
@@ -204,7 +219,7 @@ fn class_at(heap: &Heap, address: Address) -> Option<ClassId>
 }
 
 /// The method that runs for a method and the object at an address.
-pub(crate) fn target_at(
+fn target_at(
     program: &CoreProgram,
     heap: &Heap,
     method: MethodId,
@@ -214,6 +229,30 @@ pub(crate) fn target_at(
 {
     match class_at(heap, address) {
         Some(class) => program.target(class, method),
+        None => None,
+    }
+}
+
+/// The method that runs for a method and what a receiver refers to, with the receiver's address; none where the call faults.
+pub(crate) fn chosen<'p>(
+    program: &'p CoreProgram,
+    plain: &Plain,
+    method: MethodId,
+    on: Option<Address>,
+) -> Option<(Address, &'p CoreMethod)>
+    ensures answer { (t d : ℕ) (lower : Option Lower) (vs : List Value) → MatchOption result
+        (call (program_of program.now) t lower d method (slice_get (program_of program.now).methods method) on vs plain.now ≡ Fails fault.Null)
+        (λ c. call (program_of program.now) t lower d method (slice_get (program_of program.now).methods method) on vs plain.now
+        ≡ body_of (program_of program.now) t lower d lower (method_of c.1.now).body (new_slots (method_of c.1.now) (value.Ref c.0) vs) plain.now) }
+    ensures listed { IfSome result (λ c. (m : ℕ) × (slice_get program.now.methods.items m ≡ Some c.1.now)) }
+{
+    if program.methods.get(method.0 as usize).is_none() {
+        return None;
+    }
+    let address = on?;
+    let runs = target_at(program, &plain.heap, method, address)?;
+    match program.methods.get(runs.0 as usize) {
+        Some(found) => Some((address, found)),
         None => None,
     }
 }

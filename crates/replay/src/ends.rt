@@ -1,4 +1,8 @@
 //! How evaluation ends.
+ghost use Rattle.std.specs.Prelude.{◌≡◌};
+ghost use Rattle.replay.specs.Answers.{ended_value};
+ghost use Rattle.replay.specs.Ends.{end_of};
+
 use state::{Address, Fault, Value};
 use std::alloc::{AllocError, AllocFailed};
 
@@ -44,4 +48,14 @@ impl<T: Drop> From<AllocFailed<T>> for EvalEnd {
 pub(crate) enum Flow {
     GoesOn,
     Returns(Option<Value>),
+}
+
+/// The value that a body ends with; null where it has none.
+pub(crate) fn ended_value(flow: Flow) -> Value
+    ensures { result ≡ ended_value (end_of flow) }
+{
+    match flow {
+        Flow::Returns(Some(v)) => v,
+        Flow::Returns(None) | Flow::GoesOn => Value::Null,
+    }
 }

@@ -3,6 +3,7 @@
 #![tactic(auto)]
 
 mod begun;
+mod by_itself;
 mod calls;
 mod effects;
 mod ends;
@@ -13,8 +14,8 @@ mod parts;
 mod plain;
 mod sight;
 
+pub use by_itself::{PlainCall, evaluate};
 pub use calls::{CallRecord, ReplayEnd, replay};
 pub use ends::EvalEnd;
 pub use laws::{replay_laws, told_laws};
-pub use parts::{PlainCall, evaluate};
 pub use plain::{Plain, PlainEntry};

@@ -1,22 +1,20 @@
 //! Evaluation by recursion on the parts of a method. A body is at most 64 high and at most 100 calls are open within each
 //! other, so the recursion is at most some 13,000 calls deep; a loop takes none.
-ghost use Rattle.std.specs.Prelude.{◌≡◌, ◌≤◌, ℕ, List, Some, Option, IfSome, MatchOption, MatchResult, slice_get};
-ghost use Rattle.core_program.specs.Core.{CallE, NewE, WhileS, SyncS};
+ghost use Rattle.std.specs.Prelude.{◌≡◌, ◌≤◌, ℕ, Some, Option, MatchResult, slice_get};
+ghost use Rattle.core_program.specs.Core.{CallE, NewE, IfS, WhileS, SyncS};
 ghost use Rattle.core_program.specs.Views.{program_of, method_of, expr_of, exprs_from, stmt_of, stmts_from};
 ghost use Rattle.state.specs.declared.value.Value.{Value};
 ghost use Rattle.state.specs.declared.value.Value.TheVariants as value;
-ghost use Rattle.state.specs.declared.value.Fault.TheVariants as fault;
-ghost use Rattle.state.specs.States.{new_slots};
 ghost use Rattle.replay.specs.Plain as plain;
-ghost use Rattle.replay.specs.Answers.{Gives, Fails, ended_value};
-ghost use Rattle.replay.specs.Evaluation.{Lower, lower_of, exprs, stored, call, body_of, asked_body, evaluate};
-ghost use Rattle.replay.specs.Ends.{IsEvaluationEnd, end_of, ended};
+ghost use Rattle.replay.specs.Answers.{Gives, ended_value};
+ghost use Rattle.replay.specs.Evaluation.{lower_of, exprs};
+ghost use Rattle.replay.specs.Ends.{IsEvaluationEnd, ended};
 ghost use Rattle.replay.specs.Evaluating.{expr_answer, exprs_answer, stmt_answer, block_answer, call_answer, body_answer};
 
 use crate::effects::{
-    computed, follow, fresh_slots, give, make, print, read, slot, start, take, target_at, write,
+    chosen, computed, follow, fresh_slots, give, make, print, read, slot, start, store, take, write,
 };
-use crate::ends::{EvalEnd, Flow};
+use crate::ends::{EvalEnd, Flow, ended_value};
 use crate::plain::Plain;
 use core_program::{CoreExpr, CoreMethod, CoreProgram, CoreStmt, UnaryOp};
 use machine::{address_of, as_int, as_truth, binary_value, unary_value};
@@ -26,12 +24,12 @@ use std::alloc::Global;
 
 /// Where parts are evaluated: over which program, for which thread, with how many turns left, and inside how many open calls.
 #[derive(Clone, Copy)]
-struct Within<'p> {
-    alloc: Global,
-    program: &'p CoreProgram,
-    thread: u32,
-    turns: u32,
-    depth: u32,
+pub(crate) struct Within<'p> {
+    pub(crate) alloc: Global,
+    pub(crate) program: &'p CoreProgram,
+    pub(crate) thread: u32,
+    pub(crate) turns: u32,
+    pub(crate) depth: u32,
 }
 
 /// The value of an expression.
@@ -64,19 +62,17 @@ fn expr(at: &Within<'_>, plain: &mut Plain, slots: &[Value], e: &CoreExpr) -> Re
         }
         CoreExpr::And(a, b) => {
             let v = expr(at, plain, slots, a)?;
-            if as_truth(v) {
-                expr(at, plain, slots, b)
-            } else {
-                Ok(Value::Truth(false))
+            if !as_truth(v) {
+                return Ok(Value::Truth(false));
             }
+            expr(at, plain, slots, b)
         }
         CoreExpr::Or(a, b) => {
             let v = expr(at, plain, slots, a)?;
             if as_truth(v) {
-                Ok(Value::Truth(true))
-            } else {
-                expr(at, plain, slots, b)
+                return Ok(Value::Truth(true));
             }
+            expr(at, plain, slots, b)
         }
         CoreExpr::Get(a, field) => {
             let v = expr(at, plain, slots, a)?;
@@ -174,30 +170,6 @@ fn arguments(
     Ok(())
 }
 
-/// The method that runs for a method and what a receiver refers to, with the receiver's address; none where the call faults.
-fn chosen<'p>(
-    program: &'p CoreProgram,
-    plain: &Plain,
-    method: MethodId,
-    on: Option<Address>,
-) -> Option<(Address, &'p CoreMethod)>
-    ensures answer { (t d : ℕ) (lower : Option Lower) (vs : List Value) → MatchOption result
-        (call (program_of program.now) t lower d method (slice_get (program_of program.now).methods method) on vs plain.now ≡ Fails fault.Null)
-        (λ c. call (program_of program.now) t lower d method (slice_get (program_of program.now).methods method) on vs plain.now
-        ≡ body_of (program_of program.now) t lower d lower (method_of c.1.now).body (new_slots (method_of c.1.now) (value.Ref c.0) vs) plain.now) }
-    ensures listed { IfSome result (λ c. (m : ℕ) × (slice_get program.now.methods.items m ≡ Some c.1.now)) }
-{
-    if program.methods.get(method.0 as usize).is_none() {
-        return None;
-    }
-    let address = on?;
-    let runs = target_at(program, &plain.heap, method, address)?;
-    match program.methods.get(runs.0 as usize) {
-        Some(found) => Some((address, found)),
-        None => None,
-    }
-}
-
 /// The value of a call of a method on what a receiver refers to.
 #[cycle(parts)]
 fn enter(
@@ -249,34 +221,10 @@ fn run_body(
     Ok(ended_value(flow))
 }
 
-/// The value that a body ends with; null where it has none.
-fn ended_value(flow: Flow) -> Value
-    ensures { result ≡ ended_value (end_of flow) }
-{
-    match flow {
-        Flow::Returns(Some(v)) => v,
-        Flow::Returns(None) | Flow::GoesOn => Value::Null,
-    }
-}
-
-/// Stores a value in a slot, where the slot is there.
-fn store(slots: &mut [Value], x: u16, v: Value) -> Result<Flow, EvalEnd>
-    ensures { MatchResult result
-        (λ f. (q : plain.Plain) → stored x v (slice_get slots.old x) slots.old q ≡ Gives (ended f slots.new) q)
-        (λ e. (q : plain.Plain) → IsEvaluationEnd e (stored x v (slice_get slots.old x) slots.old q)) }
-{
-    if (x as usize) < slots.len() {
-        slots[x as usize] = v;
-        Ok(Flow::GoesOn)
-    } else {
-        Err(EvalEnd::Faults(Fault::Null))
-    }
-}
-
 /// Evaluates a statement.
 #[tactic(auto, using(crate::proofs::EndLemmas::end_then))]
 #[cycle(parts)]
-fn statement(
+pub(crate) fn statement(
     at: &Within<'_>,
     plain: &mut Plain,
     slots: &mut [Value],
@@ -308,14 +256,7 @@ fn statement(
             let _ = expr(at, plain, slots, e)?;
             Ok(Flow::GoesOn)
         }
-        CoreStmt::If(condition, one, other) => {
-            let v = expr(at, plain, slots, condition)?;
-            if as_truth(v) {
-                statement(at, plain, slots, one)
-            } else {
-                statement(at, plain, slots, other)
-            }
-        }
+        CoreStmt::If(condition, one, other) => branched(at, plain, slots, condition, one, other),
         CoreStmt::While(condition, body) => looped(at, plain, slots, condition, body),
         CoreStmt::Sync(path, body) => synchronized(at, plain, slots, path, body),
         CoreStmt::Return(None) => Ok(Flow::Returns(None)),
@@ -333,6 +274,30 @@ fn statement(
             start(at.program, plain, address_of(v))?;
             Ok(Flow::GoesOn)
         }
+    }
+}
+
+/// Evaluates the one of two statements that a condition chooses.
+#[tactic(auto, using(crate::proofs::EndLemmas::end_then))]
+#[cycle(parts)]
+fn branched(
+    at: &Within<'_>,
+    plain: &mut Plain,
+    slots: &mut [Value],
+    condition: &CoreExpr,
+    one: &CoreStmt,
+    other: &CoreStmt,
+) -> Result<Flow, EvalEnd>
+    requires { at.now.depth ≤ 100 }
+    ensures { MatchResult result
+        (λ f. stmt_answer (program_of at.now.program.now) at.now.thread at.now.turns at.now.depth slots.old (IfS (expr_of condition.now) (stmt_of one.now) (stmt_of other.now)) plain.old ≡ Gives (ended f slots.new) plain.new)
+        (λ x. IsEvaluationEnd x (stmt_answer (program_of at.now.program.now) at.now.thread at.now.turns at.now.depth slots.old (IfS (expr_of condition.now) (stmt_of one.now) (stmt_of other.now)) plain.old)) }
+{
+    let v = expr(at, plain, slots, condition)?;
+    if as_truth(v) {
+        statement(at, plain, slots, one)
+    } else {
+        statement(at, plain, slots, other)
     }
 }
 
@@ -414,70 +379,4 @@ fn synchronized(
     let flow = statement(at, plain, slots, body)?;
     give(plain, at.thread, address)?;
     Ok(flow)
-}
-
-/// A call that is evaluated by itself: its thread, the receiver, the method that runs, and the arguments.
-#[derive(Clone, Copy)]
-pub struct PlainCall<'a> {
-    pub thread: u32,
-    pub on: Address,
-    pub method: MethodId,
-    pub args: &'a [Value],
-}
-
-/// Evaluates a method by itself in a plain state, for a thread: its body, on this receiver, with these arguments, and with so
-/// many turns. The caller chooses the method by the receiver's class.
-pub fn evaluate(
-    alloc: Global,
-    program: &CoreProgram,
-    state: Plain,
-    call: &PlainCall<'_>,
-    turns: u32,
-) -> Result<(Plain, Option<Value>), EvalEnd>
-    ensures { MatchResult result
-        (λ r. evaluate (program_of program.now) state call.now.thread call.now.on call.now.method call.now.args.now turns ≡ Gives r.1 r.0)
-        (λ x. IsEvaluationEnd x (evaluate (program_of program.now) state call.now.thread call.now.on call.now.method call.now.args.now turns)) }
-{
-    let mut state = state;
-    let method = call.method;
-    let Some(found) = program.methods.get(method.0 as usize) else {
-        return Err(EvalEnd::Faults(Fault::Null));
-    };
-    let at = Within {
-        alloc,
-        program,
-        thread: call.thread,
-        turns,
-        depth: 0,
-    };
-    let result = asked(&at, &mut state, found, call.on, call.args)?;
-    Ok((state, result))
-}
-
-/// What a method that is asked for gives: no call is open around it.
-fn asked(
-    at: &Within<'_>,
-    plain: &mut Plain,
-    method: &CoreMethod,
-    on: Address,
-    args: &[Value],
-) -> Result<Option<Value>, EvalEnd>
-    ensures { MatchResult result
-        (λ v. asked_body (program_of at.now.program.now) at.now.thread (Some (method_of method.now)) on args.now plain.old at.now.turns ≡ Gives v plain.new)
-        (λ x. IsEvaluationEnd x (asked_body (program_of at.now.program.now) at.now.thread (Some (method_of method.now)) on args.now plain.old at.now.turns)) }
-{
-    if at.turns == 0 {
-        return Err(EvalEnd::Short);
-    }
-    let mut slots = fresh_slots(at.alloc, method, on, args)?;
-    let inside = Within {
-        turns: at.turns - 1,
-        depth: 1,
-        ..*at
-    };
-    let flow = statement(&inside, plain, slots.as_mut_slice(), &method.body)?;
-    match method.result {
-        Some(_) => Ok(Some(ended_value(flow))),
-        None => Ok(None),
-    }
 }

@@ -34,6 +34,10 @@ decreases-statement l = l.at.now.turns * (4 * all_nodes l.at.now.program.now.met
 abbrev pub decreases-block : goal.decreases-block
 decreases-block l = l.at.now.turns * (4 * all_nodes l.at.now.program.now.methods.items) + (4 * stmt_nodes_each (stmts_from l.body.now) + 1)
 
+abbrev pub decreases-branched : goal.decreases-branched
+decreases-branched l = l.at.now.turns * (4 * all_nodes l.at.now.program.now.methods.items)
+    + (4 * (nodes_of (expr_of l.condition.now) + (stmt_nodes (stmt_of l.one.now) + stmt_nodes (stmt_of l.other.now))) + 3)
+
 abbrev pub decreases-looped : goal.decreases-looped
 decreases-looped l = l.at.now.turns * (4 * all_nodes l.at.now.program.now.methods.items) + (4 * (nodes_of (expr_of l.condition.now) + stmt_nodes (stmt_of l.body.now)) + 3)
 
