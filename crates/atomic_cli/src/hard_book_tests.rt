@@ -15,6 +15,14 @@ const MADE: &str = "class Main { void main() { new C(1, 1, 1, 1, 1, 1, 1, 1, 1, 
     this.a = a; this.b = b; this.c = c; this.d = d; this.e = e; \
     this.f = f; this.g = g; this.h = h; this.i = i; this.j = j; } }";
 
+/// What stands behind the calls, where there are many.
+const MADE_CLASS: &str = "} } \
+    class C { final int a; final int b; final int c; final int d; final int e; \
+    final int f; final int g; final int h; final int i; final int j; \
+    C(int a, int b, int c, int d, int e, int f, int g, int h, int i, int j) { \
+    this.a = a; this.b = b; this.c = c; this.d = d; this.e = e; \
+    this.f = f; this.g = g; this.h = h; this.i = i; this.j = j; } }";
+
 /// A final local and ten empty statements.
 const LOCAL: &str = "class Main { void main() { final int x = 1; ;;;;;;;;;; } }";
 
@@ -117,6 +125,58 @@ fn arguments_with_many_paths_are_judged(rt: HostRuntime) -> Result<(), Fail> {
         "lit",
         ")))",
         "book refused: method 0 node 2: step\n",
+    )
+}
+
+/// How often `MADE`'s constructor is called, so that all ways that make trees would take too much work.
+const MANY: u32 = 3000;
+
+/// The source `MADE` with so many calls in its first method.
+fn many_made(alloc: Global) -> Result<String, Fail> {
+    let mut text = String::from_str(alloc, "class Main { void main() { ")?;
+    for _ in 0..MANY {
+        text.push_str("new C(1, 1, 1, 1, 1, 1, 1, 1, 1, 1); ")?;
+    }
+    text.push_str(MADE_CLASS)?;
+    Ok(text)
+}
+
+/// A book for it, whose method has this tree: each call's arguments have the ten trees.
+fn many_trees(alloc: Global, own: &str) -> Result<String, Fail> {
+    let mut text = table(alloc, own)?;
+    let nodes = ten_nodes(alloc, "lit")?;
+    text.push_str("method 0 0\n(block 0")?;
+    for _ in 0..MANY {
+        text.push_str(" (do 0 (new 0")?;
+        text.push_str(nodes.as_str())?;
+        text.push_str("))")?;
+    }
+    text.push_str(")\nend\n")?;
+    Ok(text)
+}
+
+#[test]
+fn many_nodes_with_many_paths_are_judged(rt: HostRuntime) -> Result<(), Fail> {
+    let source = many_made(rt.alloc())?;
+    let good = many_trees(rt.alloc(), "cmpd")?;
+    expect(
+        &rt,
+        rt.alloc(),
+        "verify",
+        source.as_str(),
+        good.as_bytes(),
+        0,
+        b"verified\n",
+    )?;
+    let wrong = many_trees(rt.alloc(), "atomic")?;
+    expect(
+        &rt,
+        rt.alloc(),
+        "verify",
+        source.as_str(),
+        wrong.as_bytes(),
+        11,
+        b"book refused: method 0 node 2: step\n",
     )
 }
 

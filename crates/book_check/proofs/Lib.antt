@@ -15,6 +15,7 @@ mod Admissible
 mod WalkLemmas
 mod AskedLemmas
 mod LineLemmas
+mod WorkLemmas
 mod VerdictLemmas
 mod PassLemmas
 pub mod CanonicalLemmas

@@ -1,9 +1,9 @@
 //! Whether the text of a book is good for a program.
-ghost use Rattle.std.specs.Prelude.{◌≡◌, ◌≢◌, ◌≤◌, ◌⊎◌, ℕ, List, length, map, Some, IfOk, IfErr, MatchResult};
+ghost use Rattle.std.specs.Prelude.{◌≡◌, ◌≢◌, ◌≤◌, ◌<◌, ◌⊎◌, ℕ, List, length, map, false, slice_get, Some, IfOk, IfErr, MatchResult};
 ghost use Rattle.core_program.specs.Typed.{IsTyped};
 ghost use Rattle.core_program.specs.Views.{program_of};
-ghost use Rattle.conditions.specs.Conditions.{cond_of};
-ghost use Rattle.books.specs.Books.{Book, AreTrees};
+ghost use Rattle.conditions.specs.Conditions.{cond_of, Cond};
+ghost use Rattle.books.specs.Books.{Book, Line, AreTrees};
 ghost use Rattle.books.specs.Memory.{book_of};
 ghost use Rattle.books.specs.Views.{IsCursorAt};
 ghost use Rattle.rules.specs.Near.{AreRelevant, loc_of, rel_of};
@@ -14,20 +14,27 @@ ghost use Rattle.books.specs.declared.stop.BookFault.{BookFault};
 ghost use Rattle.book_check.specs.Checks.{HasAdmissible, IsJudgedText, IsTextUnjudged};
 ghost use Rattle.book_check.specs.Faults.{IsUnjudged, IsWrongBook};
 ghost use Rattle.book_check.specs.NearBooks.{IsNearBook};
+ghost use Rattle.book_check.specs.BookWork.{book_work, most_work};
 ghost use Rattle.book_check.specs.Good.{book_assignment, IsGoodBook};
 ghost use Rattle.book_check.specs.declared.wrong.TextWrong.{TextWrong};
 ghost use Rattle.book_check.specs.declared.wrong.Wrong.{Wrong};
-ghost use Rattle.book_check.specs.Passes.{IsBookVerdict};
+ghost use Rattle.book_check.specs.Judges.{judge_near, judge_program, judge_table, AreCanonical};
+ghost use Rattle.book_check.specs.Nearness.{AreNear, AreOwnNear};
+ghost use Rattle.rules.specs.Overriding.{AreOverriders};
+ghost use Rattle.book_check.specs.Passes.{AreLinesJudged, IsBookVerdict};
 
+use crate::book_work::{MOST_WORK, is_little};
 use crate::checked::Checked;
 use crate::judge::Judge;
 use crate::passes::{lines, shapes};
+use crate::work::Work;
 use crate::wrong::{TextWrong, Wrong};
 use books::{BookCursor, BookFault, DerivBook, Lines, LinesInMemory, read_book};
 use conditions::Tree;
 use core_program::CoreProgram;
-use rules::{RelevantSets, overriders};
+use rules::{OverridingMethods, RelevantSets, overriders};
 use std::alloc::Global;
+use std::cell::Cell;
 use std::mem::forget;
 
 /// A program whose book was refused, with its relevant sets and the reason.
@@ -46,6 +53,42 @@ pub struct Refused {
     pub why: Wrong,
 }
 
+/// Whether a bound of work was met.
+fn is_work(fault: Wrong) -> bool
+    ensures { result ≡ false → fault ≢ Wrong.Work }
+{
+    matches!(fault, Wrong::Work)
+}
+
+/// The judgement of method lines: within a bound first, and with none where that is met by a book whose work is little.
+fn judged_lines<L: Lines>(
+    alloc: Global,
+    judge: &Judge<'_>,
+    over: &OverridingMethods,
+    from: L,
+) -> Result<(), Wrong>
+    requires kept { L.AreLinesKept from }
+    requires canonical { AreCanonical (judge_table judge.now) }
+    requires overriders { AreOverriders (judge_program judge.now) over.now }
+    ensures judged { (table : List Cond) → AreLinesJudged judge.now (record { table = table; lines = L.lines from }) result }
+    ensures near { AreOwnNear judge.now → ((m : ℕ) (line : Line) → slice_get (L.lines from) m ≡ Some line → AreNear (judge_near judge.now m) (judge_table judge.now) line.body) →
+        IfErr result (λ fault. fault ≢ Wrong.Work) }
+    ensures work { IfErr result (λ fault. fault ≡ Wrong.Work → most_work < book_work (judge_program judge.now) (record { table = judge_table judge.now; lines = L.lines from })) }
+{
+    let left = Cell::new(MOST_WORK);
+    let fault = match lines(alloc, Work::Bounded(&left), judge, over, from) {
+        Ok(()) => return Ok(()),
+        Err(fault) => fault,
+    };
+    if !is_work(fault) {
+        return Err(fault);
+    }
+    if is_little(judge.program, judge.table, from) {
+        return lines(alloc, Work::Unbounded, judge, over, from);
+    }
+    Err(fault)
+}
+
 /// The judgement of a book for a program, by its table and its method lines.
 fn judged_book<L: Lines>(
     alloc: Global,
@@ -58,6 +101,7 @@ fn judged_book<L: Lines>(
     requires trees { AreTrees (map cond_of table.now) }
     ensures verdict { IsBookVerdict (program_of program.now) (rel_of sets.now) (record { table = map cond_of table.now; lines = L.lines from }) result }
     ensures near { IsNearBook (rel_of sets.now) (loc_of sets.now) (record { table = map cond_of table.now; lines = L.lines from }) → IfErr result (λ why. why ≢ Wrong.Work) }
+    ensures work { IfErr result (λ why. why ≡ Wrong.Work → most_work < book_work (program_of program.now) (record { table = map cond_of table.now; lines = L.lines from })) }
 {
     let numbers = match shapes(alloc, program, from) {
         Ok(numbers) => numbers,
@@ -70,7 +114,7 @@ fn judged_book<L: Lines>(
         lines: numbers.as_slice(),
     };
     let over = overriders(alloc, program)?;
-    lines(alloc, &judge, &over, from)
+    judged_lines(alloc, &judge, &over, from)
 }
 
 /// The judgement of a book in memory.
@@ -82,6 +126,7 @@ fn judged_memory(
 ) -> Result<(), Wrong>
     ensures verdict { IsBookVerdict (program_of program.now) (rel_of sets.now) (book_of book.now) result }
     ensures near { IsNearBook (rel_of sets.now) (loc_of sets.now) (book_of book.now) → IfErr result (λ why. why ≢ Wrong.Work) }
+    ensures work { IfErr result (λ why. why ≡ Wrong.Work → most_work < book_work (program_of program.now) (book_of book.now)) }
 {
     let lines = LinesInMemory {
         lines: book.methods.as_slice(),
@@ -103,6 +148,7 @@ fn judged_and_kept(
 ) -> Result<(), TextWrong>
     ensures judged { (bytes : List ℕ) → IsBookText bytes (book_of book) → IsJudgedText (program_of program.now) (rel_of sets.now) bytes result }
     ensures near { IsNearBook (rel_of sets.now) (loc_of sets.now) (book_of book) → IfErr result (λ why. why ≢ TextWrong.Wrong Wrong.Work) }
+    ensures work { IfErr result (λ why. why ≡ TextWrong.Wrong Wrong.Work → most_work < book_work (program_of program.now) (book_of book)) }
 {
     let verdict = judged_memory(alloc, program, sets, &book);
     forget(book);
@@ -122,6 +168,7 @@ fn judged_at(
     requires { (book : Book) × IsCursorAt cursor book }
     ensures verdict { (book : Book) → IsCursorAt cursor.entry book → IsBookVerdict (program_of program.now) (rel_of sets.now) book result }
     ensures near { (book : Book) → IsCursorAt cursor.entry book → IsNearBook (rel_of sets.now) (loc_of sets.now) book → IfErr result (λ why. why ≢ Wrong.Work) }
+    ensures work { (book : Book) → IsCursorAt cursor.entry book → IfErr result (λ why. why ≡ Wrong.Work → most_work < book_work (program_of program.now) book) }
 {
     let table = match cursor.table(alloc) {
         Ok(table) => table,
@@ -140,6 +187,7 @@ fn judged_in_place(
     requires { length bytes.now ≤ 16777216 }
     ensures judged { IsJudgedText (program_of program.now) (rel_of sets.now) bytes.now result }
     ensures near { (book : Book) → IsBookText bytes.now book → IsNearBook (rel_of sets.now) (loc_of sets.now) book → IfErr result (λ why. why ≢ TextWrong.Wrong Wrong.Work) }
+    ensures work { (book : Book) → IsBookText bytes.now book → IfErr result (λ why. why ≡ TextWrong.Wrong Wrong.Work → most_work < book_work (program_of program.now) book) }
 {
     let cursor = match BookCursor::open(bytes) {
         Ok(cursor) => cursor,
@@ -162,6 +210,7 @@ fn judged(
     requires { length bytes.now ≤ 16777216 }
     ensures judged { IsJudgedText (program_of program.now) (rel_of sets.now) bytes.now result }
     ensures near { (book : Book) → IsBookText bytes.now book → IsNearBook (rel_of sets.now) (loc_of sets.now) book → IfErr result (λ why. why ≢ TextWrong.Wrong Wrong.Work) }
+    ensures work { (book : Book) → IsBookText bytes.now book → IfErr result (λ why. why ≡ TextWrong.Wrong Wrong.Work → most_work < book_work (program_of program.now) book) }
 {
     if bytes.len() > MOST_IN_MEMORY {
         return judged_in_place(alloc, program, sets, bytes);
@@ -204,6 +253,10 @@ pub fn accept_text(
     // A book each of whose trees tests only paths near its method meets no bound of work.
     ensures near { (book : Book) → IsBookText bytes.now book → IsNearBook (rel_of sets) (loc_of sets) book →
         IfErr result (λ refused. refused.why ≢ TextWrong.Wrong Wrong.Work) }
+
+    // A bound of work is met only where the work of the book is above it.
+    ensures work { (book : Book) → IsBookText bytes.now book →
+        IfErr result (λ refused. refused.why ≡ TextWrong.Wrong Wrong.Work → most_work < book_work (program_of program) book) }
 {
     // Only the proof needs this: no method has too many paths.
     sets.few();
@@ -238,6 +291,9 @@ pub fn accept(
 
     // A book each of whose trees tests only paths near its method meets no bound of work.
     ensures near { IsNearBook (rel_of sets) (loc_of sets) (book_of book.now) → IfErr result (λ refused. refused.why ≢ Wrong.Work) }
+
+    // A bound of work is met only where the work of the book is above it.
+    ensures work { IfErr result (λ refused. refused.why ≡ Wrong.Work → most_work < book_work (program_of program) (book_of book.now)) }
 {
     // Only the proof needs this: no method has too many paths.
     sets.few();

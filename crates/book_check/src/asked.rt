@@ -6,6 +6,7 @@ ghost use Rattle.book_check.specs.Judges.{judge_assignment, judge_program, judge
 ghost use Rattle.book_check.specs.Parts.{FitsPart};
 ghost use Rattle.book_check.specs.Nearness.{steps_near, AreNear, AreOwnNear};
 ghost use Rattle.book_check.specs.Good.{IsStep};
+ghost use Rattle.book_check.specs.Works.{IsUnbounded};
 
 use crate::parts::{part_word, same_length};
 use crate::refusal::Refusal;
@@ -35,6 +36,8 @@ impl Asked for Shapes {
 
     ghost IsNear = { λ s d. Unit {0} };
 
+    ghost IsFree = { λ s. Unit {0} };
+
     ghost IsReady = { λ s. Unit {0} };
 
     fn is_good<F: Nodes>(
@@ -54,6 +57,8 @@ impl<'a> Asked for Steps<'a> {
     ghost IsGood = { λ s x. IsStep (judge_program s.judge.now) (judge_rel s.judge.now) (judge_value s.judge.now) (judge_assignment s.judge.now) x };
 
     ghost IsNear = { λ s d. AreOwnNear s.judge.now × AreNear (steps_near s) (judge_table s.judge.now) d };
+
+    ghost IsFree = { λ s. IsUnbounded s.left };
 
     ghost IsReady = { λ s. AreCanonical (judge_table s.judge.now) };
 

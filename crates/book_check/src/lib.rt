@@ -8,11 +8,13 @@
 mod acceptance;
 mod accesses;
 mod asked;
+mod book_work;
 mod branching;
 mod chain;
 mod charged;
 mod checked;
 mod judge;
+mod leaves;
 mod line;
 mod lookups;
 mod names;
@@ -32,9 +34,10 @@ mod wrong;
 
 pub use acceptance::{Refused, RefusedText, accept, accept_text};
 pub use accesses::access;
+pub use book_work::MOST_WORK;
 pub use checked::Checked;
 pub use judge::Judge;
-pub use lookups::{assigned, conclusion, is_near, is_own_near, line_number, tree_at};
+pub use lookups::{conclusion, is_near, is_own_near, line_number, tree_at};
 pub use names::{call_name, tests_either, tests_only, where_held, within};
 pub use parts::{part_word, same_length};
 pub use refusal::Refusal;

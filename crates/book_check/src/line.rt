@@ -1,23 +1,20 @@
 //! The judgement of one method line beside its method.
-ghost use Rattle.std.specs.Prelude.{◌≡◌, ◌↔◌, ◌&&◌, ℕ, true, map, slice_get, Contains, IfErr, IfOk};
-ghost use Rattle.algebra.specs.declared.basic.Basic.TheVariants.{Const};
+ghost use Rattle.std.specs.Prelude.{◌≡◌, ◌↔◌, ◌&&◌, ℕ, true, Contains, IfErr, IfOk};
 ghost use Rattle.algebra.specs.Basics.{below_of};
-ghost use Rattle.algebra.specs.HeldPaths.{Held, has_path};
-ghost use Rattle.conditions.specs.Conditions.{cond_of, value_of, IsCanonical, LeafC};
+ghost use Rattle.algebra.specs.HeldPaths.{has_path};
+ghost use Rattle.conditions.specs.Conditions.{cond_of, value_of, IsCanonical};
 ghost use Rattle.core_program.specs.Views.{method_of};
 ghost use Rattle.books.specs.Derivations.{node};
 ghost use Rattle.rules.specs.Rules.{declared_bound};
 ghost use Rattle.rules.specs.Overriding.{AreOverriders};
 ghost use Rattle.book_check.specs.Faults.{IsLineVerdict};
-ghost use Rattle.book_check.specs.Conclusions.{tree_numbered};
 ghost use Rattle.book_check.specs.Good.{IsAntitoneValue, IsTabled, IsUnder, IsUnderIn};
-ghost use Rattle.book_check.specs.Conclusions.{table_value};
 ghost use Rattle.book_check.specs.declared.refusal.Refusal.{Refusal};
 ghost use Rattle.book_check.specs.Works.{IsUnbounded};
 ghost use Rattle.book_check.specs.Judges.{judge_assignment, judge_program, judge_rel, judge_table, judge_value, own_near, AreCanonical};
 ghost use Rattle.book_check.specs.Nearness.{is_near as is_near_of, steps_near, AreNear, AreOwnNear};
 
-use crate::lookups::{assigned, conclusion, is_near, is_own_near, tree_at};
+use crate::lookups::{conclusion, is_near, is_own_near, line_tree, tree_or};
 use crate::names::{tests_only, where_held, within};
 use crate::refusal::Refusal;
 use crate::steps::Steps;
@@ -33,7 +30,6 @@ use effects::BodyPart;
 use paths::{MethodId, Path};
 use rules::{OverridingMethods, bound_of};
 use std::alloc::Global;
-use std::cell::Cell;
 
 /// Whether all three hold.
 fn all_three(first: bool, second: bool, third: bool) -> bool
@@ -71,29 +67,15 @@ fn is_tabled(rel: &[Path], t: &Tree) -> bool
     falls(t)
 }
 
-/// The tree with this number; `none`, which is const, where there is none.
-fn tree_or<'a>(table: &'a [Tree], number: u32, none: &'a Tree) -> &'a Tree
-    requires canonical { AreCanonical (map cond_of table.now) }
-    requires none { cond_of none.now ≡ LeafC Const }
-    ensures known { IsCanonical (cond_of result.now) }
-    ensures tree { cond_of result.now ≡ tree_numbered (slice_get (map cond_of table.now) number) }
-    ensures value { (H : Held) → value_of (cond_of result.now) H ≡ table_value (map cond_of table.now) number H }
-{
-    match tree_at(table, number) {
-        Some(tree) => tree,
-        None => none,
-    }
-}
-
 /// The work on trees: without a bound where they are near the method.
-fn work_on<'a>(near: bool, left: &'a Cell<u32>) -> Work<'a>
-    ensures { near ≡ true → IsUnbounded result }
+fn work_on<'a>(near: bool, left: Work<'a>) -> Work<'a>
+    ensures near { near ≡ true → IsUnbounded result }
+    ensures free { IsUnbounded left.entry → IsUnbounded result }
 {
     if near {
-        Work::Unbounded
-    } else {
-        Work::Bounded(left)
+        return Work::Unbounded;
     }
+    left
 }
 
 /// Whether the body's conclusion is at or below the method's tree, which tests relevant paths only, wherever the required paths are
@@ -108,6 +90,7 @@ fn is_under(
     requires { AreCanonical (judge_table steps.now.judge.now) }
     ensures under { IfOk result (λ b. (b ≡ true) ↔ IsUnder required.now (judge_value steps.now.judge.now body) (judge_value steps.now.judge.now own)) }
     ensures near { is_near_of (steps_near steps.now) (judge_table steps.now.judge.now) body ≡ true → IfErr result (λ e. e ≡ Refusal.NoMemory) }
+    ensures free { IsUnbounded steps.now.left → IfErr result (λ e. e ≡ Refusal.NoMemory) }
 {
     let judge = steps.judge;
     let work = work_on(is_near(judge, steps.method, body), steps.left);
@@ -131,11 +114,13 @@ fn is_under_in(
     requires { AreCanonical (judge_table steps.now.judge.now) }
     ensures under { IfOk result (λ b. (b ≡ true) ↔ IsUnderIn rel.now required.now (judge_assignment steps.now.judge.now over) (judge_value steps.now.judge.now own)) }
     ensures near { own_near steps.now.judge.now over ≡ true → IfErr result (λ e. e ≡ Refusal.NoMemory) }
+    ensures free { IsUnbounded steps.now.left → IfErr result (λ e. e ≡ Refusal.NoMemory) }
 {
     let judge = steps.judge;
     let work = work_on(is_own_near(judge, over), steps.left);
-    let tree = assigned(alloc, work, judge, over)?;
-    let there = within(alloc, work, rel, &tree)?;
+    let none = Tree::Leaf(Basic::Const);
+    let tree = line_tree(judge.table, judge.lines, over, &none);
+    let there = within(alloc, work, rel, tree)?;
     let own = conclusion(alloc, work, judge, own)?;
     let wherever = where_held(alloc, work, required, own)?;
     let here = within(alloc, work, rel, &wherever)?;
@@ -155,6 +140,7 @@ fn are_under_in(
     ensures under { IfOk result (λ b. (b ≡ true) ↔ ((over : ℕ) → Contains overs.now over →
         IsUnderIn rel.now required.now (judge_assignment steps.now.judge.now over) (judge_value steps.now.judge.now own))) }
     ensures near { AreOwnNear steps.now.judge.now → IfErr result (λ e. e ≡ Refusal.NoMemory) }
+    ensures free { IsUnbounded steps.now.left → IfErr result (λ e. e ≡ Refusal.NoMemory) }
 {
     for over in overs {
         if !is_under_in(alloc, steps, rel, required, *over, own)? {
@@ -189,6 +175,7 @@ pub(crate) fn line_verdict<L: Lines>(
         (method_of method.now) (record { id = line.now.id; number = line.now.number; body = node line.now.word line.now.node (L.Premises.nodes line.now.premises) })) }
     ensures near { AreOwnNear steps.now.judge.now → AreNear (steps_near steps.now) (judge_table steps.now.judge.now) (node line.now.word line.now.node (L.Premises.nodes line.now.premises)) →
         IfErr result (λ e. e ≡ Refusal.NoMemory) }
+    ensures free { IsUnbounded steps.now.left → IfErr result (λ e. e ≡ Refusal.NoMemory) }
 {
     let judge = steps.judge;
     let m = steps.method;

@@ -1,11 +1,12 @@
 //! Trees by their numbers, and the trees of method lines.
 ghost use Rattle.std.specs.Prelude.{◌≡◌, IfErr, IfOk, MatchOption, None, Some, map, slice_get};
 ghost use Rattle.algebra.specs.HeldPaths.{Held};
-ghost use Rattle.conditions.specs.Conditions.{cond_of, value_of, IsCanonical};
+ghost use Rattle.algebra.specs.declared.basic.Basic.TheVariants.{Const};
+ghost use Rattle.conditions.specs.Conditions.{cond_of, value_of, IsCanonical, LeafC};
 ghost use Rattle.book_check.specs.declared.refusal.Refusal.{Refusal};
 ghost use Rattle.book_check.specs.Works.{IsUnbounded};
-ghost use Rattle.book_check.specs.Conclusions.{tree_numbered, tests_only as tests_only_of};
-ghost use Rattle.book_check.specs.Judges.{judge_near, judge_table, judge_value, judge_assignment, own_near, AreCanonical};
+ghost use Rattle.book_check.specs.Conclusions.{table_value, tree_numbered, tests_only as tests_only_of};
+ghost use Rattle.book_check.specs.Judges.{judge_near, judge_table, judge_value, number_value, own_near, AreCanonical};
 
 use crate::judge::Judge;
 use crate::names::{tests_either, tests_only};
@@ -50,21 +51,34 @@ pub fn conclusion(
     }
 }
 
-/// The tree of a method's line; const where there is none.
-pub fn assigned(
-    alloc: Global,
-    work: Work<'_>,
-    judge: &Judge<'_>,
-    m: MethodId,
-) -> Result<Tree, Refusal>
-    requires { AreCanonical (judge_table judge.now) }
-    ensures known { IfOk result (λ r. IsCanonical (cond_of r)) }
-    ensures value { IfOk result (λ r. (H : Held) → value_of (cond_of r) H ≡ judge_assignment judge.now m H) }
-    ensures unbounded { IsUnbounded work.entry → IfErr result (λ e. e ≡ Refusal.NoMemory) }
+/// The tree with this number; `none`, which is const, where there is none.
+pub(crate) fn tree_or<'a>(table: &'a [Tree], number: u32, none: &'a Tree) -> &'a Tree
+    requires canonical { AreCanonical (map cond_of table.now) }
+    requires none { cond_of none.now ≡ LeafC Const }
+    ensures known { IsCanonical (cond_of result.now) }
+    ensures tree { cond_of result.now ≡ tree_numbered (slice_get (map cond_of table.now) number) }
+    ensures value { (H : Held) → value_of (cond_of result.now) H ≡ table_value (map cond_of table.now) number H }
 {
-    match line_number(judge.lines, m) {
-        Some(number) => conclusion(alloc, work, judge, number),
-        None => Ok(leaf(Basic::Const)),
+    match tree_at(table, number) {
+        Some(tree) => tree,
+        None => none,
+    }
+}
+
+/// The tree of a method's line, which no copy is made of; `none`, which is const, where there is none.
+pub(crate) fn line_tree<'a>(
+    table: &'a [Tree],
+    lines: &[u32],
+    m: MethodId,
+    none: &'a Tree,
+) -> &'a Tree
+    requires canonical { AreCanonical (map cond_of table.now) }
+    requires none { cond_of none.now ≡ LeafC Const }
+    ensures value { (H : Held) → value_of (cond_of result.now) H ≡ number_value (map cond_of table.now) (slice_get lines.now m) H }
+{
+    match line_number(lines, m) {
+        Some(number) => tree_or(table, number, none),
+        None => none,
     }
 }
 

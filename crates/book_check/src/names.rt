@@ -128,7 +128,7 @@ fn own_name(paths: &[Path], path: &Path) -> Option<Path>
     }
 }
 
-/// The value of a tree where no path counts as held but these.
+/// The value of a tree where no path counts as held but these; what stands where another one is held isn't looked at.
 fn among(alloc: Global, work: Work<'_>, paths: &[Path], t: &Tree) -> Result<Tree, Refusal>
     ensures known { IfOk result (λ r. IsCanonical (cond_of r)) }
     ensures value { IfOk result (λ r. (H : Held) →
@@ -138,10 +138,12 @@ fn among(alloc: Global, work: Work<'_>, paths: &[Path], t: &Tree) -> Result<Tree
     match t {
         Tree::Leaf(basic) => Ok(leaf(*basic)),
         Tree::Test(path, a, b) => {
+            let Some(name) = own_name(paths, path) else {
+                return among(alloc, work, paths, b);
+            };
             let held = among(alloc, work, paths, a)?;
             let free = among(alloc, work, paths, b)?;
-            let name = own_name(paths, path);
-            held_or(alloc, work, name.as_ref(), &held, &free)
+            held_or(alloc, work, Some(&name), &held, &free)
         }
     }
 }
@@ -172,7 +174,8 @@ pub fn call_name(
     }
 }
 
-/// The value of a callee's tree at the set that the callee begins with.
+/// The value of a callee's tree at the set that the callee begins with. A path that has no name here counts as not held, so that what
+/// stands where it is held isn't looked at.
 pub(crate) fn at_call(
     alloc: Global,
     work: Work<'_>,
@@ -189,10 +192,12 @@ pub(crate) fn at_call(
     match t {
         Tree::Leaf(basic) => Ok(leaf(*basic)),
         Tree::Test(path, a, b) => {
+            let Some(name) = call_name(rel, receiver, args, path) else {
+                return at_call(alloc, work, rel, receiver, args, b);
+            };
             let held = at_call(alloc, work, rel, receiver, args, a)?;
             let free = at_call(alloc, work, rel, receiver, args, b)?;
-            let name = call_name(rel, receiver, args, path);
-            held_or(alloc, work, name.as_ref(), &held, &free)
+            held_or(alloc, work, Some(&name), &held, &free)
         }
     }
 }

@@ -9,6 +9,7 @@ ghost use Rattle.books.specs.Books.{Line};
 ghost use Rattle.book_check.specs.Judges.{judge_near, judge_program, judge_table, AreCanonical};
 ghost use Rattle.book_check.specs.Nearness.{AreNear, AreOwnNear};
 ghost use Rattle.book_check.specs.declared.wrong.Wrong.{Wrong};
+ghost use Rattle.book_check.specs.Works.{IsUnbounded};
 ghost use Rattle.book_check.specs.Passes.{AreAllShaped, AreLinesJudged, IsFirstNear, IsLineStep, IsShapeStep};
 
 use crate::asked::Shapes;
@@ -16,6 +17,7 @@ use crate::judge::Judge;
 use crate::line::line_verdict;
 use crate::steps::Steps;
 use crate::walk::{End, walk_node};
+use crate::work::Work;
 use crate::wrong::Wrong;
 use books::Lines;
 use core_program::{CoreMethod, CoreProgram};
@@ -23,10 +25,6 @@ use effects::BodyPart;
 use paths::MethodId;
 use rules::OverridingMethods;
 use std::alloc::{AllocError as NoMemory, Global};
-use std::cell::Cell;
-
-/// How many pairs of subtrees all operations may visit on trees that aren't near their method.
-const MOST_WORK: u32 = 1 << 26;
 
 /// Whether an id is this number.
 fn is_method(id: MethodId, m: u32) -> bool
@@ -102,9 +100,10 @@ pub(crate) fn shapes<L: Lines>(
     }
 }
 
-/// The second pass: method by method the tree, the steps, the overriding methods' trees and the bound of its line.
+/// The second pass, within this work: method by method the tree, the steps, the overriding methods' trees and the bound of its line.
 pub(crate) fn lines<L: Lines>(
     alloc: Global,
+    work: Work<'_>,
     judge: &Judge<'_>,
     over: &OverridingMethods,
     from: L,
@@ -115,13 +114,13 @@ pub(crate) fn lines<L: Lines>(
     ensures judged { (table : List Cond) → AreLinesJudged judge.now (record { table = table; lines = L.lines from }) result }
     ensures near { AreOwnNear judge.now → ((m : ℕ) (line : Line) → slice_get (L.lines from) m ≡ Some line → AreNear (judge_near judge.now m) (judge_table judge.now) line.body) →
         IfErr result (λ fault. fault ≢ Wrong.Work) }
+    ensures free { IsUnbounded work.entry → IfErr result (λ fault. fault ≢ Wrong.Work) }
 {
-    let left = Cell::new(MOST_WORK);
     let mut ahead = from;
     let mut rest = judge.program.methods();
     let mut m = 0;
     'methods: while let Some((method, others)) = rest.split_first() {
-        match next_verdict(alloc, &left, judge, over, m, method, ahead) {
+        match next_verdict(alloc, work, judge, over, m, method, ahead) {
             Ok(behind) => ahead = behind,
             Err(wrong) => return Err(wrong),
         }
@@ -134,7 +133,7 @@ pub(crate) fn lines<L: Lines>(
 /// The judgement of the first method line, which is that of this method, at this position; and the other lines.
 fn next_verdict<L: Lines>(
     alloc: Global,
-    left: &Cell<u32>,
+    left: Work<'_>,
     judge: &Judge<'_>,
     over: &OverridingMethods,
     m: u32,
@@ -148,6 +147,7 @@ fn next_verdict<L: Lines>(
     ensures kept { IfOk result L.AreLinesKept }
     ensures near { AreOwnNear judge.now → IsFirstNear (judge_near judge.now m) (judge_table judge.now) (L.lines from) →
         IfErr result (λ fault. fault ≢ Wrong.Work) }
+    ensures free { IsUnbounded left.entry → IfErr result (λ fault. fault ≢ Wrong.Work) }
 {
     let Some(line) = from.first_line() else {
         return Err(Wrong::Memory);

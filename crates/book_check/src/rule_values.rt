@@ -20,7 +20,7 @@ ghost use Rattle.effects.specs.Bodies.{part_of};
 
 use crate::charged::Charged;
 use crate::judge::Judge;
-use crate::lookups::{assigned, conclusion};
+use crate::lookups::{conclusion, line_tree};
 use crate::names::{at_call, before, with_required};
 use crate::refusal::Refusal;
 use crate::values::seq;
@@ -85,8 +85,9 @@ fn call_by_paths(
     ensures unbounded { IsUnbounded work.entry → IfErr result (λ e. e ≡ Refusal.NoMemory) }
 {
     let rel = judge.sets.rel(callee);
-    let tree = assigned(alloc, work, judge, callee)?;
-    let value = at_call(alloc, work, rel, receiver, args, &tree)?;
+    let none = Tree::Leaf(Basic::Const);
+    let tree = line_tree(judge.table, judge.lines, callee, &none);
+    let value = at_call(alloc, work, rel, receiver, args, tree)?;
     with_required(
         alloc,
         work,

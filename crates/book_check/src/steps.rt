@@ -34,12 +34,12 @@ use std::cell::Cell;
 /// How many pairs of subtrees the step of a node may visit where no tree is made for its value. What needs more is begun anew.
 const LITTLE: u32 = 1 << 8;
 
-/// What the steps of a method's derivation are judged by, and how much work may be made where they aren't near the method.
+/// What the steps of a method's derivation are judged by, and the work that may be made where they aren't near the method.
 #[derive(Clone, Copy)]
 pub struct Steps<'a> {
     pub judge: &'a Judge<'a>,
     pub method: MethodId,
-    pub left: &'a Cell<u32>,
+    pub left: Work<'a>,
 }
 
 /// The numbers of the conclusions of nodes.
@@ -112,7 +112,7 @@ fn is_step_by_little(
         AtMost (rule_of (judge_program steps.now.judge.now) (judge_rel steps.now.judge.now) (judge_assignment steps.now.judge.now) (part_of part.entry) (map (judge_value steps.now.judge.now) numbers.now) H) (value_of (cond_of d.now) H))) }
 {
     let left = Cell::new(LITTLE);
-    let work = Work::Bounded(steps.left);
+    let work = steps.left;
     let little = Work::Bounded(&left);
     match is_step_by_pairs(alloc, work, little, steps.judge, part, numbers, d) {
         Ok(is) => Some(is),
@@ -139,6 +139,28 @@ fn is_step_by_work(
         Ok(is) => Ok(is),
         Err(Refusal::Work) => Err(Refusal::Work),
         Err(Refusal::NoMemory) => Ok(is_step_by_pairs(alloc, work, work, judge, part, numbers, d)?),
+    }
+}
+
+/// Whether a tree is at or above the value that a part's rule gives, within no bound: with no tree for that value where that can be told.
+fn is_step_freely(
+    alloc: Global,
+    judge: &Judge<'_>,
+    part: BodyPart<'_>,
+    numbers: &[u32],
+    d: &Tree,
+) -> Result<bool, Refusal>
+    requires canonical { AreCanonical (judge_table judge.now) }
+    requires known { IsCanonical (cond_of d.now) }
+    ensures step { IfOk result (λ b. (b ≡ true) ↔ ((H : Held) →
+        AtMost (rule_of (judge_program judge.now) (judge_rel judge.now) (judge_assignment judge.now) (part_of part.entry) (map (judge_value judge.now) numbers.now) H) (value_of (cond_of d.now) H))) }
+    ensures free { IfErr result (λ e. e ≡ Refusal.NoMemory) }
+{
+    let work = Work::Unbounded;
+    match is_step_by_pairs(alloc, work, work, judge, part, numbers, d) {
+        Ok(is) => Ok(is),
+        Err(Stuck::NoMemory) => Err(Refusal::NoMemory),
+        Err(Stuck::Undecided) => is_step_by_value(alloc, work, judge, part, numbers, d),
     }
 }
 
@@ -186,6 +208,7 @@ fn is_above_rule(
         AtMost (rule_of (judge_program steps.now.judge.now) (judge_rel steps.now.judge.now) (judge_assignment steps.now.judge.now) (part_of part.entry) (map (judge_value steps.now.judge.now) numbers.now) H) (value_of (cond_of d.now) H))) }
     ensures near { AreOwnNear steps.now.judge.now → tests_only (steps_near steps.now) (cond_of d.now) ≡ true →
         list_all (is_near_of (steps_near steps.now) (judge_table steps.now.judge.now)) numbers.now ≡ true → IfErr result (λ e. e ≡ Refusal.NoMemory) }
+    ensures free { IsUnbounded steps.now.left → IfErr result (λ e. e ≡ Refusal.NoMemory) }
 {
     if is_step_at_end(alloc, steps.judge, part, numbers, d) {
         return Ok(true);
@@ -196,14 +219,10 @@ fn is_above_rule(
     if is_step_near(steps, part, numbers, d) {
         return is_step_by_value(alloc, Work::Unbounded, steps.judge, part, numbers, d);
     }
-    is_step_by_work(
-        alloc,
-        Work::Bounded(steps.left),
-        steps.judge,
-        part,
-        numbers,
-        d,
-    )
+    let Work::Bounded(_) = steps.left else {
+        return is_step_freely(alloc, steps.judge, part, numbers, d);
+    };
+    is_step_by_work(alloc, steps.left, steps.judge, part, numbers, d)
 }
 
 /// Whether a node's conclusion is at or above its rule's value. Want of memory where its number has no tree, which no book has. A node
@@ -222,6 +241,7 @@ pub fn is_step<F: Nodes>(
         AtMost (rule_of (judge_program steps.now.judge.now) (judge_rel steps.now.judge.now) (judge_assignment steps.now.judge.now) (part_of part.entry) (conclusions (judge_value steps.now.judge.now) (F.nodes premises)) H) (judge_value steps.now.judge.now number H))) }
     ensures near { AreOwnNear steps.now.judge.now → is_near_of (steps_near steps.now) (judge_table steps.now.judge.now) number ≡ true →
         AreAllNear (steps_near steps.now) (judge_table steps.now.judge.now) (F.nodes premises) → IfErr result (λ e. e ≡ Refusal.NoMemory) }
+    ensures free { IsUnbounded steps.now.left → IfErr result (λ e. e ≡ Refusal.NoMemory) }
 {
     let judge = steps.judge;
     let Some(d) = tree_at(judge.table, number) else {

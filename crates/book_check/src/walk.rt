@@ -29,6 +29,9 @@ pub(crate) trait Asked {
     /// Where no bound of work is met.
     ghost IsNear: { Self → Node → Type 0 };
 
+    /// Who meets no bound of work anywhere.
+    ghost IsFree: { Self → Type 0 };
+
     /// What holds of whoever asks.
     ghost IsReady: { Self → Type 0 };
 
@@ -44,7 +47,8 @@ pub(crate) trait Asked {
         requires kept { F.AreKept premises }
         requires ready { IsReady self.now }
         ensures good { IfOk result (λ b. (b ≡ true) ↔ IsGood self.now (record { part = part_of part.entry; at = node word number (F.nodes premises) })) }
-        ensures near { IsNear self.now (node word number (F.nodes premises)) → IfErr result (λ e. e ≡ Refusal.NoMemory) };
+        ensures near { IsNear self.now (node word number (F.nodes premises)) → IfErr result (λ e. e ≡ Refusal.NoMemory) }
+        ensures free { IsFree self.now → IfErr result (λ e. e ≡ Refusal.NoMemory) };
 }
 
 /// The next number; want of memory where there is none, which comes with no book that fits 16,777,216 bytes.
@@ -72,6 +76,7 @@ pub(crate) fn walk_node<F: Nodes, J: Asked>(
     requires ready { J.IsReady asked.now }
     ensures end { IfOk result (λ e. IsWalkEnd (J.IsGood asked.now) (places (part_of part.entry) (node word number (F.nodes premises))) at e) }
     ensures near { AllNodes (J.IsNear asked.now) (node word number (F.nodes premises)) → IfErr result (λ e. e ≡ Refusal.NoMemory) }
+    ensures free { J.IsFree asked.now → IfErr result (λ e. e ≡ Refusal.NoMemory) }
 {
     let next = after(at)?;
     if !asked.is_good(alloc, part, word, number, premises)? {
@@ -93,6 +98,7 @@ fn walk_premises<F: Nodes, J: Asked>(
     requires ready { J.IsReady asked.now }
     ensures end { IfOk result (λ e. IsWalkEnd (J.IsGood asked.now) (places_of (list_of parts.entry) (F.nodes premises)) at e) }
     ensures near { AllIn (J.IsNear asked.now) (F.nodes premises) → IfErr result (λ e. e ≡ Refusal.NoMemory) }
+    ensures free { J.IsFree asked.now → IfErr result (λ e. e ≡ Refusal.NoMemory) }
 {
     let mut parts = parts;
     let mut rest = premises;

@@ -20,11 +20,11 @@ pub enum Wrong {
     Bound { method: u32 },
     /// There was no memory for the judgement.
     Memory,
-    /// The judgement would take more work than it may.
-    Work,
     /// The tree of a method that overrides this one isn't at or below its tree, at some part of its relevant paths that has its
     /// required ones.
     Override { method: u32 },
+    /// The judgement would take more work than it may.
+    Work,
 }
 
 /// What is wrong with a text: it is no book's, or its book is wrong for the program.

@@ -7,8 +7,8 @@ use Rattle.rules.specs.Near.{rel_of}
 use Rattle.book_check.proofs.CanonicalLemmas.{judged_is, nodes_are_near, own_are_near, trees_canonical}
 use Rattle.book_check.proofs.acceptance.judged_book.Goals as goal
 
-pub lines-requires-clause-canonical : goal.lines-requires-clause-canonical
-lines-requires-clause-canonical g c = trees_canonical (map cond_of c.args.table.now) c.requires.trees
+pub judged_lines-requires-clause-canonical : goal.judged_lines-requires-clause-canonical
+judged_lines-requires-clause-canonical g c = trees_canonical (map cond_of c.args.table.now) c.requires.trees
 
 pub returns-clause-verdict : goal.returns-clause-verdict
 returns-clause-verdict g c =
@@ -16,7 +16,7 @@ returns-clause-verdict g c =
     let lines = g.L.Lines.lines c.args.from in
     let shaped = c.in-Ok.ensures.shaped (rel_of c.args.sets.now) table in
     judged_is (record { program = c.args.program; sets = c.args.sets; table = c.args.table; lines = c.as_slice.result }) (record { table = table; lines = lines }) refl
-    (c.as_slice.ensures.value ∙ shaped.0) shaped.1 shaped.2 c.lines.result (c.lines.ensures.judged table)
+    (c.as_slice.ensures.value ∙ shaped.0) shaped.1 shaped.2 c.judged_lines.result (c.judged_lines.ensures.judged table)
 
 pub returns-clause-near : goal.returns-clause-near
 returns-clause-near g c = λ near.
@@ -26,7 +26,7 @@ returns-clause-near g c = λ near.
     let shaped = c.in-Ok.ensures.shaped (rel_of c.args.sets.now) table in
     let judge : Judge = record { program = c.args.program; sets = c.args.sets; table = c.args.table; lines = c.as_slice.result } in
     let numbers = c.as_slice.ensures.value ∙ shaped.0 in
-    c.lines.ensures.near (own_are_near judge book refl numbers near) (nodes_are_near judge book refl numbers near)
+    c.judged_lines.ensures.near (own_are_near judge book refl numbers near) (nodes_are_near judge book refl numbers near)
 
 pub returns-in-Err-clause-verdict : goal.returns-in-Err-clause-verdict
 returns-in-Err-clause-verdict g c = c.in-Err.ensures.shaped (rel_of c.args.sets.now) (map cond_of c.args.table.now)

@@ -18,5 +18,5 @@ returns-clause-under c =
     let V = judge_value c.args.steps.now.judge.now in
     ok_iff c.below.result ((H : Held) → AtMost (there H) (here H)) (IsUnderIn rel c.args.required.now (A c.args.over) (V c.args.own))
     (under_in_is rel c.args.required.now there here own (A c.args.over) (V c.args.own)
-    (λ H. c.in_ok-there.ensures.value H ∙ c.in_ok-tree.ensures.value (held_in rel H)) (λ H. c.in_ok-here.ensures.value H ∙ c.in_ok-wherever.ensures.value (held_in rel H)) (λ H. c.in_ok-own.ensures.value H))
+    (λ H. c.in_ok-there.ensures.value H ∙ c.line_tree-tree.ensures.value (held_in rel H)) (λ H. c.in_ok-here.ensures.value H ∙ c.in_ok-wherever.ensures.value (held_in rel H)) (λ H. c.in_ok-own.ensures.value H))
     c.below.ensures.below
