@@ -3,6 +3,7 @@ pub mod NameLemmas
 pub mod BlockLemmas
 pub mod PremiseLemmas
 -- The lemmas that several proofs share.
+mod SplitLemmas
 mod PairLemmas
 mod BranchLemmas
 mod ChainLemmas

@@ -79,5 +79,5 @@ abbrev pub book_work : Program → Book → ℕ
 book_work P book = lines_work book.table P.methods book.lines
 
 -- a book with no more work than this is judged, whatever its trees test
-abbrev pub most_work : ℕ
-most_work = 67108864
+abbrev pub most_book_work : ℕ
+most_book_work = 67108864

@@ -14,7 +14,7 @@ ghost use Rattle.books.specs.declared.stop.BookFault.{BookFault};
 ghost use Rattle.book_check.specs.Checks.{HasAdmissible, IsJudgedText, IsTextUnjudged};
 ghost use Rattle.book_check.specs.Faults.{IsUnjudged, IsWrongBook};
 ghost use Rattle.book_check.specs.NearBooks.{IsNearBook};
-ghost use Rattle.book_check.specs.BookWork.{book_work, most_work};
+ghost use Rattle.book_check.specs.BookWork.{book_work, most_book_work};
 ghost use Rattle.book_check.specs.Good.{book_assignment, IsGoodBook};
 ghost use Rattle.book_check.specs.declared.wrong.TextWrong.{TextWrong};
 ghost use Rattle.book_check.specs.declared.wrong.Wrong.{Wrong};
@@ -73,7 +73,7 @@ fn judged_lines<L: Lines>(
     ensures judged { (table : List Cond) → AreLinesJudged judge.now (record { table = table; lines = L.lines from }) result }
     ensures near { AreOwnNear judge.now → ((m : ℕ) (line : Line) → slice_get (L.lines from) m ≡ Some line → AreNear (judge_near judge.now m) (judge_table judge.now) line.body) →
         IfErr result (λ fault. fault ≢ Wrong.Work) }
-    ensures work { IfErr result (λ fault. fault ≡ Wrong.Work → most_work < book_work (judge_program judge.now) (record { table = judge_table judge.now; lines = L.lines from })) }
+    ensures work { IfErr result (λ fault. fault ≡ Wrong.Work → most_book_work < book_work (judge_program judge.now) (record { table = judge_table judge.now; lines = L.lines from })) }
 {
     let left = Cell::new(MOST_WORK);
     let fault = match lines(alloc, Work::Bounded(&left), judge, over, from) {
@@ -101,7 +101,7 @@ fn judged_book<L: Lines>(
     requires trees { AreTrees (map cond_of table.now) }
     ensures verdict { IsBookVerdict (program_of program.now) (rel_of sets.now) (record { table = map cond_of table.now; lines = L.lines from }) result }
     ensures near { IsNearBook (rel_of sets.now) (loc_of sets.now) (record { table = map cond_of table.now; lines = L.lines from }) → IfErr result (λ why. why ≢ Wrong.Work) }
-    ensures work { IfErr result (λ why. why ≡ Wrong.Work → most_work < book_work (program_of program.now) (record { table = map cond_of table.now; lines = L.lines from })) }
+    ensures work { IfErr result (λ why. why ≡ Wrong.Work → most_book_work < book_work (program_of program.now) (record { table = map cond_of table.now; lines = L.lines from })) }
 {
     let numbers = match shapes(alloc, program, from) {
         Ok(numbers) => numbers,
@@ -126,7 +126,7 @@ fn judged_memory(
 ) -> Result<(), Wrong>
     ensures verdict { IsBookVerdict (program_of program.now) (rel_of sets.now) (book_of book.now) result }
     ensures near { IsNearBook (rel_of sets.now) (loc_of sets.now) (book_of book.now) → IfErr result (λ why. why ≢ Wrong.Work) }
-    ensures work { IfErr result (λ why. why ≡ Wrong.Work → most_work < book_work (program_of program.now) (book_of book.now)) }
+    ensures work { IfErr result (λ why. why ≡ Wrong.Work → most_book_work < book_work (program_of program.now) (book_of book.now)) }
 {
     let lines = LinesInMemory {
         lines: book.methods.as_slice(),
@@ -148,7 +148,7 @@ fn judged_and_kept(
 ) -> Result<(), TextWrong>
     ensures judged { (bytes : List ℕ) → IsBookText bytes (book_of book) → IsJudgedText (program_of program.now) (rel_of sets.now) bytes result }
     ensures near { IsNearBook (rel_of sets.now) (loc_of sets.now) (book_of book) → IfErr result (λ why. why ≢ TextWrong.Wrong Wrong.Work) }
-    ensures work { IfErr result (λ why. why ≡ TextWrong.Wrong Wrong.Work → most_work < book_work (program_of program.now) (book_of book)) }
+    ensures work { IfErr result (λ why. why ≡ TextWrong.Wrong Wrong.Work → most_book_work < book_work (program_of program.now) (book_of book)) }
 {
     let verdict = judged_memory(alloc, program, sets, &book);
     forget(book);
@@ -168,7 +168,7 @@ fn judged_at(
     requires { (book : Book) × IsCursorAt cursor book }
     ensures verdict { (book : Book) → IsCursorAt cursor.entry book → IsBookVerdict (program_of program.now) (rel_of sets.now) book result }
     ensures near { (book : Book) → IsCursorAt cursor.entry book → IsNearBook (rel_of sets.now) (loc_of sets.now) book → IfErr result (λ why. why ≢ Wrong.Work) }
-    ensures work { (book : Book) → IsCursorAt cursor.entry book → IfErr result (λ why. why ≡ Wrong.Work → most_work < book_work (program_of program.now) book) }
+    ensures work { (book : Book) → IsCursorAt cursor.entry book → IfErr result (λ why. why ≡ Wrong.Work → most_book_work < book_work (program_of program.now) book) }
 {
     let table = match cursor.table(alloc) {
         Ok(table) => table,
@@ -187,7 +187,7 @@ fn judged_in_place(
     requires { length bytes.now ≤ 16777216 }
     ensures judged { IsJudgedText (program_of program.now) (rel_of sets.now) bytes.now result }
     ensures near { (book : Book) → IsBookText bytes.now book → IsNearBook (rel_of sets.now) (loc_of sets.now) book → IfErr result (λ why. why ≢ TextWrong.Wrong Wrong.Work) }
-    ensures work { (book : Book) → IsBookText bytes.now book → IfErr result (λ why. why ≡ TextWrong.Wrong Wrong.Work → most_work < book_work (program_of program.now) book) }
+    ensures work { (book : Book) → IsBookText bytes.now book → IfErr result (λ why. why ≡ TextWrong.Wrong Wrong.Work → most_book_work < book_work (program_of program.now) book) }
 {
     let cursor = match BookCursor::open(bytes) {
         Ok(cursor) => cursor,
@@ -210,7 +210,7 @@ fn judged(
     requires { length bytes.now ≤ 16777216 }
     ensures judged { IsJudgedText (program_of program.now) (rel_of sets.now) bytes.now result }
     ensures near { (book : Book) → IsBookText bytes.now book → IsNearBook (rel_of sets.now) (loc_of sets.now) book → IfErr result (λ why. why ≢ TextWrong.Wrong Wrong.Work) }
-    ensures work { (book : Book) → IsBookText bytes.now book → IfErr result (λ why. why ≡ TextWrong.Wrong Wrong.Work → most_work < book_work (program_of program.now) book) }
+    ensures work { (book : Book) → IsBookText bytes.now book → IfErr result (λ why. why ≡ TextWrong.Wrong Wrong.Work → most_book_work < book_work (program_of program.now) book) }
 {
     if bytes.len() > MOST_IN_MEMORY {
         return judged_in_place(alloc, program, sets, bytes);
@@ -256,7 +256,7 @@ pub fn accept_text(
 
     // A bound of work is met only where the work of the book is above it.
     ensures work { (book : Book) → IsBookText bytes.now book →
-        IfErr result (λ refused. refused.why ≡ TextWrong.Wrong Wrong.Work → most_work < book_work (program_of program) book) }
+        IfErr result (λ refused. refused.why ≡ TextWrong.Wrong Wrong.Work → most_book_work < book_work (program_of program) book) }
 {
     // Only the proof needs this: no method has too many paths.
     sets.few();
@@ -293,7 +293,7 @@ pub fn accept(
     ensures near { IsNearBook (rel_of sets) (loc_of sets) (book_of book.now) → IfErr result (λ refused. refused.why ≢ Wrong.Work) }
 
     // A bound of work is met only where the work of the book is above it.
-    ensures work { IfErr result (λ refused. refused.why ≡ Wrong.Work → most_work < book_work (program_of program) (book_of book.now)) }
+    ensures work { IfErr result (λ refused. refused.why ≡ Wrong.Work → most_book_work < book_work (program_of program) (book_of book.now)) }
 {
     // Only the proof needs this: no method has too many paths.
     sets.few();

@@ -5,7 +5,7 @@ ghost use Rattle.core_program.specs.Views.{expr_of, method_of, program_of, stmt_
 ghost use Rattle.effects.specs.Bodies.{list_of, part_of};
 ghost use Rattle.effects.specs.Parts.{parts_of, ExprP, StmtP};
 ghost use Rattle.books.specs.Derivations.{node};
-ghost use Rattle.book_check.specs.BookWork.{book_work, line_work, lines_work, makes_tree as makes_tree_of, most_work, own_leaves as own_leaves_of, premises_work, step_work as step_work_of, value_work as value_work_of};
+ghost use Rattle.book_check.specs.BookWork.{book_work, line_work, lines_work, makes_tree as makes_tree_of, most_book_work, own_leaves as own_leaves_of, premises_work, step_work as step_work_of, value_work as value_work_of};
 
 use crate::leaves::{doubled, leaves_among, numbered_leaves, product};
 use crate::pairs::all_keep_paths;
@@ -207,7 +207,7 @@ fn left_behind_lines<L: Lines>(
 /// Whether the work of a book is little. `false` only where it is more.
 pub(crate) fn is_little<L: Lines>(program: &CoreProgram, table: &[Tree], from: L) -> bool
     requires { L.AreLinesKept from }
-    ensures { result ≡ false → most_work < book_work (program_of program.now) (record { table = map cond_of table.now; lines = L.lines from }) }
+    ensures { result ≡ false → most_book_work < book_work (program_of program.now) (record { table = map cond_of table.now; lines = L.lines from }) }
 {
     left_behind_lines(table, program.methods(), from, MOST_WORK).is_some()
 }

@@ -7,7 +7,7 @@ ghost use Rattle.paths.specs.Paths.{PathData};
 ghost use Rattle.rules.specs.Overriding.{AreOverriders};
 ghost use Rattle.books.specs.Books.{Line};
 ghost use Rattle.book_check.specs.Judges.{judge_near, judge_program, judge_table, AreCanonical};
-ghost use Rattle.book_check.specs.Nearness.{AreNear, AreOwnNear};
+ghost use Rattle.book_check.specs.Nearness.{steps_near, AreNear, AreOwnNear};
 ghost use Rattle.book_check.specs.declared.wrong.Wrong.{Wrong};
 ghost use Rattle.book_check.specs.Works.{IsUnbounded};
 ghost use Rattle.book_check.specs.Passes.{AreAllShaped, AreLinesJudged, IsFirstNear, IsLineStep, IsShapeStep};
@@ -120,7 +120,12 @@ pub(crate) fn lines<L: Lines>(
     let mut rest = judge.program.methods();
     let mut m = 0;
     'methods: while let Some((method, others)) = rest.split_first() {
-        match next_verdict(alloc, work, judge, over, m, method, ahead) {
+        let steps = Steps {
+            judge,
+            method: MethodId(m),
+            left: work,
+        };
+        match next_verdict(alloc, &steps, over, method, ahead) {
             Ok(behind) => ahead = behind,
             Err(wrong) => return Err(wrong),
         }
@@ -130,34 +135,27 @@ pub(crate) fn lines<L: Lines>(
     Ok(())
 }
 
-/// The judgement of the first method line, which is that of this method, at this position; and the other lines.
+/// The judgement of the first method line, which is that of this method, at its position; and the other lines.
 fn next_verdict<L: Lines>(
     alloc: Global,
-    left: Work<'_>,
-    judge: &Judge<'_>,
+    steps: &Steps<'_>,
     over: &OverridingMethods,
-    m: u32,
     method: &CoreMethod,
     from: L,
 ) -> Result<L, Wrong>
     requires kept { L.AreLinesKept from }
-    requires canonical { AreCanonical (judge_table judge.now) }
-    requires overriders { AreOverriders (judge_program judge.now) over.now }
-    ensures step { IsLineStep L.lines judge.now m (method_of method.now) (L.lines from) result }
+    requires canonical { AreCanonical (judge_table steps.now.judge.now) }
+    requires overriders { AreOverriders (judge_program steps.now.judge.now) over.now }
+    ensures step { IsLineStep L.lines steps.now.judge.now steps.now.method (method_of method.now) (L.lines from) result }
     ensures kept { IfOk result L.AreLinesKept }
-    ensures near { AreOwnNear judge.now → IsFirstNear (judge_near judge.now m) (judge_table judge.now) (L.lines from) →
+    ensures near { AreOwnNear steps.now.judge.now → IsFirstNear (steps_near steps.now) (judge_table steps.now.judge.now) (L.lines from) →
         IfErr result (λ fault. fault ≢ Wrong.Work) }
-    ensures free { IsUnbounded left.entry → IfErr result (λ fault. fault ≢ Wrong.Work) }
+    ensures free { IsUnbounded steps.now.left → IfErr result (λ fault. fault ≢ Wrong.Work) }
 {
     let Some(line) = from.first_line() else {
         return Err(Wrong::Memory);
     };
-    let steps = Steps {
-        judge,
-        method: MethodId(m),
-        left,
-    };
-    match line_verdict(alloc, &steps, over, method, &line)? {
+    match line_verdict(alloc, steps, over, method, &line)? {
         Some(wrong) => Err(wrong),
         None => Ok(line.rest),
     }

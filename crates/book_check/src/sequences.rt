@@ -20,7 +20,7 @@ use crate::rule_values::call;
 use crate::stuck::Stuck;
 use crate::unmoved::is_sequence;
 use crate::values::leaf;
-use crate::work::{MOST_DEPTH, Work};
+use crate::work::{MOST_DEPTH, StepWork, Work};
 use algebra::Basic;
 use conditions::Tree;
 use core_program::{CoreExpr, CoreStmt};
@@ -103,12 +103,10 @@ fn plain_stmt_below(
     sequence_below(work, judge, before, &last, d)
 }
 
-/// Whether a tree is at or above the value of an expression's rule. Its trees are made within the work, and compared within what is
-/// left for pairs.
+/// Whether a tree is at or above the value of an expression's rule, within this work.
 pub(crate) fn expr_below(
     alloc: Global,
-    work: Work<'_>,
-    pairs: Work<'_>,
+    work: StepWork<'_, '_>,
     judge: &Judge<'_>,
     e: &CoreExpr,
     numbers: &[u32],
@@ -121,14 +119,14 @@ pub(crate) fn expr_below(
 {
     match e {
         CoreExpr::Get(receiver, field) => {
-            let access = access(alloc, work, judge.program, receiver, *field, false)?;
-            sequence_below(pairs, judge, numbers, &access, d)
+            let access = access(alloc, work.trees, judge.program, receiver, *field, false)?;
+            sequence_below(work.pairs, judge, numbers, &access, d)
         }
         CoreExpr::Call(receiver, callee, args) => {
-            let call = call(alloc, work, judge, *callee, receiver, args.as_slice())?;
-            sequence_below(pairs, judge, numbers, &call, d)
+            let call = call(alloc, work.trees, judge, *callee, receiver, args.as_slice())?;
+            sequence_below(work.pairs, judge, numbers, &call, d)
         }
-        _ => plain_expr_below(pairs, judge, e, numbers, d),
+        _ => plain_expr_below(work.pairs, judge, e, numbers, d),
     }
 }
 
@@ -233,12 +231,10 @@ fn turns_below(
     sequence_below(work, judge, &turns, &last, d)
 }
 
-/// Whether a tree is at or above the value of a statement's rule. Its trees are made within the work, and compared within what is
-/// left for pairs.
+/// Whether a tree is at or above the value of a statement's rule, within this work.
 pub(crate) fn stmt_below(
     alloc: Global,
-    work: Work<'_>,
-    pairs: Work<'_>,
+    work: StepWork<'_, '_>,
     judge: &Judge<'_>,
     s: &CoreStmt,
     numbers: &[u32],
@@ -250,13 +246,13 @@ pub(crate) fn stmt_below(
         AtMost (stmt_rule_of (judge_program judge.now) (judge_rel judge.now) (judge_assignment judge.now) (stmt_of s.now) (map (judge_value judge.now) numbers.now) H) (value_of (cond_of d.now) H))) }
 {
     match s {
-        CoreStmt::Block(body) => block_below(pairs, judge, body.as_slice(), numbers, d),
-        CoreStmt::If(_, _, _) => choice_below(pairs, judge, numbers, d),
-        CoreStmt::While(_, _) => loop_below(pairs, judge, numbers, d),
+        CoreStmt::Block(body) => block_below(work.pairs, judge, body.as_slice(), numbers, d),
+        CoreStmt::If(_, _, _) => choice_below(work.pairs, judge, numbers, d),
+        CoreStmt::While(_, _) => loop_below(work.pairs, judge, numbers, d),
         CoreStmt::SetField(receiver, field, _) => {
-            let access = access(alloc, work, judge.program, receiver, *field, true)?;
-            sequence_below(pairs, judge, numbers, &access, d)
+            let access = access(alloc, work.trees, judge.program, receiver, *field, true)?;
+            sequence_below(work.pairs, judge, numbers, &access, d)
         }
-        _ => plain_stmt_below(pairs, judge, s, numbers, d),
+        _ => plain_stmt_below(work.pairs, judge, s, numbers, d),
     }
 }

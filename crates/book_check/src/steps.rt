@@ -22,7 +22,7 @@ use crate::rule_values::rule;
 use crate::sequences::{expr_below, stmt_below};
 use crate::stuck::Stuck;
 use crate::values::below;
-use crate::work::Work;
+use crate::work::{StepWork, Work};
 use books::Nodes;
 use conditions::Tree;
 use core_program::CoreExpr;
@@ -76,11 +76,10 @@ fn is_step_by_value(
     below(work, &value, d)
 }
 
-/// Whether a tree is at or above the value that a part's rule gives, with no tree for that value: within the work for pairs.
+/// Whether a tree is at or above the value that a part's rule gives, with no tree for that value.
 fn is_step_by_pairs(
     alloc: Global,
-    work: Work<'_>,
-    pairs: Work<'_>,
+    work: StepWork<'_, '_>,
     judge: &Judge<'_>,
     part: BodyPart<'_>,
     numbers: &[u32],
@@ -92,8 +91,8 @@ fn is_step_by_pairs(
         AtMost (rule_of (judge_program judge.now) (judge_rel judge.now) (judge_assignment judge.now) (part_of part.entry) (map (judge_value judge.now) numbers.now) H) (value_of (cond_of d.now) H))) }
 {
     match part {
-        BodyPart::Expr(e) => expr_below(alloc, work, pairs, judge, e, numbers, d),
-        BodyPart::Stmt(s) => stmt_below(alloc, work, pairs, judge, s, numbers, d),
+        BodyPart::Expr(e) => expr_below(alloc, work, judge, e, numbers, d),
+        BodyPart::Stmt(s) => stmt_below(alloc, work, judge, s, numbers, d),
     }
 }
 
@@ -112,9 +111,11 @@ fn is_step_by_little(
         AtMost (rule_of (judge_program steps.now.judge.now) (judge_rel steps.now.judge.now) (judge_assignment steps.now.judge.now) (part_of part.entry) (map (judge_value steps.now.judge.now) numbers.now) H) (value_of (cond_of d.now) H))) }
 {
     let left = Cell::new(LITTLE);
-    let work = steps.left;
-    let little = Work::Bounded(&left);
-    match is_step_by_pairs(alloc, work, little, steps.judge, part, numbers, d) {
+    let work = StepWork {
+        trees: steps.left,
+        pairs: Work::Bounded(&left),
+    };
+    match is_step_by_pairs(alloc, work, steps.judge, part, numbers, d) {
         Ok(is) => Some(is),
         Err(_) => None,
     }
@@ -138,7 +139,13 @@ fn is_step_by_work(
     match is_step_by_value(alloc, work, judge, part, numbers, d) {
         Ok(is) => Ok(is),
         Err(Refusal::Work) => Err(Refusal::Work),
-        Err(Refusal::NoMemory) => Ok(is_step_by_pairs(alloc, work, work, judge, part, numbers, d)?),
+        Err(Refusal::NoMemory) => {
+            let work = StepWork {
+                trees: work,
+                pairs: work,
+            };
+            Ok(is_step_by_pairs(alloc, work, judge, part, numbers, d)?)
+        }
     }
 }
 
@@ -156,11 +163,14 @@ fn is_step_freely(
         AtMost (rule_of (judge_program judge.now) (judge_rel judge.now) (judge_assignment judge.now) (part_of part.entry) (map (judge_value judge.now) numbers.now) H) (value_of (cond_of d.now) H))) }
     ensures free { IfErr result (λ e. e ≡ Refusal.NoMemory) }
 {
-    let work = Work::Unbounded;
-    match is_step_by_pairs(alloc, work, work, judge, part, numbers, d) {
+    let work = StepWork {
+        trees: Work::Unbounded,
+        pairs: Work::Unbounded,
+    };
+    match is_step_by_pairs(alloc, work, judge, part, numbers, d) {
         Ok(is) => Ok(is),
         Err(Stuck::NoMemory) => Err(Refusal::NoMemory),
-        Err(Stuck::Undecided) => is_step_by_value(alloc, work, judge, part, numbers, d),
+        Err(Stuck::Undecided) => is_step_by_value(alloc, Work::Unbounded, judge, part, numbers, d),
     }
 }
 

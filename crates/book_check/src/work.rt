@@ -19,6 +19,15 @@ pub enum Work<'a> {
     Unbounded,
 }
 
+/// The work of a step by pairs: what may be made on trees, and what may be visited.
+#[derive(Clone, Copy)]
+pub struct StepWork<'a, 'b> {
+    /// What the trees that a part has of its own may take.
+    pub trees: Work<'a>,
+    /// What comparing pairs of trees may take.
+    pub pairs: Work<'b>,
+}
+
 impl<'a> Work<'a> {
     /// Takes these pairs from what is left. Refused where less is left, and then nothing is taken.
     pub fn take(self, pairs: u32) -> Result<(), Refusal>

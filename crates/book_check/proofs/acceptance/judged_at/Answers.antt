@@ -6,7 +6,7 @@ use Rattle.books.specs.Views.{lines_in}
 use Rattle.books.proofs.TableLaws.{lines_are, at_some}
 use Rattle.rules.specs.Near.{loc_of, rel_of}
 use Rattle.book_check.specs.NearBooks.{IsNearBook}
-use Rattle.book_check.specs.BookWork.{book_work, most_work}
+use Rattle.book_check.specs.BookWork.{book_work, most_book_work}
 use Rattle.book_check.specs.declared.wrong.Wrong.TheVariants as wrong
 use Rattle.book_check.specs.Passes.{IsBookVerdict}
 use Rattle.book_check.proofs.acceptance.judged_at.Goals as goal
@@ -31,4 +31,4 @@ pub returns-clause-work : goal.returns-clause-work
 returns-clause-work c = λ book at.
     let table : map cond_of c.as_slice.result.now ≡ book.table = ap (map cond_of) c.as_slice.ensures.value ∙ c.in-Ok.ensures book at in
     let lines : lines_in c.args.cursor.lines.now ≡ book.lines = lines_are c.args.cursor book at in
-    subst (λ b. IfErr c.judged_book.result (λ why. why ≡ wrong.Work → most_work < book_work (program_of c.args.program.now) b)) (λ i. record { table = table i; lines = lines i }) c.judged_book.ensures.work
+    subst (λ b. IfErr c.judged_book.result (λ why. why ≡ wrong.Work → most_book_work < book_work (program_of c.args.program.now) b)) (λ i. record { table = table i; lines = lines i }) c.judged_book.ensures.work

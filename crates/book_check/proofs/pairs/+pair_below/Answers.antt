@@ -2,7 +2,7 @@
 use Rattle.std.proofs.Common.{ap}
 use Rattle.std.specs.Option.{option_copied}
 use Rattle.conditions.specs.Conditions.{cond_of}
-use Rattle.book_check.proofs.PairLemmas.{high_stops, low_decides}
+use Rattle.book_check.proofs.SplitLemmas.{high_stops, low_decides}
 use Rattle.book_check.proofs.pairs.+pair_below.Goals as goal
 
 pub returns-then-not-branch : goal.returns-then-not-branch

@@ -10,27 +10,27 @@ use Rattle.book_check.proofs.passes.next_verdict.Goals as goal
 
 pub returns-in-Some-2-clause-step : goal.returns-in-Some-2-clause-step
 returns-in-Some-2-clause-step g c =
-    let j = c.args.judge.now in
+    let j = c.args.steps.now.judge.now in
     let f = c.in-Some.line in
     let line : Line = record { id = f.id; number = f.number; body = node f.word f.node (g.L.Premises.Nodes.nodes f.premises) } in
     let method = method_of c.args.method.now in
-    verdict_wrong g.L.Lines.lines j c.args.m method (g.L.Lines.lines c.args.from) (g.L.Lines.lines f.rest) line c.in-Some-2.wrong c.in-Some.ensures.some
-    (subst (λ o. IsLineVerdict (judge_program j) (judge_rel j) (judge_table j) (judge_assignment j) c.args.m method line o) c.in-Some-2.is c.in_ok-wrong.ensures.verdict)
+    verdict_wrong g.L.Lines.lines j c.args.steps.now.method method (g.L.Lines.lines c.args.from) (g.L.Lines.lines f.rest) line c.in-Some-2.wrong c.in-Some.ensures.some
+    (subst (λ o. IsLineVerdict (judge_program j) (judge_rel j) (judge_table j) (judge_assignment j) c.args.steps.now.method method line o) c.in-Some-2.is c.in_ok-wrong.ensures.verdict)
 
 pub returns-in-None-clause-step : goal.returns-in-None-clause-step
 returns-in-None-clause-step g c =
-    let j = c.args.judge.now in
+    let j = c.args.steps.now.judge.now in
     let f = c.in-Some.line in
     let line : Line = record { id = f.id; number = f.number; body = node f.word f.node (g.L.Premises.Nodes.nodes f.premises) } in
     let method = method_of c.args.method.now in
-    verdict_good g.L.Lines.lines j c.args.m method (g.L.Lines.lines c.args.from) line f.rest c.in-Some.ensures.some
-    (subst (λ o. IsLineVerdict (judge_program j) (judge_rel j) (judge_table j) (judge_assignment j) c.args.m method line o) c.in-None.is c.in_ok-wrong.ensures.verdict)
+    verdict_good g.L.Lines.lines j c.args.steps.now.method method (g.L.Lines.lines c.args.from) line f.rest c.in-Some.ensures.some
+    (subst (λ o. IsLineVerdict (judge_program j) (judge_rel j) (judge_table j) (judge_assignment j) c.args.steps.now.method method line o) c.in-None.is c.in_ok-wrong.ensures.verdict)
 
 pub returns-in-Some-2-clause-near : goal.returns-in-Some-2-clause-near
 returns-in-Some-2-clause-near g c = λ own near.
-    let j = c.args.judge.now in
+    let j = c.args.steps.now.judge.now in
     let f = c.in-Some.line in
     let line : Line = record { id = f.id; number = f.number; body = node f.word f.node (g.L.Premises.Nodes.nodes f.premises) } in
     let method = method_of c.args.method.now in
-    no_bound (judge_program j) (judge_rel j) (judge_table j) (judge_assignment j) c.args.m method line c.in-Some-2.wrong
-    (subst (λ o. IsLineVerdict (judge_program j) (judge_rel j) (judge_table j) (judge_assignment j) c.args.m method line o) c.in-Some-2.is c.in_ok-wrong.ensures.verdict)
+    no_bound (judge_program j) (judge_rel j) (judge_table j) (judge_assignment j) c.args.steps.now.method method line c.in-Some-2.wrong
+    (subst (λ o. IsLineVerdict (judge_program j) (judge_rel j) (judge_table j) (judge_assignment j) c.args.steps.now.method method line o) c.in-Some-2.is c.in_ok-wrong.ensures.verdict)
