@@ -16,8 +16,9 @@ use Rattle.syntax.specs.Tokens.{is, token, name_token}
 use Rattle.syntax.proofs.Fields.{final_field as final_tree, mutable_field as mutable_tree, each_field}
 use Rattle.syntax.specs.Trees.{LockTree, StmtTrees, MethodTree, FieldTree, MemberTree, FieldM, CtorM, MethodM, ClassTree, ProgramTree}
 use Rattle.syntax.specs.Views.{stmts_from}
-use Rattle.parser.proofs.Complete.{Same, same, same_along, same_then, same_bind, at_list}
-use Rattle.parser.proofs.CompleteStatements.{lock_read, type_read, block_read, items_read}
+use Rattle.parser.proofs.FirstTokens.{Same, same, same_along, same_then, same_bind, at_list}
+use Rattle.parser.proofs.CompletePlain.{lock_read, type_read}
+use Rattle.parser.proofs.CompleteStatements.{block_read, items_read}
 use Rattle.parser.proofs.Lists.{shift}
 use Rattle.parser.proofs.LoopLaw.{loop_done, loop_more, Takes}
 use Rattle.parser.proofs.MemberLoops.{param_takes, lock_takes, set_takes, member_takes, class_takes}

@@ -4,7 +4,7 @@ use Rattle.lexer.specs.declared.tokens.Token.{Token}
 use Rattle.syntax.specs.declared.terminal.Terminal.TheVariants as T
 use Rattle.syntax.specs.declared.tree.Name.{Name}
 use Rattle.syntax.specs.Tokens.{is, token, name_token}
-use Rattle.parser.proofs.Expressions.{field_law}
+use Rattle.parser.proofs.TokenLaws.{field_law}
 use Rattle.parser.proofs.LoopLaw.{loop_done, loop_more, Takes}
 use Rattle.parser.proofs.Loops.{right_shorter}
 use Rattle.parser.proofs.Lists.{several_takes}

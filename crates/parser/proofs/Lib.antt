@@ -1,5 +1,7 @@
 pub mod Fields
+pub mod FirstTokens
 pub mod Complete
+pub mod TokenLaws
 pub mod Expressions
 pub mod LoopLaw
 pub mod Lists
@@ -7,8 +9,10 @@ pub mod Loops
 pub mod Parts
 pub mod Ranks
 pub mod Right
+pub mod PlainStatements
 pub mod Statements
 pub mod StatementLoops
+pub mod CompletePlain
 pub mod CompleteStatements
 pub mod CompleteMembers
 pub mod MemberLoops

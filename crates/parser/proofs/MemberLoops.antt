@@ -12,7 +12,7 @@ use Rattle.parser.proofs.LoopLaw.{loop_done, loop_more, Takes}
 use Rattle.parser.proofs.Loops.{right_shorter}
 use Rattle.parser.proofs.Members.{ParamL, param_long, param_example, right_param, lock_long, right_set, set_example, set_long, right_member, member_example, member_long, LowMember, right_class, class_example, class_long, LowClass}
 use Rattle.parser.proofs.Right.{Any}
-use Rattle.parser.proofs.Statements.{right_lock, this_lock, this_lock_is}
+use Rattle.parser.proofs.PlainStatements.{right_lock, this_lock, this_lock_is}
 use Rattle.parser.specs.Combine.{◌>>=◌, starts, loop, comma_step, item_step}
 use Rattle.parser.specs.Words.{lock}
 use Rattle.parser.specs.Statements.{block_goes_on}

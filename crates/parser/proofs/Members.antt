@@ -15,11 +15,13 @@ use Rattle.syntax.specs.Tokens.{token, name_token}
 use Rattle.syntax.proofs.Fields.{final_field as final_tree, mutable_field as mutable_tree}
 use Rattle.syntax.specs.Trees.{LockTree, StmtTree, StmtTrees, no_stmts, FieldTree, MemberTree, FieldM, CtorM, MethodM, ClassTree, ProgramTree}
 use Rattle.syntax.specs.Views.{stmts_from}
-use Rattle.parser.proofs.Expressions.{along_length, append_left, right_field}
+use Rattle.parser.proofs.TokenLaws.{right_field}
+use Rattle.parser.proofs.Expressions.{along_length, append_left}
 use Rattle.parser.proofs.Lists.{right_several, right_separated}
 use Rattle.parser.proofs.Parts.{One, right_one, right_tok, right_name, right_done, right_if, right_flag, x_name}
 use Rattle.parser.proofs.Right.{Right, Any, Some_of, right_seq, right_weaker}
-use Rattle.parser.proofs.Statements.{right_type, right_lock, this_lock, this_lock_is as this_is, BlockL, right_block}
+use Rattle.parser.proofs.PlainStatements.{right_type, right_lock, this_lock, this_lock_is as this_is}
+use Rattle.parser.proofs.Statements.{BlockL, right_block}
 use Rattle.parser.specs.Combine.{Res, ◌>>=◌, starts, several}
 use Rattle.parser.specs.Words.{lock}
 use Rattle.parser.specs.Statements.{block_goes_on}

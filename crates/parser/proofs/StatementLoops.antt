@@ -8,7 +8,8 @@ use Rattle.syntax.specs.Views.{stmts_from}
 use Rattle.parser.proofs.LoopLaw.{loop_done, loop_more, Takes}
 use Rattle.parser.proofs.Loops.{right_shorter}
 use Rattle.parser.proofs.Lists.{several_takes}
-use Rattle.parser.proofs.Statements.{StmtL, Ends, stmt_long, right_statement}
+use Rattle.parser.proofs.PlainStatements.{StmtL, Ends}
+use Rattle.parser.proofs.Statements.{stmt_long, right_statement}
 use Rattle.parser.specs.Combine.{◌>>=◌, starts, loop, beyond, item_step}
 use Rattle.parser.specs.Statements.{block_goes_on, begins_statement}
 use Rattle.parser.specs.Blocks.{braces, statement_at, statement_with, block_at, block_statement}

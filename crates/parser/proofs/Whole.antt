@@ -10,7 +10,7 @@ use Rattle.syntax.specs.Names.{names_of_program}
 use Rattle.syntax.specs.Tokens.{name_token}
 use Rattle.syntax.proofs.Naming.{names_are_tokens}
 use Rattle.syntax.specs.Trees.{ProgramTree}
-use Rattle.parser.proofs.Complete.{IsDeep, Same, same, deep}
+use Rattle.parser.proofs.FirstTokens.{IsDeep, Same, same, deep}
 use Rattle.parser.proofs.CompleteMembers.{program_read}
 use Rattle.parser.proofs.Members.{right_program}
 use Rattle.parser.proofs.Right.{Meets, Goes, RightAt, RightOk, RightErr}

@@ -10,10 +10,11 @@ ghost use Rattle.parser.specs.Statements.{block_goes_on as may_go_on};
 ghost use Rattle.parser.specs.Blocks.{block_at, braces, else_part as else_part_at, if_statement as if_statement_at, statement_at, statement_with, sync_statement as sync_statement_at, while_statement as while_statement_at};
 
 use crate::lexeme::Lexeme;
-use crate::plain::{condition, lock, plain_statement};
+use crate::plain::{condition, plain_statement};
 use crate::starts::{begins_statement, goes_on};
 use crate::stop::{Stop, SyntaxFault};
 use crate::tokens::{accept, begins, take};
+use crate::words::lock;
 use std::alloc::Global;
 use syntax::{Expr, Lock, Stmt, Terminal};
 

@@ -1,110 +1,24 @@
 //! Expressions. `high` is the height that is still allowed, and bounds the depth of the recursion.
 
-ghost use Rattle.std.specs.Prelude.{◌≡◌, ◌+◌, ◌-◌, ◌<◌, ◌≤◌, map, length, IfOk};
+ghost use Rattle.std.specs.Prelude.{◌≡◌, ◌<◌, ◌≤◌, map, length, IfOk};
 ghost use Rattle.syntax.specs.Heights.{height as height_of, heights};
 ghost use Rattle.syntax.specs.Limits.{most_height};
-ghost use Rattle.syntax.specs.Trees.{BinaryE, CallE, NewE};
 ghost use Rattle.syntax.specs.Views.{expr_tree, exprs_from};
 ghost use Rattle.parser.specs.Answer.{Gives};
-ghost use Rattle.parser.specs.Combine.{comma_step, loop};
-ghost use Rattle.parser.specs.Words.{is_op, field_name as field_name_at};
-ghost use Rattle.parser.specs.Expressions.{arguments as arguments_at, below, call_arguments, chain_at, chain_with, dots as dots_at, leaf as leaf_at, member_rest as member_rest_at, member_step as member_step_at, negated as negated_at, new_rest as new_rest_at, op_step, parenthesised as parenthesised_at, postfix as postfix_at, primary as primary_at, unary as unary_at};
+ghost use Rattle.parser.specs.Combine.{comma_step};
+ghost use Rattle.parser.specs.Expressions.{arguments as arguments_at, below, call_arguments, chain_at, dots as dots_at, member_rest as member_rest_at, member_step as member_step_at, negated as negated_at, new_rest as new_rest_at, parenthesised as parenthesised_at, postfix as postfix_at, primary as primary_at, unary as unary_at};
 
+use crate::levels::operations;
 use crate::lexeme::Lexeme;
+use crate::nodes::{Arguments, Parsed, leaf, leaf_of, make_call, make_new};
 use crate::stop::{Stop, SyntaxFault};
-use crate::tokens::{
-    accept, begins, begins_any_operator, begins_expression, begins_least, begins_number,
-    begins_operator, least, name, number, operator, take,
-};
+use crate::tokens::{accept, begins, begins_expression, begins_least, least, name, take};
+use crate::words::field_name;
 use std::alloc::Global;
-use syntax::{Expr, Name, Op, Terminal};
+use syntax::{Expr, Name, Terminal};
 
 /// The levels of binary operators.
 pub const LEVELS: u32 = 6;
-
-/// An expression, its height, and the tokens behind it.
-#[derive(Drop)]
-pub struct Parsed<'t, 'a> {
-    pub tree: Expr<'a>,
-    pub height: u32,
-    pub rest: &'t [Lexeme<'a>],
-}
-
-/// Arguments, the height of the highest, and the tokens behind them.
-#[derive(Drop)]
-pub struct Arguments<'t, 'a> {
-    pub items: Vec<Expr<'a>>,
-    pub height: u32,
-    pub rest: &'t [Lexeme<'a>],
-}
-
-fn leaf_of<'t, 'a>(tree: Expr<'a>, rest: &'t [Lexeme<'a>]) -> Parsed<'t, 'a>
-    ensures tree { expr_tree result.tree ≡ expr_tree tree.entry }
-    ensures height { result.height ≡ 1 }
-    ensures rest { result.rest.now ≡ rest.now }
-{
-    Parsed {
-        tree,
-        height: 1,
-        rest,
-    }
-}
-
-/// A number, a truth value, `null`, `this` or a name.
-#[tactic(auto, unfolding(crate::specs::Expressions::leaf))]
-pub fn leaf<'t, 'a>(tokens: &'t [Lexeme<'a>]) -> Result<Parsed<'t, 'a>, Stop<'t, 'a>>
-    ensures tree { Gives (λ x. (expr_tree x.tree, x.rest.now)) result (leaf_at tokens.now) }
-    ensures height { IfOk result (λ x. x.height ≡ height_of (expr_tree x.tree)) }
-    ensures limit { IfOk result (λ x. x.height ≡ 1) }
-{
-    if begins_number(tokens) {
-        let ((value, at), rest) = number(tokens)?;
-        return Ok(leaf_of(Expr::Number(value, at), rest));
-    }
-    if let Some((at, rest)) = accept(tokens, Terminal::True) {
-        return Ok(leaf_of(Expr::Truth(true, at), rest));
-    }
-    if let Some((at, rest)) = accept(tokens, Terminal::False) {
-        return Ok(leaf_of(Expr::Truth(false, at), rest));
-    }
-    if let Some((at, rest)) = accept(tokens, Terminal::Null) {
-        return Ok(leaf_of(Expr::Null(at), rest));
-    }
-    if let Some((at, rest)) = accept(tokens, Terminal::This) {
-        return Ok(leaf_of(Expr::This(at), rest));
-    }
-    let (variable, rest) = name(tokens)?;
-    Ok(leaf_of(Expr::Var(variable), rest))
-}
-
-/// A dot and a name.
-#[tactic(auto, unfolding(crate::specs::Words::field_name))]
-pub fn field_name<'t, 'a>(
-    tokens: &'t [Lexeme<'a>],
-) -> Result<(Name<'a>, &'t [Lexeme<'a>]), Stop<'t, 'a>>
-    ensures { Gives (λ x. (x.0, x.1.now)) result (field_name_at tokens.now) }
-{
-    let (_, rest) = take(tokens, Terminal::Dot)?;
-    name(rest)
-}
-
-fn make_call<'a>(receiver: Box<Expr<'a>>, method: Name<'a>, arguments: Vec<Expr<'a>>) -> Expr<'a>
-    ensures { expr_tree result ≡ CallE (expr_tree receiver.entry.value) method.entry (exprs_from (map expr_tree arguments.entry.items)) }
-{
-    Expr::Call(receiver, method, arguments)
-}
-
-fn make_binary<'a>(op: Op, left: Box<Expr<'a>>, right: Box<Expr<'a>>, at: u32) -> Expr<'a>
-    ensures { expr_tree result ≡ BinaryE op (expr_tree left.entry.value) (expr_tree right.entry.value) at }
-{
-    Expr::Binary(op, left, right, at)
-}
-
-fn make_new<'a>(class: Name<'a>, arguments: Vec<Expr<'a>>, at: u32) -> Expr<'a>
-    ensures { expr_tree result ≡ NewE class.entry (exprs_from (map expr_tree arguments.entry.items)) at }
-{
-    Expr::New(class, arguments, at)
-}
 
 /// One argument more, behind its comma.
 #[cycle(expression)]
@@ -409,7 +323,7 @@ fn negated<'t, 'a>(
 
 #[cycle(expression)]
 #[tactic(auto, unfolding(crate::specs::Expressions::unary))]
-fn unary<'t, 'a>(
+pub(crate) fn unary<'t, 'a>(
     alloc: Global,
     tokens: &'t [Lexeme<'a>],
     high: u32,
@@ -432,97 +346,6 @@ fn unary<'t, 'a>(
         return negated(alloc, rest, high, at);
     }
     postfix(alloc, tokens, high)
-}
-
-/// An operator and its right operand, behind the left one.
-#[cycle(expression)]
-#[tactic(auto, unfolding(crate::specs::Expressions::op_step))]
-fn operation<'t, 'a>(
-    alloc: Global,
-    left: Parsed<'t, 'a>,
-    high: u32,
-    levels: u32,
-) -> Result<Parsed<'t, 'a>, Stop<'t, 'a>>
-    requires high { high ≤ most_height }
-    requires positive { 0 < high }
-    requires levels { levels < 6 }
-    requires height { left.height ≡ height_of (expr_tree left.tree) }
-    ensures tree { Gives (λ x. (expr_tree x.tree, x.rest.now)) result (op_step high (below high) levels (expr_tree left.entry.tree) left.entry.rest.now) }
-    ensures height { IfOk result (λ x. x.height ≡ height_of (expr_tree x.tree)) }
-    ensures limit { IfOk result (λ x. x.height ≤ high) }
-    ensures grows { IfOk result (λ x. left.entry.height < x.height) }
-{
-    let Parsed { tree, height, rest } = left;
-    let operand = Box::new(alloc, tree)?;
-    if high <= height {
-        return Err(Stop::Fault(SyntaxFault::TooDeep, rest));
-    }
-    let ((op, at), rest) = operator(rest, levels + 1)?;
-    let right = chain(alloc, rest, high - 1, levels)?;
-    let Parsed {
-        tree,
-        height: other,
-        rest,
-    } = right;
-    Ok(Parsed {
-        tree: make_binary(op, operand, Box::new(alloc, tree)?, at),
-        height: height.max(other) + 1,
-        rest,
-    })
-}
-
-/// Operators of one level and their right operands, behind an operand of the levels before it.
-#[cycle(expression)]
-#[tactic(auto, using(crate::proofs::Loops::operation_more, crate::proofs::Loops::operation_done))]
-fn operators<'t, 'a>(
-    alloc: Global,
-    front: Parsed<'t, 'a>,
-    high: u32,
-    levels: u32,
-) -> Result<Parsed<'t, 'a>, Stop<'t, 'a>>
-    requires high { high ≤ most_height }
-    requires positive { 0 < high }
-    requires first { 0 < levels }
-    requires levels { levels ≤ 6 }
-    requires height { front.height ≡ height_of (expr_tree front.tree) }
-    requires limit { front.height ≤ high }
-    ensures tree { Gives (λ x. (expr_tree x.tree, x.rest.now)) result (loop (is_op levels) (op_step high (below high) (levels - 1)) (expr_tree front.entry.tree) front.entry.rest.now) }
-    ensures height { IfOk result (λ x. x.height ≡ height_of (expr_tree x.tree)) }
-    ensures limit { IfOk result (λ x. x.height ≤ high) }
-{
-    let mut whole = front;
-    while begins_operator(whole.rest, levels) {
-        whole = operation(alloc, whole, high, levels - 1)?;
-    }
-    Ok(whole)
-}
-
-/// Operands with operators of the first levels between them. Where no operator stands, no level is asked.
-#[cycle(expression)]
-#[tactic(auto, using(crate::proofs::Loops::chain_levels, crate::proofs::Loops::levels_more, crate::proofs::Loops::levels_done, crate::proofs::Loops::levels_quiet))]
-fn operations<'t, 'a>(
-    alloc: Global,
-    tokens: &'t [Lexeme<'a>],
-    high: u32,
-    levels: u32,
-) -> Result<Parsed<'t, 'a>, Stop<'t, 'a>>
-    requires high { high ≤ most_height }
-    requires positive { 0 < high }
-    requires levels { levels ≤ 6 }
-    ensures tree { Gives (λ x. (expr_tree x.tree, x.rest.now)) result (chain_with high (below high) levels tokens.now) }
-    ensures height { IfOk result (λ x. x.height ≡ height_of (expr_tree x.tree)) }
-    ensures limit { IfOk result (λ x. x.height ≤ high) }
-{
-    let mut whole = unary(alloc, tokens, high)?;
-    let mut done = 0;
-    while done < levels {
-        if !begins_any_operator(whole.rest) {
-            return Ok(whole);
-        }
-        whole = operators(alloc, whole, high, done + 1)?;
-        done += 1;
-    }
-    Ok(whole)
 }
 
 /// An expression at most `high` nodes high, whose operators are of the first levels.

@@ -1,23 +1,22 @@
-//! Classes and their members.
+//! Members of classes.
 
-ghost use Rattle.std.specs.Prelude.{◌≡◌, ◌<◌, map, length, true, IfOk};
+ghost use Rattle.std.specs.Prelude.{◌<◌, map, length, IfOk};
 ghost use Rattle.std.specs.Option.{option_map};
-ghost use Rattle.syntax.specs.Views.{class_of, lock_of, member_of};
+ghost use Rattle.syntax.specs.Views.{lock_of, member_of};
 ghost use Rattle.parser.specs.Answer.{Gives};
-ghost use Rattle.parser.specs.Combine.{comma_step, item_step, several, starts};
+ghost use Rattle.parser.specs.Combine.{comma_step, item_step, several};
 ghost use Rattle.parser.specs.Words.{lock as lock_at};
 ghost use Rattle.parser.specs.Statements.{block_goes_on as may_go_on};
-ghost use Rattle.parser.specs.Members.{bare_member as bare_member_at, class_at, ctor_rest as ctor_rest_at, extended as extended_at, field_rest as field_rest_at, final_field as final_field_at, guard as guard_at, member as member_at, method_rest as method_rest_at, named_member as named_member_at, param as param_at, param_list as param_list_at, params as params_at, plain_method as plain_method_at, program as program_at, required as required_at, result_type as result_type_at, runnable as runnable_at, set as set_at, typed_rest as typed_rest_at};
+ghost use Rattle.parser.specs.Members.{bare_member as bare_member_at, ctor_rest as ctor_rest_at, field_rest as field_rest_at, final_field as final_field_at, guard as guard_at, member as member_at, method_rest as method_rest_at, named_member as named_member_at, param as param_at, param_list as param_list_at, params as params_at, plain_method as plain_method_at, required as required_at, result_type as result_type_at, set as set_at, typed_rest as typed_rest_at};
 
 use crate::compound::{Braces, block};
-use crate::expression::field_name;
 use crate::lexeme::Lexeme;
-use crate::plain::{lock, type_name};
 use crate::starts::goes_on;
 use crate::stop::Stop;
 use crate::tokens::{accept, begins, begins_name, flag, name, take};
+use crate::words::{field_name, lock, type_name};
 use std::alloc::Global;
-use syntax::{Class, Lock, MOST_HEIGHT, Member, Name, Param, Terminal, TypeName};
+use syntax::{Lock, MOST_HEIGHT, Member, Name, Param, Terminal, TypeName};
 
 /// A parameter. A constructor's is never final, whatever its text says.
 #[tactic(auto, unfolding(crate::specs::Members::param))]
@@ -370,7 +369,7 @@ fn bare_member<'t, 'a>(
 }
 
 #[tactic(auto, unfolding(crate::specs::Members::member))]
-fn member<'t, 'a>(
+pub(crate) fn member<'t, 'a>(
     alloc: Global,
     tokens: &'t [Lexeme<'a>],
 ) -> Result<(Member<'a>, &'t [Lexeme<'a>]), Stop<'t, 'a>>
@@ -378,122 +377,4 @@ fn member<'t, 'a>(
 {
     let (_, rest) = flag(tokens, Terminal::Public);
     bare_member(alloc, rest)
-}
-
-/// One member more of a class.
-#[tactic(auto, using(crate::proofs::MemberLoops::member_shorter))]
-fn next_member<'t, 'a>(
-    alloc: Global,
-    so_far: (Vec<Member<'a>>, &'t [Lexeme<'a>]),
-) -> Result<(Vec<Member<'a>>, &'t [Lexeme<'a>]), Stop<'t, 'a>>
-    ensures tree { Gives (λ x. (map member_of x.0.items, x.1.now)) result (item_step member_at (map member_of so_far.entry.0.items) so_far.entry.1.now) }
-    ensures shorter { IfOk result (λ x. length x.1.now < length so_far.entry.1.now) }
-{
-    let (mut items, rest) = so_far;
-    let (item, rest) = member(alloc, rest)?;
-    items.push(item)?;
-    Ok((items, rest))
-}
-
-#[tactic(auto, using(crate::proofs::MemberLoops::member_more, crate::proofs::MemberLoops::member_done))]
-fn members<'t, 'a>(
-    alloc: Global,
-    tokens: &'t [Lexeme<'a>],
-) -> Result<(Vec<Member<'a>>, &'t [Lexeme<'a>]), Stop<'t, 'a>>
-    ensures { Gives (λ x. (map member_of x.0.items, x.1.now)) result (several may_go_on member_at tokens.now) }
-{
-    let mut list = (Vec::new(alloc), tokens);
-    while goes_on(list.1) {
-        list = next_member(alloc, list)?;
-    }
-    Ok(list)
-}
-
-/// `implements Runnable`, or nothing.
-#[tactic(auto, unfolding(crate::specs::Members::runnable))]
-fn runnable<'t, 'a>(tokens: &'t [Lexeme<'a>]) -> Result<(bool, &'t [Lexeme<'a>]), Stop<'t, 'a>>
-    ensures { Gives (λ x. (x.0, x.1.now)) result (runnable_at tokens.now) }
-{
-    if let Some((_, rest)) = accept(tokens, Terminal::Implements) {
-        let (_, rest) = take(rest, Terminal::Runnable)?;
-        return Ok((true, rest));
-    }
-    Ok((false, tokens))
-}
-
-/// The name of the class that a class extends, or nothing.
-#[tactic(auto, unfolding(crate::specs::Members::extended))]
-fn extended<'t, 'a>(
-    tokens: &'t [Lexeme<'a>],
-) -> Result<(Option<Name<'a>>, &'t [Lexeme<'a>]), Stop<'t, 'a>>
-    ensures { Gives (λ x. (x.0, x.1.now)) result (extended_at tokens.now) }
-{
-    if let Some((_, rest)) = accept(tokens, Terminal::Extends) {
-        let (above, rest) = name(rest)?;
-        return Ok((Some(above), rest));
-    }
-    Ok((None, tokens))
-}
-
-#[tactic(auto, unfolding(crate::specs::Members::class_at))]
-fn class<'t, 'a>(
-    alloc: Global,
-    tokens: &'t [Lexeme<'a>],
-) -> Result<(Class<'a>, &'t [Lexeme<'a>]), Stop<'t, 'a>>
-    ensures { Gives (λ x. (class_of x.0, x.1.now)) result (class_at tokens.now) }
-{
-    let (_, rest) = flag(tokens, Terminal::Public);
-    let (_, rest) = take(rest, Terminal::Class)?;
-    let (name, rest) = name(rest)?;
-    let (above, rest) = extended(rest)?;
-    let (runnable, rest) = runnable(rest)?;
-    let (_, rest) = take(rest, Terminal::OpenBrace)?;
-    let (members, rest) = members(alloc, rest)?;
-    let (_, rest) = take(rest, Terminal::CloseBrace)?;
-    Ok((
-        Class {
-            name,
-            above,
-            runnable,
-            members,
-        },
-        rest,
-    ))
-}
-
-/// One class more.
-#[tactic(auto, using(crate::proofs::MemberLoops::class_shorter))]
-fn next_class<'t, 'a>(
-    alloc: Global,
-    so_far: (Vec<Class<'a>>, &'t [Lexeme<'a>]),
-) -> Result<(Vec<Class<'a>>, &'t [Lexeme<'a>]), Stop<'t, 'a>>
-    ensures tree { Gives (λ x. (map class_of x.0.items, x.1.now)) result (item_step class_at (map class_of so_far.entry.0.items) so_far.entry.1.now) }
-    ensures shorter { IfOk result (λ x. length x.1.now < length so_far.entry.1.now) }
-{
-    let (mut items, rest) = so_far;
-    let (item, rest) = class(alloc, rest)?;
-    items.push(item)?;
-    Ok((items, rest))
-}
-
-/// The classes, up to the end of the tokens.
-#[tactic(auto, unfolding(crate::specs::Members::program), using(crate::proofs::MemberLoops::class_more, crate::proofs::MemberLoops::class_done))]
-pub fn classes<'t, 'a>(
-    alloc: Global,
-    tokens: &'t [Lexeme<'a>],
-) -> Result<(Vec<Class<'a>>, &'t [Lexeme<'a>]), Stop<'t, 'a>>
-    ensures { Gives (λ x. (map class_of x.0.items, x.1.now)) result (program_at tokens.now) }
-{
-    let mut list = (Vec::new(alloc), tokens);
-    while stands(list.1) {
-        list = next_class(alloc, list)?;
-    }
-    Ok(list)
-}
-
-/// Whether a token is left.
-fn stands(tokens: &[Lexeme]) -> bool
-    ensures { result ≡ starts (λ x. true) tokens.now }
-{
-    !tokens.is_empty()
 }

@@ -12,7 +12,7 @@ ghost use Rattle.syntax.specs.Views.{program_tree};
 
 use crate::faults::ParseFault;
 use crate::lexeme::{Lexeme, lexemes};
-use crate::member::classes;
+use crate::program::classes;
 use crate::stop::{Stop, SyntaxFault};
 use lexer::Token;
 use std::alloc::Global;

@@ -1,101 +1,22 @@
 //! Statements without statements in them. `high` is the height that is still allowed.
 
-ghost use Rattle.std.specs.Prelude.{◌≡◌, ◌-◌, ◌<◌, ◌≤◌, length, true, IfOk};
+ghost use Rattle.std.specs.Prelude.{◌≡◌, ◌<◌, ◌≤◌};
 ghost use Rattle.syntax.specs.Grammar.{may_be_statement};
 ghost use Rattle.syntax.specs.Heights.{height as height_of};
 ghost use Rattle.syntax.specs.Limits.{most_height};
-ghost use Rattle.syntax.specs.Tokens.{is};
-ghost use Rattle.syntax.specs.Views.{expr_tree, lock_of, stmt_of};
+ghost use Rattle.syntax.specs.Views.{expr_tree, stmt_of};
 ghost use Rattle.parser.specs.Answer.{Gives};
-ghost use Rattle.parser.specs.Combine.{item_step, several};
-ghost use Rattle.parser.specs.Words.{field_name as field_name_at, lock as lock_at, type_name as type_name_at};
 ghost use Rattle.parser.specs.Statements.{assigned as assigned_at, call_end as call_end_at, condition as condition_at, expression as expression_at, expression_statement as expression_statement_at, finish as finish_at, finish_from as finish_from_at, local_rest as local_rest_at, local_statement as local_statement_at, name_statement as name_statement_at, new_statement as new_statement_at, plain_statement as plain_statement_at, print_statement as print_statement_at, return_statement as return_statement_at, start_rest as start_rest_at, target as target_at};
 
-use crate::expression::{LEVELS, Parsed, chain, dots, field_name, new_rest, primary};
+use crate::expression::{LEVELS, chain, dots, new_rest, primary};
 use crate::lexeme::Lexeme;
+use crate::nodes::Parsed;
 use crate::starts::{begins_declaration, begins_second_name};
 use crate::stop::{Stop, SyntaxFault};
 use crate::tokens::{accept, begins, begins_name, name, take};
+use crate::words::type_name;
 use std::alloc::Global;
-use syntax::{Expr, Lock, Name, Stmt, Terminal, TypeName};
-
-/// Reads `int`, `boolean` or the name of a class.
-#[tactic(auto, unfolding(crate::specs::Words::type_name))]
-pub fn type_name<'t, 'a>(
-    tokens: &'t [Lexeme<'a>],
-) -> Result<(TypeName<'a>, &'t [Lexeme<'a>]), Stop<'t, 'a>>
-    ensures { Gives (λ x. (x.0, x.1.now)) result (type_name_at tokens.now) }
-{
-    if let Some((_, rest)) = accept(tokens, Terminal::Int) {
-        return Ok((TypeName::Int, rest));
-    }
-    if let Some((_, rest)) = accept(tokens, Terminal::Boolean) {
-        return Ok((TypeName::Boolean, rest));
-    }
-    let (class, rest) = name(tokens)?;
-    Ok((TypeName::Class(class), rest))
-}
-
-/// One field more behind the root of a lock.
-#[tactic(auto, using(crate::proofs::Fields::field_shorter))]
-fn next_field<'t, 'a>(
-    so_far: (Vec<Name<'a>>, &'t [Lexeme<'a>]),
-) -> Result<(Vec<Name<'a>>, &'t [Lexeme<'a>]), Stop<'t, 'a>>
-    ensures tree { Gives (λ x. (x.0.items, x.1.now)) result (item_step field_name_at so_far.entry.0.items so_far.entry.1.now) }
-    ensures shorter { IfOk result (λ x. length x.1.now < length so_far.entry.1.now) }
-{
-    let (mut items, rest) = so_far;
-    let (item, rest) = field_name(rest)?;
-    items.push(item)?;
-    Ok((items, rest))
-}
-
-/// The fields behind the root of a lock.
-#[tactic(auto, using(crate::proofs::Fields::field_more, crate::proofs::Fields::field_done))]
-fn fields<'t, 'a>(
-    alloc: Global,
-    tokens: &'t [Lexeme<'a>],
-) -> Result<(Vec<Name<'a>>, &'t [Lexeme<'a>]), Stop<'t, 'a>>
-    ensures { Gives (λ x. (x.0.items, x.1.now)) result (several (is Terminal.Dot) field_name_at tokens.now) }
-{
-    let mut list = (Vec::new(alloc), tokens);
-    while begins(list.1, Terminal::Dot) {
-        list = next_field(list)?;
-    }
-    Ok(list)
-}
-
-/// Reads a lock: `this` or a name, and the fields behind it.
-#[tactic(auto, unfolding(crate::specs::Words::lock))]
-pub fn lock<'t, 'a>(
-    alloc: Global,
-    tokens: &'t [Lexeme<'a>],
-) -> Result<(Lock<'a>, &'t [Lexeme<'a>]), Stop<'t, 'a>>
-    ensures { Gives (λ x. (lock_of x.0, x.1.now)) result (lock_at tokens.now) }
-{
-    if let Some((at, rest)) = accept(tokens, Terminal::This) {
-        let (fields, rest) = fields(alloc, rest)?;
-        return Ok((
-            Lock {
-                root: None,
-                fields,
-                at,
-            },
-            rest,
-        ));
-    }
-    let (root, rest) = name(tokens)?;
-    let at = root.at;
-    let (fields, rest) = fields(alloc, rest)?;
-    Ok((
-        Lock {
-            root: Some(root),
-            fields,
-            at,
-        },
-        rest,
-    ))
-}
+use syntax::{Expr, Stmt, Terminal, TypeName};
 
 /// An expression that is a part of a node at most `high` nodes high.
 fn expression<'t, 'a>(

@@ -2,7 +2,7 @@ use Rattle.std.proofs.Common.{◌≡◌, map, length, true}
 use Rattle.syntax.specs.Views.{class_of}
 use Rattle.parser.specs.Combine.{item_step, loop}
 use Rattle.parser.specs.Members.{class_at, program}
-use Rattle.parser.proofs.member.classes.Given as goal
+use Rattle.parser.proofs.program.classes.Given as goal
 
 abbrev pub invariant-loop-alloc : goal.invariant-loop-alloc
 invariant-loop-alloc l = loop (λ x. true) (item_step class_at) (map class_of l.list.0.items) l.list.1.now ≡ program l.tokens

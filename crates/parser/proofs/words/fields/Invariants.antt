@@ -3,7 +3,7 @@ use Rattle.syntax.specs.Tokens.{is}
 use Rattle.syntax.specs.declared.terminal.Terminal.TheVariants as T
 use Rattle.parser.specs.Combine.{item_step, loop, several}
 use Rattle.parser.specs.Words.{field_name}
-use Rattle.parser.proofs.plain.fields.Given as goal
+use Rattle.parser.proofs.words.fields.Given as goal
 
 abbrev pub invariant-loop-list : goal.invariant-loop-list
 invariant-loop-list l = loop (is T.Dot) (item_step field_name) l.list.0.items l.list.1.now ≡ several (is T.Dot) field_name l.tokens
