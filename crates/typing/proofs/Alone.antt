@@ -23,7 +23,7 @@ use Rattle.typing.proofs.Lined.{fields_top, named_top}
 use Rattle.typing.proofs.Paired.{own_runs}
 use Rattle.typing.proofs.Parts.{head_same, tail_same}
 use Rattle.typing.proofs.TreeLines.{the_table, place, above_same, table_long, lined}
-use Rattle.typing.proofs.TypedPrograms.{finality_same}
+use Rattle.typing.proofs.TypedClasses.{finality_same}
 
 module _ (t : TableData) (lined : IsLined t) (k : ℕ) (low : k < length t.classes) (none : above_in_table t k ≡ None) where
   alone_pairs : (n : ℕ) (ds : List MethodData) (ms : List Method) → map (λ (m : Method). m.class) ms ≡ map (λ (d : MethodData). d.class) ds

@@ -9,6 +9,9 @@ pub mod Inversions
 pub mod TypedExprs
 pub mod TypedLocks
 pub mod Shapes
+pub mod StmtSizes
+pub mod EqualSignatures
+pub mod SeenScopes
 pub mod TypedStmts
 pub mod Spelled
 pub mod Parts
@@ -22,8 +25,11 @@ pub mod Pairs
 pub mod Paired
 pub mod TreeLines
 pub mod Agreement
+pub mod NamedFields
 pub mod Meanings
 pub mod Overridden
+pub mod MemberFacts
+pub mod TypedClasses
 pub mod TypedPrograms
 pub mod Alone
 pub mod Gathering

@@ -1,14 +1,12 @@
 -- What a lock of a `requires` means tells its path: locks with equal meanings have equal paths.
-use Rattle.std.proofs.Common.{◌≡◌, ℕ, ◌+◌, ◌≤◌, ◌==◌, suc, Bool, true, false, cond, ◌&&◌, ◌||◌, inl, inr, List, [], ◌∷◌, ◌++◌, map, length, Option, Some, None, Ok, refl, ap, ap₂, sym, ◌∙◌, subst, slice_get, position, bytes_eq, arith, option_map, option_and_then, unwrap_or, if◌then◌else◌, length-append}
+use Rattle.std.proofs.Common.{◌≡◌, ℕ, ◌+◌, ◌≤◌, ◌==◌, Bool, true, false, ◌&&◌, ◌||◌, inl, inr, List, [], ◌∷◌, ◌++◌, map, length, Option, Some, None, Ok, refl, ap, ap₂, sym, ◌∙◌, subst, slice_get, position, bytes_eq, arith, option_map, option_and_then, unwrap_or, if◌then◌else◌, length-append}
 use Rattle.std.specs.Prelude.{ok_or}
 use Rattle.std.specs.List.{list_any, position_from}
-use Rattle.std.specs.Cmp.{both_ways}
 use Rattle.std.specs.Option.{option_or}
 use Rattle.std.proofs.lemmas.Bool.{and_parts, eqb-true, le-leb}
 use Rattle.std.proofs.lemmas.List.{map-append, length-map}
 use Rattle.std.proofs.lemmas.Option.{none-some, same_Some}
 use Rattle.std.proofs.lemmas.Iterator.Adapters.{position_from-zero}
-use Rattle.std.proofs.lemmas.Slice.Eq.{bytes_eq-Decides}
 use Rattle.paths.specs.Paths.{PathData, extended_some, most_fields}
 use Rattle.core_program.specs.declared.types.CoreType.TheVariants as type
 use Rattle.core_program.specs.Locks.{slot_path, is_class}
@@ -17,7 +15,7 @@ use Rattle.syntax.specs.declared.tree.Name.{Name}
 use Rattle.syntax.specs.declared.tree.Param.{Param}
 use Rattle.syntax.specs.declared.tree.TypeName.{TypeName}
 use Rattle.syntax.specs.declared.tree.TypeName.TheVariants as Y
-use Rattle.syntax.specs.Trees.{LockTree, MemberTree, FieldM, CtorM, MethodM, ClassTree, ProgramTree}
+use Rattle.syntax.specs.Trees.{LockTree, ClassTree, ProgramTree}
 use Rattle.classes.specs.Names.{texts_of}
 use Rattle.classes.specs.Members.{field_names}
 use Rattle.classes.specs.Lines.{members_in, members_at}
@@ -43,65 +41,7 @@ use Rattle.typing.proofs.Places.{FieldAt, own_fields, fields_at, field_entry, fi
 use Rattle.typing.proofs.TreeLines.{the_table, place, class_known, same_entry, line_same}
 use Rattle.typing.proofs.TypedExprs.{class_in_of}
 use Rattle.typing.proofs.TypedLocks.{extension_of, class_of}
-
--- ---- a field by its name among the members of a class
-
--- the first field of a name, by its place among the fields
-record IsFrom (k idx from : ℕ) (ms : List MemberTree) (name : List ℕ) (j : ℕ) : Type 0 where
-  place : ℕ
-  field : FieldAt
-  number : j ≡ from + place
-  there : slice_get (own_fields k idx ms) place ≡ Some field
-  found : field_from k from ms name ≡ Some (record { at = record { class = k; place = j }; is_final = field.field.is_final; ty = field.field.ty })
-
-turned_texts : (a b : List ℕ) → bytes_eq a b ≡ bytes_eq b a
-turned_texts a b = both_ways (bytes_eq a b) (bytes_eq b a)
-    (λ h. (bytes_eq-Decides b a).1 (sym ((bytes_eq-Decides a b).0 h))) (λ h. (bytes_eq-Decides a b).1 (sym ((bytes_eq-Decides b a).0 h)))
-
-same_from : (k idx from : ℕ) (ms : List MemberTree) (name : List ℕ) (j : ℕ) → position_from (bytes_eq name) from (texts_of (field_names ms)) ≡ Some j → IsFrom k idx from ms name j
-same_from k idx from [] name j h = absurd (none-some j h)
-same_from k idx from (FieldM f ∷ ms) name j h = by_test (bytes_eq name f.name.text) refl (same_from k (idx + 1) (from + 1) ms name j) h
-  where
-    by_test : (b : Bool) → bytes_eq name f.name.text ≡ b
-        → (position_from (bytes_eq name) (from + 1) (texts_of (field_names ms)) ≡ Some j → IsFrom k (idx + 1) (from + 1) ms name j)
-        → cond b (Some from) (position_from (bytes_eq name) (from + 1) (texts_of (field_names ms))) ≡ Some j → IsFrom k idx from (FieldM f ∷ ms) name j
-    by_test true is later k2 =
-        let same : from ≡ j = same_Some from j k2 in
-        record {
-          place = 0;
-          field = record { class = k; index = idx; field = f };
-          number = omega (arith, same);
-          there = refl;
-          found = ap (λ b. if b then Some (record { at = record { class = k; place = from }; is_final = f.is_final; ty = f.ty }) else field_from k (from + 1) ms name) (turned_texts f.name.text name ∙ is)
-              ∙ ap (λ p. Some (record { at = record { class = k; place = p }; is_final = f.is_final; ty = f.ty })) same;
-        }
-    by_test false is later k2 =
-        let r = later k2 in
-        record {
-          place = suc r.place;
-          field = r.field;
-          number = omega (arith, r.number);
-          there = r.there;
-          found = ap (λ b. if b then Some (record { at = record { class = k; place = from }; is_final = f.is_final; ty = f.ty }) else field_from k (from + 1) ms name) (turned_texts f.name.text name ∙ is) ∙ r.found;
-        }
-same_from k idx from (CtorM n params sets ∷ ms) name j h =
-    let r = same_from k idx from ms name j h in
-    record { place = r.place; field = r.field; number = r.number; there = r.there; found = r.found }
-same_from k idx from (MethodM m ∷ ms) name j h =
-    let r = same_from k idx from ms name j h in
-    record { place = r.place; field = r.field; number = r.number; there = r.there; found = r.found }
-
-none_from : (k from : ℕ) (ms : List MemberTree) (name : List ℕ) → position_from (bytes_eq name) from (texts_of (field_names ms)) ≡ None → field_from k from ms name ≡ None
-none_from k from [] name h = refl
-none_from k from (FieldM f ∷ ms) name h = by_test (bytes_eq name f.name.text) refl (none_from k (from + 1) ms name) h
-  where
-    by_test : (b : Bool) → bytes_eq name f.name.text ≡ b → (position_from (bytes_eq name) (from + 1) (texts_of (field_names ms)) ≡ None → field_from k (from + 1) ms name ≡ None)
-        → cond b (Some from) (position_from (bytes_eq name) (from + 1) (texts_of (field_names ms))) ≡ None → field_from k from (FieldM f ∷ ms) name ≡ None
-    by_test true is later h2 = absurd (none-some from (sym h2))
-    by_test false is later h2 =
-        ap (λ b. if b then Some (record { at = record { class = k; place = from }; is_final = f.is_final; ty = f.ty }) else field_from k (from + 1) ms name) (turned_texts f.name.text name ∙ is) ∙ later h2
-none_from k from (CtorM n params sets ∷ ms) name h = none_from k from ms name h
-none_from k from (MethodM m ∷ ms) name h = none_from k from ms name h
+use Rattle.typing.proofs.NamedFields.{same_from, none_from}
 
 module _ (tree : ProgramTree) (whole : IsFaultless tree) where
   abbrev t : TableData

@@ -1,5 +1,5 @@
 -- The method that runs is like the one that it runs for: what the class rules ask of methods that override, read on the core program.
-use Rattle.std.proofs.Common.{◌≡◌, ◌≢◌, ℕ, ◌+◌, ◌<◌, ◌==◌, ◌||◌, ◌&&◌, ◌⊎◌, zero, suc, Bool, true, false, List, [], ◌∷◌, ◌++◌, map, length, Option, Some, None, is_none, refl, ap, ap₂, sym, ◌∙◌, subst, inl, inr, slice_get, position, bytes_eq, arith, option_map, unwrap_or}
+use Rattle.std.proofs.Common.{◌≡◌, ◌≢◌, ℕ, ◌+◌, ◌<◌, ◌==◌, ◌||◌, ◌&&◌, ◌⊎◌, zero, suc, Bool, true, false, List, [], ◌∷◌, ◌++◌, map, length, Option, Some, None, is_none, refl, ap, ap₂, sym, ◌∙◌, subst, inl, inr, slice_get, bytes_eq, arith, option_map, unwrap_or}
 use Rattle.std.specs.Prelude.{IsSome}
 use Rattle.std.specs.List.{list_any}
 use Rattle.std.specs.Option.{option_or, is_some}
@@ -8,16 +8,11 @@ use Rattle.std.proofs.lemmas.List.Folds.{list_any-append}
 use Rattle.std.proofs.lemmas.Option.{none-some, same_Some, slice_get_within}
 use Rattle.std.proofs.lemmas.Slice.Eq.{bytes_eq-Decides}
 use Rattle.paths.specs.Paths.{PathData}
-use Rattle.core_program.specs.declared.types.CoreType.{CoreType}
-use Rattle.core_program.specs.declared.types.CoreType.TheVariants as type
 use Rattle.core_program.specs.Core.{Program, Method}
 use Rattle.core_program.specs.Dispatch.{is_kind_of, Overrides}
 use Rattle.core_program.specs.Typed.{AreAlike, IsEntry}
-use Rattle.syntax.specs.declared.tree.Param.{Param}
-use Rattle.syntax.specs.declared.tree.TypeName.{TypeName}
-use Rattle.syntax.specs.declared.tree.TypeName.TheVariants as Y
 use Rattle.syntax.specs.Trees.{MemberTree, FieldM, CtorM, MethodM, ClassTree, ProgramTree}
-use Rattle.classes.specs.Members.{has_none, is_bare, is_entry, is_same_type}
+use Rattle.classes.specs.Members.{has_none, is_bare, is_entry}
 use Rattle.classes.specs.Lines.{above, ancestor_classes, members_in, members_at, all_members}
 use Rattle.classes.specs.Overriding.{LockMeaning, meanings_of, are_among, same_where_known, same_mark, are_alike, is_same_result, may_override}
 use Rattle.classes.proofs.Faultless.{IsFaultless, along_lines, inherited_step, inherited_none, overriding}
@@ -41,6 +36,7 @@ use Rattle.typing.proofs.Built.{IsBuilt, IsMethod, empty_is}
 use Rattle.typing.proofs.Built as parts
 use Rattle.typing.proofs.TreeLines.{the_table, place, table_long, above_same, lined, line_same}
 use Rattle.typing.proofs.Agreement.{method_there, own_method_place, methods_owned, kinds_same}
+use Rattle.typing.proofs.EqualSignatures.{marks_same, param_pair, params_same, results_same}
 
 -- ---- where a method is written
 
@@ -93,43 +89,6 @@ written tree n d h =
     let r = is_in 0 tree n d h in
     let number : d.class ≡ r.index = omega (arith, r.number) in
     record { class = r.class; at = ap (slice_get tree) number ∙ r.at; place = r.place; there = r.there }
-
--- ---- equal signatures
-
-marks_same : (a b : Bool) → same_mark a b ≡ true → a ≡ b
-marks_same true b h = sym h
-marks_same false false h = refl
-marks_same false true h = absurd (let e : false ≡ true = h in cc)
-
-types_same : (names : List (List ℕ)) (t u : TypeName) → is_same_type t u ≡ true → type_of names t ≡ type_of names u
-types_same names Y.Int Y.Int h = refl
-types_same names Y.Boolean Y.Boolean h = refl
-types_same names (Y.Class m) (Y.Class n) h =
-    ap (λ text. type.Class (unwrap_or (position (bytes_eq text) names) 0)) ((bytes_eq-Decides m.text n.text).0 h)
-types_same names Y.Int Y.Boolean h = absurd (let e : false ≡ true = h in cc)
-types_same names Y.Int (Y.Class n) h = absurd (let e : false ≡ true = h in cc)
-types_same names Y.Boolean Y.Int h = absurd (let e : false ≡ true = h in cc)
-types_same names Y.Boolean (Y.Class n) h = absurd (let e : false ≡ true = h in cc)
-types_same names (Y.Class m) Y.Int h = absurd (let e : false ≡ true = h in cc)
-types_same names (Y.Class m) Y.Boolean h = absurd (let e : false ≡ true = h in cc)
-
-abbrev param_pair : List (List ℕ) → Param → Bool × CoreType
-param_pair names q = (q.is_final, type_of names q.ty)
-
-params_same : (names : List (List ℕ)) (ps qs : List Param) → are_alike ps qs ≡ true → map (param_pair names) ps ≡ map (param_pair names) qs
-params_same names [] [] h = refl
-params_same names [] (q ∷ qs) h = absurd (let e : false ≡ true = h in cc)
-params_same names (p ∷ ps) [] h = absurd (let e : false ≡ true = h in cc)
-params_same names (p ∷ ps) (q ∷ qs) h =
-    let a = and_parts (same_mark p.is_final q.is_final) (is_same_type p.ty q.ty && are_alike ps qs) h in
-    let b = and_parts (is_same_type p.ty q.ty) (are_alike ps qs) a.1 in
-    ap₂ (λ x xs. x ∷ xs) (ap₂ (λ x y. (x, y)) (marks_same p.is_final q.is_final a.0) (types_same names p.ty q.ty b.0)) (params_same names ps qs b.1)
-
-results_same : (names : List (List ℕ)) (t u : Option TypeName) → is_same_result t u ≡ true → option_map (type_of names) t ≡ option_map (type_of names) u
-results_same names None None h = refl
-results_same names None (Some u) h = absurd (let e : false ≡ true = h in cc)
-results_same names (Some t) None h = absurd (let e : false ≡ true = h in cc)
-results_same names (Some t) (Some u) h = ap Some (types_same names t u h)
 
 module _ (tree : ProgramTree) (P : Program) (b : IsBuilt tree P) (whole : IsFaultless tree) where
   abbrev t : TableData

@@ -7,7 +7,7 @@ use Rattle.syntax.specs.Tokens.{token, name_token, number_token}
 use Rattle.syntax.specs.Grammar.{Spells, SpellsArgs, SpellsMoreArgs, SpellsStmt, SpellsStmts, SpellsField, SpellsBare, SpellsMember, SpellsClass, Repeats, sign_of}
 use Rattle.syntax.specs.Trees.{ExprTree, ExprTrees, NumberE, LeastE, TruthE, NullE, ThisE, VarE, ParenE, NotE, NegE, BinaryE, GetE, CallE, NewE, no_exprs, more_exprs, StmtTree, StmtTrees, EmptyS, BlockS, LocalS, SetVarS, SetFieldS, DoS, IfS, IfElseS, WhileS, SyncS, ReturnS, PrintS, StartS, no_stmts, more_stmts, FieldTree, MemberTree, FieldM, CtorM, MethodM, ProgramTree}
 use Rattle.typing.proofs.Shapes.{size, sizes}
-use Rattle.typing.proofs.TypedStmts.{stmt_size, stmt_sizes}
+use Rattle.typing.proofs.StmtSizes.{stmt_size, stmt_sizes}
 
 -- the length of two lists of tokens
 both_long : (xs ys : List Token) → length (xs ++ ys) ≡ length xs + length ys

@@ -1,9 +1,8 @@
 -- The core node of a statement is typed, declares and completes as the statement does, and isn't larger.
-use Rattle.std.proofs.Common.{◌≡◌, ℕ, ◌+◌, ◌<◌, ◌≤◌, max, Bool, true, false, not, List, [], ◌∷◌, ◌++◌, Option, Some, None, is_none, Ok, refl, ap, ap₂, sym, ◌∙◌, subst, ◌&&◌, ◌||◌, ◌⊎◌, inl, inr, Contains, slice_get, nat_lt, bytes_eq, arith, option_map, if◌then◌else◌}
+use Rattle.std.proofs.Common.{◌≡◌, ℕ, ◌+◌, ◌<◌, ◌≤◌, max, Bool, true, false, not, List, [], ◌∷◌, ◌++◌, Option, Some, None, is_none, Ok, refl, ap, ap₂, sym, ◌∙◌, subst, ◌&&◌, ◌||◌, Contains, slice_get, nat_lt, arith, option_map, if◌then◌else◌}
 use Rattle.std.specs.Prelude.{ok_or}
 use Rattle.std.proofs.lemmas.Bool.Decides.{nat_tests}
 use Rattle.std.proofs.lemmas.Option.{slice_get_within, same_Some}
-use Rattle.std.proofs.lemmas.List.Elements.{Contains-append_right}
 use Rattle.std.proofs.lemmas.Bool.{not-true}
 use Rattle.base.proofs.Options.{if_taken}
 use Rattle.syntax.specs.declared.tree.Name.{Name}
@@ -36,92 +35,17 @@ use Rattle.typing.proofs.Inversions.{same_ok, gain_of, given_of, none_of, both_o
 use Rattle.typing.proofs.TypedExprs.{Agrees, Seen, wider, is_int_of, is_boolean_of, receiver_of, field_of, expr_holds}
 use Rattle.typing.proofs.TypedLocks.{lock_holds}
 use Rattle.typing.proofs.Shapes.{max_mono, size, IsShape, expr_shape}
-
-abbrev mutual
-  -- how many nodes a statement's core node has at most
-  pub stmt_size : StmtTree → ℕ
-  stmt_size (tree.EmptyS at) = 1
-  stmt_size (tree.BlockS ss at) = 1 + stmt_sizes ss
-  stmt_size (tree.LocalS fin ty n e at) = 1 + size e
-  stmt_size (tree.SetVarS n e at) = 1 + size e
-  stmt_size (tree.SetFieldS e n value at) = 1 + (size e + size value)
-  stmt_size (tree.DoS e at) = 1 + size e
-  stmt_size (tree.IfS c s at) = 1 + (size c + (stmt_size s + 1))
-  stmt_size (IfElseS c s u at) = 1 + (size c + (stmt_size s + stmt_size u))
-  stmt_size (tree.WhileS c s at) = 1 + (size c + stmt_size s)
-  stmt_size (tree.SyncS l ss at) = 1 + (1 + stmt_sizes ss)
-  stmt_size (tree.ReturnS None at) = 1
-  stmt_size (tree.ReturnS (Some e) at) = 1 + size e
-  stmt_size (tree.PrintS e at) = 1 + size e
-  stmt_size (tree.StartS e at) = 1 + size e
-
-  pub stmt_sizes : StmtTrees → ℕ
-  stmt_sizes tree.no_stmts = 0
-  stmt_sizes (more_stmts s ss) = stmt_size s + stmt_sizes ss
+use Rattle.typing.proofs.StmtSizes.{stmt_size, stmt_sizes, max_if, at_least_one}
+use Rattle.typing.proofs.SeenScopes.{seen_more}
 
 -- ---- small facts
-
-max_if : (a b c d : ℕ) → a ≤ c → b ≤ d → 1 ≤ d → max a (max b 1) ≤ max c d
-max_if a b c d h k one = grind arith
 
 or_true : (b : Bool) → (b || true) ≡ true
 or_true true = refl
 or_true false = refl
 
-pub first_in : {A : Type 0} (x : A) (xs : List A) → Contains (x ∷ xs) x
-first_in x xs = (0, omega arith, refl)
-
-pub later_in : {A : Type 0} (x : A) (xs : List A) (y : A) → Contains xs y → Contains (x ∷ xs) y
-later_in x xs y h = Contains-append_right (x ∷ []) xs y h
-
 below_limit : (n : ℕ) → nat_lt n most_locals ≡ true → n + 1 ≤ most_locals
 below_limit n h = grind (arith, nat_tests)
-
-at_least_one : (s : StmtTree) → 1 ≤ tree_height.stmt_height s
-at_least_one (tree.EmptyS at) = omega arith
-at_least_one (tree.BlockS ss at) = omega arith
-at_least_one (tree.LocalS fin ty n e at) = omega arith
-at_least_one (tree.SetVarS n e at) = omega arith
-at_least_one (tree.SetFieldS e n value at) = omega arith
-at_least_one (tree.DoS e at) = omega arith
-at_least_one (tree.IfS c s at) = omega arith
-at_least_one (IfElseS c s u at) = omega arith
-at_least_one (tree.WhileS c s at) = omega arith
-at_least_one (tree.SyncS l ss at) = omega arith
-at_least_one (tree.ReturnS None at) = omega arith
-at_least_one (tree.ReturnS (Some e) at) = omega arith
-at_least_one (tree.PrintS e at) = omega arith
-at_least_one (tree.StartS e at) = omega arith
-
--- ---- scopes
-
--- what is found with one variable more
-found_in : (scope : Scope) (b : Binding) (name : List ℕ) (v : Variable) → variable (scope ++ b ∷ []) name ≡ Some v
-    → (variable scope name ≡ Some v) ⊎ (b.variable ≡ v)
-found_in [] b name v =
-    elim (bytes_eq b.name name) as (λ x. (if x then Some b.variable else None) ≡ Some v → (None ≡ Some v) ⊎ (b.variable ≡ v)) [
-      | true ↦ λ h. inr (same_Some b.variable v h)
-      | false ↦ λ h. inl h
-    ]
-found_in (a ∷ rest) b name v =
-    elim (bytes_eq a.name name)
-    as (λ x. (if x then Some a.variable else variable (rest ++ b ∷ []) name) ≡ Some v
-    → ((if x then Some a.variable else variable rest name) ≡ Some v) ⊎ (b.variable ≡ v)) [
-      | true ↦ λ h. inl h
-      | false ↦ λ h. found_in rest b name v h
-    ]
-
-seen_more : (scope : Scope) (vars : List Variable) (b : Binding) → Seen scope vars → 0 < b.variable.slot → Seen (scope ++ b ∷ []) (b.variable ∷ vars)
-seen_more scope vars b s above = record {
-  seen = λ name v h. elim (found_in scope b name v h) [
-    | inl old ↦ later_in b.variable vars v (s.seen name v old)
-    | inr new ↦ subst (Contains (b.variable ∷ vars)) new (first_in b.variable vars)
-  ];
-  above = λ name v h. elim (found_in scope b name v h) [
-    | inl old ↦ s.above name v old
-    | inr new ↦ subst (λ z. 0 < z.slot) new above
-  ];
-}
 
 module _ (t : TableData) (P : Program) (agrees : Agrees t P) (class : ℕ) (returns : Option CoreType) (first : ℕ) (first_above : 0 < first) where
   -- a type that is known is one of the program

@@ -100,6 +100,13 @@ abbrev pub declared_type : TableData → StmtTree → Option CoreType
 declared_type t (tree.LocalS fin ty n e at) = gain (type_rule t ty)
 declared_type t _ = None
 
+-- a declaration or an assignment, by itself; any other statement counts as an empty one
+abbrev pub assignment : StmtTree → StmtTree
+assignment (tree.LocalS fin ty n e at) = tree.LocalS fin ty n e at
+assignment (tree.SetVarS n e at) = tree.SetVarS n e at
+assignment (tree.SetFieldS e n value at) = tree.SetFieldS e n value at
+assignment _ = tree.EmptyS 0
+
 -- of a statement of a block that can't be reached
 abbrev pub unreachable : Bool → StmtTree → List TypeFault
 unreachable true s = []

@@ -42,11 +42,12 @@ pub(crate) fn typed(
     ensures fault { OnOk result (first.new ≡ type_noted first.old (expr_faults_in body.now scope.now (expr_tree e.now))) }
 {
     let environment = Environment {
+        alloc: body.alloc,
         table: body.table,
         class: body.class,
         scope,
     };
-    boxed_expr(body.alloc, &environment, e, first)
+    boxed_expr(&environment, e, first)
 }
 
 /// A condition with these variables in scope.

@@ -22,9 +22,11 @@ use paths::ClassId;
 use std::alloc::{AllocError as NoMemory, Global};
 use syntax::{Expr, Name, Op};
 
-/// What the names of an expression are looked up in: the class table, the class that it stands in, and the variables in scope.
+/// Where the nodes of an expression are made, and what its names are looked up in: the class table, the class that it
+/// stands in, and the variables in scope.
 #[derive(Clone, Copy)]
 pub(crate) struct Environment<'t, 'a> {
+    pub(crate) alloc: Global,
     pub(crate) table: &'t ClassTable<'a>,
     pub(crate) class: ClassId,
     pub(crate) scope: &'t [Bound<'a>],
@@ -33,7 +35,6 @@ pub(crate) struct Environment<'t, 'a> {
 /// An expression in an environment. None where it has no type; its faults are noted.
 #[cycle(expressions)]
 fn expr(
-    alloc: Global,
     environment: &Environment,
     e: &Expr,
     first: &mut FirstFault,
@@ -51,24 +52,21 @@ fn expr(
         })),
         Expr::This(_) => Ok(Some(value(CoreType::Class(environment.class), CoreExpr::This))),
         Expr::Var(name) => Ok(variable_rule(environment.scope, name, first)),
-        Expr::Paren(inner, _) => expr(alloc, environment, inner, first),
-        Expr::Not(part, at) => not_expr(alloc, environment, part, *at, first),
-        Expr::Neg(part, at) => neg_expr(alloc, environment, part, *at, first),
+        Expr::Paren(inner, _) => expr(environment, inner, first),
+        Expr::Not(part, at) => not_expr(environment, part, *at, first),
+        Expr::Neg(part, at) => neg_expr(environment, part, *at, first),
         Expr::Binary(op, left, right, at) => {
-            binary_expr(alloc, environment, *op, left, right, *at, first)
+            binary_expr(environment, *op, left, right, *at, first)
         }
-        Expr::Get(receiver, name) => get_expr(alloc, environment, receiver, name, first),
-        Expr::Call(receiver, name, args) => {
-            call_expr(alloc, environment, receiver, name, args, first)
-        }
-        Expr::New(name, args, _) => new_expr(alloc, environment, name, args, first),
+        Expr::Get(receiver, name) => get_expr(environment, receiver, name, first),
+        Expr::Call(receiver, name, args) => call_expr(environment, receiver, name, args, first),
+        Expr::New(name, args, _) => new_expr(environment, name, args, first),
     }
 }
 
 /// An expression in a box. It is boxed at once, so that there is only a box to drop where a later part fails.
 #[cycle(expressions)]
 pub(crate) fn boxed_expr(
-    alloc: Global,
     environment: &Environment,
     e: &Expr,
     first: &mut FirstFault,
@@ -76,17 +74,16 @@ pub(crate) fn boxed_expr(
     ensures typed { IfOk result (λ r. option_map boxed_data r ≡ typed_there environment.now (expr_tree e.now)) }
     ensures fault { OnOk result (first.new ≡ type_noted first.old (faults_there environment.now (expr_tree e.now))) }
 {
-    let Some(made) = expr(alloc, environment, e, first)? else {
+    let Some(made) = expr(environment, e, first)? else {
         return Ok(None);
     };
-    let node = Box::new(alloc, made.node)?;
+    let node = Box::new(environment.alloc, made.node)?;
     Ok(Some(BoxedExpr { ty: made.ty, node }))
 }
 
 #[cycle(expressions)]
 #[inline(never)]
 fn not_expr(
-    alloc: Global,
     environment: &Environment,
     part: &Expr,
     at: u32,
@@ -95,14 +92,13 @@ fn not_expr(
     ensures typed { IfOk result (λ r. option_map typed_data r ≡ typed_there environment.now (NotE (expr_tree part.now) at)) }
     ensures fault { OnOk result (first.new ≡ type_noted first.old (faults_there environment.now (NotE (expr_tree part.now) at))) }
 {
-    let part = boxed_expr(alloc, environment, part, first)?;
+    let part = boxed_expr(environment, part, first)?;
     Ok(not_rule(at, part, first))
 }
 
 #[cycle(expressions)]
 #[inline(never)]
 fn neg_expr(
-    alloc: Global,
     environment: &Environment,
     part: &Expr,
     at: u32,
@@ -111,14 +107,13 @@ fn neg_expr(
     ensures typed { IfOk result (λ r. option_map typed_data r ≡ typed_there environment.now (NegE (expr_tree part.now) at)) }
     ensures fault { OnOk result (first.new ≡ type_noted first.old (faults_there environment.now (NegE (expr_tree part.now) at))) }
 {
-    let part = boxed_expr(alloc, environment, part, first)?;
+    let part = boxed_expr(environment, part, first)?;
     Ok(neg_rule(at, part, first))
 }
 
 #[cycle(expressions)]
 #[inline(never)]
 fn binary_expr(
-    alloc: Global,
     environment: &Environment,
     op: Op,
     left: &Expr,
@@ -129,15 +124,14 @@ fn binary_expr(
     ensures typed { IfOk result (λ r. option_map typed_data r ≡ typed_there environment.now (BinaryE op (expr_tree left.now) (expr_tree right.now) at)) }
     ensures fault { OnOk result (first.new ≡ type_noted first.old (faults_there environment.now (BinaryE op (expr_tree left.now) (expr_tree right.now) at))) }
 {
-    let left = boxed_expr(alloc, environment, left, first)?;
-    let right = boxed_expr(alloc, environment, right, first)?;
+    let left = boxed_expr(environment, left, first)?;
+    let right = boxed_expr(environment, right, first)?;
     Ok(binary_rule(environment.table, op, at, left, right, first))
 }
 
 #[cycle(expressions)]
 #[inline(never)]
 fn get_expr(
-    alloc: Global,
     environment: &Environment,
     receiver: &Expr,
     name: &Name,
@@ -146,14 +140,13 @@ fn get_expr(
     ensures typed { IfOk result (λ r. option_map typed_data r ≡ typed_there environment.now (GetE (expr_tree receiver.now) name.now)) }
     ensures fault { OnOk result (first.new ≡ type_noted first.old (faults_there environment.now (GetE (expr_tree receiver.now) name.now))) }
 {
-    let receiver = boxed_expr(alloc, environment, receiver, first)?;
+    let receiver = boxed_expr(environment, receiver, first)?;
     Ok(get_rule(environment.table, name, receiver, first))
 }
 
 #[cycle(expressions)]
 #[inline(never)]
 fn call_expr(
-    alloc: Global,
     environment: &Environment,
     receiver: &Expr,
     name: &Name,
@@ -163,15 +156,21 @@ fn call_expr(
     ensures typed { IfOk result (λ r. option_map typed_data r ≡ typed_there environment.now (CallE (expr_tree receiver.now) name.now (exprs_from (map expr_tree args.now)))) }
     ensures fault { OnOk result (first.new ≡ type_noted first.old (faults_there environment.now (CallE (expr_tree receiver.now) name.now (exprs_from (map expr_tree args.now))))) }
 {
-    let receiver = boxed_expr(alloc, environment, receiver, first)?;
-    let args = arguments(alloc, environment, args, first)?;
-    call_rule(alloc, environment.table, name, receiver, args, first)
+    let receiver = boxed_expr(environment, receiver, first)?;
+    let args = arguments(environment, args, first)?;
+    call_rule(
+        environment.alloc,
+        environment.table,
+        name,
+        receiver,
+        args,
+        first,
+    )
 }
 
 #[cycle(expressions)]
 #[inline(never)]
 fn new_expr(
-    alloc: Global,
     environment: &Environment,
     name: &Name,
     args: &[Expr],
@@ -180,13 +179,12 @@ fn new_expr(
     ensures typed { IfOk result (λ r. option_map typed_data r ≡ typed_there environment.now (NewE name.now (exprs_from (map expr_tree args.now)) 0)) }
     ensures fault { OnOk result (first.new ≡ type_noted first.old (faults_there environment.now (NewE name.now (exprs_from (map expr_tree args.now)) 0))) }
 {
-    let args = arguments(alloc, environment, args, first)?;
-    new_rule(alloc, environment.table, name, args, first)
+    let args = arguments(environment, args, first)?;
+    new_rule(environment.alloc, environment.table, name, args, first)
 }
 
 #[cycle(expressions)]
 fn arguments(
-    alloc: Global,
     environment: &Environment,
     args: &[Expr],
     first: &mut FirstFault,
@@ -194,9 +192,9 @@ fn arguments(
     ensures typed { IfOk result (λ r. option_map (λ a. typed_list a.items) r ≡ typed_each environment.now (exprs_from (map expr_tree args.now))) }
     ensures fault { OnOk result (first.new ≡ type_noted first.old (faults_of_each environment.now (exprs_from (map expr_tree args.now)))) }
 {
-    let mut parts = Gathered::new(alloc);
+    let mut parts = Gathered::new(environment.alloc);
     for arg in args {
-        parts.add(expr(alloc, environment, arg, first)?)?;
+        parts.add(expr(environment, arg, first)?)?;
     }
     Ok(parts.all())
 }

@@ -23,6 +23,7 @@ mod order;
 mod rule_laws;
 mod rules;
 mod scope;
+mod simple_stmts;
 mod stmt_rules;
 mod stmts;
 mod targets;

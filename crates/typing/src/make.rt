@@ -84,6 +84,7 @@ fn assembled(
     ensures { IfOk result (λ p. Some (core.program_of p) ≡ option_map (program_node (table_data table.now)) (both (fields_data parts) (methods_data parts))) }
 {
     let Members {
+        alloc: _,
         fields,
         methods,
         next_field: _,

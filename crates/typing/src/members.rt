@@ -27,9 +27,10 @@ use paths::{ClassId, Path};
 use std::alloc::{AllocError as NoMemory, Global};
 use syntax::{Class, Lock, Member};
 
-/// The core fields and methods so far, and the numbers of the next ones in the class table.
+/// The core fields and methods so far, where they are made, and the numbers of the next ones in the class table.
 #[derive(Drop)]
 pub(crate) struct Members {
+    pub(crate) alloc: Global,
     pub(crate) fields: Gathered<CoreField>,
     pub(crate) methods: Gathered<CoreMethod>,
     pub(crate) next_field: u32,
@@ -101,7 +102,6 @@ fn next_index(index: u16) -> Result<u16, NoMemory>
 
 /// One member of a class, in which so many fields stand before it; how many stand before the next.
 fn add_member(
-    alloc: Global,
     table: &ClassTable,
     class: ClassId,
     index: u16,
@@ -132,7 +132,7 @@ fn add_member(
         Member::Ctor { .. } => Ok(index),
         Member::Method { .. } => {
             let entry = method_entry(table, parts.next_method);
-            let method = method(alloc, table, class, entry, member, first)?;
+            let method = method(parts.alloc, table, class, entry, member, first)?;
             parts.methods.add(method)?;
             parts.next_method = next_number(parts.next_method)?;
             Ok(index)
@@ -142,7 +142,6 @@ fn add_member(
 
 /// The members of a class, which has so many fields from above.
 fn add_members(
-    alloc: Global,
     table: &ClassTable,
     class: ClassId,
     inherited: u16,
@@ -159,7 +158,7 @@ fn add_members(
 {
     let mut index = inherited;
     for member in members {
-        index = add_member(alloc, table, class, index, member, parts, first)?;
+        index = add_member(table, class, index, member, parts, first)?;
     }
     Ok(())
 }
@@ -190,6 +189,7 @@ pub(crate) fn parts_of(
     ensures fault { OnOk result (first.new ≡ type_noted first.old (type_faults_from (table_data table.now) 0 (map class_of classes.now))) }
 {
     let mut parts = Members {
+        alloc,
         fields: Gathered::new(alloc),
         methods: Gathered::new(alloc),
         next_field: 0,
@@ -200,7 +200,6 @@ pub(crate) fn parts_of(
         let id = ClassId(number);
         let inherited = value_of(lineages, id).inherited;
         add_members(
-            alloc,
             table,
             id,
             inherited,
