@@ -12,6 +12,7 @@ pub mod BookNumbers
 pub mod Walking
 pub mod Measures
 pub mod NameLemmas
+pub mod Untold
 pub mod Telling
 pub mod HoldLemmas
 pub mod Following

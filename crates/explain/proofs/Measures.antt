@@ -7,16 +7,16 @@ use Rattle.core_program.specs.Core.{Stmt, Stmts, BlockS, IfS, WhileS, SyncS, no_
 use Rattle.core_program.specs.Views.{expr_of, exprs_from, stmt_of, stmts_from}
 
 abbrev mutual
-  -- more by two than that of the parts
+  -- more by three than that of the parts
   pub expr_measure : Expr → ℕ
-  expr_measure (NotE e) = 2 + expr_measure e
-  expr_measure (NegE e) = 2 + expr_measure e
-  expr_measure (BinaryE op a b) = 2 + (expr_measure a + expr_measure b)
-  expr_measure (AndE a b) = 2 + (expr_measure a + expr_measure b)
-  expr_measure (OrE a b) = 2 + (expr_measure a + expr_measure b)
-  expr_measure (GetE e f) = 2 + expr_measure e
-  expr_measure (CallE e m args) = 2 + (expr_measure e + exprs_measure args)
-  expr_measure (NewE c args) = 2 + exprs_measure args
+  expr_measure (NotE e) = 3 + expr_measure e
+  expr_measure (NegE e) = 3 + expr_measure e
+  expr_measure (BinaryE op a b) = 3 + (expr_measure a + expr_measure b)
+  expr_measure (AndE a b) = 3 + (expr_measure a + expr_measure b)
+  expr_measure (OrE a b) = 3 + (expr_measure a + expr_measure b)
+  expr_measure (GetE e f) = 3 + expr_measure e
+  expr_measure (CallE e m args) = 3 + (expr_measure e + exprs_measure args)
+  expr_measure (NewE c args) = 3 + exprs_measure args
   expr_measure _ = 1
 
   -- more by two than that of each expression in it

@@ -2,7 +2,7 @@
 use Rattle.std.specs.Prelude.{◌≡◌, ℕ, ◌+◌, List, ◌++◌, Option, length}
 use Rattle.paths.specs.Paths.{PathData}
 use Rattle.algebra.specs.declared.basic.Basic.{Basic}
-use Rattle.algebra.specs.Basics.{join_of}
+use Rattle.algebra.specs.Basics.{join_of, seq_of}
 use Rattle.algebra.specs.HeldPaths.{Held}
 use Rattle.core_program.specs.Core.{Program, Expr, Exprs, Stmt, Stmts}
 use Rattle.core_program.specs.Sizes.{stmt_nodes}
@@ -39,6 +39,15 @@ module _ (P : Program) (rel : ℕ → List PathData) (A : Assignment) where
   abbrev pub WalkedExprs : Exprs → Held → Option ℕ → Found → Basic → Found → Type 0
   WalkedExprs es H loop old given new =
       Walked P rel A (exprs_visits es (next old) H loop) (exprs_steps P rel A es (next old) H loop) (exprs_basics P rel A es H) (exprs_effect P rel A es H) old given new
+
+  -- the walk through two expressions, one after the other
+  pub record WalkedTwo (e f : Expr) (H : Held) (loop : Option ℕ) (old : Found) (given : Basic) (new : Found) : Type 0 where
+    pub between : Found
+    pub first : Basic
+    pub second : Basic
+    pub one : WalkedExpr e H loop old first between
+    pub other : WalkedExpr f H loop between second new
+    pub is : given ≡ seq_of first second
 
   -- the same of statements; and of both branches of an `if`
   abbrev pub WalkedStmt : Stmt → Held → Option ℕ → Found → Basic → Found → Type 0

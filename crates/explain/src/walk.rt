@@ -5,18 +5,23 @@ ghost use Rattle.std.specs.Prelude.{◌≡◌, ◌+◌, ◌++◌, [], IfOk, OnOk
 ghost use Rattle.algebra.specs.declared.basic.Basic.TheVariants.{Mover};
 ghost use Rattle.algebra.specs.Basics.{below_of};
 ghost use Rattle.algebra.specs.HeldPaths.{has_path};
+ghost use Rattle.core_program.specs.Core.{SyncS};
+ghost use Rattle.core_program.specs.Locks.{path_of};
 ghost use Rattle.core_program.specs.Views.{expr_of, exprs_from, program_of, stmt_of, stmts_from};
+ghost use Rattle.effects.specs.Parts.{StmtP};
+ghost use Rattle.rules.specs.Effect.{call_of};
+ghost use Rattle.rules.specs.Mentions.{paths_of};
 ghost use Rattle.rules.specs.Near.{rel_of};
 ghost use Rattle.explain.specs.Visits.{visit};
-ghost use Rattle.explain.specs.Views.{part_of, visits_of};
-ghost use Rattle.explain.specs.Walked.{InsideExpr, InsideStmt, WalkedBlock, WalkedBranches, WalkedExpr, WalkedExprs, WalkedStmt, next};
+ghost use Rattle.explain.specs.Views.{is_heavy, part_of, visits_of};
+ghost use Rattle.explain.specs.Walked.{InsideExpr, InsideStmt, WalkedBlock, WalkedBranches, WalkedExpr, WalkedExprs, WalkedStmt, WalkedTwo, next};
 
 use crate::found::{CorePart, Found, Reached};
 use algebra::{Basic, has};
 use core_program::{CoreExpr, CoreProgram, CoreStmt};
 use effects::accesses_at::access;
 use effects::{Assigned, Called, after, call_effect, copied, variable, with_path};
-use paths::Path;
+use paths::{MethodId, Path};
 use rules::RelevantSets;
 use std::alloc::{AllocError as NoMemory, Global};
 
@@ -68,21 +73,9 @@ fn inside_expr<'p, A: Assigned>(
         CoreExpr::Int(_) | CoreExpr::Truth(_) | CoreExpr::Null | CoreExpr::This => Ok(Basic::Const),
         CoreExpr::Var { is_final, .. } => Ok(variable(*is_final)),
         CoreExpr::Not(a) | CoreExpr::Neg(a) => walk_expr(walk, a, held, looped, found),
-        CoreExpr::Binary(_, a, b) => {
-            let first = walk_expr(walk, a, held, looped, found)?;
-            let second = walk_expr(walk, b, held, looped, found)?;
-            Ok(first.seq(second))
-        }
-        CoreExpr::And(a, b) => {
-            let first = walk_expr(walk, a, held, looped, found)?;
-            let second = walk_expr(walk, b, held, looped, found)?;
-            Ok(first.seq(second))
-        }
-        CoreExpr::Or(a, b) => {
-            let first = walk_expr(walk, a, held, looped, found)?;
-            let second = walk_expr(walk, b, held, looped, found)?;
-            Ok(first.seq(second))
-        }
+        CoreExpr::Binary(_, a, b) => walk_pair(walk, a, b, held, looped, found),
+        CoreExpr::And(a, b) => walk_pair(walk, a, b, held, looped, found),
+        CoreExpr::Or(a, b) => walk_pair(walk, a, b, held, looped, found),
         CoreExpr::Get(a, field) => {
             let receiver = walk_expr(walk, a, held, looped, found)?;
             let own = access(walk.program, a, *field, false, held);
@@ -92,20 +85,7 @@ fn inside_expr<'p, A: Assigned>(
         CoreExpr::Call(a, callee, args) => {
             let receiver = walk_expr(walk, a, held, looped, found)?;
             let passed = walk_exprs(walk, args.as_slice(), held, looped, found)?;
-            let call = Called {
-                receiver: a,
-                callee: *callee,
-                args: args.as_slice(),
-            };
-            let own = call_effect(
-                walk.alloc,
-                walk.program,
-                walk.sets,
-                walk.assigned,
-                &call,
-                held,
-            )?;
-            found.note(walk.alloc, own, reached)?;
+            let own = note_call(walk, a, *callee, args.as_slice(), reached, found)?;
             Ok(receiver.seq(passed.seq(own)))
         }
         CoreExpr::New(_, args) => {
@@ -113,6 +93,57 @@ fn inside_expr<'p, A: Assigned>(
             Ok(passed.seq(Basic::Mover))
         }
     }
+}
+
+/// Walks through two expressions, one after the other.
+#[cycle(expressions)]
+fn walk_pair<'p, A: Assigned>(
+    walk: &Walk<'_, A>,
+    a: &'p CoreExpr,
+    b: &'p CoreExpr,
+    held: &[Path],
+    looped: Option<usize>,
+    found: &mut Found<'p>,
+) -> Result<Basic, NoMemory>
+    ensures { IfOk result (λ d. WalkedTwo (program_of walk.now.program.now) (rel_of walk.now.sets.now) (A.Assigned.assigned walk.now.assigned.now) (expr_of a.now) (expr_of b.now) (has_path held.now) looped found.old d found.new) }
+{
+    let first = walk_expr(walk, a, held, looped, found)?;
+    let second = walk_expr(walk, b, held, looped, found)?;
+    Ok(first.seq(second))
+}
+
+/// Notes a call by itself, behind its receiver and its arguments, and gives what it is.
+fn note_call<'p, A: Assigned>(
+    walk: &Walk<'_, A>,
+    receiver: &CoreExpr,
+    callee: MethodId,
+    args: &[CoreExpr],
+    reached: Reached<'p, '_>,
+    found: &mut Found<'p>,
+) -> Result<Basic, NoMemory>
+    ensures basics { found.new.basics ≡ found.old.basics }
+    ensures own { let P = program_of walk.now.program.now in IfOk result (λ own.
+        own ≡ call_of P (rel_of walk.now.sets.now) (A.Assigned.assigned walk.now.assigned.now) callee (path_of P (expr_of receiver.now)) (paths_of P (exprs_from args.now)) (has_path reached.entry.held.now)) }
+    ensures steps { IfOk result (λ own. visits_of found.new.steps.items ≡ visits_of found.old.steps.items
+        ++ (if below_of own Mover then [] else visit reached.entry.node (part_of reached.entry.part) (has_path reached.entry.held.now) reached.entry.looped)) }
+    ensures heavy { IfOk result (λ own. visits_of found.new.heavy.items ≡ visits_of found.old.heavy.items
+        ++ (if is_heavy own then visit reached.entry.node (part_of reached.entry.part) (has_path reached.entry.held.now) reached.entry.looped else [])) }
+{
+    let call = Called {
+        receiver,
+        callee,
+        args,
+    };
+    let own = call_effect(
+        walk.alloc,
+        walk.program,
+        walk.sets,
+        walk.assigned,
+        &call,
+        reached.held,
+    )?;
+    found.note(walk.alloc, own, reached)?;
+    Ok(own)
 }
 
 /// Walks through arguments.
@@ -183,12 +214,8 @@ fn inside_stmt<'p, A: Assigned>(
             Ok(receiver.seq(value.seq(own)))
         }
         CoreStmt::Do(e, _) => walk_expr(walk, e, held, looped, found),
-        CoreStmt::Return(value) => {
-            let Some(e) = value else {
-                return Ok(Basic::Const);
-            };
-            walk_expr(walk, e, held, looped, found)
-        }
+        CoreStmt::Return(None) => Ok(Basic::Const),
+        CoreStmt::Return(Some(e)) => walk_expr(walk, e, held, looped, found),
         CoreStmt::If(c, a, b) => {
             let test = walk_expr(walk, c, held, looped, found)?;
             let either = walk_branches(walk, a, b, held, looped, found)?;
@@ -199,15 +226,7 @@ fn inside_stmt<'p, A: Assigned>(
             let turn = walk_stmt(walk, a, held, Some(place), found)?;
             Ok(test.seq(turn.seq(test).star()))
         }
-        CoreStmt::Sync(path, a) => {
-            if has(held, path) {
-                return walk_stmt(walk, a, held, looped, found);
-            }
-            let more = with_path(walk.alloc, path, held)?;
-            let taken = walk_stmt(walk, a, more.as_slice(), looped, found)?;
-            note_lock(walk, taken, reached, found)?;
-            Ok(taken.lift())
-        }
+        CoreStmt::Sync(path, a) => walk_sync(walk, path, a, reached, found),
         CoreStmt::Print(e) | CoreStmt::Start(e) => {
             let value = walk_expr(walk, e, held, looped, found)?;
             found.note(walk.alloc, Basic::Atomic, reached)?;
@@ -235,6 +254,28 @@ fn walk_branches<'p, A: Assigned>(
     found.choose(steps, second.below(first));
     found.put_before(before)?;
     Ok(first.join(second))
+}
+
+/// Walks through a `synchronized` on this path, where the part that is reached is that: with what is held, or with its lock as well.
+#[cycle(statements)]
+fn walk_sync<'p, A: Assigned>(
+    walk: &Walk<'_, A>,
+    path: &Path,
+    a: &'p CoreStmt,
+    reached: Reached<'p, '_>,
+    found: &mut Found<'p>,
+) -> Result<Basic, NoMemory>
+    requires { next found.old ≡ reached.entry.node + 1 }
+    ensures { IfOk result (λ b. part_of reached.entry.part ≡ StmtP (SyncS path.now (stmt_of a.now))
+        → InsideStmt (program_of walk.now.program.now) (rel_of walk.now.sets.now) (A.Assigned.assigned walk.now.assigned.now) (SyncS path.now (stmt_of a.now)) reached.entry.node (has_path reached.entry.held.now) reached.entry.looped found.old b found.new) }
+{
+    if has(reached.held, path) {
+        return walk_stmt(walk, a, reached.held, reached.looped, found);
+    }
+    let more = with_path(walk.alloc, path, reached.held)?;
+    let taken = walk_stmt(walk, a, more.as_slice(), reached.looped, found)?;
+    note_lock(walk, taken, reached, found)?;
+    Ok(taken.lift())
 }
 
 /// Notes a `synchronized` that takes its lock: a step where its body, which is this with the lock held, can be moved.

@@ -32,7 +32,8 @@ use Rattle.explain.specs.Meanings.{are_within, IsAboveLimit, IsReasonOf}
 use Rattle.explain.specs.Programs.{called_by, compound, explanations, explanations_from, found_of, if_untold, keeps, led, led_to, refused}
 use Rattle.explain.specs.Whys.{ExplainedData, WhyData, Wrong, Looped, Compound, Two, Overridden, Nothing}
 use Rattle.explain.proofs.Meant.{meant}
-use Rattle.explain.proofs.Telling.{all_append, all_contains, all_explained, all_from, IsRest, rest_first, rest_next, whole}
+use Rattle.explain.proofs.Untold.{all_append}
+use Rattle.explain.proofs.Telling.{all_contains, all_explained, all_from, IsRest, rest_first, rest_next, whole}
 use Rattle.reasons.specs.Causing.{IsCause}
 use Rattle.reasons.proofs.Causing.{part_meant}
 use Rattle.reasons.proofs.LeastRuns.{within}

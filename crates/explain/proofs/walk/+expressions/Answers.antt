@@ -1,6 +1,7 @@
 -- The walk through each kind of expression, and through arguments.
 use Rattle.std.proofs.Common.{◌≡◌, ap, sym, ◌∙◌, arith, subst}
 use Rattle.std.proofs.Math.ListN.{drop_of_length-le}
+use Rattle.std.proofs.lemmas.Result.{IfOk-weaker}
 use Rattle.algebra.specs.HeldPaths.{has_path}
 use Rattle.core_program.proofs.ViewLemmas.{expr_of-Call, expr_of-New}
 use Rattle.core_program.specs.Locks.{path_of}
@@ -8,7 +9,7 @@ use Rattle.core_program.specs.Views.{expr_of, exprs_from, program_of}
 use Rattle.rules.specs.Effect.{call_of}
 use Rattle.rules.specs.Mentions.{paths_of}
 use Rattle.rules.specs.Near.{rel_of}
-use Rattle.explain.specs.Walked.{InsideExpr, WalkedExpr, WalkedExprs}
+use Rattle.explain.specs.Walked.{InsideExpr, WalkedExpr, WalkedExprs, WalkedTwo}
 use Rattle.explain.proofs.Measures.{expr_measure, exprs_measure, expr_lighter}
 use Rattle.explain.proofs.Walking.{entered_expr, binary_walked, and_walked, or_walked, call_known, new_walked, start_exprs, more_exprs, end_exprs}
 use Rattle.explain.proofs.walk.+expressions.Goals as goal
@@ -20,38 +21,54 @@ walk_expr-returns g t c =
     c.in_ok-place.ensures.place c.in_ok-place.ensures.basics c.enter.ensures.steps c.enter.ensures.heavy c.in_ok-effect.ensures
     c.leave.ensures.effect c.leave.ensures.basics c.leave.ensures.steps c.leave.ensures.heavy
 
-pub inside_expr-returns-in_ok-second-in-Binary : goal.inside_expr-returns-in_ok-second-in-Binary
-inside_expr-returns-in_ok-second-in-Binary g t c =
+pub inside_expr-returns-in-Binary : goal.inside_expr-returns-in-Binary
+inside_expr-returns-in-Binary g t c =
     let P = program_of c.args.walk.now.program.now in let rel = rel_of c.args.walk.now.sets.now in let A = g.A.Assigned.assigned c.args.walk.now.assigned.now in
-    let H = has_path c.args.held.now in
+    let H = has_path c.args.held.now in let loop = c.args.looped in let old = c.args.found.now in let new = c.walk_pair.new.found in
     let e = expr_of c.in-Binary.a.value in let f = expr_of c.in-Binary.b.value in
-    let one = subst (λ z. WalkedExpr P rel A (expr_of z) H c.args.looped c.args.found.now c.in_ok-first-in-Binary.first c.walk_expr.new.found) c.deref.ensures c.in_ok-first-in-Binary.ensures in
-    let other = subst (λ z. WalkedExpr P rel A (expr_of z) H c.args.looped c.walk_expr.new.found c.in_ok-second-in-Binary.second c.walk_expr-in-Binary.new.found) c.deref-in-Binary.ensures c.in_ok-second-in-Binary.ensures in
-    subst (λ z. InsideExpr P rel A z c.args.place H c.args.looped c.args.found.now c.seq.result c.walk_expr-in-Binary.new.found) (sym (ap expr_of c.in-Binary.is))
-    (binary_walked P rel A _ e f H c.args.looped c.args.place c.seq.result c.requires one other c.seq.ensures)
+    IfOk-weaker c.walk_pair.result (λ d. WalkedTwo P rel A (expr_of c.deref.result.now) (expr_of c.deref-in-Binary.result.now) H loop old d new) (λ d. InsideExpr P rel A (expr_of c.args.e.now) c.args.place H loop old d new)
+    (λ d w. subst (λ z. InsideExpr P rel A z c.args.place H loop old d new) (sym (ap expr_of c.in-Binary.is))
+    (binary_walked P rel A _ e f H loop c.args.place d c.requires
+    (subst (λ z. WalkedExpr P rel A (expr_of z) H loop old w.first w.between) c.deref.ensures w.one)
+    (subst (λ z. WalkedExpr P rel A (expr_of z) H loop w.between w.second new) c.deref-in-Binary.ensures w.other) w.is))
+    c.walk_pair.ensures
 
-pub inside_expr-returns-in_ok-second-in-And : goal.inside_expr-returns-in_ok-second-in-And
-inside_expr-returns-in_ok-second-in-And g t c =
+pub inside_expr-returns-in-And : goal.inside_expr-returns-in-And
+inside_expr-returns-in-And g t c =
     let P = program_of c.args.walk.now.program.now in let rel = rel_of c.args.walk.now.sets.now in let A = g.A.Assigned.assigned c.args.walk.now.assigned.now in
-    let H = has_path c.args.held.now in
+    let H = has_path c.args.held.now in let loop = c.args.looped in let old = c.args.found.now in let new = c.walk_pair-in-And.new.found in
     let e = expr_of c.in-And.a.value in let f = expr_of c.in-And.b.value in
-    let one = subst (λ z. WalkedExpr P rel A (expr_of z) H c.args.looped c.args.found.now c.in_ok-first-in-And.first c.walk_expr-in-And.new.found) c.deref-in-And.ensures c.in_ok-first-in-And.ensures in
-    let other = subst (λ z. WalkedExpr P rel A (expr_of z) H c.args.looped c.walk_expr-in-And.new.found c.in_ok-second-in-And.second c.walk_expr-in-And-2.new.found) c.deref-in-And-2.ensures c.in_ok-second-in-And.ensures in
-    subst (λ z. InsideExpr P rel A z c.args.place H c.args.looped c.args.found.now c.seq-in-And.result c.walk_expr-in-And-2.new.found) (sym (ap expr_of c.in-And.is))
-    (and_walked P rel A e f H c.args.looped c.args.place c.seq-in-And.result c.requires one other c.seq-in-And.ensures)
+    IfOk-weaker c.walk_pair-in-And.result (λ d. WalkedTwo P rel A (expr_of c.deref-in-And.result.now) (expr_of c.deref-in-And-2.result.now) H loop old d new) (λ d. InsideExpr P rel A (expr_of c.args.e.now) c.args.place H loop old d new)
+    (λ d w. subst (λ z. InsideExpr P rel A z c.args.place H loop old d new) (sym (ap expr_of c.in-And.is))
+    (and_walked P rel A e f H loop c.args.place d c.requires
+    (subst (λ z. WalkedExpr P rel A (expr_of z) H loop old w.first w.between) c.deref-in-And.ensures w.one)
+    (subst (λ z. WalkedExpr P rel A (expr_of z) H loop w.between w.second new) c.deref-in-And-2.ensures w.other) w.is))
+    c.walk_pair-in-And.ensures
 
-pub inside_expr-returns-in_ok-second-in-Or : goal.inside_expr-returns-in_ok-second-in-Or
-inside_expr-returns-in_ok-second-in-Or g t c =
+pub inside_expr-returns-in-Or : goal.inside_expr-returns-in-Or
+inside_expr-returns-in-Or g t c =
     let P = program_of c.args.walk.now.program.now in let rel = rel_of c.args.walk.now.sets.now in let A = g.A.Assigned.assigned c.args.walk.now.assigned.now in
-    let H = has_path c.args.held.now in
+    let H = has_path c.args.held.now in let loop = c.args.looped in let old = c.args.found.now in let new = c.walk_pair-in-Or.new.found in
     let e = expr_of c.in-Or.a.value in let f = expr_of c.in-Or.b.value in
-    let one = subst (λ z. WalkedExpr P rel A (expr_of z) H c.args.looped c.args.found.now c.in_ok-first-in-Or.first c.walk_expr-in-Or.new.found) c.deref-in-Or.ensures c.in_ok-first-in-Or.ensures in
-    let other = subst (λ z. WalkedExpr P rel A (expr_of z) H c.args.looped c.walk_expr-in-Or.new.found c.in_ok-second-in-Or.second c.walk_expr-in-Or-2.new.found) c.deref-in-Or-2.ensures c.in_ok-second-in-Or.ensures in
-    subst (λ z. InsideExpr P rel A z c.args.place H c.args.looped c.args.found.now c.seq-in-Or.result c.walk_expr-in-Or-2.new.found) (sym (ap expr_of c.in-Or.is))
-    (or_walked P rel A e f H c.args.looped c.args.place c.seq-in-Or.result c.requires one other c.seq-in-Or.ensures)
+    IfOk-weaker c.walk_pair-in-Or.result (λ d. WalkedTwo P rel A (expr_of c.deref-in-Or.result.now) (expr_of c.deref-in-Or-2.result.now) H loop old d new) (λ d. InsideExpr P rel A (expr_of c.args.e.now) c.args.place H loop old d new)
+    (λ d w. subst (λ z. InsideExpr P rel A z c.args.place H loop old d new) (sym (ap expr_of c.in-Or.is))
+    (or_walked P rel A e f H loop c.args.place d c.requires
+    (subst (λ z. WalkedExpr P rel A (expr_of z) H loop old w.first w.between) c.deref-in-Or.ensures w.one)
+    (subst (λ z. WalkedExpr P rel A (expr_of z) H loop w.between w.second new) c.deref-in-Or-2.ensures w.other) w.is))
+    c.walk_pair-in-Or.ensures
 
-pub inside_expr-returns-in_ok-note-in-Call : goal.inside_expr-returns-in_ok-note-in-Call
-inside_expr-returns-in_ok-note-in-Call g t c =
+pub walk_pair-returns : goal.walk_pair-returns
+walk_pair-returns g t c = record {
+  between = c.walk_expr.new.found;
+  first = c.in_ok-first.first;
+  second = c.in_ok-second.second;
+  one = c.in_ok-first.ensures;
+  other = c.in_ok-second.ensures;
+  is = c.seq.ensures;
+}
+
+pub inside_expr-returns-in_ok-own-in-Call : goal.inside_expr-returns-in_ok-own-in-Call
+inside_expr-returns-in_ok-own-in-Call g t c =
     let P = program_of c.args.walk.now.program.now in let rel = rel_of c.args.walk.now.sets.now in let A = g.A.Assigned.assigned c.args.walk.now.assigned.now in
     let H = has_path c.args.held.now in
     let e = expr_of c.in-Call.a.value in let es = exprs_from c.in-Call.args.items in
@@ -59,9 +76,9 @@ inside_expr-returns-in_ok-note-in-Call g t c =
     let one = subst (λ z. WalkedExpr P rel A (expr_of z) H c.args.looped c.args.found.now c.in_ok-receiver-in-Call.receiver c.walk_expr-in-Call.new.found) c.deref-in-Call.ensures c.in_ok-receiver-in-Call.ensures in
     let other = subst (λ z. WalkedExprs P rel A (exprs_from z) H c.args.looped c.walk_expr-in-Call.new.found c.in_ok-passed-in-Call.passed c.walk_exprs.new.found) c.as_slice.ensures.value c.in_ok-passed-in-Call.ensures in
     let own : c.in_ok-own-in-Call.own ≡ call_of P rel A c.in-Call.callee (path_of P e) (paths_of P es) H =
-    c.in_ok-own-in-Call.ensures ∙ (λ i. call_of P rel A c.in-Call.callee (path_of P (expr_of (c.deref-in-Call-2.ensures i))) (paths_of P (exprs_from (c.as_slice-in-Call.ensures.value i))) H) in
-    call_known P rel A (expr_of c.args.e.now) e c.in-Call.callee es H c.args.looped c.args.place c.note-in-Call.new.self c.in_ok-own-in-Call.own c.seq-in-Call.result c.seq-in-Call-2.result is c.requires one other own
-    c.note-in-Call.ensures.basics c.in_ok-note-in-Call.ensures.steps c.in_ok-note-in-Call.ensures.heavy c.seq-in-Call.ensures c.seq-in-Call-2.ensures
+    c.in_ok-own-in-Call.ensures.own ∙ (λ i. call_of P rel A c.in-Call.callee (path_of P (expr_of (c.deref-in-Call-2.ensures i))) (paths_of P (exprs_from (c.as_slice-in-Call.ensures.value i))) H) in
+    call_known P rel A (expr_of c.args.e.now) e c.in-Call.callee es H c.args.looped c.args.place c.note_call.new.found c.in_ok-own-in-Call.own c.seq-in-Call.result c.seq-in-Call-2.result is c.requires one other own
+    c.note_call.ensures.basics c.in_ok-own-in-Call.ensures.steps c.in_ok-own-in-Call.ensures.heavy c.seq-in-Call.ensures c.seq-in-Call-2.ensures
 
 pub inside_expr-returns-in_ok-passed-in-New : goal.inside_expr-returns-in_ok-passed-in-New
 inside_expr-returns-in_ok-passed-in-New g t c =

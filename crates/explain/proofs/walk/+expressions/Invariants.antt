@@ -15,6 +15,9 @@ decreases-walk_expr g l = 1 + expr_measure (expr_of l.e.now)
 abbrev pub decreases-inside_expr : goal.decreases-inside_expr
 decreases-inside_expr g l = expr_measure (expr_of l.e.now)
 
+abbrev pub decreases-walk_pair : goal.decreases-walk_pair
+decreases-walk_pair g l = 2 + (expr_measure (expr_of l.a.now) + expr_measure (expr_of l.b.now))
+
 abbrev pub decreases-walk_exprs : goal.decreases-walk_exprs
 decreases-walk_exprs g l = exprs_measure (exprs_from l.es.now)
 
