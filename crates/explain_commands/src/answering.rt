@@ -56,30 +56,21 @@ fn text_for<A: Assigned>(
 fn text_of_source<'t, 'p, 'a>(
     alloc: Global,
     order: Order,
-    file: &'t str,
-    index: &'t LineIndex<'a>,
-    source: &'t Source<'a>,
-    shown: &'t Shown<'t>,
-    methods: &'t Vec<&'p Member<'a>>,
+    told: &Told<'t, 'p, 'a>,
+    shown: &Shown<'t>,
 ) -> Result<String, NoMemory>
-    requires there { length (program_of source.now.program).methods ≤ length methods.now.items }
-    requires few { length (program_of source.now.program).methods ≤ 2 ^ 32 }
-    ensures { IfOk result (λ text. IsText order (program_of source.now.program) (rel_of source.now.sets) (shown_by (map cond_of shown.now.trees.now))
-        (page_of file.now index.now (table_data source.now.table) (map (λ m. member_of m.now) methods.now.items)) (string_bytes text)) }
+    requires there { length (program_of told.now.source.now.program).methods ≤ length told.now.methods.now.items }
+    requires few { length (program_of told.now.source.now.program).methods ≤ 2 ^ 32 }
+    ensures { IfOk result (λ text. IsText order (program_of told.now.source.now.program) (rel_of told.now.source.now.sets) (shown_by (map cond_of shown.now.trees.now))
+        (page_of told.now.file.now told.now.index.now (table_data told.now.source.now.table) (map (λ m. member_of m.now) told.now.methods.now.items)) (string_bytes text)) }
 {
     let walk = Walk {
         alloc,
-        program: &source.program,
-        sets: &source.sets,
+        program: &told.source.program,
+        sets: &told.source.sets,
         assigned: shown,
     };
-    let told = Told {
-        file,
-        index,
-        source,
-        methods,
-    };
-    text_for(order, &told, &walk)
+    text_for(order, told, &walk)
 }
 
 /// What is said of a well-formed source.
@@ -99,7 +90,13 @@ fn judged<'t, 'p, 'a>(
         trees: judged.trees.as_slice(),
     };
     let methods = methods_in(alloc, tree)?;
-    let text = text_of_source(alloc, order, &*file, &*index, &*source, &shown, &methods)?;
+    let told = Told {
+        file: &*file,
+        index: &*index,
+        source: &*source,
+        methods: &methods,
+    };
+    let text = text_of_source(alloc, order, &told, &shown)?;
     Ok(Said {
         ending: judged.ending,
         text,
