@@ -19,7 +19,7 @@ use crate::names::{tests_only, where_held, within};
 use crate::refusal::Refusal;
 use crate::steps::Steps;
 use crate::values::below;
-use crate::walk::{End, walk_node};
+use crate::walk::{End, WalkedNode, walk_node};
 use crate::work::Work;
 use crate::wrong::Wrong;
 use algebra::{Algebra, Basic};
@@ -193,7 +193,12 @@ pub(crate) fn line_verdict<L: Lines>(
         }));
     }
     let body = BodyPart::Stmt(&method.body);
-    match walk_node(alloc, steps, body, line.word, line.node, line.premises, 0)? {
+    let walked = WalkedNode {
+        word: line.word,
+        number: line.node,
+        premises: line.premises,
+    };
+    match walk_node(alloc, steps, body, &walked, 0)? {
         End::Good(_) => (),
         End::Bad(node) => return Ok(Some(Wrong::Step { method: m.0, node })),
     }

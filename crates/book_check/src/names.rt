@@ -202,28 +202,34 @@ pub(crate) fn at_call(
     }
 }
 
+/// What a callee's paths are called at a call: they are relevant to it, and begin at the receiver or an argument.
+#[derive(Clone, Copy)]
+pub(crate) struct CallNames<'a> {
+    pub(crate) rel: &'a [Path],
+    pub(crate) receiver: Option<&'a Path>,
+    pub(crate) args: &'a [Option<Path>],
+}
+
 /// The value where each of a callee's required paths has a name here and is held, else error.
 pub(crate) fn with_required(
     alloc: Global,
     work: Work<'_>,
-    rel: &[Path],
-    receiver: Option<&Path>,
-    args: &[Option<Path>],
+    names: &CallNames<'_>,
     required: &[Path],
     value: Tree,
 ) -> Result<Tree, Refusal>
     requires { IsCanonical (cond_of value) }
     ensures known { IfOk result (λ r. IsCanonical (cond_of r)) }
     ensures value { IfOk result (λ r. (H : Held) → value_of (cond_of r) H ≡
-        (if list_all (named_set (call_name_of rel.now (option_copied receiver.entry) args.now) H) required.now
+        (if list_all (named_set (call_name_of names.now.rel.now (option_copied names.now.receiver) names.now.args.now) H) required.now
         then value_of (cond_of value) H else Error)) }
     ensures unbounded { IsUnbounded work.entry → IfErr result (λ e. e ≡ Refusal.NoMemory) }
 {
     let Some((path, rest)) = required.split_first() else {
         return Ok(value);
     };
-    let later = with_required(alloc, work, rel, receiver, args, rest, value)?;
-    let name = call_name(rel, receiver, args, path);
+    let later = with_required(alloc, work, names, rest, value)?;
+    let name = call_name(names.rel, names.receiver, names.args, path);
     let error = leaf(Basic::Error);
     held_or(alloc, work, name.as_ref(), &later, &error)
 }

@@ -16,7 +16,7 @@ use crate::asked::Shapes;
 use crate::judge::Judge;
 use crate::line::line_verdict;
 use crate::steps::Steps;
-use crate::walk::{End, walk_node};
+use crate::walk::{End, WalkedNode, walk_node};
 use crate::work::Work;
 use crate::wrong::Wrong;
 use books::Lines;
@@ -54,7 +54,12 @@ fn next_shape<L: Lines>(
         return Err(misshaped);
     }
     let body = BodyPart::Stmt(&method.body);
-    match walk_node(alloc, &Shapes, body, line.word, line.node, line.premises, 0)? {
+    let walked = WalkedNode {
+        word: line.word,
+        number: line.node,
+        premises: line.premises,
+    };
+    match walk_node(alloc, &Shapes, body, &walked, 0)? {
         End::Good(_) => Ok((line.number, line.rest)),
         End::Bad(node) => Err(Wrong::Shape { method: m, node }),
     }

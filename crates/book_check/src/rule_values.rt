@@ -21,7 +21,7 @@ ghost use Rattle.effects.specs.Bodies.{part_of};
 use crate::charged::Charged;
 use crate::judge::Judge;
 use crate::lookups::{conclusion, line_tree};
-use crate::names::{at_call, before, with_required};
+use crate::names::{CallNames, at_call, before, with_required};
 use crate::refusal::Refusal;
 use crate::values::seq;
 use crate::work::Work;
@@ -88,15 +88,13 @@ fn call_by_paths(
     let none = Tree::Leaf(Basic::Const);
     let tree = line_tree(judge.table, judge.lines, callee, &none);
     let value = at_call(alloc, work, rel, receiver, args, tree)?;
-    with_required(
-        alloc,
-        work,
+    let names = CallNames {
         rel,
         receiver,
         args,
-        required_of(judge.program, callee),
-        value,
-    )
+    };
+    let required = required_of(judge.program, callee);
+    with_required(alloc, work, &names, required, value)
 }
 
 /// The last part of a call.

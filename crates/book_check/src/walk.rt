@@ -61,25 +61,32 @@ fn after(at: u32) -> Result<u32, NoMemory>
     }
 }
 
+/// A node: its word, the number of its conclusion and its premises.
+#[derive(Clone, Copy)]
+pub(crate) struct WalkedNode<F> {
+    pub(crate) word: Word,
+    pub(crate) number: u32,
+    pub(crate) premises: F,
+}
+
 /// Walks along a node and those below it, of which it has this number.
 #[cycle(walking)]
 pub(crate) fn walk_node<F: Nodes, J: Asked>(
     alloc: Global,
     asked: &J,
     part: BodyPart<'_>,
-    word: Word,
-    number: u32,
-    premises: F,
+    walked: &WalkedNode<F>,
     at: u32,
 ) -> Result<End, Refusal>
-    requires kept { F.AreKept premises }
+    requires kept { F.AreKept walked.now.premises }
     requires ready { J.IsReady asked.now }
-    ensures end { IfOk result (λ e. IsWalkEnd (J.IsGood asked.now) (places (part_of part.entry) (node word number (F.nodes premises))) at e) }
-    ensures near { AllNodes (J.IsNear asked.now) (node word number (F.nodes premises)) → IfErr result (λ e. e ≡ Refusal.NoMemory) }
+    ensures end { IfOk result (λ e. IsWalkEnd (J.IsGood asked.now) (places (part_of part.entry) (node walked.now.word walked.now.number (F.nodes walked.now.premises))) at e) }
+    ensures near { AllNodes (J.IsNear asked.now) (node walked.now.word walked.now.number (F.nodes walked.now.premises)) → IfErr result (λ e. e ≡ Refusal.NoMemory) }
     ensures free { J.IsFree asked.now → IfErr result (λ e. e ≡ Refusal.NoMemory) }
 {
     let next = after(at)?;
-    if !asked.is_good(alloc, part, word, number, premises)? {
+    let premises = walked.premises;
+    if !asked.is_good(alloc, part, walked.word, walked.number, premises)? {
         return Ok(End::Bad(at));
     }
     walk_premises(alloc, asked, inner_parts(part), premises, next)
@@ -107,15 +114,12 @@ fn walk_premises<F: Nodes, J: Asked>(
         let Some((part, others)) = parts.first() else {
             return Ok(End::Good(next));
         };
-        match walk_node(
-            alloc,
-            asked,
-            part,
-            first.word,
-            first.number,
-            first.premises,
-            next,
-        )? {
+        let walked = WalkedNode {
+            word: first.word,
+            number: first.number,
+            premises: first.premises,
+        };
+        match walk_node(alloc, asked, part, &walked, next)? {
             End::Good(after) => next = after,
             End::Bad(node) => return Ok(End::Bad(node)),
         }

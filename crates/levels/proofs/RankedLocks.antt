@@ -236,7 +236,6 @@ module _ (P : Program) (rel : ℕ → List PathData) (level : ℕ → ℕ) (see 
         acquire_ranked heap typed s r (Some a) at =
             let leads = top_is (top_path os) r.0.rest.0 (value.Ref a) r.0.rest.1 (leads_top P rel level see t program counted f below rest method is own_frame further own_rest os known a at) in
             take_ranked s a (walked_part s a heap typed r.0.set r.0.under r.0.stands r.0.rest.0 r.0.rest.2 r.0.rest.3 r.0.rest.4 leads r.1 (r.0.set r.0.rest.0) refl r.0.rest.5.0 r.0.rest.5.1) (see.lock_at a) refl
-        start_ranked g (Some a) = start_run_ranked a g (run_of P (object_class (see.object_at a))) refl
 
     -- Locks that are given back.
 

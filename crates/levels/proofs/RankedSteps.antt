@@ -285,6 +285,7 @@ module _ (P : Program) (rel : ℕ → List PathData) (level : ℕ → ℕ) (see 
 
         pub start_ranked : Walked rest (env_of f.slots) (under_path os) → (o : Option Address) → OutcomeRanked (start P see t f below rest o)
         start_ranked g None = fault_ranked fault.Null
+        start_ranked g (Some a) = start_run_ranked a g (run_of P (object_class (see.object_at a))) refl
 
     -- Returns.
 

@@ -39,6 +39,7 @@ fn callers_at(rows: &[Callers], place: usize) -> &[usize]
 }
 
 /// What a method is asked by: the program that is judged, and the callers of each method.
+#[derive(Clone, Copy)]
 pub(crate) struct Asking<'a> {
     pub(crate) judged: &'a Judged<'a>,
     pub(crate) callers: &'a [Callers],

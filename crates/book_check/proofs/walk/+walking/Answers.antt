@@ -11,7 +11,7 @@ use Rattle.book_check.proofs.walk.+walking.Goals as goal
 pub walk_node-returns-clause-end : goal.walk_node-returns-clause-end
 walk_node-returns-clause-end g t c =
     ok_as c.walk_premises.result _ _
-    (λ e rest. node_good (g.J.Asked.IsGood c.args.asked.now) (part_of c.args.part) c.args.word c.args.number (g.F.Nodes.nodes c.args.premises) c.args.at c.in_ok-next.next c.in_ok-is_good.field-0 e
+    (λ e rest. node_good (g.J.Asked.IsGood c.args.asked.now) (part_of c.args.part) c.args.walked.now.word c.args.walked.now.number (g.F.Nodes.nodes c.args.walked.now.premises) c.args.at c.in_ok-next.next c.in_ok-is_good.field-0 e
     c.in_ok-is_good.ensures.good c.if-not-branch.false c.in_ok-next.ensures (list_of c.inner_parts.result) c.inner_parts.ensures rest)
     c.walk_premises.ensures.end
 

@@ -7,7 +7,7 @@ use Rattle.book_check.proofs.WalkLemmas.{size_nodes}
 use Rattle.book_check.proofs.walk.+walking.Given as goal
 
 abbrev pub decreases-walk_node : goal.decreases-walk_node
-decreases-walk_node g l = 2 * size_nodes (g.F.Nodes.nodes l.premises) + 1
+decreases-walk_node g l = 2 * size_nodes (g.F.Nodes.nodes l.walked.now.premises) + 1
 
 abbrev pub decreases-walk_premises : goal.decreases-walk_premises
 decreases-walk_premises g l = 2 * size_nodes (g.F.Nodes.nodes l.premises)
