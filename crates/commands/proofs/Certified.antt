@@ -1,5 +1,7 @@
 -- What books are for, from what the call answers.
 use Rattle.std.proofs.Common.{◌≡◌, ℕ, List, [], ◌∷◌, refl, subst, ap, inl, inr, ◌⊎◌}
+use Rattle.lexer.specs.Limits.{longest_source}
+use Rattle.sources.specs.Limits.{longest_second_file}
 use Rattle.sources.specs.declared.refusal.Ending.{Ending}
 use Rattle.sources.specs.declared.refusal.Ending.TheVariants as ending
 use Rattle.sources.specs.Facts.{RefusedAs}
@@ -31,7 +33,7 @@ module _ (call : Call) where
   verified_by : (source_name book_name file bytes : List ℕ) → IsVerifyOf call source_name book_name file bytes → VerifyFact file bytes ending.Done
       → (status : ℕ) (out : List ℕ) → Belongs (record { command = Verify; names = source_name ∷ book_name ∷ [] }) (file ∷ bytes ∷ []) status out → status ≡ 0
   verified_by source_name book_name file bytes is fact _ _ (too_large name over) =
-      absurd (none_some _ name (within_both 262144 16777216 source_name book_name file bytes is.small is.short) over)
+      absurd (none_some _ name (within_both longest_source longest_second_file source_name book_name file bytes is.small is.short) over)
   verified_by source_name book_name file bytes is fact _ _ (ended done out within answer) =
       ap code_of (verify_apart file bytes done ending.Done (verify_caused file bytes done out answer) fact)
 

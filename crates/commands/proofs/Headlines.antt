@@ -2,6 +2,8 @@
 use Rattle.std.proofs.Common.{◌≡◌, ℕ, ◌≤◌, List, [], ◌∷◌, Option, Some, None, false, nat_lt, length, refl, sym, subst, ap, ◌∙◌, arith, inl, inr, ◌⊎◌}
 use Rattle.std.proofs.lemmas.Bool.Decides.{nat_tests}
 use Rattle.std.specs.Io.KnownBytes.{Appends}
+use Rattle.lexer.specs.Limits.{longest_source}
+use Rattle.sources.specs.Limits.{longest_second_file}
 use Rattle.algebra.specs.declared.basic.Basic.{Basic}
 use Rattle.algebra.specs.HeldPaths.{has_path}
 use Rattle.classes.specs.Table.{TableData, table_of}
@@ -126,26 +128,26 @@ module _ (call : Call) where
         check_by name file small tree P source (complete row (file ∷ []) asked calm);
   }
     where
-      serialise_answer : (source_name schedule_name file text : List ℕ) → length file ≤ 262144 → length text ≤ 16777216 → (tree : ProgramTree) (P : Program) → IsWellFormedSource file tree P → IsAccepted P → (s : List ℕ) (q : State) → IsSchedule text s → run P s ≡ Some q → open_thread P q ≡ None
+      serialise_answer : (source_name schedule_name file text : List ℕ) → length file ≤ longest_source → length text ≤ longest_second_file → (tree : ProgramTree) (P : Program) → IsWellFormedSource file tree P → IsAccepted P → (s : List ℕ) (q : State) → IsSchedule text s → run P s ≡ Some q → open_thread P q ≡ None
           → (status : ℕ) (out : List ℕ) → call.status ≡ status → Appends call.written_before call.written_after out → Belongs (record { command = Serialise; names = source_name ∷ schedule_name ∷ [] }) (file ∷ text ∷ []) status out → WritesRearrangement call P s q
       serialise_answer source_name schedule_name file text small short tree P source accepted s q schedule runs outside _ _ e wrote (too_large name is) =
-          absurd (none_some _ name (within_both 262144 16777216 source_name schedule_name file text small short) is)
+          absurd (none_some _ name (within_both longest_source longest_second_file source_name schedule_name file text small short) is)
       serialise_answer source_name schedule_name file text small short tree P source accepted s q schedule runs outside _ _ e wrote (ended done out within answer) =
           let fact : SerialiseFact file text ending.Done = (tree, P, s, record { source = source; schedule = schedule }, (accepted, (q, runs, outside))) in
           written_done file text out done (serialise_apart file text done ending.Done (serialise_caused file text done out answer) fact) answer e wrote tree P s q source schedule runs
 
-      serialise_by : (source_name schedule_name file text : List ℕ) → length file ≤ 262144 → length text ≤ 16777216 → (tree : ProgramTree) (P : Program) → IsWellFormedSource file tree P → IsAccepted P → (s : List ℕ) (q : State) → IsSchedule text s → run P s ≡ Some q → open_thread P q ≡ None
+      serialise_by : (source_name schedule_name file text : List ℕ) → length file ≤ longest_source → length text ≤ longest_second_file → (tree : ProgramTree) (P : Program) → IsWellFormedSource file tree P → IsAccepted P → (s : List ℕ) (q : State) → IsSchedule text s → run P s ≡ Some q → open_thread P q ≡ None
           → (call.status ≡ 8) ⊎ WritesAnswer (record { command = Serialise; names = source_name ∷ schedule_name ∷ [] }) (file ∷ text ∷ []) call.status call.written_before call.written_after → (call.status ≡ 8) ⊎ WritesRearrangement call P s q
       serialise_by source_name schedule_name file text small short tree P source accepted s q schedule runs outside (inl eight) = inl eight
       serialise_by source_name schedule_name file text small short tree P source accepted s q schedule runs outside (inr w) =
           inr (serialise_answer source_name schedule_name file text small short tree P source accepted s q schedule runs outside call.status w.text refl w.written w.belongs)
 
-      check_answer : (name file : List ℕ) → length file ≤ 262144 → (tree : ProgramTree) (P : Program) → IsWellFormedSource file tree P
+      check_answer : (name file : List ℕ) → length file ≤ longest_source → (tree : ProgramTree) (P : Program) → IsWellFormedSource file tree P
           → (status : ℕ) (out : List ℕ) → call.status ≡ status → Appends call.written_before call.written_after out → Belongs (record { command = Check; names = name ∷ [] }) (file ∷ []) status out → RefusesExactly call P (table_of tree)
-      check_answer name file small tree P source _ _ e wrote (too_large n is) = absurd (none_some _ n (within_one 262144 name file small) is)
+      check_answer name file small tree P source _ _ e wrote (too_large n is) = absurd (none_some _ n (within_one longest_source name file small) is)
       check_answer name file small tree P source _ _ e wrote (ended done out within answer) = judged_exactly file out done answer e wrote tree P source
 
-      check_by : (name file : List ℕ) → length file ≤ 262144 → (tree : ProgramTree) (P : Program) → IsWellFormedSource file tree P
+      check_by : (name file : List ℕ) → length file ≤ longest_source → (tree : ProgramTree) (P : Program) → IsWellFormedSource file tree P
           → (call.status ≡ 8) ⊎ WritesAnswer (record { command = Check; names = name ∷ [] }) (file ∷ []) call.status call.written_before call.written_after → (call.status ≡ 8) ⊎ RefusesExactly call P (table_of tree)
       check_by name file small tree P source (inl eight) = inl eight
       check_by name file small tree P source (inr w) = inr (check_answer name file small tree P source call.status w.text refl w.written w.belongs)

@@ -1,6 +1,8 @@
 -- What `serialise-open` is for, from what the call answers.
 use Rattle.std.proofs.Common.{◌≡◌, ℕ, ◌≤◌, List, [], ◌∷◌, Some, length, is_some, refl, sym, subst, ap, ◌∙◌, inl, inr, ◌⊎◌}
 use Rattle.std.specs.Io.KnownBytes.{Appends}
+use Rattle.lexer.specs.Limits.{longest_source}
+use Rattle.sources.specs.Limits.{longest_second_file}
 use Rattle.core_program.specs.Core.{Program}
 use Rattle.serialise.specs.OpenOrder.{open_order}
 use Rattle.serialise.specs.Whole.{IsWhole}
@@ -66,15 +68,15 @@ module _ (call : Call) where
         opens_by source_name schedule_name file text small short tree P source accepted s q schedule runs (complete row (file ∷ text ∷ []) asked calm);
   }
     where
-      open_answer : (source_name schedule_name file text : List ℕ) → length file ≤ 262144 → length text ≤ 16777216 → (tree : ProgramTree) (P : Program) → IsWellFormedSource file tree P → IsAccepted P → (s : List ℕ) (q : State) → IsSchedule text s → run P s ≡ Some q
+      open_answer : (source_name schedule_name file text : List ℕ) → length file ≤ longest_source → length text ≤ longest_second_file → (tree : ProgramTree) (P : Program) → IsWellFormedSource file tree P → IsAccepted P → (s : List ℕ) (q : State) → IsSchedule text s → run P s ≡ Some q
           → (status : ℕ) (out : List ℕ) → call.status ≡ status → Appends call.written_before call.written_after out → Belongs (record { command = SerialiseOpen; names = source_name ∷ schedule_name ∷ [] }) (file ∷ text ∷ []) status out → WritesGathered call P s q
       open_answer source_name schedule_name file text small short tree P source accepted s q schedule runs _ _ e wrote (too_large name is) =
-          absurd (none_some _ name (within_both 262144 16777216 source_name schedule_name file text small short) is)
+          absurd (none_some _ name (within_both longest_source longest_second_file source_name schedule_name file text small short) is)
       open_answer source_name schedule_name file text small short tree P source accepted s q schedule runs _ _ e wrote (ended done out within answer) =
           let fact : SerialiseOpenFact file text ending.Done = (tree, P, s, record { source = source; schedule = schedule }, (accepted, ap is_some runs)) in
           written_open file text out done (open_apart file text done ending.Done (open_caused file text done out answer) fact) answer e wrote tree P s q source schedule runs
 
-      opens_by : (source_name schedule_name file text : List ℕ) → length file ≤ 262144 → length text ≤ 16777216 → (tree : ProgramTree) (P : Program) → IsWellFormedSource file tree P → IsAccepted P → (s : List ℕ) (q : State) → IsSchedule text s → run P s ≡ Some q
+      opens_by : (source_name schedule_name file text : List ℕ) → length file ≤ longest_source → length text ≤ longest_second_file → (tree : ProgramTree) (P : Program) → IsWellFormedSource file tree P → IsAccepted P → (s : List ℕ) (q : State) → IsSchedule text s → run P s ≡ Some q
           → (call.status ≡ 8) ⊎ WritesAnswer (record { command = SerialiseOpen; names = source_name ∷ schedule_name ∷ [] }) (file ∷ text ∷ []) call.status call.written_before call.written_after → (call.status ≡ 8) ⊎ WritesGathered call P s q
       opens_by source_name schedule_name file text small short tree P source accepted s q schedule runs (inl eight) = inl eight
       opens_by source_name schedule_name file text small short tree P source accepted s q schedule runs (inr w) =

@@ -1,5 +1,7 @@
 -- What `levels` is for, from what the call answers.
 use Rattle.std.proofs.Common.{◌≡◌, ℕ, List, [], ◌∷◌, refl, ap, inl, inr, ◌⊎◌}
+use Rattle.lexer.specs.Limits.{longest_source}
+use Rattle.sources.specs.Limits.{longest_second_file}
 use Rattle.sources.specs.declared.refusal.Ending.TheVariants as ending
 use Rattle.sources.specs.Refusals.{code_of}
 use Rattle.evidence_commands.specs.Levels.{LevelsFact}
@@ -21,7 +23,7 @@ module _ (call : Call) where
   ordered_by : (source_name levels_name file bytes : List ℕ) → IsLevelsOf call source_name levels_name file bytes → LevelsFact file bytes ending.Done
       → (status : ℕ) (out : List ℕ) → Belongs (record { command = Levels; names = source_name ∷ levels_name ∷ [] }) (file ∷ bytes ∷ []) status out → status ≡ 0
   ordered_by source_name levels_name file bytes is fact _ _ (too_large name over) =
-      absurd (none_some _ name (within_both 262144 16777216 source_name levels_name file bytes is.small is.short) over)
+      absurd (none_some _ name (within_both longest_source longest_second_file source_name levels_name file bytes is.small is.short) over)
   ordered_by source_name levels_name file bytes is fact _ _ (ended done out within answer) =
       ap code_of (levels_apart file bytes done ending.Done (levels_caused file bytes done out answer) fact)
 

@@ -1,5 +1,7 @@
 -- What certificates of refusal are for, from what the call answers.
 use Rattle.std.proofs.Common.{◌≡◌, ℕ, List, [], ◌∷◌, refl, sym, ap, ◌∙◌, inl, inr, ◌⊎◌}
+use Rattle.lexer.specs.Limits.{longest_source}
+use Rattle.sources.specs.Limits.{longest_second_file}
 use Rattle.sources.specs.declared.refusal.Ending.{Ending}
 use Rattle.sources.specs.declared.refusal.Ending.TheVariants as ending
 use Rattle.sources.specs.Refusals.{code_of}
@@ -31,7 +33,7 @@ module _ (call : Call) where
   verified_by : (source_name certificate_name file bytes : List ℕ) → IsVerifyBlameOf call source_name certificate_name file bytes → VerifyBlameFact file bytes ending.Done
       → (status : ℕ) (out : List ℕ) → Belongs (record { command = VerifyBlame; names = source_name ∷ certificate_name ∷ [] }) (file ∷ bytes ∷ []) status out → status ≡ 0
   verified_by source_name certificate_name file bytes is fact _ _ (too_large name over) =
-      absurd (none_some _ name (within_both 262144 16777216 source_name certificate_name file bytes is.small is.short) over)
+      absurd (none_some _ name (within_both longest_source longest_second_file source_name certificate_name file bytes is.small is.short) over)
   verified_by source_name certificate_name file bytes is fact _ _ (ended done out within answer) =
       ap code_of (verify_blame_apart file bytes done ending.Done (verify_blame_caused file bytes done out answer) fact)
 

@@ -2,6 +2,8 @@
 use Rattle.std.proofs.Common.{◌≡◌, ℕ, ◌≤◌, List, [], ◌∷◌, Some, None, length, refl, sym, subst, ap, ◌∙◌, inl, inr, ◌⊎◌}
 use Rattle.std.proofs.lemmas.Option.{same_Some}
 use Rattle.std.specs.Io.KnownBytes.{Appends}
+use Rattle.lexer.specs.Limits.{longest_source}
+use Rattle.sources.specs.Limits.{longest_second_file}
 use Rattle.classes.specs.Table.{table_of}
 use Rattle.core_program.specs.Core.{Program}
 use Rattle.replay.specs.Records.{IsTooDeep}
@@ -88,14 +90,14 @@ module _ (call : Call) where
         replays_by source_name schedule_name file text small short tree P source accepted s q schedule runs closed (complete row (file ∷ text ∷ []) asked calm);
   }
     where
-      replay_answer : (source_name schedule_name file text : List ℕ) → length file ≤ 262144 → length text ≤ 16777216 → (tree : ProgramTree) (P : Program) → IsWellFormedSource file tree P → IsAccepted P → (s : List ℕ) (q : State) → IsSchedule text s → run P s ≡ Some q → open_thread P q ≡ None
+      replay_answer : (source_name schedule_name file text : List ℕ) → length file ≤ longest_source → length text ≤ longest_second_file → (tree : ProgramTree) (P : Program) → IsWellFormedSource file tree P → IsAccepted P → (s : List ℕ) (q : State) → IsSchedule text s → run P s ≡ Some q → open_thread P q ≡ None
           → (status : ℕ) (out : List ℕ) → call.status ≡ status → Appends call.written_before call.written_after out → Belongs (record { command = Replay; names = source_name ∷ schedule_name ∷ [] }) (file ∷ text ∷ []) status out → WritesCalls call P (table_of tree) s q ⊎ NamesDeep call P s q
       replay_answer source_name schedule_name file text small short tree P source accepted s q schedule runs closed _ _ e wrote (too_large name is) =
-          absurd (none_some _ name (within_both 262144 16777216 source_name schedule_name file text small short) is)
+          absurd (none_some _ name (within_both longest_source longest_second_file source_name schedule_name file text small short) is)
       replay_answer source_name schedule_name file text small short tree P source accepted s q schedule runs closed _ _ e wrote (ended done out within answer) =
           written_calls file text out done answer e wrote tree P s q source accepted schedule runs closed
 
-      replays_by : (source_name schedule_name file text : List ℕ) → length file ≤ 262144 → length text ≤ 16777216 → (tree : ProgramTree) (P : Program) → IsWellFormedSource file tree P → IsAccepted P → (s : List ℕ) (q : State) → IsSchedule text s → run P s ≡ Some q → open_thread P q ≡ None
+      replays_by : (source_name schedule_name file text : List ℕ) → length file ≤ longest_source → length text ≤ longest_second_file → (tree : ProgramTree) (P : Program) → IsWellFormedSource file tree P → IsAccepted P → (s : List ℕ) (q : State) → IsSchedule text s → run P s ≡ Some q → open_thread P q ≡ None
           → (call.status ≡ 8) ⊎ WritesAnswer (record { command = Replay; names = source_name ∷ schedule_name ∷ [] }) (file ∷ text ∷ []) call.status call.written_before call.written_after → (call.status ≡ 8) ⊎ (WritesCalls call P (table_of tree) s q ⊎ NamesDeep call P s q)
       replays_by source_name schedule_name file text small short tree P source accepted s q schedule runs closed (inl eight) = inl eight
       replays_by source_name schedule_name file text small short tree P source accepted s q schedule runs closed (inr w) =

@@ -1,6 +1,8 @@
 -- What books are for: whoever wrote the book, `verify` says yes of accepted sources only; and of an accepted source it says yes to
 -- the book that `derive` writes.
 use Rattle.std.specs.Prelude.{◌≡◌, ℕ, ◌≤◌, List, [], ◌∷◌, Some, codes, length, ◌⊎◌}
+use Rattle.lexer.specs.Limits.{longest_source}
+use Rattle.sources.specs.Limits.{longest_second_file}
 use Rattle.sources.specs.declared.refusal.Ending.TheVariants.{Done}
 use Rattle.sources.specs.Facts.{IsAcceptedSource}
 use Rattle.evidence_commands.specs.Derive.{DeriveAnswer}
@@ -11,8 +13,8 @@ pub record IsVerifyOf (call : Call) (source_name book_name file bytes : List ℕ
   pub words : call.words ≡ codes "verify" ∷ source_name ∷ book_name ∷ []
   pub source : call.told source_name ≡ Some file
   pub book : call.told book_name ≡ Some bytes
-  pub small : length file ≤ 262144
-  pub short : length bytes ≤ 16777216
+  pub small : length file ≤ longest_source
+  pub short : length bytes ≤ longest_second_file
 
 -- what `verify` says over any book, and over the book that `derive` wrote
 pub record Books (call : Call) : Type 0 where

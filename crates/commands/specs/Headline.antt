@@ -5,6 +5,8 @@
 -- naming a method whose bound every closed assignment breaks.
 use Rattle.std.specs.Prelude.{◌≡◌, ℕ, ◌<◌, ◌≤◌, List, [], ◌∷◌, Some, None, length, slice_get, codes, ◌⊎◌}
 use Rattle.std.specs.Io.KnownBytes.{Appends}
+use Rattle.lexer.specs.Limits.{longest_source}
+use Rattle.sources.specs.Limits.{longest_second_file}
 use Rattle.algebra.specs.declared.basic.Basic.{Basic}
 use Rattle.algebra.specs.HeldPaths.{has_path}
 use Rattle.classes.specs.Table.{TableData, table_of}
@@ -66,7 +68,7 @@ pub record RefusesExactly (call : Call) (P : Program) (table : TableData) : Type
 pub record Headline (call : Call) : Type 0 where
   -- `serialise`, on files that are told and within their limits, where nothing failed
   pub serialise : (source_name schedule_name file text : List ℕ) → call.words ≡ codes "serialise" ∷ source_name ∷ schedule_name ∷ []
-      → call.told source_name ≡ Some file → call.told schedule_name ≡ Some text → length file ≤ 262144 → length text ≤ 16777216
+      → call.told source_name ≡ Some file → call.told schedule_name ≡ Some text → length file ≤ longest_source → length text ≤ longest_second_file
       → HasNoFault call (source_name ∷ schedule_name ∷ [])
       -- for every accepted source
       → (tree : ProgramTree) (P : Program) → IsWellFormedSource file tree P → IsAccepted P
@@ -75,7 +77,7 @@ pub record Headline (call : Call) : Type 0 where
       -- writes, unless memory is refused, such a rearrangement
       → (call.status ≡ 8) ⊎ WritesRearrangement call P s q
   -- `check`, on a file that is told and within its limit, where nothing failed
-  pub check : (name file : List ℕ) → call.words ≡ codes "check" ∷ name ∷ [] → call.told name ≡ Some file → length file ≤ 262144
+  pub check : (name file : List ℕ) → call.words ≡ codes "check" ∷ name ∷ [] → call.told name ≡ Some file → length file ≤ longest_source
       → HasNoFault call (name ∷ [])
       -- refuses a well-formed source exactly where no assignment is admissible, and else accepts it, unless memory is refused
       → (tree : ProgramTree) (P : Program) → IsWellFormedSource file tree P → (call.status ≡ 8) ⊎ RefusesExactly call P (table_of tree)

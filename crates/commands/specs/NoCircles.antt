@@ -1,6 +1,8 @@
 -- What `levels` is for: whoever wrote the levels, it says yes only of sources whose threads never wait for each other in a circle,
 -- whatever schedule is run; and it says yes to levels that order the program.
 use Rattle.std.specs.Prelude.{◌≡◌, ℕ, ◌≤◌, List, [], ◌∷◌, Some, codes, length, ◌⊎◌}
+use Rattle.lexer.specs.Limits.{longest_source}
+use Rattle.sources.specs.Limits.{longest_second_file}
 use Rattle.classes.specs.Table.{table_of}
 use Rattle.core_program.specs.Core.{Program}
 use Rattle.levels.specs.Circles.{Circle}
@@ -16,8 +18,8 @@ pub record IsLevelsOf (call : Call) (source_name levels_name file bytes : List �
   pub words : call.words ≡ codes "levels" ∷ source_name ∷ levels_name ∷ []
   pub source : call.told source_name ≡ Some file
   pub levels : call.told levels_name ≡ Some bytes
-  pub small : length file ≤ 262144
-  pub short : length bytes ≤ 16777216
+  pub small : length file ≤ longest_source
+  pub short : length bytes ≤ longest_second_file
 
 -- the file is a well-formed source, and no state to which a schedule runs on its program has a circle of threads each of which waits
 -- for a lock that the next one holds

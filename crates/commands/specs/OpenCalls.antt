@@ -3,6 +3,8 @@
 -- stands between two entries of one outermost atomic call.
 use Rattle.std.specs.Prelude.{◌≡◌, ℕ, ◌≤◌, List, [], ◌∷◌, Some, None, length, codes, ◌⊎◌}
 use Rattle.std.specs.Io.KnownBytes.{Appends}
+use Rattle.lexer.specs.Limits.{longest_source}
+use Rattle.sources.specs.Limits.{longest_second_file}
 use Rattle.core_program.specs.Core.{Program}
 use Rattle.serialise.specs.Whole.{IsWhole}
 use Rattle.rules.specs.Rules.{IsAccepted}
@@ -31,7 +33,7 @@ pub record WritesGathered (call : Call) (P : Program) (s : List ℕ) (q : State)
 pub record OpenCalls (call : Call) : Type 0 where
   -- `serialise-open`, on files that are told and within their limits, where nothing failed
   pub opens : (source_name schedule_name file text : List ℕ) → call.words ≡ codes "serialise-open" ∷ source_name ∷ schedule_name ∷ []
-      → call.told source_name ≡ Some file → call.told schedule_name ≡ Some text → length file ≤ 262144 → length text ≤ 16777216
+      → call.told source_name ≡ Some file → call.told schedule_name ≡ Some text → length file ≤ longest_source → length text ≤ longest_second_file
       → HasNoFault call (source_name ∷ schedule_name ∷ [])
       -- for every accepted source
       → (tree : ProgramTree) (P : Program) → IsWellFormedSource file tree P → IsAccepted P

@@ -1,6 +1,8 @@
 -- What certificates of refusal are for: whoever wrote the certificate, `verify-blame` says yes of well-formed sources alone for which no
 -- assignment is admissible; and to the certificate that `blame` writes for such a source it says yes.
 use Rattle.std.specs.Prelude.{◌≡◌, ℕ, ◌≤◌, List, [], ◌∷◌, Some, codes, length, ◌⊎◌}
+use Rattle.lexer.specs.Limits.{longest_source}
+use Rattle.sources.specs.Limits.{longest_second_file}
 use Rattle.sources.specs.declared.refusal.Ending.TheVariants.{Done}
 use Rattle.sources.specs.Facts.{HasNoAssignment}
 use Rattle.evidence_commands.specs.Blames.{BlameAnswer}
@@ -11,8 +13,8 @@ pub record IsVerifyBlameOf (call : Call) (source_name certificate_name file byte
   pub words : call.words ≡ codes "verify-blame" ∷ source_name ∷ certificate_name ∷ []
   pub source : call.told source_name ≡ Some file
   pub certificate : call.told certificate_name ≡ Some bytes
-  pub small : length file ≤ 262144
-  pub short : length bytes ≤ 16777216
+  pub small : length file ≤ longest_source
+  pub short : length bytes ≤ longest_second_file
 
 -- what `verify-blame` says over any certificate, and over the certificate that `blame` wrote
 pub record Refutations (call : Call) : Type 0 where

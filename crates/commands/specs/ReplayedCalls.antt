@@ -4,6 +4,8 @@
 -- 100 frames of its own.
 use Rattle.std.specs.Prelude.{◌≡◌, ℕ, ◌≤◌, List, [], ◌∷◌, Some, None, length, codes, ◌⊎◌}
 use Rattle.std.specs.Io.KnownBytes.{Appends}
+use Rattle.lexer.specs.Limits.{longest_source}
+use Rattle.sources.specs.Limits.{longest_second_file}
 use Rattle.classes.specs.Table.{TableData, table_of}
 use Rattle.core_program.specs.Core.{Program}
 use Rattle.replay.specs.Records.{Told, IsTooDeep}
@@ -49,7 +51,7 @@ pub record NamesDeep (call : Call) (P : Program) (s : List ℕ) (q : State) : Ty
 pub record ReplayedCalls (call : Call) : Type 0 where
   -- `replay`, on files that are told and within their limits, where nothing failed
   pub replays : (source_name schedule_name file text : List ℕ) → call.words ≡ codes "replay" ∷ source_name ∷ schedule_name ∷ []
-      → call.told source_name ≡ Some file → call.told schedule_name ≡ Some text → length file ≤ 262144 → length text ≤ 16777216
+      → call.told source_name ≡ Some file → call.told schedule_name ≡ Some text → length file ≤ longest_source → length text ≤ longest_second_file
       → HasNoFault call (source_name ∷ schedule_name ∷ [])
       -- for every accepted source
       → (tree : ProgramTree) (P : Program) → IsWellFormedSource file tree P → IsAccepted P

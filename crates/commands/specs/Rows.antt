@@ -1,5 +1,7 @@
 -- The rows of words that the program knows.
 use Rattle.std.specs.Prelude.{◌≡◌, ◌<◌, ℕ, List, [], ◌∷◌, ◌++◌, codes, decimal, length}
+use Rattle.lexer.specs.Limits.{longest_source}
+use Rattle.sources.specs.Limits.{longest_second_file}
 use Rattle.commands.specs.declared.command.Command.{Command}
 use Rattle.commands.specs.declared.command.Command.TheVariants.{Check, Print, Run, Serialise, Derive, Verify, SerialiseOpen, Blame, VerifyBlame, Levels, Replay, Generate}
 
@@ -50,17 +52,17 @@ IsWithin (Generate n) = n < 1000
 
 -- the most bytes that each file of a command may have, in the order of the words
 abbrev pub limits_of : Command → List ℕ
-limits_of Check = 262144 ∷ []
-limits_of Print = 262144 ∷ []
-limits_of Run = 262144 ∷ 16777216 ∷ []
-limits_of Serialise = 262144 ∷ 16777216 ∷ []
-limits_of Derive = 262144 ∷ []
-limits_of Verify = 262144 ∷ 16777216 ∷ []
-limits_of SerialiseOpen = 262144 ∷ 16777216 ∷ []
-limits_of Blame = 262144 ∷ []
-limits_of VerifyBlame = 262144 ∷ 16777216 ∷ []
-limits_of Levels = 262144 ∷ 16777216 ∷ []
-limits_of Replay = 262144 ∷ 16777216 ∷ []
+limits_of Check = longest_source ∷ []
+limits_of Print = longest_source ∷ []
+limits_of Run = longest_source ∷ longest_second_file ∷ []
+limits_of Serialise = longest_source ∷ longest_second_file ∷ []
+limits_of Derive = longest_source ∷ []
+limits_of Verify = longest_source ∷ longest_second_file ∷ []
+limits_of SerialiseOpen = longest_source ∷ longest_second_file ∷ []
+limits_of Blame = longest_source ∷ []
+limits_of VerifyBlame = longest_source ∷ longest_second_file ∷ []
+limits_of Levels = longest_source ∷ longest_second_file ∷ []
+limits_of Replay = longest_source ∷ longest_second_file ∷ []
 limits_of (Generate n) = []
 
 -- a command, and the names of its files

@@ -1,5 +1,6 @@
 -- Which ending comes for the answer to `levels`, and what follows where it is done.
 use Rattle.std.proofs.Common.{◌≡◌, ◌≤◌, ℕ, List, length, Some, refl, sym, subst, arith}
+use Rattle.lexer.specs.Limits.{longest_source}
 use Rattle.classes.specs.Table.{TableData, table_of}
 use Rattle.core_program.specs.Core.{Program}
 use Rattle.core_program.specs.Typed.{IsTyped}
@@ -96,12 +97,12 @@ levels_apart file bytes ending.LevelsRefused ending.CallTooDeep f g = absurd g
 -- ---- what follows where the levels order the program
 
 -- the core program of a source of at most 262,144 bytes is typed
-pub source_typed : (file : List ℕ) (tree : ProgramTree) (P : Program) → length file ≤ 262144 → IsWellFormedSource file tree P → IsTyped P
+pub source_typed : (file : List ℕ) (tree : ProgramTree) (P : Program) → length file ≤ longest_source → IsWellFormedSource file tree P → IsTyped P
 source_typed file tree P small source =
     let program = source.has_core.program in
     core_is_typed tree P program.tokens source.has_core.classes source.has_core.core program.grammar (let few = few_tokens program.cut in omega (arith, few, small))
 
 -- no state to which a schedule runs has a circle of waiting threads
-pub reaches_no_circle : (file bytes : List ℕ) (tree : ProgramTree) (P : Program) → length file ≤ 262144 → IsWellFormedSource file tree P → OrdersBy (table_of tree) P bytes
+pub reaches_no_circle : (file bytes : List ℕ) (tree : ProgramTree) (P : Program) → length file ≤ longest_source → IsWellFormedSource file tree P → OrdersBy (table_of tree) P bytes
     → (s : List ℕ) (q : State) → run P s ≡ Some q → Circle q → ⊥
 reaches_no_circle file bytes tree P small source orders = no_circles P orders.sets (level_in orders.levels) (source_typed file tree P small source) orders.relevant orders.are_levels.same orders.ordered

@@ -1,5 +1,6 @@
 //! `blame FILE`.
 ghost use Rattle.std.specs.Prelude.{◌≤◌, ℕ, List, length, MatchResult};
+ghost use Rattle.lexer.specs.Limits.{longest_source};
 ghost use Rattle.refutation.specs.Texts.{IsCertificateText};
 ghost use Rattle.sources.specs.Checking.{IsSourceOf};
 ghost use Rattle.sources.specs.Refusals.{IsRight, Tells};
@@ -50,7 +51,7 @@ fn blame_text(alloc: Global, source: &Source) -> Result<Vec<u8>, Refusal>
 /// Writes the certificate of refusal of a source, or refuses it.
 #[tactic(auto, using(crate::proofs::Rows::blame_source_refused))]
 pub fn blame_source(alloc: Global, bytes: &[u8]) -> Result<Vec<u8>, Refusal>
-    requires { length bytes.now ≤ 262144 }
+    requires { length bytes.now ≤ longest_source }
     ensures { MatchResult result (λ text. BlameAnswer bytes.now Ending.Done text.items) (IsRight (BlameAnswer bytes.now)) }
 {
     let source = read_source(alloc, bytes)?;

@@ -1,6 +1,8 @@
 //! `verify FILE BOOK`.
 
 ghost use Rattle.std.specs.Prelude.{◌≡◌, ◌≢◌, ◌≤◌, length, IfOk, MatchResult, string_bytes};
+ghost use Rattle.lexer.specs.Limits.{longest_source};
+ghost use Rattle.sources.specs.Limits.{longest_second_file};
 ghost use Rattle.evidence_commands.specs.Books.{book_fault_line};
 ghost use Rattle.book_check.specs.Faults.{IsUnjudged};
 ghost use Rattle.core_program.specs.Views.{program_of};
@@ -75,8 +77,8 @@ fn verified(alloc: Global, checked: &Checked) -> Result<Vec<u8>, Refusal>
 
 /// Checks a source by the text of a book, which may be anyone's, or refuses one of the two.
 pub fn verify_book(alloc: Global, file: &[u8], bytes: &[u8]) -> Result<Vec<u8>, Refusal>
-    requires file { length file.now ≤ 262144 }
-    requires bytes { length bytes.now ≤ 16777216 }
+    requires file { length file.now ≤ longest_source }
+    requires bytes { length bytes.now ≤ longest_second_file }
     ensures { MatchResult result (λ out. VerifyAnswer file.now bytes.now Ending.Done out.items) (IsRight (VerifyAnswer file.now bytes.now)) }
 {
     let source = read_source(alloc, file)?;

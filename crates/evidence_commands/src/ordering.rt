@@ -1,6 +1,8 @@
 //! `levels FILE LEVELS`.
 
 ghost use Rattle.std.specs.Prelude.{◌≡◌, ◌≤◌, ℕ, List, length, MatchResult};
+ghost use Rattle.lexer.specs.Limits.{longest_source};
+ghost use Rattle.sources.specs.Limits.{longest_second_file};
 ghost use Rattle.classes.specs.Views.{table_data};
 ghost use Rattle.sources.specs.Checking.{IsSourceOf};
 ghost use Rattle.sources.specs.Refusals.{IsRight, Tells};
@@ -70,7 +72,7 @@ fn is_ordered(alloc: Global) -> Result<Vec<u8>, Refusal>
 /// Judges a source by the text of levels.
 fn judged(alloc: Global, source: &Source<'_>, levels: &[u8]) -> Result<Vec<u8>, Refusal>
     requires source { (file : List ℕ) × IsSourceOf file source.now }
-    requires levels { length levels.now ≤ 16777216 }
+    requires levels { length levels.now ≤ longest_second_file }
     ensures { (file : List ℕ) → IsSourceOf file source.now →
         MatchResult result (λ out. LevelsAnswer file levels.now Ending.Done out.items) (IsRight (LevelsAnswer file levels.now)) }
 {
@@ -87,8 +89,8 @@ fn judged(alloc: Global, source: &Source<'_>, levels: &[u8]) -> Result<Vec<u8>, 
 /// Shows by the text of levels that no threads of a source can wait for each other in a circle, or refuses one of the two.
 #[tactic(auto, using(crate::proofs::LevelRows::source_refused))]
 pub fn order_levels(alloc: Global, file: &[u8], levels: &[u8]) -> Result<Vec<u8>, Refusal>
-    requires file { length file.now ≤ 262144 }
-    requires levels { length levels.now ≤ 16777216 }
+    requires file { length file.now ≤ longest_source }
+    requires levels { length levels.now ≤ longest_second_file }
     ensures { MatchResult result (λ out. LevelsAnswer file.now levels.now Ending.Done out.items) (IsRight (LevelsAnswer file.now levels.now)) }
 {
     let source = read_source(alloc, file)?;

@@ -1,5 +1,7 @@
 //! `verify-blame FILE CERT`.
 ghost use Rattle.std.specs.Prelude.{◌≡◌, ◌≤◌, ◌<◌, ◌^◌, ℕ, List, length, IfOk, MatchResult, string_bytes};
+ghost use Rattle.lexer.specs.Limits.{longest_source};
+ghost use Rattle.sources.specs.Limits.{longest_second_file};
 ghost use Rattle.refutation.specs.Texts.{IsCertificateText};
 ghost use Rattle.sources.specs.Checking.{IsSourceOf};
 ghost use Rattle.sources.specs.Refusals.{IsRight, Tells};
@@ -57,7 +59,7 @@ fn judged(alloc: Global, source: &Source, blame: &Blame) -> Result<Vec<u8>, Refu
 
 /// Reads and judges the text of a certificate of a source.
 fn judged_text(alloc: Global, source: &Source, bytes: &[u8]) -> Result<Vec<u8>, Refusal>
-    requires bytes { length bytes.now ≤ 16777216 }
+    requires bytes { length bytes.now ≤ longest_second_file }
     ensures { (file : List ℕ) → IsSourceOf file source.now →
         MatchResult result (λ out. VerifyBlameAnswer file bytes.now Ending.Done out.items) (IsRight (VerifyBlameAnswer file bytes.now)) }
 {
@@ -69,8 +71,8 @@ fn judged_text(alloc: Global, source: &Source, bytes: &[u8]) -> Result<Vec<u8>, 
 
 /// Checks that a certificate, which may be anyone's, refuses a source, or refuses one of the two.
 pub fn verify_blame(alloc: Global, file: &[u8], bytes: &[u8]) -> Result<Vec<u8>, Refusal>
-    requires file { length file.now ≤ 262144 }
-    requires bytes { length bytes.now ≤ 16777216 }
+    requires file { length file.now ≤ longest_source }
+    requires bytes { length bytes.now ≤ longest_second_file }
     ensures { MatchResult result (λ out. VerifyBlameAnswer file.now bytes.now Ending.Done out.items) (IsRight (VerifyBlameAnswer file.now bytes.now)) }
 {
     let source = read_source(alloc, file)?;

@@ -1,6 +1,7 @@
 //! `derive FILE`.
 
 ghost use Rattle.std.specs.Prelude.{◌≤◌, ℕ, List, length, MatchResult};
+ghost use Rattle.lexer.specs.Limits.{longest_source};
 ghost use Rattle.sources.specs.Checking.{IsSourceOf};
 ghost use Rattle.sources.specs.Refusals.{IsRight};
 ghost use Rattle.evidence_commands.specs.Derive.{DeriveAnswer};
@@ -27,7 +28,7 @@ fn book_text(alloc: Global, source: &Source) -> Result<Vec<u8>, Refusal>
 /// Writes the book of a source that the rules accept, or refuses it.
 #[tactic(auto, using(crate::proofs::BookRows::derive_source_refused))]
 pub fn derive_book(alloc: Global, bytes: &[u8]) -> Result<Vec<u8>, Refusal>
-    requires { length bytes.now ≤ 262144 }
+    requires { length bytes.now ≤ longest_source }
     ensures { MatchResult result (λ text. DeriveAnswer bytes.now Ending.Done text.items) (IsRight (DeriveAnswer bytes.now)) }
 {
     let source = read_source(alloc, bytes)?;

@@ -1,5 +1,6 @@
 -- When it ends how.
 use Rattle.std.proofs.Common.{◌≡◌, ℕ, ◌<◌, ◌≤◌, List, length, refl, sym, subst, arith, inl, inr}
+use Rattle.lexer.specs.Limits.{longest_source}
 use Rattle.core_program.specs.Core.{Program}
 use Rattle.edge.specs.Said.{Exactly, IsTroubleStatus}
 use Rattle.edge.proofs.Statuses.{yield_range}
@@ -13,7 +14,6 @@ use Rattle.syntax.specs.Trees.{ProgramTree}
 use Rattle.explain_commands.specs.declared.words.Order.{Order}
 use Rattle.explain_commands.specs.Answers.{ExplainAnswer, no_source, judged}
 use Rattle.explain_commands.specs.Broken.{IsProgramVerdict}
-use Rattle.explain_commands.specs.Reading.{longest_file}
 use Rattle.explain_commands.specs.Written.{Belongs, too_large, ended, IsExactStatusOfFile}
 
 verdict_fact : (file : List ℕ) (tree : ProgramTree) (P : Program) (ending : Ending) → IsWellFormedSource file tree P → IsProgramVerdict P ending → CheckFact file ending
@@ -56,11 +56,11 @@ never result status fact other not = record { only = λ e. absurd (other e); all
 exactly : (status : ℕ) (fact : Type 0) → fact → Exactly status status fact
 exactly status fact f = record { only = λ e. f; all = λ g. inl refl }
 
-over_or_within : (n : ℕ) → longest_file < n → n ≤ longest_file → ⊥
+over_or_within : (n : ℕ) → longest_source < n → n ≤ longest_source → ⊥
 over_or_within n over within = omega (arith, over, within)
 
-module _ (file : List ℕ) (within : length file ≤ longest_file) where
-  not_over : (status : ℕ) → status ≤ 2 → Exactly status 10 (longest_file < length file)
+module _ (file : List ℕ) (within : length file ≤ longest_source) where
+  not_over : (status : ℕ) → status ≤ 2 → Exactly status 10 (longest_source < length file)
   not_over status low = never status 10 _ (λ e. omega (arith, low, e)) (λ over. over_or_within (length file) over within)
 
   exact_ending : (ending : Ending) → CheckFact file ending → IsExactStatusOfFile file (code_of ending)

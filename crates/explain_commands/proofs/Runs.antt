@@ -2,6 +2,7 @@
 use Rattle.std.proofs.Common.{◌≡◌, ◌<◌, ℕ, suc, List, [], ◌∷◌, Option, Some, None, IfSome, length, replicate, refl, sym, subst, ◌∙◌, arith, inl, inr, ◌⊎◌}
 use Rattle.std.proofs.lemmas.List.{length-replicate}
 use Rattle.std.specs.Io.KnownBytes.{Appends}
+use Rattle.lexer.specs.Limits.{longest_source}
 use Rattle.edge.specs.Faults.{Rose}
 use Rattle.edge.specs.Lines.{cannot_read_line, too_large_line}
 use Rattle.edge.specs.Said.{SaysText, IsTroubleStatus}
@@ -9,7 +10,7 @@ use Rattle.sources.specs.Refusals.{code_of}
 use Rattle.explain_commands.specs.declared.words.Order.{Order}
 use Rattle.explain_commands.specs.declared.words.Order.TheVariants.{Why, All}
 use Rattle.explain_commands.specs.Outcomes.{IsOutcome, unread, over, read}
-use Rattle.explain_commands.specs.Reading.{longest_file, HasSameFaults, IsUnread, IsOver}
+use Rattle.explain_commands.specs.Reading.{HasSameFaults, IsUnread, IsOver}
 use Rattle.explain_commands.specs.Words.{IsRow, all_word}
 use Rattle.explain_commands.specs.Written.{IsAskedFile, Belongs, too_large, ended, IsExactStatusOfFile, WritesAnswer, WritesAnswerToBytes, IsSomeText, some_unread, some_answer, WritesFront, IsSomeTextToBytes, unread_line, answer_to, WritesFrontToBytes}
 use Rattle.explain_commands.proofs.Endings.{caused, low_code, exact_answer, exact_yield}
@@ -29,17 +30,17 @@ one_row words All All name its a b = record { order_is = refl; name_is = let e :
 told_is : (o : Option (List ℕ)) (file bytes : List ℕ) → o ≡ Some file → IfSome o (λ its. bytes ≡ its) → bytes ≡ file
 told_is o file bytes is its = subst (λ x. IfSome x (λ i. bytes ≡ i)) is its
 
-told_over : (o : Option (List ℕ)) (file : List ℕ) → o ≡ Some file → IfSome o (λ its. longest_file < length its) → longest_file < length file
-told_over o file is its = subst (λ x. IfSome x (λ i. longest_file < length i)) is its
+told_over : (o : Option (List ℕ)) (file : List ℕ) → o ≡ Some file → IfSome o (λ its. longest_source < length its) → longest_source < length file
+told_over o file is its = subst (λ x. IfSome x (λ i. longest_source < length i)) is its
 
 -- some bytes that are too many, and those that are told where the folder tells them
 record HasOver (told : Option (List ℕ)) : Type 0 where
   file : List ℕ
   its : IfSome told (λ bytes. file ≡ bytes)
-  is_over : longest_file < length file
+  is_over : longest_source < length file
 
-some_over : (told : Option (List ℕ)) → IfSome told (λ file. longest_file < length file) → HasOver told
-some_over None is = record { file = replicate (suc longest_file) 0; its = tt; is_over = let e : length {A = ℕ} (replicate (suc longest_file) 0) ≡ suc longest_file = length-replicate {A = ℕ} (suc longest_file) 0 in omega (arith, e) }
+some_over : (told : Option (List ℕ)) → IfSome told (λ file. longest_source < length file) → HasOver told
+some_over None is = record { file = replicate (suc longest_source) 0; its = tt; is_over = let e : length {A = ℕ} (replicate (suc longest_source) 0) ≡ suc longest_source = length-replicate {A = ℕ} (suc longest_source) 0 in omega (arith, e) }
 some_over (Some file) is = record { file = file; its = refl; is_over = is }
 
 -- the words ask for something: its status and text, and what was said

@@ -2,6 +2,7 @@
 -- assignment breaks, and status 2 comes exactly where there is one; which is exactly where no assignment of atomicities is admissible.
 use Rattle.std.specs.Prelude.{◌≡◌, ◌≢◌, ◌↔◌, ℕ, ◌≤◌, false, List, [], ◌∷◌, Contains, Some, length, slice_get, ◌⊎◌}
 use Rattle.std.specs.Io.KnownBytes.{Appends}
+use Rattle.lexer.specs.Limits.{longest_source}
 use Rattle.algebra.specs.Basics.{below_of}
 use Rattle.core_program.specs.Core.{Program, Method}
 use Rattle.explain.specs.declared.names.Alias.{Alias}
@@ -58,5 +59,5 @@ pub record TellsBroken (call : Call) (name file : List ℕ) (tree : ProgramTree)
 -- is refused, the call writes that
 abbrev pub ExplainsBroken : Call → Type 0
 ExplainsBroken call =
-    (name file : List ℕ) → call.words ≡ name ∷ [] → name ≢ all_word → call.told name ≡ Some file → length file ≤ 262144 → HasNoFault call (name ∷ [])
+    (name file : List ℕ) → call.words ≡ name ∷ [] → name ≢ all_word → call.told name ≡ Some file → length file ≤ longest_source → HasNoFault call (name ∷ [])
     → (tree : ProgramTree) (P : Program) → IsWellFormedSource file tree P → (call.status ≡ 8) ⊎ TellsBroken call name file tree P

@@ -1,6 +1,7 @@
 -- What is written, and with which status.
 use Rattle.std.specs.Prelude.{◌≡◌, ℕ, ◌<◌, ◌≤◌, List, Option, Some, IfSome, length}
 use Rattle.std.specs.Io.KnownBytes.{Appends}
+use Rattle.lexer.specs.Limits.{longest_source}
 use Rattle.edge.specs.Pieces.{AppendsFront}
 use Rattle.edge.specs.Lines.{cannot_read_line, too_large_line}
 use Rattle.edge.specs.Said.{Exactly}
@@ -9,7 +10,7 @@ use Rattle.sources.specs.Facts.{IsNotWellFormed, HasNoAssignment, IsAcceptedSour
 use Rattle.sources.specs.Refusals.{code_of}
 use Rattle.explain_commands.specs.declared.words.Order.{Order}
 use Rattle.explain_commands.specs.Answers.{ExplainAnswer}
-use Rattle.explain_commands.specs.Reading.{longest_file, IsUnread}
+use Rattle.explain_commands.specs.Reading.{IsUnread}
 use Rattle.explain_commands.specs.Words.{IsRow}
 
 -- the words ask for this of the file of this name, and the folder tells its bytes
@@ -19,16 +20,16 @@ pub record IsAskedFile (words : List (List ℕ)) (told : List ℕ → Option (Li
 
 -- the status and the text that belong to what is asked and the bytes of the file
 pub data Belongs (order : Order) (name file : List ℕ) : ℕ → List ℕ → Type 0 where
-  too_large : longest_file < length file → Belongs order name file 10 (too_large_line name)
-  ended : (ending : Ending) (text : List ℕ) → length file ≤ longest_file → ExplainAnswer order name file ending text → Belongs order name file (code_of ending) text
+  too_large : longest_source < length file → Belongs order name file 10 (too_large_line name)
+  ended : (ending : Ending) (text : List ℕ) → length file ≤ longest_source → ExplainAnswer order name file ending text → Belongs order name file (code_of ending) text
 
 -- which status comes for the bytes of the file: 10 exactly where there are too many; else 1 exactly where they are no well-formed source, 2
 -- where they are one for which no assignment is admissible, 0 where they are one for which some assignment is
 pub record IsExactStatusOfFile (file : List ℕ) (result : ℕ) : Type 0 where
-  pub too_large : Exactly result 10 (longest_file < length file)
-  pub refused : Exactly result 1 ((length file ≤ longest_file) × IsNotWellFormed file)
-  pub inadmissible : Exactly result 2 ((length file ≤ longest_file) × HasNoAssignment file)
-  pub accepted : Exactly result 0 ((length file ≤ longest_file) × IsAcceptedSource file)
+  pub too_large : Exactly result 10 (longest_source < length file)
+  pub refused : Exactly result 1 ((length file ≤ longest_source) × IsNotWellFormed file)
+  pub inadmissible : Exactly result 2 ((length file ≤ longest_source) × HasNoAssignment file)
+  pub accepted : Exactly result 0 ((length file ≤ longest_source) × IsAcceptedSource file)
 
 -- the text that belongs to what is asked, the file and the status was written
 pub record WritesAnswer (order : Order) (name file : List ℕ) (status : ℕ) (old new : Option (List ℕ)) : Type 0 where

@@ -1,5 +1,6 @@
 -- Refusals and answers of `generate`.
 use Rattle.std.proofs.Common.{◌≡◌, ◌≤◌, ◌<◌, ◌^◌, List, ℕ, length, get_or, ap, refl, subst, ◌∙◌, arith}
+use Rattle.lexer.specs.Limits.{longest_source}
 use Rattle.core_program.specs.Views.{program_of}
 use Rattle.schedule.specs.Rounds.{IsGenerated}
 use Rattle.schedule.specs.Sources.{generated_source}
@@ -24,7 +25,7 @@ use Rattle.schedule_commands.proofs.ScheduleEndings.{order_ends}
 use Rattle.schedule_commands.proofs.ScheduleRows.{the_input}
 
 -- the source is small, and the schedule short
-pub small_source : (n : ℕ) (file : List ℕ) → n < 1000 → file ≡ generated_source n → length file ≤ 262144
+pub small_source : (n : ℕ) (file : List ℕ) → n < 1000 → file ≡ generated_source n → length file ≤ longest_source
 small_source n file small is = omega (arith, ap length is, source_size n, small)
 
 pub short_rounds : (n : ℕ) (s : List ℕ) → n < 1000 → IsGenerated n s → length s ≤ 200000

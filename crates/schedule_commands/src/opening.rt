@@ -1,6 +1,8 @@
 //! `serialise-open FILE SCHEDULE`.
 
 ghost use Rattle.std.specs.Prelude.{◌≡◌, ◌≤◌, ℕ, List, Some, length, MatchResult, IfOk};
+ghost use Rattle.lexer.specs.Limits.{longest_source};
+ghost use Rattle.sources.specs.Limits.{longest_second_file};
 ghost use Rattle.compile.specs.IsCode.{IsCodeOf};
 ghost use Rattle.core_program.specs.Core.{Program};
 ghost use Rattle.core_program.specs.Typed.{IsTyped};
@@ -60,7 +62,7 @@ fn order_of<'p>(
 /// that it runs to; or the refusal.
 fn in_order(alloc: Global, source: &Source, text: &[u8]) -> Result<Vec<u8>, Refusal>
     requires source { (file : List ℕ) × IsSourceOf file source.now }
-    requires text { length text.now ≤ 16777216 }
+    requires text { length text.now ≤ longest_second_file }
     ensures { (file : List ℕ) → IsSourceOf file source.now →
         MatchResult result (λ out. SerialiseOpenAnswer file text.now Ending.Done out.items) (IsRight (SerialiseOpenAnswer file text.now)) }
 {
@@ -75,8 +77,8 @@ fn in_order(alloc: Global, source: &Source, text: &[u8]) -> Result<Vec<u8>, Refu
 /// Writes a schedule of a source with each atomic call in one piece, also one that is left open, and the text of the state that
 /// it runs to; or the refusal.
 pub fn serialise_open(alloc: Global, file: &[u8], text: &[u8]) -> Result<Vec<u8>, Refusal>
-    requires file { length file.now ≤ 262144 }
-    requires text { length text.now ≤ 16777216 }
+    requires file { length file.now ≤ longest_source }
+    requires text { length text.now ≤ longest_second_file }
     ensures { MatchResult result (λ out. SerialiseOpenAnswer file.now text.now Ending.Done out.items) (IsRight (SerialiseOpenAnswer file.now text.now)) }
 {
     let source = read_source(alloc, file)?;

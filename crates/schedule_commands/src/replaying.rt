@@ -1,6 +1,8 @@
 //! `replay FILE SCHEDULE`.
 
 ghost use Rattle.std.specs.Prelude.{◌≡◌, ◌≤◌, ℕ, List, Some, false, length, map, MatchResult};
+ghost use Rattle.lexer.specs.Limits.{longest_source};
+ghost use Rattle.sources.specs.Limits.{longest_second_file};
 ghost use Rattle.classes.specs.Views.{table_data};
 ghost use Rattle.compile.specs.IsCode.{IsCodeOf};
 ghost use Rattle.core_program.specs.Typed.{IsTyped};
@@ -82,7 +84,7 @@ fn replayed_text(
 /// Replays the completed outermost atomic calls of a schedule of this source, one at a time; or gives the refusal.
 fn replayed(alloc: Global, source: &Source, text: &[u8]) -> Result<Vec<u8>, Refusal>
     requires source { (file : List ℕ) × IsSourceOf file source.now }
-    requires text { length text.now ≤ 16777216 }
+    requires text { length text.now ≤ longest_second_file }
     ensures { (file : List ℕ) → IsSourceOf file source.now →
         MatchResult result (λ out. ReplayAnswer file text.now Ending.Done out.items) (IsRight (ReplayAnswer file text.now)) }
 {
@@ -96,8 +98,8 @@ fn replayed(alloc: Global, source: &Source, text: &[u8]) -> Result<Vec<u8>, Refu
 /// Replays the completed outermost atomic calls of a schedule of a source, one at a time, in the order in which `serialise` writes
 /// them: a line for each call, with its result and the numbers that it printed; or the refusal.
 pub fn replay_calls(alloc: Global, file: &[u8], text: &[u8]) -> Result<Vec<u8>, Refusal>
-    requires file { length file.now ≤ 262144 }
-    requires text { length text.now ≤ 16777216 }
+    requires file { length file.now ≤ longest_source }
+    requires text { length text.now ≤ longest_second_file }
     ensures { MatchResult result (λ out. ReplayAnswer file.now text.now Ending.Done out.items) (IsRight (ReplayAnswer file.now text.now)) }
 {
     let source = read_source(alloc, file)?;

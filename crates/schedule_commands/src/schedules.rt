@@ -1,6 +1,7 @@
 //! The schedule that a row names, and what it runs to.
 
 ghost use Rattle.std.specs.Prelude.{◌≡◌, ◌≢◌, ◌≤◌, ℕ, List, Some, true, false, length, MatchResult, string_bytes};
+ghost use Rattle.sources.specs.Limits.{longest_second_file};
 ghost use Rattle.classes.specs.Views.{table_data};
 ghost use Rattle.compile.specs.IsCode.{IsCodeOf};
 ghost use Rattle.core_program.specs.Core.{Program};
@@ -36,7 +37,7 @@ fn refuse_text(alloc: Global, bytes: &[u8], fault: SchedFault) -> Refusal
 
 /// The schedule that these bytes are the text of.
 pub fn schedule_of(alloc: Global, bytes: &[u8]) -> Result<Vec<u32>, Refusal>
-    requires { length bytes.now ≤ 16777216 }
+    requires { length bytes.now ≤ longest_second_file }
     ensures { MatchResult result (λ s. IsSchedule bytes.now s.items) (IsRight (NoSchedule bytes.now)) }
 {
     match read_schedule(alloc, bytes) {

@@ -1,6 +1,8 @@
 //! `serialise FILE SCHEDULE`.
 
 ghost use Rattle.std.specs.Prelude.{◌≡◌, ◌≤◌, ◌++◌, ℕ, List, Some, length, MatchResult, IfOk};
+ghost use Rattle.lexer.specs.Limits.{longest_source};
+ghost use Rattle.sources.specs.Limits.{longest_second_file};
 ghost use Rattle.classes.specs.Views.{table_data};
 ghost use Rattle.compile.specs.IsCode.{IsCodeOf};
 ghost use Rattle.core_program.specs.Core.{Program};
@@ -102,7 +104,7 @@ pub(crate) fn order_text(
 /// Writes a schedule of this source with each atomic call in one piece, and the text of the state that it runs to; or the refusal.
 fn serialised(alloc: Global, source: &Source, text: &[u8]) -> Result<Vec<u8>, Refusal>
     requires source { (file : List ℕ) × IsSourceOf file source.now }
-    requires text { length text.now ≤ 16777216 }
+    requires text { length text.now ≤ longest_second_file }
     ensures { (file : List ℕ) → IsSourceOf file source.now →
         MatchResult result (λ out. SerialiseAnswer file text.now Ending.Done out.items) (IsRight (SerialiseAnswer file text.now)) }
 {
@@ -116,8 +118,8 @@ fn serialised(alloc: Global, source: &Source, text: &[u8]) -> Result<Vec<u8>, Re
 
 /// Writes a schedule of a source with each atomic call in one piece, and the text of the state that it runs to; or the refusal.
 pub fn serialise(alloc: Global, file: &[u8], text: &[u8]) -> Result<Vec<u8>, Refusal>
-    requires file { length file.now ≤ 262144 }
-    requires text { length text.now ≤ 16777216 }
+    requires file { length file.now ≤ longest_source }
+    requires text { length text.now ≤ longest_second_file }
     ensures { MatchResult result (λ out. SerialiseAnswer file.now text.now Ending.Done out.items) (IsRight (SerialiseAnswer file.now text.now)) }
 {
     let source = read_source(alloc, file)?;

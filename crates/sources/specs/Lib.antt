@@ -1,6 +1,8 @@
--- For a reader of the contracts, in this order: how commands end and how a refusal is right (Refusals), what a program of the
--- grammar is (Programs), what a well-formed source is (Checking), the least closed assignment and the verdict (Verdicts), and
--- the facts that exit statuses stand for (Facts). Offsets and Judged serve the proofs.
+-- For a reader of the contracts, in this order: how long the second file of a row may be (Limits), how commands end and how a
+-- refusal is right (Refusals), what a program of the grammar is (Programs), what a well-formed source is (Checking), the least
+-- closed assignment and the verdict (Verdicts), and the facts that exit statuses stand for (Facts). Offsets and Judged serve the
+-- proofs.
+pub mod Limits
 pub mod Refusals
 pub mod Programs
 pub mod Checking

@@ -1,6 +1,7 @@
 //! `check FILE`.
 
 ghost use Rattle.std.specs.Prelude.{◌≡◌, ◌++◌, ◌≤◌, ◌^◌, ℕ, List, length, map, IfOk, OnOk, MatchResult, string_bytes};
+ghost use Rattle.lexer.specs.Limits.{longest_source};
 ghost use Rattle.classes.specs.Views.{table_data};
 ghost use Rattle.conditions.specs.Conditions.{cond_of};
 ghost use Rattle.report.specs.Verdicts.{atomicity_line};
@@ -59,7 +60,7 @@ fn judged(alloc: Global, source: &Source) -> Result<Vec<u8>, Refusal>
 /// Judges a source: a line for each method, or the refusal.
 #[tactic(auto, using(crate::proofs::SourceRows::source_refused))]
 pub fn check(alloc: Global, bytes: &[u8]) -> Result<Vec<u8>, Refusal>
-    requires { length bytes.now ≤ 262144 }
+    requires { length bytes.now ≤ longest_source }
     ensures { MatchResult result (λ text. CheckAnswer bytes.now Ending.Done text.items) (IsRight (CheckAnswer bytes.now)) }
 {
     let source = read_source(alloc, bytes)?;

@@ -1,6 +1,8 @@
 -- When it ends how.
 use Rattle.std.proofs.Common.{◌≡◌, ℕ, ◌<◌, ◌≤◌, List, Bool, true, false, is_some, length, refl, sym, ap, subst, ◌∙◌, arith, inl, inr, ◌⊎◌}
 use Rattle.std.proofs.lemmas.Option.{same_Some}
+use Rattle.lexer.specs.Limits.{longest_source}
+use Rattle.sources.specs.Limits.{longest_second_file}
 use Rattle.core_program.specs.Core.{Program}
 use Rattle.witness.specs.declared.goal.Compared.{Compared}
 use Rattle.witness.specs.declared.goal.Compared.TheVariants.{Objects, Output}
@@ -16,7 +18,7 @@ use Rattle.semantics.specs.Run.{Runs, open_thread}
 use Rattle.schedule_commands.specs.Schedules.{NoOrder, no_run, open_call, HasInput, IsWellFormedText, IsNoSchedule, LeavesCallOpen, EndsOutside}
 use Rattle.schedule_commands.proofs.ScheduleEndings.{runs_to, inputs_apart, no_source_input, no_schedule_input, refused_text, refused_run}
 use Rattle.witness_commands.specs.Answers.{Refuses, no_source, no_schedule, no_end, IsTold, kept, broken, undecided, WitnessAnswer, refused, told, IsKeptEnd, IsWitnessOf}
-use Rattle.witness_commands.specs.Reading.{longest_source, longest_schedule, AreWithin}
+use Rattle.witness_commands.specs.Reading.{AreWithin}
 use Rattle.witness_commands.specs.Written.{Belongs, source_large, schedule_large, answered, Decides, IsExact}
 
 -- a witness in any sense is one by objects and output
@@ -80,12 +82,12 @@ decided status fact f = record { only = λ e. f; all = λ g. inl refl }
 open_end : (status : ℕ) (fact : Type 0) → (16 ≡ status → ⊥) → Decides 16 status fact
 open_end status fact other = record { only = λ e. absurd (other e); all = λ g. inr (inl refl) }
 
-both_over : (file text : List ℕ) → (longest_source < length file) ⊎ (longest_schedule < length text) → AreWithin file text → ⊥
+both_over : (file text : List ℕ) → (longest_source < length file) ⊎ (longest_second_file < length text) → AreWithin file text → ⊥
 both_over file text (inl over) within = omega (arith, over, within.0)
 both_over file text (inr over) within = omega (arith, over, within.1)
 
 module _ (file text : List ℕ) (within : AreWithin file text) where
-  large : (status : ℕ) → (status ≡ 10 → ⊥) → Exactly status 10 ((longest_source < length file) ⊎ (longest_schedule < length text))
+  large : (status : ℕ) → (status ≡ 10 → ⊥) → Exactly status 10 ((longest_source < length file) ⊎ (longest_second_file < length text))
   large status other = never status 10 _ other (λ over. both_over file text over within)
 
   no_input : (F : Program → List ℕ → Type 0) → IsNotWellFormed file → AreWithin file text × HasInput file text F → ⊥
@@ -248,7 +250,7 @@ pub not_between : (file text : List ℕ) (status : ℕ) (out : List ℕ) → Wit
 not_between file text _ _ (refused {ending = ended} {line = line} is) between = let low = refuses_low file text ended line is in omega (arith, low, between.0)
 not_between file text _ _ (told {status = status} {out = out} tree P s input is) between = told_apart P s status out is between
 
-exact_over : (file text : List ℕ) → (longest_source < length file) ⊎ (longest_schedule < length text) → IsExact file text 10
+exact_over : (file text : List ℕ) → (longest_source < length file) ⊎ (longest_second_file < length text) → IsExact file text 10
 exact_over file text over = record {
   too_large = exactly 10 _ over;
   refused = never 10 1 _ (λ e. omega (arith, e)) (λ g. both_over file text over g.0);

@@ -1,10 +1,12 @@
 -- What is known of the files, from how the two readings ended.
 use Rattle.std.proofs.Common.{◌≡◌, ◌≢◌, ◌<◌, ◌≤◌, ℕ, List, Option, Some, None, IfSome, IsSome, length, refl, sym, subst, ◌∙◌}
+use Rattle.lexer.specs.Limits.{longest_source}
+use Rattle.sources.specs.Limits.{longest_second_file}
 use Rattle.edge.specs.declared.transfer.ReadEnd.{ReadEnd}
 use Rattle.edge.specs.declared.transfer.ReadEnd.TheVariants.{Fault, TooLarge, NoMemory}
 use Rattle.edge.specs.Faults.{Rose}
 use Rattle.witness_commands.specs.Outcomes.{IsOutcome, IsUnreadLine, unread, over}
-use Rattle.witness_commands.specs.Reading.{longest_source, longest_schedule, AreBytesOf, AreRead, IsSourceWithin, IsQuiet, IsUnread, IsOver, IsFirstUnread, IsFirstOver, source_unread, schedule_unread, source_over, schedule_over}
+use Rattle.witness_commands.specs.Reading.{AreBytesOf, AreRead, IsSourceWithin, IsQuiet, IsUnread, IsOver, IsFirstUnread, IsFirstOver, source_unread, schedule_unread, source_over, schedule_over}
 
 -- What the reading of a file of this name says at its end.
 pub record Ends (told : List ℕ → Option (List ℕ)) (before now : List ℕ → ℕ) (limit : ℕ) (name : List ℕ) (end : ReadEnd) : Type 0 where
@@ -40,9 +42,9 @@ module _ (told : List ℕ → Option (List ℕ)) (before now : List ℕ → ℕ)
   source_ends end status line e says = line_of longest_source source end status line e (λ is. source_unread is) (λ is. source_over is) says
 
   -- the source was read, and the schedule wasn't
-  pub schedule_ends : IsSourceWithin told source → (end : ReadEnd) (status : ℕ) (line : List ℕ) → Ends told before now longest_schedule schedule end → IsUnreadLine schedule end status line
+  pub schedule_ends : IsSourceWithin told source → (end : ReadEnd) (status : ℕ) (line : List ℕ) → Ends told before now longest_second_file schedule end → IsUnreadLine schedule end status line
       → IsOutcome source schedule told before now status line
-  schedule_ends within end status line e says = line_of longest_schedule schedule end status line e (λ is. schedule_unread within is) (λ is. schedule_over within is) says
+  schedule_ends within end status line e says = line_of longest_second_file schedule end status line e (λ is. schedule_unread within is) (λ is. schedule_over within is) says
 
 -- what is told of a file that was read is within the limit
 pub told_within : (o : Option (List ℕ)) (bytes : List ℕ) (limit : ℕ) → IfSome o (λ file. bytes ≡ file) → length bytes ≤ limit → IfSome o (λ file. length file ≤ limit)
@@ -51,7 +53,7 @@ told_within (Some file) bytes limit is within = subst (λ b. length b ≤ limit)
 
 -- both files were read
 pub both_read : (told after : List ℕ → Option (List ℕ)) (before mid now : List ℕ → ℕ) (source schedule file text : List ℕ) → ((other : List ℕ) → after other ≡ told other) → IsQuiet before mid → IsQuiet mid now
-    → AreBytesOf told source file → AreBytesOf after schedule text → length file ≤ longest_source → length text ≤ longest_schedule → AreRead told before now source schedule file text
+    → AreBytesOf told source file → AreBytesOf after schedule text → length file ≤ longest_source → length text ≤ longest_second_file → AreRead told before now source schedule file text
 both_read told after before mid now source schedule file text same first second one other small short = record {
   source_is = one;
   schedule_is = subst (λ o. IfSome o (λ bytes. text ≡ bytes)) (same schedule) other;

@@ -2,11 +2,13 @@
 use Rattle.std.proofs.Common.{◌≡◌, ◌<◌, ◌≤◌, ℕ, suc, List, [], ◌∷◌, Option, Some, None, IfSome, length, replicate, refl, sym, subst, ◌∙◌, arith, inl, inr, ◌⊎◌}
 use Rattle.std.proofs.lemmas.List.{length-replicate}
 use Rattle.std.specs.Io.KnownBytes.{Appends}
+use Rattle.lexer.specs.Limits.{longest_source}
+use Rattle.sources.specs.Limits.{longest_second_file}
 use Rattle.edge.specs.Faults.{Rose}
 use Rattle.edge.specs.Lines.{cannot_read_line, too_large_line}
 use Rattle.edge.specs.Said.{SaysText, IsTroubleStatus}
 use Rattle.witness_commands.specs.Outcomes.{IsOutcome, unread, over, read}
-use Rattle.witness_commands.specs.Reading.{longest_source, longest_schedule, AreBytesOf, IsQuiet, IsFirstUnread, source_unread, schedule_unread, IsFirstOver, source_over, schedule_over}
+use Rattle.witness_commands.specs.Reading.{AreBytesOf, IsQuiet, IsFirstUnread, source_unread, schedule_unread, IsFirstOver, source_over, schedule_over}
 use Rattle.witness_commands.specs.Words.{IsRow}
 use Rattle.witness_commands.specs.Written.{IsAsked, Belongs, source_large, schedule_large, answered as belongs_answer, IsExact, WritesAnswer, WritesAnswerToBytes, IsSomeText, some_unread, some_answer, WritesFront}
 use Rattle.witness_commands.proofs.Endings.{exact_answer, exact_yield, not_between}
@@ -111,7 +113,7 @@ module _ (told : List ℕ → Option (List ℕ)) (before now : List ℕ → ℕ)
       record { file = some.file; text = any.file; source_is = some.its; schedule_is = any.its; belongs = source_large some.fact }
   over_bytes _ (schedule_over small is) =
       let first = some_within (told source) longest_source small in
-      let some = some_over (told schedule) longest_schedule is.over in
+      let some = some_over (told schedule) longest_second_file is.over in
       record { file = first.file; text = some.file; source_is = first.its; schedule_is = some.its; belongs = schedule_large first.fact some.fact }
 
   to_some : (status : ℕ) (out : List ℕ) → IsOutcome source schedule told before now status out → (status ≡ 6) ⊎ IsToBytes status out
@@ -128,7 +130,7 @@ module _ (told : List ℕ → Option (List ℕ)) (before now : List ℕ → ℕ)
     over_belongs : (name : List ℕ) → IsFirstOver told before now source schedule name → Belongs source schedule file text 10 (too_large_line name)
     over_belongs _ (source_over is) = source_large (told_fact (λ f. longest_source < length f) (told source) file source_told is.over)
     over_belongs _ (schedule_over small is) =
-        schedule_large (told_fact (λ f. length f ≤ longest_source) (told source) file source_told small) (told_fact (λ f. longest_schedule < length f) (told schedule) text schedule_told is.over)
+        schedule_large (told_fact (λ f. length f ≤ longest_source) (told source) file source_told small) (told_fact (λ f. longest_second_file < length f) (told schedule) text schedule_told is.over)
 
     to_told : (status : ℕ) (out : List ℕ) → IsOutcome source schedule told before now status out → Unreadable status out ⊎ Belongs source schedule file text status out
     to_told _ _ (unread name is) = inl (name, is, refl, refl)

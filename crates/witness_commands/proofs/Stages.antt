@@ -1,5 +1,7 @@
 -- What is answered to the bytes of both files, and the sentence.
 use Rattle.std.proofs.Common.{◌≡◌, ℕ, ◌≤◌, List, [], ◌∷◌, Option, Some, length, ap, sym, subst, ◌∙◌, arith, inl, inr, ◌⊎◌}
+use Rattle.lexer.specs.Limits.{longest_source}
+use Rattle.sources.specs.Limits.{longest_second_file}
 use Rattle.core_program.specs.Core.{Program}
 use Rattle.core_program.specs.Typed.{IsTyped}
 use Rattle.core_program.specs.Views.{program_of}
@@ -84,7 +86,7 @@ not_two status y two = let r = yield_range status y in omega (arith, r.0, two)
 
 pub sentence_at : (words : List (List ℕ)) (known : List ℕ → Option (List ℕ)) (status : ℕ) (old new : Option (List ℕ))
     → ((source schedule file text : List ℕ) → IsAsked words known source schedule file text → IsTroubleStatus status ⊎ WritesAnswer source schedule file text status old new)
-    → (source schedule file text : List ℕ) → words ≡ source ∷ schedule ∷ [] → known source ≡ Some file → known schedule ≡ Some text → length file ≤ 262144 → length text ≤ 16777216 → status ≡ 2 → ShowsBroken file text
+    → (source schedule file text : List ℕ) → words ≡ source ∷ schedule ∷ [] → known source ≡ Some file → known schedule ≡ Some text → length file ≤ longest_source → length text ≤ longest_second_file → status ≡ 2 → ShowsBroken file text
 sentence_at words known status old new answers source schedule file text are source_told schedule_told small short two =
     elim (answers source schedule file text (record { is_row = are; source_told = source_told; schedule_told = schedule_told })) [
       | inl y ↦ absurd (not_two status y two)

@@ -1,17 +1,12 @@
 -- What is known of the files that are read: the source first, and then the text of the schedule.
 use Rattle.std.specs.Prelude.{◌≡◌, ◌≢◌, ℕ, ◌<◌, ◌≤◌, List, Option, IfSome, IsSome, length}
+use Rattle.lexer.specs.Limits.{longest_source}
+use Rattle.sources.specs.Limits.{longest_second_file}
 use Rattle.edge.specs.Faults.{Rose}
-
--- how many bytes a source may have, and the text of a schedule
-abbrev pub longest_source : ℕ
-longest_source = 262144
-
-abbrev pub longest_schedule : ℕ
-longest_schedule = 16777216
 
 -- both files have at most as many bytes as they may have
 abbrev pub AreWithin : (file text : List ℕ) → Type 0
-AreWithin file text = (length file ≤ longest_source) × (length text ≤ longest_schedule)
+AreWithin file text = (length file ≤ longest_source) × (length text ≤ longest_second_file)
 
 -- no file's count of faults changed
 abbrev pub IsQuiet : (before now : List ℕ → ℕ) → Type 0
@@ -45,7 +40,7 @@ module _ (told : List ℕ → Option (List ℕ)) where
     -- the first of the files that has more bytes than it may have
     pub data IsFirstOver (source schedule : List ℕ) : List ℕ → Type 0 where
       source_over : IsOver longest_source source → IsFirstOver source schedule source
-      schedule_over : IsSourceWithin source → IsOver longest_schedule schedule → IsFirstOver source schedule schedule
+      schedule_over : IsSourceWithin source → IsOver longest_second_file schedule → IsFirstOver source schedule schedule
 
     -- both files were read
     pub record AreRead (source schedule file text : List ℕ) : Type 0 where

@@ -1,6 +1,8 @@
 -- The sentence that the program is for: it says yes only of a well-formed source and a schedule that is a witness; then no assignment of
 -- atomicities is admissible.
 use Rattle.std.specs.Prelude.{◌≡◌, ℕ, ◌≤◌, List, [], ◌∷◌, Some, length}
+use Rattle.lexer.specs.Limits.{longest_source}
+use Rattle.sources.specs.Limits.{longest_second_file}
 use Rattle.core_program.specs.Core.{Program}
 use Rattle.witness.specs.Witness.{SameObjects, IsLike, IsWitnessAs}
 use Rattle.edge.specs.Calls.{Call}
@@ -22,4 +24,4 @@ pub record ShowsBroken (file text : List ℕ) : Type 0 where
 abbrev pub Witnesses : Call → Type 0
 Witnesses call =
     (source schedule file text : List ℕ) → call.words ≡ source ∷ schedule ∷ [] → call.told source ≡ Some file → call.told schedule ≡ Some text
-    → length file ≤ 262144 → length text ≤ 16777216 → call.status ≡ 2 → ShowsBroken file text
+    → length file ≤ longest_source → length text ≤ longest_second_file → call.status ≡ 2 → ShowsBroken file text

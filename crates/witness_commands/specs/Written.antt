@@ -1,6 +1,8 @@
 -- What is written, and with which status.
 use Rattle.std.specs.Prelude.{◌≡◌, ℕ, ◌<◌, ◌≤◌, List, Option, Some, length, ◌⊎◌}
 use Rattle.std.specs.Io.KnownBytes.{Appends}
+use Rattle.lexer.specs.Limits.{longest_source}
+use Rattle.sources.specs.Limits.{longest_second_file}
 use Rattle.edge.specs.Pieces.{AppendsFront}
 use Rattle.edge.specs.Lines.{cannot_read_line, too_large_line}
 use Rattle.edge.specs.Said.{Exactly, IsTroubleStatus}
@@ -8,7 +10,7 @@ use Rattle.sources.specs.Facts.{IsNotWellFormed}
 use Rattle.semantics.specs.Run.{Runs}
 use Rattle.schedule_commands.specs.Schedules.{HasInput, IsWellFormedText, IsNoSchedule, LeavesCallOpen, EndsOutside}
 use Rattle.witness_commands.specs.Answers.{WitnessAnswer, IsKeptEnd, IsWitnessOf}
-use Rattle.witness_commands.specs.Reading.{longest_source, longest_schedule, AreWithin, AreBytesOf, IsFirstUnread}
+use Rattle.witness_commands.specs.Reading.{AreWithin, AreBytesOf, IsFirstUnread}
 use Rattle.witness_commands.specs.Words.{IsRow}
 
 -- the words are the names of a source and of a schedule, and the folder tells the bytes of both files
@@ -20,7 +22,7 @@ pub record IsAsked (words : List (List ℕ)) (told : List ℕ → Option (List �
 -- the status and the text that belong to the bytes of the files
 pub data Belongs (source schedule file text : List ℕ) : ℕ → List ℕ → Type 0 where
   source_large : longest_source < length file → Belongs source schedule file text 10 (too_large_line source)
-  schedule_large : length file ≤ longest_source → longest_schedule < length text → Belongs source schedule file text 10 (too_large_line schedule)
+  schedule_large : length file ≤ longest_source → longest_second_file < length text → Belongs source schedule file text 10 (too_large_line schedule)
   answered : {status : ℕ} {out : List ℕ} → AreWithin file text → WitnessAnswer file text status out → Belongs source schedule file text status out
 
 -- the status comes only where the fact holds; and where it does, the status comes, or 16 in its place, or one of the answers that come
@@ -34,7 +36,7 @@ pub record Decides (result status : ℕ) (fact : Type 0) : Type 0 where
 -- only where some order leaves the same, 2 only where the schedule is a witness; 16 may stand in place of either. Nothing is said of how
 -- many states were seen by then.
 pub record IsExact (file text : List ℕ) (result : ℕ) : Type 0 where
-  pub too_large : Exactly result 10 ((longest_source < length file) ⊎ (longest_schedule < length text))
+  pub too_large : Exactly result 10 ((longest_source < length file) ⊎ (longest_second_file < length text))
   pub refused : Exactly result 1 (AreWithin file text × IsNotWellFormed file)
   pub no_schedule : Exactly result 3 (AreWithin file text × IsWellFormedText file × IsNoSchedule text)
   pub stopped : Exactly result 4 (AreWithin file text × HasInput file text (λ P s. Runs P s → ⊥))

@@ -1,6 +1,8 @@
 //! What is answered to the bytes of a source and of a schedule.
 
 ghost use Rattle.std.specs.Prelude.{◌≢◌, ◌≤◌, ℕ, List, length, IfOk, MatchResult, string_bytes};
+ghost use Rattle.lexer.specs.Limits.{longest_source};
+ghost use Rattle.sources.specs.Limits.{longest_second_file};
 ghost use Rattle.core_program.specs.Core.{Program};
 ghost use Rattle.core_program.specs.Views.{program_of};
 ghost use Rattle.machine.specs.declared.deed.StepEnd.TheVariants as ends;
@@ -107,7 +109,7 @@ fn answer_of(alloc: Global, verdict: &Verdict) -> Result<Said, NoMemory>
 /// What is answered to a source and the text of a schedule; or the refusal.
 fn answered_source(alloc: Global, source: &Source, text: &[u8]) -> Result<Said, Refusal>
     requires source { (file : List ℕ) × IsSourceOf file source.now }
-    requires text { length text.now ≤ 16777216 }
+    requires text { length text.now ≤ longest_second_file }
     ensures { (file : List ℕ) → IsSourceOf file source.now →
         MatchResult result (λ said. WitnessAnswer file text.now said.status (string_bytes said.text)) (IsRight (Refuses file text.now)) }
 {
@@ -119,8 +121,8 @@ fn answered_source(alloc: Global, source: &Source, text: &[u8]) -> Result<Said, 
 
 /// What is answered to the bytes of both files; or the refusal.
 fn answered(alloc: Global, file: &[u8], text: &[u8]) -> Result<Said, Refusal>
-    requires file { length file.now ≤ 262144 }
-    requires text { length text.now ≤ 16777216 }
+    requires file { length file.now ≤ longest_source }
+    requires text { length text.now ≤ longest_second_file }
     ensures { MatchResult result (λ said. WitnessAnswer file.now text.now said.status (string_bytes said.text)) (IsRight (Refuses file.now text.now)) }
 {
     let source = read_source(alloc, file)?;
@@ -131,8 +133,8 @@ fn answered(alloc: Global, file: &[u8], text: &[u8]) -> Result<Said, Refusal>
 
 /// How it ends, and the text that is written, for the bytes of a source and of the text of a schedule.
 pub fn judge_files(alloc: Global, file: &[u8], text: &[u8]) -> Result<Said, NoMemory>
-    requires file { length file.now ≤ 262144 }
-    requires text { length text.now ≤ 16777216 }
+    requires file { length file.now ≤ longest_source }
+    requires text { length text.now ≤ longest_second_file }
     ensures { IfOk result (λ said. WitnessAnswer file.now text.now said.status (string_bytes said.text)) }
 {
     match answered(alloc, file, text) {

@@ -1,6 +1,8 @@
 -- What was found, from how the readings ended.
 use Rattle.std.proofs.Common.{ap, subst, string_bytes, Err}
 use Rattle.std.proofs.lemmas.Result.{IfOk-weaker}
+use Rattle.lexer.specs.Limits.{longest_source}
+use Rattle.sources.specs.Limits.{longest_second_file}
 use Rattle.witness_commands.specs.Answers.{WitnessAnswer}
 use Rattle.witness_commands.specs.Outcomes.{IsOutcome, IsUnreadLine, read}
 use Rattle.witness_commands.proofs.ReadingLemmas.{earlier, source_ends, schedule_ends, told_within, both_read}
@@ -31,8 +33,8 @@ returns-in-Err-read_file g c =
     let first = c.in-Ok.ensures in
     let ended = c.in-Err-read_file.ensures in
     IfOk-weaker c.unread-in-Err-read_file.result (λ o. IsUnreadLine schedule c.in-Err-read_file.end o.status (string_bytes o.text)) (λ o. IsOutcome source schedule told before now o.status (string_bytes o.text))
-    (λ o says. schedule_ends told before now source schedule (told_within (told source) c.in-Ok.bytes.items 262144 first.whole first.within) c.in-Err-read_file.end o.status (string_bytes o.text)
-    (earlier told after before mid now 16777216 schedule c.in-Err-read_file.end first.told first.calm
+    (λ o says. schedule_ends told before now source schedule (told_within (told source) c.in-Ok.bytes.items longest_source first.whole first.within) c.in-Err-read_file.end o.status (string_bytes o.text)
+    (earlier told after before mid now longest_second_file schedule c.in-Err-read_file.end first.told first.calm
     (record { fault = λ is. ended.fault (ap Err is); others = ended.others; large = λ is. ended.too_large (ap Err is); calm = ended.calm_end })) says)
     c.unread-in-Err-read_file.ensures
 
