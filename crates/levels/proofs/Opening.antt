@@ -28,7 +28,7 @@ use Rattle.state.specs.States.{Frame}
 use Rattle.reduction.proofs.LeadLemmas.{leads_grows, may_shrink, sound_grows, each_grows}
 use Rattle.reduction.proofs.FitLemmas.{same_slot, other_slot, agrees_shrinks}
 use Rattle.reduction.proofs.SetLemmas.{after_sound, after_fresh}
-use Rattle.reduction.proofs.Unfolding.{pushed_each, taken_all, dropped_all, on_pushed, exprs_release, stmts_release}
+use Rattle.reduction.proofs.PushedPaths.{pushed_each, taken_all, dropped_all, on_pushed, exprs_release, stmts_release}
 use Rattle.levels.specs.SlotTypes.{slot_types}
 use Rattle.levels.specs.TypedStates.{Stays}
 use Rattle.levels.specs.Walks.{Visit, call_visits, expr_visits, exprs_visits, visits, block_visits}

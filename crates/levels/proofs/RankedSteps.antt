@@ -31,7 +31,7 @@ use Rattle.reduction.proofs.SetLemmas.{sound_kept, extended_is}
 use Rattle.reduction.proofs.FrameLemmas.{stored, put_grows, made_grows}
 use Rattle.reduction.proofs.Actions.{address_is}
 use Rattle.reduction.proofs.Counting.{none_count}
-use Rattle.reduction.proofs.Unfolding.{on_pushed}
+use Rattle.reduction.proofs.PushedPaths.{on_pushed}
 use Rattle.levels.specs.SlotTypes.{slot_types}
 use Rattle.levels.specs.Walks.{Visit, Comes, Bad, expr_visits, visits, body_visits}
 use Rattle.levels.specs.Contexts.{MayRun, RunsFirst, Context, at_start}

@@ -36,7 +36,7 @@ use Rattle.reduction.proofs.PhaseLemmas.{le_itself, passes_map, passes_falls, pa
 use Rattle.reduction.proofs.LeadLemmas.{grows_itself, each_top, each_under, each_dropped, leads_from}
 use Rattle.reduction.proofs.FitLemmas.{fits_falls}
 use Rattle.reduction.proofs.SetLemmas.{sound_kept, extended_is}
-use Rattle.reduction.proofs.Unfolding.{on_pushed}
+use Rattle.reduction.proofs.PushedPaths.{on_pushed}
 use Rattle.reduction.specs.Turn.{Accepted, StartFine, Fine}
 use Rattle.semantics.specs.Changes.{objects_after, locks_after}
 use Rattle.reduction.proofs.Frames.{frames_move, outer_falls}

@@ -14,6 +14,7 @@ pub mod PhaseLemmas
 pub mod LeadLemmas
 pub mod FitLemmas
 pub mod SetLemmas
+pub mod PushedPaths
 pub mod Unfolding
 pub mod Frames
 -- Public lemmas, for the crates above: the written order of a schedule (Whole), reducible words from phases (Phases).

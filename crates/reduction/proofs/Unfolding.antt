@@ -22,70 +22,13 @@ use Rattle.state.specs.Work as W
 use Rattle.state.specs.Work.{Action, Item, Ex, St, Act, Next, exprs_items, stmts_items, gets, open_expr, open_new, open_stmt, open_block, opened, first_release, open_return, settled, settled_some, unfolded}
 use Rattle.semantics.specs.Step.{has_result}
 use Rattle.reduction.specs.Phases.{Phase, Passes, IsDownClosed, freed}
-use Rattle.reduction.specs.Leads.{Env, Memory, Sound, Paths, MayLeadTo, with_slot, top_path, under_path, taken_paths, dropped_paths}
-use Rattle.reduction.specs.Fits.{SlotsAgree, Fresh, FreshEach, TidyE, TidyEach, TidyS, TidyBlock, valued, argument_count, arity_of, finals_of, stores, stores_each, has_release, return_phase, pushed, awaited, FitsPhase, FitsNext, Opens}
+use Rattle.reduction.specs.Leads.{Env, Memory, Sound, Paths, MayLeadTo, with_slot, top_path, under_path, taken_paths}
+use Rattle.reduction.specs.Fits.{SlotsAgree, Fresh, FreshEach, TidyE, TidyEach, TidyS, TidyBlock, argument_count, arity_of, finals_of, stores, stores_each, has_release, return_phase, pushed, awaited, FitsPhase, FitsNext, Opens}
 use Rattle.reduction.proofs.PhaseLemmas.{passes_map, passes_seq, const_stays, const_passes, mover_stays}
 use Rattle.reduction.proofs.LeadLemmas.{sound_more}
 use Rattle.reduction.proofs.FitLemmas.{fits_left, same_slot, other_slot}
 use Rattle.reduction.proofs.SetLemmas.{after_sound, after_fresh}
-
--- Releases in lists of parts, and paths of arguments.
-
-pub exprs_release : (a : Address) (es : Exprs) (more : List Item) → has_release a (exprs_items es more) ≡ has_release a more
-exprs_release a no_exprs more = refl
-exprs_release a (and_expr e es) more = exprs_release a es more
-
-pub stmts_release : (a : Address) (ss : Stmts) (more : List Item) → has_release a (stmts_items ss more) ≡ has_release a more
-stmts_release a no_stmts more = refl
-stmts_release a (and_stmt s ss) more = stmts_release a ss more
-
-or_first : (x y b : Bool) → x ≡ y → (x || b) ≡ true → (y || b) ≡ true
-or_first x y b same e = subst (λ z. (z || b) ≡ true) same e
-
-module _ (P : Program) where
-  abbrev pub pushed_each : Exprs → Paths → Paths
-  pushed_each no_exprs os = os
-  pushed_each (and_expr e es) os = pushed_each es (path_of P e ∷ os)
-
-  taken_each : (es : Exprs) (j : ℕ) (n : ℕ) (found os : Paths) → n ≡ argument_count es + j → taken_paths n found (pushed_each es os) ≡ taken_paths j (paths_of P es ++ found) os
-  taken_each no_exprs j n found os is = ap (λ k. taken_paths k found os) (is ∙ none_more j)
-    where
-      none_more : (j : ℕ) → 0 + j ≡ j
-      none_more j = omega arith
-  taken_each (and_expr e es) j n found os is = taken_each es (suc j) n found (path_of P e ∷ os) (is ∙ one_later (argument_count es) j)
-    where
-      one_later : (k j : ℕ) → 1 + k + j ≡ k + suc j
-      one_later k j = omega arith
-
-  dropped_each : (es : Exprs) (j : ℕ) (n : ℕ) (os : Paths) → n ≡ argument_count es + j → dropped_paths n (pushed_each es os) ≡ dropped_paths j os
-  dropped_each no_exprs j n os is = ap (λ k. dropped_paths k os) (is ∙ none_more j)
-    where
-      none_more : (j : ℕ) → 0 + j ≡ j
-      none_more j = omega arith
-  dropped_each (and_expr e es) j n os is = dropped_each es (suc j) n (path_of P e ∷ os) (is ∙ one_later (argument_count es) j)
-    where
-      one_later : (k j : ℕ) → 1 + k + j ≡ k + suc j
-      one_later k j = omega arith
-
-  no_more : (n k : ℕ) → n ≡ k → n ≡ k + 0
-  no_more n k e = omega (arith, e)
-
-  pub taken_all : (es : Exprs) (n : ℕ) (os : Paths) → n ≡ argument_count es → taken_paths n [] (pushed_each es os) ≡ paths_of P es
-  taken_all es n os is = taken_each es 0 n [] os (no_more n (argument_count es) is) ∙ append-nil (paths_of P es)
-
-  pub dropped_all : (es : Exprs) (n : ℕ) (os : Paths) → n ≡ argument_count es → dropped_paths n (pushed_each es os) ≡ os
-  dropped_all es n os is = dropped_each es 0 n os (no_more n (argument_count es) is)
-
-  -- what an expression that leaves an operand leaves
-  pushed_is : (e : Expr) (os : Paths) → valued P e ≡ true → pushed P e os ≡ path_of P e ∷ os
-  pushed_is e os is = ap (λ b. if b then path_of P e ∷ os else os) is
-
-  pub on_pushed : (Q : Paths → Type 0) (e : Expr) (os : Paths) → valued P e ≡ true → Q (path_of P e ∷ os) → Q (pushed P e os)
-  on_pushed Q e os is q = subst Q (sym (pushed_is e os is)) q
-
-  call_pushed : (b : Bool) (os : Paths) → (if b then None ∷ os else os) ≡ (if b then None ∷ [] else []) ++ os
-  call_pushed true os = refl
-  call_pushed false os = refl
+use Rattle.reduction.proofs.PushedPaths.{exprs_release, stmts_release, or_first, pushed_each, taken_all, dropped_all, on_pushed, call_pushed}
 
 -- a final field of class type is read at any set
 final_read : (P : Program) (f : ℕ) (o : Option PathData) (H : Held) (field : Option core.Field) → slice_get P.fields f ≡ field → leads_on field ≡ true → access_of P false f o H ≡ Const
