@@ -5,6 +5,7 @@
 //! on what is assigned to the methods that it calls alone.
 #![tactic(auto)]
 
+mod body_clauses;
 mod caller_laws;
 mod callers;
 mod clauses;

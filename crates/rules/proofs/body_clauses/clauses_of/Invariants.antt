@@ -1,7 +1,7 @@
 use Rattle.std.proofs.Common.{◌≡◌, ◌++◌, drop, map}
 use Rattle.core_program.specs.Views.{program_of, method_of}
 use Rattle.rules.specs.Clauses.{clauses_from}
-use Rattle.rules.proofs.clauses.clauses_of.Given as goal
+use Rattle.rules.proofs.body_clauses.clauses_of.Given as goal
 
 -- the clauses so far and those of the rest are those of all
 abbrev pub invariant-loop-place : goal.invariant-loop-place

@@ -2,7 +2,7 @@ use Rattle.std.proofs.Common.{◌≡◌, ◌++◌, ◌+◌, drop}
 use Rattle.core_program.specs.Views.{program_of, exprs_from}
 use Rattle.rules.specs.Mentions.{paths_of}
 use Rattle.rules.specs.Clauses.{all_passed}
-use Rattle.rules.proofs.clauses.add_all_passed.Given as goal
+use Rattle.rules.proofs.body_clauses.add_all_passed.Given as goal
 
 -- the clauses so far and those of the rest are those of all
 abbrev pub invariant-loop-place : goal.invariant-loop-place

@@ -4,7 +4,7 @@ use Rattle.core_program.specs.Views.{program_of, stmt_of, expr_of}
 use Rattle.core_program.proofs.ViewLemmas.{stmt_of-Block}
 use Rattle.rules.specs.Mentions.{Accesses, mentions, expr_mentions}
 use Rattle.rules.proofs.ClauseLemmas.{more_stmts, last_of_two, last_of_three, last_of_access, while_read, if_read, set_read}
-use Rattle.rules.proofs.clauses.+statements.Goals as goal
+use Rattle.rules.proofs.body_clauses.+statements.Goals as goal
 
 pub add_stmt-returns-in-Block : goal.add_stmt-returns-in-Block
 add_stmt-returns-in-Block t c =

@@ -1,6 +1,6 @@
 use Rattle.std.proofs.Common.{◌≡◌, ◌++◌, take, map}
 use Rattle.rules.specs.Clauses.{fact}
-use Rattle.rules.proofs.clauses.add_method.Given as goal
+use Rattle.rules.proofs.body_clauses.add_method.Given as goal
 
 -- the required paths so far
 abbrev pub invariant-loop-path : goal.invariant-loop-path

@@ -4,7 +4,7 @@ use Rattle.core_program.specs.Views.{program_of, expr_of}
 use Rattle.core_program.proofs.ViewLemmas.{expr_of-Call, expr_of-New}
 use Rattle.rules.specs.Mentions.{expr_mentions}
 use Rattle.rules.proofs.ClauseLemmas.{clauses_append, more_exprs, last_of_two, two_read}
-use Rattle.rules.proofs.clauses.+expressions.Goals as goal
+use Rattle.rules.proofs.body_clauses.+expressions.Goals as goal
 
 pub add_expr-returns-in_ok-add_expr-in-Call : goal.add_expr-returns-in_ok-add_expr-in-Call
 add_expr-returns-in_ok-add_expr-in-Call t c =

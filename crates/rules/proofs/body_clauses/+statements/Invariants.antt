@@ -2,7 +2,7 @@ use Rattle.std.proofs.Common.{◌≡◌, ◌++◌, drop}
 use Rattle.core_program.specs.Views.{program_of, stmts_from}
 use Rattle.rules.specs.Mentions.{block_mentions}
 use Rattle.rules.specs.Clauses.{clauses_of}
-use Rattle.rules.proofs.clauses.+statements.Given as goal
+use Rattle.rules.proofs.body_clauses.+statements.Given as goal
 
 -- the clauses so far and those of the rest are those of all
 abbrev pub invariant-add_block-loop-s : goal.invariant-add_block-loop-s
