@@ -3,7 +3,7 @@ use Rattle.printer.specs.Printing.{stmt_lexemes, expr_lexemes}
 use Rattle.syntax.specs.Views.{expr_tree}
 use Rattle.syntax.specs.Trees.{PrintS}
 use Rattle.printer.proofs.Writing.{put_first, writes_first, put_last, added}
-use Rattle.printer.proofs.print.write_print.Goals as goal
+use Rattle.printer.proofs.statements.write_print.Goals as goal
 
 pub returns : goal.returns
 returns c =

@@ -2,7 +2,7 @@ use Rattle.std.proofs.Common.{refl}
 use Rattle.printer.specs.Layout.{writes}
 use Rattle.printer.specs.Printing.{all_lexemes, dotted_lexemes}
 use Rattle.printer.proofs.Writing.{item_step, item_end}
-use Rattle.printer.proofs.print.write_fields.Goals as goal
+use Rattle.printer.proofs.names.write_fields.Goals as goal
 
 pub loop-field-preserved : goal.loop-field-preserved
 loop-field-preserved c =

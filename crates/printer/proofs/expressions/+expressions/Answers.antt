@@ -6,7 +6,7 @@ use Rattle.syntax.specs.Trees.{NewE}
 use Rattle.syntax.specs.Views.{expr_tree, exprs_from}
 use Rattle.syntax.proofs.Bridge.{view_call, view_new}
 use Rattle.printer.proofs.Writing.{item_step, item_end, item_none, writes_one, writes_both, writes_none}
-use Rattle.printer.proofs.print.+expressions.Goals as goal
+use Rattle.printer.proofs.expressions.+expressions.Goals as goal
 
 pub write_args-loop-arg-preserved : goal.write_args-loop-arg-preserved
 write_args-loop-arg-preserved t c =

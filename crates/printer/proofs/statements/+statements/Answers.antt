@@ -6,7 +6,7 @@ use Rattle.syntax.specs.Trees.{BlockS}
 use Rattle.syntax.specs.Views.{lock_of, stmt_of, stmts_from}
 use Rattle.syntax.proofs.Bridge.{view_block, view_sync}
 use Rattle.printer.proofs.Writing.{item_step, item_end, writes_both}
-use Rattle.printer.proofs.print.+statements.Goals as goal
+use Rattle.printer.proofs.statements.+statements.Goals as goal
 
 pub write_stmts-loop-stmt-preserved : goal.write_stmts-loop-stmt-preserved
 write_stmts-loop-stmt-preserved t c =
