@@ -22,6 +22,8 @@ mod blame_tests;
 #[cfg(test)]
 mod book_tests;
 #[cfg(test)]
+mod edge_tests;
+#[cfg(test)]
 mod examples;
 #[cfg(test)]
 mod failing_tests;

@@ -28,6 +28,3 @@ pub use saying::say;
 pub use sinks::Sink;
 pub use transfer::{Fault, ReadEnd, read_file, write_all};
 pub use words::words_of;
-
-#[cfg(test)]
-mod tests;

@@ -1,5 +1,6 @@
-//! Tests of what no clause says: that the calls succeed, and the bytes of real files.
-use crate::*;
+//! Tests of what no clause of `edge` says: that the calls succeed, and the bytes of real files.
+
+use edge::{Fault, FileFolder, Folder, MemFolder, MemSink, OutSink, ReadEnd, read_file, write_all};
 use std::fmt::Display;
 use std::fs::File;
 use std::io::{Print, Write};
