@@ -83,6 +83,11 @@ complete_number end n more below small stop =
     some [] e = absurd (omega (arith, e))
     some (d ∷ ds) e = refl
 
+-- no digit stands first in fields with their points
+pub stopping : (fs : List ℕ) (more : List ℕ) → stops more ≡ true → stops (dotted fs ++ more) ≡ true
+stopping [] more e = e
+stopping (f ∷ fs) more e = refl
+
 -- fields with their points, before a byte that is neither a digit nor a point
 pub complete_fields : (fields : List ℕ) (more : List ℕ) → list_all (λ f. nat_lt f (2 ^ 32)) fields ≡ true → stops more ≡ true → begins 46 more ≡ false →
     (most : ℕ) → length fields ≤ most → fields_at most (dotted fields ++ more) ≡ Ok (fields, more)
@@ -93,24 +98,16 @@ complete_fields (f ∷ fs) more fit stop next (suc most) few =
     let parts = and_parts (nat_lt f (2 ^ 32)) (list_all (λ f. nat_lt f (2 ^ 32)) fs) fit in
     let group : (decimal f ++ dotted fs) ++ more ≡ decimal f ++ (dotted fs ++ more) = append_assoc (decimal f) (dotted fs) more in
     let number : number_at (2 ^ 32) ((decimal f ++ dotted fs) ++ more) ≡ Ok (f, dotted fs ++ more) =
-    ap (number_at (2 ^ 32)) group ∙ complete_number (2 ^ 32) f (dotted fs ++ more) (ltb-true f (2 ^ 32) parts.0) (omega arith) (stopping fs) in
+    ap (number_at (2 ^ 32)) group ∙ complete_number (2 ^ 32) f (dotted fs ++ more) (ltb-true f (2 ^ 32) parts.0) (omega arith) (stopping fs more stop) in
     rw (number, complete_fields fs more parts.1 stop next most (omega (arith, few))) refl
-  where
-    stopping : (fs : List ℕ) → stops (dotted fs ++ more) ≡ true
-    stopping [] = stop
-    stopping (f ∷ fs) = refl
 
 pub complete_path : (p : PathData) (more : List ℕ) → IsPath p → path_at (path_text p ++ (32 ∷ more)) ≡ Ok (p, 32 ∷ more)
 unfolding path_at
 complete_path p more is =
     let group : path_text p ++ (32 ∷ more) ≡ decimal p.root ++ (dotted p.fields ++ (32 ∷ more)) = append_assoc (decimal p.root) (dotted p.fields) (32 ∷ more) in
     let number : number_at (2 ^ 16) (path_text p ++ (32 ∷ more)) ≡ Ok (p.root, dotted p.fields ++ (32 ∷ more)) =
-    ap (number_at (2 ^ 16)) group ∙ complete_number (2 ^ 16) p.root (dotted p.fields ++ (32 ∷ more)) is.root (omega arith) (stopping p.fields) in
+    ap (number_at (2 ^ 16)) group ∙ complete_number (2 ^ 16) p.root (dotted p.fields ++ (32 ∷ more)) is.root (omega arith) (stopping p.fields (32 ∷ more) refl) in
     rw (number, complete_fields p.fields (32 ∷ more) is.fields refl refl 2 is.few) refl
-  where
-    stopping : (fs : List ℕ) → stops (dotted fs ++ (32 ∷ more)) ≡ true
-    stopping [] = refl
-    stopping (f ∷ fs) = refl
 
 pub complete_leaf : (x : Basic) (more : List ℕ) → leaf_at (name_of x ++ more) ≡ Ok (x, more)
 unfolding leaf_at

@@ -19,6 +19,11 @@ pub mod NumberFaults
 mod WordFaults
 mod TreeFaults
 pub mod There
+-- How a part of a text is judged, and parts together (Stops), numbers, paths and names (StopParts), and where a number of a path is out
+-- of range (PathFaults). Certificates are judged so too.
+pub mod Stops
+pub mod StopParts
+pub mod PathFaults
 -- The lemmas that several proofs share.
 mod Built
 mod MemoryLemmas

@@ -11,6 +11,7 @@ use Rattle.books.specs.declared.stop.Kind.TheVariants.{Form}
 use Rattle.books.specs.Combine.{Res, ◌>>=◌, begins}
 use Rattle.books.specs.Reading.{number_digits, is_at_end, number_at, fields_at, path_at}
 use Rattle.books.specs.Broken.{IsPast}
+use Rattle.books.proofs.Digits.{number_with, number_with-is}
 use Rattle.books.proofs.Locals.{AfterOk, AfterErr, IsLocal, Local, local_if, local_seq, local_done, local_under}
 
 -- a run of digits at the front of a text: what stands behind it, and that it ends there whatever stands behind the next byte
@@ -63,35 +64,27 @@ pub digits_of : (ts : List ℕ) → Digits ts (number_digits ts)
 digits_of [] = record { rest = []; whole = refl; stays = λ c r more is. absurd (let no : [] ≡ c ∷ r = is in cc) }
 digits_of (b ∷ ts) = digits_step (b == 48) b ts (take_while is_ascii_digit (b ∷ ts)) refl (run_of (b ∷ ts))
 
--- the number with these digits
-with_digits : ℕ → List ℕ → List ℕ → Res ℕ
-with_digits end ds ts = if is_at_end ds || not (nat_lt (digits_value 10 ds) end) then Err (Form, ts) else Ok (digits_value 10 ds, drop (length ds) ts)
-
-with_digits-is : (end : ℕ) (ts : List ℕ) → number_at end ts ≡ with_digits end (number_digits ts) ts
-unfolding number_at with_digits
-with_digits-is end ts = refl
-
 pub none_of : (ds : List ℕ) → is_at_end ds ≡ true → ds ≡ []
 none_of [] e = refl
 none_of (d ∷ ds) e = absurd (let no : false ≡ true = e in cc)
 
-number_ok : (end : ℕ) (ts ds rest : List ℕ) → Digits ts ds → is_at_end ds ≡ false → nat_lt (digits_value 10 ds) end ≡ true → drop (length ds) ts ≡ rest → AfterOk (number_at end) ds (digits_value 10 ds) rest
-unfolding with_digits
+pub number_ok : (end : ℕ) (ts ds rest : List ℕ) → Digits ts ds → is_at_end ds ≡ false → nat_lt (digits_value 10 ds) end ≡ true → drop (length ds) ts ≡ rest → AfterOk (number_at end) ds (digits_value 10 ds) rest
+unfolding number_with
 number_ok end ts ds [] d some small behind = tt
 number_ok end ts ds (c ∷ r) d some small behind = λ more.
     let is : d.rest ≡ c ∷ r = sym (ap (λ z. drop (length ds) z) d.whole ∙ drop-append_seam ds d.rest) ∙ behind in
-    with_digits-is end (ds ++ (c ∷ more)) ∙ ap (λ z. with_digits end z (ds ++ (c ∷ more))) (d.stays c r more is)
+    number_with-is end (ds ++ (c ∷ more)) ∙ ap (λ z. number_with end z (ds ++ (c ∷ more))) (d.stays c r more is)
     ∙ ap (λ t. if t || not (nat_lt (digits_value 10 ds) end) then Err (Form, ds ++ (c ∷ more)) else Ok (digits_value 10 ds, drop (length ds) (ds ++ (c ∷ more)))) some
     ∙ ap (λ t. if not t then Err (Form, ds ++ (c ∷ more)) else Ok (digits_value 10 ds, drop (length ds) (ds ++ (c ∷ more)))) small
     ∙ ap (λ z. Ok (digits_value 10 ds, z)) (drop-append_seam ds (c ∷ more))
 
 no_number : (B : List ℕ → Type 0) (end : ℕ) (ts ds : List ℕ) → Digits ts ds → ds ≡ [] → AfterErr B (number_at end) [] Form ts
-unfolding with_digits
+unfolding number_with
 no_number B end [] ds d none = tt
 no_number B end (b ∷ ts) ds d none = inl (λ more.
     let is : d.rest ≡ b ∷ ts = sym (d.whole ∙ ap (λ z. z ++ d.rest) none) in
     let stays : number_digits (b ∷ more) ≡ [] = ap (λ z. number_digits (z ++ (b ∷ more))) (sym none) ∙ d.stays b ts more is ∙ none in
-    with_digits-is end (b ∷ more) ∙ ap (λ z. with_digits end z (b ∷ more)) stays)
+    number_with-is end (b ∷ more) ∙ ap (λ z. number_with end z (b ∷ more)) stays)
 
 past : (B : List ℕ → Type 0) (end : ℕ) → ((rest : List ℕ) → IsPast end rest → B rest) → (ts : List ℕ) → is_at_end (number_digits ts) ≡ false → nat_lt (digits_value 10 (number_digits ts)) end ≡ false →
     AfterErr B (number_at end) [] Form ts
@@ -108,9 +101,9 @@ number_case B end broken ts false true e h =
     (number_digits ts, d.whole ∙ ap (λ z. number_digits ts ++ z) (sym behind), number_ok end ts (number_digits ts) (drop (length (number_digits ts)) ts) d e h refl)
 
 pub local_number : (B : List ℕ → Type 0) (end : ℕ) → ((rest : List ℕ) → IsPast end rest → B rest) → (ts : List ℕ) → Local B (number_at end) ts
-unfolding with_digits
+unfolding number_with
 local_number B end broken ts = record {
-  at = subst (λ x. IsLocal B (number_at end) ts x) (sym (with_digits-is end ts))
+  at = subst (λ x. IsLocal B (number_at end) ts x) (sym (number_with-is end ts))
       (number_case B end broken ts (is_at_end (number_digits ts)) (nat_lt (digits_value 10 (number_digits ts)) end) refl refl);
 }
 

@@ -11,7 +11,8 @@ pub mod Combine
 pub mod Reading
 pub mod Faults
 pub mod Passing
--- Rules that a book has beside its grammar, broken at a byte.
+-- Rules that a book has beside its grammar, broken at a byte; and those on paths.
 pub mod Broken
+pub mod BrokenPaths
 -- What derivations and books in memory are as plain data.
 pub mod Memory

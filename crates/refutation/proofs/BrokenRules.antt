@@ -1,61 +1,28 @@
 -- Where a rule is broken, reading stops; and texts whose paths stand in any order are read by the reader that doesn't ask for an order.
-use Rattle.std.proofs.Common.{◌≡◌, ℕ, zero, suc, ◌<◌, ◌^◌, true, false, List, [], ◌∷◌, ◌++◌, length, nat_lt, codes, decimal, Ok, Err, None, Some, refl, ◌∙◌, ap, arith, append_assoc}
-use Rattle.std.proofs.lemmas.Bool.{le-ltb, ltb-true, and_parts}
+use Rattle.std.proofs.Common.{◌≡◌, ℕ, zero, suc, ◌<◌, ◌^◌, true, false, List, [], ◌∷◌, ◌++◌, length, codes, decimal, Ok, Err, None, Some, refl, ◌∙◌, ap, arith, append_assoc}
 use Rattle.std.specs.Prelude.{Option}
-use Rattle.std.specs.List.{list_all, AllByRecursion}
-use Rattle.std.specs.Str.Parse.{digits_value}
-use Rattle.paths.specs.Paths.{PathData, most_fields}
+use Rattle.std.specs.List.{AllByRecursion}
+use Rattle.paths.specs.Paths.{PathData}
 use Rattle.algebra.specs.Basics.{name_of}
-use Rattle.conditions.specs.Texts.{dotted, path_text}
+use Rattle.conditions.specs.Texts.{path_text}
 use Rattle.books.specs.declared.stop.Kind.TheVariants.{Form}
 use Rattle.books.specs.Books.{IsPath, comes_after}
-use Rattle.books.specs.Broken.{IsPast}
+use Rattle.books.specs.BrokenPaths.{BreaksPath, root, field, late}
 use Rattle.books.specs.Combine.{◌>>=◌, begins, several, exactly}
-use Rattle.books.specs.Reading.{number_digits, number_at, fields_at, path_at}
+use Rattle.books.specs.Reading.{number_at, path_at}
 use Rattle.books.specs.Texts.{newline}
 use Rattle.books.proofs.Complete.{stops, complete_number, complete_leaf}
+use Rattle.books.proofs.PathFaults.{past_number, some_digit, path_stops, no_root}
 use Rattle.books.proofs.Several.{several_done, several_more}
 use Rattle.refutation.specs.Lines.{LineData}
 use Rattle.refutation.specs.Reading.{later_path, held_item, held_at, line_at, count_at, end_at, blame_at}
 use Rattle.refutation.specs.Texts.{held_text, certificate_line_text, certificate_text, blame_text, IsWritableLine}
-use Rattle.refutation.specs.FirstFaults.{IsFittingLine, heading, open_line, last_of, AreBegun, BreaksPath, root, field, late, BreaksRule, count, method, path}
-use Rattle.refutation.proofs.Held.{Ascends, sorted_after_none, stopping, complete_later, held_stops, held_ends, held_fault, held_more, item_shorter}
+use Rattle.refutation.specs.FirstFaults.{IsFittingLine, heading, open_line, last_of, AreBegun, BreaksRule, count, method, path}
+use Rattle.refutation.proofs.Held.{Ascends, sorted_after_none, complete_later, held_stops, held_ends, held_fault, held_more, item_shorter}
 use Rattle.refutation.proofs.Lines.{complete_line}
 use Rattle.refutation.proofs.StopLines.{loose_line, loose_blame}
 
 -- ---- where a rule is broken
-
-past_number : (end : ℕ) (rest : List ℕ) → IsPast end rest → number_at end rest ≡ Err (Form, rest)
-unfolding number_at
-past_number end rest is =
-    let large : nat_lt (digits_value 10 (number_digits rest)) end ≡ false = le-ltb (digits_value 10 (number_digits rest)) end is.past in
-    rw (is.digits, large) refl
-
-some_digit : (end : ℕ) (rest : List ℕ) → IsPast end rest → 0 < length rest
-some_digit end [] is = absurd (let no : true ≡ false = is.digits in cc)
-some_digit end (b ∷ rest) is = omega arith
-
-fields_stop : (fs : List ℕ) (rest : List ℕ) → list_all (λ f. nat_lt f (2 ^ 32)) fs ≡ true → number_at (2 ^ 32) rest ≡ Err (Form, rest) → (most : ℕ) → length fs < most → fields_at most (dotted fs ++ (46 ∷ rest)) ≡ Err (Form, rest)
-fields_stop fs rest fit e zero few = absurd (omega (arith, few))
-fields_stop [] rest fit e (suc most) few = rw e refl
-fields_stop (f ∷ fs) rest fit e (suc most) few =
-    let parts = and_parts (nat_lt f (2 ^ 32)) (list_all (λ f. nat_lt f (2 ^ 32)) fs) fit in
-    let group : (decimal f ++ dotted fs) ++ (46 ∷ rest) ≡ decimal f ++ (dotted fs ++ (46 ∷ rest)) = append_assoc (decimal f) (dotted fs) (46 ∷ rest) in
-    let number : number_at (2 ^ 32) ((decimal f ++ dotted fs) ++ (46 ∷ rest)) ≡ Ok (f, dotted fs ++ (46 ∷ rest)) =
-    ap (number_at (2 ^ 32)) group ∙ complete_number (2 ^ 32) f (dotted fs ++ (46 ∷ rest)) (ltb-true f (2 ^ 32) parts.0) (omega arith) (stopping fs (46 ∷ rest) refl) in
-    rw (number, fields_stop fs rest parts.1 e most (omega (arith, few))) refl
-
-path_stops : (p : PathData) (rest : List ℕ) → IsPath p → length p.fields < most_fields → number_at (2 ^ 32) rest ≡ Err (Form, rest) → path_at (path_text p ++ (46 ∷ rest)) ≡ Err (Form, rest)
-unfolding path_at
-path_stops p rest is few e =
-    let group : path_text p ++ (46 ∷ rest) ≡ decimal p.root ++ (dotted p.fields ++ (46 ∷ rest)) = append_assoc (decimal p.root) (dotted p.fields) (46 ∷ rest) in
-    let number : number_at (2 ^ 16) (path_text p ++ (46 ∷ rest)) ≡ Ok (p.root, dotted p.fields ++ (46 ∷ rest)) =
-    ap (number_at (2 ^ 16)) group ∙ complete_number (2 ^ 16) p.root (dotted p.fields ++ (46 ∷ rest)) is.root (omega arith) (stopping p.fields (46 ∷ rest) refl) in
-    rw (number, fields_stop p.fields rest is.fields e 2 few) refl
-
-no_root : (rest : List ℕ) → number_at (2 ^ 16) rest ≡ Err (Form, rest) → path_at rest ≡ Err (Form, rest)
-unfolding path_at
-no_root rest e = rw e refl
 
 no_later : (before : Option PathData) (ts rest : List ℕ) → path_at ts ≡ Err (Form, rest) → later_path before ts ≡ Err (Form, rest)
 unfolding later_path

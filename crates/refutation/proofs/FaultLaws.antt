@@ -9,7 +9,7 @@ use Rattle.refutation.specs.Reading.{count_at, line_at, end_at, blame_at, stop_o
 use Rattle.refutation.specs.Texts.{blame_text, IsWritableLine, IsCertificateText}
 use Rattle.refutation.specs.FirstFaults.{IsFittingLine, IsFront, BreaksRule, IsBrokenAt, IsStuckAt, IsFirstFault}
 use Rattle.refutation.proofs.TextLaws.{lines_text_is, no_fault}
-use Rattle.refutation.proofs.Stops.{Fails, StopsOn, IsJudged}
+use Rattle.books.proofs.Stops.{Fails, StopsOn, IsJudged}
 use Rattle.refutation.proofs.StopLines.{loose_blame, Anything, BlameFits, judged_blame}
 use Rattle.refutation.proofs.BrokenRules.{rule_stops, rule_there, complete_any}
 

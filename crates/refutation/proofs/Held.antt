@@ -15,7 +15,7 @@ use Rattle.books.specs.Combine.{Res, ◌>>=◌, unread, begins, expect}
 use Rattle.books.specs.Reading.{number_at, path_at}
 use Rattle.books.specs.Views.{after_those}
 use Rattle.books.proofs.BookLaws.{sound_ok}
-use Rattle.books.proofs.Complete.{stops, complete_number, complete_fields}
+use Rattle.books.proofs.Complete.{stops, stopping, complete_number, complete_fields}
 use Rattle.books.proofs.Several.{next_same}
 use Rattle.books.proofs.Sound.{SoundAt, Bytes, sound_seq, sound_done, sound_if, sound_weaker, sound_expect}
 use Rattle.books.proofs.SoundTrees.{ReadsPath, sound_path}
@@ -171,10 +171,6 @@ held_started (Ok y) = refl
 held_started (Err e) = refl
 
 -- their text is read
-
-pub stopping : (fs : List ℕ) (more : List ℕ) → stops more ≡ true → stops (dotted fs ++ more) ≡ true
-stopping [] more e = e
-stopping (f ∷ fs) more e = refl
 
 pub complete_path : (p : PathData) (more : List ℕ) → IsPath p → stops more ≡ true → begins 46 more ≡ false → path_at (path_text p ++ more) ≡ Ok (p, more)
 unfolding path_at

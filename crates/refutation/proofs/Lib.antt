@@ -22,10 +22,7 @@ mod Cheap
 pub mod Held
 pub mod Lines
 pub mod TextLaws
--- The first fault of a text: how a part is judged, and parts together (Stops), numbers, paths and names (StopParts), lines and whole
--- texts (StopLines), where a rule is broken (BrokenRules), and the laws (FaultLaws).
-mod Stops
-mod StopParts
+-- The first fault of a text: lines and whole texts (StopLines), where a rule is broken (BrokenRules), and the laws (FaultLaws).
 mod StopLines
 mod BrokenRules
 mod FaultLaws

@@ -8,6 +8,7 @@ use Rattle.conditions.specs.Texts.{path_text}
 use Rattle.books.specs.declared.stop.Kind.TheVariants.{Form}
 use Rattle.books.specs.Books.{IsPath, comes_after}
 use Rattle.books.specs.Broken.{IsPast}
+use Rattle.books.specs.BrokenPaths.{BreaksPath, late}
 use Rattle.books.specs.Combine.{Res, ◌>>=◌, begins, expect, several, exactly}
 use Rattle.books.specs.Reading.{number_at, path_at, leaf_at, nothing_behind}
 use Rattle.books.specs.Texts.{newline}
@@ -18,11 +19,11 @@ use Rattle.books.proofs.Locals.{AfterOk, both_ok}
 use Rattle.refutation.specs.Lines.{LineData}
 use Rattle.refutation.specs.Reading.{later_path, held_item, held_most, held_at, line_at, count_at, end_at, blame_at}
 use Rattle.refutation.specs.Texts.{held_text, certificate_line_text, certificate_text, blame_text, IsWritableLine}
-use Rattle.refutation.specs.FirstFaults.{IsFittingLine, heading, open_line, last_of, BreaksPath, late, BreaksRule, count, method, path}
+use Rattle.refutation.specs.FirstFaults.{IsFittingLine, heading, open_line, last_of, BreaksRule, count, method, path}
 use Rattle.refutation.proofs.Held.{Ascends, ascends_sorted, ReadsLater, ReadsItem, ReadsHeld, item_shorter}
 use Rattle.refutation.proofs.Lines.{ReadsLine}
-use Rattle.refutation.proofs.Stops.{ReadOf, IsJudged, Judged, Never, why_first, judged_loose, judged_weaker, judged_seq, judged_done, judged_same, judged_if, judged_expect}
-use Rattle.refutation.proofs.StopParts.{PastAt, judged_number, judged_path, judged_leaf}
+use Rattle.books.proofs.Stops.{ReadOf, IsJudged, Judged, Never, why_first, judged_loose, judged_weaker, judged_seq, judged_done, judged_same, judged_if, judged_expect}
+use Rattle.books.proofs.StopParts.{PastAt, judged_number, judged_path, judged_leaf}
 
 -- ---- a held path
 

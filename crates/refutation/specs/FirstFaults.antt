@@ -1,12 +1,11 @@
 -- The first fault of a text, apart from how the text is read: where a rule beside the grammar is broken, else where no text goes on.
-use Rattle.std.specs.Prelude.{◌≡◌, ◌⊎◌, ◌<◌, ◌+◌, ◌^◌, ◌++◌, ℕ, false, List, [], ◌∷◌, length, take, drop, codes, decimal, Option, Some, None, Ok}
+use Rattle.std.specs.Prelude.{◌≡◌, ◌⊎◌, ◌<◌, ◌+◌, ◌^◌, ◌++◌, ℕ, List, [], ◌∷◌, length, take, drop, codes, decimal, Option, Some, None}
 use Rattle.std.specs.List.{AllByRecursion}
-use Rattle.paths.specs.Paths.{PathData, most_fields}
+use Rattle.paths.specs.Paths.{PathData}
 use Rattle.algebra.specs.Basics.{name_of}
-use Rattle.conditions.specs.Texts.{path_text}
-use Rattle.books.specs.Books.{IsPath, comes_after}
+use Rattle.books.specs.Books.{IsPath}
 use Rattle.books.specs.Broken.{IsPast}
-use Rattle.books.specs.Reading.{path_at}
+use Rattle.books.specs.BrokenPaths.{BreaksPath}
 use Rattle.books.specs.Texts.{newline}
 use Rattle.refutation.specs.Lines.{LineData}
 use Rattle.refutation.specs.Texts.{held_text, certificate_text, blame_text, IsWritableLine, IsCertificateText}
@@ -42,12 +41,6 @@ pub record AreBegun (count : ℕ) (ls : List LineData) : Type 0 where
   pub count_fits : count < 2 ^ 32
   pub fewer : length ls < count
   pub lines : AllByRecursion IsWritableLine ls
-
--- behind this front of a path, or of none, a root or a field that is out of range begins, or a path that doesn't come after the one before it
-pub data BreaksPath (before : Option PathData) (front rest : List ℕ) : Type 0 where
-  root : front ≡ [] → IsPast (2 ^ 16) rest → BreaksPath before front rest
-  field : (p : PathData) → IsPath p → length p.fields < most_fields → front ≡ path_text p ++ codes "." → IsPast (2 ^ 32) rest → BreaksPath before front rest
-  late : (p : PathData) (behind : List ℕ) → front ≡ [] → path_at rest ≡ Ok (p, behind) → comes_after before p ≡ false → BreaksPath before front rest
 
 -- behind this front of a text a rule is broken: a count or a method that is out of range begins, or such a path behind the held paths of a line
 pub data BreaksRule (front rest : List ℕ) : Type 0 where

@@ -12,44 +12,27 @@ use Rattle.conditions.specs.Texts.{dotted}
 use Rattle.books.specs.declared.stop.Kind.{Kind}
 use Rattle.books.specs.declared.stop.Kind.TheVariants.{Form}
 use Rattle.books.specs.Broken.{IsPast}
+use Rattle.books.specs.BrokenPaths.{BreaksPath, root, field}
 use Rattle.books.specs.Combine.{Res, ◌>>=◌, begins, expect, further, one_of}
 use Rattle.books.specs.Reading.{number_digits, is_at_end, number_at, fields_at, path_at, basics, leaf_at}
 use Rattle.books.proofs.Complete.{complete_leaf}
 use Rattle.books.proofs.Locals.{AfterOk}
-use Rattle.books.proofs.NumberFaults.{Digits, digits_of, none_of}
+use Rattle.books.proofs.Digits.{number_with, number_with-is}
+use Rattle.books.proofs.NumberFaults.{Digits, digits_of, none_of, number_ok}
 use Rattle.books.proofs.PassLemmas.{front_taken}
 use Rattle.books.proofs.Sound.{SoundAt, Bytes, Spells, IsNumber, sound_number}
 use Rattle.books.proofs.SoundTrees.{ReadsPath, sound_leaf}
-use Rattle.refutation.specs.FirstFaults.{BreaksPath, root, field}
-use Rattle.refutation.proofs.Stops.{Fails, StopsOn, Begun, IsJudged, Judged, Never, judged_seq, judged_done, judged_if, judged_under, judged_expect}
+use Rattle.books.proofs.Stops.{Fails, StopsOn, Begun, IsJudged, Judged, Never, judged_seq, judged_done, judged_if, judged_under, judged_expect}
 
 -- ---- numbers
 
--- the number with these digits
-with_digits : ℕ → List ℕ → List ℕ → Res ℕ
-with_digits end ds ts = if is_at_end ds || not (nat_lt (digits_value 10 ds) end) then Err (Form, ts) else Ok (digits_value 10 ds, drop (length ds) ts)
-
-with_digits-is : (end : ℕ) (ts : List ℕ) → number_at end ts ≡ with_digits end (number_digits ts) ts
-unfolding number_at with_digits
-with_digits-is end ts = refl
-
-number_on : (end : ℕ) (ts ds rest : List ℕ) → Digits ts ds → is_at_end ds ≡ false → nat_lt (digits_value 10 ds) end ≡ true → drop (length ds) ts ≡ rest → AfterOk (number_at end) ds (digits_value 10 ds) rest
-unfolding with_digits
-number_on end ts ds [] d some small behind = tt
-number_on end ts ds (c ∷ r) d some small behind = λ more.
-    let is : d.rest ≡ c ∷ r = sym (ap (λ z. drop (length ds) z) d.whole ∙ drop-append_seam ds d.rest) ∙ behind in
-    with_digits-is end (ds ++ (c ∷ more)) ∙ ap (λ z. with_digits end z (ds ++ (c ∷ more))) (d.stays c r more is)
-    ∙ ap (λ t. if t || not (nat_lt (digits_value 10 ds) end) then Err (Form, ds ++ (c ∷ more)) else Ok (digits_value 10 ds, drop (length ds) (ds ++ (c ∷ more)))) some
-    ∙ ap (λ t. if not t then Err (Form, ds ++ (c ∷ more)) else Ok (digits_value 10 ds, drop (length ds) (ds ++ (c ∷ more)))) small
-    ∙ ap (λ z. Ok (digits_value 10 ds, z)) (drop-append_seam ds (c ∷ more))
-
 no_number : (end : ℕ) (ts ds : List ℕ) → Digits ts ds → ds ≡ [] → StopsOn (number_at end) [] ts
-unfolding with_digits
+unfolding number_with
 no_number end [] ds d none = tt
 no_number end (b ∷ ts) ds d none = λ more.
     let is : d.rest ≡ b ∷ ts = sym (d.whole ∙ ap (λ z. z ++ d.rest) none) in
     let stays : number_digits (b ∷ more) ≡ [] = ap (λ z. number_digits (z ++ (b ∷ more))) (sym none) ∙ d.stays b ts more is ∙ none in
-    let stuck : number_at end (b ∷ more) ≡ Err (Form, b ∷ more) = with_digits-is end (b ∷ more) ∙ ap (λ z. with_digits end z (b ∷ more)) stays in
+    let stuck : number_at end (b ∷ more) ≡ Err (Form, b ∷ more) = number_with-is end (b ∷ more) ∙ ap (λ z. number_with end z (b ∷ more)) stays in
     subst Fails (sym stuck) tt
 
 -- a number at or past the end of its range begins here
@@ -76,14 +59,14 @@ number_case end some ts false true e h s =
       whole = whole;
       is = (same ∙ s.2.0, s.2.1);
       fits = (same ∙ s.2.0, s.2.1);
-      on = number_on end ts (number_digits ts) (drop (length (number_digits ts)) ts) d e h refl;
+      on = number_ok end ts (number_digits ts) (drop (length (number_digits ts)) ts) d e h refl;
     }
 
 pub judged_number : (end : ℕ) → 0 < end → end ≤ 2 ^ 64 → (ts : List ℕ) → Judged (IsNumber end) (IsNumber end) (PastAt end) (number_at end) ts (number_at end ts)
-unfolding with_digits
+unfolding number_with
 judged_number end some small ts = record {
-  at = subst (λ x. IsJudged (IsNumber end) (IsNumber end) (PastAt end) (number_at end) ts x) (sym (with_digits-is end ts))
-      (number_case end some ts (is_at_end (number_digits ts)) (nat_lt (digits_value 10 (number_digits ts)) end) refl refl (subst (λ x. SoundAt (IsNumber end) ts x) (with_digits-is end ts) (sound_number end small ts)));
+  at = subst (λ x. IsJudged (IsNumber end) (IsNumber end) (PastAt end) (number_at end) ts x) (sym (number_with-is end ts))
+      (number_case end some ts (is_at_end (number_digits ts)) (nat_lt (digits_value 10 (number_digits ts)) end) refl refl (subst (λ x. SoundAt (IsNumber end) ts x) (number_with-is end ts) (sound_number end small ts)));
 }
 
 -- ---- fields and paths
@@ -184,13 +167,13 @@ within (y ∷ other) c l (x ∷ front) b r e shorter more =
     record { behind = w.behind; same = (λ i. same i ∷ w.same i) }
 
 -- where nothing is read, nothing is read of a text that goes on alike, and some text begins so
-record HaltedAt {A : Type 0} (L : List ℕ → A → Type 0) (q : List ℕ → Res A) (ts rest : List ℕ) : Type 0 where
-  front : List ℕ
-  whole : ts ≡ front ++ rest
-  begun : Begun L front
-  stops : StopsOn q front rest
+pub record HaltedAt {A : Type 0} (L : List ℕ → A → Type 0) (q : List ℕ → Res A) (ts rest : List ℕ) : Type 0 where
+  pub front : List ℕ
+  pub whole : ts ≡ front ++ rest
+  pub begun : Begun L front
+  pub stops : StopsOn q front rest
 
-abbrev IsHalted : {A : Type 0} → (List ℕ → A → Type 0) → (List ℕ → Res A) → List ℕ → Res A → Type 0
+abbrev pub IsHalted : {A : Type 0} → (List ℕ → A → Type 0) → (List ℕ → Res A) → List ℕ → Res A → Type 0
 IsHalted L q ts (Ok y) = Unit {0}
 IsHalted L q ts (Err e) = HaltedAt L q ts e.1
 
@@ -241,7 +224,7 @@ one_text spell x ts =
     judged_seq (Bytes (spell x)) Never (Spells spell) (Spells spell) Never (expect (spell x)) (λ u r. Ok (x, r)) ts (expect (spell x) ts) (λ u r. Ok (x, r)) (λ front rest no. no) (judged_expect (spell x) ts)
     (λ u known e r short. judged_done (λ ys b. Spells spell (known ++ ys) b) (λ ys b. Spells spell (known ++ ys) b) (λ ys zs. Never (known ++ ys) zs) x r (append-nil known ∙ e) (append-nil known ∙ e))
 
-halted_one_of : {A : Type 0} (spell : A → List ℕ) (other : A) (xs : List A) (ts : List ℕ) → IsHalted (Spells spell) (one_of spell xs) ts (one_of spell xs ts)
+pub halted_one_of : {A : Type 0} (spell : A → List ℕ) (other : A) (xs : List A) (ts : List ℕ) → IsHalted (Spells spell) (one_of spell xs) ts (one_of spell xs ts)
 halted_one_of spell other [] ts = record { front = []; whole = refl; begun = record { more = spell other; value = other; is = refl }; stops = stop ts }
   where
     stop : (ts : List ℕ) → StopsOn (one_of spell []) [] ts
